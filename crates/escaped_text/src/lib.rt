@@ -1,0 +1,72 @@
+//! Texts printed on one line: line feeds, tabs, quotes and the like as escapes, everything else as itself, in UTF-8.
+#![tactic(auto)]
+
+ghost use Rattle.std.specs.Prelude.{◌≡◌, ◌++◌, OnOk, encode_utf8, encode_utf8_all};
+ghost use Rattle.escaped_text.specs.Escaped.{escape_of, escaped_bytes};
+
+use std::alloc::AllocError;
+
+/// Appends a character in UTF-8. After an `Err` the bytes are as before.
+pub fn push_char(bytes: &mut Vec<u8>, c: char) -> Result<(), AllocError>
+    ensures ok { OnOk result (bytes.new.items ≡ bytes.old.items ++ encode_utf8 c) }
+{
+    let mut buffer = [0; 4];
+    bytes.extend_from_slice(c.encode_utf8(&mut buffer).as_bytes())?;
+    Ok(())
+}
+
+/// Appends characters in UTF-8. After an `Err` a part of them stands in the bytes.
+pub fn push_chars(bytes: &mut Vec<u8>, text: &[char]) -> Result<(), AllocError>
+    ensures ok { OnOk result (bytes.new.items ≡ bytes.old.items ++ encode_utf8_all text.now) }
+{
+    for c in text {
+        push_char(bytes, *c)?;
+    }
+    Ok(())
+}
+
+// Appends what is printed for one character.
+fn push_escape(bytes: &mut Vec<u8>, c: char) -> Result<(), AllocError>
+    ensures ok { OnOk result (bytes.new.items ≡ bytes.old.items ++ encode_utf8_all (escape_of c)) }
+{
+    match c {
+        '\n' => bytes.extend_from_slice(b"\\n")?,
+        '\t' => bytes.extend_from_slice(b"\\t")?,
+        '\\' => bytes.extend_from_slice(b"\\\\")?,
+        '"' => bytes.extend_from_slice(b"\\\"")?,
+        '\r' => bytes.extend_from_slice(b"\\r")?,
+        '\u{a0}' => bytes.extend_from_slice(b"\\u{a0}")?,
+        _ => push_char(bytes, c)?,
+    }
+    Ok(())
+}
+
+/// Appends a text on one line: LF as `\n`, tab as `\t`, `\` as `\\`, `"` as `\"`, CR as `\r` and U+00A0 as `\u{a0}`. After
+/// an `Err` a part of it stands in the bytes.
+pub fn push_escaped(bytes: &mut Vec<u8>, text: &[char]) -> Result<(), AllocError>
+    ensures ok { OnOk result (bytes.new.items ≡ bytes.old.items ++ escaped_bytes text.now) }
+{
+    for c in text {
+        push_escape(bytes, *c)?;
+    }
+    Ok(())
+}
+
+#[cfg(test)]
+mod tests {
+    use super::*;
+    use std::test::Fail;
+
+    #[test]
+    fn prints_texts_on_one_line(rt: HostRuntime) -> Result<(), Fail> {
+        let mut bytes = Vec::new(rt.alloc());
+        push_escaped(
+            &mut bytes,
+            &['a', '\n', '\t', '\\', '"', '\r', '\u{a0}', 'é'],
+        )?;
+        assert_eq!(rt; bytes.as_slice(), "a\\n\\t\\\\\\\"\\r\\u{a0}é".as_bytes());
+        push_chars(&mut bytes, &['\n', '😀'])?;
+        assert_eq!(rt; bytes.len(), 24);
+        Ok(())
+    }
+}
