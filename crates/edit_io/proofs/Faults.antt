@@ -27,8 +27,8 @@ failed_below-fails failing calls fails = by_cases (is_listed failing calls) (nat
   where
     by_cases : (listed below : Bool) → is_listed failing calls ≡ listed → (listed && below) ≡ true → failed_below failing calls < failed_below failing (if below then calls + 1 else calls)
     by_cases true true e h =
-      let k : failed_below failing (calls + 1) ≡ 1 + failed_below failing calls = failed_below-next failing calls ∙ ap (λ b. (if b then 1 else 0) + failed_below failing calls) e in
-      omega arith
+        let k : failed_below failing (calls + 1) ≡ 1 + failed_below failing calls = failed_below-next failing calls ∙ ap (λ b. (if b then 1 else 0) + failed_below failing calls) e in
+        omega arith
     by_cases true false e h = cc
     by_cases false below e h = cc
 

@@ -1,7 +1,7 @@
 -- That what the forms in memory say of their fields is what a source and a sink owe.
-use Rattle.std.proofs.Common.{◌≡◌, ℕ, ◌+◌, ◌-◌, ◌<◌, ◌≤◌, ◌↔◌, min, Bool, true, List, [], ◌++◌, refl, sym, ap, ◌∙◌, subst, inl, inr, take, drop, length, length-append, arith}
-use Rattle.std.specs.Prelude.{Option, Some, Result, Ok, Err, IfOk, IfErr, OnOk, OnErr, IsOk, IsErr, IsErrOf, IsTrue}
-use Rattle.std.proofs.lemmas.List.{take_at, drop-drop, drop_all, length-take, length-take-le, length-drop, take-append-drop, take_all}
+use Rattle.std.proofs.Common.{◌≡◌, ℕ, ◌+◌, ◌-◌, ◌<◌, ◌≤◌, ◌↔◌, min, List, [], ◌++◌, refl, sym, ap, ◌∙◌, inl, take, drop, length, length-append, arith}
+use Rattle.std.specs.Prelude.{Some, Result, Ok, Err, IfOk, IfErr, OnOk, OnErr, IsOk, IsErr, IsErrOf, IsTrue}
+use Rattle.std.proofs.lemmas.List.{take_at, drop-drop, drop_all, length-take-le, length-drop, take-append-drop, take_all}
 use Rattle.edit_io.specs.declared.streams.SinkFault.{SinkFault}
 use Rattle.edit_io.specs.declared.streams.SinkFault.TheVariants.{Failed, Memory}
 use Rattle.edit_io.specs.Faults.{Rose, next_call, fails_at, failed_below}

@@ -1,8 +1,9 @@
 -- How pieces that are read or written one after another join to one.
 use Rattle.std.proofs.Common.{◌≡◌, ℕ, ◌+◌, ◌-◌, ◌<◌, ◌≤◌, List, [], ◌++◌, refl, ap, ◌∙◌, subst, append_assoc, sym, take, drop, length, length-append, arith}
 use Rattle.std.specs.Prelude.{Option, None, Some, IfSome}
-use Rattle.std.proofs.lemmas.List.{append-nil, take-take, drop-take, take-append-drop, take_rest, length-take}
-use Rattle.edit_io.specs.Told.{with_front, with_end, IsAtEnd, GivesAtMost, GivesMore}
+use Rattle.std.proofs.lemmas.List.{append-nil, take-take, drop-take, take-append-drop, take_rest, take_all, take-append-le, length-take}
+use Rattle.std.proofs.Math.Seq.{take-append-add}
+use Rattle.edit_io.specs.Told.{with_front, with_end, IsAtEnd, TakesPrefix, GivesAtMost, GivesMore}
 
 -- two pieces, one after another, went from the front
 pub with_front-with_front : (xs ys : List ℕ) (told : Option (List ℕ)) → with_front xs (with_front ys told) ≡ with_front (xs ++ ys) told
@@ -64,8 +65,8 @@ with_end-more told i n xs = with_end-with_end told (take i xs) (take n (drop i x
 pub write_more : (start old new : Option (List ℕ)) (piece : List ℕ) (at n : ℕ) → old ≡ with_end start (take at piece) → new ≡ with_end old (take n (take (length piece - at) (drop at piece))) → new ≡ with_end start (take (at + n) piece)
 write_more start old new piece at n h e =
     e ∙ ap (λ o. with_end o (take n (take (length piece - at) (drop at piece)))) h
-      ∙ ap (λ xs. with_end (with_end start (take at piece)) (take n xs)) (take_rest piece at)
-      ∙ with_end-more start at n piece
+    ∙ ap (λ xs. with_end (with_end start (take at piece)) (take n xs)) (take_rest piece at)
+    ∙ with_end-more start at n piece
 
 -- nothing was taken
 pub gives_none : (told : Option (List ℕ)) (limit : ℕ) → GivesAtMost told told limit
@@ -76,7 +77,7 @@ pub gives_after : (start old new : Option (List ℕ)) (bytes : List ℕ) (limit 
 gives_after start old new bytes limit more h k gives = record {
   given = bytes ++ gives.given;
   within = let e = length-append bytes gives.given in let w = gives.within in omega arith;
-  left = h ∙ ap (with_front bytes) gives.left ∙ with_front-with_front bytes gives.given new
+  left = h ∙ ap (with_front bytes) gives.left ∙ with_front-with_front bytes gives.given new;
 }
 
 -- where what was left is told, it is at least as long as what went from its front
@@ -95,8 +96,8 @@ gives_beyond start old new bytes limit room h k gives =
     let e = length-append bytes gives.given in
     let w = gives.beyond in
     told_beyond start new (bytes ++ gives.given) limit
-      (h ∙ ap (with_front bytes) gives.left ∙ with_front-with_front bytes gives.given new)
-      (omega arith)
+    (h ∙ ap (with_front bytes) gives.left ∙ with_front-with_front bytes gives.given new)
+    (omega arith)
 
 -- where all that was left is read, it is no longer than what was read
 pub told_within : (start new : Option (List ℕ)) (bytes : List ℕ) (limit : ℕ) (P : Type 0) → start ≡ with_front bytes new → IsAtEnd new → length bytes ≤ limit → IfSome start (λ xs. limit < length xs → P)
@@ -117,7 +118,7 @@ pub gives_piece : (old new : Option (List ℕ)) (buffer : List ℕ) (n limit : �
 gives_piece old new buffer n limit e h = record {
   given = take n buffer;
   within = let k = length-take n buffer in omega arith;
-  left = e
+  left = e;
 }
 
 -- a piece more is read
@@ -131,3 +132,31 @@ read_none start old new bytes buffer n h e z = h ∙ ap (with_front bytes) (e �
 -- all that was left is read
 pub gives_all : (start new : Option (List ℕ)) (bytes : List ℕ) (limit : ℕ) → start ≡ with_front bytes new → length bytes ≤ limit → GivesAtMost start new limit
 gives_all start new bytes limit e h = record { given = bytes; within = h; left = e }
+
+-- a piece that was taken whole is the first part of it
+pub takes_whole : (old new : Option (List ℕ)) (piece : List ℕ) → new ≡ with_end old piece → TakesPrefix old new piece
+takes_whole old new piece e = record {
+  count = length piece;
+  within = omega arith;
+  taken = e ∙ ap (with_end old) (sym (take_all (length piece) piece (omega arith)));
+}
+
+-- the first part of a piece is that of a longer one
+pub takes_longer : (old new : Option (List ℕ)) (piece more : List ℕ) → TakesPrefix old new piece → TakesPrefix old new (piece ++ more)
+takes_longer old new piece more takes = record {
+  count = takes.count;
+  within = let k = length-append piece more in let w = takes.within in omega arith;
+  taken = let w = takes.within in takes.taken ∙ ap (with_end old) (sym (take-append-le takes.count piece more w));
+}
+
+-- the first part of what comes after a whole piece
+pub takes_after : (start old new : Option (List ℕ)) (piece more : List ℕ) → old ≡ with_end start piece → TakesPrefix old new more → TakesPrefix start new (piece ++ more)
+takes_after start old new piece more e takes = record {
+  count = length piece + takes.count;
+  within = let k = length-append piece more in let w = takes.within in omega arith;
+  taken = takes.taken ∙ ap (λ o. with_end o (take takes.count more)) e ∙ with_end-with_end start piece (take takes.count more) ∙ ap (with_end start) (sym (take-append-add piece more takes.count));
+}
+
+-- where what a sink took was told, it still is, with some of the piece's first bytes behind it
+pub takes_told : (taken piece : List ℕ) (new : Option (List ℕ)) → TakesPrefix (Some taken) new piece → (n : ℕ) × (n ≤ length piece) × (new ≡ Some (taken ++ take n piece))
+takes_told taken piece new takes = (takes.count, takes.within, takes.taken ∙ with_end-some taken (take takes.count piece))

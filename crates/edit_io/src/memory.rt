@@ -30,6 +30,7 @@ impl Source for MemorySource {
         ensures moved { IfOk result (λ n. self.new.at ≡ self.old.at + n) }
         ensures stays { OnErr result (self.new.at ≡ self.old.at) }
         ensures written { IfOk result (λ n. buf.new ≡ take n (drop self.old.at self.old.bytes.items) ++ drop n buf.old) }
+        ensures untouched { OnErr result (buf.new ≡ buf.old) }
         ensures same { (self.new.bytes ≡ self.old.bytes) × (self.new.piece ≡ self.old.piece) × (self.new.failing ≡ self.old.failing) }
     {
         let fails = fails_now(&self.failing, self.calls);

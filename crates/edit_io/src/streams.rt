@@ -5,6 +5,8 @@ ghost use Rattle.edit_io.specs.declared.streams.SinkFault.TheVariants.{Memory};
 ghost use Rattle.edit_io.specs.Told.{with_front, with_end, IsAtEnd};
 
 use std::alloc::AllocError;
+use std::error::Error;
+use std::fmt;
 
 /// A read that failed. Nothing was taken from the source.
 #[derive(Clone, Copy, Debug, PartialEq, Eq)]
@@ -18,6 +20,25 @@ pub enum SinkFault {
     /// There was no memory to keep the bytes in.
     Memory,
 }
+
+impl fmt::Display for Failed {
+    fn fmt<W: fmt::Write>(&self, f: &mut fmt::Formatter<W>) -> fmt::Result {
+        write!(f, "the read failed")
+    }
+}
+
+impl Error for Failed {}
+
+impl fmt::Display for SinkFault {
+    fn fmt<W: fmt::Write>(&self, f: &mut fmt::Formatter<W>) -> fmt::Result {
+        match self {
+            SinkFault::Failed => write!(f, "the write failed"),
+            SinkFault::Memory => write!(f, "out of memory"),
+        }
+    }
+}
+
+impl Error for SinkFault {}
 
 impl From<AllocError> for SinkFault {
     ghost from_gives = { λ _ fault. fault ≡ Memory };

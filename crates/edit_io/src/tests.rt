@@ -41,8 +41,16 @@ fn reads_in_pieces(rt: HostRuntime) -> Result<(), Fail> {
     ] {
         let mut input = in_sevens(rt.alloc(), failing)?;
         let read = read_all(rt.alloc(), &mut input, limit);
-        assert_eq!(rt; read.map(|bytes| bytes.len()), wanted, "failing at {failing}");
-        assert_eq!(rt; (input.calls, input.at), (calls, at), "failing at {failing}");
+        assert_eq!(rt;
+            read.map(|bytes| bytes.len()),
+            wanted,
+            "failing at {failing}"
+        );
+        assert_eq!(rt;
+            (input.calls, input.at),
+            (calls, at),
+            "failing at {failing}"
+        );
     }
     let mut input = in_sevens(rt.alloc(), 10)?;
     let bytes = read_all(rt.alloc(), &mut input, 100)?;
@@ -63,7 +71,11 @@ fn writes_in_pieces(rt: HostRuntime) -> Result<(), Fail> {
         assert_eq!(rt; written, wanted, "failing at {failing}");
         assert_eq!(rt; output.calls, calls, "failing at {failing}");
         assert!(rt; taken <= TEXT.len());
-        assert_eq!(rt; output.taken.as_slice(), &TEXT[..taken], "failing at {failing}");
+        assert_eq!(rt;
+            output.taken.as_slice(),
+            &TEXT[..taken],
+            "failing at {failing}"
+        );
     }
     Ok(())
 }

@@ -1,11 +1,13 @@
 // Reading all that is left, and writing all of a piece.
-ghost use Rattle.std.specs.Prelude.{◌≡◌, ℕ, ◌+◌, ◌<◌, ◌≤◌, length, take, vec_len, IfOk, IfErr, OnOk, OnErr, IfSome, IsErr};
+ghost use Rattle.std.specs.Prelude.{◌≡◌, ℕ, ◌+◌, ◌<◌, ◌≤◌, length, take, vec_len, IfOk, IfErr, OnOk, OnErr, IfSome, IsOk, IsErr};
 ghost use Rattle.edit_io.specs.Faults.{Rose};
 ghost use Rattle.edit_io.specs.declared.whole.ReadAllFault.TheVariants.{Failed, Memory};
 ghost use Rattle.edit_io.specs.Told.{with_front, with_end, IsAtEnd, TakesPrefix, GivesAtMost, GivesMore};
 
 use crate::streams::{Failed, Sink, SinkFault, Source};
 use std::alloc::{AllocError, Global};
+use std::error::Error;
+use std::fmt;
 
 /// Why not all that is left was read.
 #[derive(Clone, Copy, Debug, PartialEq, Eq)]
@@ -17,6 +19,18 @@ pub enum ReadAllFault {
     /// There was no memory to keep the bytes in.
     Memory = 3,
 }
+
+impl fmt::Display for ReadAllFault {
+    fn fmt<W: fmt::Write>(&self, f: &mut fmt::Formatter<W>) -> fmt::Result {
+        match self {
+            ReadAllFault::Failed => write!(f, "a read failed"),
+            ReadAllFault::TooLong => write!(f, "the input is too long"),
+            ReadAllFault::Memory => write!(f, "out of memory"),
+        }
+    }
+}
+
+impl Error for ReadAllFault {}
 
 impl From<Failed> for ReadAllFault {
     ghost from_gives = { λ _ fault. fault ≡ Failed };
@@ -102,6 +116,7 @@ fn read_piece<I: Source>(
 pub fn write_all<O: Sink>(output: &mut O, piece: &[u8]) -> Result<(), SinkFault>
     ensures all { OnOk result (O.taken output.new ≡ with_end (O.taken output.old) piece.now) }
     ensures prefix { TakesPrefix (O.taken output.old) (O.taken output.new) piece.now }
+    ensures empty { length piece.now ≡ 0 → IsOk result }
     ensures failed { IfErr result (λ e. e ≡ SinkFault.Failed → Rose (O.faults output.old) (O.faults output.new)) }
     ensures counted { O.faults output.old ≤ O.faults output.new }
 {

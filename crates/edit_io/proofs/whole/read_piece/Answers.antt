@@ -1,4 +1,3 @@
-use Rattle.std.proofs.Common.{◌+◌}
 use Rattle.std.proofs.lemmas.Result.{err_from_is_err_and}
 use Rattle.edit_io.proofs.Told.{gives_kept}
 use Rattle.edit_io.proofs.whole.read_piece.Goals as goal

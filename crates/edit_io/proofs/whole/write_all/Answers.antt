@@ -1,5 +1,4 @@
-use Rattle.std.proofs.Common.{◌≡◌, sym, ◌∙◌, ap, subst, arith, ◌+◌, take, drop, length}
-use Rattle.edit_io.specs.Told.{with_end}
+use Rattle.std.proofs.Common.{sym, arith}
 use Rattle.edit_io.proofs.Told.{with_end-nil, write_more}
 use Rattle.edit_io.proofs.whole.write_all.Goals as goal
 
@@ -10,5 +9,5 @@ pub loop-at-preserved : goal.loop-at-preserved
 loop-at-preserved g c = record {
   within = omega (arith, c.in_ok-at.ensures.bound);
   taken = write_more _ _ _ _ _ _ c.loop-at.invariant.taken c.in_ok-at.ensures.bytes;
-  counted = omega (arith, c.loop-at.invariant.counted, c.in_ok-at.ensures.counted)
+  counted = omega (arith, c.loop-at.invariant.counted, c.in_ok-at.ensures.counted);
 }

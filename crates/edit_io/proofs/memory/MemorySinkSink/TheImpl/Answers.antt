@@ -14,5 +14,5 @@ write-tells c =
       kept = sink_kept c.result old.taken.items new.taken.items c.ensures.stays;
       counted = sink_counted c.result old.failing.items new.failing.items old.calls new.calls failing c.ensures.calls c.ensures.failed_calls c.ensures.memory_calls;
       failed = sink_failed c.result old.failing.items new.failing.items old.calls new.calls failing c.ensures.failed_calls c.ensures.fails;
-      memory = sink_memory c.result old.failing.items new.failing.items old.calls new.calls failing c.ensures.memory_calls
+      memory = sink_memory c.result old.failing.items new.failing.items old.calls new.calls failing c.ensures.memory_calls;
     }

@@ -1,4 +1,4 @@
-use Rattle.std.proofs.Common.{◌≡◌, ◌-◌, ap, min, vec_len, length, arith}
+use Rattle.std.proofs.Common.{◌-◌, ap, min, vec_len, length, arith}
 use Rattle.edit_io.proofs.Held.{source_bound, source_bytes, source_end, source_kept, counted, source_failed}
 use Rattle.edit_io.proofs.memory.MemorySourceSource.TheImpl.Goals as goal
 
@@ -16,5 +16,5 @@ read-tells c =
       end = source_end c.result old.bytes.items new.bytes.items old.at new.at most left bytes (omega (arith, old.bytes.ok)) (omega (arith, old.some, c.requires)) c.ensures.given c.ensures.moved;
       kept = source_kept c.result old.bytes.items new.bytes.items old.at new.at bytes c.ensures.stays;
       counted = counted old.failing.items new.failing.items old.calls new.calls failing c.ensures.calls;
-      failed = source_failed c.result old.failing.items new.failing.items old.calls new.calls failing c.ensures.calls c.ensures.fails
+      failed = source_failed c.result old.failing.items new.failing.items old.calls new.calls failing c.ensures.calls c.ensures.fails;
     }

@@ -1,4 +1,4 @@
-use Rattle.std.proofs.Common.{◌≡◌, ◌<◌, ◌≤◌, ◌++◌, length, take, refl, arith}
+use Rattle.std.proofs.Common.{length, arith}
 use Rattle.edit_io.proofs.Held.{sure_some, sure_bound, sure_bytes, sink_kept, sink_sure, sure_memory}
 use Rattle.edit_io.proofs.memory.SureSinkSink.TheImpl.Goals as goal
 
@@ -13,5 +13,5 @@ write-tells c =
       kept = sink_kept c.result old.taken.items new.taken.items c.ensures.stays;
       counted = omega arith;
       failed = sink_sure c.result _ c.ensures.sure;
-      memory = sure_memory c.result
+      memory = sure_memory c.result;
     }

@@ -1,5 +1,5 @@
-use Rattle.std.proofs.Common.{◌≡◌, ◌-◌, ap, min, vec_len, length, arith}
-use Rattle.edit_io.proofs.Held.{source_bound, source_bytes, source_end, source_kept, sure}
+use Rattle.std.proofs.Common.{◌-◌, ap, vec_len, length, arith}
+use Rattle.edit_io.proofs.Held.{source_bound, source_bytes, source_end, sure}
 use Rattle.edit_io.proofs.memory.SureSourceSource.TheImpl.Goals as goal
 
 pub read-tells : goal.read-tells
@@ -15,5 +15,5 @@ read-tells c =
       end = source_end c.result old.bytes.items new.bytes.items old.at new.at most left bytes (omega (arith, old.bytes.ok)) c.requires c.ensures.given c.ensures.moved;
       kept = sure c.result _ c.ensures.sure;
       counted = omega arith;
-      failed = sure c.result _ c.ensures.sure
+      failed = sure c.result _ c.ensures.sure;
     }
