@@ -33,9 +33,9 @@ impl Source for MemorySource {
         ensures untouched { OnErr result (buf.new ≡ buf.old) }
         ensures same { (self.new.bytes ≡ self.old.bytes) × (self.new.piece ≡ self.old.piece) × (self.new.failing ≡ self.old.failing) }
     {
-        let fails = fails_now(&self.failing, self.calls);
-        self.calls = self.calls.saturating_add(1);
-        if fails {
+        let call = self.calls;
+        self.calls = call.saturating_add(1);
+        if fails_now(&self.failing, call) {
             return Err(Failed);
         }
         let count = hand_out(&self.bytes, self.at, self.piece, buf);

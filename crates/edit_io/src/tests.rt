@@ -1,9 +1,11 @@
 // Each form in a run of several calls, with what it must answer.
 use super::{
-    MemorySink, MemorySource, ReadAllFault, ReadSource, Sink, SinkFault, Source, SureSink,
+    Failed, MemorySink, MemorySource, ReadAllFault, ReadSource, Sink, SinkFault, Source, SureSink,
     SureSource, WriteSink, read_all, write_all,
 };
 use std::alloc::{AllocError, Global};
+use std::io;
+use std::io::Read;
 use std::test::Fail;
 
 const TEXT: &[u8] = b"What is read in pieces of seven is written in pieces of five.";
@@ -96,6 +98,16 @@ fn sure_forms(rt: HostRuntime) -> Result<(), Fail> {
     Ok(())
 }
 
+// A reader that is no longer there.
+#[derive(Drop)]
+struct Gone;
+
+impl Read for Gone {
+    fn read(&mut self, _buf: &mut [u8]) -> io::Result<usize> {
+        Err(io::Error::from(io::ErrorKind::NotConnected))
+    }
+}
+
 #[test]
 fn reads_a_reader(rt: HostRuntime) -> Result<(), Fail> {
     let mut input = ReadSource::new(TEXT);
@@ -103,6 +115,12 @@ fn reads_a_reader(rt: HostRuntime) -> Result<(), Fail> {
     assert_eq!(rt; bytes.as_slice(), TEXT);
     let mut buf = [0; 4];
     assert_eq!(rt; input.read(&mut buf), Ok(0));
+    let mut gone = ReadSource::new(Gone);
+    assert_eq!(rt; gone.read(&mut buf), Err(Failed));
+    assert_eq!(rt;
+        read_all(rt.alloc(), &mut gone, 61).err(),
+        Some(ReadAllFault::Failed)
+    );
     Ok(())
 }
 
