@@ -1,0 +1,4 @@
+pub mod Told
+pub mod Faults
+mod Held
+mod Untold

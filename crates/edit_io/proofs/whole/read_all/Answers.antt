@@ -1,0 +1,53 @@
+use Rattle.std.proofs.Common.{sym, ◌∙◌, ap, arith}
+use Rattle.std.proofs.lemmas.Result.{err_from_is_err_and}
+use Rattle.std.proofs.lemmas.List.{length-take}
+use Rattle.edit_io.specs.Told.{with_front}
+use Rattle.edit_io.proofs.Told.{with_front-nil, gives_none, gives_after, gives_beyond, gives_piece, gives_all, read_none, read_more, told_within}
+use Rattle.edit_io.proofs.whole.read_all.Goals as goal
+
+pub returns-in_err-store-clause-given : goal.returns-in_err-store-clause-given
+returns-in_err-store-clause-given g c = gives_none _ _
+
+pub loop-bytes-init : goal.loop-bytes-init
+loop-bytes-init g c = record {
+  some = omega (arith, c.in_ok-store.ensures, c.as_mut_slice-buffer.ensures.len);
+  within = let e = c.new-bytes.ensures.len in omega arith;
+  given = sym (ap (λ xs. with_front xs (g.I.Source.left c.args.input.now)) c.new-bytes.ensures.items ∙ with_front-nil _);
+  counted = omega arith;
+}
+
+pub returns-in_err-count-clause-too_long : goal.returns-in_err-count-clause-too_long
+returns-in_err-count-clause-too_long g c =
+    let p = err_from_is_err_and c.from_residual-in_err-count.result c.from_residual-in_err-count.ensures.1 in
+    rw p.1 (λ t. gives_beyond _ _ _ c.loop-bytes.bytes.items c.args.limit _ c.loop-bytes.invariant.given (omega (arith, c.len.ensures, c.loop-bytes.bytes.ok)) (c.in_err-count.ensures.too_long (sym p.2 ∙ t)))
+
+pub returns-in_err-count-clause-given : goal.returns-in_err-count-clause-given
+returns-in_err-count-clause-given g c = gives_after _ _ _ c.loop-bytes.bytes.items _ _ c.loop-bytes.invariant.given (omega (arith, c.len.ensures, c.loop-bytes.invariant.within, c.loop-bytes.bytes.ok)) c.in_err-count.ensures.given
+
+pub returns-then-count-eq0-clause-bytes : goal.returns-then-count-eq0-clause-bytes
+returns-then-count-eq0-clause-bytes g c = read_none _ _ _ _ _ _ c.loop-bytes.invariant.given c.in_ok-count.ensures.bytes c.if-count-eq0.true
+
+pub returns-then-count-eq0-clause-long : goal.returns-then-count-eq0-clause-long
+returns-then-count-eq0-clause-long g c =
+    told_within _ _ c.loop-bytes.bytes.items _ _
+    (read_none _ _ _ _ _ _ c.loop-bytes.invariant.given c.in_ok-count.ensures.bytes c.if-count-eq0.true)
+    (c.in_ok-count.ensures.end c.if-count-eq0.true)
+    (omega (arith, c.loop-bytes.invariant.within, c.loop-bytes.bytes.ok))
+
+pub returns-then-count-eq0-clause-given : goal.returns-then-count-eq0-clause-given
+returns-then-count-eq0-clause-given g c =
+    gives_all _ _ c.loop-bytes.bytes.items _
+    (read_none _ _ _ _ _ _ c.loop-bytes.invariant.given c.in_ok-count.ensures.bytes c.if-count-eq0.true)
+    (omega (arith, c.loop-bytes.invariant.within, c.loop-bytes.bytes.ok))
+
+pub loop-bytes-preserved : goal.loop-bytes-preserved
+loop-bytes-preserved g c = record {
+  some = omega arith;
+  within = omega (arith, c.loop-bytes.invariant.within, c.len.ensures, c.in_ok-count.ensures.room, c.in_ok-count.ensures.bound, c.in_ok-extend_from_slice.ensures.len, length-take c.in_ok-count.count c.read_piece.new.buffer);
+  given = read_more _ _ _ _ _ _ c.loop-bytes.invariant.given c.in_ok-count.ensures.bytes c.in_ok-extend_from_slice.ensures.items;
+  counted = omega (arith, c.loop-bytes.invariant.counted, c.in_ok-count.ensures.counted);
+}
+
+pub returns-in_err-extend_from_slice-clause-given : goal.returns-in_err-extend_from_slice-clause-given
+returns-in_err-extend_from_slice-clause-given g c =
+    gives_after _ _ _ c.loop-bytes.bytes.items _ _ c.loop-bytes.invariant.given (omega (arith, c.len.ensures, c.loop-bytes.invariant.within, c.loop-bytes.bytes.ok)) (gives_piece _ _ _ _ _ c.in_ok-count.ensures.bytes c.in_ok-count.ensures.room)

@@ -1,0 +1,14 @@
+use Rattle.std.proofs.Common.{◌≡◌, ◌<◌, ◌≤◌, ◌-◌, vec_len, length}
+use Rattle.edit_io.specs.Told.{with_front}
+use Rattle.edit_io.proofs.whole.read_all.Given as goal
+
+abbrev pub invariant-loop-bytes : goal.invariant-loop-bytes
+invariant-loop-bytes g l = record {
+  some : 0 < length l.buffer;
+  within : vec_len l.bytes ≤ l.limit;
+  given : g.I.Source.left l.initial.input ≡ with_front l.bytes.items (g.I.Source.left l.input);
+  counted : g.I.Source.faults l.initial.input ≤ g.I.Source.faults l.input;
+}
+
+abbrev pub decreases-loop-bytes : goal.decreases-loop-bytes
+decreases-loop-bytes g l = l.limit - vec_len l.bytes

@@ -1,0 +1,12 @@
+-- What contracts see of the source over a reader and the sink over a writer.
+use Rattle.std.specs.Prelude.{ℕ}
+use Rattle.edit_io.specs.declared.real.ReadSource.{ReadSource}
+use Rattle.edit_io.specs.declared.real.WriteSink.{WriteSink}
+
+-- how many reads failed so far, up to the last value of a u64
+abbrev pub read_faults : {R : Type 0} → ReadSource R → ℕ
+read_faults source = source.faults
+
+-- how many writes failed so far, up to the last value of a u64
+abbrev pub write_faults : {W : Type 0} → WriteSink W → ℕ
+write_faults sink = sink.faults

@@ -1,0 +1,16 @@
+// Where bytes come from and where they go: sources and sinks in memory, whose answers are proved to the
+// byte, and the two that stand over a real reader and writer.
+#![tactic(auto)]
+
+mod memory;
+mod real;
+mod streams;
+mod whole;
+
+pub use memory::{MemorySink, MemorySource, SureSink, SureSource};
+pub use real::{ReadSource, WriteSink};
+pub use streams::{Failed, Sink, SinkFault, Source};
+pub use whole::{ReadAllFault, read_all, write_all};
+
+#[cfg(test)]
+mod tests;

@@ -1,0 +1,85 @@
+// The source over a real reader and the sink over a real writer. They tell nothing of the bytes.
+ghost use Rattle.std.specs.Prelude.{◌≡◌, ℕ, ◌<◌, ◌≤◌, length, None, IfOk, IfErr, OnOk, OnErr};
+ghost use Rattle.edit_io.specs.Faults.{Rose, next_call};
+ghost use Rattle.edit_io.specs.Real.{read_faults, write_faults};
+
+use crate::streams::{Failed, Sink, SinkFault, Source};
+use std::io::{Read, Write};
+
+/// A source over a reader. Each error of the reader is a fault.
+#[derive(Drop)]
+pub struct ReadSource<R> {
+    reader: R,
+    faults: u64,
+}
+
+impl<R: Read> ReadSource<R> {
+    /// A source that has met no fault.
+    pub fn new(reader: R) -> ReadSource<R>
+        ensures { read_faults result ≡ 0 }
+    {
+        ReadSource { reader, faults: 0 }
+    }
+}
+
+impl<R: Read> Source for ReadSource<R> {
+    ghost left = { λ _. None };
+
+    ghost faults = { read_faults };
+
+    fn read(&mut self, buf: &mut [u8]) -> Result<usize, Failed>
+        requires { 0 < length buf.old }
+        ensures bound { IfOk result (λ n. n ≤ length buf.new) }
+        ensures same { OnOk result (read_faults self.new ≡ read_faults self.old) }
+        ensures raised { OnErr result (read_faults self.new ≡ next_call (read_faults self.old)) }
+        ensures failed { OnErr result (Rose (read_faults self.old) (read_faults self.new)) }
+    {
+        match self.reader.read(buf) {
+            Ok(count) => Ok(count),
+            Err(_) => {
+                self.faults = self.faults.saturating_add(1);
+                Err(Failed)
+            }
+        }
+    }
+}
+
+/// A sink over a writer. Each error of the writer is a fault, and so is a write that takes no byte.
+#[derive(Drop)]
+pub struct WriteSink<W> {
+    writer: W,
+    faults: u64,
+}
+
+impl<W: Write> WriteSink<W> {
+    /// A sink that has met no fault.
+    pub fn new(writer: W) -> WriteSink<W>
+        ensures { write_faults result ≡ 0 }
+    {
+        WriteSink { writer, faults: 0 }
+    }
+}
+
+impl<W: Write> Sink for WriteSink<W> {
+    ghost taken = { λ _. None };
+
+    ghost faults = { write_faults };
+
+    fn write(&mut self, piece: &[u8]) -> Result<usize, SinkFault>
+        requires { 0 < length piece.now }
+        ensures some { IfOk result (λ n. 0 < n) }
+        ensures bound { IfOk result (λ n. n ≤ length piece.now) }
+        ensures same { OnOk result (write_faults self.new ≡ write_faults self.old) }
+        ensures raised { OnErr result (write_faults self.new ≡ next_call (write_faults self.old)) }
+        ensures failed { OnErr result (Rose (write_faults self.old) (write_faults self.new)) }
+        ensures no_memory { IfErr result (λ e. e ≡ SinkFault.Failed) }
+    {
+        match self.writer.write(piece) {
+            Ok(count) if count > 0 => Ok(count),
+            _ => {
+                self.faults = self.faults.saturating_add(1);
+                Err(SinkFault::Failed)
+            }
+        }
+    }
+}
