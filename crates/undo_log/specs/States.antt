@@ -1,0 +1,79 @@
+-- The states that a log keeps: the one before its oldest entry and the one after each of its entries.
+use Rattle.std.specs.Prelude.{◌≡◌, ℕ, ◌+◌, ◌-◌, ◌<◌, List, [], ◌∷◌, ◌++◌, length, take, drop, reverse, slice_get, nat_lt, if◌then◌else◌, Option, Some}
+use Rattle.undo_log.specs.Turning.{back, forth, inverses_back, inverses_forth, FitsBack, FitsForth}
+use Rattle.undo_log.specs.Log.{Open, Log, noted, entries, cursor, undone, undone_state, redone, redone_state}
+use Rattle.undo_log.specs.Log.Open.{Closed, Begun, Resumed}
+
+-- one call of undo or of redo
+pub data Move : Type 0 where
+  Undo : Move
+  Redo : Move
+
+-- where the moves lead a cursor that stands between 0 and n
+abbrev pub moved : Move → ℕ → ℕ → ℕ
+moved Undo n c = c - 1
+moved Redo n c = if nat_lt c n then c + 1 else c
+
+abbrev pub moved_by : List Move → ℕ → ℕ → ℕ
+moved_by [] n c = c
+moved_by (m ∷ ms) n c = moved_by ms n (moved m n c)
+
+-- a log and the state that it is about
+pub record Both (T S : Type 0) : Type 0 where
+  pub log : Log T
+  pub state : S
+
+module _ {T S : Type 0} (applied : T → S → S) where
+  -- the states before the cursor, the last one first, and after it
+  abbrev pub states_before : List (List T) → S → List S
+  states_before [] s = []
+  states_before (e ∷ es) s = back applied e s ∷ states_before es (back applied e s)
+
+  abbrev pub states_after : List (List T) → S → List S
+  states_after [] s = []
+  states_after (e ∷ es) s = forth applied e s ∷ states_after es (forth applied e s)
+
+  -- the state at begin or resume; where no entry is open, the state itself
+  abbrev pub start : Log T → S → S
+  start l s = back applied (noted l.open_entry) s
+
+  -- the kept states, from the oldest to the newest. The one at the cursor is `start`
+  abbrev pub kept_states : Log T → S → List S
+  kept_states l s = reverse (states_before l.undo (start l s)) ++ start l s ∷ states_after l.redo (start l s)
+
+  -- the kept states after a commit at the state s
+  abbrev pub states_committed : Log T → Open T → List S → S → List S
+  states_committed l Closed ss s = ss
+  states_committed l (Begun []) ss s = ss
+  states_committed l (Begun (x ∷ xs)) ss s = let all = take (cursor l + 1) ss ++ s ∷ [] in drop (length all - (l.depth + 1)) all
+  states_committed l (Resumed xs) ss s = take (cursor l) ss ++ s ∷ []
+
+  module _ (inverse : T → S → T) where
+    -- the log and the state after the moves
+    abbrev pub walked : List Move → Log T → S → Both T S
+    walked [] l s = record { log = l; state = s }
+    walked (Undo ∷ ms) l s = walked ms (undone applied inverse l s) (undone_state applied l.undo s)
+    walked (Redo ∷ ms) l s = walked ms (redone applied inverse l s) (redone_state applied l.redo s)
+
+  module _ (fits : T → S → Type 0) where
+    abbrev pub FitsBefore : List (List T) → S → Type 0
+    FitsBefore [] s = Unit {0}
+    FitsBefore (e ∷ es) s = FitsBack applied fits e s × FitsBefore es (back applied e s)
+
+    abbrev pub FitsAfter : List (List T) → S → Type 0
+    FitsAfter [] s = Unit {0}
+    FitsAfter (e ∷ es) s = FitsForth applied fits e s × FitsAfter es (forth applied e s)
+
+    -- The log is about the state s: whatever is undone from there, and whatever is redone, each step fits.
+    -- It holds of a new log at every state, and each call keeps it, as long as the state changes only by
+    -- what the calls do and by edits whose inverse steps are noted
+    pub record Follows (l : Log T) (s : S) : Type 0 where
+      pub noted_fit : FitsBack applied fits (noted l.open_entry) s
+      pub undo_fits : FitsBefore l.undo (start l s)
+      pub redo_fits : FitsAfter l.redo (start l s)
+
+    -- l' at s' keeps the states that l keeps at s, and s' is the one at its cursor
+    pub record Keeps (l : Log T) (s : S) (l' : Log T) (s' : S) : Type 0 where
+      pub follows : Follows l' s'
+      pub states : kept_states l' s' ≡ kept_states l s
+      pub at_cursor : slice_get (kept_states l s) (cursor l') ≡ Some (start l' s')
