@@ -1,7 +1,7 @@
 -- The states that a log keeps: the one before its oldest entry and the one after each of its entries.
 use Rattle.std.specs.Prelude.{◌≡◌, ℕ, ◌+◌, ◌-◌, ◌<◌, List, [], ◌∷◌, ◌++◌, length, take, drop, reverse, slice_get, nat_lt, if◌then◌else◌, Option, Some}
 use Rattle.undo_log.specs.Turning.{back, forth, inverses_back, inverses_forth, FitsBack, FitsForth}
-use Rattle.undo_log.specs.Log.{Open, Log, noted, entries, cursor, undone, undone_state, redone, redone_state}
+use Rattle.undo_log.specs.Log.{Open, Log, noted, entries, cursor, committed, without_newest, without_oldest, undone, undone_state, redone, redone_state}
 use Rattle.undo_log.specs.Log.Open.{Closed, Begun, Resumed}
 
 -- one call of undo or of redo
@@ -34,8 +34,22 @@ module _ {T S : Type 0} (applied : T → S → S) where
   states_after (e ∷ es) s = forth applied e s ∷ states_after es (forth applied e s)
 
   -- the state at begin or resume; where no entry is open, the state itself
+  abbrev pub start_with : Open T → S → S
+  start_with Closed s = s
+  start_with (Begun xs) s = back applied xs s
+  start_with (Resumed xs) s = back applied xs s
+
   abbrev pub start : Log T → S → S
-  start l s = back applied (noted l.open_entry) s
+  start l s = start_with l.open_entry s
+
+  -- the state before the open entry: at begin, or where it was resumed at its first begin
+  abbrev pub before_entry_with : Log T → Open T → S → S
+  before_entry_with l Closed s = s
+  before_entry_with l (Begun xs) s = back applied xs s
+  before_entry_with l (Resumed xs) s = undone_state applied l.undo (back applied xs s)
+
+  abbrev pub before_entry : Log T → S → S
+  before_entry l s = before_entry_with l l.open_entry s
 
   -- the kept states, from the oldest to the newest. The one at the cursor is `start`
   abbrev pub kept_states : Log T → S → List S
@@ -77,3 +91,29 @@ module _ {T S : Type 0} (applied : T → S → S) where
       pub follows : Follows l' s'
       pub states : kept_states l' s' ≡ kept_states l s
       pub at_cursor : slice_get (kept_states l s) (cursor l') ≡ Some (start l' s')
+
+    -- a commit keeps the states up to the open entry, and the one at which it was made
+    pub record Commits (l : Log T) (s : S) : Type 0 where
+      pub follows : Follows (committed l) s
+      pub states : kept_states (committed l) s ≡ states_committed l l.open_entry (kept_states l s) s
+
+    -- an entry that is taken out takes the newest state, or the oldest, with it
+    pub record Drops (l : Log T) (s : S) : Type 0 where
+      pub newest_follows : Follows (without_newest l) s
+      pub newest_states : 0 < length l.redo → kept_states (without_newest l) s ≡ take (length (kept_states l s) - 1) (kept_states l s)
+      pub oldest_follows : Follows (without_oldest l) s
+      pub oldest_states : 0 < length l.undo → kept_states (without_oldest l) s ≡ drop 1 (kept_states l s)
+
+module _ {T S : Type 0} (applied : T → S → S) (inverse : T → S → T) (fits : T → S → Type 0) where
+  -- the moves keep every state, and lead to the one at the place where they lead the cursor
+  pub record Walks (ms : List Move) (l : Log T) (s : S) : Type 0 where
+    pub keeps : Keeps applied fits l s (walked applied inverse ms l s).log (walked applied inverse ms l s).state
+    pub closed : (walked applied inverse ms l s).log.open_entry ≡ Closed
+    pub place : cursor (walked applied inverse ms l s).log ≡ moved_by ms (length (entries l)) (cursor l)
+
+  -- undo after a commit gives the state at begin, or that before the entry where it was resumed, and
+  -- redo after it the state at the commit, with the log as it was
+  pub record Returns (l : Log T) (s : S) : Type 0 where
+    pub undo_gives : undone_state applied (committed l).undo s ≡ before_entry applied l s
+    pub redo_gives : redone_state applied (undone applied inverse (committed l) s).redo (undone_state applied (committed l).undo s) ≡ s
+    pub log_again : redone applied inverse (undone applied inverse (committed l) s) (undone_state applied (committed l).undo s) ≡ committed l
