@@ -118,6 +118,9 @@ module _ {T S : Type 0} (applied : T → S → S) where
     pub abandoned_keeps : (l : Log T) (s : S) → Follows applied fits l s → Keeps applied fits l s (abandoned l) (start applied l s)
     abandoned_keeps l s f = abandoned_stays l l.open_entry s f
 
+    pub abandon_kept : (l : Log T) (s : S) (l' : Log T) (s' : S) → l' ≡ abandoned l → s' ≡ start applied l s → Follows applied fits l s → Keeps applied fits l s l' s'
+    abandon_kept l s l' s' e d f = keeps_along l s (abandoned l) l' (start applied l s) s' e d (abandoned_keeps l s f)
+
     -- ---- commit
 
     log_at : List (List T) → List (List T) → Open T → ℕ → Log T

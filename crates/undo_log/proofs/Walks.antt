@@ -60,6 +60,13 @@ module _ {T S : Type 0} (applied : T → S → S) (inverse : T → S → T) (fit
       (sym is)
       (redone_at l.undo l.redo l.depth s)
 
+  -- the same of what a contract gives
+  pub undo_kept : (l : Log T) (s : S) (l' : Log T) (s' : S) → l.open_entry ≡ Closed → l' ≡ undone applied inverse l s → s' ≡ undone_state applied l.undo s → Follows applied fits l s → Keeps applied fits l s l' s'
+  undo_kept l s l' s' is e d f = keeps_along applied fits l s (undone applied inverse l s) l' (undone_state applied l.undo s) s' e d (undone_keeps l s is f)
+
+  pub redo_kept : (l : Log T) (s : S) (l' : Log T) (s' : S) → l.open_entry ≡ Closed → l' ≡ redone applied inverse l s → s' ≡ redone_state applied l.redo s → Follows applied fits l s → Keeps applied fits l s l' s'
+  redo_kept l s l' s' is e d f = keeps_along applied fits l s (redone applied inverse l s) l' (redone_state applied l.redo s) s' e d (redone_keeps l s is f)
+
   -- ---- any list of moves
 
   undone_open : (l : Log T) (us : List (List T)) (s : S) → (undone_with applied inverse l us s).open_entry ≡ l.open_entry
