@@ -3,10 +3,9 @@ use Rattle.std.proofs.Common.{◌≡◌, ℕ, suc, zero, ◌+◌, ◌-◌, ◌<�
 use Rattle.std.specs.Prelude.{Bool, true, false, IsTrue, IsFalse, Option, Some, slice_get, nat_lt, if◌then◌else◌}
 use Rattle.std.proofs.lemmas.List.{length-reverse}
 use Rattle.undo_log.specs.Turning.{back, forth, inverses_back, inverses_forth, FitsBack, FitsForth, TurnsBack, TurnsForth}
-use Rattle.undo_log.specs.Log.{Open, Log, IsLog, is_open, is_resumed, noted, entries, cursor, empty, begun, resumed, with_step, abandoned, joined, committed, without_newest, without_oldest, undone, undone_state, redone, redone_state}
+use Rattle.undo_log.specs.Log.{Open, Log, IsLog, is_open, is_resumed, noted, entries, cursor, empty, begun, resumed, with_step, abandoned, joined, committed, without_newest, without_oldest, FitsUndo, FitsRedo}
 use Rattle.undo_log.specs.Log.Open.{Closed, Begun, Resumed}
-use Rattle.undo_log.specs.States.{Move, Both, moved, moved_by, states_before, states_after, start, kept_states, states_committed, walked, FitsBefore, FitsAfter, Follows, Keeps, Commits, Drops}
-use Rattle.undo_log.specs.States.Move.{Undo, Redo}
+use Rattle.undo_log.specs.States.{states_before, states_after, start, kept_states, states_committed, entries_committed, FitsBefore, FitsAfter, Follows, Keeps, Allows, Commits, Drops}
 use Rattle.undo_log.proofs.Lists.{reverse_cons, reverse-cons, append-nil, slice_get-middle, take-first, drop-reverse, drop_one-append, take-seam}
 use Rattle.undo_log.proofs.Turns.{back-append, back-join, FitsBack-join, FitsBack-more, turns_back, turns_forth}
 
@@ -158,14 +157,45 @@ module _ {T S : Type 0} (applied : T → S → S) where
             ap (λ m. take m (reverse bs ++ s0 ∷ states_after applied rs s0)) n ∙ take-first (reverse bs) (s0 ∷ states_after applied rs s0) in
         ap (λ q. reverse (q ∷ states_before applied es q) ++ s ∷ []) k ∙ ap (λ r. r ++ s ∷ []) (sym cut)
 
+    -- ---- what the calls require
+
+    undo_fit : (us : List (List T)) (s : S) → FitsBefore applied fits us s → FitsUndo applied fits us s
+    undo_fit [] s h = tt
+    undo_fit (e ∷ es) s h = h.0
+
+    redo_fit : (rs : List (List T)) (s : S) → FitsAfter applied fits rs s → FitsRedo applied fits rs s
+    redo_fit [] s h = tt
+    redo_fit (e ∷ es) s h = h.0
+
+    pub allows : (l : Log T) (s : S) → Follows applied fits l s → Allows applied fits l s
+    allows l s f =
+        record {
+          undo = λ is. undo_fit l.undo s (subst (λ o. FitsBefore applied fits l.undo (start applied (record l { open_entry = o }) s)) is f.undo_fits);
+          redo = λ is. redo_fit l.redo s (subst (λ o. FitsAfter applied fits l.redo (start applied (record l { open_entry = o }) s)) is f.redo_fits);
+          abandon = f.noted_fit;
+        }
+
+    -- ---- what a commit does to the entries
+
+    begun_entries : (us rs : List (List T)) (ys : List T) (d : ℕ) →
+        let all = take (length us) (reverse us ++ rs) ++ ys ∷ [] in
+        reverse (ys ∷ take d us) ++ [] ≡ drop (length all - suc d) all
+    begun_entries us rs ys d =
+        let all = take (length us) (reverse us ++ rs) ++ ys ∷ [] in
+        let n : length us ≡ length (reverse us) = sym (length-reverse us) in
+        let whole : all ≡ reverse (ys ∷ us) =
+            ap (λ m. take m (reverse us ++ rs) ++ ys ∷ []) n ∙ (ap (λ r. r ++ ys ∷ []) (take-first (reverse us) rs) ∙ sym (reverse-cons ys us)) in
+        append-nil (reverse (ys ∷ take d us)) ∙ sym (ap (λ r. drop (length r - suc d) r) whole ∙ drop-reverse (suc d) (ys ∷ us))
+
     commits_at : (us rs : List (List T)) (o : Open T) (n : ℕ) (s : S) → 0 < n → (IsTrue (is_resumed o) → (0 < length us) × (rs ≡ [])) → Follows applied fits (log_at us rs o n) s → Commits applied fits (log_at us rs o n) s
     unfolding log_at FitsBack back
-    commits_at us rs Closed n s lt w f = record { follows = f; states = refl }
-    commits_at us rs (Begun []) n s lt w f = record { follows = record { noted_fit = tt; undo_fits = f.undo_fits; redo_fits = f.redo_fits }; states = refl }
+    commits_at us rs Closed n s lt w f = record { follows = f; entries_are = refl; states = refl }
+    commits_at us rs (Begun []) n s lt w f = record { follows = record { noted_fit = tt; undo_fits = f.undo_fits; redo_fits = f.redo_fits }; entries_are = refl; states = refl }
     commits_at us rs (Begun (x ∷ xs)) zero s lt w f = absurd (omega arith)
     commits_at us rs (Begun (x ∷ xs)) (suc d) s lt w f =
         record {
           follows = record { noted_fit = tt; undo_fits = (f.noted_fit, FitsBefore-take d us (back applied (x ∷ xs) s) f.undo_fits); redo_fits = tt };
+          entries_are = begun_entries us rs (x ∷ xs) d;
           states = begun_states us rs (x ∷ xs) s d;
         }
     commits_at [] rs (Resumed xs) n s lt w f = absurd (let h = (w refl).0 in omega arith)
@@ -176,6 +206,7 @@ module _ {T S : Type 0} (applied : T → S → S) where
             undo_fits = (FitsBack-join applied fits e xs s f.noted_fit f.undo_fits.0, subst (λ u. FitsBefore applied fits es u) (sym (back-join applied e xs s)) f.undo_fits.1);
             redo_fits = tt;
           };
+          entries_are = append-nil (reverse ((e ++ xs) ∷ es));
           states = resumed_states e es [] xs s;
         }
     commits_at (e ∷ es) (r ∷ rs) (Resumed xs) n s lt w f = absurd (let h = (w refl).1 in cc)

@@ -1,16 +1,16 @@
 -- Undo and redo, in any order, among the states that a log keeps.
-use Rattle.std.proofs.Common.{◌≡◌, ℕ, suc, zero, ◌+◌, ◌-◌, ◌<◌, ◌≤◌, List, [], ◌∷◌, ◌++◌, length, take, reverse, refl, sym, ap, subst, ◌∙◌, arith, length-append}
+use Rattle.std.proofs.Common.{◌≡◌, ℕ, suc, zero, ◌+◌, ◌-◌, ◌<◌, ◌≤◌, List, [], ◌∷◌, ◌++◌, length, take, reverse, refl, sym, ap, subst, ◌∙◌, arith, append_assoc, length-append}
 use Rattle.std.proofs.lemmas.Bool.Decides.{nat_tests}
 use Rattle.std.specs.Prelude.{Bool, true, false, IsTrue, nat_lt, if◌then◌else◌}
 use Rattle.std.proofs.lemmas.List.{length-reverse}
 use Rattle.undo_log.specs.Turning.{back, forth, inverses_back, inverses_forth, FitsBack, FitsForth, TurnsBack, TurnsForth}
-use Rattle.undo_log.specs.Log.{Open, Log, IsLog, is_open, is_resumed, noted, entries, cursor, committed, undone_with, undone, undone_state, redone_with, redone, redone_state}
+use Rattle.undo_log.specs.Log.{Open, Log, IsLog, is_open, is_resumed, noted, with_noted, entries, cursor, begun, resumed, with_step, abandoned, committed, undone_with, undone, undone_state, redone_with, redone, redone_state}
 use Rattle.undo_log.specs.Log.Open.{Closed, Begun, Resumed}
-use Rattle.undo_log.specs.States.{Move, Both, moved, moved_by, states_before, states_after, start, kept_states, walked, FitsBefore, FitsAfter, Follows, Keeps, Walks, Returns, before_entry}
+use Rattle.undo_log.specs.States.{Move, Both, Edit, noted_all, state_after, TakenBack, Command, moved, moved_by, states_before, states_after, start, kept_states, walked, FitsBefore, FitsAfter, Follows, Keeps, Walks, Returns, before_entry}
 use Rattle.undo_log.specs.States.Move.{Undo, Redo}
-use Rattle.undo_log.proofs.Lists.{reverse_cons}
+use Rattle.undo_log.proofs.Lists.{reverse_cons, append-nil}
 use Rattle.undo_log.proofs.Turns.{turns_back, turns_forth, back-join, FitsBack-join}
-use Rattle.undo_log.proofs.Kept.{keeps, keeps_along, keeps_then}
+use Rattle.undo_log.proofs.Kept.{keeps, keeps_along, keeps_then, begun_keeps, resumed_keeps, noted_keeps}
 
 module _ {T S : Type 0} (applied : T → S → S) (inverse : T → S → T) (fits : T → S → Type 0)
     (fits_again : (x : T) (s : S) → fits x s → fits (inverse x s) (applied x s))
@@ -145,3 +145,81 @@ module _ {T S : Type 0} (applied : T → S → S) (inverse : T → S → T) (fit
   pub returns : (l : Log T) (s : S) → IsLog l → 0 < length (noted l.open_entry) → Follows applied fits l s → Returns applied inverse fits l s
   unfolding log_at
   returns l s is some f = returns_at l.undo l.redo l.open_entry l.depth s is.some_depth is.resumes_last some f
+
+  -- ---- a whole command
+
+  steps_of : List (Edit T S) → List T
+  steps_of [] = []
+  steps_of (e ∷ es) = e.step ∷ steps_of es
+
+  length-steps_of : (es : List (Edit T S)) → length (steps_of es) ≡ length es
+  unfolding steps_of
+  length-steps_of [] = refl
+  length-steps_of (e ∷ es) = ap suc (length-steps_of es)
+
+  -- what is noted after the edits
+  noted_begun : (l : Log T) (xs : List T) (es : List (Edit T S)) → noted_all (record l { open_entry = Begun xs }) es ≡ record l { open_entry = Begun (xs ++ steps_of es) }
+  unfolding steps_of
+  noted_begun l xs [] = ap (λ ys. record l { open_entry = Begun ys }) (sym (append-nil xs))
+  noted_begun l xs (e ∷ es) = noted_begun l (xs ++ e.step ∷ []) es ∙ ap (λ ys. record l { open_entry = Begun ys }) (append_assoc xs (e.step ∷ []) (steps_of es))
+
+  noted_resumed : (l : Log T) (xs : List T) (es : List (Edit T S)) → noted_all (record l { open_entry = Resumed xs }) es ≡ record l { open_entry = Resumed (xs ++ steps_of es) }
+  unfolding steps_of
+  noted_resumed l xs [] = ap (λ ys. record l { open_entry = Resumed ys }) (sym (append-nil xs))
+  noted_resumed l xs (e ∷ es) = noted_resumed l (xs ++ e.step ∷ []) es ∙ ap (λ ys. record l { open_entry = Resumed ys }) (append_assoc xs (e.step ∷ []) (steps_of es))
+
+  still_open : (o : Open T) (x : T) → IsTrue (is_open o) → IsTrue (is_open (with_noted o x))
+  still_open Closed x is = is
+  still_open (Begun xs) x is = is
+  still_open (Resumed xs) x is = is
+
+  edits_keep : (l : Log T) (s : S) (es : List (Edit T S)) → IsTrue (is_open l.open_entry) → Follows applied fits l s → TakenBack applied fits s es →
+      Keeps applied fits l s (noted_all l es) (state_after s es) × (start applied (noted_all l es) (state_after s es) ≡ start applied l s)
+  edits_keep l s [] is f h = (keeps applied fits l s l s f refl, refl)
+  edits_keep l s (e ∷ es) is f h =
+      let k = noted_keeps applied fits l s e.state e.step is f h.0 h.1 in
+      let r = edits_keep (with_step l e.step) e.state es (still_open l.open_entry e.step is) k.0.follows h.2 in
+      (keeps_then applied fits l s (with_step l e.step) e.state (noted_all l (e ∷ es)) (state_after s (e ∷ es)) k.0 r.0, r.1 ∙ k.1)
+
+  -- what an open log with these steps gives, for either way in which it was opened
+  command : (l opened o : Log T) (before s : S) (es : List (Edit T S)) → l.open_entry ≡ Closed → noted_all opened es ≡ o → abandoned o ≡ record l { open_entry = Closed } → IsLog o →
+      (0 < length es → 0 < length (noted o.open_entry)) → Follows applied fits o (state_after s es) → start applied o (state_after s es) ≡ s → before_entry applied o (state_after s es) ≡ before →
+      Command applied inverse fits l opened before s es
+  command l opened o before s es is e gone log some f at back_at =
+      let t = state_after s es in
+      record {
+        follows = subst (λ m. Follows applied fits m t) (sym e) f;
+        abandon_state = ap (λ m. start applied m t) e ∙ at;
+        abandon_log = ap abandoned e ∙ (gone ∙ ap (λ c. record l { open_entry = c }) (sym is));
+        undo_state = λ lt. ap (λ m. undone_state applied (committed m).undo t) e ∙ ((returns o t log (some lt) f).undo_gives ∙ back_at);
+        redo_state = λ lt. ap (λ m. redone_state applied (undone applied inverse (committed m) t).redo (undone_state applied (committed m).undo t)) e ∙ (returns o t log (some lt) f).redo_gives;
+      }
+
+  pub begun_command : (l : Log T) (s : S) (es : List (Edit T S)) → IsLog l → l.open_entry ≡ Closed → Follows applied fits l s → TakenBack applied fits s es → Command applied inverse fits l (begun l) s s es
+  begun_command l s es log is f h =
+      let t = state_after s es in
+      let o : Log T = record l { open_entry = Begun (steps_of es) } in
+      let e : noted_all (begun l) es ≡ o = noted_begun l [] es in
+      let k = begun_keeps applied fits l s is f in
+      let r = edits_keep (begun l) s es refl k.0.follows h in
+      let at : start applied o t ≡ s = ap (λ m. start applied m t) (sym e) ∙ (r.1 ∙ k.1) in
+      command l (begun l) o s s es is e refl
+      (record { some_depth = log.some_depth; within = log.within; resumes_last = λ b. cc })
+      (λ lt. let n = length-steps_of es in omega arith)
+      (subst (λ m. Follows applied fits m t) e r.0.follows)
+      at at
+
+  pub resumed_command : (l : Log T) (s : S) (es : List (Edit T S)) → IsLog l → l.open_entry ≡ Closed → 0 < length l.undo → l.redo ≡ [] → Follows applied fits l s → TakenBack applied fits s es →
+      Command applied inverse fits l (resumed l) (undone_state applied l.undo s) s es
+  resumed_command l s es log is some last f h =
+      let t = state_after s es in
+      let o : Log T = record l { open_entry = Resumed (steps_of es) } in
+      let e : noted_all (resumed l) es ≡ o = noted_resumed l [] es in
+      let k = resumed_keeps applied fits l s is f in
+      let r = edits_keep (resumed l) s es refl k.0.follows h in
+      let at : start applied o t ≡ s = ap (λ m. start applied m t) (sym e) ∙ (r.1 ∙ k.1) in
+      command l (resumed l) o (undone_state applied l.undo s) s es is e refl
+      (record { some_depth = log.some_depth; within = log.within; resumes_last = λ b. (some, last) })
+      (λ lt. let n = length-steps_of es in omega arith)
+      (subst (λ m. Follows applied fits m t) e r.0.follows)
+      at (ap (undone_state applied l.undo) at)

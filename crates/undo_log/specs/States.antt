@@ -1,7 +1,7 @@
 -- The states that a log keeps: the one before its oldest entry and the one after each of its entries.
 use Rattle.std.specs.Prelude.{◌≡◌, ℕ, ◌+◌, ◌-◌, ◌<◌, List, [], ◌∷◌, ◌++◌, length, take, drop, reverse, slice_get, nat_lt, if◌then◌else◌, Option, Some}
 use Rattle.undo_log.specs.Turning.{back, forth, inverses_back, inverses_forth, FitsBack, FitsForth}
-use Rattle.undo_log.specs.Log.{Open, Log, noted, entries, cursor, committed, without_newest, without_oldest, undone, undone_state, redone, redone_state}
+use Rattle.undo_log.specs.Log.{Open, Log, noted, entries, cursor, with_step, abandoned, joined, committed, without_newest, without_oldest, undone, undone_state, redone, redone_state, FitsUndo, FitsRedo}
 use Rattle.undo_log.specs.Log.Open.{Closed, Begun, Resumed}
 
 -- one call of undo or of redo
@@ -22,6 +22,21 @@ moved_by (m ∷ ms) n c = moved_by ms n (moved m n c)
 pub record Both (T S : Type 0) : Type 0 where
   pub log : Log T
   pub state : S
+
+-- the state after an edit, and the step that takes the edit back
+pub record Edit (T S : Type 0) : Type 0 where
+  pub state : S
+  pub step : T
+
+module _ {T S : Type 0} where
+  -- the log with the steps of the edits noted, and the state after them
+  abbrev pub noted_all : Log T → List (Edit T S) → Log T
+  noted_all l [] = l
+  noted_all l (e ∷ es) = noted_all (with_step l e.step) es
+
+  abbrev pub state_after : S → List (Edit T S) → S
+  state_after s [] = s
+  state_after s (e ∷ es) = state_after e.state es
 
 module _ {T S : Type 0} (applied : T → S → S) where
   -- the states before the cursor, the last one first, and after it
@@ -55,6 +70,14 @@ module _ {T S : Type 0} (applied : T → S → S) where
   abbrev pub kept_states : Log T → S → List S
   kept_states l s = reverse (states_before l.undo (start l s)) ++ start l s ∷ states_after l.redo (start l s)
 
+  -- the entries after a commit: those past the cursor go, the open one is appended, and the oldest goes
+  -- where there are more than the depth; one that was resumed takes the place of the last
+  abbrev pub entries_committed : Log T → Open T → List (List T)
+  entries_committed l Closed = entries l
+  entries_committed l (Begun []) = entries l
+  entries_committed l (Begun (x ∷ xs)) = let all = take (cursor l) (entries l) ++ (x ∷ xs) ∷ [] in drop (length all - l.depth) all
+  entries_committed l (Resumed xs) = reverse (joined l.undo xs)
+
   -- the kept states after a commit at the state s
   abbrev pub states_committed : Log T → Open T → List S → S → List S
   states_committed l Closed ss s = ss
@@ -78,6 +101,11 @@ module _ {T S : Type 0} (applied : T → S → S) where
     FitsAfter [] s = Unit {0}
     FitsAfter (e ∷ es) s = FitsForth applied fits e s × FitsAfter es (forth applied e s)
 
+    -- each edit in turn is taken back by its step
+    abbrev pub TakenBack : S → List (Edit T S) → Type 0
+    TakenBack s [] = Unit {0}
+    TakenBack s (e ∷ es) = fits e.step e.state × (applied e.step e.state ≡ s) × TakenBack e.state es
+
     -- The log is about the state s: whatever is undone from there, and whatever is redone, each step fits.
     -- It holds of a new log at every state, and each call keeps it, as long as the state changes only by
     -- what the calls do and by edits whose inverse steps are noted
@@ -92,9 +120,16 @@ module _ {T S : Type 0} (applied : T → S → S) where
       pub states : kept_states l' s' ≡ kept_states l s
       pub at_cursor : slice_get (kept_states l s) (cursor l') ≡ Some (start l' s')
 
+    -- each step that undo, redo or abandon would apply fits
+    pub record Allows (l : Log T) (s : S) : Type 0 where
+      pub undo : l.open_entry ≡ Closed → FitsUndo applied fits l.undo s
+      pub redo : l.open_entry ≡ Closed → FitsRedo applied fits l.redo s
+      pub abandon : FitsBack applied fits (noted l.open_entry) s
+
     -- a commit keeps the states up to the open entry, and the one at which it was made
     pub record Commits (l : Log T) (s : S) : Type 0 where
       pub follows : Follows (committed l) s
+      pub entries_are : entries (committed l) ≡ entries_committed l l.open_entry
       pub states : kept_states (committed l) s ≡ states_committed l l.open_entry (kept_states l s) s
 
     -- an entry that is taken out takes the newest state, or the oldest, with it
@@ -111,9 +146,20 @@ module _ {T S : Type 0} (applied : T → S → S) (inverse : T → S → T) (fit
     pub closed : (walked applied inverse ms l s).log.open_entry ≡ Closed
     pub place : cursor (walked applied inverse ms l s).log ≡ moved_by ms (length (entries l)) (cursor l)
 
-  -- undo after a commit gives the state at begin, or that before the entry where it was resumed, and
-  -- redo after it the state at the commit, with the log as it was
+  -- undo after a commit gives the state before the open entry, and redo after it the state at the commit,
+  -- with the log as it was
   pub record Returns (l : Log T) (s : S) : Type 0 where
     pub undo_gives : undone_state applied (committed l).undo s ≡ before_entry applied l s
     pub redo_gives : redone_state applied (undone applied inverse (committed l) s).redo (undone_state applied (committed l).undo s) ≡ s
     pub log_again : redone applied inverse (undone applied inverse (committed l) s) (undone_state applied (committed l).undo s) ≡ committed l
+
+  -- A command: the log `opened` has an entry open since the state s, with no step noted, and then come the
+  -- edits. Abandon gives the state s and the log `closed`; undo after a commit gives the state `before`,
+  -- and redo after it the state at the commit
+  pub record Command (closed opened : Log T) (before s : S) (es : List (Edit T S)) : Type 0 where
+    pub follows : Follows applied fits (noted_all opened es) (state_after s es)
+    pub abandon_state : start applied (noted_all opened es) (state_after s es) ≡ s
+    pub abandon_log : abandoned (noted_all opened es) ≡ closed
+    pub undo_state : 0 < length es → undone_state applied (committed (noted_all opened es)).undo (state_after s es) ≡ before
+    pub redo_state : 0 < length es →
+        redone_state applied (undone applied inverse (committed (noted_all opened es)) (state_after s es)).redo (undone_state applied (committed (noted_all opened es)).undo (state_after s es)) ≡ state_after s es

@@ -7,9 +7,9 @@
 //! contracts give.
 ghost use Rattle.std.specs.Prelude.{◌≡◌, ℕ, ◌<◌, List, [], ◌∷◌, length, IsTrue};
 ghost use Rattle.undo_log.specs.Turning.{FitsBack, FitsForth, TurnsBack, TurnsForth};
-ghost use Rattle.undo_log.specs.Log.{Log, IsLog, is_open, noted, empty, begun, resumed, with_step};
+ghost use Rattle.undo_log.specs.Log.{Log, IsLog, is_open, noted, empty, begun, resumed, with_step, undone_state};
 ghost use Rattle.undo_log.specs.Log.Open.{Closed};
-ghost use Rattle.undo_log.specs.States.{Move, start, kept_states, Follows, Keeps, Commits, Drops, Walks, Returns};
+ghost use Rattle.undo_log.specs.States.{Move, Edit, TakenBack, start, kept_states, Follows, Keeps, Allows, Commits, Drops, Walks, Returns, Command};
 
 use crate::entry::Invertible;
 
@@ -52,6 +52,23 @@ pub fn commits<T, S>()
 where
     T: Invertible<S>,
     ensures { (l : Log T) (s : S) → IsLog l → Follows T.applied T.fits l s → Commits T.applied T.fits l s }
+{}
+
+/// Where a log follows the state, what `undo`, `redo` and `abandon` require of the steps holds.
+pub fn allows<T, S>()
+where
+    T: Invertible<S>,
+    ensures { (l : Log T) (s : S) → Follows T.applied T.fits l s → Allows T.applied T.fits l s }
+{}
+
+/// Where the state changes, from begin or resume on, only by edits whose steps are noted: abandon gives the
+/// state at begin or resume and the log as it was, undo after a commit the state at begin, or for an entry
+/// that was resumed the state at its first begin, and redo after it the state at the commit.
+pub fn commands<T, S>()
+where
+    T: Invertible<S>,
+    ensures begin { (l : Log T) (s : S) (es : List (Edit T S)) → IsLog l → l.open_entry ≡ Closed → Follows T.applied T.fits l s → TakenBack T.applied T.fits s es → Command T.applied T.inverse T.fits l (begun l) s s es }
+    ensures resume { (l : Log T) (s : S) (es : List (Edit T S)) → IsLog l → l.open_entry ≡ Closed → 0 < length l.undo → l.redo ≡ [] → Follows T.applied T.fits l s → TakenBack T.applied T.fits s es → Command T.applied T.inverse T.fits l (resumed l) (undone_state T.applied l.undo s) s es }
 {}
 
 /// Right after a commit with a step, undo gives the state at begin, or for an entry that was resumed the

@@ -1,5 +1,5 @@
 //! The log: entries around a cursor, and one open entry at most.
-ghost use Rattle.std.specs.Prelude.{◌≡◌, ◌+◌, ◌-◌, ◌<◌, ◌≤◌, ◌↔◌, IsTrue, IsFalse, [], length, IfOk, OnOk, IfErr, if◌then◌else◌};
+ghost use Rattle.std.specs.Prelude.{◌≡◌, ◌+◌, ◌-◌, ◌<◌, ◌≤◌, ◌↔◌, IsTrue, IsFalse, [], length, IsNone, IfOk, OnOk, IfErr, if◌then◌else◌};
 ghost use Rattle.std.specs.Option.{option_map};
 ghost use Rattle.undo_log.specs.Turning.{back, FitsBack};
 ghost use Rattle.undo_log.specs.Log.{Log, IsLog, is_open, is_resumed, noted, entries, cursor, empty, begun, resumed, with_step, committed, abandoned, undone, undone_state, redone, redone_state, without_newest, without_oldest, first_length, FitsUndo, FitsRedo};
@@ -14,7 +14,8 @@ use std::marker::Model;
 use std::sync::ledger::Ledger;
 use step_count::Steps;
 
-/// Whether a commit left an entry that it did not find, or did not find so long.
+/// Whether steps were noted since `begin` or `resume`, so that a commit made an entry of them, or made a
+/// resumed one longer by them.
 #[derive(Clone, Copy, PartialEq, Eq, Debug)]
 pub enum Committed {
     Nothing,
@@ -188,6 +189,7 @@ impl<T: Drop> UndoLog<T> {
 
     /// Takes the newest entry after the cursor out. None where there is none.
     pub fn pop_redo(&mut self) -> Option<Vec<T>>
+        ensures none { IsNone result ↔ (self.old.redo ≡ []) }
         ensures entry { option_map (λ v. v.items) result ≡ last_item self.old.redo }
         ensures log { self.new ≡ without_newest self.old }
     {
@@ -197,6 +199,7 @@ impl<T: Drop> UndoLog<T> {
     /// Takes the oldest entry before the cursor out. None where there is none.
     pub fn pop_oldest(&mut self) -> Option<Vec<T>>
         requires { IsFalse (is_resumed self.old.open_entry) }
+        ensures none { IsNone result ↔ (self.old.undo ≡ []) }
         ensures entry { option_map (λ v. v.items) result ≡ last_item self.old.undo }
         ensures log { self.new ≡ without_oldest self.old }
     {
