@@ -137,10 +137,10 @@ module _ {T S : Type 0} (applied : T → S → S) where
         let zs : List S = s ∷ (s0 ∷ bs) in
         let n : length us + 1 ≡ length (reverse bs) + suc 0 = (let a = length-reverse bs in let b = length-states_before us s0 in omega arith) in
         let whole : all ≡ reverse zs =
-            ap (λ r. r ++ s ∷ []) (take-seam (reverse bs) s0 (states_after applied rs s0) 0 (length us + 1) n ∙ sym (reverse-cons s0 bs)) ∙ sym (reverse-cons s (s0 ∷ bs)) in
+        ap (λ r. r ++ s ∷ []) (take-seam (reverse bs) s0 (states_after applied rs s0) 0 (length us + 1) n ∙ sym (reverse-cons s0 bs)) ∙ sym (reverse-cons s (s0 ∷ bs)) in
         let m : suc d + 1 ≡ suc (suc d) = omega arith in
         let right : drop (length all - (suc d + 1)) all ≡ reverse (s ∷ (s0 ∷ take d bs)) =
-            ap (λ r. drop (length r - (suc d + 1)) r) whole ∙ (drop-reverse (suc d + 1) zs ∙ ap (λ j. reverse (take j zs)) m) in
+        ap (λ r. drop (length r - (suc d + 1)) r) whole ∙ (drop-reverse (suc d + 1) zs ∙ ap (λ j. reverse (take j zs)) m) in
         sym (reverse-cons s (s0 ∷ states_before applied (take d us) s0)) ∙ (ap (λ r. reverse (s ∷ (s0 ∷ r))) (states_before-take d us s0) ∙ sym right)
 
     resumed_states : (e : List T) (es rs : List (List T)) (xs : List T) (s : S) →
@@ -154,7 +154,7 @@ module _ {T S : Type 0} (applied : T → S → S) where
         let k : back applied (e ++ xs) s ≡ p = back-join applied e xs s in
         let n : suc (length es) ≡ length (reverse bs) = sym (length-reverse bs ∙ ap suc (length-states_before es p)) in
         let cut : take (suc (length es)) (reverse bs ++ s0 ∷ states_after applied rs s0) ≡ reverse bs =
-            ap (λ m. take m (reverse bs ++ s0 ∷ states_after applied rs s0)) n ∙ take-first (reverse bs) (s0 ∷ states_after applied rs s0) in
+        ap (λ m. take m (reverse bs ++ s0 ∷ states_after applied rs s0)) n ∙ take-first (reverse bs) (s0 ∷ states_after applied rs s0) in
         ap (λ q. reverse (q ∷ states_before applied es q) ++ s ∷ []) k ∙ ap (λ r. r ++ s ∷ []) (sym cut)
 
     -- ---- what the calls require
@@ -184,7 +184,7 @@ module _ {T S : Type 0} (applied : T → S → S) where
         let all = take (length us) (reverse us ++ rs) ++ ys ∷ [] in
         let n : length us ≡ length (reverse us) = sym (length-reverse us) in
         let whole : all ≡ reverse (ys ∷ us) =
-            ap (λ m. take m (reverse us ++ rs) ++ ys ∷ []) n ∙ (ap (λ r. r ++ ys ∷ []) (take-first (reverse us) rs) ∙ sym (reverse-cons ys us)) in
+        ap (λ m. take m (reverse us ++ rs) ++ ys ∷ []) n ∙ (ap (λ r. r ++ ys ∷ []) (take-first (reverse us) rs) ∙ sym (reverse-cons ys us)) in
         append-nil (reverse (ys ∷ take d us)) ∙ sym (ap (λ r. drop (length r - suc d) r) whole ∙ drop-reverse (suc d) (ys ∷ us))
 
     commits_at : (us rs : List (List T)) (o : Open T) (n : ℕ) (s : S) → 0 < n → (IsTrue (is_resumed o) → (0 < length us) × (rs ≡ [])) → Follows applied fits (log_at us rs o n) s → Commits applied fits (log_at us rs o n) s
@@ -225,15 +225,15 @@ module _ {T S : Type 0} (applied : T → S → S) where
         record {
           newest_follows = record { noted_fit = f.noted_fit; undo_fits = f.undo_fits; redo_fits = FitsAfter-take (length l.redo - 1) l.redo s0 f.redo_fits };
           newest_states = λ lt.
-            let n : length (kept_states applied l s) - 1 ≡ length (reverse bs) + suc (length l.redo - 1) =
-                (let a = length-append (reverse bs) (s0 ∷ as_) in let b = length-states_after l.redo s0 in omega arith) in
-            ap (λ r. reverse bs ++ s0 ∷ r) (states_after-take (length l.redo - 1) l.redo s0) ∙ sym (take-seam (reverse bs) s0 as_ (length l.redo - 1) (length (kept_states applied l s) - 1) n);
+              let n : length (kept_states applied l s) - 1 ≡ length (reverse bs) + suc (length l.redo - 1) =
+              (let a = length-append (reverse bs) (s0 ∷ as_) in let b = length-states_after l.redo s0 in omega arith) in
+              ap (λ r. reverse bs ++ s0 ∷ r) (states_after-take (length l.redo - 1) l.redo s0) ∙ sym (take-seam (reverse bs) s0 as_ (length l.redo - 1) (length (kept_states applied l s) - 1) n);
           oldest_follows = record { noted_fit = f.noted_fit; undo_fits = FitsBefore-take (length l.undo - 1) l.undo s0 f.undo_fits; redo_fits = f.redo_fits };
           oldest_states = λ lt.
-            let b = length-states_before l.undo s0 in
-            let a = length-reverse bs in
-            let one : 1 ≡ length (reverse bs) - (length l.undo - 1) = omega arith in
-            let some : 0 < length (reverse bs) = omega arith in
-            let k : drop 1 (reverse bs) ≡ reverse (take (length l.undo - 1) bs) = ap (λ m. drop m (reverse bs)) one ∙ drop-reverse (length l.undo - 1) bs in
-            ap (λ r. reverse r ++ s0 ∷ as_) (states_before-take (length l.undo - 1) l.undo s0) ∙ (ap (λ r. r ++ s0 ∷ as_) (sym k) ∙ sym (drop_one-append (reverse bs) (s0 ∷ as_) some));
+              let b = length-states_before l.undo s0 in
+              let a = length-reverse bs in
+              let one : 1 ≡ length (reverse bs) - (length l.undo - 1) = omega arith in
+              let some : 0 < length (reverse bs) = omega arith in
+              let k : drop 1 (reverse bs) ≡ reverse (take (length l.undo - 1) bs) = ap (λ m. drop m (reverse bs)) one ∙ drop-reverse (length l.undo - 1) bs in
+              ap (λ r. reverse r ++ s0 ∷ as_) (states_before-take (length l.undo - 1) l.undo s0) ∙ (ap (λ r. r ++ s0 ∷ as_) (sym k) ∙ sym (drop_one-append (reverse bs) (s0 ∷ as_) some));
         }

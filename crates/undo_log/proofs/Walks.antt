@@ -110,7 +110,7 @@ module _ {T S : Type 0} (applied : T → S → S) (inverse : T → S → T) (fit
       let n = redone_count l l.redo s in
       let same : length (entries l') ≡ length (entries l) = length-entries l' ∙ (n.1 ∙ sym (length-entries l)) in
       let place : cursor l' ≡ moved Redo (length (entries l)) (cursor l) =
-          n.0 ∙ ap (λ m. if nat_lt (length l.undo) m then length l.undo + 1 else length l.undo) (sym (length-entries l)) in
+      n.0 ∙ ap (λ m. if nat_lt (length l.undo) m then length l.undo + 1 else length l.undo) (sym (length-entries l)) in
       record {
         keeps = keeps_then applied fits l s l' s' (walked applied inverse ms l' s').log (walked applied inverse ms l' s').state k r.keeps;
         closed = r.closed;

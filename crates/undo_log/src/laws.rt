@@ -39,11 +39,12 @@ where
 {}
 
 /// Where an edit made the state `t` of `s`, and the step that is noted takes it back, the kept states and
-/// the state at which the open entry started stay.
+/// the state at which the open entry started stay. So it is where a step is applied and then noted.
 pub fn notes<T, S>()
 where
     T: Invertible<S>,
-    ensures { (l : Log T) (s t : S) (x : T) → IsTrue (is_open l.open_entry) → Follows T.applied T.fits l s → T.fits x t → T.applied x t ≡ s → Keeps T.applied T.fits l s (with_step l x) t × (start T.applied (with_step l x) t ≡ start T.applied l s) }
+    ensures edit { (l : Log T) (s t : S) (x : T) → IsTrue (is_open l.open_entry) → Follows T.applied T.fits l s → T.fits x t → T.applied x t ≡ s → Keeps T.applied T.fits l s (with_step l x) t × (start T.applied (with_step l x) t ≡ start T.applied l s) }
+    ensures applied { (l : Log T) (s : S) (x : T) → IsTrue (is_open l.open_entry) → Follows T.applied T.fits l s → T.fits x s → Keeps T.applied T.fits l s (with_step l (T.inverse x s)) (T.applied x s) × (start T.applied (with_step l (T.inverse x s)) (T.applied x s) ≡ start T.applied l s) }
 {}
 
 /// A commit keeps the states up to the one at which the entry started, and the one at hand; the oldest

@@ -14,3 +14,6 @@ pub mod log;
 
 pub use entry::Invertible;
 pub use log::{Committed, UndoLog};
+
+#[cfg(test)]
+mod tests;
