@@ -1,13 +1,13 @@
 -- The states that a log keeps, after each call.
-use Rattle.std.proofs.Common.{◌≡◌, ℕ, suc, zero, ◌+◌, ◌-◌, ◌<◌, ◌≤◌, List, [], ◌∷◌, ◌++◌, length, take, drop, reverse, refl, sym, ap, subst, ◌∙◌, arith, append_assoc, length-append}
-use Rattle.std.specs.Prelude.{Bool, true, false, IsTrue, IsFalse, Option, Some, slice_get, nat_lt, if◌then◌else◌}
+use Rattle.std.proofs.Common.{◌≡◌, ℕ, suc, zero, ◌+◌, ◌-◌, ◌<◌, List, [], ◌∷◌, ◌++◌, length, take, drop, reverse, refl, sym, ap, subst, ◌∙◌, arith, length-append}
+use Rattle.std.specs.Prelude.{IsTrue, Some, slice_get}
 use Rattle.std.proofs.lemmas.List.{length-reverse}
-use Rattle.undo_log.specs.Turning.{back, forth, inverses_back, inverses_forth, FitsBack, FitsForth, TurnsBack, TurnsForth}
-use Rattle.undo_log.specs.Log.{Open, Log, IsLog, is_open, is_resumed, noted, entries, cursor, empty, begun, resumed, with_step, abandoned, joined, committed, without_newest, without_oldest, FitsUndo, FitsRedo}
+use Rattle.undo_log.specs.Turning.{back, forth, FitsBack}
+use Rattle.undo_log.specs.Log.{Open, Log, IsLog, is_open, is_resumed, noted, cursor, empty, begun, resumed, with_step, abandoned, FitsUndo, FitsRedo}
 use Rattle.undo_log.specs.Log.Open.{Closed, Begun, Resumed}
-use Rattle.undo_log.specs.States.{states_before, states_after, start, kept_states, states_committed, entries_committed, FitsBefore, FitsAfter, Follows, Keeps, Allows, Commits, Drops}
-use Rattle.undo_log.proofs.Lists.{reverse_cons, reverse-cons, append-nil, slice_get-middle, take-first, drop-reverse, drop_one-append, take-seam}
-use Rattle.undo_log.proofs.Turns.{back-append, back-join, FitsBack-join, FitsBack-more, turns_back, turns_forth}
+use Rattle.undo_log.specs.States.{states_before, states_after, start, kept_states, FitsBefore, FitsAfter, Follows, Keeps, Allows, Commits, Drops}
+use Rattle.undo_log.proofs.Lists.{reverse-cons, append-nil, slice_get-middle, take-first, drop-reverse, drop_one-append, take-seam}
+use Rattle.undo_log.proofs.Turns.{back-append, back-join, FitsBack-join, FitsBack-more}
 
 module _ {T S : Type 0} (applied : T → S → S) where
   length-states_before : (es : List (List T)) (s : S) → length (states_before applied es s) ≡ length es

@@ -1,12 +1,12 @@
 -- Undo and redo, in any order, among the states that a log keeps.
-use Rattle.std.proofs.Common.{◌≡◌, ℕ, suc, zero, ◌+◌, ◌-◌, ◌<◌, ◌≤◌, List, [], ◌∷◌, ◌++◌, length, take, reverse, refl, sym, ap, subst, ◌∙◌, arith, append_assoc, length-append}
+use Rattle.std.proofs.Common.{◌≡◌, ℕ, suc, zero, ◌+◌, ◌-◌, ◌<◌, List, [], ◌∷◌, ◌++◌, length, take, reverse, refl, sym, ap, subst, ◌∙◌, arith, append_assoc, length-append}
 use Rattle.std.proofs.lemmas.Bool.Decides.{nat_tests}
-use Rattle.std.specs.Prelude.{Bool, true, false, IsTrue, nat_lt, if◌then◌else◌}
+use Rattle.std.specs.Prelude.{IsTrue, nat_lt, if◌then◌else◌}
 use Rattle.std.proofs.lemmas.List.{length-reverse}
-use Rattle.undo_log.specs.Turning.{back, forth, inverses_back, inverses_forth, FitsBack, FitsForth, TurnsBack, TurnsForth}
+use Rattle.undo_log.specs.Turning.{back, forth, inverses_back, inverses_forth, FitsBack}
 use Rattle.undo_log.specs.Log.{Open, Log, IsLog, is_open, is_resumed, noted, with_noted, entries, cursor, begun, resumed, with_step, abandoned, committed, undone_with, undone, undone_state, redone_with, redone, redone_state}
 use Rattle.undo_log.specs.Log.Open.{Closed, Begun, Resumed}
-use Rattle.undo_log.specs.States.{Move, Both, Edit, noted_all, state_after, TakenBack, Command, moved, moved_by, states_before, states_after, start, kept_states, walked, FitsBefore, FitsAfter, Follows, Keeps, Walks, Returns, before_entry}
+use Rattle.undo_log.specs.States.{Move, Edit, noted_all, state_after, TakenBack, Command, moved, moved_by, states_before, states_after, start, walked, FitsBefore, FitsAfter, Follows, Keeps, Walks, Returns, before_entry}
 use Rattle.undo_log.specs.States.Move.{Undo, Redo}
 use Rattle.undo_log.proofs.Lists.{reverse_cons, append-nil}
 use Rattle.undo_log.proofs.Turns.{turns_back, turns_forth, back-join, FitsBack-join}

@@ -1,7 +1,7 @@
 -- The fields of a log, and what they show.
 use Rattle.std.specs.Prelude.{◌≡◌, ℕ, ◌≤◌, List, [], ◌∷◌, ◌++◌, length, take, drop, Option, Some, None, refl}
 use Rattle.std.specs.Coded.{Coded, code_by, coded×, coded_list, coded_option}
-use Rattle.undo_log.specs.Log.{Open, Log, IsLog}
+use Rattle.undo_log.specs.Log.{Log, IsLog}
 use Rattle.undo_log.specs.Log.Open.{Closed, Begun, Resumed}
 
 -- the entry that was resumed, as it was, if one was, and the steps noted since begin or resume

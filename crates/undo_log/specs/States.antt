@@ -1,6 +1,6 @@
 -- The states that a log keeps: the one before its oldest entry and the one after each of its entries.
-use Rattle.std.specs.Prelude.{◌≡◌, ℕ, ◌+◌, ◌-◌, ◌<◌, List, [], ◌∷◌, ◌++◌, length, take, drop, reverse, slice_get, nat_lt, if◌then◌else◌, Option, Some}
-use Rattle.undo_log.specs.Turning.{back, forth, inverses_back, inverses_forth, FitsBack, FitsForth}
+use Rattle.std.specs.Prelude.{◌≡◌, ℕ, ◌+◌, ◌-◌, ◌<◌, List, [], ◌∷◌, ◌++◌, length, take, drop, reverse, slice_get, nat_lt, if◌then◌else◌, Some}
+use Rattle.undo_log.specs.Turning.{back, forth, FitsBack, FitsForth}
 use Rattle.undo_log.specs.Log.{Open, Log, noted, entries, cursor, with_step, abandoned, joined, committed, without_newest, without_oldest, undone, undone_state, redone, redone_state, FitsUndo, FitsRedo}
 use Rattle.undo_log.specs.Log.Open.{Closed, Begun, Resumed}
 

@@ -12,8 +12,10 @@ use step_count::Steps;
 /// A step over a state. Once it is applied it is its own inverse: applied again, it gives back the state
 /// and the step.
 pub trait Invertible<S> {
+    // Whether the step may be applied to the state.
     ghost fits: { Self → S → Type 0 };
 
+    // The state after it is applied, and the step that it becomes.
     ghost applied: { Self → S → S };
 
     ghost inverse: { Self → S → Self };
@@ -24,6 +26,7 @@ pub trait Invertible<S> {
         ensures state { state.new ≡ applied self.old state.old }
         ensures step { self.new ≡ inverse self.old state.old };
 
+    // Applied again it fits, and gives back the state and the step.
     ghost fits_again: { (x : Self) (s : S) → fits x s → fits (inverse x s) (applied x s) };
 
     ghost state_again: { (x : Self) (s : S) → fits x s → applied (inverse x s) (applied x s) ≡ s };

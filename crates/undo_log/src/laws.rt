@@ -34,8 +34,10 @@ where
 pub fn opens<T, S>()
 where
     T: Invertible<S>,
-    ensures begin { (l : Log T) (s : S) → l.open_entry ≡ Closed → Follows T.applied T.fits l s → Keeps T.applied T.fits l s (begun l) s × (start T.applied (begun l) s ≡ s) }
-    ensures resume { (l : Log T) (s : S) → l.open_entry ≡ Closed → Follows T.applied T.fits l s → Keeps T.applied T.fits l s (resumed l) s × (start T.applied (resumed l) s ≡ s) }
+    ensures begin { (l : Log T) (s : S) → l.open_entry ≡ Closed → Follows T.applied T.fits l s →
+        Keeps T.applied T.fits l s (begun l) s × (start T.applied (begun l) s ≡ s) }
+    ensures resume { (l : Log T) (s : S) → l.open_entry ≡ Closed → Follows T.applied T.fits l s →
+        Keeps T.applied T.fits l s (resumed l) s × (start T.applied (resumed l) s ≡ s) }
 {}
 
 /// Where an edit made the state `t` of `s`, and the step that is noted takes it back, the kept states and
@@ -43,8 +45,10 @@ where
 pub fn notes<T, S>()
 where
     T: Invertible<S>,
-    ensures edit { (l : Log T) (s t : S) (x : T) → IsTrue (is_open l.open_entry) → Follows T.applied T.fits l s → T.fits x t → T.applied x t ≡ s → Keeps T.applied T.fits l s (with_step l x) t × (start T.applied (with_step l x) t ≡ start T.applied l s) }
-    ensures applied { (l : Log T) (s : S) (x : T) → IsTrue (is_open l.open_entry) → Follows T.applied T.fits l s → T.fits x s → Keeps T.applied T.fits l s (with_step l (T.inverse x s)) (T.applied x s) × (start T.applied (with_step l (T.inverse x s)) (T.applied x s) ≡ start T.applied l s) }
+    ensures edit { (l : Log T) (s t : S) (x : T) → IsTrue (is_open l.open_entry) → Follows T.applied T.fits l s → T.fits x t → T.applied x t ≡ s →
+        Keeps T.applied T.fits l s (with_step l x) t × (start T.applied (with_step l x) t ≡ start T.applied l s) }
+    ensures applied { (l : Log T) (s : S) (x : T) → IsTrue (is_open l.open_entry) → Follows T.applied T.fits l s → T.fits x s →
+        Keeps T.applied T.fits l s (with_step l (T.inverse x s)) (T.applied x s) × (start T.applied (with_step l (T.inverse x s)) (T.applied x s) ≡ start T.applied l s) }
 {}
 
 /// A commit keeps the states up to the one at which the entry started, and the one at hand; the oldest
@@ -68,8 +72,10 @@ where
 pub fn commands<T, S>()
 where
     T: Invertible<S>,
-    ensures begin { (l : Log T) (s : S) (es : List (Edit T S)) → IsLog l → l.open_entry ≡ Closed → Follows T.applied T.fits l s → TakenBack T.applied T.fits s es → Command T.applied T.inverse T.fits l (begun l) s s es }
-    ensures resume { (l : Log T) (s : S) (es : List (Edit T S)) → IsLog l → l.open_entry ≡ Closed → 0 < length l.undo → l.redo ≡ [] → Follows T.applied T.fits l s → TakenBack T.applied T.fits s es → Command T.applied T.inverse T.fits l (resumed l) (undone_state T.applied l.undo s) s es }
+    ensures begin { (l : Log T) (s : S) (es : List (Edit T S)) → IsLog l → l.open_entry ≡ Closed → Follows T.applied T.fits l s → TakenBack T.applied T.fits s es →
+        Command T.applied T.inverse T.fits l (begun l) s s es }
+    ensures resume { (l : Log T) (s : S) (es : List (Edit T S)) → IsLog l → l.open_entry ≡ Closed → 0 < length l.undo → l.redo ≡ [] →
+        Follows T.applied T.fits l s → TakenBack T.applied T.fits s es → Command T.applied T.inverse T.fits l (resumed l) (undone_state T.applied l.undo s) s es }
 {}
 
 /// Right after a commit with a step, undo gives the state at begin, or for an entry that was resumed the

@@ -8,9 +8,9 @@
 //! whole depth from the start, so that only `note` takes memory after `new`.
 #![tactic(auto)]
 
-pub mod entry;
+mod entry;
 pub mod laws;
-pub mod log;
+mod log;
 
 pub use entry::Invertible;
 pub use log::{Committed, UndoLog};

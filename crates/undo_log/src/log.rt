@@ -1,5 +1,5 @@
 //! The log: entries around a cursor, and one open entry at most.
-ghost use Rattle.std.specs.Prelude.{◌≡◌, ◌+◌, ◌-◌, ◌<◌, ◌≤◌, ◌↔◌, IsTrue, IsFalse, [], length, IsNone, IfOk, OnOk, IfErr, if◌then◌else◌};
+ghost use Rattle.std.specs.Prelude.{◌≡◌, ◌+◌, ◌-◌, ◌<◌, ◌↔◌, IsTrue, IsFalse, [], length, IsNone, IfOk, OnOk, IfErr, if◌then◌else◌};
 ghost use Rattle.std.specs.Option.{option_map};
 ghost use Rattle.undo_log.specs.Turning.{back, FitsBack};
 ghost use Rattle.undo_log.specs.Log.{Log, IsLog, is_open, is_resumed, noted, entries, cursor, empty, begun, resumed, with_step, committed, abandoned, undone, undone_state, redone, redone_state, without_newest, without_oldest, first_length, FitsUndo, FitsRedo};
@@ -66,6 +66,7 @@ impl<T: Drop> UndoLog<T> {
     pub fn lawful(&self)
         ensures { IsLog self.now }
     {
+        // What holds of the fields is known once one of them is used.
         let _ = &self.alloc;
     }
 
@@ -218,7 +219,8 @@ impl<T: Drop> UndoLog<T> {
 
     /// How many entries redo would take.
     pub fn redo_len(&self) -> usize
-        ensures { result ≡ length self.now.redo }
+        ensures count { result ≡ length self.now.redo }
+        ensures entries { cursor self.now + result ≡ length (entries self.now) }
     {
         self.redo.len()
     }

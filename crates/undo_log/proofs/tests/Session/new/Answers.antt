@@ -1,5 +1,5 @@
-use Rattle.std.proofs.Common.{◌≡◌, false, refl, sym, subst, rules}
-use Rattle.undo_log.specs.Log.{Log, is_open, empty}
+use Rattle.std.proofs.Common.{◌≡◌, false, refl, sym, subst}
+use Rattle.undo_log.specs.Log.{is_open}
 use Rattle.undo_log.specs.States.{Follows}
 use Rattle.undo_log.proofs.tests.Session.new.Goals as goal
 
