@@ -10,8 +10,12 @@ use std::alloc::AllocError;
 pub fn push_char(bytes: &mut Vec<u8>, c: char) -> Result<(), AllocError>
     ensures ok { OnOk result (bytes.new.items ≡ bytes.old.items ++ encode_utf8 c) }
 {
-    let mut buffer = [0; 4];
-    bytes.extend_from_slice(c.encode_utf8(&mut buffer).as_bytes())?;
+    if c.is_ascii() {
+        bytes.push(c as u8)?;
+    } else {
+        let mut buffer = [0; 4];
+        bytes.extend_from_slice(c.encode_utf8(&mut buffer).as_bytes())?;
+    }
     Ok(())
 }
 

@@ -1,0 +1,12 @@
+pub mod Forest
+pub mod Code
+pub mod AttributeList
+pub mod AttributeMap
+pub mod ContentCode
+pub mod Contents
+pub mod State
+pub mod Places
+pub mod Document
+pub mod Editing
+pub mod TreeOrder
+pub mod Revised

@@ -1,0 +1,155 @@
+//! The attribute list of an element.
+
+ghost use Rattle.std.specs.Prelude.{◌≡◌, [], IfOk, OnOk, OnErr, IsTrue, ◌↔◌, length, slice_get, is_some};
+ghost use Rattle.std.specs.Option.{option_copied, option_map};
+ghost use Rattle.dom_model.specs.AttributeList.{value_of, set_in, unset_in, IsDistinctNames};
+ghost use Rattle.dom_model.specs.AttributeMap.{attributes_of};
+
+use crate::texts::{Chars, Name};
+use indexmap::IndexMap;
+use std::alloc::{AllocError, AllocFailed, Global};
+use std::marker::Model;
+
+/// One attribute: its qualified name and its value.
+#[derive(Drop)]
+pub struct Attribute {
+    pub name: Name,
+    pub value: Chars,
+}
+
+/// An ordered list of attributes whose names are distinct. It takes no memory while it is empty.
+#[derive(Drop)]
+pub struct Attributes {
+    alloc: Global,
+    list: Option<Box<IndexMap<Vec<u8>, Chars>>>,
+}
+
+impl Model for Attributes {
+    ghost use Rattle.std.specs.Prelude.{List};
+    ghost use Rattle.dom_model.specs.declared.attributes.Attribute.{Attribute};
+
+    ghost Value = { List Attribute };
+
+    ghost use Rattle.dom_model.specs.AttributeMap.{attributes_in};
+
+    ghost view = { λ a. attributes_in a.list };
+}
+
+// Gives a name a value in a map.
+fn put(map: &mut IndexMap<Vec<u8>, Chars>, name: Name, value: Chars) -> Result<(), AllocError>
+    ensures ok { OnOk result (attributes_of map.new.entries ≡ set_in (attributes_of map.old.entries) name value) }
+    ensures err { OnErr result (attributes_of map.new.entries ≡ attributes_of map.old.entries) }
+{
+    map.insert(name.into_vec(), value)?;
+    Ok(())
+}
+
+// Takes a name out of a map.
+fn take(map: &mut IndexMap<Vec<u8>, Chars>, name: &[u8]) -> bool
+    ensures was { result ≡ is_some (value_of (attributes_of map.old.entries) name.now) }
+    ensures left { attributes_of map.new.entries ≡ unset_in (attributes_of map.old.entries) name.now }
+{
+    map.shift_remove(name).is_some()
+}
+
+impl Attributes {
+    /// The empty list.
+    pub fn new(alloc: Global) -> Attributes
+        ensures { result ≡ [] }
+    {
+        Attributes { alloc, list: None }
+    }
+
+    /// A list of the same attributes.
+    pub fn copy(&self) -> Result<Attributes, AllocError>
+        ensures { IfOk result (λ copied. copied ≡ self.now) }
+    {
+        let list = match &self.list {
+            None => None,
+            Some(map) => Some(map.clone()?),
+        };
+        Ok(Attributes {
+            alloc: self.alloc,
+            list,
+        })
+    }
+
+    /// How many attributes there are.
+    pub fn len(&self) -> usize
+        ensures { result ≡ length self.now }
+    {
+        match &self.list {
+            None => 0,
+            Some(map) => map.len(),
+        }
+    }
+
+    /// The value of the attribute of a name.
+    pub fn get(&self, name: &[u8]) -> Option<&Chars>
+        ensures { option_copied result ≡ value_of self.now name.now }
+    {
+        match &self.list {
+            None => None,
+            Some(map) => map.get(name),
+        }
+    }
+
+    /// The name and the value at a place of the list.
+    pub fn at(&self, place: usize) -> Option<(&[u8], &Chars)>
+        ensures { option_map (λ pair. record { name = pair.0.now; value = pair.1.now }) result ≡ slice_get self.now place }
+    {
+        match &self.list {
+            None => None,
+            Some(map) => match map.get_index(place) {
+                None => None,
+                Some((name, value)) => Some((name.as_slice(), value)),
+            },
+        }
+    }
+
+    /// Gives an attribute a value. One that is there keeps its place; a new one goes last.
+    pub fn insert(&mut self, name: Name, value: Chars) -> Result<(), AllocError>
+        ensures ok { OnOk result (self.new ≡ set_in self.old name value) }
+        ensures err { OnErr result (self.new ≡ self.old) }
+    {
+        match &mut self.list {
+            None => {
+                let mut map = IndexMap::new(self.alloc);
+                put(&mut map, name, value)?;
+                self.list = Some(Box::new(self.alloc, map)?);
+            }
+            Some(map) => put(map, name, value)?,
+        }
+        Ok(())
+    }
+
+    /// Gives an attribute a copy of a value. One that is there keeps its place; a new one goes last.
+    pub fn set(&mut self, name: &Name, value: &Chars) -> Result<(), AllocError>
+        ensures ok { OnOk result (self.new ≡ set_in self.old name.now value.now) }
+        ensures err { OnErr result (self.new ≡ self.old) }
+    {
+        let name = name.clone()?;
+        let value = value.clone()?;
+        self.insert(name, value)
+    }
+
+    /// Takes the attribute of a name out; those after it move up. False where there is none.
+    pub fn unset(&mut self, name: &[u8]) -> bool
+        ensures was { result ≡ is_some (value_of self.old name.now) }
+        ensures left { self.new ≡ unset_in self.old name.now }
+    {
+        match &mut self.list {
+            None => false,
+            Some(map) => take(map, name),
+        }
+    }
+
+    /// That the names are distinct, for proofs. It does nothing.
+    pub fn lawful(&self)
+        ensures { IsDistinctNames self.now }
+    {
+        if let Some(map) = &self.list {
+            let _ = map.len();
+        }
+    }
+}

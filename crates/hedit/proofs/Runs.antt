@@ -1,0 +1,167 @@
+-- How the parts of a run follow their transcripts.
+use Rattle.std.proofs.Common.{◌≡◌, ◌≢◌, ◌⊎◌, ◌==◌, Bool, true, false, ℕ, ◌+◌, ◌<◌, ◌≤◌, List, [], ◌∷◌, ◌++◌, length, take, Option, Some, None, refl, sym, ap, ◌∙◌, subst, inl, inr, arith, append_assoc, codes, bytes_eq}
+use Rattle.std.proofs.lemmas.Bool.Decides.{nat_tests}
+use Rattle.std.proofs.lemmas.List.{append-nil}
+use Rattle.edit_io.specs.Faults.{Rose}
+use Rattle.edit_io.specs.Told.{with_front, with_end, IsAtEnd, TakesPrefix}
+use Rattle.edit_io.proofs.Told.{takes_whole, with_end-nil, with_end-with_end, takes_longer, takes_after}
+use Rattle.edit_io.proofs.Faults.{Rose-after}
+use Rattle.dom_model.specs.declared.Content.{Content}
+use Rattle.dom_model.specs.Forest.{Forest}
+use Rattle.dom_model.specs.State.{State}
+use Rattle.page_grammar.specs.Page.{Siblings}
+use Rattle.page_grammar.specs.Kind.{Kind}
+use Rattle.page_grammar.specs.Nodes.{document_of}
+use Rattle.page_grammar.specs.Reading.{Reading, Children, Refused, page_reading}
+use Rattle.page_read.specs.Answer.{IsFaultAnswer}
+use Rattle.page_read.specs.declared.faults.PageFault.{PageFault}
+use Rattle.page_read.specs.Faults.{kind_of, kind_word}
+use Rattle.page_read.specs.declared.faults.PageKind.{PageKind}
+use Rattle.page_read.specs.declared.faults.PageKind.TheVariants as kinds
+use Rattle.hedit.specs.Block.{Block, NoOpening, NoClosing, Whole, lines_of, block_of}
+use Rattle.hedit.specs.Transcript.{Transcript, transcript_of, refused, word_of, numbers_line, reply_to, replies_to, checked, acted, run_block, ordered}
+use Rattle.hedit.specs.Following.{Follows, IsWanted, Answered}
+use Rattle.hedit.specs.declared.session.Status.{Status}
+use Rattle.hedit.specs.declared.session.Status.TheVariants.{Done, Usage, ReadFault, WriteFault, Memory, PageRefused, TooLong}
+use Rattle.hedit.specs.declared.words.Order.{Order}
+use Rattle.hedit.specs.declared.words.Order.TheVariants.{Run, Check}
+
+-- ---- statuses that no transcript gives
+
+not_failed : (want : Transcript) → Answered want.status → WriteFault ≡ want.status → ⊥
+not_failed want answered e = subst Answered (sym e) answered
+
+not_memory : (want : Transcript) → Answered want.status → Memory ≡ want.status → ⊥
+not_memory want answered e = subst Answered (sym e) answered
+
+-- ---- the answers of a part
+
+pub nothing_taken : (told : Option (List ℕ)) (text : List ℕ) → TakesPrefix told told text
+nothing_taken told text = record { count = 0; within = omega arith; taken = sym (with_end-nil told) }
+
+pub follows_failed : (want : Transcript) (before after : Option (List ℕ)) (count count_after : ℕ) → Answered want.status → TakesPrefix before after want.text → count ≤ count_after → Rose count count_after → Follows want before after count count_after WriteFault
+follows_failed want before after count count_after answered taken counted rose = record {
+  written = taken;
+  whole = λ e. absurd (not_failed want answered e);
+  cause = inr (inl (refl, rose));
+  counted = counted;
+}
+
+pub follows_memory : (want : Transcript) (before after : Option (List ℕ)) (count count_after : ℕ) → Answered want.status → TakesPrefix before after want.text → count ≤ count_after → Follows want before after count count_after Memory
+follows_memory want before after count count_after answered taken counted = record {
+  written = taken;
+  whole = λ e. absurd (not_memory want answered e);
+  cause = inr (inr refl);
+  counted = counted;
+}
+
+-- memory was wanted before anything was written
+pub follows_nothing : (want : Transcript) (told : Option (List ℕ)) (count : ℕ) → Answered want.status → Follows want told told count count Memory
+follows_nothing want told count answered = follows_memory want told told count count answered (nothing_taken told want.text) (omega arith)
+
+-- ---- refused pages
+
+pub checked_answered : (r : Reading) → Answered (checked r).status
+checked_answered (Children f) = tt
+checked_answered (Refused place kind) = tt
+
+pub acted_answered : (acts : List (List ℕ)) (r : Reading) → Answered (acted acts r).status
+acted_answered acts (Children f) = tt
+acted_answered acts (Refused place kind) = tt
+
+pub block_answered : (cap size : ℕ) (b : Block) → Answered (run_block cap size b).status
+block_answered cap size NoOpening = tt
+block_answered cap size NoClosing = tt
+block_answered cap size (Whole page acts) = acted_answered acts (page_reading 200 cap page)
+
+pub ordered_answered : (input : List ℕ) (order : Order) → Answered (ordered input order).status
+ordered_answered input Check = checked_answered (page_reading 200 2000000 input)
+ordered_answered input (Run cap undo) = block_answered cap (length input) (block_of input)
+
+pub checked_wanted : (cap : ℕ) (bytes : List ℕ) (fault : PageFault) (o : Option Kind) → IsFaultAnswer cap bytes fault o → IsWanted fault.at o (checked (page_reading 200 cap bytes))
+checked_wanted cap bytes fault None e = tt
+checked_wanted cap bytes fault (Some kind) e = ap checked e
+
+pub acted_wanted : (acts : List (List ℕ)) (cap : ℕ) (bytes : List ℕ) (fault : PageFault) (o : Option Kind) → IsFaultAnswer cap bytes fault o → IsWanted fault.at o (acted acts (page_reading 200 cap bytes))
+acted_wanted acts cap bytes fault None e = tt
+acted_wanted acts cap bytes fault (Some kind) e = ap (acted acts) e
+
+-- the line of a kind is the line that is wanted
+pub wanted_line : (place : ℕ) (k : PageKind) (want : Transcript) → k ≢ kinds.Memory → IsWanted place (kind_of k) want → refused place (kind_word k) ≡ want
+wanted_line place kinds.NotUtf8 want other e = sym e
+wanted_line place kinds.BadTag want other e = sym e
+wanted_line place kinds.Unclosed want other e = sym e
+wanted_line place kinds.StrayEnd want other e = sym e
+wanted_line place kinds.BadAttribute want other e = sym e
+wanted_line place kinds.RepeatedAttribute want other e = sym e
+wanted_line place kinds.UnknownReference want other e = sym e
+wanted_line place kinds.UnsupportedElement want other e = sym e
+wanted_line place kinds.TooDeep want other e = sym e
+wanted_line place kinds.TooLong want other e = sym e
+wanted_line place kinds.Full want other e = sym e
+wanted_line place kinds.Memory want other e = absurd (other refl)
+
+-- ---- acts one after another
+
+pub replies_to-cons : (trees : Forest Content) (line : List ℕ) (lines : List (List ℕ)) → replies_to trees (line ∷ lines) ≡ reply_to trees line ++ replies_to trees lines
+unfolding replies_to
+replies_to-cons trees line lines = refl
+
+pub replies_to-nil : (trees : Forest Content) → replies_to trees [] ≡ []
+unfolding replies_to
+replies_to-nil trees = refl
+
+-- What the acts so far had to write is written, and rest is still to be written.
+pub record SoFar (start now : Option (List ℕ)) (rest whole : List ℕ) : Type 0 where
+  pub done : List ℕ
+  pub taken : now ≡ with_end start done
+  pub all : done ++ rest ≡ whole
+
+pub so_far-start : (told : Option (List ℕ)) (text : List ℕ) → SoFar told told text text
+so_far-start told text = record { done = []; taken = sym (with_end-nil told); all = refl }
+
+-- a reply that is written whole
+pub so_far-more : (start old new : Option (List ℕ)) (reply rest text whole : List ℕ) → SoFar start old text whole → text ≡ reply ++ rest → new ≡ with_end old reply → SoFar start new rest whole
+so_far-more start old new reply rest text whole s parts now = record {
+  done = s.done ++ reply;
+  taken = now ∙ ap (λ o. with_end o reply) s.taken ∙ with_end-with_end start s.done reply;
+  all = (let regrouped : (s.done ++ reply) ++ rest ≡ s.done ++ (reply ++ rest) = append_assoc s.done reply rest in regrouped ∙ ap (λ x. s.done ++ x) (sym parts) ∙ s.all);
+}
+
+-- a reply that ends the run
+pub so_far-ends : (start old new : Option (List ℕ)) (reply rest text whole : List ℕ) (c0 c1 c2 : ℕ) (status : Status) → SoFar start old text whole → text ≡ reply ++ rest → Follows (transcript_of Done reply) old new c1 c2 status → c0 ≤ c1 → status ≢ Done → Follows (transcript_of Done whole) start new c0 c2 status
+so_far-ends start old new reply rest text whole c0 c1 c2 status s parts f less other = record {
+  written = (
+    let longer : TakesPrefix old new text = subst (λ x. TakesPrefix old new x) (sym parts) (takes_longer old new reply rest f.written) in
+    subst (λ x. TakesPrefix start new x) s.all (takes_after start old new s.done text s.taken longer));
+  whole = λ e. absurd (other e);
+  cause = elim f.cause [
+    | inl e ↦ absurd (other e)
+    | inr (inl (e, rose)) ↦ inr (inl (e, Rose-after c0 c1 c2 less rose))
+    | inr (inr e) ↦ inr (inr e)
+  ];
+  counted = omega (arith, less, f.counted);
+}
+
+-- all replies are written
+pub so_far-whole : (start now : Option (List ℕ)) (rest whole : List ℕ) (c0 c1 : ℕ) → SoFar start now rest whole → rest ≡ [] → c0 ≤ c1 → Follows (transcript_of Done whole) start now c0 c1 Done
+so_far-whole start now rest whole c0 c1 s none less =
+    let text : s.done ≡ whole = sym (append-nil s.done) ∙ ap (λ x. s.done ++ x) (sym none) ∙ s.all in
+    let all : now ≡ with_end start whole = s.taken ∙ ap (with_end start) text in
+    record {
+      written = takes_whole start now whole all;
+      whole = λ _. all;
+      cause = inl refl;
+      counted = less;
+    }
+
+-- the replies to some lines are that to the first, and then those to the others
+pub acts_parted : (trees : Forest Content) (text line later : List ℕ) → 0 < length text → (0 < length text → lines_of text ≡ line ∷ lines_of later) → replies_to trees (lines_of text) ≡ reply_to trees line ++ replies_to trees (lines_of later)
+acts_parted trees text line later some parts = ap (replies_to trees) (parts some) ∙ replies_to-cons trees line (lines_of later)
+
+pub some_left : (empty : Bool) (text : List ℕ) → empty ≡ (length text == 0) → empty ≡ false → 0 < length text
+some_left empty text is none = grind (arith, nat_tests)
+
+pub none_left : (trees : Forest Content) (empty : Bool) (text : List ℕ) → empty ≡ (length text == 0) → empty ≡ true → replies_to trees (lines_of text) ≡ []
+none_left trees empty [] is so = replies_to-nil trees
+none_left trees empty (b ∷ text) is so = absurd (let e : (length (b ∷ text) == 0) ≡ true = sym is ∙ so in grind (arith, nat_tests))

@@ -1,0 +1,237 @@
+-- Numbers by `parse`, the two first words of the options, and that `order_of` decides the grammar.
+use Rattle.std.proofs.Common.{◌≡◌, ◌↔◌, ℕ, ◌<◌, ◌≤◌, ◌^◌, Bool, true, false, ◌&&◌, cond, List, [], ◌∷◌, ◌++◌, length, take, drop, map, get_or, codes, Option, Some, None, is_some, nat_eq, Result, refl, sym, ◌∙◌, ap, subst, inl, inr, arith, rules}
+use Rattle.std.specs.Char.{is_ascii_digit}
+use Rattle.std.specs.Bool.{Decides}
+use Rattle.std.specs.List.{list_all, starts_with}
+use Rattle.std.specs.Option.{option_map, option_and_then, option_map_or}
+use Rattle.std.specs.Result.{result_ok}
+use Rattle.std.specs.Str.{bytes_eq}
+use Rattle.std.specs.Str.Parse.{ParsesUnsigned, digits_value}
+use Rattle.std.proofs.lemmas.Bool.Decides.{nat_tests}
+use Rattle.std.proofs.lemmas.List.{take-append-drop}
+use Rattle.std.proofs.lemmas.Slice.Eq.{bytes_eq-Decides}
+use Rattle.std.proofs.lemmas.Str.Parse.{IsNumeralModel, numerals_by_value, parse_gives, digits_value_short}
+use Rattle.hedit.specs.declared.words.Order.{Order}
+use Rattle.hedit.specs.declared.words.Order.TheVariants.{Run, Check}
+use Rattle.hedit.specs.declared.words.Setting.{Setting}
+use Rattle.hedit.specs.declared.words.Setting.TheVariants.{Cap, Undo}
+use Rattle.hedit.specs.declared.words.Options.{Options}
+use Rattle.hedit.specs.Words.{is_number, number_of, name_of, amount_of, given, with_setting, none_given, setting_named, setting_joined, setting_read, joined_read, options_read, run_of, order_of, is_empty, IsSetting, AreSettings, IsOrder}
+
+-- ---- numbers
+
+digits : IsNumeralModel (λ ds. list_all is_ascii_digit ds ≡ true) (digits_value 10)
+digits = numerals_by_value _ (search rules)
+
+pub record IsDigits (text : List ℕ) : Type 0 where
+  pub some : 0 < length text
+  pub few : length text ≤ 9
+  pub all : list_all is_ascii_digit text ≡ true
+
+is_digits : (text : List ℕ) → is_number text ≡ true → IsDigits text
+is_digits text is = record {
+  some = grind (arith, nat_tests, is);
+  few = grind (arith, nat_tests, is);
+  all = grind (arith, nat_tests, is);
+}
+
+pub parse_number : {E : Type 0} (text : List ℕ) (r : Result ℕ E) → ParsesUnsigned 32 10 text r → is_number text ≡ true → result_ok r ≡ number_of text
+parse_number text r parsed is =
+    let d = is_digits text is in
+    let below : digits_value 10 text < 10 ^ 9 = digits_value_short digits text 9 d.all d.few in
+    let e = parse_gives digits 32 text r parsed d.all d.some (omega (arith, below)) in
+    rw (e, is) refl
+
+-- ---- the two first words
+
+pub named_first : {W : Type 0} (f : W → List ℕ) (o p : Options) (s : Setting) (words rest : List W) (word text : W) (w t : List ℕ)
+    → 2 ≤ length words → word ≡ get_or words 0 word → text ≡ get_or words 1 text → rest ≡ drop 2 words → w ≡ f word → t ≡ f text
+    → Some s ≡ setting_named w → Some p ≡ setting_read o s t → options_read p (map f rest) ≡ options_read o (map f words)
+named_first f o p s [] rest word text w t some h0 h1 er ew et es ep = absurd (omega arith)
+named_first f o p s (x ∷ []) rest word text w t some h0 h1 er ew et es ep = absurd (omega arith)
+named_first f o p s (x ∷ (y ∷ ws)) rest word text w t some h0 h1 er ew et es ep =
+    let a : f x ≡ w = ap f (sym h0) ∙ sym ew in
+    let b : f y ≡ t = ap f (sym h1) ∙ sym et in
+    rw (a, b, ← es) (rw (← ep, er) refl)
+
+pub joined_first : {W : Type 0} (f : W → List ℕ) (o p : Options) (words rest : List W) (word : W) (w v : List ℕ)
+    → 2 ≤ length words → word ≡ get_or words 0 word → rest ≡ drop 1 words → w ≡ f word → v ≡ f word
+    → None ≡ setting_named w → Some p ≡ joined_read o v → options_read p (map f rest) ≡ options_read o (map f words)
+joined_first f o p [] rest word w v some h0 er ew ev es ep = absurd (omega arith)
+joined_first f o p (x ∷ []) rest word w v some h0 er ew ev es ep = absurd (omega arith)
+joined_first f o p (x ∷ (y ∷ ws)) rest word w v some h0 er ew ev es ep =
+    let a : f x ≡ w = ap f (sym h0) ∙ sym ew in
+    let b : v ≡ w = ev ∙ sym ew in
+    let e : Some p ≡ joined_read o w = subst (λ u. Some p ≡ joined_read o u) b ep in
+    rw (a, ← es) (rw (← e, er) refl)
+
+-- ---- settings
+
+some-is : {A : Type 0} {a b : A} → Some a ≡ Some b → a ≡ b
+some-is e = cc
+
+pub record Both {A B : Type 0} (f : A → Option B) (o : Option A) (b : B) : Type 0 where
+  pub first : A
+  pub was : o ≡ Some first
+  pub then_b : f first ≡ Some b
+
+and_then-some : {A B : Type 0} (f : A → Option B) (o : Option A) (b : B) → option_and_then f o ≡ Some b → Both f o b
+and_then-some f None b e = absurd (cc)
+and_then-some f (Some a) b e = record { first = a; was = refl; then_b = e }
+
+name-by : (w : List ℕ) (s : Setting) (a b : Bool) → Decides a (w ≡ codes "--cap") → Decides b (w ≡ codes "--undo")
+    → cond a (Some Cap) (cond b (Some Undo) None) ≡ Some s → w ≡ name_of s
+name-by w Cap true b da db e = da.0 refl
+name-by w Undo true b da db e = absurd (cc)
+name-by w Cap false true da db e = absurd (cc)
+name-by w Undo false true da db e = db.0 refl
+name-by w s false false da db e = absurd (cc)
+
+name-is : (w : List ℕ) (s : Setting) → setting_named w ≡ Some s → w ≡ name_of s
+name-is w s e = let d = bytes_eq-Decides w (codes "--cap") in let u = bytes_eq-Decides w (codes "--undo") in
+    name-by w s (bytes_eq w (codes "--cap")) (bytes_eq w (codes "--undo")) d u e
+
+begins : (w name : List ℕ) → starts_with nat_eq w name ≡ true → w ≡ name ++ drop (length name) w
+begins w name is =
+    let e : name ≡ take (length name) w = (bytes_eq-Decides name (take (length name) w)).0 is in
+    subst (λ h. w ≡ h ++ drop (length name) w) (sym e) (sym (take-append-drop (length name) w))
+
+joined-by : (w : List ℕ) (q : Setting × List ℕ) (a b : Bool) → (a ≡ true → w ≡ codes "--cap=" ++ drop 6 w) → (b ≡ true → w ≡ codes "--undo=" ++ drop 7 w)
+    → cond a (Some (Cap, drop 6 w)) (cond b (Some (Undo, drop 7 w)) None) ≡ Some q → w ≡ name_of q.0 ++ codes "=" ++ q.1
+joined-by w q true b da db e =
+    let f : (Cap, drop 6 w) ≡ q = some-is e in
+    subst (λ (q : Setting × List ℕ). w ≡ name_of q.0 ++ codes "=" ++ q.1) f (da refl)
+joined-by w q false true da db e =
+    let f : (Undo, drop 7 w) ≡ q = some-is e in
+    subst (λ (q : Setting × List ℕ). w ≡ name_of q.0 ++ codes "=" ++ q.1) f (db refl)
+joined-by w q false false da db e = absurd (cc)
+
+joined-is : (w : List ℕ) (q : Setting × List ℕ) → setting_joined w ≡ Some q → w ≡ name_of q.0 ++ codes "=" ++ q.1
+joined-is w q e =
+    joined-by w q _ _ (begins w (codes "--cap=")) (begins w (codes "--undo=")) e
+
+pub record Reads (o : Options) (s : Setting) (text : List ℕ) (p : Options) : Type 0 where
+  pub amount : ℕ
+  pub is : amount_of s text ≡ Some amount
+  pub new : given o s ≡ None
+  pub then_p : with_setting o s amount ≡ p
+
+reads-by : (o : Options) (s : Setting) (text : List ℕ) (p : Options) (g a : Option ℕ) → given o s ≡ g → amount_of s text ≡ a
+    → cond (is_some g) None (option_map (with_setting o s) a) ≡ Some p → Reads o s text p
+reads-by o s text p (Some x) a eg ea e = absurd (cc)
+reads-by o s text p None None eg ea e = absurd (cc)
+reads-by o s text p None (Some n) eg ea e = record { amount = n; is = ea; new = eg; then_p = some-is e }
+
+reads-is : (o : Options) (s : Setting) (text : List ℕ) (p : Options) → setting_read o s text ≡ Some p → Reads o s text p
+reads-is o s text p e = reads-by o s text p (given o s) (amount_of s text) refl refl e
+
+reads-back : (o : Options) (s : Setting) (text : List ℕ) (n : ℕ) → amount_of s text ≡ Some n → given o s ≡ None → setting_read o s text ≡ Some (with_setting o s n)
+reads-back o s text n amount new = rw (new, amount) refl
+
+-- ---- the options
+
+name-named : (s : Setting) → setting_named (name_of s) ≡ Some s
+name-named Cap = refl
+name-named Undo = refl
+
+joined-not_named : (s : Setting) (text : List ℕ) → setting_named (name_of s ++ codes "=" ++ text) ≡ None
+joined-not_named Cap text = refl
+joined-not_named Undo text = refl
+
+joined-joined : (s : Setting) (text : List ℕ) → setting_joined (name_of s ++ codes "=" ++ text) ≡ Some (s, text)
+joined-joined Cap text = refl
+joined-joined Undo text = refl
+
+joined-back : (o : Options) (s : Setting) (text : List ℕ) (n : ℕ) → amount_of s text ≡ Some n → given o s ≡ None
+    → joined_read o (name_of s ++ codes "=" ++ text) ≡ Some (with_setting o s n)
+joined-back o s text n amount new = rw (joined-joined s text) (reads-back o s text n amount new)
+
+two-back : (o p : Options) (s : Setting) (text : List ℕ) (n : ℕ) (rest : List (List ℕ)) → amount_of s text ≡ Some n → given o s ≡ None
+    → options_read (with_setting o s n) rest ≡ Some p → options_read o (name_of s ∷ (text ∷ rest)) ≡ Some p
+two-back o p s text n rest amount new more = rw (name-named s) (rw (reads-back o s text n amount new) more)
+
+one-back : (o p : Options) (s : Setting) (text : List ℕ) (n : ℕ) (rest : List (List ℕ)) → amount_of s text ≡ Some n → given o s ≡ None
+    → options_read (with_setting o s n) rest ≡ Some p → options_read o ((name_of s ++ codes "=" ++ text) ∷ rest) ≡ Some p
+one-back o p s text n [] amount new more = joined-back o s text n amount new ∙ more
+one-back o p s text n (next ∷ rest) amount new more = rw (joined-not_named s text) (rw (joined-back o s text n amount new) more)
+
+settings-read : (xs : List (Setting × ℕ)) (words : List (List ℕ)) (o p : Options) → AreSettings xs words o p → options_read o words ≡ Some p
+settings-read [] words o p are = rw are.0 (ap Some are.1)
+settings-read (x ∷ xs) words o p (rest, is, new, more) =
+    let tail = settings-read xs rest (with_setting o x.0 x.1) p more in
+    elim is.2 [
+      | inl e ↦ rw e (two-back o p x.0 is.0 x.1 rest is.1 new tail)
+      | inr e ↦ rw e (one-back o p x.0 is.0 x.1 rest is.1 new tail)
+    ]
+
+pub record Settings (words : List (List ℕ)) (o p : Options) : Type 0 where
+  pub list : List (Setting × ℕ)
+  pub are : AreSettings list words o p
+
+settings-more : (o p : Options) (s : Setting) (n : ℕ) (words rest : List (List ℕ)) → IsSetting s n words rest → given o s ≡ None
+    → Settings rest (with_setting o s n) p → Settings words o p
+settings-more o p s n words rest is new more = record { list = (s, n) ∷ more.list; are = (rest, is, new, more.are) }
+
+read-settings : (o p : Options) (words : List (List ℕ)) → options_read o words ≡ Some p → Settings words o p
+read-settings o p [] e = record { list = []; are = (refl, some-is e) }
+read-settings o p (word ∷ []) e =
+    let j = and_then-some (λ q. setting_read o q.0 q.1) (setting_joined word) p e in
+    let r = reads-is o j.first.0 j.first.1 p j.then_b in
+    settings-more o p j.first.0 r.amount (word ∷ []) [] (j.first.1, r.is, inr (ap (λ w. w ∷ []) (joined-is word j.first j.was))) r.new
+    (record { list = []; are = (refl, r.then_p) })
+read-settings o p (word ∷ (text ∷ words)) e =
+    elim (setting_named word) as (λ (n : Option Setting). setting_named word ≡ n
+    → option_map_or (λ s. option_and_then (λ q. options_read q words) (setting_read o s text)) n (option_and_then (λ q. options_read q (text ∷ words)) (joined_read o word)) ≡ Some p
+    → Settings (word ∷ (text ∷ words)) o p) [
+      | Some s ↦ λ was e.
+          let t = and_then-some (λ q. options_read q words) (setting_read o s text) p e in
+          let r = reads-is o s text t.first t.was in
+          settings-more o p s r.amount (word ∷ (text ∷ words)) words (text, r.is, inl (ap (λ w. w ∷ (text ∷ words)) (name-is word s was))) r.new
+          (read-settings (with_setting o s r.amount) p words (subst (λ (q : Options). options_read q words ≡ Some p) (sym r.then_p) t.then_b))
+      | None ↦ λ was e.
+          let t = and_then-some (λ q. options_read q (text ∷ words)) (joined_read o word) p e in
+          let j = and_then-some (λ q. setting_read o q.0 q.1) (setting_joined word) t.first t.was in
+          let r = reads-is o j.first.0 j.first.1 t.first j.then_b in
+          settings-more o p j.first.0 r.amount (word ∷ (text ∷ words)) (text ∷ words) (j.first.1, r.is, inr (ap (λ w. w ∷ (text ∷ words)) (joined-is word j.first j.was))) r.new
+          (read-settings (with_setting o j.first.0 r.amount) p (text ∷ words) (subst (λ (q : Options). options_read q (text ∷ words) ≡ Some p) (sym r.then_p) t.then_b))
+    ] refl e
+
+-- ---- the order
+
+is_run : (word : List ℕ) (words : List (List ℕ)) (o : Order) (p : Options) → word ≡ codes "run" → options_read none_given words ≡ Some p → run_of p ≡ o
+    → IsOrder (word ∷ words) o
+is_run word words o p w r e =
+    let s = read-settings none_given p words r in
+    subst (λ (o : Order). IsOrder (word ∷ words) o) e (s.list, words, p, ap (λ x. x ∷ words) w, s.are, refl, refl)
+
+is_check : (word : List ℕ) (words : List (List ℕ)) (o : Order) → word ≡ codes "check" → cond (is_empty words) (Some Check) None ≡ Some o → IsOrder (word ∷ words) o
+is_check word [] o w e = subst (λ (o : Order). IsOrder (word ∷ []) o) (some-is e) (ap (λ x. x ∷ []) w)
+is_check word (next ∷ words) o w e = absurd (cc)
+
+run-by : (word : List ℕ) (words : List (List ℕ)) (o : Order) (r : Option Options) → options_read none_given words ≡ r → word ≡ codes "run"
+    → option_map run_of r ≡ Some o → IsOrder (word ∷ words) o
+run-by word words o None er w e = absurd (cc)
+run-by word words o (Some p) er w e = is_run word words o p w er (some-is e)
+
+order-by : (word : List ℕ) (words : List (List ℕ)) (o : Order) (a b : Bool) → Decides a (word ≡ codes "run") → Decides b (word ≡ codes "check")
+    → cond a (option_map run_of (options_read none_given words)) (cond (b && is_empty words) (Some Check) None) ≡ Some o → IsOrder (word ∷ words) o
+order-by word words o true b da db e =
+    run-by word words o (options_read none_given words) refl (da.0 refl) e
+order-by word words o false true da db e = is_check word words o (db.0 refl) e
+order-by word words o false false da db e = absurd (cc)
+
+order-sound : (words : List (List ℕ)) (o : Order) → order_of words ≡ Some o → IsOrder words o
+order-sound [] o e = absurd (cc)
+order-sound (word ∷ words) o e =
+    order-by word words o (bytes_eq word (codes "run")) (bytes_eq word (codes "check")) (bytes_eq-Decides word (codes "run")) (bytes_eq-Decides word (codes "check")) e
+
+order-complete : (words : List (List ℕ)) (o : Order) → IsOrder words o → order_of words ≡ Some o
+order-complete words Check is = rw is refl
+order-complete words (Run cap undo) (xs, rest, options, e, are, c, u) =
+    rw e (rw (settings-read xs rest none_given options are) (rw (c, u) refl))
+
+pub grammar_of : (r : Option Order) (words : List (List ℕ)) → r ≡ order_of words → (o : Order) → (r ≡ Some o) ↔ IsOrder words o
+grammar_of r words is o = ((λ e. order-sound words o (sym is ∙ e)), (λ in_it. is ∙ order-complete words o in_it))
+
+pub one_order : (words : List (List ℕ)) (o p : Order) → IsOrder words o → IsOrder words p → o ≡ p
+one_order words o p is also = some-is (sym (order-complete words o is) ∙ order-complete words p also)

@@ -1,0 +1,13 @@
+use Rattle.std.proofs.Common.{map, string_bytes, arith}
+use Rattle.std.proofs.lemmas.Grind.{common_steps}
+use Rattle.hedit.proofs.WordsLemmas.{grammar_of}
+use Rattle.hedit.proofs.words.read_words.Goals as goal
+
+pub returns-in_err-options-in-len1-up-clause-grammar : goal.returns-in_err-options-in-len1-up-clause-grammar
+returns-in_err-options-in-len1-up-clause-grammar c = grammar_of _ (map string_bytes c.args.words.now) (grind (arith, common_steps))
+
+pub returns-in_ok-options-in-len1-up-clause-grammar : goal.returns-in_ok-options-in-len1-up-clause-grammar
+returns-in_ok-options-in-len1-up-clause-grammar c = grammar_of _ (map string_bytes c.args.words.now) (grind (arith, common_steps))
+
+pub returns-in-len1-clause-grammar : goal.returns-in-len1-clause-grammar
+returns-in-len1-clause-grammar c = grammar_of _ (map string_bytes c.args.words.now) (grind (arith, common_steps))

@@ -1,0 +1,183 @@
+//! The run of the program over any source and sink.
+
+ghost use Rattle.std.specs.Prelude.{◌≡◌, ◌<◌, ◌≤◌, ◌⊎◌, ◌↔◌, ℕ, List, [], length, map, string_bytes, IfSome, Some, None};
+ghost use Rattle.edit_io.specs.Faults.{Rose};
+ghost use Rattle.edit_io.specs.Told.{with_front, with_end, IsAtEnd, TakesPrefix};
+ghost use Rattle.page_grammar.specs.Reading.{page_reading};
+ghost use Rattle.page_read.specs.Faults.{kind_of};
+ghost use Rattle.hedit.specs.Words.{order_of};
+ghost use Rattle.hedit.specs.Block.{lines_of, block_of};
+ghost use Rattle.hedit.specs.Transcript.{Transcript, numbers_line, transcript_of, refused, checked, acted, run_block, ordered, transcript, replies_to, reply_to, depth_limit, usual_cap, input_limit};
+ghost use Rattle.hedit.specs.Following.{Follows, IsWanted, HasCap, RunFollows, Answered, IsSilent};
+
+use crate::block::{PageBlock, after_line, line_end, read_block};
+use crate::reply::{numbers, refusal, reply};
+use crate::words::{Order, read_words};
+use edit_io::{ReadAllFault, Sink, SinkFault, Source, read_all, write_all};
+use node_arena::Arena;
+use page_read::{PageFault, PageKind, read_page};
+use std::alloc::Global;
+
+/// How a run ended. The number is the exit status of the program.
+#[derive(Clone, Copy, PartialEq, Eq, Debug)]
+pub enum Status {
+    /// The input was read to its end, and its whole transcript is written.
+    Done = 0,
+    /// The words are not in the grammar. Nothing is read or written.
+    Usage = 2,
+    /// A read failed. Nothing is written.
+    ReadFault = 3,
+    /// A write failed. What was written is a prefix of the transcript.
+    WriteFault = 4,
+    /// There was no memory. What was written is a prefix of the transcript.
+    Memory = 5,
+    /// The page block or the page is refused. The line that says so is written.
+    PageRefused = 6,
+    /// The input has more than 8,388,608 bytes. Nothing is written.
+    TooLong = 7,
+}
+
+// Writes a text, and answers the status, or why the writing failed.
+fn answer<O: Sink>(output: &mut O, text: &[u8], status: Status) -> Status
+    requires { Answered status }
+    ensures { Follows (transcript_of status text.now) (O.taken output.old) (O.taken output.new) (O.faults output.old) (O.faults output.new) result }
+{
+    match write_all(output, text) {
+        Ok(()) => status,
+        Err(SinkFault::Failed) => Status::WriteFault,
+        Err(SinkFault::Memory) => Status::Memory,
+    }
+}
+
+// Refuses the page at a place, by the word of a kind.
+fn refuse<O: Sink>(alloc: Global, output: &mut O, place: usize, word: &str) -> Status
+    ensures { Follows (refused place word.now) (O.taken output.old) (O.taken output.new) (O.faults output.old) (O.faults output.new) result }
+{
+    match refusal(alloc, place, word) {
+        Ok(line) => answer(output, line.as_bytes(), Status::PageRefused),
+        Err(_) => Status::Memory,
+    }
+}
+
+fn refuse_page<O: Sink>(alloc: Global, output: &mut O, fault: PageFault) -> Status
+    ensures { (want : Transcript) → Answered want.status → IsWanted fault.at (kind_of fault.kind) want → Follows want (O.taken output.old) (O.taken output.new) (O.faults output.old) (O.faults output.new) result }
+{
+    match fault.kind {
+        PageKind::Memory => Status::Memory,
+        kind => refuse(alloc, output, fault.at, kind.word()),
+    }
+}
+
+// Accepts a page by its numbers.
+fn accept<O: Sink>(alloc: Global, arena: &Arena, output: &mut O) -> Status
+    ensures { Follows (transcript_of Status.Done (numbers_line arena.now.trees)) (O.taken output.old) (O.taken output.new) (O.faults output.old) (O.faults output.new) result }
+{
+    match numbers(alloc, arena) {
+        Ok(line) => answer(output, line.as_bytes(), Status::Done),
+        Err(_) => Status::Memory,
+    }
+}
+
+// `check`: the whole input is the page.
+fn check<O: Sink>(alloc: Global, input: &[u8], output: &mut O) -> Status
+    ensures { Follows (checked (page_reading 200 2000000 input.now)) (O.taken output.old) (O.taken output.new) (O.faults output.old) (O.faults output.new) result }
+{
+    match read_page(alloc, input, 2000000) {
+        Ok(arena) => accept(alloc, &arena, output),
+        Err(fault) => refuse_page(alloc, output, fault),
+    }
+}
+
+// Answers one line.
+fn act<O: Sink>(alloc: Global, arena: &Arena, line: &[u8], output: &mut O) -> Status
+    ensures { Follows (transcript_of Status.Done (reply_to arena.now.trees line.now)) (O.taken output.old) (O.taken output.new) (O.faults output.old) (O.faults output.new) result }
+{
+    match reply(alloc, arena, line) {
+        Ok(text) => answer(output, &text, Status::Done),
+        Err(_) => Status::Memory,
+    }
+}
+
+// Answers the lines of the acts, as far as memory and the output go.
+fn run_acts<O: Sink>(alloc: Global, arena: &Arena, acts: &[u8], output: &mut O) -> Status
+    ensures { Follows (transcript_of Status.Done (replies_to arena.now.trees (lines_of acts.now))) (O.taken output.old) (O.taken output.new) (O.faults output.old) (O.faults output.new) result }
+{
+    let mut rest = acts;
+    while !rest.is_empty() {
+        let end = line_end(rest);
+        match act(alloc, arena, &rest[..end], output) {
+            Status::Done => {}
+            status => return status,
+        }
+        rest = after_line(rest, end);
+    }
+    Status::Done
+}
+
+// `run` over a page and the lines of its acts.
+fn run_page<O: Sink>(alloc: Global, page: &[u8], acts: &[u8], cap: u32, output: &mut O) -> Status
+    requires { 0 < cap }
+    ensures { Follows (acted (lines_of acts.now) (page_reading 200 cap page.now)) (O.taken output.old) (O.taken output.new) (O.faults output.old) (O.faults output.new) result }
+{
+    match read_page(alloc, page, cap) {
+        Ok(arena) => run_acts(alloc, &arena, acts, output),
+        Err(fault) => refuse_page(alloc, output, fault),
+    }
+}
+
+// `run`: the page of the block, and then the acts.
+fn run<O: Sink>(alloc: Global, input: &[u8], cap: u32, output: &mut O) -> Status
+    requires { 0 < cap }
+    ensures { Follows (run_block cap (length input.now) (block_of input.now)) (O.taken output.old) (O.taken output.new) (O.faults output.old) (O.faults output.new) result }
+{
+    match read_block(input) {
+        PageBlock::NoOpening => refuse(alloc, output, 0, "no-opening"),
+        PageBlock::NoClosing => refuse(alloc, output, input.len(), "no-closing"),
+        PageBlock::Whole { page, acts } => run_page(alloc, page, acts, cap, output),
+    }
+}
+
+// What was ordered, over an input that is read.
+fn obey<O: Sink>(alloc: Global, order: Order, input: &[u8], output: &mut O) -> Status
+    requires { HasCap order }
+    ensures { Follows (ordered input.now order) (O.taken output.old) (O.taken output.new) (O.faults output.old) (O.faults output.new) result }
+{
+    match order {
+        Order::Check => check(alloc, input, output),
+        Order::Run { cap, undo: _ } => run(alloc, input, cap, output),
+    }
+}
+
+/// Runs the program over the words after its name: reads all of the input, and writes the transcript.
+pub fn run_session<I: Source, O: Sink>(
+    alloc: Global,
+    words: &[String],
+    input: &mut I,
+    output: &mut O,
+) -> Status
+    // Usage comes exactly where the words are not in the grammar, and then nothing is read or written.
+    ensures usage { (result ≡ Status.Usage) ↔ (order_of (map string_bytes words.now) ≡ None) }
+    ensures unread { result ≡ Status.Usage → (input.new ≡ input.old) × (output.new ≡ output.old) }
+
+    // Of an input that is told, what is written is a prefix of the transcript; all of it with the transcript's status; and any
+    // other status has its cause.
+    ensures told { IfSome (I.left input.old) (λ bytes. RunFollows (transcript (map string_bytes words.now) bytes) (O.taken output.old) (O.taken output.new) (I.faults input.old) (I.faults input.new) (O.faults output.old) (O.faults output.new) result) }
+
+    // Whatever is told, the input was read to its end where the answer rests on it, and the transcript of what was read is written.
+    ensures answered { Answered result → (bytes : List ℕ) × (I.left input.old ≡ with_front bytes (I.left input.new)) × IsAtEnd (I.left input.new) × (transcript (map string_bytes words.now) bytes).status ≡ result × (O.taken output.new ≡ with_end (O.taken output.old) (transcript (map string_bytes words.now) bytes).text) }
+    ensures read_fault { result ≡ Status.ReadFault → Rose (I.faults input.old) (I.faults input.new) }
+    ensures write_fault { result ≡ Status.WriteFault → Rose (O.faults output.old) (O.faults output.new) }
+    ensures silent { IsSilent result → output.new ≡ output.old }
+    ensures counted { (I.faults input.old ≤ I.faults input.new) × (O.faults output.old ≤ O.faults output.new) }
+{
+    let order = match read_words(words) {
+        Some(order) => order,
+        None => return Status::Usage,
+    };
+    match read_all(alloc, input, 8388608) {
+        Ok(bytes) => obey(alloc, order, &bytes, output),
+        Err(ReadAllFault::Failed) => Status::ReadFault,
+        Err(ReadAllFault::TooLong) => Status::TooLong,
+        Err(ReadAllFault::Memory) => Status::Memory,
+    }
+}

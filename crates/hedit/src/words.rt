@@ -1,0 +1,219 @@
+//! The words of the command line, after the program's name.
+
+ghost use Rattle.std.specs.Prelude.{◌≡◌, ◌↔◌, map, string_bytes};
+ghost use Rattle.std.specs.Char.{is_ascii_digit};
+ghost use Rattle.std.specs.List.{list_all};
+ghost use Rattle.hedit.specs.Words.{is_number, number_of, greatest, amount_of, given, with_setting, setting_named, setting_read, joined_read, options_read, order_of, IsOrder};
+
+use std::marker::Copy;
+
+/// What the program is asked to do.
+#[derive(Clone, Copy, PartialEq, Eq, Debug)]
+pub enum Order {
+    /// To run a session: labels stay below `cap`, and `undo` entries are kept for undo.
+    Run { cap: u32, undo: u32 },
+    /// To read a page and tell its numbers.
+    Check,
+}
+
+/// An option of `run`.
+#[derive(Clone, Copy, PartialEq, Eq, Debug)]
+pub enum Setting {
+    Cap,
+    Undo,
+}
+
+/// The options that are given so far.
+#[derive(Clone, Copy, PartialEq, Eq, Debug)]
+pub struct Options {
+    pub cap: Option<u32>,
+    pub undo: Option<u32>,
+}
+
+impl Options {
+    fn given(&self, setting: Setting) -> Option<u32>
+        ensures { result ≡ given self.now setting }
+    {
+        match setting {
+            Setting::Cap => self.cap,
+            Setting::Undo => self.undo,
+        }
+    }
+
+    fn with(self, setting: Setting, amount: u32) -> Options
+        ensures { result ≡ with_setting self setting amount }
+    {
+        match setting {
+            Setting::Cap => Options {
+                cap: Some(amount),
+                undo: self.undo,
+            },
+            Setting::Undo => Options {
+                cap: self.cap,
+                undo: Some(amount),
+            },
+        }
+    }
+}
+
+fn all_digits(text: &str) -> bool
+    ensures { result ≡ list_all is_ascii_digit text.now }
+{
+    text.bytes().all(|b| b.is_ascii_digit())
+}
+
+fn is_number(text: &str) -> bool
+    ensures { result ≡ is_number text.now }
+{
+    !text.is_empty() && text.len() <= 9 && all_digits(text)
+}
+
+fn read_number(text: &str) -> Option<u32>
+    ensures { result ≡ number_of text.now }
+{
+    if is_number(text) {
+        text.parse::<u32>().ok()
+    } else {
+        None
+    }
+}
+
+fn greatest(setting: Setting) -> u32
+    ensures { result ≡ greatest setting }
+{
+    match setting {
+        Setting::Cap => 2_000_000,
+        Setting::Undo => 1000,
+    }
+}
+
+fn read_amount(setting: Setting, text: &str) -> Option<u32>
+    ensures { result ≡ amount_of setting text.now }
+{
+    let amount = read_number(text)?;
+    if 0 < amount && amount <= greatest(setting) {
+        Some(amount)
+    } else {
+        None
+    }
+}
+
+fn setting_named(word: &str) -> Option<Setting>
+    ensures { result ≡ setting_named word.now }
+{
+    match word {
+        "--cap" => Some(Setting::Cap),
+        "--undo" => Some(Setting::Undo),
+        _ => None,
+    }
+}
+
+fn read_setting(options: Options, setting: Setting, text: &str) -> Option<Options>
+    ensures { result ≡ setting_read options setting text.now }
+{
+    if options.given(setting).is_some() {
+        return None;
+    }
+    let amount = read_amount(setting, text)?;
+    Some(options.with(setting, amount))
+}
+
+// A setting and its amount in one word.
+fn read_joined(options: Options, word: &str) -> Option<Options>
+    ensures { result ≡ joined_read options word.now }
+{
+    if let Some(text) = word.strip_prefix("--cap=") {
+        return read_setting(options, Setting::Cap, text);
+    }
+    if let Some(text) = word.strip_prefix("--undo=") {
+        return read_setting(options, Setting::Undo, text);
+    }
+    None
+}
+
+// Each setting is given at most once, so this goes at most three calls deep.
+fn read_options(options: Options, words: &[String]) -> Option<Options>
+    ensures { result ≡ options_read options (map string_bytes words.now) }
+{
+    match words {
+        [] => Some(options),
+        [word] => read_joined(options, word.as_str()),
+        [word, text, rest @ ..] => match setting_named(word.as_str()) {
+            Some(setting) => read_options(read_setting(options, setting, text.as_str())?, rest),
+            None => read_options(read_joined(options, word.as_str())?, &words[1..]),
+        },
+    }
+}
+
+/// The order that the words ask for, or None where they are not in the grammar.
+#[tactic(auto, using(crate::proofs::WordsLemmas::grammar_of, crate::proofs::WordsLemmas::one_order))]
+pub fn read_words(words: &[String]) -> Option<Order>
+    ensures computed { result ≡ order_of (map string_bytes words.now) }
+    ensures grammar { (o : Order) → (result ≡ Some o) ↔ IsOrder (map string_bytes words.now) o }
+    ensures one_order { (o p : Order) → IsOrder (map string_bytes words.now) o → IsOrder (map string_bytes words.now) p → o ≡ p }
+{
+    match words {
+        [first, rest @ ..] if first.as_str() == "run" => {
+            let options = read_options(
+                Options {
+                    cap: None,
+                    undo: None,
+                },
+                rest,
+            )?;
+            Some(Order::Run {
+                cap: options.cap.unwrap_or(2_000_000),
+                undo: options.undo.unwrap_or(100),
+            })
+        }
+        [only] if only.as_str() == "check" => Some(Order::Check),
+        _ => None,
+    }
+}
+
+#[cfg(test)]
+mod tests {
+    use super::*;
+    use std::test::Fail;
+
+    fn order(cap: u32, undo: u32) -> Option<Order> {
+        Some(Order::Run { cap, undo })
+    }
+
+    #[test]
+    fn orders_by_the_grammar(rt: HostRuntime) -> Result<(), Fail> {
+        let alloc = rt.alloc();
+        let cases = [
+            ("run", order(2_000_000, 100)),
+            ("check", Some(Order::Check)),
+            ("run --cap 7", order(7, 100)),
+            ("run --cap=7 --undo=1000", order(7, 1000)),
+            ("run --undo 000000001 --cap 2000000", order(2_000_000, 1)),
+            ("run --undo=3 --cap 9", order(9, 3)),
+            ("", None),
+            ("--", None),
+            ("--help", None),
+            ("Run", None),
+            ("check --cap 7", None),
+            ("run run", None),
+            ("run --cap", None),
+            ("run --cap=", None),
+            ("run --cap --cap=5", None),
+            ("run --cap=5 --cap=5", None),
+            ("run --cap 0", None),
+            ("run --cap 2000001", None),
+            ("run --cap 0000000001", None),
+            ("run --cap +1", None),
+            ("run --undo 1001", None),
+            ("run --undo=1 --", None),
+        ];
+        for (line, want) in cases {
+            let mut words = Vec::new(alloc);
+            for word in line.split_whitespace() {
+                words.push(String::from_str(alloc, word)?)?;
+            }
+            assert_eq!(rt; read_words(&words), want, "{line}");
+        }
+        Ok(())
+    }
+}

@@ -1,0 +1,14 @@
+use Rattle.std.proofs.Common.{◌≡◌}
+use Rattle.dom_model.specs.Forest.{depth_of}
+use Rattle.dom_model.specs.Editing.{is_editable}
+use Rattle.node_arena.specs.Held.{Holds}
+use Rattle.node_arena.proofs.Arena.is_editable.Given as goal
+
+abbrev pub invariant-loop-parent : goal.invariant-loop-parent
+invariant-loop-parent l = record {
+  held : Holds l.self l.at;
+  same : is_editable l.self.trees l.host.label l.at.label ≡ is_editable l.self.trees l.host.label l.fn.node.label;
+}
+
+abbrev pub decreases-loop-parent : goal.decreases-loop-parent
+decreases-loop-parent l = depth_of l.self.trees l.at.label

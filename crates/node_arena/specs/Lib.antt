@@ -1,0 +1,6 @@
+pub mod Nodes
+pub mod Sound
+pub mod Held
+pub mod Change
+pub mod Kinds
+pub mod Walk

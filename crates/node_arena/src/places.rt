@@ -1,0 +1,142 @@
+//! The place of a node: by its label, among its siblings, and below the root of its tree.
+
+ghost use Rattle.std.specs.Prelude.{◌≡◌, ◌≢◌, ◌≤◌, min, None, IfSome, ◌↔◌, length};
+ghost use Rattle.dom_model.specs.Forest.{count_of, children_of, depth_of, IsWithin};
+ghost use Rattle.dom_model.specs.Contents.{length_of};
+ghost use Rattle.dom_model.specs.Places.{index_of, first_of_two};
+ghost use Rattle.node_arena.specs.Held.{Holds, Names};
+
+use crate::{Arena, Content, NodeRef};
+
+impl Arena {
+    /// The node of a label, if there is one.
+    pub fn find(&self, label: u32) -> Option<NodeRef>
+        ensures found { IfSome result (λ r. (r.label ≡ label) × Holds self.now r) }
+        ensures absent { (result ≡ None) ↔ (count_of self.now.trees label ≡ 0) }
+    {
+        if label >= self.next {
+            return None;
+        }
+        let node = NodeRef {
+            slot: self.index[label as usize],
+            label,
+        };
+        if self.holds(node) { Some(node) } else { None }
+    }
+
+    /// How many siblings stand before a node.
+    pub fn index(&self, node: NodeRef) -> u32
+        requires { Holds self.now node }
+        ensures { result ≡ index_of self.now.trees node.label }
+    {
+        self.lawful();
+        let mut at = node;
+        let mut index = 0;
+        while let Some(prev) = self.prev(at) {
+            at = prev;
+            index += 1;
+        }
+        index
+    }
+
+    /// The length of a node: the count of its characters for Words and a Remark, else that of its children.
+    pub fn length(&self, node: NodeRef) -> u32
+        requires { Holds self.now node }
+        ensures { result ≡ length_of self.now.trees node.label }
+    {
+        self.lawful();
+        match self.content(node) {
+            Content::Words(chars) => chars.len() as u32,
+            Content::Remark(chars) => chars.len() as u32,
+            _ => self.child_count(node),
+        }
+    }
+
+    // How many children a node has.
+    fn child_count(&self, node: NodeRef) -> u32
+        requires { Holds self.now node }
+        ensures { result ≡ length (children_of self.now.trees node.label) }
+    {
+        self.lawful();
+        match self.last_child(node) {
+            None => 0,
+            Some(last) => self.index(last) + 1,
+        }
+    }
+
+    /// How far a node is below the root of its tree.
+    pub fn depth(&self, node: NodeRef) -> u32
+        requires { Holds self.now node }
+        ensures { result ≡ depth_of self.now.trees node.label }
+    {
+        self.lawful();
+        let mut at = node;
+        let mut depth = 0;
+        while let Some(parent) = self.parent(at) {
+            at = parent;
+            depth += 1;
+        }
+        depth
+    }
+
+    // The node of this depth among a node and its ancestors; the node itself, where it is no deeper.
+    fn lifted(&self, node: NodeRef, depth: u32) -> NodeRef
+        requires { Holds self.now node }
+        ensures held { Holds self.now result }
+        ensures above { IsWithin self.now.trees result.label node.label }
+        ensures deep { depth_of self.now.trees result.label ≡ min (depth_of self.now.trees node.label) depth }
+        ensures start { depth_of self.now.trees node.label ≤ depth → result ≡ node }
+    {
+        self.lawful();
+        let mut at = node;
+        let mut left = self.depth(node);
+        while left > depth {
+            at = self.parent(at).unwrap();
+            left -= 1;
+        }
+        at
+    }
+
+    // The same of two nodes of one depth that are not the same.
+    fn before_apart(&self, a: NodeRef, b: NodeRef, above_a: NodeRef, above_b: NodeRef) -> Option<NodeRef>
+        requires first_held { Holds self.now a }
+        requires second_held { Holds self.now b }
+        requires first_above_held { Holds self.now above_a }
+        requires second_above_held { Holds self.now above_b }
+        requires first_above { IsWithin self.now.trees above_a.label a.label }
+        requires second_above { IsWithin self.now.trees above_b.label b.label }
+        requires deep { depth_of self.now.trees above_a.label ≡ depth_of self.now.trees above_b.label }
+        requires apart { above_a.label ≢ above_b.label }
+        ensures { Names self.now result (first_of_two self.now.trees a.label b.label) }
+    {
+        self.lawful();
+        let mut x = above_a;
+        let mut y = above_b;
+        while let Some(p) = self.parent(x) {
+            let q = self.parent(y).unwrap();
+            if p.label == q.label {
+                return Some(if self.index(x) < self.index(y) { a } else { b });
+            }
+            x = p;
+            y = q;
+        }
+        None
+    }
+
+    /// Of two nodes the one that comes first in tree order; `None` where they are in different trees.
+    pub fn before(&self, a: NodeRef, b: NodeRef) -> Option<NodeRef>
+        requires first_held { Holds self.now a }
+        requires second_held { Holds self.now b }
+        ensures { Names self.now result (first_of_two self.now.trees a.label b.label) }
+    {
+        self.lawful();
+        let a_depth = self.depth(a);
+        let b_depth = self.depth(b);
+        let above_a = self.lifted(a, b_depth);
+        let above_b = self.lifted(b, a_depth);
+        if above_a.label != above_b.label {
+            return self.before_apart(a, b, above_a, above_b);
+        }
+        Some(if a_depth <= b_depth { a } else { b })
+    }
+}

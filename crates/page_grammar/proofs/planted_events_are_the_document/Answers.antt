@@ -1,0 +1,5 @@
+use Rattle.page_grammar.proofs.PlantingLemmas.{planted}
+use Rattle.page_grammar.proofs.planted_events_are_the_document.Goals as goal
+
+pub returns : goal.returns
+returns _ = planted

@@ -1,0 +1,12 @@
+pub mod Chars
+pub mod Names
+pub mod Page
+pub mod Machine
+pub mod Decoder
+pub mod Reader
+pub mod Bytes
+pub mod Kind
+pub mod Rows
+pub mod Nodes
+pub mod Reading
+pub mod Planting

@@ -1,0 +1,7 @@
+pub mod GrowthLemmas
+pub mod OpenLemmas
+pub mod NameLemmas
+pub mod ElementLemmas
+pub mod AttributeLemmas
+pub mod EndLemmas
+pub mod ReadLemmas

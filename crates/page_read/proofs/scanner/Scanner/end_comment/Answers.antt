@@ -1,0 +1,13 @@
+use Rattle.std.proofs.Common.{arith}
+use Rattle.page_read.proofs.OpenLemmas.{each_moves}
+use Rattle.page_read.proofs.scanner.Scanner.end_comment.Goals as goal
+
+pub returns-clause-steady : goal.returns-clause-steady
+returns-clause-steady c =
+    record {
+      levels = rw c.requires.state at c.requires.steady.levels;
+      opens = each_moves c.args.self.now.arena c.append_remark.new.arena c.args.self.now.opened.items c.in_ok-append_remark.ensures.opens c.requires.steady.opens;
+      texts = c.requires.steady.texts;
+      scalar = c.requires.steady.scalar;
+      at = tt;
+    }

@@ -1,0 +1,9 @@
+use Rattle.std.proofs.Common.{◌≡◌, ◌∙◌, sym, ap, subst, ℕ, List, Option}
+use Rattle.page_read.specs.View.{LeavesAt}
+use Rattle.page_read.proofs.OpenLemmas.{top_name, no_last}
+use Rattle.page_read.proofs.scanner.Scanner.name_at.Goals as goal
+
+pub returns-in-Some-clause-left : goal.returns-in-Some-clause-left
+returns-in-Some-clause-left c =
+    let t = top_name c.args.self.now.opened.items c.in-Some.open.now (rw (← c.deref.ensures.value) (sym c.in-Some.ensures.value)) in
+    rw t (rw (← c.deref-in-Some.ensures.value) c.byte_at.ensures.left)

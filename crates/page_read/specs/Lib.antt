@@ -1,0 +1,8 @@
+pub mod References
+pub mod Faults
+pub mod Growth
+pub mod View
+pub mod Steady
+pub mod Decoding
+pub mod Reading
+pub mod Answer

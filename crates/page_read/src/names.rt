@@ -1,0 +1,12 @@
+//! Names of elements with a meaning in the grammar of pages.
+
+ghost use Rattle.std.specs.Prelude.{◌≡◌};
+ghost use Rattle.page_grammar.specs.Names as names;
+
+/// Whether a page may not have an element of this name.
+#[tactic(auto, unfolding(html_names::specs::ElementNames::is_supported, page_grammar::specs::Names::is_refused))]
+pub(crate) fn is_refused(name: &[u8]) -> bool
+    ensures { result ≡ names.is_refused name.now }
+{
+    !html_names::is_supported(name)
+}

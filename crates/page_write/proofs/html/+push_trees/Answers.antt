@@ -1,0 +1,39 @@
+use Rattle.std.proofs.Common.{ap, ◌<◌, arith}
+use Rattle.node_arena.specs.Held.{label}
+use Rattle.page_write.proofs.Visiting.{size_from, come_to, led, size_led, size_here, html_written}
+use Rattle.page_write.proofs.html.+push_trees.Goals as goal
+
+pub push_trees-requires : goal.push_trees-requires
+push_trees-requires t c =
+    let a = c.args.arena.now in
+    let i = c.loop-at.invariant in
+    let v = come_to a c.lawful.ensures c.loop-at.at c.in-Some.node _ c.in-Some.is i.held i.inner c.content-content.ensures in
+    let below = size_led a _ _ c.first_child.ensures in
+    let here = size_here a c.loop-at.at c.in-Some.node c.in-Some.is in
+    let whole = c.decreases in
+    let smaller : size_from a.trees (label c.first_child.result) < t = omega (arith, below, v.below, i.fewer, here, whole) in
+    (smaller, (c.first_child.ensures.held, led a _ _ c.first_child.ensures v.first))
+
+pub loop-at-smaller : goal.loop-at-smaller
+loop-at-smaller t c =
+    let a = c.args.arena.now in
+    let i = c.loop-at.invariant in
+    let v = come_to a c.lawful.ensures c.loop-at.at c.in-Some.node _ c.in-Some.is i.held i.inner c.content-content.ensures in
+    let after = size_led a _ _ c.next-at.ensures in
+    let here = size_here a c.loop-at.at c.in-Some.node c.in-Some.is in
+    let smaller : size_from a.trees (label c.next-at.result) < size_from a.trees (label c.loop-at.at) = omega (arith, after, v.after, here) in
+    smaller
+
+pub loop-at-preserved : goal.loop-at-preserved
+loop-at-preserved t c =
+    let a = c.args.arena.now in
+    let i = c.loop-at.invariant in
+    let v = come_to a c.lawful.ensures c.loop-at.at c.in-Some.node _ c.in-Some.is i.held i.inner c.content-content.ensures in
+    let after = size_led a _ _ c.next-at.ensures in
+    let here = size_here a c.loop-at.at c.in-Some.node c.in-Some.is in
+    record {
+      held = c.next-at.ensures.held;
+      inner = led a _ _ c.next-at.ensures v.next;
+      fewer = omega (arith, after, v.after, i.fewer, here);
+      written = html_written a c.in-Some.node.label _ v _ _ _ c.first_child.ensures.is c.next-at.ensures.is (ap label c.in-Some.is) _ _ _ _ _ i.written c.in_ok-push_opening.ensures.ok c.in_ok-push_trees.ensures.ok c.in_ok-push_closing.ensures.ok;
+    }

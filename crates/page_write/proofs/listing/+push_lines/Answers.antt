@@ -1,0 +1,48 @@
+use Rattle.std.proofs.Common.{ap, ◌+◌, ◌<◌, ◌^◌, arith}
+use Rattle.node_arena.specs.Held.{label}
+use Rattle.page_write.proofs.Visiting.{size_from, come_to, led, size_led, size_here, lines_written}
+use Rattle.page_write.proofs.listing.+push_lines.Goals as goal
+
+pub push_lines-requires : goal.push_lines-requires
+push_lines-requires t c =
+    let a = c.args.arena.now in
+    let i = c.loop-at.invariant in
+    let v = come_to a c.lawful.ensures c.loop-at.at c.in-Some.node _ c.in-Some.is i.held i.inner c.content.ensures in
+    let below = size_led a _ _ c.first_child.ensures in
+    let here = size_here a c.loop-at.at c.in-Some.node c.in-Some.is in
+    let whole = c.decreases in
+    let smaller : size_from a.trees (label c.first_child.result) < t = omega (arith, below, v.below, i.fewer, here, whole) in
+    let room : c.args.level + 1 + size_from a.trees (label c.first_child.result) < 2 ^ 64 = omega (arith, below, v.below, i.fewer, here, c.requires.room) in
+    (smaller, (c.first_child.ensures.held, (led a _ _ c.first_child.ensures v.first, room)))
+
+pub loop-at-smaller : goal.loop-at-smaller
+loop-at-smaller t c =
+    let a = c.args.arena.now in
+    let i = c.loop-at.invariant in
+    let v = come_to a c.lawful.ensures c.loop-at.at c.in-Some.node _ c.in-Some.is i.held i.inner c.content.ensures in
+    let after = size_led a _ _ c.next-at.ensures in
+    let here = size_here a c.loop-at.at c.in-Some.node c.in-Some.is in
+    let smaller : size_from a.trees (label c.next-at.result) < size_from a.trees (label c.loop-at.at) = omega (arith, after, v.after, here) in
+    smaller
+
+pub loop-at-preserved : goal.loop-at-preserved
+loop-at-preserved t c =
+    let a = c.args.arena.now in
+    let i = c.loop-at.invariant in
+    let v = come_to a c.lawful.ensures c.loop-at.at c.in-Some.node _ c.in-Some.is i.held i.inner c.content.ensures in
+    let after = size_led a _ _ c.next-at.ensures in
+    let here = size_here a c.loop-at.at c.in-Some.node c.in-Some.is in
+    record {
+      held = c.next-at.ensures.held;
+      inner = led a _ _ c.next-at.ensures v.next;
+      fewer = omega (arith, after, v.after, i.fewer, here);
+      written = lines_written a c.in-Some.node.label _ v c.args.level _ _ _ c.first_child.ensures.is c.next-at.ensures.is (ap label c.in-Some.is) _ _ _ _ i.written c.in_ok-push_line.ensures.ok c.in_ok-push_lines.ensures.ok;
+    }
+
+pub overflow_add-level : goal.overflow_add-level
+overflow_add-level t c =
+    let a = c.args.arena.now in
+    let i = c.loop-at.invariant in
+    let v = come_to a c.lawful.ensures c.loop-at.at c.in-Some.node _ c.in-Some.is i.held i.inner c.content.ensures in
+    let here = size_here a c.loop-at.at c.in-Some.node c.in-Some.is in
+    omega (arith, v.both, i.fewer, here, c.requires.room)

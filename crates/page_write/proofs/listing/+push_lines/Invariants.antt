@@ -1,0 +1,21 @@
+use Rattle.std.proofs.Common.{◌≡◌, ◌++◌, ◌≤◌, IfSome}
+use Rattle.node_arena.specs.Held.{Holds, label}
+use Rattle.page_write.specs.Onward.{onward_at, IsInner}
+use Rattle.page_write.specs.Listing.{lines_of}
+use Rattle.page_write.proofs.Visiting.{size_from}
+use Rattle.page_write.proofs.listing.+push_lines.Given as goal
+
+abbrev pub decreases-push_lines : goal.decreases-push_lines
+decreases-push_lines l = size_from l.arena.now.trees (label l.first)
+
+-- what is written, and what is still to write
+abbrev pub invariant-loop-at : goal.invariant-loop-at
+invariant-loop-at l = record {
+  held : IfSome l.at (λ r. Holds l.arena r);
+  inner : IsInner l.arena.trees (label l.at);
+  fewer : size_from l.arena.trees (label l.at) ≤ size_from l.arena.trees (label l.fn.first);
+  written : l.bytes.items ++ lines_of l.level (onward_at l.arena.trees (label l.at)) ≡ l.initial.bytes.items ++ lines_of l.level (onward_at l.arena.trees (label l.fn.first));
+}
+
+abbrev pub decreases-loop-at : goal.decreases-loop-at
+decreases-loop-at l = size_from l.arena.trees (label l.at)
