@@ -132,8 +132,8 @@ so_far-more start old new reply rest text whole s parts now = record {
 pub so_far-ends : (start old new : Option (List ℕ)) (reply rest text whole : List ℕ) (c0 c1 c2 : ℕ) (status : Status) → SoFar start old text whole → text ≡ reply ++ rest → Follows (transcript_of Done reply) old new c1 c2 status → c0 ≤ c1 → status ≢ Done → Follows (transcript_of Done whole) start new c0 c2 status
 so_far-ends start old new reply rest text whole c0 c1 c2 status s parts f less other = record {
   written = (
-    let longer : TakesPrefix old new text = subst (λ x. TakesPrefix old new x) (sym parts) (takes_longer old new reply rest f.written) in
-    subst (λ x. TakesPrefix start new x) s.all (takes_after start old new s.done text s.taken longer));
+      let longer : TakesPrefix old new text = subst (λ x. TakesPrefix old new x) (sym parts) (takes_longer old new reply rest f.written) in
+      subst (λ x. TakesPrefix start new x) s.all (takes_after start old new s.done text s.taken longer));
   whole = λ e. absurd (other e);
   cause = elim f.cause [
     | inl e ↦ absurd (other e)

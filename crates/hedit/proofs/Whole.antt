@@ -168,5 +168,5 @@ pub told_run : (old new : Option (List ℕ)) (bytes : List ℕ) (words : List (L
     → IfSome old (λ bytes. RunFollows (transcript words bytes) before after r0 r1 w0 w1 status)
 told_run old new bytes words order before after r0 r1 w0 w1 status is read end short f =
     told_read old new bytes (λ bs. RunFollows (transcript words bs) before after r0 r1 w0 w1 status) read end (
-      let e = order_transcript words bytes order is short in
-      run_follows (transcript words bytes) before after r0 r1 w0 w1 status (rw e f))
+    let e = order_transcript words bytes order is short in
+    run_follows (transcript words bytes) before after r0 r1 w0 w1 status (rw e f))

@@ -7,6 +7,8 @@
 mod block;
 mod reply;
 mod session;
+#[cfg(test)]
+mod tests;
 mod words;
 
 use edit_io::{ReadSource, WriteSink};
