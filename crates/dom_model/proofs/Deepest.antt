@@ -1,8 +1,8 @@
 -- Bounds on sums over a forest, and its deepest node.
-use Rattle.std.proofs.Common.{◌≡◌, ◌≢◌, ◌⊎◌, ℕ, zero, suc, ◌+◌, ◌*◌, ◌<◌, ◌≤◌, max, cond, [], Option, Some, None, refl, sym, ap, subst, ◌∙◌, inl, inr, arith, eqb, mul-add, mul-one}
+use Rattle.std.proofs.Common.{◌≡◌, ◌⊎◌, ℕ, zero, suc, ◌+◌, ◌*◌, ◌<◌, ◌≤◌, max, Option, Some, None, refl, sym, ap, subst, inl, inr, arith, mul-add, mul-one}
 use Rattle.std.proofs.lemmas.Bool.Decides.{eqb_tells}
 use Rattle.std.specs.Option.{option_map_or}
-use Rattle.dom_model.specs.Forest.{Forest, Seen, tops, total, count_of, IsDistinct, seek, depth_from, depth_of, tree_of}
+use Rattle.dom_model.specs.Forest.{Forest, Seen, tops, total, count_of, IsDistinct, seek, depth_of, tree_of}
 use Rattle.dom_model.specs.Forest.Forest.{Nil, Tree}
 use Rattle.dom_model.specs.Places.{levels, kids_in}
 use Rattle.dom_model.proofs.Stands.{Stands, seek_Stands}

@@ -1,13 +1,13 @@
 -- A tree is given up leaf by leaf.
-use Rattle.std.proofs.Common.{◌≡◌, ◌≢◌, ◌⊎◌, ℕ, zero, suc, ◌+◌, ◌<◌, ◌≤◌, true, false, cond, [], Option, Some, None, refl, sym, ap, subst, ◌∙◌, inl, inr, arith, eqb, nat_lt}
+use Rattle.std.proofs.Common.{◌≡◌, ◌≢◌, ◌⊎◌, ℕ, ◌+◌, ◌<◌, false, cond, [], Some, None, refl, sym, ap, ◌∙◌, inl, inr, arith, eqb, nat_lt}
 use Rattle.std.proofs.lemmas.Bool.Decides.{eqb_tells}
 use Rattle.std.specs.Option.{option_map_or, option_and_then}
-use Rattle.dom_model.specs.Forest.{Forest, Seen, join, tops, total, count_of, IsDistinct, parent_of, children_of, first_of, first_in, depth_from, depth_of, tree_of, without, put_rising, unlink, IsWithin}
+use Rattle.dom_model.specs.Forest.{Forest, Seen, tops, total, count_of, IsDistinct, parent_of, children_of, first_of, first_in, depth_from, depth_of, tree_of, without, put_rising, unlink, IsWithin}
 use Rattle.dom_model.specs.Forest.Forest.{Nil, Tree}
 use Rattle.dom_model.proofs.Totals.{total-join, total-without}
 use Rattle.dom_model.proofs.Stands.{Stands, true_or_false, seek_Stands, Stands-tree_of, Stands-without}
 use Rattle.dom_model.proofs.Within.{depth_absent}
-use Rattle.dom_model.proofs.Links.{seen, tree_is, tree_n, gone_n, parent_count, eqb_refl_true}
+use Rattle.dom_model.proofs.Links.{seen, tree_is, tree_n, gone_n, eqb_refl_true}
 
 module _ {C : Type 0} where
   pub without_absent : (f : Forest C) (n : ℕ) → count_of f n ≡ 0 → without f n ≡ f

@@ -1,16 +1,16 @@
 -- Which of two nodes comes first in tree order: an ancestor before what is below it, and else as the
 -- two siblings do that hold them.
-use Rattle.std.proofs.Common.{◌≡◌, ◌≢◌, ◌⊎◌, ℕ, zero, suc, ◌+◌, ◌<◌, ◌≤◌, Bool, true, false, cond, ◌&&◌, ◌||◌, List, [], ◌∷◌, ◌++◌, length, Option, Some, None, refl, sym, ap, subst, ◌∙◌, inl, inr, arith, eqb, nat_lt}
+use Rattle.std.proofs.Common.{◌≡◌, ◌≢◌, ◌⊎◌, ℕ, zero, suc, ◌+◌, ◌<◌, ◌≤◌, Bool, true, false, cond, ◌&&◌, ◌||◌, List, [], ◌∷◌, ◌++◌, length, Some, None, refl, sym, ap, subst, ◌∙◌, inl, inr, arith, eqb, nat_lt}
 use Rattle.std.proofs.lemmas.Bool.Decides.{eqb_tells, nat_tests}
 use Rattle.std.specs.Option.{option_map_or, option_and_then}
-use Rattle.dom_model.specs.Forest.{Forest, Seen, join, tops, total, count_of, IsDistinct, seek, parent_of, children_of, times, tree_of, IsWithin, preorder_onto, preorder}
+use Rattle.dom_model.specs.Forest.{Forest, Seen, join, tops, count_of, IsDistinct, parent_of, children_of, times, tree_of, IsWithin, preorder_onto, preorder}
 use Rattle.dom_model.specs.Forest.Forest.{Nil, Tree}
 use Rattle.dom_model.specs.Places.{place_in, first_among, first_of_two}
 use Rattle.dom_model.proofs.Totals.{total-join, total-without}
-use Rattle.dom_model.proofs.Stands.{Stands, top_stands, parent_stands, seek_Stands, times-tops}
+use Rattle.dom_model.proofs.Stands.{top_stands, parent_stands, seek_Stands, times-tops}
 use Rattle.dom_model.proofs.Lists.{times-append}
 use Rattle.dom_model.proofs.Links.{seen, join-Nil, tree_of_absent, times-children_of, child_of_parent, parent_count, eqb_refl_true}
-use Rattle.dom_model.proofs.Parts.{Part, Part_here, Part_stands, Part_count}
+use Rattle.dom_model.proofs.Parts.{Part, Part_here, Part_stands}
 
 -- ---- lists
 

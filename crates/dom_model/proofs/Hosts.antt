@@ -1,11 +1,11 @@
 -- The host of a node, by its parent.
-use Rattle.std.proofs.Common.{◌≡◌, ◌≢◌, ◌⊎◌, ℕ, zero, suc, ◌+◌, ◌<◌, ◌≤◌, Bool, true, false, cond, ◌||◌, List, [], ◌∷◌, Option, Some, None, refl, sym, ap, subst, ◌∙◌, inl, inr, arith, eqb}
+use Rattle.std.proofs.Common.{◌≡◌, ◌⊎◌, ℕ, zero, suc, ◌≤◌, Bool, true, false, cond, ◌||◌, Option, Some, None, refl, sym, ap, ◌∙◌, inl, inr, arith, eqb}
 use Rattle.std.proofs.lemmas.Bool.Decides.{eqb_tells}
-use Rattle.std.specs.Option.{option_map, option_map_or, option_and_then}
+use Rattle.std.specs.Option.{option_map, option_and_then}
 use Rattle.dom_model.specs.declared.Content.{Content}
 use Rattle.dom_model.specs.Contents.{is_element}
 use Rattle.dom_model.specs.Editing.{is_true_state, is_false_state, host_by, offered, host_from, editing_host}
-use Rattle.dom_model.specs.Forest.{Forest, Seen, tops, count_of, IsDistinct, seek, parent_of, content_of, either}
+use Rattle.dom_model.specs.Forest.{Forest, Seen, tops, count_of, IsDistinct, parent_of, content_of, either}
 use Rattle.dom_model.specs.Forest.Forest.{Nil, Tree}
 use Rattle.dom_model.proofs.Stands.{Stands, count_of-Stands, seek_Stands}
 use Rattle.dom_model.proofs.Links.{seen, parent_count}

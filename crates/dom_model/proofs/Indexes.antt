@@ -1,11 +1,11 @@
 -- The index of a node goes down by one with each earlier sibling, and the last child's tells the length.
-use Rattle.std.proofs.Common.{◌≡◌, ◌≢◌, ◌⊎◌, ℕ, ◌+◌, ◌<◌, ◌≤◌, List, [], ◌∷◌, length, Option, Some, None, IsSome, refl, sym, ap, subst, ◌∙◌, inl, inr, arith, eqb}
+use Rattle.std.proofs.Common.{◌≡◌, ◌≢◌, ◌⊎◌, ℕ, ◌+◌, ◌<◌, ◌≤◌, List, [], ◌∷◌, length, Option, Some, None, refl, sym, ap, subst, ◌∙◌, inl, inr, arith}
 use Rattle.std.proofs.lemmas.Bool.Decides.{eqb_tells}
 use Rattle.std.specs.Option.{option_map_or, option_and_then}
-use Rattle.dom_model.specs.Forest.{Forest, Seen, tops, total, count_of, IsDistinct, seek, parent_of, children_of, last_of, prev_of, before_from, before_in, last_or, last_in, times}
+use Rattle.dom_model.specs.Forest.{Forest, Seen, tops, total, IsDistinct, seek, parent_of, children_of, last_of, prev_of, before_from, before_in, last_or, last_in, times}
 use Rattle.dom_model.specs.Forest.Forest.{Nil, Tree}
 use Rattle.dom_model.specs.Places.{place_in, index_of}
-use Rattle.dom_model.proofs.Stands.{Stands, times-tops}
+use Rattle.dom_model.proofs.Stands.{Stands}
 use Rattle.dom_model.proofs.Links.{times-children_of, child_of_parent, parent_of_child, found_stands}
 
 place_head : (x l : ℕ) (xs : List ℕ) → x ≡ l → place_in (x ∷ xs) l ≡ 0

@@ -1,9 +1,9 @@
 -- What the laws of a state say of a node whose content is known.
-use Rattle.std.proofs.Common.{◌≡◌, ◌↔◌, ◌^◌, ℕ, ◌<◌, false, [], Option, Some, None, refl, sym, ap, subst, ◌∙◌}
+use Rattle.std.proofs.Common.{◌≡◌, ◌↔◌, ◌^◌, ℕ, ◌<◌, false, [], Option, Some, None, refl, ap, subst, ◌∙◌}
 use Rattle.std.specs.Option.{option_map, option_map_or}
 use Rattle.dom_model.specs.declared.Content.{Content}
 use Rattle.dom_model.specs.declared.Content.TheVariants.{Document}
-use Rattle.dom_model.specs.Contents.{IsNode, char_length, may_have_children}
+use Rattle.dom_model.specs.Contents.{char_length, may_have_children}
 use Rattle.dom_model.specs.State.{State, IsLawful}
 use Rattle.dom_model.specs.Forest.{Seen, seek, content_of, children_of}
 

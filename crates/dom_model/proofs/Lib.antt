@@ -18,3 +18,4 @@ pub mod Neighbours
 pub mod Deepest
 pub mod DropTree
 pub mod Earlier
+pub mod Kept

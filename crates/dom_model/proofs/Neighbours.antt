@@ -1,8 +1,8 @@
 -- The parents of a first child and of a next sibling.
-use Rattle.std.proofs.Common.{◌≡◌, ℕ, zero, suc, ◌+◌, ◌<◌, false, true, List, [], Option, Some, None, refl, sym, ap, subst, ◌∙◌, arith}
+use Rattle.std.proofs.Common.{◌≡◌, ℕ, zero, suc, ◌<◌, false, true, List, [], Option, Some, None, refl, ap, ◌∙◌, arith}
 use Rattle.std.specs.Option.{option_map_or, option_and_then}
-use Rattle.dom_model.specs.Forest.{Forest, Seen, IsDistinct, seek, parent_of, children_of, first_of, last_of, prev_of, next_of, first_in, last_in, after_in, before_in, is_label, times}
-use Rattle.dom_model.proofs.Links.{child_of_parent, parent_of_child, found_stands, eqb_refl_true}
+use Rattle.dom_model.specs.Forest.{Forest, Seen, IsDistinct, seek, parent_of, children_of, first_of, last_of, prev_of, next_of, after_in, before_in, is_label, times}
+use Rattle.dom_model.proofs.Links.{parent_of_child, found_stands, eqb_refl_true}
 use Rattle.dom_model.proofs.Lists.{is_label_first, is_label_prior, is_label_after}
 
 -- a label that can only be one of a list is one

@@ -1,11 +1,11 @@
 -- A tree with its later siblings is a part of its forest. The parts from a node's first child and from
 -- its next sibling on are its children and what comes after it.
-use Rattle.std.proofs.Common.{◌≡◌, ◌≢◌, ◌⊎◌, ℕ, zero, suc, ◌+◌, ◌<◌, ◌≤◌, Bool, true, false, cond, List, [], ◌∷◌, ◌++◌, Option, Some, None, IsSome, refl, sym, ap, subst, ◌∙◌, inl, inr, arith, eqb, nat_lt}
+use Rattle.std.proofs.Common.{◌≡◌, ◌⊎◌, ℕ, ◌+◌, ◌<◌, ◌≤◌, true, false, List, [], ◌∷◌, ◌++◌, Option, Some, None, refl, sym, ap, subst, ◌∙◌, inl, inr, arith, nat_lt}
 use Rattle.std.proofs.lemmas.Bool.Decides.{eqb_tells, nat_tests}
 use Rattle.std.specs.Option.{option_map, option_map_or, option_and_then}
-use Rattle.dom_model.specs.Forest.{Forest, Seen, tops, total, count_of, IsDistinct, seek, parent_of, children_of, content_of, first_of, next_of, first_in, after_in, times}
+use Rattle.dom_model.specs.Forest.{Forest, Seen, tops, total, count_of, IsDistinct, parent_of, children_of, content_of, first_of, next_of, first_in, after_in, times}
 use Rattle.dom_model.specs.Forest.Forest.{Nil, Tree}
-use Rattle.dom_model.specs.Places.{onward, or_else}
+use Rattle.dom_model.specs.Places.{onward}
 use Rattle.dom_model.specs.TreeOrder.{total_from, total_after}
 use Rattle.dom_model.proofs.Stands.{Stands, seek_Stands}
 use Rattle.dom_model.proofs.Lists.{times-append, after_in-middle}
@@ -159,17 +159,23 @@ module _ {C : Type 0} where
   Part_stands w q (Tree m d js more) l c ks rest n (inl (e, _)) =
       subst (λ x. (p : Option ℕ) × Stands q x l (record { parent = p; content = c; children = tops ks }) × Ends q x (Tree l c ks rest) p) (sym e) (q, inl (refl, refl), inl (refl, [], refl))
   Part_stands w q (Tree m d js more) l c ks rest n (inr (inl (k, p, _))) =
-      let r = Part_stands w (Some m) js l c ks rest k p in
-      (r.0, inr (inl r.1), elim r.2 [
-        | inl (at, pre, e) ↦ inr (m, record { parent = q; content = d; children = tops js }, at, inl (refl, refl), pre, e)
-        | inr (j, s, at, st, pre, e) ↦ inr (j, s, at, inr (inl st), pre, e)
-      ])
+      let r = Part_stands w (Some m) js l c ks rest k p in (
+        r.0,
+        inr (inl r.1),
+        elim r.2 [
+          | inl (at, pre, e) ↦ inr (m, record { parent = q; content = d; children = tops js }, at, inl (refl, refl), pre, e)
+          | inr (j, s, at, st, pre, e) ↦ inr (j, s, at, inr (inl st), pre, e)
+        ],
+      )
   Part_stands w q (Tree m d js more) l c ks rest n (inr (inr p)) =
-      let r = Part_stands w q more l c ks rest n p in
-      (r.0, inr (inr r.1), elim r.2 [
-        | inl (at, pre, e) ↦ inl (at, m ∷ pre, ap (λ xs. m ∷ xs) e)
-        | inr (j, s, at, st, pre, e) ↦ inr (j, s, at, inr (inr st), pre, e)
-      ])
+      let r = Part_stands w q more l c ks rest n p in (
+        r.0,
+        inr (inr r.1),
+        elim r.2 [
+          | inl (at, pre, e) ↦ inl (at, m ∷ pre, ap (λ xs. m ∷ xs) e)
+          | inr (j, s, at, st, pre, e) ↦ inr (j, s, at, inr (inr st), pre, e)
+        ],
+      )
 
 -- what is known of a label that is there: its tree with its later siblings, and the same of its first
 -- child and its next sibling

@@ -1,13 +1,13 @@
 -- A walk in tree order by first children, next siblings and parents.
-use Rattle.std.proofs.Common.{◌≡◌, ◌≢◌, ◌⊎◌, ℕ, ◌+◌, ◌<◌, ◌≤◌, cond, List, [], ◌∷◌, Option, Some, None, refl, sym, ap, subst, ◌∙◌, inl, inr, arith, eqb, nat_lt}
+use Rattle.std.proofs.Common.{◌≡◌, ℕ, ◌+◌, ◌<◌, ◌≤◌, [], Some, None, refl, sym, ap, subst, ◌∙◌, inl, inr, arith, eqb, nat_lt}
 use Rattle.std.proofs.lemmas.Bool.Decides.{eqb_tells, nat_tests}
-use Rattle.std.specs.Option.{option_map, option_map_or, option_and_then}
-use Rattle.dom_model.specs.Forest.{Forest, Seen, tops, total, count_of, IsDistinct, seek, parent_of, children_of, content_of, first_of, next_of, first_in, times, tree_of, RisesFrom}
+use Rattle.std.specs.Option.{option_map_or, option_and_then}
+use Rattle.dom_model.specs.Forest.{Forest, Seen, tops, total, count_of, IsDistinct, parent_of, content_of, first_of, next_of, first_in, times, tree_of, RisesFrom}
 use Rattle.dom_model.specs.Forest.Forest.{Nil, Tree}
 use Rattle.dom_model.specs.TreeOrder.{total_from, total_after}
-use Rattle.dom_model.proofs.Stands.{true_or_false, times-tops, parent_stands}
+use Rattle.dom_model.proofs.Stands.{true_or_false, parent_stands}
 use Rattle.dom_model.proofs.Links.{seen, child_of_parent, parent_count}
-use Rattle.dom_model.proofs.Parts.{Part, Part-kids, Part-rest, Part-sibling, onward_Part, total_from_Part, total_after_Part, At, at_label}
+use Rattle.dom_model.proofs.Parts.{Part, Part-kids, Part-rest, Part-sibling, onward_Part, total_from_Part, total_after_Part, at_label}
 
 module _ {C : Type 0} (f : Forest C) (once : IsDistinct f) where
   begins : (g : Forest C) (k : ℕ) → first_in (tops g) ≡ Some k → (c : C) × (ks : Forest C) × (rest : Forest C) × (g ≡ Tree k c ks rest)

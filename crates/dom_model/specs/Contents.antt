@@ -4,7 +4,6 @@ use Rattle.std.specs.Option.{option_map_or, option_and_then}
 use Rattle.dom_model.specs.declared.attributes.Attribute.{Attribute}
 use Rattle.dom_model.specs.declared.Content.{Content}
 use Rattle.dom_model.specs.declared.Content.TheVariants.{Document, Element, Words, Remark}
-use Rattle.dom_model.specs.AttributeList.{value_of}
 use Rattle.dom_model.specs.Forest.{Forest, Seen, content_of, children_of}
 
 abbrev pub is_element : Content → Bool

@@ -1,9 +1,9 @@
 -- Editing hosts and editable nodes, by the attribute contenteditable.
-use Rattle.std.specs.Prelude.{ℕ, Bool, true, false, ◌||◌, not, List, [], ◌∷◌, map, Option, Some, None, if◌then◌else◌, ◌==◌, bytes_eq, codes}
+use Rattle.std.specs.Prelude.{ℕ, Bool, false, ◌||◌, List, [], map, Option, Some, None, if◌then◌else◌, ◌==◌, bytes_eq, codes}
 use Rattle.std.specs.Option.{option_map, option_map_or}
 use Rattle.std.specs.Char.{to_ascii_lowercase}
 use Rattle.dom_model.specs.declared.Content.{Content}
-use Rattle.dom_model.specs.declared.Content.TheVariants.{Document, Element, Words, Remark}
+use Rattle.dom_model.specs.declared.Content.TheVariants.{Element}
 use Rattle.dom_model.specs.AttributeList.{value_of}
 use Rattle.dom_model.specs.Contents.{is_element}
 use Rattle.dom_model.specs.Forest.{Forest, either, is_label, content_of}

@@ -1,8 +1,8 @@
 -- Places and order in a forest: what follows a node, its index, its depth, and which of two nodes
 -- comes first in tree order.
-use Rattle.std.specs.Prelude.{ℕ, zero, suc, ◌+◌, max, Bool, ◌&&◌, ◌||◌, List, [], ◌∷◌, Option, Some, None, if◌then◌else◌, ◌==◌, nat_lt}
+use Rattle.std.specs.Prelude.{ℕ, ◌+◌, max, ◌&&◌, ◌||◌, List, [], ◌∷◌, Option, Some, None, if◌then◌else◌, ◌==◌, nat_lt}
 use Rattle.std.specs.Option.{option_map_or}
-use Rattle.dom_model.specs.Forest.{Forest, count_of, total, parent_of, children_of, tree_of, preorder}
+use Rattle.dom_model.specs.Forest.{Forest, count_of, parent_of, children_of, preorder}
 use Rattle.dom_model.specs.Forest.Forest.{Nil, Tree}
 
 -- how many labels stand before l in a list

@@ -1,12 +1,12 @@
 -- `block_in` decides the grammar of blocks.
-use Rattle.std.proofs.Common.{◌≡◌, ◌≢◌, ◌↔◌, ℕ, suc, Bool, true, false, ◌&&◌, cond, nat_eq, List, [], ◌∷◌, ◌++◌, length, take, drop, codes, Option, Some, None, refl, ap, subst, sym, ◌∙◌, arith}
+use Rattle.std.proofs.Common.{◌+◌, ◌<◌, ◌≡◌, ◌≢◌, ◌↔◌, ℕ, suc, Bool, true, false, ◌&&◌, cond, nat_eq, List, [], ◌∷◌, ◌++◌, length, take, drop, codes, Option, Some, None, refl, ap, subst, sym, ◌∙◌, arith}
 use Rattle.std.specs.List.{starts_with}
 use Rattle.std.specs.Option.{option_map}
 use Rattle.std.specs.Str.{bytes_eq}
-use Rattle.std.proofs.lemmas.List.{take-append-drop}
+use Rattle.std.proofs.lemmas.List.{take-append-drop, take_all}
 use Rattle.std.proofs.lemmas.List.Elements.{All-cons, All-nil}
 use Rattle.std.proofs.lemmas.Slice.Eq.{bytes_eq-Decides}
-use Rattle.hedit.specs.Block.{Block, NoOpening, NoClosing, Whole, Cut, IsOpening, NoneIs, IsBlock, is_word, opening_word, cut_at, with_line, block_cut, block_opened, block_in}
+use Rattle.hedit.specs.Block.{Block, NoOpening, NoClosing, Whole, Cut, IsOpening, NoneIs, IsBlock, is_word, opening_word, cut_at, with_line, block_cut, block_opened, block_in, block_of, lines_of}
 
 -- ---- the opening line
 
@@ -116,3 +116,22 @@ block-back lines (Whole page acts) (line, word, before, e, opens, none, joined) 
 pub grammar_of : (b : Block) (lines : List (List ℕ)) → b ≡ block_in lines → (block : Block) → (b ≡ block) ↔ IsBlock lines block
 grammar_of b lines is block =
     ((λ e. subst (λ (x : Block). IsBlock lines x) (sym is ∙ e) (block-is lines)), (λ in_it. is ∙ block-back lines block in_it))
+
+-- ---- the two ways of reading
+
+pub opened-is : (input : List ℕ) (end : ℕ) (word lines : List ℕ) (b : Block)
+    → (0 < length input → lines_of input ≡ take end input ∷ lines_of (drop (end + 1) input)) → Some word ≡ opening_word (take end input)
+    → lines ≡ drop (end + 1) input → b ≡ block_cut (cut_at word (lines_of lines)) → b ≡ block_of input
+opened-is [] end word lines b first opens lines-are is =
+    let none : Some word ≡ opening_word [] = subst (λ (t : List ℕ). Some word ≡ opening_word t) (take_all end [] (omega arith)) opens in absurd (cc)
+opened-is (x ∷ xs) end word lines b first opens lines-are is =
+    let parts = first (omega arith) in
+    is ∙ sym (ap block_in parts ∙ (ap (λ o. block_opened o (lines_of (drop (end + 1) (x ∷ xs)))) (sym opens)
+    ∙ ap (λ t. block_cut (cut_at word (lines_of t))) (sym lines-are)))
+
+pub unopened-is : (input : List ℕ) (end : ℕ)
+    → (0 < length input → lines_of input ≡ take end input ∷ lines_of (drop (end + 1) input)) → None ≡ opening_word (take end input) → NoOpening ≡ block_of input
+unopened-is [] end first opens = refl
+unopened-is (x ∷ xs) end first opens =
+    let parts = first (omega arith) in
+    sym (ap block_in parts ∙ ap (λ o. block_opened o (lines_of (drop (end + 1) (x ∷ xs)))) (sym opens))

@@ -91,7 +91,6 @@ fn part_lines<'a>(lines: &'a [u8], word: &[u8]) -> PageBlock<'a>
 }
 
 /// Parts an input into the page and the acts.
-#[tactic(auto, using(crate::proofs::BlockGrammar::grammar_of))]
 pub fn read_block(input: &[u8]) -> PageBlock<'_>
     ensures computed { shown result ≡ block_of input.now }
     ensures grammar { (block : Block) → (shown result ≡ block) ↔ IsBlock (lines_of input.now) block }
@@ -108,12 +107,12 @@ mod tests {
     use super::*;
     use std::test::Fail;
 
-    // The page and the acts with a bar between, or the reason.
+    // The page and the acts, or why there are none.
     fn told<'a>(block: PageBlock<'a>) -> (&'a [u8], &'a [u8]) {
         match block {
-            PageBlock::NoOpening => (b"no", b"opening"),
-            PageBlock::NoClosing => (b"no", b"closing"),
             PageBlock::Whole { page, acts } => (page, acts),
+            PageBlock::NoOpening => (b"no", b"opening"),
+            _ => (b"no", b"closing"),
         }
     }
 

@@ -1,11 +1,11 @@
 -- The steps of the walk to where two nodes part.
-use Rattle.std.proofs.Common.{◌≡◌, ◌≢◌, ℕ, ◌+◌, ◌<◌, ◌≤◌, Option, Some, None, IsSome, refl, sym, ap, subst, ◌∙◌, arith}
+use Rattle.std.proofs.Common.{◌≡◌, ◌≢◌, ℕ, ◌+◌, ◌<◌, ◌≤◌, Option, Some, None, IsSome, refl, sym, ap, ◌∙◌, arith}
 use Rattle.std.specs.Option.{option_map_or}
 use Rattle.dom_model.specs.declared.Content.{Content}
 use Rattle.dom_model.specs.State.{State, IsLawful}
 use Rattle.dom_model.specs.Forest.{Forest, count_of, parent_of, children_of, depth_of, IsWithin}
 use Rattle.dom_model.specs.Places.{place_in, index_of, first_of_two}
-use Rattle.dom_model.proofs.Within.{within_self, within_up, has_parent, depth_of-parent, depth_of-root}
+use Rattle.dom_model.proofs.Within.{has_parent, depth_of-parent, depth_of-root}
 use Rattle.dom_model.proofs.Earlier.{first_of_two-swap, first_of_two-within, first_of_two-apart, first_of_two-siblings, other_place}
 use Rattle.node_arena.specs.declared.NodeRef.{NodeRef}
 use Rattle.node_arena.specs.Held.{Holds, Names, label}

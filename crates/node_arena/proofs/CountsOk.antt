@@ -1,20 +1,20 @@
 -- The walk over the document.
-use Rattle.std.proofs.Common.{◌≡◌, ◌≢◌, ◌⊎◌, ℕ, zero, suc, ◌+◌, ◌-◌, ◌*◌, ◌^◌, ◌<◌, ◌≤◌, max, cond, Option, Some, None, IfSome, refl, sym, ap, subst, ◌∙◌, inl, inr, arith, eqb}
+use Rattle.std.proofs.Common.{◌≡◌, ◌≢◌, ◌⊎◌, ℕ, ◌+◌, ◌-◌, ◌^◌, ◌<◌, ◌≤◌, max, cond, Some, None, sym, ap, subst, ◌∙◌, inl, inr, arith, eqb}
 use Rattle.std.proofs.lemmas.Bool.Decides.{eqb_tells}
 use Rattle.std.specs.Option.{option_map, option_map_or}
 use Rattle.dom_model.specs.declared.Content.{Content}
 use Rattle.dom_model.specs.declared.Content.TheVariants.{Document, Element, Words, Remark}
-use Rattle.dom_model.specs.Contents.{IsNode, words_length, char_length}
+use Rattle.dom_model.specs.Contents.{words_length, char_length}
 use Rattle.dom_model.specs.Document.{node_count, char_count, page_depth}
 use Rattle.dom_model.specs.State.{State, IsLawful}
-use Rattle.dom_model.specs.Forest.{Forest, Seen, total, count_of, IsDistinct, seek, parent_of, first_of, next_of, content_of, depth_of, tree_of, IsWithin}
-use Rattle.dom_model.specs.Forest.Forest.{Nil, Tree}
+use Rattle.dom_model.specs.Forest.{Forest, Seen, total, count_of, parent_of, first_of, next_of, content_of, depth_of, tree_of, IsWithin}
+use Rattle.dom_model.specs.Forest.Forest.{Tree}
 use Rattle.dom_model.specs.TreeOrder.{total_from, total_after}
 use Rattle.dom_model.proofs.Links.{seen}
-use Rattle.dom_model.proofs.Within.{within_self, within_child, within_step, within_root, depth_of-parent, depth_of-root, depth_of_low}
+use Rattle.dom_model.proofs.Within.{within_self, within_child, within_step, within_root, depth_of-parent, depth_of-root}
 use Rattle.dom_model.proofs.Neighbours.{parent_of-first, parent_of-next}
 use Rattle.dom_model.proofs.Parts.{at_label, total_from_Part}
-use Rattle.dom_model.proofs.Walks.{total_from-first, total_from-leaf, total_after-next, total_after-last, document_first, total_from_le, total_after_document, total_from_whole}
+use Rattle.dom_model.proofs.Walks.{total_from-first, total_from-leaf, document_first, total_from_le, total_after_document, total_from_whole}
 use Rattle.dom_model.proofs.Deepest.{total-bound, deepest_is}
 use Rattle.node_arena.specs.declared.NodeRef.{NodeRef}
 use Rattle.node_arena.specs.declared.counts.Place.{Place}

@@ -1,15 +1,14 @@
 -- A tree is given up leaf by leaf, and nothing else.
-use Rattle.std.proofs.Common.{◌≡◌, ◌≢◌, ℕ, ◌+◌, ◌-◌, ◌*◌, ◌<◌, ◌≤◌, cond, Option, Some, None, IsSome, refl, sym, ap, subst, ◌∙◌, inl, inr, arith, eqb}
+use Rattle.std.proofs.Common.{◌≡◌, ◌≢◌, ℕ, ◌-◌, ◌*◌, ◌<◌, ◌≤◌, cond, Option, Some, None, IsSome, refl, sym, ap, subst, ◌∙◌, inl, inr, arith, eqb}
 use Rattle.std.proofs.lemmas.Bool.Decides.{eqb_tells}
 use Rattle.dom_model.specs.declared.Content.{Content}
 use Rattle.dom_model.specs.State.{State, IsLawful}
 use Rattle.dom_model.specs.Forest.{Forest, total, count_of, IsDistinct, parent_of, first_of, depth_of, tree_of, without, unlink, IsWithin}
 use Rattle.dom_model.specs.Forest.Forest.{Nil, Tree}
 use Rattle.dom_model.proofs.Totals.{total-without}
-use Rattle.dom_model.proofs.Links.{seen, parent_count, parent_of-unlink, first_of-unlink, parent_of-unlink_root, tree_is, eqb_refl_true}
+use Rattle.dom_model.proofs.Links.{seen, parent_count, parent_of-unlink, first_of-unlink, eqb_refl_true}
 use Rattle.dom_model.proofs.Within.{within_self, within_child, within_step, within_root, depth_of-parent, depth_of_low}
 use Rattle.dom_model.proofs.Neighbours.{parent_of-first}
-use Rattle.dom_model.proofs.Drop.{seek-without}
 use Rattle.dom_model.proofs.DropTree.{without-unlink, without-below, left-below, leaf_tree, parent_of-without, depth_of-without}
 use Rattle.node_arena.specs.declared.NodeRef.{NodeRef}
 use Rattle.node_arena.specs.Held.{Holds, Drops, DropsTree}

@@ -1,10 +1,10 @@
 -- The index tells the slot of each label that is there.
-use Rattle.std.proofs.Common.{◌≡◌, ℕ, zero, suc, ◌<◌, List, get_or, map, Option, Some, None, refl, sym, ap, subst, ◌∙◌, arith}
+use Rattle.std.proofs.Common.{◌≡◌, ℕ, zero, suc, ◌<◌, List, get_or, map, Option, Some, None, refl, ap, subst, ◌∙◌, arith}
 use Rattle.dom_model.specs.Forest.{count_of}
 use Rattle.dom_model.specs.State.{State}
 use Rattle.dom_model.proofs.Links.{seen}
 use Rattle.node_arena.specs.declared.Node.{Node}
-use Rattle.node_arena.specs.Nodes.{label_in, trees_of, state_of}
+use Rattle.node_arena.specs.Nodes.{label_in, state_of}
 use Rattle.node_arena.specs.Sound.{IsArena}
 use Rattle.node_arena.specs.Held.{Holds}
 use Rattle.node_arena.proofs.Rebuild.{trees_of-sound}

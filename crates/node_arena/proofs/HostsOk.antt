@@ -1,5 +1,5 @@
 -- A step of the walk to the host.
-use Rattle.std.proofs.Common.{◌≡◌, ℕ, Bool, true, false, cond, ◌||◌, ◌&&◌, not, Option, Some, None, refl, sym, ap, ◌∙◌}
+use Rattle.std.proofs.Common.{◌≡◌, ℕ, Bool, true, false, cond, ◌||◌, ◌&&◌, not, Option, Some, None, refl, ap, ◌∙◌}
 use Rattle.dom_model.specs.declared.Content.{Content}
 use Rattle.dom_model.specs.Contents.{is_element}
 use Rattle.dom_model.specs.Editing.{is_true_state, is_false_state, host_by, editing_host, is_editable}

@@ -1,11 +1,11 @@
 -- Each node stays one that may be, whatever edit is made.
-use Rattle.std.proofs.Common.{◌≡◌, ◌≢◌, ◌↔◌, ◌^◌, ℕ, ◌<◌, Bool, true, false, cond, List, [], Option, Some, None, refl, sym, ap, subst, ◌∙◌, inl, inr, true≢false, arith, eqb}
+use Rattle.std.proofs.Common.{◌≡◌, ◌↔◌, ◌^◌, ℕ, ◌<◌, true, false, cond, [], Option, Some, None, refl, sym, ap, subst, ◌∙◌, inl, inr, true≢false, arith, eqb}
 use Rattle.std.proofs.lemmas.Bool.Decides.{eqb_tells}
 use Rattle.std.specs.Option.{option_map, option_map_or}
 use Rattle.dom_model.specs.declared.Content.{Content}
 use Rattle.dom_model.specs.declared.Content.TheVariants.{Document}
 use Rattle.dom_model.specs.Contents.{IsNode, may_have_children, char_length, is_parent_at}
-use Rattle.dom_model.specs.Forest.{Forest, Seen, count_of, IsDistinct, seek, parent_of, content_of, taken_from, put_in, tree_of, without, with_leaf, link, unlink, CanPut, relinked, unlinked}
+use Rattle.dom_model.specs.Forest.{Forest, Seen, count_of, IsDistinct, seek, parent_of, taken_from, tree_of, without, with_leaf, link, unlink, CanPut, relinked, unlinked}
 use Rattle.dom_model.specs.Revised.{revised, revised_seen}
 use Rattle.dom_model.proofs.Totals.{total-without}
 use Rattle.dom_model.proofs.Links.{found_count, seek-link, seek-unlink, seek-with_leaf_new, seek-with_leaf_other}

@@ -1,13 +1,12 @@
 -- A change of content keeps the slots sound.
-use Rattle.std.proofs.Common.{◌≡◌, ◌↔◌, ◌^◌, ℕ, ◌+◌, ◌<◌, ◌≤◌, Bool, true, false, cond, List, length, take, get_or, map, Option, Some, None, refl, sym, ap, subst, ◌∙◌, inl, inr, arith, eqb}
-use Rattle.std.proofs.lemmas.Bool.Decides.{eqb_tells}
+use Rattle.std.proofs.Common.{◌≡◌, ◌↔◌, ◌^◌, ℕ, ◌<◌, true, false, cond, List, length, get_or, map, Option, Some, None, refl, sym, ap, subst, ◌∙◌, arith, eqb}
 use Rattle.std.specs.Option.{option_map, option_and_then}
 use Rattle.dom_model.specs.declared.Content.{Content}
 use Rattle.dom_model.specs.declared.Content.TheVariants.{Document, Element, Words, Remark}
 use Rattle.dom_model.specs.declared.attributes.Attribute.{Attribute}
 use Rattle.dom_model.specs.Contents.{IsNode, char_length, with_chars, with_attributes, may_have_children}
 use Rattle.dom_model.specs.State.{State}
-use Rattle.dom_model.specs.Forest.{Forest, Seen, total, count_of, seek, parent_of, children_of, first_of, last_of, prev_of, next_of, first_in, last_in, before_in, after_in}
+use Rattle.dom_model.specs.Forest.{Forest, Seen, count_of, seek, parent_of, children_of, first_in, last_in, before_in, after_in}
 use Rattle.dom_model.specs.Revised.{revised, revised_seen}
 use Rattle.dom_model.proofs.Links.{found_count}
 use Rattle.dom_model.proofs.Revising.{total-revised, seek-revised, RisesFrom-revised, parent_of-revised, children_of-revised}
@@ -127,7 +126,6 @@ revise_state slots next cap index arena old is r g =
     }))
 
 -- ---- characters and attributes
-
 
 pub chars_node : (l : ℕ) (chars : List ℕ) (o : Seen Content) → length chars < 2 ^ 32 → IsNode l o → IsNode l (record { parent = o.parent; content = with_chars chars o.content; children = o.children })
 chars_node l chars o short node = by_content o.content refl

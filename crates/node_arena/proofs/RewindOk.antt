@@ -1,8 +1,8 @@
 -- The next label can go back to one above all that are there.
-use Rattle.std.proofs.Common.{◌≡◌, ◌^◌, ℕ, ◌<◌, ◌≤◌, List, length, take, get_or, map, Option, Some, None, sym, ap, subst, ◌∙◌, arith}
+use Rattle.std.proofs.Common.{◌≡◌, ℕ, ◌<◌, ◌≤◌, List, take, map, Option, sym, ap, subst, ◌∙◌, arith}
 use Rattle.std.proofs.lemmas.List.{get_or-take, length-take-le}
 use Rattle.dom_model.specs.State.{State}
-use Rattle.dom_model.specs.Forest.{count_of, IsDistinct, parent_of}
+use Rattle.dom_model.specs.Forest.{count_of, parent_of}
 use Rattle.dom_model.proofs.Links.{found_count}
 use Rattle.dom_model.proofs.Few.{total-few}
 use Rattle.node_arena.specs.declared.Node.{Node}

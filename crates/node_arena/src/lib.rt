@@ -194,3 +194,6 @@ impl Arena {
         self.make(Content::Remark(words))
     }
 }
+
+#[cfg(test)]
+mod tests;

@@ -1,6 +1,6 @@
 //! The place of a node: by its label, among its siblings, and below the root of its tree.
 
-ghost use Rattle.std.specs.Prelude.{◌≡◌, ◌≢◌, ◌≤◌, min, None, IfSome, ◌↔◌, length};
+ghost use Rattle.std.specs.Prelude.{◌≡◌, ◌≢◌, ◌≤◌, min, None, IfSome, IsTrue, ◌↔◌, length};
 ghost use Rattle.dom_model.specs.Forest.{count_of, children_of, depth_of, IsWithin};
 ghost use Rattle.dom_model.specs.Contents.{length_of};
 ghost use Rattle.dom_model.specs.Places.{index_of, first_of_two};
@@ -79,6 +79,23 @@ impl Arena {
         depth
     }
 
+    /// Whether a node is `top` or stands below it.
+    pub fn is_within(&self, top: NodeRef, node: NodeRef) -> bool
+        requires top_held { Holds self.now top }
+        requires node_held { Holds self.now node }
+        ensures { IsTrue result ↔ IsWithin self.now.trees top.label node.label }
+    {
+        self.lawful();
+        let mut at = node;
+        while at.label != top.label {
+            match self.parent(at) {
+                Some(parent) => at = parent,
+                None => return false,
+            }
+        }
+        true
+    }
+
     // The node of this depth among a node and its ancestors; the node itself, where it is no deeper.
     fn lifted(&self, node: NodeRef, depth: u32) -> NodeRef
         requires { Holds self.now node }
@@ -98,7 +115,13 @@ impl Arena {
     }
 
     // The same of two nodes of one depth that are not the same.
-    fn before_apart(&self, a: NodeRef, b: NodeRef, above_a: NodeRef, above_b: NodeRef) -> Option<NodeRef>
+    fn before_apart(
+        &self,
+        a: NodeRef,
+        b: NodeRef,
+        above_a: NodeRef,
+        above_b: NodeRef,
+    ) -> Option<NodeRef>
         requires first_held { Holds self.now a }
         requires second_held { Holds self.now b }
         requires first_above_held { Holds self.now above_a }

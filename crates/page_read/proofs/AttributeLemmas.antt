@@ -1,5 +1,5 @@
 -- Attributes by names in characters and in bytes.
-use Rattle.std.proofs.Common.{◌≡◌, ℕ, Bool, true, false, ◌||◌, if◌then◌else◌, List, [], ◌∷◌, ◌++◌, map, Option, Some, None, is_some, refl, sym, ap, subst, ◌∙◌, arith, ◌+◌, ◌<◌, length, take, get_or, append-nil}
+use Rattle.std.proofs.Common.{◌≡◌, ℕ, Bool, true, false, ◌||◌, if◌then◌else◌, List, [], ◌∷◌, ◌++◌, Option, Some, None, is_some, refl, sym, ap, subst, ◌∙◌, ◌+◌, ◌<◌, length, take, get_or, append-nil}
 use Rattle.std.specs.Str.{bytes_eq, chars}
 use Rattle.std.proofs.Math.Utf8.{scalars, encodes}
 use Rattle.std.proofs.lemmas.Slice.Eq.{bytes_eq-Decides}

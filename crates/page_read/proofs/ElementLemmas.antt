@@ -1,9 +1,8 @@
 -- What the end of a start tag does to the scanner.
-use Rattle.std.proofs.Common.{◌≡◌, ℕ, zero, suc, ◌+◌, ◌<◌, ◌≤◌, ◌^◌, Bool, true, false, if◌then◌else◌, List, [], ◌∷◌, ◌++◌, length, map, Option, Some, None, refl, sym, ap, subst, ◌∙◌, arith, add-one, length-append}
+use Rattle.std.proofs.Common.{◌≡◌, ℕ, suc, ◌+◌, true, false, List, [], ◌∷◌, ◌++◌, length, Some, refl, sym, ap, subst, ◌∙◌, arith, add-one, length-append}
 use Rattle.std.specs.Prelude.{Vec}
 use Rattle.std.specs.Global.{Global}
-use Rattle.std.proofs.Math.Utf8.{scalars, encodes}
-use Rattle.std.specs.Str.{chars}
+use Rattle.std.proofs.Math.Utf8.{scalars}
 use Rattle.dom_model.specs.declared.attributes.Attribute.{Attribute}
 use Rattle.dom_model.specs.declared.Content.TheVariants.{Element}
 use Rattle.node_arena.specs.declared.NodeRef.{NodeRef}
@@ -12,9 +11,9 @@ use Rattle.page_grammar.specs.Names.{is_void}
 use Rattle.page_read.specs.declared.scanner.Scanner.{Scanner}
 use Rattle.page_read.specs.declared.scanner.Open.{Open}
 use Rattle.page_read.specs.declared.scanner.Lexical.{Lexical}
-use Rattle.page_read.specs.declared.scanner.Lexical.TheVariants.{Data, InText, TextReference, TagOpen, MarkupDeclaration, CommentStart, InComment, TagName, BeforeAttributeName, AttributeName, AfterAttributeName, BeforeAttributeValue, InAttributeValue, ValueReference, AfterAttributeValue, SelfClosing, EndTagName, AfterEndTagName}
+use Rattle.page_read.specs.declared.scanner.Lexical.TheVariants.{Data, EndTagName, AfterEndTagName}
 use Rattle.page_grammar.specs.Nodes.{attributes_of}
-use Rattle.page_grammar.specs.Planting.{Planting, with_last, plant_all}
+use Rattle.page_grammar.specs.Planting.{Planting, with_last}
 use Rattle.page_read.specs.View.{machine_of, planting_of, Goes, names_of, labels_of, opened_of, read_attributes, EachText, MakesElement}
 use Rattle.page_read.specs.Steady.{Steady, EachOpen, taken}
 use Rattle.page_read.proofs.OpenLemmas.{names_push, labels_push, each_push, each_moves}
@@ -65,9 +64,10 @@ module _ (old mid : Scanner) (node : NodeRef) (steady : Steady old) (tag : taken
   grown = made.planted ∙ ap (λ ts. with_last (planting_of old) (Element old.tag.items ts)) (sym back)
 
   pub void_goes : is_void old.tag.items ≡ true → Goes (Some (machine.started (machine_of old) old.tag.items (read_attributes old.attributes))) old (record mid { lexical = Data; room = mid.room + 1 })
-  void_goes void = rw void
-      (same_parts machine.Data (opened_of old.lexical ws) (names_of mid.opened.items) (suc old.room) (mid.room + 1) (suc old.arena.next) mid.arena.next (opened_taken old.lexical ws tag ∙ sym opened_is) (sym (add-one mid.room ∙ ap suc made.room)) next_is,
-       grown)
+  void_goes void = rw void (
+    same_parts machine.Data (opened_of old.lexical ws) (names_of mid.opened.items) (suc old.room) (mid.room + 1) (suc old.arena.next) mid.arena.next (opened_taken old.lexical ws tag ∙ sym opened_is) (sym (add-one mid.room ∙ ap suc made.room)) next_is,
+    grown,
+  )
 
   pub void_steady : Steady (record mid { lexical = Data; room = mid.room + 1 })
   void_steady = record {
@@ -86,9 +86,10 @@ module _ (old mid : Scanner) (node : NodeRef) (steady : Steady old) (tag : taken
     labels_are = ap labels_of pushed ∙ labels_push mid.opened.items (record { node = node; name = name }) ∙ rw (made.label, ap (λ (o : Vec Open Global). labels_of o.items) made.opened) refl
 
     pub start_goes : is_void old.tag.items ≡ false → Goes (Some (machine.started (machine_of old) old.tag.items (read_attributes old.attributes))) old (record mid { lexical = Data; opened = v })
-    start_goes void = rw void
-        (same_parts machine.Data (old.tag.items ∷ opened_of old.lexical ws) (names_of v.items) old.room mid.room (suc old.arena.next) mid.arena.next (ap (λ us. old.tag.items ∷ us) (opened_taken old.lexical ws tag) ∙ sym names_are) (sym made.room) next_is,
-         ap (λ (p : Planting). record p { opened = labels_of v.items }) grown ∙ ap (λ ls. record { trees = (with_last (planting_of old) (Element old.tag.items (attributes_of (read_attributes old.attributes)))).trees; opened = ls; next = suc old.arena.next }) labels_are)
+    start_goes void = rw void (
+      same_parts machine.Data (old.tag.items ∷ opened_of old.lexical ws) (names_of v.items) old.room mid.room (suc old.arena.next) mid.arena.next (ap (λ us. old.tag.items ∷ us) (opened_taken old.lexical ws tag) ∙ sym names_are) (sym made.room) next_is,
+      ap (λ (p : Planting). record p { opened = labels_of v.items }) grown ∙ ap (λ ls. record { trees = (with_last (planting_of old) (Element old.tag.items (attributes_of (read_attributes old.attributes)))).trees; opened = ls; next = suc old.arena.next }) labels_are,
+    )
 
     pub start_steady : Steady (record mid { lexical = Data; opened = v })
     start_steady = record {

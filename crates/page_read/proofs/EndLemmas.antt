@@ -1,9 +1,9 @@
 -- The end of the characters.
-use Rattle.std.proofs.Common.{◌≡◌, ℕ, Bool, true, false, List, [], ◌∷◌, refl}
+use Rattle.std.proofs.Common.{◌≡◌, ℕ, true, false, List, [], ◌∷◌, refl}
 use Rattle.page_grammar.specs.Page as page
 use Rattle.page_grammar.specs.Machine.{IsReady, is_none_open, is_some_open}
 use Rattle.page_read.specs.declared.scanner.Lexical.{Lexical}
-use Rattle.page_read.specs.declared.scanner.Lexical.TheVariants.{Data, InText, TextReference, TagOpen, MarkupDeclaration, CommentStart, InComment, TagName, BeforeAttributeName, AttributeName, AfterAttributeName, BeforeAttributeValue, InAttributeValue, ValueReference, AfterAttributeValue, SelfClosing, EndTagName, AfterEndTagName}
+use Rattle.page_read.specs.declared.scanner.Lexical.TheVariants.{Data, InText}
 use Rattle.page_read.specs.View.{lexical_of}
 
 pub none_open : (ws : List (List ℕ)) → is_some_open ws ≡ false → is_none_open ws

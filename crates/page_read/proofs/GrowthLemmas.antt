@@ -1,19 +1,18 @@
 -- A new node at the end of a parent's children.
-use Rattle.std.proofs.Common.{◌≡◌, ◌≢◌, ◌⊎◌, ℕ, zero, suc, ◌+◌, ◌<◌, ◌≤◌, Bool, true, false, cond, List, [], Option, Some, None, IfSome, refl, sym, ap, subst, ◌∙◌, inl, inr, arith, eqb, add-one}
+use Rattle.std.proofs.Common.{◌≡◌, ◌≢◌, ℕ, zero, suc, ◌+◌, ◌<◌, true, cond, Option, Some, None, refl, ◌∙◌, inl, inr, arith, eqb, add-one}
 use Rattle.std.proofs.lemmas.Bool.Decides.{eqb_tells, nat_tests}
-use Rattle.std.specs.Option.{option_map, option_map_or, option_and_then}
+use Rattle.std.specs.Option.{option_map}
 use Rattle.dom_model.specs.declared.Content.{Content}
-use Rattle.dom_model.specs.declared.Content.TheVariants.{Document, Element}
-use Rattle.dom_model.specs.Contents.{is_parent_at, may_have_children, IsNode}
-use Rattle.dom_model.specs.Forest.{Forest, Seen, join, with_leaf, tops, total, count_of, IsDistinct, seek, parent_of, children_of, content_of, tree_of, without, put_under, link, CanPut, relinked}
+use Rattle.dom_model.specs.Contents.{is_parent_at, may_have_children}
+use Rattle.dom_model.specs.Forest.{Forest, Seen, with_leaf, count_of, IsDistinct, seek, tree_of, without, put_under, link, CanPut, relinked}
 use Rattle.dom_model.specs.Forest.Forest.{Nil, Tree}
-use Rattle.dom_model.specs.State.{State, HoldsAt, IsLawful, CanLink}
+use Rattle.dom_model.specs.State.{State, IsLawful, CanLink}
 use Rattle.dom_model.proofs.Links.{tree_of_absent, seek-link, seek-with_leaf_other, seek-with_leaf_new, parent_of-with_leaf, eqb_refl_true}
 use Rattle.dom_model.proofs.Totals.{total-join}
 use Rattle.dom_model.proofs.Stands.{seek_absent}
 use Rattle.node_arena.specs.declared.NodeRef.{NodeRef}
 use Rattle.node_arena.specs.Held.{Holds, Makes}
-use Rattle.page_read.specs.Growth.{IsOpen, Appends, AppendsElement}
+use Rattle.page_read.specs.Growth.{IsOpen, Appends}
 
 module _ {C : Type 0} where
   tree_of_leaf : (f : Forest C) (n : ℕ) (c : C) → count_of f n ≡ 0 → tree_of (with_leaf f n c) n ≡ Tree n c Nil Nil

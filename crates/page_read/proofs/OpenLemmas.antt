@@ -1,19 +1,18 @@
 -- The stack of open elements.
-use Rattle.std.proofs.Common.{◌≡◌, ℕ, zero, suc, ◌+◌, ◌-◌, ◌<◌, ◌≤◌, ◌⊎◌, Bool, true, false, not, ◌==◌, List, [], ◌∷◌, ◌++◌, length, map, reverse, take, Option, Some, None, slice_get, refl, sym, ap, subst, ◌∙◌, inl, inr, arith, length-append}
+use Rattle.std.proofs.Common.{◌≡◌, ◌-◌, List, [], ◌∷◌, ◌++◌, length, map, Some, None, slice_get, refl, sym, ap, subst, ◌∙◌}
 use native.Mathlib.Numerals.{unary_clauses}
 use Rattle.std.proofs.lemmas.List.{reverse-append, map-append}
 use Rattle.dom_model.specs.State.{State, IsLawful}
-use Rattle.dom_model.specs.Forest.{seek, Seen, count_of}
-use Rattle.dom_model.specs.Contents.{is_parent_at, IsNode}
+use Rattle.dom_model.specs.Forest.{seek, Seen}
+use Rattle.dom_model.specs.Contents.{IsNode}
 use Rattle.dom_model.specs.declared.Content.{Content}
 use Rattle.dom_model.specs.declared.Content.TheVariants.{Document}
 use Rattle.dom_model.proofs.Links.{seen}
 use Rattle.node_arena.specs.declared.NodeRef.{NodeRef}
 use Rattle.node_arena.specs.Held.{Holds}
-use Rattle.page_grammar.specs.Machine.{is_some_open}
 use Rattle.page_read.specs.declared.scanner.Open.{Open}
 use Rattle.page_read.specs.Growth.{IsOpen}
-use Rattle.page_grammar.specs.Planting.{innermost, tail}
+use Rattle.page_grammar.specs.Planting.{tail}
 use Rattle.page_read.specs.View.{names_of, labels_of, first_or_empty}
 use Rattle.page_read.specs.Steady.{EachOpen}
 
@@ -50,9 +49,6 @@ pub no_last : (xs : List Open) → slice_get xs (length xs - 1) ≡ None → xs 
 no_last [] e = refl
 no_last (x ∷ []) e = let e' = e in cc
 no_last (x ∷ y ∷ xs) e = let h = simp unary_clauses at e in let r : y ∷ xs ≡ [] = no_last (y ∷ xs) (simp unary_clauses h) in cc
-
-
-
 
 pub last_open : (s : State) (xs : List Open) (o : Open) → slice_get xs (length xs - 1) ≡ Some o → EachOpen s xs → IsOpen s o.node
 last_open s xs o e each = let r = ends_with xs o e in each_last s r.0 o (subst (λ k. EachOpen s k) r.1 each)

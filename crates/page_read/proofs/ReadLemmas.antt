@@ -1,26 +1,25 @@
 -- From the reader's bytes to the answer.
-use Rattle.std.proofs.Common.{◌≡◌, ℕ, suc, ◌+◌, ◌<◌, ◌≤◌, Bool, true, false, if◌then◌else◌, List, [], ◌∷◌, ◌++◌, length, take, drop, append-nil, drop-cons, length-take-le, get_or, Option, Some, None, IfSome, Result, refl, sym, ap, subst, ◌∙◌, arith, add-one}
+use Rattle.std.proofs.Common.{◌≡◌, ℕ, suc, ◌+◌, ◌<◌, ◌≤◌, Bool, true, false, if◌then◌else◌, List, [], ◌∷◌, ◌++◌, length, take, drop, append-nil, drop-cons, length-take-le, get_or, Option, Some, None, refl, sym, ap, subst, ◌∙◌, arith}
 use Rattle.std.proofs.lemmas.List.{take_more, take_all, take-append-drop}
 use Rattle.dom_model.specs.State.{State}
-use Rattle.page_grammar.specs.Machine.{Machine, Lexical, Data, InText, Event, step, IsEnd, quiet, told, events, after_telling}
-use Rattle.page_grammar.specs.Kind.{Kind, page_limit, kind_of_byte, kind_decoded, begins_node, TooLong, Unclosed}
+use Rattle.page_grammar.specs.Machine.{Machine, Lexical, Data, InText, Event, step, quiet, told, after_telling}
+use Rattle.page_grammar.specs.Kind.{Kind, page_limit, kind_of_byte, kind_decoded, begins_node, Unclosed}
 use Rattle.page_grammar.specs.Decoder.{Pending, Decoded, Bad, Part, Whole, decode}
 use Rattle.page_grammar.specs.Reader as readers
 use Rattle.page_grammar.specs.Reading.{page_reading, Children, Refused}
 use Rattle.page_grammar.specs.Planting.{Planting, plant, plant_all, seed, grown}
 use Rattle.page_grammar.specs.Page.{Siblings}
-use Rattle.page_grammar.specs.Bytes.{PageBytes}
 use Rattle.page_grammar.proofs.Outputs.{step_tells, told_tells}
 use Rattle.page_grammar.proofs.PlantingLemmas.{planted}
 use Rattle.page_grammar.proofs.WiderReading.{read_one_more}
-use Rattle.page_grammar.proofs.ReaderAnswers.{too_long, stopped, unclosed, ended}
+use Rattle.page_grammar.proofs.ReaderAnswers.{stopped, unclosed, ended}
 use Rattle.page_read.specs.declared.scanner.Scanner.{Scanner}
 use Rattle.page_read.specs.declared.reader.Reader.{Reader}
 use Rattle.page_read.specs.declared.faults.PageKind.{PageKind}
 use Rattle.page_read.specs.Faults.{kind_of}
 use Rattle.page_read.specs.Answer.{IsDocument, IsFaultAnswer}
 use Rattle.page_read.specs.View.{machine_of, planting_of, Goes, Went}
-use Rattle.page_read.specs.Reading.{reader_of, growth_of, quieted, told_in, Takes, IsHeld, Finishes}
+use Rattle.page_read.specs.Reading.{reader_of, growth_of, quieted, told_in, Takes, Finishes}
 
 pub went_goes : (b : Bool) (o : Option Machine) (old new : Scanner) → b ≡ true → Went b o old new → Goes o old new
 went_goes true o old new e w = w
@@ -120,12 +119,15 @@ ends_page c s v g a short h fin =
     let planted_so : Finishes (Some a) c (quiet_reader r) (plant_all r.machine.out seed) = subst (λ (k : Planting). Finishes (Some a) c (quiet_reader r) k) h.planted viewed in
     let e = ended 200 c s r short h.reads planted_so.0 planted_so.1.0 in
     let full : plant_all (told (quiet r.machine)) (plant_all r.machine.out seed) ≡ grown e.0 =
-        sym (plant_append r.machine.out (told (quiet r.machine)) seed) ∙ ap (λ es. plant_all es seed) (sym (told_tells r.machine) ∙ e.3) ∙ planted 200 c s e.0 e.2 in
-    (e.0, e.1, record {
-      trees = planted_so.1.1 ∙ ap (λ (k : Planting). k.trees) full;
-      next = planted_so.1.2 ∙ ap (λ (k : Planting). k.next) full;
-      cap = planted_so.1.3;
-    })
+    sym (plant_append r.machine.out (told (quiet r.machine)) seed) ∙ ap (λ es. plant_all es seed) (sym (told_tells r.machine) ∙ e.3) ∙ planted 200 c s e.0 e.2 in (
+      e.0,
+      e.1,
+      record {
+        trees = planted_so.1.1 ∙ ap (λ (k : Planting). k.trees) full;
+        next = planted_so.1.2 ∙ ap (λ (k : Planting). k.next) full;
+        cap = planted_so.1.3;
+      },
+    )
 
 -- the bytes end before the page does
 pub ends_early : (c : ℕ) (s : List ℕ) (v : readers.Reader) (g : Planting) → length s ≤ page_limit → HasRead c s v g → Finishes None c v g → page_reading 200 c s ≡ Refused (length s) Unclosed
@@ -142,7 +144,7 @@ takes_more c i s old new (Some x) e cap inside t h = cc
 takes_more c i s old new None e cap inside t h =
     let b : ℕ = get_or s i 0 in
     let went : (quieted (readers.read_byte c (reader_of old) b) ≡ Some (reader_of new)) × (growth_of new ≡ plant_all (told_in (readers.read_byte c (reader_of old) b)) (growth_of old)) =
-        subst (λ (k : ℕ). (quieted (readers.read_byte k (reader_of old) b) ≡ Some (reader_of new)) × (growth_of new ≡ plant_all (told_in (readers.read_byte k (reader_of old) b)) (growth_of old))) cap t in
+    subst (λ (k : ℕ). (quieted (readers.read_byte k (reader_of old) b) ≡ Some (reader_of new)) × (growth_of new ≡ plant_all (told_in (readers.read_byte k (reader_of old) b)) (growth_of old))) cap t in
     subst (λ (p : List ℕ). HasRead c p (reader_of new) (growth_of new)) (sym (take_more s i 0 inside)) (has_read_more c (take i s) b (reader_of old) (reader_of new) (growth_of old) (growth_of new) h went.0 went.1)
 
 pub takes_no_more : (c i : ℕ) (s : List ℕ) (old new : Reader) (x : Option PageKind) (kind : PageKind) → x ≡ Some kind → old.scanner.arena.cap ≡ c → i < length s → length s ≤ page_limit → Takes x (get_or s i 0) old new → HasRead c (take i s) (reader_of old) (growth_of old) → IsFaultAnswer c s (record { at = i; kind = kind }) (kind_of kind)

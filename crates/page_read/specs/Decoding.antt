@@ -1,5 +1,5 @@
 -- The decoder of the code, as the grammar's.
-use Rattle.std.specs.Prelude.{◌≡◌, ℕ, zero, suc, ◌+◌, ◌-◌, ◌*◌, ◌<◌, ◌≤◌, ◌⊎◌, Option, Some, None}
+use Rattle.std.specs.Prelude.{ℕ, zero, suc, ◌+◌, ◌-◌, ◌*◌, ◌<◌, ◌≤◌, ◌⊎◌}
 use Rattle.page_grammar.specs.Decoder as decoder
 use Rattle.page_read.specs.declared.decoder.Pending.{Pending}
 use Rattle.page_read.specs.declared.decoder.Decoded.{Decoded}

@@ -1,5 +1,5 @@
 -- Arenas that grow at the end of a parent's children.
-use Rattle.std.specs.Prelude.{◌≡◌, ℕ, suc, ◌<◌, true, Option, None}
+use Rattle.std.specs.Prelude.{◌≡◌, ℕ, suc, true, None}
 use Rattle.dom_model.specs.declared.Content.{Content}
 use Rattle.dom_model.specs.Contents.{is_parent_at}
 use Rattle.dom_model.specs.Forest.{put_under}

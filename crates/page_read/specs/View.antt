@@ -1,7 +1,7 @@
 -- The scanner of the code, seen as the machine without what it has told, and as a tree that grows.
-use Rattle.std.specs.Prelude.{◌≡◌, ℕ, ◌+◌, ◌<◌, ◌≤◌, ◌^◌, Bool, true, false, List, [], ◌∷◌, length, drop, map, reverse, Option, Some, None}
+use Rattle.std.specs.Prelude.{◌≡◌, ℕ, ◌+◌, ◌<◌, Bool, true, false, List, [], ◌∷◌, length, drop, map, reverse, Option, Some, None}
 use Rattle.std.specs.Str.{chars}
-use Rattle.std.proofs.Math.Utf8.{scalars, encodes}
+use Rattle.std.proofs.Math.Utf8.{encodes}
 use Rattle.dom_model.specs.declared.attributes.Attribute.{Attribute}
 use Rattle.dom_model.specs.declared.Content.TheVariants.{Element}
 use Rattle.dom_model.specs.State.{State}
@@ -14,7 +14,7 @@ use Rattle.page_read.specs.declared.scanner.Dashes.{Dashes}
 use Rattle.page_read.specs.declared.scanner.Dashes.TheVariants.{NoDash, OneDash, TwoDashes}
 use Rattle.page_read.specs.declared.scanner.Lexical.{Lexical}
 use Rattle.page_read.specs.declared.scanner.Lexical.TheVariants.{Data, InText, TextReference, TagOpen, MarkupDeclaration, CommentStart, InComment, TagName, BeforeAttributeName, AttributeName, AfterAttributeName, BeforeAttributeValue, InAttributeValue, ValueReference, AfterAttributeValue, SelfClosing, EndTagName, AfterEndTagName}
-use Rattle.page_read.specs.References.{reference_of, IsSmall}
+use Rattle.page_read.specs.References.{reference_of}
 use Rattle.page_read.specs.Growth.{IsOpen}
 use Rattle.page_grammar.specs.Planting.{Planting, tail, plant_all, with_last}
 

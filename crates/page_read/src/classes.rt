@@ -65,7 +65,14 @@ fn is_control(c: char) -> bool
 pub fn is_attribute_name_char(c: char) -> bool
     ensures { result ≡ classes.is_attribute_name_char c }
 {
-    !(is_space(c) || is_control(c) || c == '"' || c == '\'' || c == '<' || c == '>' || c == '/' || c == '=')
+    !(is_space(c)
+        || is_control(c)
+        || c == '"'
+        || c == '\''
+        || c == '<'
+        || c == '>'
+        || c == '/'
+        || c == '=')
 }
 
 /// A character that opens an attribute's value, and closes it.

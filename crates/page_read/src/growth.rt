@@ -1,14 +1,14 @@
 //! Puts new nodes at the end of a parent's children.
 
-ghost use Rattle.std.specs.Prelude.{◌≡◌, ◌<◌, IfOk, OnOk, length, None};
+ghost use Rattle.std.specs.Prelude.{◌≡◌, ◌<◌, IfOk, OnOk, None};
 ghost use Rattle.dom_model.specs.declared.Content.TheVariants.{Element, Words, Remark};
 ghost use Rattle.dom_model.specs.Forest.{link};
-ghost use Rattle.dom_model.specs.State.{CanLink, IsLawful};
+ghost use Rattle.dom_model.specs.State.{CanLink};
 ghost use Rattle.node_arena.specs.Held.{Holds};
 ghost use Rattle.page_read.specs.Growth.{IsOpen, Appends, AppendsElement};
 
 use dom_model::{Attributes, Chars, Name};
-use node_arena::{Arena, MakeFault, NodeRef};
+use node_arena::{Arena, NodeRef};
 use std::alloc::AllocError;
 use std::marker::Brand;
 use std::sync::ledger::{Blank, Ledger};

@@ -1,7 +1,6 @@
 //! A reader of pages that takes one byte at a time.
 
-ghost use Rattle.std.specs.Prelude.{◌≡◌, ◌<◌, IfOk, IfSome, OnOk};
-ghost use Rattle.page_grammar.specs.Kind.{kind_of_byte};
+ghost use Rattle.std.specs.Prelude.{◌≡◌, ◌<◌, IfOk, OnOk};
 ghost use Rattle.page_grammar.specs.Reader as readers;
 ghost use Rattle.page_grammar.specs.Planting.{seed};
 ghost use Rattle.page_grammar.specs.Decoder.{decode, Part, Whole};

@@ -2,7 +2,7 @@
 
 ghost use Rattle.std.specs.Prelude.{◌≡◌, ◌≤◌, ◌<◌, ◌*◌, ◌+◌, length, true};
 ghost use Rattle.page_grammar.specs.Chars.{digit_of, is_hex};
-ghost use Rattle.page_grammar.specs.Machine.{ref_step, dec, hex, done, named};
+ghost use Rattle.page_grammar.specs.Machine.{ref_step, dec, hex, done};
 ghost use Rattle.page_read.specs.References.{name_of, char_of, reference_of, turn_of, IsSmall, IsSmallTurn};
 
 use crate::classes::{is_digit, is_hex, lower};
@@ -159,14 +159,22 @@ fn decimal(value: u32) -> Turn
     ensures value { turn_of result ≡ dec value }
     ensures small { IsSmallTurn result }
 {
-    if value <= 1114111 { Turn::More(Reference::Decimal(value)) } else { Turn::Stop }
+    if value <= 1114111 {
+        Turn::More(Reference::Decimal(value))
+    } else {
+        Turn::Stop
+    }
 }
 
 fn hexadecimal(value: u32) -> Turn
     ensures value { turn_of result ≡ hex value }
     ensures small { IsSmallTurn result }
 {
-    if value <= 1114111 { Turn::More(Reference::Hexadecimal(value)) } else { Turn::Stop }
+    if value <= 1114111 {
+        Turn::More(Reference::Hexadecimal(value))
+    } else {
+        Turn::Stop
+    }
 }
 
 #[tactic(auto, unfolding(page_grammar::specs::Chars::is_hex))]

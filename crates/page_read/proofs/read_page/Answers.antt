@@ -1,7 +1,7 @@
 use Rattle.std.proofs.Common.{ℕ, [], sym, subst, arith}
 use Rattle.page_grammar.specs.Reader as readers
-use Rattle.page_grammar.specs.Planting.{Planting, seed}
-use Rattle.page_read.specs.Reading.{reader_of, growth_of, IsHeld}
+use Rattle.page_grammar.specs.Planting.{Planting}
+use Rattle.page_read.specs.Reading.{growth_of, IsHeld}
 use Rattle.page_read.proofs.ReadLemmas.{HasRead, has_begun, takes_more, takes_no_more, ends_so, ends_not}
 use Rattle.page_read.proofs.read_page.Goals as goal
 

@@ -1,4 +1,4 @@
-use Rattle.std.proofs.Common.{◌≡◌, ◌≤◌, take, length}
+use Rattle.std.proofs.Common.{take}
 use Rattle.page_read.specs.Reading.{reader_of, growth_of, IsHeld}
 use Rattle.page_read.proofs.ReadLemmas.{HasRead}
 use Rattle.page_read.proofs.read_page.Given as goal

@@ -1,4 +1,4 @@
-use Rattle.std.proofs.Common.{◌≡◌, ap, ◌∙◌}
+use Rattle.std.proofs.Common.{ap, ◌∙◌}
 use Rattle.dom_model.specs.AttributeList.{set_in}
 use Rattle.dom_model.specs.AttributeMap.{attributes_of}
 use Rattle.dom_model.proofs.AttributeLemmas.{set_in-entries}

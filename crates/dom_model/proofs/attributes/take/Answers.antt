@@ -1,4 +1,4 @@
-use Rattle.std.proofs.Common.{◌≡◌, ap, ◌∙◌, is_some}
+use Rattle.std.proofs.Common.{ap, ◌∙◌, is_some}
 use Rattle.dom_model.proofs.AttributeLemmas.{value_of-entries, unset_in-entries}
 use Rattle.dom_model.specs.AttributeMap.{attributes_of}
 use Rattle.dom_model.proofs.attributes.take.Goals as goal

@@ -1,4 +1,4 @@
-use Rattle.std.proofs.Common.{◌≡◌, sym, ap, ◌∙◌, arith}
+use Rattle.std.proofs.Common.{sym, ap, ◌∙◌, arith}
 use Rattle.dom_model.specs.TreeOrder.{total_after}
 use Rattle.dom_model.proofs.Within.{depth_of-parent}
 use Rattle.dom_model.proofs.Walks.{total_after-next, total_after-last}

@@ -1,4 +1,4 @@
-use Rattle.std.proofs.Common.{◌≡◌, Some, sym, ap, ◌∙◌, arith}
+use Rattle.std.proofs.Common.{sym, ◌∙◌, arith}
 use Rattle.dom_model.proofs.Within.{within_up, depth_of-parent}
 use Rattle.node_arena.proofs.BeforeOk.{parent_named, first_is, second_is, neither_is}
 use Rattle.node_arena.proofs.Arena.before_apart.Goals as goal

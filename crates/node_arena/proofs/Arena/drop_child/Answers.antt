@@ -1,4 +1,4 @@
-use Rattle.std.proofs.Common.{◌≡◌, ap, sym, ◌∙◌}
+use Rattle.std.proofs.Common.{ap, ◌∙◌}
 use Rattle.dom_model.specs.State.{State}
 use Rattle.dom_model.specs.Forest.{parent_of, first_of}
 use Rattle.node_arena.proofs.DropTreeOk.{loose_parent, loose_first, drops_child, given}

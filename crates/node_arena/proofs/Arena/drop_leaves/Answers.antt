@@ -1,4 +1,4 @@
-use Rattle.std.proofs.Common.{◌≡◌, sym, ap, arith}
+use Rattle.std.proofs.Common.{sym, arith}
 use Rattle.node_arena.proofs.DropTreeOk.{dropping_start, dropping_down, falls_down, dropping_up, falls_up, top_is, dropping_end}
 use Rattle.node_arena.proofs.Arena.drop_leaves.Goals as goal
 

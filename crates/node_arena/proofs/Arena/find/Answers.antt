@@ -1,7 +1,6 @@
-use Rattle.std.proofs.Common.{◌≡◌, ℕ, ◌<◌, None, Some, length, get_or, zero, suc, refl, sym, ap, subst, ◌∙◌, arith}
+use Rattle.std.proofs.Common.{◌≡◌, ◌<◌, length, get_or, refl, sym, subst, ◌∙◌, arith}
 use Rattle.std.proofs.lemmas.Grind.{get_or_default_zero}
-use Rattle.dom_model.specs.Forest.{count_of}
-use Rattle.dom_model.specs.State.{State, HoldsAt}
+use Rattle.dom_model.specs.State.{HoldsAt}
 use Rattle.node_arena.proofs.FindOk.{indexed_here, none_of}
 use Rattle.node_arena.proofs.MakeOk.{lawful_state}
 use Rattle.node_arena.proofs.Arena.find.Goals as goal

@@ -1,4 +1,4 @@
-use Rattle.std.proofs.Common.{◌≡◌, Some, None, Option, IfSome, sym, ap, subst, ◌∙◌, arith, ℕ}
+use Rattle.std.proofs.Common.{◌≡◌, Some, None, Option, IfSome, sym, arith, ℕ}
 use Rattle.dom_model.specs.declared.Content.{Content}
 use Rattle.dom_model.specs.TreeOrder.{total_from, total_after}
 use Rattle.dom_model.proofs.Within.{depth_of_low}

@@ -1,5 +1,4 @@
-use Rattle.std.proofs.Common.{◌≡◌, ℕ, ◌<◌, Some, None, sym, arith}
-use Rattle.dom_model.specs.Forest.{total, prev_of}
+use Rattle.std.proofs.Common.{sym, arith}
 use Rattle.dom_model.proofs.Indexes.{index_of-prev, index_of-first, index_of_low}
 use Rattle.dom_model.proofs.Few.{some_nodes}
 use Rattle.node_arena.proofs.Arena.index.Goals as goal

@@ -1,4 +1,4 @@
-use Rattle.std.proofs.Common.{◌≡◌, false, true, sym, ap, ◌∙◌, arith}
+use Rattle.std.proofs.Common.{sym, ◌∙◌, arith}
 use Rattle.dom_model.proofs.Within.{depth_of-parent}
 use Rattle.node_arena.proofs.HostsOk.{refused, at_host, passed_on, at_root}
 use Rattle.node_arena.proofs.Arena.is_editable.Goals as goal

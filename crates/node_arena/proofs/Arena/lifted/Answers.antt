@@ -1,4 +1,4 @@
-use Rattle.std.proofs.Common.{◌≡◌, ◌+◌, ◌-◌, ◌<◌, Some, refl, sym, ap, ◌∙◌, arith}
+use Rattle.std.proofs.Common.{refl, sym, ◌∙◌, arith}
 use Rattle.dom_model.proofs.Within.{within_self, within_up, has_parent, depth_of-parent}
 use Rattle.node_arena.proofs.BeforeOk.{named_some}
 use Rattle.node_arena.proofs.Arena.lifted.Goals as goal

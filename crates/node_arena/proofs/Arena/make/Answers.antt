@@ -1,4 +1,4 @@
-use Rattle.std.proofs.Common.{◌≡◌, ◌≢◌, ℕ, ◌+◌, List, [], ◌∷◌, ◌++◌, get_or, Option, Some, None, ap, sym, subst, ◌∙◌, not, if◌then◌else◌}
+use Rattle.std.proofs.Common.{◌≡◌, ◌≢◌, ℕ, ◌+◌, [], ◌∷◌, ◌++◌, get_or, Some, None, ap, sym, subst, ◌∙◌, not, if◌then◌else◌}
 use Rattle.slab.specs.Slab.{Slab}
 use Rattle.node_arena.specs.declared.Node.{Node}
 use Rattle.node_arena.proofs.MakeOk.{MakesTo, make_state}

@@ -1,4 +1,4 @@
-use Rattle.std.proofs.Common.{◌≡◌, List, ℕ, get_or, [], ◌∷◌, ◌++◌, Some, None, ap, sym, subst, ◌∙◌, arith}
+use Rattle.std.proofs.Common.{◌≡◌, get_or, [], ◌∷◌, ◌++◌, Some, None, ap, sym, subst, ◌∙◌, arith}
 use Rattle.slab.specs.Slab.{Slab}
 use Rattle.node_arena.specs.declared.Node.{Node}
 use Rattle.node_arena.specs.Sound.{IsArena}

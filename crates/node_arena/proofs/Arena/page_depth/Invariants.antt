@@ -1,4 +1,4 @@
-use Rattle.std.proofs.Common.{◌≡◌, ℕ, ◌<◌, ◌≤◌, ◌+◌, cond, eqb}
+use Rattle.std.proofs.Common.{◌≡◌, ℕ, ◌<◌, ◌≤◌, cond, eqb}
 use Rattle.dom_model.specs.Forest.{count_of, tree_of, depth_of}
 use Rattle.dom_model.specs.TreeOrder.{total_from}
 use Rattle.node_arena.specs.Walk.{IsPlace}

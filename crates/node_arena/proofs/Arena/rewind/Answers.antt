@@ -1,4 +1,4 @@
-use Rattle.std.proofs.Common.{subst, sym, take}
+use Rattle.std.proofs.Common.{subst, sym}
 use Rattle.node_arena.specs.Sound.{IsArena}
 use Rattle.node_arena.proofs.RewindOk.{rewind_state}
 use Rattle.node_arena.proofs.Arena.rewind.Goals as goal

@@ -1,4 +1,4 @@
-use Rattle.std.proofs.Common.{◌≡◌, false, ap, sym, ◌∙◌}
+use Rattle.std.proofs.Common.{false, ap, sym, ◌∙◌}
 use Rattle.std.specs.Option.{option_map_or, option_and_then}
 use Rattle.dom_model.specs.Contents.{has_chars, chars_in, with_chars}
 use Rattle.node_arena.specs.declared.Node.{Node}

@@ -1,5 +1,4 @@
-use Rattle.std.proofs.Common.{◌≡◌, refl}
-use Rattle.slab.specs.Slab.{Slab}
+use Rattle.std.proofs.Common.{refl}
 use Rattle.dom_model.specs.Contents.{with_chars}
 use Rattle.node_arena.specs.Change.{with_content}
 use Rattle.node_arena.proofs.ChangeLemmas.{change_is}

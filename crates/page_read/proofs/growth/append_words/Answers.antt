@@ -1,4 +1,3 @@
-use Rattle.std.proofs.Common.{refl}
 use Rattle.dom_model.specs.declared.Content.TheVariants.{Words}
 use Rattle.page_read.proofs.GrowthLemmas.{can_append}
 use Rattle.page_read.proofs.growth.append_words.Goals as goal

@@ -1,7 +1,7 @@
-use Rattle.std.proofs.Common.{◌≡◌, ℕ, zero, suc, ◌≤◌, List, [], ◌∷◌, length, drop, refl, sym, arith}
+use Rattle.std.proofs.Common.{◌≡◌, ℕ, zero, suc, ◌≤◌, List, [], ◌∷◌, length, drop, refl, arith}
 use Rattle.page_grammar.specs.Chars.{entity}
-use Rattle.page_grammar.specs.Machine.{Stop, named, whole}
-use Rattle.page_read.specs.References.{name_of, char_of, left_of}
+use Rattle.page_grammar.specs.Machine.{Stop, whole}
+use Rattle.page_read.specs.References.{name_of, char_of}
 use Rattle.page_read.proofs.reference.after_named.Goals as goal
 
 -- a name of which something is left isn't whole

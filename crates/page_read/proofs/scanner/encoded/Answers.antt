@@ -1,4 +1,4 @@
-use Rattle.std.proofs.Common.{◌≡◌, ◌∙◌, sym, ap, arith, ◌++◌, List, ℕ}
+use Rattle.std.proofs.Common.{◌∙◌, sym, ap, arith, ◌++◌, List, ℕ}
 use Rattle.std.specs.Char.{encode_utf8}
 use Rattle.page_read.proofs.AttributeLemmas.{encode_more}
 use Rattle.page_read.proofs.scanner.encoded.Goals as goal

@@ -1,5 +1,5 @@
-use Rattle.std.proofs.Common.{◌≡◌, Some, None, sym, ap, ◌∙◌}
-use Rattle.dom_model.specs.AttributeMap.{attributes_of, attributes_in}
+use Rattle.std.proofs.Common.{sym, ap, ◌∙◌}
+use Rattle.dom_model.specs.AttributeMap.{attributes_in}
 use Rattle.dom_model.proofs.AttributeLemmas.{clone-entries}
 use Rattle.dom_model.proofs.attributes.Attributes.copy.Goals as goal
 use Rattle.dom_model.proofs.attributes.Attributes.copy.Goals.{in-None, in-Some+in_ok-clone-in-Some}

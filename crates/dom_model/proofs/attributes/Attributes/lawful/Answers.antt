@@ -1,4 +1,4 @@
-use Rattle.std.proofs.Common.{◌≡◌, Some, None, sym, ap, subst, ◌∙◌}
+use Rattle.std.proofs.Common.{◌≡◌, sym, ap, subst, ◌∙◌}
 use Rattle.dom_model.specs.AttributeList.{IsDistinctNames}
 use Rattle.dom_model.specs.AttributeMap.{attributes_of, attributes_in}
 use Rattle.dom_model.proofs.AttributeLemmas.{same_key, distinct-entries, distinct-nothing}

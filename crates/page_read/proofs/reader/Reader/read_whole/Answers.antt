@@ -1,4 +1,3 @@
-use Rattle.std.proofs.Common.{◌≡◌}
 use Rattle.page_grammar.specs.Machine.{step}
 use Rattle.page_read.specs.View.{machine_of}
 use Rattle.page_read.proofs.ReadLemmas.{went_goes, whole_read}

@@ -1,4 +1,4 @@
-use Rattle.std.proofs.Common.{◌≡◌, ap, arith, length-append, length, ◌∷◌, []}
+use Rattle.std.proofs.Common.{ap, arith, length-append, length, ◌∷◌, []}
 use Rattle.page_read.proofs.OpenLemmas.{each_pop}
 use Rattle.page_read.proofs.scanner.Scanner.close_element.Goals as goal
 

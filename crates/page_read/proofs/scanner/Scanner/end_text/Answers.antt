@@ -1,4 +1,3 @@
-use Rattle.std.proofs.Common.{arith}
 use Rattle.page_read.proofs.OpenLemmas.{each_moves}
 use Rattle.page_read.proofs.scanner.Scanner.end_text.Goals as goal
 

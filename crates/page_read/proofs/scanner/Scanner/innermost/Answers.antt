@@ -1,4 +1,4 @@
-use Rattle.std.proofs.Common.{◌≡◌, ◌∙◌, refl, sym, subst, ap, Some}
+use Rattle.std.proofs.Common.{sym}
 use Rattle.page_read.proofs.OpenLemmas.{last_open, document_open}
 use Rattle.page_read.proofs.scanner.Scanner.innermost.Goals as goal
 

@@ -1,6 +1,5 @@
-use Rattle.std.proofs.Common.{◌≡◌, ◌∙◌, sym, ap, subst, ℕ, List, Option}
-use Rattle.page_read.specs.View.{LeavesAt}
-use Rattle.page_read.proofs.OpenLemmas.{top_name, no_last}
+use Rattle.std.proofs.Common.{sym}
+use Rattle.page_read.proofs.OpenLemmas.{top_name}
 use Rattle.page_read.proofs.scanner.Scanner.name_at.Goals as goal
 
 pub returns-in-Some-clause-left : goal.returns-in-Some-clause-left
