@@ -1,1 +1,5 @@
+pub mod AllowedChildren
+pub mod BoxNames
+pub mod Commands
 pub mod ElementNames
+pub mod Queries

@@ -57,7 +57,7 @@ pub fn is_name_char(c: char) -> bool
 fn is_control(c: char) -> bool
     ensures { result ≡ classes.is_control c }
 {
-    c < ' ' || '\x7F' <= c && c < '\u{A0}'
+    c < ' ' || '\x7F' <= c && c < '\u{a0}'
 }
 
 /// A character of an attribute's name.

@@ -70,7 +70,7 @@ impl Entity {
             Entity::Greater => '>',
             Entity::Quote => '"',
             Entity::Apostrophe => '\'',
-            Entity::NoBreakSpace => '\u{A0}',
+            Entity::NoBreakSpace => '\u{a0}',
         }
     }
 }

@@ -1,0 +1,9 @@
+pub mod PieceLengths
+pub mod NameValues
+pub mod Names
+pub mod Passing
+pub mod Trimming
+pub mod ReadBack
+pub mod Entries
+pub mod Printing
+pub mod Decimals

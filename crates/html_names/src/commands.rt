@@ -1,0 +1,141 @@
+//! The editing commands and their names.
+ghost use Rattle.std.specs.Prelude.{◌≡◌};
+ghost use Rattle.std.specs.Array.Iter.{array_into_iter_items};
+ghost use Rattle.html_names.specs.Commands as commands;
+
+use std::array;
+
+/// A command of HTML Editing APIs.
+#[derive(Clone, Copy, Debug, PartialEq, Eq)]
+pub enum Command {
+    Bold,
+    Italic,
+    Underline,
+    Strikethrough,
+    Subscript,
+    Superscript,
+    CreateLink,
+    Unlink,
+    FontName,
+    FontSize,
+    ForeColor,
+    BackColor,
+    HiliteColor,
+    RemoveFormat,
+    FormatBlock,
+    JustifyLeft,
+    JustifyCenter,
+    JustifyRight,
+    JustifyFull,
+    Indent,
+    Outdent,
+    Delete,
+    InsertText,
+    InsertParagraph,
+    StyleWithCss,
+    UseCss,
+    DefaultParagraphSeparator,
+    InsertOrderedList,
+    InsertUnorderedList,
+    InsertLineBreak,
+    InsertHorizontalRule,
+    InsertImage,
+}
+
+impl Command {
+    #[tactic(auto, unfolding(crate::specs::Commands::all_commands))]
+    /// The commands, each once.
+    pub fn all() -> array::IntoIter<Command, 32>
+        ensures { array_into_iter_items result ≡ commands.all_commands }
+    {
+        [
+            Command::Bold,
+            Command::Italic,
+            Command::Underline,
+            Command::Strikethrough,
+            Command::Subscript,
+            Command::Superscript,
+            Command::CreateLink,
+            Command::Unlink,
+            Command::FontName,
+            Command::FontSize,
+            Command::ForeColor,
+            Command::BackColor,
+            Command::HiliteColor,
+            Command::RemoveFormat,
+            Command::FormatBlock,
+            Command::JustifyLeft,
+            Command::JustifyCenter,
+            Command::JustifyRight,
+            Command::JustifyFull,
+            Command::Indent,
+            Command::Outdent,
+            Command::Delete,
+            Command::InsertText,
+            Command::InsertParagraph,
+            Command::StyleWithCss,
+            Command::UseCss,
+            Command::DefaultParagraphSeparator,
+            Command::InsertOrderedList,
+            Command::InsertUnorderedList,
+            Command::InsertLineBreak,
+            Command::InsertHorizontalRule,
+            Command::InsertImage,
+        ]
+        .into_iter()
+    }
+
+    #[tactic(auto, unfolding(crate::specs::Commands::command_name))]
+    /// The name of the command, in lower case.
+    pub fn name(self) -> &'static str
+        ensures { result.now ≡ commands.command_name self }
+    {
+        match self {
+            Command::Bold => "bold",
+            Command::Italic => "italic",
+            Command::Underline => "underline",
+            Command::Strikethrough => "strikethrough",
+            Command::Subscript => "subscript",
+            Command::Superscript => "superscript",
+            Command::CreateLink => "createlink",
+            Command::Unlink => "unlink",
+            Command::FontName => "fontname",
+            Command::FontSize => "fontsize",
+            Command::ForeColor => "forecolor",
+            Command::BackColor => "backcolor",
+            Command::HiliteColor => "hilitecolor",
+            Command::RemoveFormat => "removeformat",
+            Command::FormatBlock => "formatblock",
+            Command::JustifyLeft => "justifyleft",
+            Command::JustifyCenter => "justifycenter",
+            Command::JustifyRight => "justifyright",
+            Command::JustifyFull => "justifyfull",
+            Command::Indent => "indent",
+            Command::Outdent => "outdent",
+            Command::Delete => "delete",
+            Command::InsertText => "inserttext",
+            Command::InsertParagraph => "insertparagraph",
+            Command::StyleWithCss => "stylewithcss",
+            Command::UseCss => "usecss",
+            Command::DefaultParagraphSeparator => "defaultparagraphseparator",
+            Command::InsertOrderedList => "insertorderedlist",
+            Command::InsertUnorderedList => "insertunorderedlist",
+            Command::InsertLineBreak => "insertlinebreak",
+            Command::InsertHorizontalRule => "inserthorizontalrule",
+            Command::InsertImage => "insertimage",
+        }
+    }
+
+    #[tactic(auto, unfolding(crate::specs::Commands::command_named))]
+    /// The command that a text names, without regard to ASCII case; `None` where it names none.
+    pub fn named(text: &str) -> Option<Command>
+        ensures value { result ≡ commands.command_named text.now }
+    {
+        for command in Command::all() {
+            if command.name().eq_ignore_ascii_case(text) {
+                return Some(command);
+            }
+        }
+        None
+    }
+}

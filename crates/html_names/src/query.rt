@@ -1,0 +1,73 @@
+//! The questions that can be asked of an editing command.
+
+ghost use Rattle.std.specs.Prelude.{◌≡◌};
+ghost use Rattle.std.specs.List.{find};
+ghost use Rattle.std.specs.Str.{bytes_eq};
+ghost use Rattle.html_names.specs.Queries.{query_word, query_kind_of};
+
+use std::marker::Copy;
+
+/// What is asked of an editing command (execCommand, "Methods to query and execute commands").
+#[derive(Clone, Copy, PartialEq, Eq, Debug)]
+pub enum QueryKind {
+    Enabled,
+    Indeterm,
+    State,
+    Supported,
+    Value,
+}
+
+static KINDS: [QueryKind; 5] = [
+    QueryKind::Enabled,
+    QueryKind::Indeterm,
+    QueryKind::State,
+    QueryKind::Supported,
+    QueryKind::Value,
+];
+
+impl QueryKind {
+    /// The word that names the question.
+    pub fn word(self) -> &'static [u8]
+        ensures { result.now ≡ query_word self }
+    {
+        match self {
+            QueryKind::Enabled => b"enabled",
+            QueryKind::Indeterm => b"indeterm",
+            QueryKind::State => b"state",
+            QueryKind::Supported => b"supported",
+            QueryKind::Value => b"value",
+        }
+    }
+
+    /// The question that a word names, in lower case: `enabled`, `indeterm`, `state`, `supported` or `value`.
+    pub fn from_word(word: &[u8]) -> Option<QueryKind>
+        ensures { result ≡ query_kind_of word.now }
+    {
+        find_kind(&KINDS, word)
+    }
+}
+
+fn find_kind(table: &[QueryKind], word: &[u8]) -> Option<QueryKind>
+    ensures { result ≡ find (λ kind. bytes_eq (query_word kind) word.now) table.now }
+{
+    for kind in table {
+        if kind.word() == word {
+            return Some(*kind);
+        }
+    }
+    None
+}
+
+#[cfg(test)]
+mod tests {
+    use super::*;
+    use std::test::Fail;
+
+    #[test]
+    fn kinds_by_their_words(rt: HostRuntime) -> Result<(), Fail> {
+        assert_eq!(rt; QueryKind::from_word(b"state"), Some(QueryKind::State));
+        assert_eq!(rt; QueryKind::from_word(b"value"), Some(QueryKind::Value));
+        assert_eq!(rt; QueryKind::from_word(b"State"), None);
+        Ok(())
+    }
+}

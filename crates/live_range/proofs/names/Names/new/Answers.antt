@@ -1,0 +1,8 @@
+use Rattle.std.proofs.Common.{map}
+use Rattle.std.specs.List.{IsDistinct}
+use Rattle.std.specs.Str.{bytes_eq}
+use Rattle.live_range.proofs.names.Names.new.Goals as goal
+
+pub invariant_of-result : goal.invariant_of-result
+unfolding IsDistinct
+invariant_of-result c = rw c.new.ensures.empty tt

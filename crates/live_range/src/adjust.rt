@@ -1,0 +1,270 @@
+//! What an edit does to a point, and to all points at the places.
+ghost use Rattle.std.specs.Prelude.{◌≡◌, ◌^◌, ◌<◌, ◌≤◌, map, IfSome};
+ghost use Rattle.std.specs.List.{All};
+ghost use Rattle.std.specs.Option.{option_map};
+ghost use Rattle.live_range.specs.Edit.{Inserted, Removed, Moved, Replaced, Split, Grown, adjusted, adjusted_pair, after_insert, after_removal, after_replacement, after_loss, PointFits, PairFits};
+ghost use Rattle.live_range.specs.Names.{at_place, marks_of, PlacesFit};
+ghost use Rattle.live_range.specs.Adjustments.{edit_of};
+
+use crate::places::{MarkPlace, Pair, Places, Point};
+
+// An edit of the tree, as far as points are concerned.
+#[derive(Drop)]
+pub(crate) enum Adjustment<'a> {
+    Inserted {
+        parent: u32,
+        index: u32,
+    },
+    Removed {
+        gone: &'a [u32],
+        parent: u32,
+        index: u32,
+    },
+    Moved {
+        from: Point,
+        to: Point,
+    },
+    Replaced {
+        node: u32,
+        at: u32,
+        taken: u32,
+        put: u32,
+    },
+    Split {
+        node: u32,
+        at: u32,
+        tail: u32,
+        parent: u32,
+        index: u32,
+    },
+    Grown {
+        at: Point,
+    },
+}
+
+fn offset_after_insert(index: u32, offset: u32) -> u32
+    requires { after_insert index offset < 2 ^ 32 }
+    ensures { result ≡ after_insert index offset }
+{
+    if index < offset { offset + 1 } else { offset }
+}
+
+fn offset_after_removal(index: u32, offset: u32) -> u32
+    ensures { result ≡ after_removal index offset }
+{
+    if index < offset { offset - 1 } else { offset }
+}
+
+fn offset_after_replacement(at: u32, taken: u32, put: u32, offset: u32) -> u32
+    requires { after_replacement at taken put offset < 2 ^ 32 }
+    ensures { result ≡ after_replacement at taken put offset }
+{
+    if offset <= at {
+        offset
+    } else if offset - at <= taken {
+        at
+    } else {
+        offset - taken + put
+    }
+}
+
+// The point of a node that lost the child at `from` to another node, where it stands at `to`.
+fn point_after_loss(from: Point, to: Point, point: Point) -> Point
+    requires { (after_loss from to point).offset < 2 ^ 32 }
+    ensures { result ≡ after_loss from to point }
+{
+    if point.offset == from.offset {
+        to
+    } else if point.offset > from.offset && point.offset - from.offset == 1 {
+        Point {
+            label: to.label,
+            offset: to.offset + 1,
+        }
+    } else {
+        Point {
+            label: point.label,
+            offset: offset_after_removal(from.offset, point.offset),
+        }
+    }
+}
+
+// A point of the node that lost a child or of the node that got it, which may be the same.
+fn point_after_move(from: Point, to: Point, point: Point) -> Point
+    requires { (adjusted (Moved from to) point).offset < 2 ^ 32 }
+    ensures { result ≡ adjusted (Moved from to) point }
+{
+    if from.label == to.label && point.label == from.label {
+        let without = offset_after_removal(from.offset, point.offset);
+        Point {
+            label: point.label,
+            offset: offset_after_insert(to.offset, without),
+        }
+    } else if point.label == from.label {
+        point_after_loss(from, to, point)
+    } else if point.label == to.label && from.label != to.label {
+        Point {
+            label: point.label,
+            offset: offset_after_insert(to.offset, point.offset),
+        }
+    } else {
+        point
+    }
+}
+
+fn point_after_removal(gone: &[u32], parent: u32, index: u32, point: Point) -> Point
+    ensures { result ≡ adjusted (Removed gone.now parent index) point }
+{
+    if gone.contains(&point.label) {
+        Point {
+            label: parent,
+            offset: index,
+        }
+    } else if point.label == parent {
+        Point {
+            label: point.label,
+            offset: offset_after_removal(index, point.offset),
+        }
+    } else {
+        point
+    }
+}
+
+fn point_after_split(node: u32, at: u32, tail: u32, parent: u32, index: u32, point: Point) -> Point
+    requires { (adjusted (Split node at tail parent index) point).offset < 2 ^ 32 }
+    ensures { result ≡ adjusted (Split node at tail parent index) point }
+{
+    if point.label == node {
+        if at < point.offset {
+            Point {
+                label: tail,
+                offset: point.offset - at,
+            }
+        } else {
+            point
+        }
+    } else if point.label == parent {
+        Point {
+            label: point.label,
+            offset: offset_after_insert(index, point.offset),
+        }
+    } else {
+        point
+    }
+}
+
+fn point_after_insert(parent: u32, index: u32, point: Point) -> Point
+    requires { (adjusted (Inserted parent index) point).offset < 2 ^ 32 }
+    ensures { result ≡ adjusted (Inserted parent index) point }
+{
+    if point.label == parent {
+        Point {
+            label: point.label,
+            offset: offset_after_insert(index, point.offset),
+        }
+    } else {
+        point
+    }
+}
+
+fn point_after_replacement(node: u32, at: u32, taken: u32, put: u32, point: Point) -> Point
+    requires { (adjusted (Replaced node at taken put) point).offset < 2 ^ 32 }
+    ensures { result ≡ adjusted (Replaced node at taken put) point }
+{
+    if point.label == node {
+        Point {
+            label: point.label,
+            offset: offset_after_replacement(at, taken, put, point.offset),
+        }
+    } else {
+        point
+    }
+}
+
+fn point_after_growth(at: Point, point: Point) -> Point
+    requires { (adjusted (Grown at) point).offset < 2 ^ 32 }
+    ensures { result ≡ adjusted (Grown at) point }
+{
+    if point.label == at.label && point.offset == at.offset {
+        Point {
+            label: point.label,
+            offset: point.offset + 1,
+        }
+    } else {
+        point
+    }
+}
+
+impl Adjustment<'_> {
+    fn point(&self, point: Point) -> Point
+        requires { PointFits (edit_of self.now) point }
+        ensures { result ≡ adjusted (edit_of self.now) point }
+    {
+        match self {
+            Adjustment::Inserted { parent, index } => point_after_insert(*parent, *index, point),
+            Adjustment::Removed {
+                gone,
+                parent,
+                index,
+            } => point_after_removal(gone, *parent, *index, point),
+            Adjustment::Moved { from, to } => point_after_move(*from, *to, point),
+            Adjustment::Replaced {
+                node,
+                at,
+                taken,
+                put,
+            } => point_after_replacement(*node, *at, *taken, *put, point),
+            Adjustment::Split {
+                node,
+                at,
+                tail,
+                parent,
+                index,
+            } => point_after_split(*node, *at, *tail, *parent, *index, point),
+            Adjustment::Grown { at } => point_after_growth(*at, point),
+        }
+    }
+
+    fn pair(&self, pair: Pair) -> Pair
+        requires { PairFits (edit_of self.now) pair }
+        ensures { result ≡ adjusted_pair (edit_of self.now) pair }
+    {
+        Pair {
+            anchor: self.point(pair.anchor),
+            focus: self.point(pair.focus),
+        }
+    }
+
+    fn option(&self, pair: Option<Pair>) -> Option<Pair>
+        requires { IfSome pair (PairFits (edit_of self.now)) }
+        ensures { result ≡ option_map (adjusted_pair (edit_of self.now)) pair }
+    {
+        match pair {
+            Some(pair) => Some(self.pair(pair)),
+            None => None,
+        }
+    }
+
+    fn marks(&self, marks: &mut [MarkPlace])
+        requires { All (λ m. PairFits (edit_of self.now) m.pair) marks.old }
+        ensures { marks.new ≡ map (at_place (adjusted_pair (edit_of self.now))) marks.old }
+    {
+        for i in 0..marks.len() {
+            marks[i].pair = self.pair(marks[i].pair);
+        }
+    }
+
+    // Adjusts all points at the places.
+    pub(crate) fn places(&self, places: &mut Places)
+        requires few { places.old.count ≤ 16 }
+        requires fits { PlacesFit (edit_of self.now) places.old }
+        ensures selection { places.new.selection ≡ option_map (adjusted_pair (edit_of self.now)) places.old.selection }
+        ensures scratch { places.new.scratch ≡ option_map (adjusted_pair (edit_of self.now)) places.old.scratch }
+        ensures marks { marks_of places.new ≡ map (at_place (adjusted_pair (edit_of self.now))) (marks_of places.old) }
+        ensures count { places.new.count ≡ places.old.count }
+    {
+        places.selection = self.option(places.selection);
+        places.scratch = self.option(places.scratch);
+        let count = places.count as usize;
+        self.marks(&mut places.marks[..count]);
+    }
+}

@@ -1,0 +1,299 @@
+ghost use Rattle.std.specs.Prelude.{◌≡◌, ◌<◌};
+
+use crate::{MarkFault, Pair, Point, Points};
+use std::alloc::{AllocError, Global};
+use std::process::Abort;
+use std::test::Fail;
+
+fn point(label: u32, offset: u32) -> Point
+    ensures { result.offset ≡ offset }
+{
+    Point { label, offset }
+}
+
+fn small(label: u32, offset: u8) -> Point
+    ensures { result.offset < 256 }
+{
+    Point {
+        label,
+        offset: offset as u32,
+    }
+}
+
+fn pair(label: u32, anchor: u32, focus: u32) -> Pair {
+    Pair {
+        anchor: point(label, anchor),
+        focus: point(label, focus),
+    }
+}
+
+// What becomes of a point by each edit. Helpers whose contracts say nothing keep the proof of the tests short.
+
+fn caret(point: Point) -> Option<Pair> {
+    Some(Pair {
+        anchor: point,
+        focus: point,
+    })
+}
+
+fn inserted(alloc: Global, at: Point, parent: u32, index: u32) -> Result<Option<Pair>, AllocError>
+    requires { at.offset < 1000 }
+{
+    let mut points = Points::new(alloc)?;
+    points.set_selection(Some(Pair {
+        anchor: at,
+        focus: at,
+    }));
+    points.inserted(parent, index);
+    Ok(points.selection())
+}
+
+fn removed(
+    alloc: Global,
+    at: Point,
+    gone: &[u32],
+    parent: u32,
+    index: u32,
+) -> Result<Option<Pair>, AllocError> {
+    let mut points = Points::new(alloc)?;
+    points.set_selection(caret(at));
+    points.removed(gone, parent, index);
+    Ok(points.selection())
+}
+
+fn moved(alloc: Global, at: Point, from: Point, to: Point) -> Result<Option<Pair>, AllocError>
+    requires at { at.offset < 1000 }
+    requires to { to.offset < 1000 }
+{
+    let mut points = Points::new(alloc)?;
+    points.set_selection(Some(Pair {
+        anchor: at,
+        focus: at,
+    }));
+    points.moved(from, to);
+    Ok(points.selection())
+}
+
+fn replaced(
+    alloc: Global,
+    offset: u32,
+    at: u32,
+    taken: u32,
+    put: u32,
+) -> Result<Option<Pair>, AllocError>
+    requires offset { offset < 1000 }
+    requires put { put < 1000 }
+{
+    let mut points = Points::new(alloc)?;
+    points.set_selection(Some(Pair {
+        anchor: Point { label: 7, offset },
+        focus: Point { label: 7, offset },
+    }));
+    points.replaced(7, at, taken, put);
+    Ok(points.selection())
+}
+
+// The text 7, the child at 1 of 5, is split at 2, and its tail is 9.
+fn split(alloc: Global, at: Point) -> Result<Option<Pair>, AllocError>
+    requires { at.offset < 1000 }
+{
+    let mut points = Points::new(alloc)?;
+    points.set_selection(Some(Pair {
+        anchor: at,
+        focus: at,
+    }));
+    points.split(7, 2, 9, 5, 1);
+    Ok(points.selection())
+}
+
+fn grown(alloc: Global, point: Point, at: Point) -> Result<Option<Pair>, AllocError>
+    requires { point.offset < 1000 }
+{
+    let mut points = Points::new(alloc)?;
+    points.set_selection(Some(Pair {
+        anchor: point,
+        focus: point,
+    }));
+    points.grown(at);
+    Ok(points.selection())
+}
+
+fn set_mark(points: &mut Points, name: &[u8], pair: Pair) -> Result<(), MarkFault> {
+    points.set_mark(name, pair)
+}
+
+fn unset_mark(points: &mut Points, name: &[u8]) -> bool {
+    points.unset_mark(name)
+}
+
+fn remove(points: &mut Points, gone: &[u32], parent: u32, index: u32) {
+    points.removed(gone, parent, index);
+}
+
+// A point, and what it becomes: label and offset of each.
+type Row = (u32, u8, u32, u32);
+
+#[test]
+fn insert_moves_points_past_it(rt: HostRuntime) -> Result<(), Fail> {
+    let rows: [Row; 4] = [(7, 1, 7, 1), (7, 2, 7, 2), (7, 3, 7, 4), (8, 3, 8, 3)];
+    for &(label, offset, new_label, new_offset) in &rows {
+        let moved = inserted(rt.alloc(), small(label, offset), 7, 2)?;
+        assert_eq!(rt; moved, caret(point(new_label, new_offset)));
+    }
+    Ok(())
+}
+
+#[test]
+fn removal_collects_the_points_of_the_tree(rt: HostRuntime) -> Result<(), Fail> {
+    let rows: [Row; 4] = [(9, 5, 7, 2), (7, 2, 7, 2), (7, 3, 7, 2), (6, 3, 6, 3)];
+    for &(label, offset, new_label, new_offset) in &rows {
+        let moved = removed(rt.alloc(), small(label, offset), &[8, 9], 7, 2)?;
+        assert_eq!(rt; moved, caret(point(new_label, new_offset)));
+    }
+    Ok(())
+}
+
+fn moves(
+    rt: &impl Abort,
+    alloc: Global,
+    rows: &[Row],
+    from: (u32, u8),
+    to: (u32, u8),
+) -> Result<(), Fail> {
+    for &(label, offset, new_label, new_offset) in rows {
+        let moved = moved(
+            alloc,
+            small(label, offset),
+            small(from.0, from.1),
+            small(to.0, to.1),
+        )?;
+        assert_eq!(rt; moved, caret(point(new_label, new_offset)));
+    }
+    Ok(())
+}
+
+#[test]
+fn move_takes_both_sides_along(rt: HostRuntime) -> Result<(), Fail> {
+    let rows: [Row; 7] = [
+        (7, 1, 7, 1),
+        (7, 2, 9, 4),
+        (7, 3, 9, 5),
+        (7, 4, 7, 3),
+        (9, 4, 9, 4),
+        (9, 5, 9, 6),
+        (8, 3, 8, 3),
+    ];
+    moves(&rt, rt.alloc(), &rows, (7, 2), (9, 4))
+}
+
+#[test]
+fn move_forward_within_one_parent(rt: HostRuntime) -> Result<(), Fail> {
+    moves(
+        &rt,
+        rt.alloc(),
+        &[(7, 1, 7, 1), (7, 2, 7, 1), (7, 4, 7, 3), (7, 5, 7, 5)],
+        (7, 1),
+        (7, 3),
+    )
+}
+
+#[test]
+fn move_backward_within_one_parent(rt: HostRuntime) -> Result<(), Fail> {
+    moves(
+        &rt,
+        rt.alloc(),
+        &[(7, 1, 7, 1), (7, 2, 7, 3), (7, 4, 7, 4)],
+        (7, 3),
+        (7, 1),
+    )
+}
+
+#[test]
+fn replacement_collects_the_points_in_it(rt: HostRuntime) -> Result<(), Fail> {
+    let rows: [Row; 4] = [(7, 2, 7, 2), (7, 3, 7, 2), (7, 5, 7, 2), (7, 6, 7, 4)];
+    for &(_, offset, new_label, new_offset) in &rows {
+        let moved = replaced(rt.alloc(), offset as u32, 2, 3, 1)?;
+        assert_eq!(rt; moved, caret(point(new_label, new_offset)));
+    }
+    Ok(())
+}
+
+#[test]
+fn split_sends_points_past_it(rt: HostRuntime) -> Result<(), Fail> {
+    let rows: [Row; 4] = [(7, 2, 7, 2), (7, 3, 9, 1), (5, 1, 5, 1), (5, 2, 5, 3)];
+    for &(label, offset, new_label, new_offset) in &rows {
+        let moved = split(rt.alloc(), small(label, offset))?;
+        assert_eq!(rt; moved, caret(point(new_label, new_offset)));
+    }
+    Ok(())
+}
+
+#[test]
+fn growth_moves_points_at_the_place(rt: HostRuntime) -> Result<(), Fail> {
+    let rows: [Row; 3] = [(7, 2, 7, 3), (7, 3, 7, 3), (8, 2, 8, 2)];
+    for &(label, offset, new_label, new_offset) in &rows {
+        let moved = grown(rt.alloc(), small(label, offset), point(7, 2))?;
+        assert_eq!(rt; moved, caret(point(new_label, new_offset)));
+    }
+    Ok(())
+}
+
+// The labels at which a point stands, at most three of them.
+fn labels(points: &Points) -> [Option<u32>; 3] {
+    [points.standing(0), points.standing(1), points.standing(2)]
+}
+
+#[test]
+fn marks_keep_their_order(rt: HostRuntime) -> Result<(), Fail> {
+    let mut points = Points::new(rt.alloc())?;
+    set_mark(&mut points, b"a", pair(7, 1, 1))?;
+    set_mark(&mut points, b"b", pair(8, 1, 2))?;
+    set_mark(&mut points, b"a", pair(9, 2, 2))?;
+    assert_eq!(rt; points.mark_at(0), Some((b"a".as_slice(), pair(9, 2, 2))));
+    assert_eq!(rt; labels(&points), [Some(9), Some(8), None]);
+    Ok(())
+}
+
+#[test]
+fn a_mark_goes(rt: HostRuntime) -> Result<(), Fail> {
+    let mut points = Points::new(rt.alloc())?;
+    set_mark(&mut points, b"a", pair(7, 1, 1))?;
+    set_mark(&mut points, b"b", pair(8, 1, 2))?;
+    assert!(rt; unset_mark(&mut points, b"a"));
+    remove(&mut points, &[8], 3, 4);
+    assert_eq!(rt; points.mark_at(0), Some((b"b".as_slice(), pair(3, 4, 4))));
+    assert_eq!(rt; labels(&points), [Some(3), None, None]);
+    Ok(())
+}
+
+#[test]
+fn the_seventeenth_mark_is_refused(rt: HostRuntime) -> Result<(), Fail> {
+    let mut points = Points::new(rt.alloc())?;
+    for i in 0..16u8 {
+        set_mark(&mut points, &[i], pair(7, 1, 1))?;
+    }
+    assert_eq!(rt;
+        set_mark(&mut points, b"more", pair(7, 1, 1)),
+        Err(MarkFault::TooManyMarks)
+    );
+    set_mark(&mut points, &[3], pair(9, 1, 1))?;
+    Ok(())
+}
+
+// Keeps the places, changes the points, and brings the places back.
+fn bring_back(points: &mut Points) {
+    let before = points.places();
+    points.set_selection(None);
+    points.set_scratch(pair(9, 0, 0));
+    points.set_places(&before);
+}
+
+#[test]
+fn places_come_back(rt: HostRuntime) -> Result<(), Fail> {
+    let mut points = Points::new(rt.alloc())?;
+    set_mark(&mut points, b"a", pair(7, 1, 1))?;
+    bring_back(&mut points);
+    assert_eq!(rt; points.scratch(), None);
+    assert_eq!(rt; labels(&points), [Some(7), None, None]);
+    Ok(())
+}

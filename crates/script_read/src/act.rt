@@ -1,0 +1,139 @@
+//! Acts, and why a line is none.
+
+ghost use Rattle.std.specs.Prelude.{◌≡◌, IfOk};
+
+use dom_model::{Chars, Name};
+use html_names::QueryKind;
+use std::alloc::{AllocError, AllocFailed, Global};
+use std::marker::{Copy, Model};
+
+/// The way from the document to a node: the index of a child in each node on the way. The document's own is empty.
+#[derive(Drop)]
+pub struct Path {
+    items: Vec<u32>,
+}
+
+impl Model for Path {
+    ghost use Rattle.std.specs.Prelude.{ℕ, List};
+
+    ghost Value = { List ℕ };
+
+    ghost view = { λ p. p.items.items };
+}
+
+impl Path {
+    /// A copy of the indexes of a slice.
+    pub fn from_slice(alloc: Global, items: &[u32]) -> Result<Path, AllocError>
+        ensures { IfOk result (λ path. path ≡ items.now) }
+    {
+        Ok(Path {
+            items: items.to_vec(alloc)?,
+        })
+    }
+
+    // The indexes of a `Vec`, which is taken over and not copied.
+    pub(crate) fn from_vec(items: Vec<u32>) -> Path
+        ensures { result ≡ items.items }
+    {
+        Path { items }
+    }
+
+    /// The indexes as a slice.
+    pub fn as_slice(&self) -> &[u32]
+        ensures { result.now ≡ self.now }
+    {
+        self.items.as_slice()
+    }
+}
+
+/// A point: a node by its path, and an offset in it.
+#[derive(Drop)]
+pub struct Place {
+    pub path: Path,
+    pub offset: u32,
+}
+
+/// What a line asks for.
+#[derive(Drop)]
+pub enum Act {
+    /// `select POINT POINT`
+    Select {
+        anchor: Place,
+        focus: Place,
+    },
+    /// `unselect`
+    Unselect,
+    /// `mark NAME POINT POINT`
+    Mark {
+        name: Name,
+        anchor: Place,
+        focus: Place,
+    },
+    /// `unmark NAME`
+    Unmark {
+        name: Name,
+    },
+    /// `exec NAME` or `exec NAME VALUE`. The value is empty where the line has none.
+    Exec {
+        name: Name,
+        value: Chars,
+    },
+    /// `query KIND NAME`
+    Query {
+        kind: QueryKind,
+        name: Name,
+    },
+    /// `undo N`, N from 1
+    Undo {
+        count: u32,
+    },
+    /// `redo N`, N from 1
+    Redo {
+        count: u32,
+    },
+    /// `probe PATH`
+    Probe {
+        path: Path,
+    },
+    /// `html`
+    Html,
+    /// `tree`
+    Tree,
+    /// `points`
+    Points,
+    /// `stat`
+    Stat,
+}
+
+/// Why a line is no act. The number is the one that is printed.
+#[derive(Clone, Copy, PartialEq, Eq, Debug)]
+pub enum LineFault {
+    /// Its first word is an act's, and the line is outside the grammar of that act, or outside UTF-8.
+    Syntax = 1,
+    /// Its first word, up to the first space, is no act's.
+    UnknownAct = 2,
+    /// It has more than 8,192 bytes.
+    LongLine = 3,
+    /// There was no memory for the act.
+    Memory = 4,
+}
+
+impl From<AllocError> for LineFault {
+    ghost use Rattle.script_read.specs.declared.act.LineFault.TheVariants.{Memory};
+
+    ghost from_gives = { λ _ fault. fault ≡ Memory };
+
+    fn from(_fault: AllocError) -> LineFault {
+        LineFault::Memory
+    }
+}
+
+impl<T: Drop> From<AllocFailed<T>> for LineFault {
+    ghost use Rattle.script_read.specs.declared.act.LineFault.TheVariants.{Memory};
+
+    ghost from_gives = { λ _ fault. fault ≡ Memory };
+
+    fn from(_fault: AllocFailed<T>) -> LineFault {
+        LineFault::Memory
+    }
+}

@@ -1,0 +1,15 @@
+//! Lines of a session, read into acts. [`read_line`] is the whole grammar.
+#![tactic(auto)]
+
+mod act;
+mod laws;
+mod line;
+mod parts;
+mod place;
+mod value;
+mod verb;
+
+pub use act::{Act, LineFault, Path, Place};
+pub use laws::printed_texts_are_read_back;
+pub use line::read_line;
+pub use verb::Verb;
