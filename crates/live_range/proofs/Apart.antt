@@ -1,7 +1,6 @@
 -- Names that differ are told apart by their positions in a list.
-use Rattle.std.proofs.Common.{◌≡◌, ℕ, suc, zero, ◌+◌, ◌<◌, ◌≤◌, Bool, true, false, not, cond, ◌||◌, List, [], ◌∷◌, ◌++◌, length, get_or, take, map, position, Option, Some, None, refl, sym, ap, ◌∙◌, subst, arith, nat_eq, nat_lt, true≢false, IsTrue}
-use Rattle.std.specs.List.{list_any, position_or_len, IsDistinct, AllByRecursion, All, AllPairs}
-use Rattle.std.specs.Bool.{Decides}
+use Rattle.std.proofs.Common.{◌≡◌, ℕ, suc, zero, ◌+◌, ◌<◌, Bool, true, false, not, cond, ◌||◌, List, [], ◌∷◌, ◌++◌, length, get_or, map, position, Some, None, refl, sym, ap, ◌∙◌, arith, nat_eq, nat_lt, true≢false}
+use Rattle.std.specs.List.{list_any, position_or_len, IsDistinct, AllByRecursion, All}
 use Rattle.std.specs.Map.{keys_of}
 use Rattle.std.specs.Str.{bytes_eq}
 use Rattle.std.proofs.lemmas.List.{length-append}
@@ -9,7 +8,6 @@ use Rattle.std.proofs.lemmas.Bool.Decides.{same_from_decides, Decides-like, Deci
 use Rattle.std.proofs.lemmas.Map.Made.{AllPairs-from_IsDistinct}
 use Rattle.std.proofs.lemmas.List.Quantifiers.{position-Some}
 use Rattle.std.proofs.lemmas.Slice.Eq.{bytes_eq-Decides}
-use Rattle.live_range.specs.declared.places.Pair.{Pair}
 use Rattle.live_range.specs.declared.places.MarkPlace.{MarkPlace}
 use Rattle.live_range.specs.Names.{named}
 

@@ -1,12 +1,12 @@
 -- Marks by the positions of their names, and the same marks by their names.
-use Rattle.std.proofs.Common.{◌≡◌, ◌≢◌, ℕ, suc, zero, ◌+◌, ◌-◌, ◌<◌, ◌≤◌, Bool, true, false, not, cond, ◌||◌, ◌==◌, if◌then◌else◌, List, [], ◌∷◌, ◌++◌, length, get_or, set, take, drop, map, position, slice_get, Option, Some, None, refl, sym, ap, ◌∙◌, subst, arith, nat_eq, IsTrue, true≢false}
-use Rattle.std.specs.List.{list_any, position_or_len, All, IsDistinct, remove}
+use Rattle.std.proofs.Common.{◌≡◌, ◌≢◌, ℕ, suc, zero, ◌+◌, ◌-◌, ◌<◌, ◌≤◌, Bool, true, false, ◌==◌, if◌then◌else◌, List, [], ◌∷◌, ◌++◌, length, get_or, set, take, map, position, Some, None, refl, sym, ap, ◌∙◌, subst, arith, nat_eq, true≢false}
+use Rattle.std.specs.List.{list_any, All, IsDistinct, remove}
 use Rattle.std.specs.Str.{bytes_eq}
 use Rattle.indexmap.specs.IndexSet.{insert_key}
 use Rattle.live_range.specs.declared.places.Pair.{Pair}
 use Rattle.live_range.specs.declared.places.MarkPlace.{MarkPlace}
 use Rattle.live_range.specs.declared.places.Places.{Places}
-use Rattle.live_range.specs.LivePoints.{LivePoints, with_value_at}
+use Rattle.live_range.specs.LivePoints.{with_value_at}
 use Rattle.live_range.specs.Names.{named, marks_of, shown, with_pair, IsOver}
 use Rattle.std.proofs.lemmas.Bool.Decides.{Decides-eqb, nat_tests}
 use Rattle.std.proofs.lemmas.List.{length-map, length-append, map-append, get_or-map, get_or_append_left}

@@ -1,5 +1,5 @@
 -- What the places and the names show, as edits and writes change the places.
-use Rattle.std.proofs.Common.{◌≡◌, ℕ, suc, zero, slice_get, ◌+◌, ◌<◌, ◌≤◌, ◌^◌, ◌-◌, Bool, true, false, ◌||◌, List, [], ◌∷◌, ◌++◌, length, get_or, take, map, Option, Some, None, IfSome, refl, sym, ap, ◌∙◌, subst, arith, nat_eq, IsTrue, ◌==◌, if◌then◌else◌}
+use Rattle.std.proofs.Common.{◌≡◌, ℕ, suc, zero, slice_get, ◌<◌, ◌≤◌, ◌^◌, Bool, true, false, List, [], ◌∷◌, ◌++◌, length, get_or, map, Option, Some, None, IfSome, refl, sym, ap, ◌∙◌, subst, arith, nat_eq, IsTrue, ◌==◌, if◌then◌else◌}
 use Rattle.std.specs.List.{flat_map, list_any, All, IsDistinct}
 use Rattle.std.specs.Option.{option_map}
 use Rattle.std.specs.Str.{bytes_eq}

@@ -1,4 +1,4 @@
-use Rattle.std.proofs.Common.{◌≡◌, ℕ, ◌-◌, ap, ◌∙◌, take, length, arith}
+use Rattle.std.proofs.Common.{◌-◌, ap, ◌∙◌, take, length, arith}
 use Rattle.std.proofs.lemmas.Slice.{put_mid-rotated}
 use Rattle.std.proofs.lemmas.List.{take_at}
 use Rattle.std.proofs.lemmas.List.Edits.{length-remove}

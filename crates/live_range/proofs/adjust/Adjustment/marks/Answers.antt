@@ -1,4 +1,4 @@
-use Rattle.std.proofs.Common.{◌≡◌, ℕ, length, get_or, ap, arith}
+use Rattle.std.proofs.Common.{get_or, ap, arith}
 use Rattle.live_range.specs.declared.places.Pair.{Pair}
 use Rattle.live_range.specs.declared.places.MarkPlace.{MarkPlace}
 use Rattle.live_range.specs.Edit.{adjusted_pair}

@@ -1,4 +1,4 @@
-use Rattle.std.proofs.Common.{◌≡◌, ◌≤◌, length}
+use Rattle.std.proofs.Common.{◌≡◌}
 use Rattle.live_range.specs.Edit.{adjusted_pair}
 use Rattle.live_range.specs.Names.{at_place}
 use Rattle.live_range.specs.Adjustments.{edit_of}

@@ -1,4 +1,4 @@
-use Rattle.std.proofs.Common.{rules, ◌≡◌, ℕ, sym, ◌∙◌, ap, subst, false, List, [], ◌∷◌, ◌++◌, map, length}
+use Rattle.std.proofs.Common.{rules, ◌≡◌, ◌∙◌, ap, false, [], ◌∷◌, ◌++◌, map, length}
 use Rattle.std.specs.List.{list_any}
 use Rattle.std.specs.Str.{bytes_eq}
 use Rattle.live_range.proofs.Lists.{IsDistinct-map, added_name, added_place}

@@ -1,6 +1,4 @@
-use Rattle.std.proofs.Common.{map}
 use Rattle.std.specs.List.{IsDistinct}
-use Rattle.std.specs.Str.{bytes_eq}
 use Rattle.live_range.proofs.names.Names.new.Goals as goal
 
 pub invariant_of-result : goal.invariant_of-result

@@ -1,4 +1,4 @@
-use Rattle.std.proofs.Common.{sym, ◌∙◌, ap, position}
+use Rattle.std.proofs.Common.{sym, ◌∙◌}
 use Rattle.std.specs.Str.{bytes_eq}
 use Rattle.live_range.proofs.Lists.{position-map}
 use Rattle.live_range.proofs.names.Names.position.Goals as goal

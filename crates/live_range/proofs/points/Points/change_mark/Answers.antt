@@ -1,4 +1,4 @@
-use Rattle.std.proofs.Common.{rules, ◌≡◌, ◌≢◌, ℕ, ◌+◌, ◌-◌, ◌<◌, ◌≤◌, Bool, true, false, List, [], ◌∷◌, ◌++◌, length, position, Option, Some, None, IfOk, OnOk, OnErr, sym, ◌∙◌, ap, subst, arith, if◌then◌else◌, map}
+use Rattle.std.proofs.Common.{◌∙◌, ap}
 use Rattle.live_range.specs.LivePoints.{LivePoints, with_value_at}
 use Rattle.live_range.proofs.NamedMarks.{pair_shown, pair_over}
 use Rattle.live_range.proofs.Shown.{place_below}

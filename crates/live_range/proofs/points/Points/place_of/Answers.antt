@@ -1,4 +1,4 @@
-use Rattle.std.proofs.Common.{rules, ◌≡◌, ◌≢◌, ℕ, ◌+◌, ◌-◌, ◌<◌, ◌≤◌, Bool, true, false, List, [], ◌∷◌, ◌++◌, length, position, Option, Some, None, Result, Ok, Err, IfOk, OnOk, OnErr, sym, ◌∙◌, ap, subst, arith, if◌then◌else◌, map, true≢false}
+use Rattle.std.proofs.Common.{position, sym, ◌∙◌, ap}
 use Rattle.std.specs.Str.{bytes_eq}
 use Rattle.live_range.proofs.NamedMarks.{place_known, place_unknown}
 use Rattle.live_range.proofs.points.Points.place_of.Goals as goal

@@ -1,7 +1,7 @@
-use Rattle.std.proofs.Common.{rules, ◌≡◌, ◌≢◌, ℕ, ◌+◌, ◌-◌, ◌<◌, ◌≤◌, Bool, true, false, List, [], ◌∷◌, ◌++◌, length, position, Option, Some, None, Result, Ok, Err, IfOk, OnOk, OnErr, sym, ◌∙◌, ap, subst, arith, if◌then◌else◌, map, true≢false}
+use Rattle.std.proofs.Common.{◌≡◌, Result, Ok, Err, OnOk, sym, ◌∙◌, true≢false}
 use Rattle.live_range.specs.declared.points.MarkFault.{MarkFault}
 use Rattle.live_range.specs.declared.points.MarkFault.TheVariants.{TooManyMarks}
-use Rattle.live_range.specs.LivePoints.{LivePoints, has_mark, with_mark}
+use Rattle.live_range.specs.LivePoints.{LivePoints}
 use Rattle.live_range.proofs.Entries.{found_below, found_has, absent_has, set_found, set_absent}
 use Rattle.live_range.proofs.points.Points.set_mark.Goals as goal
 

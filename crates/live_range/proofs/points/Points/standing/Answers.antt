@@ -1,4 +1,4 @@
-use Rattle.std.proofs.Common.{◌≡◌, sym, ◌∙◌, ap, subst, slice_get, nat_eq, []}
+use Rattle.std.proofs.Common.{sym, ◌∙◌, ap, slice_get, nat_eq, []}
 use Rattle.indexmap.specs.IndexSet.{insert_all}
 use Rattle.live_range.specs.LivePoints.{standing}
 use Rattle.live_range.proofs.Shown.{labels_shown}

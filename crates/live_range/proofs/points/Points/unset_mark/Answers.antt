@@ -1,4 +1,4 @@
-use Rattle.std.proofs.Common.{rules, ◌≡◌, ◌≢◌, ℕ, ◌+◌, ◌-◌, ◌<◌, ◌≤◌, Bool, true, false, List, [], ◌∷◌, ◌++◌, length, position, Option, Some, None, Result, Ok, Err, IfOk, OnOk, OnErr, sym, ◌∙◌, ap, subst, arith, if◌then◌else◌, map, true≢false}
+use Rattle.std.proofs.Common.{sym, ◌∙◌}
 use Rattle.live_range.proofs.Entries.{found_below, found_has, absent_has, unset_found, unset_absent}
 use Rattle.live_range.proofs.points.Points.unset_mark.Goals as goal
 
