@@ -7,3 +7,7 @@ pub mod ReadBack
 pub mod Entries
 pub mod Printing
 pub mod Decimals
+pub mod Words
+pub mod Joining
+pub mod PrintedNumbers
+pub mod PrintedColours

@@ -1,5 +1,5 @@
 -- Which colour a text is. A text is a list of characters.
-use Rattle.std.specs.Prelude.{ℕ, ◌+◌, ◌-◌, ◌*◌, ◌==◌, true, false, if◌then◌else◌, List, [], ◌∷◌, Option, Some, None, bytes_eq, codes}
+use Rattle.std.specs.Prelude.{ℕ, ◌+◌, ◌-◌, ◌*◌, ◌==◌, true, false, if◌then◌else◌, List, [], ◌∷◌, ◌++◌, Option, Some, None, bytes_eq, codes, decimal}
 use Rattle.std.specs.Char.{to_ascii_lowercase, is_ascii_digit, is_ascii_hexdigit}
 use Rattle.std.specs.List.{list_all}
 use Rattle.std.specs.Option.{option_map}
@@ -110,3 +110,9 @@ unfoldable pub colour_of : List ℕ → Option Colour
 colour_of text =
     if bytes_eq (codes "transparent") text then Some transparent
     else if_none (named_colour text) (if_none (marked_colour text) (functional_colour text))
+
+-- `rgb(r, g, b)`, or for transparent `rgba(0, 0, 0, 0)`
+unfoldable pub colour_text : Colour → List ℕ
+colour_text c =
+    if c.clear then codes "rgba(0, 0, 0, 0)"
+    else codes "rgb(" ++ (decimal c.red ++ (codes ", " ++ (decimal c.green ++ (codes ", " ++ (decimal c.blue ++ codes ")")))))

@@ -5,3 +5,4 @@ pub mod OnlyGroup
 pub mod Numbers
 pub mod Colours
 pub mod Values
+pub mod TextDecoration

@@ -1,5 +1,6 @@
 -- Which value of a property a text is. A text is a list of characters, and a keyword is compared as it is written.
-use Rattle.std.specs.Prelude.{ℕ, ◌-◌, ◌||◌, if◌then◌else◌, List, Option, Some, None, bytes_eq, codes, length, take, drop}
+use Rattle.std.specs.Prelude.{ℕ, ◌-◌, ◌==◌, Bool, ◌||◌, if◌then◌else◌, List, [], ◌∷◌, ◌++◌, Option, Some, None, bytes_eq, codes, decimal, length, take, drop}
+use Rattle.std.specs.List.{list_any}
 use Rattle.css_value.specs.Numbers.{number_up_to}
 use Rattle.css_value.specs.declared.values.Display.{Display}
 use Rattle.css_value.specs.declared.values.Display.TheVariants as display
@@ -21,6 +22,16 @@ display_of text =
     else (if bytes_eq (codes "none") text then Some display.NoBox
     else None))))))
 
+-- its keyword
+abbrev pub display_keyword : Display → List ℕ
+display_keyword display.Block = codes "block"
+display_keyword display.Inline = codes "inline"
+display_keyword display.InlineBlock = codes "inline-block"
+display_keyword display.InlineTable = codes "inline-table"
+display_keyword display.ListItem = codes "list-item"
+display_keyword display.Table = codes "table"
+display_keyword display.NoBox = codes "none"
+
 unfoldable pub white_space_of : List ℕ → Option WhiteSpace
 white_space_of text =
     if bytes_eq (codes "normal") text then Some white_space.Normal
@@ -30,12 +41,24 @@ white_space_of text =
     else (if bytes_eq (codes "pre-line") text then Some white_space.PreLine
     else None))))
 
+abbrev pub white_space_keyword : WhiteSpace → List ℕ
+white_space_keyword white_space.Normal = codes "normal"
+white_space_keyword white_space.NoWrap = codes "nowrap"
+white_space_keyword white_space.Pre = codes "pre"
+white_space_keyword white_space.PreWrap = codes "pre-wrap"
+white_space_keyword white_space.PreLine = codes "pre-line"
+
 unfoldable pub font_style_of : List ℕ → Option FontStyle
 font_style_of text =
     if bytes_eq (codes "normal") text then Some font_style.Normal
     else (if bytes_eq (codes "italic") text then Some font_style.Italic
     else (if bytes_eq (codes "oblique") text then Some font_style.Oblique
     else None))
+
+abbrev pub font_style_keyword : FontStyle → List ℕ
+font_style_keyword font_style.Normal = codes "normal"
+font_style_keyword font_style.Italic = codes "italic"
+font_style_keyword font_style.Oblique = codes "oblique"
 
 -- start is left and end is right
 unfoldable pub text_align_of : List ℕ → Option TextAlign
@@ -45,6 +68,16 @@ text_align_of text =
     else (if bytes_eq (codes "center") text then Some text_align.Center
     else (if bytes_eq (codes "justify") text then Some text_align.Justify
     else None)))
+
+abbrev pub text_align_keyword : TextAlign → List ℕ
+text_align_keyword text_align.Left = codes "left"
+text_align_keyword text_align.Right = codes "right"
+text_align_keyword text_align.Center = codes "center"
+text_align_keyword text_align.Justify = codes "justify"
+
+-- 100 to 900 by hundreds
+abbrev pub is_weight : ℕ → Bool
+is_weight weight = list_any (λ n. n == weight) (100 ∷ 200 ∷ 300 ∷ 400 ∷ 500 ∷ 600 ∷ 700 ∷ 800 ∷ 900 ∷ [])
 
 -- the weight: normal is 400 and bold 700
 unfoldable pub font_weight_of : List ℕ → Option ℕ
@@ -70,6 +103,10 @@ keyword_size text =
     else (if bytes_eq (codes "xx-large") text then Some 32
     else (if bytes_eq (codes "xxx-large") text then Some 48
     else None))))))
+
+-- a size in pixels as `Npx`
+unfoldable pub pixels_text : ℕ → List ℕ
+pixels_text px = decimal px ++ codes "px"
 
 -- the size in pixels: `Npx` to 9999 without leading zeros, or a keyword
 unfoldable pub font_size_of : List ℕ → Option ℕ

@@ -1,6 +1,6 @@
 //! Colours.
 
-ghost use Rattle.std.specs.Prelude.{◌≡◌, ◌<◌, IsTrue, map};
+ghost use Rattle.std.specs.Prelude.{◌≡◌, ◌<◌, IfOk, IsTrue, Some, false, map};
 ghost use Rattle.std.specs.Option.{option_map};
 ghost use Rattle.std.specs.List.{list_all};
 ghost use Rattle.std.specs.Char.{is_ascii_hexdigit};
@@ -9,6 +9,8 @@ ghost use Rattle.css_value.specs.Colours as spec;
 
 use crate::sizes::number;
 use crate::style_text::{has_codes, is_named};
+use crate::value_text::chars_of;
+use std::alloc::{AllocError, Global};
 
 /// A colour by its components; `clear` is that of `transparent`.
 #[derive(Clone, Copy, PartialEq, Eq, Debug)]
@@ -310,5 +312,21 @@ impl Colour {
             return Some(colour);
         }
         functional_colour(text)
+    }
+
+    /// The colour as `rgb(r, g, b)`, and that of `transparent` as `rgba(0, 0, 0, 0)`. All but that one are read back.
+    #[tactic(auto, unfolding(crate::specs::Colours::colour_text))]
+    pub fn print(self, alloc: Global) -> Result<Vec<char>, AllocError>
+        ensures text { IfOk result (λ text. text.items ≡ spec.colour_text self) }
+        ensures read_back { self.clear ≡ false → IfOk result (λ text. spec.colour_of text.items ≡ Some self) }
+    {
+        if self.clear {
+            return chars_of(alloc, b"rgba(0, 0, 0, 0)");
+        }
+        let red = self.red;
+        let green = self.green;
+        let blue = self.blue;
+        let text = format!(in alloc; "rgb({red}, {green}, {blue})")?;
+        chars_of(alloc, text.as_bytes())
     }
 }

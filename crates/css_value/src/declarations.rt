@@ -9,6 +9,7 @@ ghost use Rattle.css_value.specs.DeclarationList.{declarations_in, value_of, set
 ghost use Rattle.css_value.specs.DeclarationMap.{declarations_of, is_entry};
 
 use crate::style_text::{declared_in, first_stated, has_codes, is_named, piece_len, trimmed};
+use crate::value_text::chars_of;
 use indexmap::IndexMap;
 use std::alloc::{AllocError, Global};
 use std::marker::Model;
@@ -71,13 +72,6 @@ fn lowered(alloc: Global, text: &[char]) -> Result<Vec<char>, AllocError>
     ensures { IfOk result (λ name. name.items ≡ spec.lowered text.now) }
 {
     text.iter().map(|c| c.to_ascii_lowercase()).collect(alloc)
-}
-
-// The characters that have the codes of these bytes.
-fn chars_of(alloc: Global, name: &[u8]) -> Result<Vec<char>, AllocError>
-    ensures { IfOk result (λ chars. chars.items ≡ name.now) }
-{
-    name.iter().map(|b| *b as char).collect(alloc)
 }
 
 #[tactic(auto, unfolding(crate::specs::DeclarationList::text_of))]

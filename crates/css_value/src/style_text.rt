@@ -74,7 +74,7 @@ pub(crate) fn is_space(c: char) -> bool
 }
 
 // The text without the spaces at its front.
-fn trim_start(text: &[char]) -> &[char]
+pub(crate) fn trim_start(text: &[char]) -> &[char]
     ensures { result.now ≡ spec.trim_start text.now }
 {
     let mut rest = text;

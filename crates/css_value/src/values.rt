@@ -1,10 +1,12 @@
 //! The values of the properties of a style, other than colours.
 
-ghost use Rattle.std.specs.Prelude.{◌≡◌};
+ghost use Rattle.std.specs.Prelude.{◌≡◌, Some, IfOk, IfSome, IsTrue};
 ghost use Rattle.css_value.specs.Values as spec;
 
 use crate::sizes::number;
 use crate::style_text::has_codes;
+use crate::value_text::chars_of;
+use std::alloc::{AllocError, Global};
 
 /// The values of `display`.
 #[derive(Clone, Copy, PartialEq, Eq, Debug)]
@@ -19,6 +21,33 @@ pub enum Display {
     NoBox,
 }
 
+impl Display {
+    #[tactic(auto, unfolding(crate::specs::Values::display_of))]
+    /// The keyword of the value.
+    pub fn keyword(self) -> &'static [u8]
+        ensures keyword { result.now ≡ spec.display_keyword self }
+        ensures read_back { spec.display_of result.now ≡ Some self }
+    {
+        match self {
+            Display::Block => b"block",
+            Display::Inline => b"inline",
+            Display::InlineBlock => b"inline-block",
+            Display::InlineTable => b"inline-table",
+            Display::ListItem => b"list-item",
+            Display::Table => b"table",
+            Display::NoBox => b"none",
+        }
+    }
+
+    /// The characters of the keyword.
+    pub fn print(self, alloc: Global) -> Result<Vec<char>, AllocError>
+        ensures text { IfOk result (λ text. text.items ≡ spec.display_keyword self) }
+        ensures read_back { IfOk result (λ text. spec.display_of text.items ≡ Some self) }
+    {
+        chars_of(alloc, self.keyword())
+    }
+}
+
 /// The values of `white-space`.
 #[derive(Clone, Copy, PartialEq, Eq, Debug)]
 pub enum WhiteSpace {
@@ -29,12 +58,60 @@ pub enum WhiteSpace {
     PreLine,
 }
 
+impl WhiteSpace {
+    #[tactic(auto, unfolding(crate::specs::Values::white_space_of))]
+    /// The keyword of the value.
+    pub fn keyword(self) -> &'static [u8]
+        ensures keyword { result.now ≡ spec.white_space_keyword self }
+        ensures read_back { spec.white_space_of result.now ≡ Some self }
+    {
+        match self {
+            WhiteSpace::Normal => b"normal",
+            WhiteSpace::NoWrap => b"nowrap",
+            WhiteSpace::Pre => b"pre",
+            WhiteSpace::PreWrap => b"pre-wrap",
+            WhiteSpace::PreLine => b"pre-line",
+        }
+    }
+
+    /// The characters of the keyword.
+    pub fn print(self, alloc: Global) -> Result<Vec<char>, AllocError>
+        ensures text { IfOk result (λ text. text.items ≡ spec.white_space_keyword self) }
+        ensures read_back { IfOk result (λ text. spec.white_space_of text.items ≡ Some self) }
+    {
+        chars_of(alloc, self.keyword())
+    }
+}
+
 /// The values of `font-style`.
 #[derive(Clone, Copy, PartialEq, Eq, Debug)]
 pub enum FontStyle {
     Normal,
     Italic,
     Oblique,
+}
+
+impl FontStyle {
+    #[tactic(auto, unfolding(crate::specs::Values::font_style_of))]
+    /// The keyword of the value.
+    pub fn keyword(self) -> &'static [u8]
+        ensures keyword { result.now ≡ spec.font_style_keyword self }
+        ensures read_back { spec.font_style_of result.now ≡ Some self }
+    {
+        match self {
+            FontStyle::Normal => b"normal",
+            FontStyle::Italic => b"italic",
+            FontStyle::Oblique => b"oblique",
+        }
+    }
+
+    /// The characters of the keyword.
+    pub fn print(self, alloc: Global) -> Result<Vec<char>, AllocError>
+        ensures text { IfOk result (λ text. text.items ≡ spec.font_style_keyword self) }
+        ensures read_back { IfOk result (λ text. spec.font_style_of text.items ≡ Some self) }
+    {
+        chars_of(alloc, self.keyword())
+    }
 }
 
 /// The resolved values of `text-align`.
@@ -44,6 +121,30 @@ pub enum TextAlign {
     Right,
     Center,
     Justify,
+}
+
+impl TextAlign {
+    #[tactic(auto, unfolding(crate::specs::Values::text_align_of))]
+    /// The keyword of the value.
+    pub fn keyword(self) -> &'static [u8]
+        ensures keyword { result.now ≡ spec.text_align_keyword self }
+        ensures read_back { spec.text_align_of result.now ≡ Some self }
+    {
+        match self {
+            TextAlign::Left => b"left",
+            TextAlign::Right => b"right",
+            TextAlign::Center => b"center",
+            TextAlign::Justify => b"justify",
+        }
+    }
+
+    /// The characters of the keyword.
+    pub fn print(self, alloc: Global) -> Result<Vec<char>, AllocError>
+        ensures text { IfOk result (λ text. text.items ≡ spec.text_align_keyword self) }
+        ensures read_back { IfOk result (λ text. spec.text_align_of text.items ≡ Some self) }
+    {
+        chars_of(alloc, self.keyword())
+    }
 }
 
 #[tactic(auto, unfolding(crate::specs::Values::display_of))]
@@ -127,7 +228,8 @@ pub fn read_text_align(text: &[char]) -> Option<TextAlign>
 #[tactic(auto, unfolding(crate::specs::Values::font_weight_of))]
 /// The weight that a value of `font-weight` gives, 100 to 900: `normal` is 400 and `bold` 700.
 pub fn read_font_weight(text: &[char]) -> Option<u16>
-    ensures { result ≡ spec.font_weight_of text.now }
+    ensures value { result ≡ spec.font_weight_of text.now }
+    ensures hundreds { IfSome result (λ weight. IsTrue (spec.is_weight weight)) }
 {
     if has_codes(text, b"normal") || has_codes(text, b"400") {
         Some(400)

@@ -1,5 +1,6 @@
 //! The editing commands and their names.
-ghost use Rattle.std.specs.Prelude.{◌≡◌};
+ghost use Rattle.std.specs.Prelude.{◌≡◌, Some, IfSome, IsTrue};
+ghost use Rattle.std.specs.Str.{str_eq_ignore_ascii_case};
 ghost use Rattle.std.specs.Array.Iter.{array_into_iter_items};
 ghost use Rattle.html_names.specs.Commands as commands;
 
@@ -85,10 +86,11 @@ impl Command {
         .into_iter()
     }
 
-    #[tactic(auto, unfolding(crate::specs::Commands::command_name))]
-    /// The name of the command, in lower case.
+    #[tactic(auto, unfolding(crate::specs::Commands::command_name, crate::specs::Commands::command_named, crate::specs::Commands::all_commands))]
+    /// The name of the command, in lower case. It names this command and no other.
     pub fn name(self) -> &'static str
-        ensures { result.now ≡ commands.command_name self }
+        ensures name { result.now ≡ commands.command_name self }
+        ensures read_back { commands.command_named result.now ≡ Some self }
     {
         match self {
             Command::Bold => "bold",
@@ -130,6 +132,7 @@ impl Command {
     /// The command that a text names, without regard to ASCII case; `None` where it names none.
     pub fn named(text: &str) -> Option<Command>
         ensures value { result ≡ commands.command_named text.now }
+        ensures its_name { IfSome result (λ command. IsTrue (str_eq_ignore_ascii_case (commands.command_name command) text.now)) }
     {
         for command in Command::all() {
             if command.name().eq_ignore_ascii_case(text) {

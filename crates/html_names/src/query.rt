@@ -1,6 +1,6 @@
 //! The questions that can be asked of an editing command.
 
-ghost use Rattle.std.specs.Prelude.{◌≡◌};
+ghost use Rattle.std.specs.Prelude.{◌≡◌, Some};
 ghost use Rattle.std.specs.List.{find};
 ghost use Rattle.std.specs.Str.{bytes_eq};
 ghost use Rattle.html_names.specs.Queries.{query_word, query_kind_of};
@@ -26,9 +26,10 @@ static KINDS: [QueryKind; 5] = [
 ];
 
 impl QueryKind {
-    /// The word that names the question.
+    /// The word that names the question, and no other.
     pub fn word(self) -> &'static [u8]
-        ensures { result.now ≡ query_word self }
+        ensures word { result.now ≡ query_word self }
+        ensures read_back { query_kind_of result.now ≡ Some self }
     {
         match self {
             QueryKind::Enabled => b"enabled",
