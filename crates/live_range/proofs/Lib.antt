@@ -1,4 +1,10 @@
 pub mod Lists
+pub mod RowBits
+pub mod LabelsSeen
+pub mod RowCount
+pub mod Adjusting
+pub mod RowLists
+pub mod RowPoints
 pub mod Apart
 pub mod Shown
 pub mod NamedMarks

@@ -53,6 +53,11 @@ module _ (name : List ℕ) (ns : List (List ℕ)) where
 
 -- ---- a pair changed
 
+pub positions_stay : (ms : List MarkPlace) (k : ℕ) (pair : Pair) → map (λ m. m.name) (with_pair ms k pair) ≡ map (λ m. m.name) ms
+positions_stay [] k pair = refl
+positions_stay (m ∷ ms) zero pair = refl
+positions_stay (m ∷ ms) (suc k) pair = ap (λ r. m.name ∷ r) (positions_stay ms k pair)
+
 module _ (ns : List (List ℕ)) where
   pair_named : (ms : List MarkPlace) (k : ℕ) (pair : Pair) → map (named ns) (with_pair ms k pair) ≡ with_value_at (map (named ns) ms) k pair
   pair_named [] k pair = refl
@@ -63,11 +68,6 @@ module _ (ns : List (List ℕ)) where
       → shown ns q ≡ record (shown ns p) { marks = with_value_at (shown ns p).marks k pair }
   pair_shown p q k pair m o =
       λ i. record { selection = (o i).selection; scratch = (o i).scratch; marks = (ap (map (named ns)) m ∙ pair_named (marks_of p) k pair) i; names = ns }
-
-  positions_stay : (ms : List MarkPlace) (k : ℕ) (pair : Pair) → map (λ m. m.name) (with_pair ms k pair) ≡ map (λ m. m.name) ms
-  positions_stay [] k pair = refl
-  positions_stay (m ∷ ms) zero pair = refl
-  positions_stay (m ∷ ms) (suc k) pair = ap (λ r. m.name ∷ r) (positions_stay ms k pair)
 
   unmap : (n : ℕ) (ms : List MarkPlace) → All (λ i. i < n) (map (λ m. m.name) ms) → All (λ m. m.name < n) ms
   unmap n ms h = λ k d l.

@@ -1,6 +1,6 @@
 -- The active range of a selection runs from the earlier of its two points to the later. Which one is earlier is the
 -- tree order of the points, which the tree tells: here it is a parameter.
-use Rattle.std.specs.Prelude.{ℕ, Bool, true, false, not, ◌&&◌, ◌==◌, Option, Some, None, if◌then◌else◌}
+use Rattle.std.specs.Prelude.{Bool, true, false, not, ◌&&◌, ◌==◌, Option, Some, None, if◌then◌else◌}
 use Rattle.live_range.specs.declared.places.Point.{Point}
 use Rattle.live_range.specs.declared.places.Pair.{Pair}
 

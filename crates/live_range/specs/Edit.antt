@@ -1,5 +1,5 @@
 -- What an edit of a tree does to a point in it (DOM, "live ranges"), and what the kept points become.
-use Rattle.std.specs.Prelude.{ℕ, ◌+◌, ◌-◌, ◌<◌, ◌^◌, Bool, ◌&&◌, ◌==◌, nat_lt, nat_le, List, if◌then◌else◌}
+use Rattle.std.specs.Prelude.{ℕ, ◌+◌, ◌-◌, ◌<◌, ◌^◌, Bool, ◌&&◌, ◌==◌, nat_lt, nat_le, List, [], ◌∷◌, if◌then◌else◌}
 use Rattle.std.specs.List.{list_any}
 use Rattle.live_range.specs.declared.places.Point.{Point}
 use Rattle.live_range.specs.declared.places.Pair.{Pair}
@@ -57,6 +57,15 @@ adjusted (Split node at tail parent index) p =
     if p.label == node then (if nat_lt at p.offset then record { label = tail; offset = p.offset - at } else p)
     else (if p.label == parent then with_offset p (after_insert index p.offset) else p)
 adjusted (Grown at) p = if (p.label == at.label) && (p.offset == at.offset) then with_offset p (p.offset + 1) else p
+
+-- the labels of the nodes at which the edit moves points
+abbrev pub named_nodes : Edit → List ℕ
+named_nodes (Inserted parent index) = parent ∷ []
+named_nodes (Removed tree parent index) = parent ∷ tree
+named_nodes (Moved from to) = from.label ∷ to.label ∷ []
+named_nodes (Replaced node at taken put) = node ∷ []
+named_nodes (Split node at tail parent index) = node ∷ parent ∷ []
+named_nodes (Grown at) = at.label ∷ []
 
 abbrev pub adjusted_pair : Edit → Pair → Pair
 adjusted_pair e p = record { anchor = adjusted e p.anchor; focus = adjusted e p.focus }

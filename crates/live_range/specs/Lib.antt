@@ -1,5 +1,6 @@
 pub mod Edit
 pub mod LivePoints
 pub mod Names
+pub mod Rows
 pub mod ActiveRange
 pub mod Adjustments

@@ -1,13 +1,12 @@
 -- What a contract sees of the points that are kept: the selection, the scratch pair, the marks in order, each with
 -- its name, and the names that were ever given to a mark.
-use Rattle.std.specs.Prelude.{◌≡◌, ℕ, ◌<◌, ◌^◌, ◌≤◌, Bool, IsTrue, zero, suc, List, [], ◌∷◌, ◌++◌, length, map, Option, Some, None, IfSome, nat_eq, refl}
-use Rattle.std.specs.List.{list_any, flat_map, All, IsDistinct}
+use Rattle.std.specs.Prelude.{◌≡◌, ℕ, ◌≤◌, Bool, IsTrue, zero, suc, List, [], ◌∷◌, ◌++◌, length, map, Option, Some, None, IfSome, nat_eq}
+use Rattle.std.specs.List.{list_any, flat_map, count_by, All, IsDistinct}
 use Rattle.std.specs.Option.{option_map}
 use Rattle.std.specs.Map.{keys_of, remove_entry}
 use Rattle.std.specs.Str.{bytes_eq}
 use Rattle.indexmap.specs.IndexMap.{insert_entry}
 use Rattle.indexmap.specs.IndexSet.{insert_key, insert_all}
-use Rattle.live_range.specs.declared.places.Point.{Point}
 use Rattle.live_range.specs.declared.places.Pair.{Pair}
 use Rattle.live_range.specs.Edit.{Edit, adjusted_pair, has_label, PairFits}
 
@@ -50,7 +49,11 @@ option_labels (Some p) = pair_labels p
 abbrev pub labels_of : LivePoints → List ℕ
 labels_of s = (option_labels s.selection ++ option_labels s.scratch) ++ flat_map (λ m. pair_labels m.1) s.marks
 
--- the same, each label once
+-- how many points stand at one of the nodes
+abbrev pub points_at : List ℕ → LivePoints → ℕ
+points_at nodes s = count_by (has_label nodes) (labels_of s)
+
+-- the labels, each once
 abbrev pub standing : LivePoints → List ℕ
 standing s = insert_all nat_eq [] (labels_of s)
 

@@ -1,7 +1,6 @@
 -- Marks whose names are told by positions in a list of names.
-use Rattle.std.specs.Prelude.{◌≡◌, ℕ, ◌<◌, ◌≤◌, zero, suc, List, [], ◌∷◌, ◌++◌, length, map, take, slice_index_or, nat_eq, IfSome}
+use Rattle.std.specs.Prelude.{ℕ, ◌<◌, ◌≤◌, zero, suc, List, [], ◌∷◌, ◌++◌, length, map, take, slice_index_or, nat_eq, IfSome}
 use Rattle.std.specs.List.{All, IsDistinct, flat_map}
-use Rattle.indexmap.specs.IndexSet.{insert_all}
 use Rattle.live_range.specs.declared.places.Pair.{Pair}
 use Rattle.live_range.specs.declared.places.MarkPlace.{MarkPlace}
 use Rattle.live_range.specs.declared.places.Places.{Places}
@@ -45,8 +44,3 @@ pub record PlacesFit (e : Edit) (p : Places) : Type 0 where
   pub selection : IfSome p.selection (PairFits e)
   pub scratch : IfSome p.scratch (PairFits e)
   pub marks : All (λ m. PairFits e m.pair) (marks_of p)
-
--- what holds of the fields of Points
-pub record IsSound (names : List (List ℕ)) (p : Places) (labels : List ℕ) : Type 0 where
-  pub over : IsOver names p
-  pub listed : labels ≡ insert_all nat_eq [] (place_labels p)

@@ -1,12 +1,19 @@
 //! What an edit does to a point, and to all points at the places.
-ghost use Rattle.std.specs.Prelude.{◌≡◌, ◌^◌, ◌<◌, ◌≤◌, map, IfSome};
-ghost use Rattle.std.specs.List.{All};
+ghost use Rattle.std.specs.Prelude.{◌≡◌, ℕ, ◌+◌, ◌^◌, ◌<◌, ◌≤◌, map};
+ghost use Rattle.std.specs.List.{list_any, count_by};
 ghost use Rattle.std.specs.Option.{option_map};
-ghost use Rattle.live_range.specs.Edit.{Inserted, Removed, Moved, Replaced, Split, Grown, adjusted, adjusted_pair, after_insert, after_removal, after_replacement, after_loss, PointFits, PairFits};
-ghost use Rattle.live_range.specs.Names.{at_place, marks_of, PlacesFit};
+ghost use Rattle.live_range.specs.Edit.{Inserted, Removed, Moved, Replaced, Split, Grown, adjusted, adjusted_pair, after_insert, after_removal, after_replacement, after_loss, has_label, named_nodes, PointFits};
+ghost use Rattle.live_range.specs.Names.{at_place, marks_of, place_labels, PlacesFit};
+ghost use Rattle.live_range.specs.Rows.{has_row, listed_at, Lists};
 ghost use Rattle.live_range.specs.Adjustments.{edit_of};
 
-use crate::places::{MarkPlace, Pair, Places, Point};
+use crate::listing::move_point;
+use crate::nodes::Nodes;
+use crate::pairs::point_of;
+use crate::places::{Places, Point};
+use crate::rows::RowSet;
+use std::sync::ledger::Ledger;
+use step_count::Steps;
 
 // An edit of the tree, as far as points are concerned.
 #[derive(Drop)]
@@ -194,6 +201,17 @@ fn point_after_growth(at: Point, point: Point) -> Point
     }
 }
 
+// The rows at any of the labels.
+fn rows_at_any(nodes: &Nodes, labels: &[u32]) -> RowSet
+    ensures { (r : ℕ) → has_row result r ≡ list_any (λ l. listed_at nodes.now l r) labels.now }
+{
+    let mut rows = RowSet::empty();
+    for label in labels {
+        rows = rows.or(nodes.at(*label));
+    }
+    rows
+}
+
 impl Adjustment<'_> {
     fn point(&self, point: Point) -> Point
         requires { PointFits (edit_of self.now) point }
@@ -224,47 +242,45 @@ impl Adjustment<'_> {
         }
     }
 
-    fn pair(&self, pair: Pair) -> Pair
-        requires { PairFits (edit_of self.now) pair }
-        ensures { result ≡ adjusted_pair (edit_of self.now) pair }
+    // The rows at the nodes that the edit names.
+    fn rows(&self, nodes: &Nodes) -> RowSet
+        ensures { (r : ℕ) → has_row result r ≡ list_any (λ l. listed_at nodes.now l r) (named_nodes (edit_of self.now)) }
     {
-        Pair {
-            anchor: self.point(pair.anchor),
-            focus: self.point(pair.focus),
+        match self {
+            Adjustment::Inserted { parent, .. } => nodes.at(*parent),
+            Adjustment::Removed { gone, parent, .. } => {
+                nodes.at(*parent).or(rows_at_any(nodes, gone))
+            }
+            Adjustment::Moved { from, to } => nodes.at(from.label).or(nodes.at(to.label)),
+            Adjustment::Replaced { node, .. } => nodes.at(*node),
+            Adjustment::Split { node, parent, .. } => nodes.at(*node).or(nodes.at(*parent)),
+            Adjustment::Grown { at } => nodes.at(at.label),
         }
     }
 
-    fn option(&self, pair: Option<Pair>) -> Option<Pair>
-        requires { IfSome pair (PairFits (edit_of self.now)) }
-        ensures { result ≡ option_map (adjusted_pair (edit_of self.now)) pair }
-    {
-        match pair {
-            Some(pair) => Some(self.pair(pair)),
-            None => None,
-        }
-    }
-
-    fn marks(&self, marks: &mut [MarkPlace])
-        requires { All (λ m. PairFits (edit_of self.now) m.pair) marks.old }
-        ensures { marks.new ≡ map (at_place (adjusted_pair (edit_of self.now))) marks.old }
-    {
-        for i in 0..marks.len() {
-            marks[i].pair = self.pair(marks[i].pair);
-        }
-    }
-
-    // Adjusts all points at the places.
-    pub(crate) fn places(&self, places: &mut Places)
+    // Adjusts all points at the places, in a step for each point at the nodes that the edit names.
+    pub(crate) fn places<L: Ledger>(
+        &self,
+        places: &mut Places,
+        nodes: &mut Nodes,
+        steps: &mut Steps<L>,
+    )
         requires few { places.old.count ≤ 16 }
         requires fits { PlacesFit (edit_of self.now) places.old }
+        requires listed { Lists places.old nodes.old }
         ensures selection { places.new.selection ≡ option_map (adjusted_pair (edit_of self.now)) places.old.selection }
         ensures scratch { places.new.scratch ≡ option_map (adjusted_pair (edit_of self.now)) places.old.scratch }
         ensures marks { marks_of places.new ≡ map (at_place (adjusted_pair (edit_of self.now))) (marks_of places.old) }
         ensures count { places.new.count ≡ places.old.count }
+        ensures listed { Lists places.new nodes.new }
+        ensures steps { steps.new ≡ steps.old + count_by (has_label (named_nodes (edit_of self.now))) (place_labels places.old) }
     {
-        places.selection = self.option(places.selection);
-        places.scratch = self.option(places.scratch);
-        let count = places.count as usize;
-        self.marks(&mut places.marks[..count]);
+        let mut rest = self.rows(nodes);
+        while let Some(row) = rest.first() {
+            steps.tick();
+            rest = rest.without(row);
+            let point = point_of(places, row).unwrap();
+            move_point(places, nodes, row, self.point(point));
+        }
     }
 }

@@ -7,11 +7,15 @@
 #![tactic(auto)]
 
 mod adjust;
-mod labels;
+mod listing;
 mod marks;
 mod names;
+mod nodes;
+mod pairs;
 mod places;
 mod points;
+mod rows;
+mod standing;
 
 pub use places::{MarkPlace, Pair, Places, Point};
 pub use points::{MarkFault, Points};

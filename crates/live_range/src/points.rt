@@ -1,21 +1,27 @@
 //! All live points, and what edits and callers do to them.
-ghost use Rattle.std.specs.Prelude.{◌≡◌, ◌<◌, ◌≤◌, [], ◌∷◌, ◌++◌, ◌↔◌, ℕ, List, None, Some, Err, length, position, slice_get, IsTrue, IfOk, OnOk, OnErr, false};
+ghost use Rattle.std.specs.Prelude.{◌≡◌, ◌+◌, ◌<◌, ◌≤◌, [], ◌∷◌, ◌++◌, ◌↔◌, ℕ, List, None, Some, Err, length, position, slice_get, IsTrue, IfOk, OnOk, OnErr, false};
 ghost use Rattle.std.specs.Option.{option_map};
 ghost use Rattle.std.specs.Str.{bytes_eq};
 ghost use Rattle.std.specs.List.{remove};
 ghost use Rattle.indexmap.specs.IndexSet.{insert_key};
-ghost use Rattle.live_range.specs.Edit.{Inserted, Removed, Moved, Replaced, Split, Grown};
+ghost use Rattle.live_range.specs.Edit.{Inserted, Removed, Moved, Replaced, Split, Grown, named_nodes};
 ghost use Rattle.live_range.specs.Adjustments.{edit_of};
-ghost use Rattle.live_range.specs.LivePoints.{Fits, IsLawful, TellsAlike, mapped, no_points, standing, has_mark, with_mark, without_mark, with_value_at};
+ghost use Rattle.live_range.specs.LivePoints.{Fits, IsLawful, TellsAlike, mapped, no_points, points_at, standing, has_mark, with_mark, without_mark, with_value_at};
 ghost use Rattle.live_range.specs.Names.{shown, IsOver};
 
 use crate::adjust::Adjustment;
-use crate::labels::Labels;
+use crate::listing::{list_all, list_pair};
 use crate::marks::{find_mark, mark_count, mark_of, push_mark, remove_mark, set_pair};
 use crate::names::Names;
+use crate::nodes::Nodes;
+use crate::pairs::pair_of;
 use crate::places::{MarkPlace, Pair, Places, Point};
+use crate::standing::standing_label;
 use std::alloc::{AllocError, Global};
-use std::marker::Model;
+use std::marker::{Brand, Model};
+use std::mem::replace;
+use std::sync::ledger::{Blank, Ledger};
+use step_count::Steps;
 
 const NOWHERE: Point = Point {
     label: 0,
@@ -44,7 +50,7 @@ pub enum MarkFault {
 pub struct Points {
     places: Places,
     names: Names,
-    labels: Labels,
+    nodes: Nodes,
 }
 
 impl Model for Points {
@@ -52,11 +58,12 @@ impl Model for Points {
 
     ghost Value = { LivePoints };
 
-    ghost use Rattle.live_range.specs.Names.{shown, IsSound};
+    ghost use Rattle.live_range.specs.Names.{shown};
+    ghost use Rattle.live_range.specs.Rows.{IsSound};
 
     ghost view = { λ p. shown p.names p.places };
 
-    ghost invariant = { λ p. IsSound p.names p.places p.labels };
+    ghost invariant = { λ p. IsSound p.names p.places p.nodes };
 }
 
 impl From<AllocError> for MarkFault {
@@ -70,21 +77,28 @@ impl From<AllocError> for MarkFault {
     }
 }
 
+fn empty_places() -> Places
+    ensures pairs { (result.selection ≡ None) × (result.scratch ≡ None) }
+    ensures count { result.count ≡ 0 }
+{
+    Places {
+        selection: None,
+        scratch: None,
+        marks: [UNUSED; 16],
+        count: 0,
+    }
+}
+
 impl Points {
-    /// No selection, no scratch pair and no marks, with the room for the labels of all points.
+    /// No selection, no scratch pair and no marks, with the room that all later changes of points need.
     pub fn new(alloc: Global) -> Result<Points, AllocError>
         ensures { IfOk result (λ p. p ≡ no_points) }
     {
-        let labels = Labels::new(alloc)?;
+        let nodes = Nodes::new(alloc)?;
         Ok(Points {
-            places: Places {
-                selection: None,
-                scratch: None,
-                marks: [UNUSED; 16],
-                count: 0,
-            },
+            places: empty_places(),
             names: Names::new(alloc),
-            labels,
+            nodes,
         })
     }
 
@@ -104,8 +118,8 @@ impl Points {
     pub fn set_selection(&mut self, pair: Option<Pair>)
         ensures { self.new ≡ record self.old { selection = pair } }
     {
-        self.places.selection = pair;
-        self.labels.list(&self.places);
+        let was = replace(&mut self.places.selection, pair);
+        list_pair(&mut self.nodes, &self.places, 0, was);
     }
 
     pub fn scratch(&self) -> Option<Pair>
@@ -117,8 +131,8 @@ impl Points {
     pub fn set_scratch(&mut self, pair: Pair)
         ensures { self.new ≡ record self.old { scratch = Some pair } }
     {
-        self.places.scratch = Some(pair);
-        self.labels.list(&self.places);
+        let was = replace(&mut self.places.scratch, Some(pair));
+        list_pair(&mut self.nodes, &self.places, 1, was);
     }
 
     /// The name and the points of the mark at `place`, in the order in which the marks were made.
@@ -144,8 +158,11 @@ impl Points {
         requires { place < length self.old.marks }
         ensures { self.new ≡ record self.old { marks = with_value_at self.old.marks place pair } }
     {
+        self.lawful();
+        let number = place as u8 + 2;
+        let was = pair_of(&self.places, number);
         set_pair(&mut self.places, place, pair);
-        self.labels.list(&self.places);
+        list_pair(&mut self.nodes, &self.places, number, was);
     }
 
     fn remove_mark(&mut self, place: usize)
@@ -153,7 +170,7 @@ impl Points {
         ensures { self.new ≡ record self.old { marks = remove self.old.marks place } }
     {
         remove_mark(&mut self.places, place);
-        self.labels.list(&self.places);
+        list_all(&mut self.nodes, &self.places);
     }
 
     fn add_mark(&mut self, name: &[u8], pair: Pair) -> Result<(), MarkFault>
@@ -166,8 +183,9 @@ impl Points {
             return Err(MarkFault::TooManyMarks);
         }
         let name = self.names.meet(name)?;
+        let number = self.places.count + 2;
         push_mark(&mut self.places, MarkPlace { name, pair });
-        self.labels.list(&self.places);
+        list_pair(&mut self.nodes, &self.places, number, None);
         Ok(())
     }
 
@@ -215,22 +233,40 @@ impl Points {
         ensures { self.new ≡ shown self.old.names places.now }
     {
         self.places = *places;
-        self.labels.list(&self.places);
+        list_all(&mut self.nodes, &self.places);
     }
 
     /// The labels of the nodes at which a point stands, each once, by their places in a list.
     pub fn standing(&self, place: usize) -> Option<u32>
         ensures { result ≡ slice_get (standing self.now) place }
     {
-        self.labels.get(place)
+        standing_label(&self.places, &self.nodes, place)
+    }
+
+    // The steps are as many as points stand at the nodes that the edit names, however many others there are.
+    fn adjust_counted<L: Ledger>(&mut self, edit: &Adjustment, steps: &mut Steps<L>)
+        requires { Fits (edit_of edit.now) self.old }
+        ensures adjusted { self.new ≡ mapped (edit_of edit.now) self.old }
+        ensures steps { steps.new ≡ steps.old + points_at (named_nodes (edit_of edit.now)) self.old }
+    {
+        edit.places(&mut self.places, &mut self.nodes, steps);
+    }
+
+    fn adjust_by<L: Ledger>(&mut self, edit: &Adjustment, blank: Blank)
+        requires name { blank.name ≡ L.name }
+        requires parts { blank.parts ≡ L.parts }
+        requires some { 0 < blank.parts }
+        requires fits { Fits (edit_of edit.now) self.old }
+        ensures { self.new ≡ mapped (edit_of edit.now) self.old }
+    {
+        self.adjust_counted(edit, &mut Steps::<L>::open(blank));
     }
 
     fn adjust(&mut self, edit: &Adjustment)
         requires { Fits (edit_of edit.now) self.old }
         ensures { self.new ≡ mapped (edit_of edit.now) self.old }
     {
-        edit.places(&mut self.places);
-        self.labels.list(&self.places);
+        self.adjust_by::<Brand>(edit, Blank::new(1));
     }
 
     /// A node was put into `parent` at `index`.

@@ -266,6 +266,26 @@ fn a_mark_goes(rt: HostRuntime) -> Result<(), Fail> {
     Ok(())
 }
 
+// Draws the selection to a node, and takes the node out.
+fn visit(points: &mut Points, label: u32) {
+    points.set_selection(Some(pair(label, 0, 1)));
+    remove(points, &[label], 1000, 4);
+}
+
+#[test]
+fn more_nodes_are_met_than_have_room(rt: HostRuntime) -> Result<(), Fail> {
+    let mut points = Points::new(rt.alloc())?;
+    set_mark(&mut points, b"a", pair(7, 1, 1))?;
+    for label in 8..300u32 {
+        visit(&mut points, label);
+    }
+    remove(&mut points, &[7], 3, 4);
+    assert_eq!(rt; points.mark_at(0), Some((b"a".as_slice(), pair(3, 4, 4))));
+    assert_eq!(rt; points.selection(), Some(pair(1000, 4, 4)));
+    assert_eq!(rt; labels(&points), [Some(1000), Some(3), None]);
+    Ok(())
+}
+
 #[test]
 fn the_seventeenth_mark_is_refused(rt: HostRuntime) -> Result<(), Fail> {
     let mut points = Points::new(rt.alloc())?;

@@ -11,7 +11,7 @@ remove_mark-requires-clause-there c = place_below c.self.inside.names c.self.ins
 pub invariant_of-self : goal.invariant_of-self
 invariant_of-self c = record {
   over = removal_over c.self.inside.names c.self.inside.places c.remove_mark.new.places c.args.place c.remove_mark.ensures.marks c.remove_mark.ensures.others (place_in c.self.inside.names c.self.inside.places c.args.self.now c.self.view_is c.args.place c.requires) c.self.invariant.over;
-  listed = c.list.ensures;
+  listed = c.list_all.ensures.listed;
 }
 
 pub returns : goal.returns

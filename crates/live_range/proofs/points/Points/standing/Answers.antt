@@ -6,8 +6,6 @@ use Rattle.live_range.proofs.points.Points.standing.Goals as goal
 
 pub returns : goal.returns
 returns c =
-    c.get.ensures
-    ∙ ap (λ ls. slice_get ls c.args.place)
-    (c.self.invariant.listed
-    ∙ ap (insert_all nat_eq []) (sym (labels_shown c.self.inside.names c.self.inside.places))
-    ∙ ap standing c.self.view_is)
+    c.standing_label.ensures
+    ∙ ap (λ ls. slice_get (insert_all nat_eq [] ls) c.args.place) (sym (labels_shown c.self.inside.names c.self.inside.places))
+    ∙ ap (λ s. slice_get (standing s) c.args.place) c.self.view_is
