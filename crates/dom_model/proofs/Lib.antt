@@ -19,3 +19,5 @@ pub mod Deepest
 pub mod DropTree
 pub mod Earlier
 pub mod Kept
+pub mod Shedding
+pub mod NodesKept

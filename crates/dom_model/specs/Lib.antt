@@ -10,3 +10,4 @@ pub mod Document
 pub mod Editing
 pub mod TreeOrder
 pub mod Revised
+pub mod Shed

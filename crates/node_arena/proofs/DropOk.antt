@@ -16,7 +16,7 @@ use Rattle.node_arena.specs.declared.NodeRef.{NodeRef}
 use Rattle.node_arena.specs.Nodes.{label_in, link_to, node_for, trees_of, state_of}
 use Rattle.node_arena.specs.Sound.{IsSound, IsArena}
 use Rattle.node_arena.specs.Held.{Holds, Drops}
-use Rattle.node_arena.proofs.NodesKept.{AreNodes, nodes-without}
+use Rattle.dom_model.proofs.NodesKept.{AreNodes, nodes-without}
 use Rattle.node_arena.proofs.Rebuild.{trees_of-sound}
 use Rattle.node_arena.proofs.SoundLink.{get_or-map-label_in, held_node, same_node}
 

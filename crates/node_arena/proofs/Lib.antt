@@ -6,7 +6,6 @@ pub mod LinkOk
 pub mod Walk
 pub mod UnlinkOk
 pub mod MakeOk
-pub mod NodesKept
 pub mod SlottedOk
 pub mod FindOk
 pub mod HostsOk
@@ -16,3 +15,5 @@ pub mod ReviseOk
 pub mod RewindOk
 pub mod DropTreeOk
 pub mod BeforeOk
+pub mod GiveUp
+pub mod MadeOk

@@ -13,7 +13,7 @@ use Rattle.node_arena.specs.Held.{Holds, label}
 use Rattle.dom_model.specs.State.{State, CanLink}
 use Rattle.node_arena.specs.Change.{placed, with_first, with_last, with_prev, with_next, next_changed, prev_changed, linked_slots, prior_link}
 use Rattle.node_arena.proofs.ChangeLemmas.{map-label_in-change}
-use Rattle.node_arena.proofs.NodesKept.{AreNodes, nodes-link}
+use Rattle.dom_model.proofs.NodesKept.{AreNodes, nodes-link}
 use Rattle.node_arena.proofs.Rebuild.{trees_of-sound}
 use Rattle.node_arena.proofs.SoundLink.{get_or-map-label_in, held_node, new_slots, linked_at, prior, prior_here}
 

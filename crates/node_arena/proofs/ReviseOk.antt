@@ -1,10 +1,8 @@
 -- A change of content keeps the slots sound.
-use Rattle.std.proofs.Common.{◌≡◌, ◌↔◌, ◌^◌, ℕ, ◌<◌, true, false, cond, List, length, get_or, map, Option, Some, None, refl, sym, ap, subst, ◌∙◌, arith, eqb}
+use Rattle.std.proofs.Common.{◌≡◌, ℕ, ◌<◌, true, false, cond, List, get_or, map, Option, Some, None, refl, sym, ap, subst, ◌∙◌, arith, eqb}
 use Rattle.std.specs.Option.{option_map, option_and_then}
 use Rattle.dom_model.specs.declared.Content.{Content}
-use Rattle.dom_model.specs.declared.Content.TheVariants.{Document, Element, Words, Remark}
-use Rattle.dom_model.specs.declared.attributes.Attribute.{Attribute}
-use Rattle.dom_model.specs.Contents.{IsNode, char_length, with_chars, with_attributes, may_have_children}
+use Rattle.dom_model.specs.Contents.{IsNode}
 use Rattle.dom_model.specs.State.{State}
 use Rattle.dom_model.specs.Forest.{Forest, Seen, count_of, seek, parent_of, children_of, first_in, last_in, before_in, after_in}
 use Rattle.dom_model.specs.Revised.{revised, revised_seen}
@@ -17,7 +15,7 @@ use Rattle.node_arena.specs.Sound.{IsSound, IsArena}
 use Rattle.node_arena.specs.Held.{Holds}
 use Rattle.node_arena.specs.Change.{change, with_content}
 use Rattle.node_arena.proofs.ChangeLemmas.{map-label_in-change}
-use Rattle.node_arena.proofs.NodesKept.{AreNodes, nodes-revised}
+use Rattle.dom_model.proofs.NodesKept.{AreNodes, nodes-revised}
 use Rattle.node_arena.proofs.Rebuild.{trees_of-sound}
 use Rattle.node_arena.proofs.SoundLink.{get_or-map-label_in, held_node, changed_at, at_apart, same_node}
 use Rattle.node_arena.proofs.UnlinkOk.{Leaves}
@@ -124,23 +122,3 @@ revise_state slots next cap index arena old is r g =
       };
       is = λ i. record { trees = trees i; next = next; cap = cap; held = labels i };
     }))
-
--- ---- characters and attributes
-
-pub chars_node : (l : ℕ) (chars : List ℕ) (o : Seen Content) → length chars < 2 ^ 32 → IsNode l o → IsNode l (record { parent = o.parent; content = with_chars chars o.content; children = o.children })
-chars_node l chars o short node = by_content o.content refl
-  where
-    by_content : (c : Content) → o.content ≡ c → IsNode l (record { parent = o.parent; content = with_chars chars c; children = o.children })
-    by_content Document e = record { document = subst (λ c. (c ≡ Document) ↔ (l ≡ 0)) e node.document; leaf = λ h. node.leaf (ap may_have_children e ∙ h); short = omega arith }
-    by_content (Element name attributes) e = record { document = subst (λ c. (c ≡ Document) ↔ (l ≡ 0)) e node.document; leaf = λ h. node.leaf (ap may_have_children e ∙ h); short = omega arith }
-    by_content (Words w) e = record { document = (λ h. absurd (let h' = h in cc), λ h. absurd (let k : Words w ≡ Document = sym e ∙ node.document.1 h in cc)); leaf = λ h. node.leaf (ap may_have_children e ∙ h); short = short }
-    by_content (Remark w) e = record { document = (λ h. absurd (let h' = h in cc), λ h. absurd (let k : Remark w ≡ Document = sym e ∙ node.document.1 h in cc)); leaf = λ h. node.leaf (ap may_have_children e ∙ h); short = short }
-
-pub attributes_node : (l : ℕ) (list : List Attribute) (o : Seen Content) → IsNode l o → IsNode l (record { parent = o.parent; content = with_attributes list o.content; children = o.children })
-attributes_node l list o node = by_content o.content refl
-  where
-    by_content : (c : Content) → o.content ≡ c → IsNode l (record { parent = o.parent; content = with_attributes list c; children = o.children })
-    by_content Document e = record { document = subst (λ c. (c ≡ Document) ↔ (l ≡ 0)) e node.document; leaf = λ h. node.leaf (ap may_have_children e ∙ h); short = omega arith }
-    by_content (Element name attributes) e = record { document = (λ h. absurd (let h' = h in cc), λ h. absurd (let k : Element name attributes ≡ Document = sym e ∙ node.document.1 h in cc)); leaf = λ h. node.leaf (ap may_have_children e ∙ h); short = omega arith }
-    by_content (Words w) e = record { document = subst (λ c. (c ≡ Document) ↔ (l ≡ 0)) e node.document; leaf = λ h. node.leaf (ap may_have_children e ∙ h); short = subst (λ c. char_length c < 2 ^ 32) e node.short }
-    by_content (Remark w) e = record { document = subst (λ c. (c ≡ Document) ↔ (l ≡ 0)) e node.document; leaf = λ h. node.leaf (ap may_have_children e ∙ h); short = subst (λ c. char_length c < 2 ^ 32) e node.short }

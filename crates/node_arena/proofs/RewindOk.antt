@@ -8,7 +8,7 @@ use Rattle.dom_model.proofs.Few.{total-few}
 use Rattle.node_arena.specs.declared.Node.{Node}
 use Rattle.node_arena.specs.Nodes.{label_in, trees_of, state_of}
 use Rattle.node_arena.specs.Sound.{IsSound, IsArena}
-use Rattle.node_arena.proofs.NodesKept.{AreNodes}
+use Rattle.dom_model.proofs.NodesKept.{AreNodes}
 use Rattle.node_arena.proofs.Rebuild.{trees_of-sound}
 use Rattle.node_arena.proofs.SoundLink.{held_node}
 use Rattle.node_arena.proofs.UnlinkOk.{Leaves}

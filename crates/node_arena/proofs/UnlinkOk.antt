@@ -20,7 +20,7 @@ use Rattle.node_arena.proofs.ChangeLemmas.{map-label_in-change}
 use Rattle.node_arena.proofs.Rebuild.{trees_of-sound}
 use Rattle.node_arena.proofs.Merge.{mark, next_step, prev_step, after_unlink, merge_unlink}
 use Rattle.node_arena.proofs.SoundLink.{get_or-map-label_in, held_node, changed_at, at_apart, next_changed_at, prev_changed_at, same_node, link_to-cond, is_none-link_to, mark-link_to, pick_inner}
-use Rattle.node_arena.proofs.NodesKept.{AreNodes, nodes-unlink}
+use Rattle.dom_model.proofs.NodesKept.{AreNodes, nodes-unlink}
 use Rattle.node_arena.proofs.LinkOk.{distinct_trees, labels-next_changed, labels-prev_changed, Gives, link_is}
 
 pub labels-unlinked : (xs : List (Option Node)) (p : NodeRef) (prior after : Option NodeRef) (n : NodeRef) → map label_in (unlinked_slots xs p prior after n) ≡ map label_in xs

@@ -1,9 +1,10 @@
 -- Which nodes an arena holds.
-use Rattle.std.specs.Prelude.{◌≡◌, ◌≢◌, ℕ, ◌+◌, ◌<◌, Option, Some, None, IfSome}
+use Rattle.std.specs.Prelude.{◌≡◌, ◌≢◌, ℕ, ◌+◌, ◌<◌, ◌↔◌, nat_le, Option, Some, None, IfSome}
 use Rattle.std.specs.Option.{option_map}
 use Rattle.dom_model.specs.State.{State, HoldsAt}
 use Rattle.dom_model.specs.declared.Content.{Content}
 use Rattle.dom_model.specs.Forest.{without, tree_of, with_leaf, parent_of, first_of, last_of, prev_of, next_of, content_of, count_of}
+use Rattle.dom_model.specs.Shed.{shed}
 use Rattle.dom_model.specs.declared.Content.TheVariants.{Document}
 use Rattle.dom_model.specs.Forest.Forest.{Nil, Tree}
 use Rattle.node_arena.specs.declared.Node.{Node}
@@ -76,3 +77,10 @@ pub record DropsTree (old new : State) (r : NodeRef) : Type 0 where
   pub held : (q : NodeRef) → Holds new q → Holds old q
   pub gone : (q : NodeRef) → Holds new q → count_of (tree_of old.trees r.label) q.label ≡ 0
   pub keeps : (q : NodeRef) → Holds old q → count_of (tree_of old.trees r.label) q.label ≡ 0 → Holds new q
+
+-- the nodes of this label or a greater one are given up, with labels that stay spent, and no others
+pub record DropsMade (old new : State) (first : ℕ) : Type 0 where
+  pub trees : new.trees ≡ shed (nat_le first) old.trees
+  pub next : new.next ≡ old.next
+  pub cap : new.cap ≡ old.cap
+  pub held : (q : NodeRef) → Holds new q ↔ (Holds old q × (q.label < first))

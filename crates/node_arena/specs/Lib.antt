@@ -4,3 +4,4 @@ pub mod Held
 pub mod Change
 pub mod Kinds
 pub mod Walk
+pub mod Made

@@ -28,3 +28,8 @@ pub record IsArena (slots : List (Option Node)) (next cap : ℕ) (index : List �
   pub nodes : (l : ℕ) (s : Seen Content) → seek None (trees_of slots next) l ≡ Some s → IsNode l s
   pub long : length index ≡ next
   pub indexed : (slot l : ℕ) → slice_index_or (map label_in slots) slot None ≡ Some l → slice_index_or index l 0 ≡ slot
+
+-- each node in a slot has a label that the index leads to that slot, and none past its end
+pub record IsIndexed (slots : List (Option Node)) (index : List ℕ) : Type 0 where
+  pub below : (slot : ℕ) (n : Node) → slice_index_or slots slot None ≡ Some n → n.label < length index
+  pub at : (slot : ℕ) (n : Node) → slice_index_or slots slot None ≡ Some n → slice_index_or index n.label 0 ≡ slot

@@ -1,14 +1,17 @@
 //! Changes of the tree that make no node.
 
-ghost use Rattle.std.specs.Prelude.{◌≡◌, ℕ, ◌+◌, ◌≤◌, ◌<◌, ◌^◌, Some, None, true, false, length, IsSome, IfSome};
+ghost use Rattle.std.specs.Prelude.{◌≡◌, ◌≢◌, ℕ, ◌+◌, ◌≤◌, ◌<◌, ◌^◌, Some, None, true, false, length, IsSome, IfSome, nat_le};
 ghost use Rattle.std.specs.Option.{option_map_or, option_and_then};
 ghost use Rattle.slab.specs.Slab.{get};
 ghost use Rattle.dom_model.specs.Forest.{count_of, parent_of, first_of, link, unlink};
 ghost use Rattle.dom_model.specs.Contents.{is_element, has_chars, chars_in, attributes_in, chars_of, attributes_of, is_element_at, has_chars_at, with_chars, with_attributes};
 ghost use Rattle.dom_model.specs.Revised.{revised};
+ghost use Rattle.dom_model.specs.Shed.{IsWhole};
 ghost use Rattle.dom_model.specs.State.{CanLink};
 ghost use Rattle.node_arena.specs.Change.{change, with_content};
-ghost use Rattle.node_arena.specs.Held.{Holds, Drops, DropsTree, label};
+ghost use Rattle.node_arena.specs.Held.{Holds, Drops, DropsTree, DropsMade, label};
+ghost use Rattle.node_arena.specs.Made.{has_label, kept_but, kept_below};
+ghost use Rattle.node_arena.specs.Sound.{IsIndexed};
 
 use crate::links::{link_in, take_in};
 use crate::{Arena, Attributes, Chars, Content, Node, NodeRef};
@@ -138,6 +141,17 @@ impl Arena {
         self.drop_leaves::<Brand>(node, Blank::new(1));
     }
 
+    /// Gives up every node of this label or a greater one: whole loose trees. Their labels stay spent. It looks at the
+    /// labels from this one on, and at no others.
+    pub fn drop_made(&mut self, first: u32)
+        requires inner { 0 < first }
+        requires whole { IsWhole (nat_le first) self.old.trees }
+        ensures drops { DropsMade self.old self.new first }
+        ensures spent { (l : ℕ) → 0 < count_of self.new.trees l → l < first }
+    {
+        give_up_from(&mut self.nodes, self.index.as_slice(), first, self.next);
+    }
+
     /// Sets the next label back, so that the labels from it on are drawn again.
     pub fn rewind(&mut self, label: u32)
         requires low { label ≤ self.old.next }
@@ -146,6 +160,37 @@ impl Arena {
     {
         self.index.truncate(label as usize);
         self.next = label;
+    }
+}
+
+// Whether a slot has the node of this label.
+fn has_label(nodes: &Slab<Node>, slot: usize, label: u32) -> bool
+    ensures { result ≡ has_label label (get nodes.now slot) }
+{
+    match nodes.get(slot) {
+        Some(node) => node.label == label,
+        None => false,
+    }
+}
+
+// Empties a slot, if it has the node of this label.
+fn give_up(nodes: &mut Slab<Node>, slot: usize, label: u32)
+    ensures at { get nodes.new slot ≡ kept_but label (get nodes.old slot) }
+    ensures others { (j : ℕ) → j ≢ slot → get nodes.new j ≡ get nodes.old j }
+{
+    if has_label(nodes, slot, label) {
+        nodes.remove(slot);
+    }
+}
+
+// Empties the slots that have a node of this label or a greater one. The index tells the slot of each label.
+fn give_up_from(nodes: &mut Slab<Node>, index: &[u32], first: u32, next: u32)
+    requires long { length index.now ≡ next }
+    requires indexed { IsIndexed nodes.old.slots index.now }
+    ensures { (j : ℕ) → get nodes.new j ≡ kept_below first (get nodes.old j) }
+{
+    for label in first..next {
+        give_up(nodes, index[label as usize] as usize, label);
     }
 }
 

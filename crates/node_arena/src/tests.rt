@@ -332,3 +332,16 @@ fn draws_no_label_at_the_cap(rt: HostRuntime) -> Result<(), Fail> {
     assert_eq!(rt; full, Err(MakeFault::Full));
     Ok(())
 }
+
+#[test]
+fn drops_what_was_made(rt: HostRuntime) -> Result<(), Fail> {
+    let mut arena = Arena::new(rt.alloc(), 9)?;
+    let text = Chars::from_slice(rt.alloc(), &['a'])?;
+    let made = arena.make_words(text)?;
+    assert!(rt; arena.holds(made));
+    arena.drop_made(1);
+    assert!(rt; !arena.holds(made) && arena.node_count() == 1 && arena.next_label() == 2);
+    arena.rewind(1);
+    assert_eq!(rt; arena.next_label(), 1);
+    Ok(())
+}

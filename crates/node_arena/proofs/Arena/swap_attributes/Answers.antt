@@ -3,7 +3,8 @@ use Rattle.std.specs.Option.{option_map_or, option_and_then}
 use Rattle.dom_model.specs.Contents.{is_element, attributes_in, with_attributes}
 use Rattle.node_arena.specs.declared.Node.{Node}
 use Rattle.node_arena.proofs.Walk.{stored_state}
-use Rattle.node_arena.proofs.ReviseOk.{revise_state, attributes_node}
+use Rattle.dom_model.proofs.NodesKept.{attributes_node}
+use Rattle.node_arena.proofs.ReviseOk.{revise_state}
 use Rattle.node_arena.proofs.Arena.swap_attributes.Goals as goal
 
 pub swap_attributes_at-requires : goal.swap_attributes_at-requires

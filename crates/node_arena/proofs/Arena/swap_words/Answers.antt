@@ -3,7 +3,8 @@ use Rattle.std.specs.Option.{option_map_or, option_and_then}
 use Rattle.dom_model.specs.Contents.{has_chars, chars_in, with_chars}
 use Rattle.node_arena.specs.declared.Node.{Node}
 use Rattle.node_arena.proofs.Walk.{stored_state}
-use Rattle.node_arena.proofs.ReviseOk.{revise_state, chars_node}
+use Rattle.dom_model.proofs.NodesKept.{chars_node}
+use Rattle.node_arena.proofs.ReviseOk.{revise_state}
 use Rattle.node_arena.proofs.Arena.swap_words.Goals as goal
 
 pub swap_chars_at-requires : goal.swap_chars_at-requires

@@ -1,10 +1,11 @@
 -- Each node stays one that may be, whatever edit is made.
-use Rattle.std.proofs.Common.{◌≡◌, ◌↔◌, ◌^◌, ℕ, ◌<◌, true, false, cond, [], Option, Some, None, refl, sym, ap, subst, ◌∙◌, inl, inr, true≢false, arith, eqb}
+use Rattle.std.proofs.Common.{◌≡◌, ◌↔◌, ◌^◌, ℕ, ◌<◌, true, false, cond, List, [], length, Option, Some, None, refl, sym, ap, subst, ◌∙◌, inl, inr, true≢false, arith, eqb}
 use Rattle.std.proofs.lemmas.Bool.Decides.{eqb_tells}
 use Rattle.std.specs.Option.{option_map, option_map_or}
 use Rattle.dom_model.specs.declared.Content.{Content}
-use Rattle.dom_model.specs.declared.Content.TheVariants.{Document}
-use Rattle.dom_model.specs.Contents.{IsNode, may_have_children, char_length, is_parent_at}
+use Rattle.dom_model.specs.declared.attributes.Attribute.{Attribute}
+use Rattle.dom_model.specs.declared.Content.TheVariants.{Document, Element, Words, Remark}
+use Rattle.dom_model.specs.Contents.{IsNode, may_have_children, char_length, is_parent_at, with_chars, with_attributes}
 use Rattle.dom_model.specs.Forest.{Forest, Seen, count_of, IsDistinct, seek, parent_of, taken_from, tree_of, without, with_leaf, link, unlink, CanPut, relinked, unlinked}
 use Rattle.dom_model.specs.Revised.{revised, revised_seen}
 use Rattle.dom_model.proofs.Totals.{total-without}
@@ -79,3 +80,23 @@ nodes-revised f n g keeps nodes l s e = by_seen (seek None f l) refl (sym (seek-
           | inl (u, at) ↦ rw u (subst (λ k. IsNode k (record { parent = o.parent; content = g o.content; children = o.children })) at (keeps o (ap (seek None f) at ∙ t) (subst (λ k. IsNode k o) (sym at) (nodes l o t))))
           | inr (u, _) ↦ rw u (nodes l o t)
         ])
+
+-- ---- characters and attributes
+
+pub chars_node : (l : ℕ) (chars : List ℕ) (o : Seen Content) → length chars < 2 ^ 32 → IsNode l o → IsNode l (record { parent = o.parent; content = with_chars chars o.content; children = o.children })
+chars_node l chars o short node = by_content o.content refl
+  where
+    by_content : (c : Content) → o.content ≡ c → IsNode l (record { parent = o.parent; content = with_chars chars c; children = o.children })
+    by_content Document e = record { document = subst (λ c. (c ≡ Document) ↔ (l ≡ 0)) e node.document; leaf = λ h. node.leaf (ap may_have_children e ∙ h); short = omega arith }
+    by_content (Element name attributes) e = record { document = subst (λ c. (c ≡ Document) ↔ (l ≡ 0)) e node.document; leaf = λ h. node.leaf (ap may_have_children e ∙ h); short = omega arith }
+    by_content (Words w) e = record { document = (λ h. absurd (let h' = h in cc), λ h. absurd (let k : Words w ≡ Document = sym e ∙ node.document.1 h in cc)); leaf = λ h. node.leaf (ap may_have_children e ∙ h); short = short }
+    by_content (Remark w) e = record { document = (λ h. absurd (let h' = h in cc), λ h. absurd (let k : Remark w ≡ Document = sym e ∙ node.document.1 h in cc)); leaf = λ h. node.leaf (ap may_have_children e ∙ h); short = short }
+
+pub attributes_node : (l : ℕ) (list : List Attribute) (o : Seen Content) → IsNode l o → IsNode l (record { parent = o.parent; content = with_attributes list o.content; children = o.children })
+attributes_node l list o node = by_content o.content refl
+  where
+    by_content : (c : Content) → o.content ≡ c → IsNode l (record { parent = o.parent; content = with_attributes list c; children = o.children })
+    by_content Document e = record { document = subst (λ c. (c ≡ Document) ↔ (l ≡ 0)) e node.document; leaf = λ h. node.leaf (ap may_have_children e ∙ h); short = omega arith }
+    by_content (Element name attributes) e = record { document = (λ h. absurd (let h' = h in cc), λ h. absurd (let k : Element name attributes ≡ Document = sym e ∙ node.document.1 h in cc)); leaf = λ h. node.leaf (ap may_have_children e ∙ h); short = omega arith }
+    by_content (Words w) e = record { document = subst (λ c. (c ≡ Document) ↔ (l ≡ 0)) e node.document; leaf = λ h. node.leaf (ap may_have_children e ∙ h); short = subst (λ c. char_length c < 2 ^ 32) e node.short }
+    by_content (Remark w) e = record { document = subst (λ c. (c ≡ Document) ↔ (l ≡ 0)) e node.document; leaf = λ h. node.leaf (ap may_have_children e ∙ h); short = subst (λ c. char_length c < 2 ^ 32) e node.short }
