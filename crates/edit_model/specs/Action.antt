@@ -1,0 +1,87 @@
+-- What commands do to a state besides edits: making nodes, selecting, and setting overrides and flags.
+use Rattle.std.specs.Prelude.{ℕ, ◌+◌, ◌^◌, ◌&&◌, nat_lt, List, [], length, Option, Some, None, if◌then◌else◌}
+use Rattle.dom_model.specs.declared.Content.{Content}
+use Rattle.dom_model.specs.declared.Content.TheVariants.{Element, Words}
+use Rattle.dom_model.specs.declared.attributes.Attribute.{Attribute}
+use Rattle.dom_model.specs.Forest.{with_leaf}
+use Rattle.html_names.specs.declared.commands.Command.{Command}
+use Rattle.live_range.specs.declared.places.Point.{Point}
+use Rattle.live_range.specs.declared.places.Pair.{Pair}
+use Rattle.live_range.specs.Edit as range
+use Rattle.live_range.specs.LivePoints.{mapped}
+use Rattle.edit_model.specs.declared.settings.Setting.{Setting}
+use Rattle.edit_model.specs.declared.settings.Flags.{Flags}
+use Rattle.edit_model.specs.State.{State}
+use Rattle.edit_model.specs.Overrides.{with_setting}
+use Rattle.edit_model.specs.Confined.{may_select, may_grow, may_send}
+use Rattle.edit_model.specs.Edit.{Edit, edited, changed}
+
+pub data Action : Type 0 where
+  Change : (edit : Edit) → Action
+  -- a loose node with the next label
+  MakeElement : (name : List ℕ) (attributes : List Attribute) → Action
+  MakeWords : (chars : List ℕ) → Action
+  -- selecting steps
+  Select : (anchor focus : Point) → Action
+  Extend : (focus : Point) → Action
+  Unselect : Action
+  Grow : (at : Point) → Action
+  Send : (node at tail : ℕ) → Action
+  Scratch : (pair : Pair) → Action
+  -- settings
+  Override : (command : Command) (setting : Setting) → Action
+  Flag : (flags : Flags) → Action
+
+-- ---- making
+
+-- a text has at most 4,294,967,295 characters; a longer one is made empty
+abbrev pub words_content : List ℕ → Content
+words_content chars = if nat_lt (length chars) (2 ^ 32) then Words chars else Words []
+
+unfoldable pub made : Content → State → State
+made c s = record s { trees = with_leaf s.trees s.next c; next = s.next + 1 }
+
+-- ---- selecting: a step to where no point may stand is left out
+
+abbrev pub with_selection : Option Pair → State → State
+with_selection pair s = changed s s.trees (record s.points { selection = pair })
+
+abbrev pub with_scratch : Option Pair → State → State
+with_scratch pair s = record s { points = record s.points { scratch = pair } }
+
+unfoldable pub selected : Point → Point → State → State
+selected anchor focus s =
+    if may_select s anchor && may_select s focus then with_selection (Some (record { anchor = anchor; focus = focus })) s else s
+
+abbrev pub extended_from : Option Pair → Point → State → State
+extended_from None focus s = s
+extended_from (Some pair) focus s = if may_select s focus then with_selection (Some (record { anchor = pair.anchor; focus = focus })) s else s
+
+unfoldable pub extended : Point → State → State
+extended focus s = extended_from s.points.selection focus s
+
+-- each kept point at the place grows by 1
+unfoldable pub grown : Point → State → State
+grown at s = if may_grow s at then changed s s.trees (mapped (range.Grown at) s.points) else s
+
+-- the points of a text past an offset go to another text (the points of its parent are not moved by this)
+unfoldable pub sent : ℕ → ℕ → ℕ → State → State
+sent node at tail s = if may_send s node at tail then changed s s.trees (mapped (range.Split node at tail node 0) s.points) else s
+
+unfoldable pub scratched : Pair → State → State
+scratched pair s = if may_select s pair.anchor && may_select s pair.focus then with_scratch (Some pair) s else s
+
+-- ---- the state after an action
+
+unfoldable pub acted : Action → State → State
+acted (Change e) s = edited e s
+acted (MakeElement name attributes) s = made (Element name attributes) s
+acted (MakeWords chars) s = made (words_content chars) s
+acted (Select anchor focus) s = selected anchor focus s
+acted (Extend focus) s = extended focus s
+acted Unselect s = with_selection None s
+acted (Grow at) s = grown at s
+acted (Send node at tail) s = sent node at tail s
+acted (Scratch pair) s = scratched pair s
+acted (Override command setting) s = record s { overrides = with_setting s.overrides command setting }
+acted (Flag flags) s = record s { flags = flags }

@@ -1,0 +1,130 @@
+-- The laws of editing: what holds along every way that actions lead, so of every run (Run.antt).
+use Rattle.std.specs.Prelude.{◌≡◌, ◌≢◌, ◌⊎◌, ℕ, ◌+◌, ◌≤◌, Bool, ◌||◌, true, false, bytes_eq, codes, List, ◌++◌, length, Option, Some}
+use Rattle.std.specs.List.{AllZip}
+use Rattle.dom_model.specs.declared.Content.TheVariants.{Element}
+use Rattle.dom_model.specs.Editing.{is_host, is_true_state, is_false_state}
+use Rattle.dom_model.specs.Contents.{name_of}
+use Rattle.dom_model.specs.Forest.{tree_of, IsWithin}
+use Rattle.live_range.specs.declared.places.Pair.{Pair}
+use Rattle.edit_model.specs.State.{State, IsOver}
+use Rattle.edit_model.specs.Kept.{bears_nothing, is_thing}
+use Rattle.edit_model.specs.Confined.{is_own, is_break}
+use Rattle.edit_model.specs.Edit.{Remove, Set, Unset, is_made_edit}
+use Rattle.edit_model.specs.Action.{Action, Change, MakeElement}
+use Rattle.edit_model.specs.Run.{Reaches, here, onward, reaches_trans, edits_on}
+use Rattle.edit_model.specs.History.{begun}
+use Rattle.edit_model.specs.Lawful.{IsLawful}
+use Rattle.edit_model.specs.Outside.{outside_by, outside, IsConfined, IsApart, is_island}
+
+-- ---- labels and the cap
+
+-- a label that was drawn is never drawn again
+abbrev pub LabelsRise : Type 0
+LabelsRise = (s t : State) → Reaches s t → s.next ≤ t.next
+
+-- what is past the cap stays past it
+abbrev pub CapStaysPassed : Type 0
+CapStaysPassed = (s t : State) → Reaches s t → IsOver s → IsOver t
+
+-- ---- the list of edits
+
+-- a command has made as many edits as its list has
+abbrev pub EditsAreCounted : Type 0
+EditsAreCounted = (s t : State) (r : Reaches s t) → t.edits ≡ s.edits + length (edits_on r)
+
+-- one way after another makes the edits of both
+abbrev pub EditsFollow : Type 0
+EditsFollow = (s t u : State) (p : Reaches s t) (q : Reaches t u) → edits_on (reaches_trans p q) ≡ edits_on p ++ edits_on q
+
+-- ---- lawful states
+
+abbrev pub LawfulStays : Type 0
+LawfulStays = (s t : State) → Reaches s t → IsLawful s → IsLawful t
+
+-- ---- confinement
+
+-- what lies outside the affected host stays, its own attributes too, and nothing that the command made lies there
+abbrev pub OutsideStays : Type 0
+OutsideStays = (s t : State) → Reaches s t → IsLawful s → IsConfined s → (outside t ≡ outside s) × IsConfined t
+
+-- so it is with a command that begins in a lawful state, whatever its host
+abbrev pub CommandsAreConfined : Type 0
+CommandsAreConfined =
+    (s t : State) (host : Option ℕ) (keeping : Bool) → IsLawful s → Reaches (begun host keeping s) t → outside_by host t.trees ≡ outside_by host s.trees
+
+-- the name of a mark stays, and so do its points where both stand apart from the host
+abbrev pub KeepsMark : State → List ℕ × Pair → List ℕ × Pair → Type 0
+KeepsMark s m n = (n.0 ≡ m.0) × (IsApart s m.1.anchor.label → IsApart s m.1.focus.label → n.1 ≡ m.1)
+
+-- the marks stay in their order, and one that stands apart stays where it is
+abbrev pub MarksStay : Type 0
+MarksStay = (s t : State) → Reaches s t → IsLawful s → IsConfined s → AllZip (KeepsMark s) s.points.marks t.points.marks
+
+-- a removal, at the state where it is made, of a tree that holds l below its root; the root is editable, made by the command or
+-- a br
+abbrev pub TakesOut : Action → State → ℕ → Type 0
+TakesOut (Change (Remove n)) s l =
+    (is_made_edit (Remove n) s ≡ true) × (IsWithin s.trees n l × ((n ≢ l) × ((is_own s n || is_break s.trees n) ≡ true)))
+TakesOut _ s l = ⊥
+
+-- some action on the way is such a removal
+abbrev pub TakesOutOn : {s t : State} → Reaches s t → ℕ → Type 0
+TakesOutOn here l = ⊥
+TakesOutOn (onward {t = t} q a) l = TakesOutOn q l ⊎ TakesOut a t l
+
+-- an island of the host as the command begins keeps its tree; while it is in the document it is below the host; and it leaves the
+-- document only with a tree that holds it
+abbrev pub IslandsStay : Type 0
+IslandsStay =
+    (s t : State) (h : ℕ) (keeping : Bool) → IsLawful s → is_host s.trees h ≡ true → (r : Reaches (begun (Some h) keeping s) t)
+    → (l : ℕ) → is_island (begun (Some h) keeping s) l ≡ true
+    → (tree_of t.trees l ≡ tree_of s.trees l) × ((IsWithin t.trees 0 l → IsWithin t.trees h l) × (IsWithin s.trees 0 l → IsWithin t.trees 0 l ⊎ TakesOutOn r l))
+
+-- an action that gives no node a state of contenteditable and takes none away
+abbrev pub LeavesStates : Action → Type 0
+LeavesStates (Change (Set n name value)) = bytes_eq name (codes "contenteditable") ≡ false
+LeavesStates (Change (Unset n name)) = bytes_eq name (codes "contenteditable") ≡ false
+LeavesStates (MakeElement name attributes) = (is_true_state (Element name attributes) || is_false_state (Element name attributes)) ≡ false
+LeavesStates _ = Unit {0}
+
+-- each action on the way is such
+abbrev pub LeavesStatesOn : {s t : State} → Reaches s t → Type 0
+LeavesStatesOn here = Unit {0}
+LeavesStatesOn (onward {t = t} q a) = LeavesStatesOn q × LeavesStates a
+
+-- the same as `TakesOut`, of a root that is editable or made by the command
+abbrev pub TakesOwn : Action → State → ℕ → Type 0
+TakesOwn (Change (Remove n)) s l = (is_made_edit (Remove n) s ≡ true) × (IsWithin s.trees n l × ((n ≢ l) × (is_own s n ≡ true)))
+TakesOwn _ s l = ⊥
+
+abbrev pub TakesOwnOn : {s t : State} → Reaches s t → ℕ → Type 0
+TakesOwnOn here l = ⊥
+TakesOwnOn (onward {t = t} q a) l = TakesOwnOn q l ⊎ TakesOwn a t l
+
+-- so an island leaves the document where no state of contenteditable is given or taken on the way
+abbrev pub IslandsLeave : Type 0
+IslandsLeave =
+    (s t : State) (h : ℕ) (keeping : Bool) → IsLawful s → is_host s.trees h ≡ true → (r : Reaches (begun (Some h) keeping s) t) → LeavesStatesOn r
+    → (l : ℕ) → is_island (begun (Some h) keeping s) l ≡ true → IsWithin s.trees 0 l → IsWithin t.trees 0 l ⊎ TakesOwnOn r l
+
+-- ---- keeping commands
+
+-- an action that removes a tree removes one that bears nothing that is kept
+abbrev pub TakesNothing : Action → State → Type 0
+TakesNothing (Change (Remove n)) s = is_made_edit (Remove n) s ≡ true → bears_nothing (tree_of s.trees n) ≡ true
+TakesNothing _ s = Unit {0}
+
+-- each action on the way does
+abbrev pub TakesNothingOn : {s t : State} → Reaches s t → Type 0
+TakesNothingOn here = Unit {0}
+TakesNothingOn (onward {t = t} q a) = TakesNothingOn q × TakesNothing a t
+
+abbrev pub KeptStays : Type 0
+KeptStays = (s t : State) (r : Reaches s t) → s.keeping ≡ true → TakesNothingOn r
+
+-- so it loses no image and no rule of the document
+abbrev pub ThingsStay : Type 0
+ThingsStay =
+    (s t : State) → Reaches s t → IsLawful s → s.keeping ≡ true → (l : ℕ) (name : List ℕ)
+    → IsWithin s.trees 0 l → name_of s.trees l ≡ Some name → is_thing name ≡ true
+    → IsWithin t.trees 0 l × (name_of t.trees l ≡ Some name)

@@ -1,0 +1,14 @@
+pub mod State
+pub mod Overrides
+pub mod Kept
+pub mod Confined
+pub mod Edit
+pub mod Action
+pub mod Run
+pub mod Gives
+pub mod Compositions
+pub mod History
+pub mod Codes
+pub mod Lawful
+pub mod Outside
+pub mod Laws

@@ -1,0 +1,64 @@
+//! The laws of editing. Each is the contract of a function that does nothing, over every way that actions lead from one
+//! state to another: the end of every run is reached so.
+
+ghost use Rattle.edit_model.specs.Laws.{LabelsRise, ThingsStay, CapStaysPassed, EditsAreCounted, EditsFollow, LawfulStays, OutsideStays, CommandsAreConfined, IslandsLeave, IslandsStay, MarksStay, KeptStays};
+
+/// The next label never falls.
+pub fn labels_rise()
+    ensures { LabelsRise }
+{}
+
+/// A run past the cap stays past it.
+pub fn cap_stays_passed()
+    ensures { CapStaysPassed }
+{}
+
+/// The count of edits is the length of their list.
+pub fn edits_are_counted()
+    ensures { EditsAreCounted }
+{}
+
+/// A run after another makes the edits of both, in order.
+pub fn edits_follow()
+    ensures { EditsFollow }
+{}
+
+/// Every action keeps a state lawful.
+pub fn lawful_stays()
+    ensures { LawfulStays }
+{}
+
+/// What lies outside the affected host stays.
+pub fn outside_stays()
+    ensures { OutsideStays }
+{}
+
+/// A command that begins in a lawful state changes nothing outside its affected host.
+pub fn commands_are_confined()
+    ensures { CommandsAreConfined }
+{}
+
+/// An island of the affected host keeps its tree, below the host or out of the document with a tree that holds it.
+pub fn islands_stay()
+    ensures { IslandsStay }
+{}
+
+/// Where no state of contenteditable changes, an island leaves the document only below a root that is editable or made.
+pub fn islands_leave()
+    ensures { IslandsLeave }
+{}
+
+/// A mark whose points both stand apart from the affected host stays where it is.
+pub fn marks_stay()
+    ensures { MarksStay }
+{}
+
+/// A command that keeps contents removes no tree with an image, a rule or a visible character.
+pub fn kept_stays()
+    ensures { KeptStays }
+{}
+
+/// A command that keeps contents loses no image and no rule of the document.
+pub fn things_stay()
+    ensures { ThingsStay }
+{}

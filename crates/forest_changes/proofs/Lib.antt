@@ -1,0 +1,8 @@
+pub mod Places
+pub mod Contents
+pub mod Twice
+pub mod BesideLeaf
+pub mod ShedChanges
+pub mod DownChange
+pub mod ChangeLists
+pub mod ManyLeaves

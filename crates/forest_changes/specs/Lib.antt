@@ -1,0 +1,4 @@
+pub mod Change
+pub mod Named
+pub mod Leaves
+pub mod Down

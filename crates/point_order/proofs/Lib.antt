@@ -1,0 +1,4 @@
+mod Finds
+mod Toward
+mod Order
+mod Document
