@@ -1,0 +1,247 @@
+-- An edit that sets or unsets an attribute: the attribute list of an element is rewritten, and nothing else.
+use Rattle.std.proofs.Common.{◌≡◌, ◌⊎◌, ℕ, ◌+◌, ◌<◌, ◌≤◌, Bool, true, false, true≢false, not, cond, eqb, List, [], ◌∷◌, ◌++◌, length, Option, Some, None, refl, sym, ap, subst, ◌∙◌, inl, inr, arith}
+use Rattle.std.specs.Prelude.{IfSome, ◌&&◌, ◌==◌, if◌then◌else◌}
+use Rattle.std.specs.Option.{option_map_or, option_map, option_and_then, option_copied, is_some}
+use Rattle.std.proofs.Common.{Bor}
+use Rattle.std.proofs.lemmas.Bool.Decides.{eqb_tells}
+use Rattle.std.proofs.lemmas.List.{append-nil}
+use Rattle.dom_model.specs.declared.Content.{Content}
+use Rattle.dom_model.specs.declared.Content.TheVariants.{Document, Element, Words, Remark}
+use Rattle.dom_model.specs.declared.attributes.Attribute.{Attribute}
+use Rattle.dom_model.specs.AttributeList.{set_in, unset_in, value_of}
+use Rattle.dom_model.specs.Contents.{is_element, is_element_at, attributes_in, attributes_of, with_attributes, words_length}
+use Rattle.dom_model.specs.Document.{node_count, char_count}
+use Rattle.dom_model.specs.Forest.{Forest, Seen, tops, total, seek, count_of, content_of, tree_of, IsDistinct}
+use Rattle.dom_model.specs.Forest.Forest.{Nil, Tree}
+use Rattle.dom_model.specs.Revised.{revised}
+use Rattle.dom_model.specs.Shed.{shed}
+use Rattle.dom_model.specs.State.{State as Arena, IsLawful as IsArena, IsSlotted}
+use Rattle.dom_model.proofs.Revising.{total-revised}
+use Rattle.dom_model.proofs.Stands.{Stands, seek_Stands}
+use Rattle.dom_model.proofs.Shedding.{IsDistinct-shed}
+use Rattle.node_arena.specs.declared.NodeRef.{NodeRef}
+use Rattle.live_range.specs.declared.places.Point.{Point}
+use Rattle.live_range.specs.declared.places.Pair.{Pair}
+use Rattle.live_range.specs.LivePoints.{LivePoints}
+use Rattle.live_range.specs.ActiveRange.{range_changed, same_point, range_start, range_end}
+use Rattle.point_order.specs.PointOrder.{is_before}
+use Rattle.forest_changes.specs.Change.{Redress, applied, turned}
+use Rattle.forest_changes.proofs.Twice.{forest_of}
+use Rattle.forest_changes.proofs.ShedChanges.{content_of-shed}
+use Rattle.edit_steps.specs.declared.step.Step.{Step}
+use Rattle.edit_steps.specs.declared.step.Step.TheVariants.{Attributes}
+use Rattle.edit_steps.specs.Step.{StepFits, step_applied, step_turned}
+use Rattle.undo_log.specs.Log.{Log, with_step}
+use Rattle.edit_model.specs.State.{State}
+use Rattle.edit_model.specs.Edit.{Edit, Set, Unset, is_made_edit, trees_after, points_after, overrides_after, with_set, with_unset}
+use Rattle.edit_model.specs.Overrides.{no_overrides}
+use Rattle.edit_model.specs.Confined.{is_own, may_set, may_unset, has_value}
+use Rattle.edit_doc.specs.declared.Doc.TheInside.{Inside}
+use Rattle.edit_doc.specs.declared.command.Command.{Command}
+use Rattle.edit_doc.specs.Whole.{Whole, IsOpen}
+use Rattle.edit_doc.specs.Held.{Holds}
+use Rattle.edit_doc.specs.Marks.{Marks}
+use Rattle.edit_doc.specs.Sound.{RefIn}
+use Rattle.edit_doc.proofs.Inner.{seen, Ok}
+use Rattle.edit_doc.proofs.SeenNodes.{out_of, IsSeen, held_seen, attributes_seen}
+use Rattle.edit_doc.proofs.Changing.{Follows}
+use Rattle.edit_doc.proofs.Edited.{Makes, Done, edit_called}
+use Rattle.edit_doc.proofs.Ordered.{tree_of-revised, before-revised}
+
+and_false : (a : Bool) → (a && false) ≡ false
+and_false true = refl
+and_false false = refl
+
+-- ---- contents that are rewritten
+
+-- what is made of the content of the node alone
+module _ (n : ℕ) (g h : Content → Content) where
+  revised_at : (q : Option ℕ) (f : Forest Content) → ((s : Seen Content) → Stands q f n s → g s.content ≡ h s.content) → revised f n g ≡ revised f n h
+  revised_at q Nil same = refl
+  revised_at q (Tree m c ks rest) same =
+      let ik = revised_at (Some m) ks (λ s st. same s (inr (inl st))) in
+      let ir = revised_at q rest (λ s st. same s (inr (inr st))) in
+      elim (eqb_tells n m) [
+        | inl (e, is) ↦ (let own : g c ≡ h c = same (record { parent = q; content = c; children = tops ks }) (inl (sym is, refl)) in
+            rw e (λ i. Tree m (own i) (ik i) (ir i)))
+        | inr (e, _) ↦ rw e (λ i. Tree m c (ik i) (ir i))
+      ]
+
+pub revised_same : (f : Forest Content) (n : ℕ) (g h : Content → Content) (c : Content) → IsDistinct f → content_of f n ≡ Some c → g c ≡ h c → revised f n g ≡ revised f n h
+revised_same f n g h c once is same = revised_at n g h None f (λ s st. (
+    let e : content_of f n ≡ Some s.content = ap (option_map (λ (t : Seen Content). t.content)) (seek_Stands None f n s (once n) st) in
+    let here : Some c ≡ Some s.content = sym is ∙ e in
+    let own : c ≡ s.content = (let t = here in cc) in
+    subst (λ t. g t ≡ h t) own same))
+
+chars-revised : (n : ℕ) (g : Content → Content) → ((c : Content) → words_length (g c) ≡ words_length c) → (f : Forest Content) → total (λ _ c. words_length c) (revised f n g) ≡ total (λ _ c. words_length c) f
+chars-revised n g same Nil = refl
+chars-revised n g same (Tree m c ks rest) = elim (eqb_tells n m) [
+  | inl (e, _) ↦ rw e (omega (arith, same c, chars-revised n g same ks, chars-revised n g same rest))
+  | inr (e, _) ↦ rw e (omega (arith, chars-revised n g same ks, chars-revised n g same rest))
+]
+
+same_chars : (list : List Attribute) (c : Content) → words_length (with_attributes list c) ≡ words_length c
+same_chars list Document = refl
+same_chars list (Element name attributes) = refl
+same_chars list (Words chars) = refl
+same_chars list (Remark chars) = refl
+
+pub nodes-redressed : (f : Forest Content) (n : ℕ) (list : List Attribute) → node_count (applied (Redress n list) f) ≡ node_count f
+unfolding applied
+nodes-redressed f n list = ap (total (λ _ _. 1)) (tree_of-revised n (with_attributes list) f 0) ∙ total-revised n (with_attributes list) (λ _. 1) (tree_of f 0)
+
+pub chars-redressed : (f : Forest Content) (n : ℕ) (list : List Attribute) → char_count (applied (Redress n list) f) ≡ char_count f
+unfolding applied
+chars-redressed f n list = ap (total (λ _ c. words_length c)) (tree_of-revised n (with_attributes list) f 0) ∙ chars-revised n (with_attributes list) (same_chars list) (tree_of f 0)
+
+-- ---- the active range stays
+
+same_itself : (p : Point) → same_point p p ≡ true
+same_itself p = rw (own p.label, own p.offset) refl
+  where
+    own : (n : ℕ) → eqb n n ≡ true
+    own n = elim (eqb_tells n n) [ inl (e, _) ↦ e | inr (_, off) ↦ absurd (off refl) ]
+
+range_same : (before : Point → Point → Bool) (o : Option Pair) → range_changed before before o o ≡ false
+range_same before None = refl
+range_same before (Some p) =
+    rw (same_itself (range_start before p), same_itself (range_end before p)) refl
+
+pub overrides-revised : (s : State) (n : ℕ) (g : Content → Content) → overrides_after s (revised s.trees n g) s.points ≡ s.overrides
+unfolding overrides_after
+overrides-revised s n g =
+    let e : range_changed (is_before s.trees) (is_before (revised s.trees n g)) s.points.selection s.points.selection ≡ false =
+    (λ i. range_changed (is_before s.trees) (λ p q. before-revised n g s.trees p q i) s.points.selection s.points.selection) ∙ range_same (is_before s.trees) s.points.selection in
+    rw e refl
+
+-- ---- the step that rewrites a list
+
+follows : (c d : Command) (n : ℕ) (list : List Attribute) (f : Forest Content) → Marks (n ∷ []) c d → Follows c d (Redress n list) (turned (Redress n list) f)
+unfolding turned
+follows c d n list f m = record {
+  start = ap (λ (k : Command). k.start) m.rest;
+  host = ap (λ (k : Command). k.host) m.rest;
+  keeping = ap (λ (k : Command). k.keeping) m.rest;
+  resumed = ap (λ (k : Command). k.resumed) m.rest;
+  kept = ap (λ (k : Command). k.kept) m.rest;
+  left_before = ap (λ (k : Command). k.left_before) m.rest;
+  count = m.count;
+  stay = m.stay;
+  marked = (m.marked.0, tt);
+  marked_turned = (m.marked.0, tt);
+  more = [];
+  left = ap (λ (k : Command). k.left.items) m.rest ∙ sym (append-nil c.left.items);
+  loosed_is = refl;
+}
+
+module _ (d : Inside) (law : IsArena d.arena) (slotted : IsSlotted d.arena) (ok : Ok d) (node : NodeRef) (held : RefIn d.arena.held node) (here : IsSeen d node.label)
+    (tag : List ℕ) (own list : List Attribute) (content : content_of d.arena.trees node.label ≡ Some (Element tag own)) where
+  pub redress_fits : StepFits (Attributes node list) d.arena
+  redress_fits = record {
+    fits = record { forest = forest_of d.arena law; here = ap (λ o. option_map_or is_element o false) content };
+    slotted = slotted;
+    held = (held, tt);
+  }
+
+  abbrev g : Forest Content
+  g = shed (out_of d) d.arena.trees
+
+  content_here : content_of g node.label ≡ Some (Element tag own)
+  content_here = content_of-shed (out_of d) d.arena.trees node.label (forest_of d.arena law) here ∙ content
+
+  trees_same : (h : Content → Content) → with_attributes list (Element tag own) ≡ h (Element tag own) → revised g node.label (with_attributes list) ≡ revised g node.label h
+  trees_same h same = revised_same g node.label (with_attributes list) h (Element tag own) (IsDistinct-shed (out_of d) d.arena.trees law.distinct) content_here same
+
+  module _ (c : Command) (m : Marks (node.label ∷ []) d.command c) where
+    redresses : (e : Edit) (h : Content → Content) →
+        revised g node.label (with_attributes list) ≡ trees_after e g →
+        d.points ≡ points_after e g d.points →
+        d.overrides.items ≡ overrides_after (seen d).state (trees_after e g) (points_after e g d.points) →
+        Makes d e (Attributes node list) d.points d.overrides.items d.counts c
+    unfolding applied
+    redresses e h trees points overrides = record {
+      fits = redress_fits;
+      seen = (here, tt);
+      follows = follows d.command c node.label list d.arena.trees m;
+      names = refl;
+      trees = trees;
+      points_are = points;
+      overrides_are = overrides;
+      nodes = ok.nodes ∙ sym (nodes-redressed d.arena.trees node.label list);
+      chars = ok.chars ∙ sym (chars-redressed d.arena.trees node.label list);
+    }
+
+    pub sets : (name value : List ℕ) → list ≡ set_in own name value → Makes d (Set node.label name value) (Attributes node list) d.points d.overrides.items d.counts c
+    unfolding trees_after points_after
+    sets name value is = redresses (Set node.label name value) (with_set name value) (trees_same (with_set name value) (ap (Element tag) is)) refl (sym (overrides-revised (seen d).state node.label (with_set name value)))
+
+    pub unsets : (name : List ℕ) → list ≡ unset_in own name → Makes d (Unset node.label name) (Attributes node list) d.points d.overrides.items d.counts c
+    unfolding trees_after points_after
+    unsets name is = redresses (Unset node.label name) (with_unset name) (trees_same (with_unset name) (ap (Element tag) is)) refl (sym (overrides-revised (seen d).state node.label (with_unset name)))
+
+-- ---- for the value that a contract sees
+
+module _ (d : Inside) (v : Whole) (is : seen d ≡ v) (law : IsArena d.arena) (slotted : IsSlotted d.arena) (now_open : IsOpen v) (ok : Ok d) (node : NodeRef) (holds : Holds v node)
+    (tag : List ℕ) (own : List Attribute) (content : content_of d.arena.trees node.label ≡ Some (Element tag own)) where
+  held_here : Holds (seen d) node
+  held_here = held_seen d v is node holds
+
+  own_seen : attributes_of v.state.trees node.label ≡ Some own
+  own_seen = attributes_seen d law v is node holds ∙ ap (option_and_then attributes_in) content
+
+  pub may_unset_here : (name : List ℕ) → is_own v.state node.label ≡ true → option_map_or (λ _. true) (value_of own name) false ≡ true → is_made_edit (Unset node.label name) v.state ≡ true
+  unfolding is_made_edit may_unset
+  may_unset_here name may some = rw (may, own_seen) some
+
+  pub not_unset_here : (name : List ℕ) → option_map_or (λ _. true) (value_of own name) false ≡ false → is_made_edit (Unset node.label name) v.state ≡ false
+  unfolding is_made_edit may_unset
+  not_unset_here name none = rw (own_seen, none) (and_false (is_own v.state node.label))
+
+  pub may_set_here : (name value : List ℕ) → is_own v.state node.label ≡ true → has_value own name value ≡ false → is_made_edit (Set node.label name value) v.state ≡ true
+  unfolding is_made_edit may_set
+  may_set_here name value may other = rw (may, own_seen, other) refl
+
+  pub not_set_here : (name value : List ℕ) → has_value own name value ≡ true → is_made_edit (Set node.label name value) v.state ≡ false
+  unfolding is_made_edit may_set
+  not_set_here name value same = rw (own_seen, same) (and_false (is_own v.state node.label))
+
+  module _ (list : List Attribute) (c : Command) (m : Marks (node.label ∷ []) d.command c) (arena : Arena) (log : Log Step) (arena_is : arena ≡ step_applied (Attributes node list) d.arena) (log_is : log ≡ with_step d.log (step_turned (Attributes node list) d.arena)) where
+    pub unset_done : (name : List ℕ) → list ≡ unset_in own name → is_made_edit (Unset node.label name) v.state ≡ true → Done d v (Unset node.label name) arena d.points d.overrides.items d.counts c log
+    unset_done name same may =
+        edit_called d v is law now_open ok (Unset node.label name) (Attributes node list) d.points d.overrides.items d.counts c may
+        (unsets d law slotted ok node held_here.slot held_here.here tag own list content c m name same) arena log arena_is log_is
+
+    pub set_done : (name value : List ℕ) → list ≡ set_in own name value → is_made_edit (Set node.label name value) v.state ≡ true → Done d v (Set node.label name value) arena d.points d.overrides.items d.counts c log
+    set_done name value same may =
+        edit_called d v is law now_open ok (Set node.label name value) (Attributes node list) d.points d.overrides.items d.counts c may
+        (sets d law slotted ok node held_here.slot held_here.here tag own list content c m name value same) arena log arena_is log_is
+
+-- where the node isn't the command's own, or no element, nothing is done
+pub not_own_unset : (s : State) (n : ℕ) (name : List ℕ) → is_own s n ≡ false → is_made_edit (Unset n name) s ≡ false
+unfolding is_made_edit may_unset
+not_own_unset s n name off = rw off refl
+
+pub not_own_set : (s : State) (n : ℕ) (name value : List ℕ) → is_own s n ≡ false → is_made_edit (Set n name value) s ≡ false
+unfolding is_made_edit may_set
+not_own_set s n name value off = rw off refl
+
+pub no_list_unset : (s : State) (n : ℕ) (name : List ℕ) → attributes_of s.trees n ≡ None → is_made_edit (Unset n name) s ≡ false
+unfolding is_made_edit may_unset
+no_list_unset s n name none = rw none (and_false (is_own s n))
+
+pub no_list_set : (s : State) (n : ℕ) (name value : List ℕ) → attributes_of s.trees n ≡ None → is_made_edit (Set n name value) s ≡ false
+unfolding is_made_edit may_set
+no_list_set s n name value none = rw none (and_false (is_own s n))
+
+-- ---- what is read of the list
+
+pub no_list : (c : Content) → ((x : List ℕ) (x' : List Attribute) → c ≡ Element x x' → ⊥) → attributes_in c ≡ None
+no_list Document off = refl
+no_list (Element name attributes) off = absurd (off name attributes refl)
+no_list (Words chars) off = refl
+no_list (Remark chars) off = refl
+
+pub copied_some : {T : Type 0} (o : Option (Bor T)) → option_map_or (λ (_ : T). true) (option_copied o) false ≡ is_some o
+copied_some None = refl
+copied_some (Some x) = refl

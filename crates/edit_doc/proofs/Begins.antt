@@ -1,0 +1,225 @@
+-- A command begins, or the last entry is resumed.
+use Rattle.std.proofs.Common.{◌≡◌, ℕ, zero, suc, ◌+◌, ◌<◌, ◌≤◌, Bool, true, false, List, [], ◌∷◌, length, take, drop, Option, Some, None, IfSome, refl, sym, ap, subst, ◌∙◌, inl, inr, arith, eqb}
+use Rattle.std.proofs.lemmas.Bool.Decides.{eqb_tells}
+use Rattle.dom_model.specs.declared.Content.{Content}
+use Rattle.dom_model.specs.Document.{node_count, char_count}
+use Rattle.dom_model.specs.Forest.{Forest, tops, times, count_of, parent_of, first_of}
+use Rattle.dom_model.specs.Shed.{shed}
+use Rattle.dom_model.specs.State.{State as Arena, IsLawful as IsArena}
+use Rattle.live_range.specs.declared.places.Places.{Places}
+use Rattle.live_range.specs.LivePoints.{LivePoints}
+use Rattle.live_range.specs.Edit.{has_label}
+use Rattle.live_range.specs.Names.{shown, IsOver}
+use Rattle.node_arena.specs.declared.NodeRef.{NodeRef}
+use Rattle.undo_log.specs.Turning.{back, inverses_back, FitsBack}
+use Rattle.undo_log.specs.Log.{Log, Open, noted, is_resumed, begun as begun_log, resumed as resumed_log}
+use Rattle.undo_log.specs.Log.Open.{Closed, Begun, Resumed}
+use Rattle.forest_changes.specs.Change.{Fits, applied}
+use Rattle.forest_changes.specs.Named.{Each}
+use Rattle.edit_steps.specs.declared.step.Step.{Step}
+use Rattle.edit_model.specs.declared.settings.Setting.{Setting}
+use Rattle.edit_model.specs.declared.settings.Flags.{Flags}
+use Rattle.edit_model.specs.State.{State}
+use Rattle.edit_model.specs.Lawful.{IsLawful, IsPlaced, IsForest}
+use Rattle.edit_model.specs.History.{begun, document_of}
+use Rattle.edit_model.specs.Gives.{label_of, labels_of}
+use Rattle.edit_parts.specs.declared.Counts.{Counts}
+use Rattle.edit_doc.specs.declared.Doc.TheInside.{Inside}
+use Rattle.edit_doc.specs.declared.command.Beside.{Beside}
+use Rattle.edit_doc.specs.declared.command.Sides.{Sides}
+use Rattle.edit_doc.specs.declared.command.Kept.{Kept}
+use Rattle.edit_doc.specs.declared.command.Command.{Command}
+use Rattle.edit_doc.specs.Fields.{IsKept, SwapsLeft}
+use Rattle.edit_doc.specs.Whole.{Whole, Began, opened}
+use Rattle.edit_doc.specs.Held.{IfHeld, Holds}
+use Rattle.edit_doc.specs.History.{forest_before, begun_forest, is_hidden, seen_trees, state_of, begun_state, began_with, history_of, undo_entries, whole_of}
+use Rattle.edit_doc.specs.Sound.{RefIn, IsSide, IsBeside, IsIdle, IsRunning, OpenSound, UndoSound, RedoSound, left_of, next_first, IsSound}
+use Rattle.edit_doc.proofs.Inner.{seen, Ok}
+use Rattle.edit_doc.proofs.Laid.{undo_later, redo_later, next_first_low}
+use Rattle.edit_doc.proofs.Rests.{AtRest, rest_of, trees_are, none_noted, arena_forest}
+use Rattle.edit_doc.proofs.HiddenTrees.{seen_at_rest, hidden_is}
+use Rattle.edit_model.proofs.Documents.{document_shape}
+
+-- ---- lists
+
+pub take_all : {A : Type 0} (n : ℕ) (xs : List A) → n ≡ length xs → take n xs ≡ xs
+take_all zero [] e = refl
+take_all zero (x ∷ xs) e = absurd (omega (arith, e))
+take_all (suc n) [] e = refl
+take_all (suc n) (x ∷ xs) e = ap (λ r. x ∷ r) (take_all n xs (omega (arith, e)))
+
+drop_all : {A : Type 0} (n : ℕ) (xs : List A) → n ≡ length xs → drop n xs ≡ []
+drop_all zero [] e = refl
+drop_all zero (x ∷ xs) e = absurd (omega (arith, e))
+drop_all (suc n) [] e = refl
+drop_all (suc n) (x ∷ xs) e = drop_all n xs (omega (arith, e))
+
+inner_top : (l : ℕ) → 0 < l → 0 < times (0 ∷ []) l → ⊥
+inner_top l inner top = elim (eqb_tells 0 l) [
+  | inl (_, same) ↦ omega (arith, inner, same)
+  | inr (u, _) ↦ (let top' = rw u at top in omega (arith, top'))
+]
+
+pub document_tops : (f : Forest Content) (next l : ℕ) → IsForest f next → 0 < l → 0 < times (tops (document_of f)) l → ⊥
+document_tops f next l is inner top =
+    let d = document_shape f next is in
+    inner_top l inner (subst (λ g. 0 < times (tops (document_of g)) l) d.3 top)
+
+-- ---- the fields of a command that begins
+
+-- no step is noted, and what it keeps is as it is
+pub record Opens (d : Inside) (c : Command) (log : Log Step) : Type 0 where
+  pub start : c.start ≡ d.command.start
+  pub named : c.named.items ≡ []
+  pub kept : IsKept d.points d.overrides.items d.flags d.counts c.kept
+  pub left_before : c.left_before ≡ length c.left.items
+  pub none : noted log.open_entry ≡ []
+  pub depth : log.depth ≡ d.log.depth
+
+module _ (d : Inside) (law : IsArena d.arena) (closed : d.log.open_entry ≡ Closed) (ok : Ok d) where
+  pub rest : AtRest d.arena d.points d.overrides.items d.flags d.counts d.command d.log d.undo_sides.items d.redo_sides.items d.undo_sides.capacity d.redo_sides.capacity
+  rest = rest_of d.arena d.points d.overrides.items d.flags d.counts d.command d.log d.undo_sides.items d.redo_sides.items d.undo_sides.capacity d.redo_sides.capacity law closed ok
+
+  was : begun_forest d.log d.arena.trees ≡ d.arena.trees
+  was = none_noted d.log d.arena.trees (ap noted closed)
+
+  whole_document : seen_trees d.log d.command.start d.arena.trees ≡ document_of d.arena.trees
+  whole_document = trees_are d.arena d.points d.overrides.items d.flags d.counts d.command d.log d.undo_sides.items d.redo_sides.items d.undo_sides.capacity d.redo_sides.capacity law closed rest.idle.start
+
+  module _ (c : Command) (log : Log Step) (o : Opens d c log) where
+    now : begun_forest log d.arena.trees ≡ d.arena.trees
+    now = none_noted log d.arena.trees o.none
+
+    same_trees : seen_trees log c.start d.arena.trees ≡ seen_trees d.log d.command.start d.arena.trees
+    same_trees = λ i. shed (is_hidden ((now ∙ sym was) i) (o.start i)) d.arena.trees
+
+    start_is : c.start ≡ d.arena.next
+    start_is = o.start ∙ rest.idle.start
+
+    runs : IsRunning d.arena d.points.names c [] d.arena.trees
+    unfolding back inverses_back FitsBack
+    runs = record {
+      kept = record {
+        over = o.kept.over;
+        placed = subst (IsPlaced d.arena.trees) (sym o.kept.shown) rest.placed;
+        resting = ap (λ (p : LivePoints). p.scratch) o.kept.shown ∙ rest.idle.scratch;
+        nodes_are = ap (λ (n : Counts). n.nodes) o.kept.counts_are ∙ rest.nodes;
+        chars_are = ap (λ (n : Counts). n.chars) o.kept.counts_are ∙ rest.chars;
+      };
+      settings = ap length o.kept.overrides_are ∙ rest.settings;
+      made = record {
+        loose = λ l low high here. absurd (let s = start_is in omega (arith, s, low, high));
+        leaf = λ l low high here. absurd (let s = start_is in omega (arith, s, low, high));
+      };
+      can = (tt, tt);
+      names_there = tt;
+      marks = ap (λ xs. length xs + c.start) o.named ∙ zero_more start_is;
+      marked = tt;
+      marked_turned = tt;
+      left_before = (let e = o.left_before in omega (arith, e));
+      left_seen = subst (λ rs. Each (λ l. 0 < count_of (shed (is_hidden d.arena.trees c.start) d.arena.trees) l) (labels_of rs)) (sym (drop_all c.left_before c.left.items o.left_before)) tt;
+      loosened = λ l inner top. absurd (document_tops d.arena.trees d.arena.next l (arena_forest d.arena law) inner
+          (subst (λ g. 0 < times (tops g) l) (ap (λ n. shed (is_hidden d.arena.trees n) d.arena.trees) start_is ∙ seen_at_rest d.arena.trees d.arena.next (arena_forest d.arena law)) top));
+    }
+      where
+        zero_more : {n m : ℕ} → n ≡ m → 0 + n ≡ m
+        zero_more e = omega (arith, e)
+
+    pub opened_ok : (us : List Beside) →
+        ((g : Forest Content) → IsRunning d.arena d.points.names c [] g → OpenSound d.arena d.points c g log.open_entry) →
+        c.resumed ≡ is_resumed log.open_entry →
+        IfSome c.host (λ h. RefIn d.arena.held h × (0 < count_of (seen_trees d.log d.command.start d.arena.trees) h.label)) →
+        UndoSound d.arena.held d.points.names c.resumed c (next_first c.start d.redo_sides.items) d.arena.trees log.undo us →
+        RedoSound d.arena.held d.points.names c d.arena.trees log.redo d.redo_sides.items →
+        IsSound d.arena d.points d.overrides.items d.flags d.counts c log us d.redo_sides.items d.undo_sides.capacity d.redo_sides.capacity
+    opened_ok us running resumed host undo redo = record {
+      lawful = record {
+        forest = subst (λ t. IsForest t d.arena.next) (sym same_trees) ok.lawful.forest;
+        placed = subst (λ t. IsPlaced t d.points) (sym same_trees) ok.lawful.placed;
+        started = (let s = start_is in omega (arith, s));
+        settings = ok.lawful.settings;
+      };
+      some_label = subst (λ n. 0 < n) (sym o.start) ok.some_label;
+      nodes = ok.nodes;
+      chars = ok.chars;
+      hidden = λ l h. subst (λ g. 0 < times (tops g) l) now (hidden_is (begun_forest log d.arena.trees) c.start l h).root;
+      running = running (begun_forest log d.arena.trees) (subst (λ g. IsRunning d.arena d.points.names c [] g) (sym now) runs);
+      resumed = resumed;
+      host = subst (λ t. IfSome c.host (λ h. RefIn d.arena.held h × (0 < count_of t h.label))) (sym same_trees) host;
+      undo = subst (λ g. UndoSound d.arena.held d.points.names c.resumed c (next_first c.start d.redo_sides.items) g log.undo us) (sym now) undo;
+      redo = subst (λ g. RedoSound d.arena.held d.points.names c g log.redo d.redo_sides.items) (sym now) redo;
+      us_room_is = ok.us_room_is ∙ sym o.depth;
+      rs_room_is = ok.rs_room_is ∙ sym o.depth;
+    }
+
+    kept_state : begun_state d.arena d.points.names c log ≡ state_of d.arena d.points d.overrides.items d.flags d.command d.log
+    kept_state = λ i. record {
+      trees = (ap document_of now ∙ sym whole_document) i;
+      points = o.kept.shown i;
+      overrides = o.kept.overrides_are i;
+      flags = o.kept.flags_are i;
+      next = start_is i;
+      cap = d.arena.cap;
+      start = o.start i;
+      host = label_of (sym rest.idle.host i);
+      keeping = sym rest.idle.keeping i;
+      edits = length (noted (sym closed i));
+    }
+
+    pub opened_is : (us : List Beside) (resumed : Bool) →
+        ((s : State) → began_with s log.open_entry ≡ Some (record { state = s; resumed = resumed })) →
+        history_of d.points.names d.arena.trees log us d.redo_sides.items ≡ history_of d.points.names d.arena.trees d.log d.undo_sides.items d.redo_sides.items →
+        whole_of d.arena d.points d.overrides.items d.flags c log us d.redo_sides.items ≡ opened (label_of c.host) c.keeping resumed (seen d)
+    unfolding opened begun
+    opened_is us resumed began history = λ i. record {
+      state = record {
+        trees = same_trees i;
+        points = d.points;
+        overrides = d.overrides.items;
+        flags = d.flags;
+        next = d.arena.next;
+        cap = d.arena.cap;
+        start = start_is i;
+        host = label_of c.host;
+        keeping = c.keeping;
+        edits = length (o.none i);
+      };
+      history = (ap (λ g. history_of d.points.names g log us d.redo_sides.items) now ∙ (history ∙ ap (λ g. history_of d.points.names g d.log d.undo_sides.items d.redo_sides.items) (sym was))) i;
+      began = (began (begun_state d.arena d.points.names c log) ∙ ap (λ s. Some (began_at s resumed)) kept_state) i;
+      held = d.arena.held;
+    }
+      where
+        began_at : State → Bool → Began
+        began_at s r = record { state = s; resumed = r }
+
+  -- ---- begin
+
+  pub held_host : (o : Option NodeRef) → IfHeld (seen d) o → IfSome o (λ h. RefIn d.arena.held h × (0 < count_of (seen_trees d.log d.command.start d.arena.trees) h.label))
+  held_host None h = tt
+  held_host (Some r) h = (h.slot, h.here)
+
+  module _ (k : Kept) (host : Option NodeRef) (keeping : Bool) (keeps : IsKept d.points d.overrides.items d.flags d.counts k) where
+    abbrev begun_command : Command
+    begun_command = record d.command { host = host; keeping = keeping; kept = k }
+
+    begun_opens : Opens d begun_command (begun_log d.log)
+    begun_opens = record {
+      start = refl;
+      named = rest.idle.named;
+      kept = keeps;
+      left_before = rest.idle.left_before ∙ ap length (sym rest.idle.left);
+      none = refl;
+      depth = refl;
+    }
+
+    pub begin_ok : IfHeld (seen d) host → IsSound d.arena d.points d.overrides.items d.flags d.counts begun_command (begun_log d.log) d.undo_sides.items d.redo_sides.items d.undo_sides.capacity d.redo_sides.capacity
+    begin_ok held =
+        let c = begun_command in
+        let first = next_first_low d.arena.held d.points.names d.command d.arena.trees d.log.redo d.redo_sides.items rest.redo in
+        opened_ok c (begun_log d.log) begun_opens d.undo_sides.items (λ g h. h) rest.resumed (held_host host held)
+        (subst (λ b. UndoSound d.arena.held d.points.names b c (next_first c.start d.redo_sides.items) d.arena.trees d.log.undo d.undo_sides.items) (sym rest.resumed)
+        (undo_later d.arena.held d.points.names d.command c (omega arith) (next_first d.command.start d.redo_sides.items) (next_first d.command.start d.redo_sides.items) d.arena.trees d.log.undo d.undo_sides.items (omega arith) first rest.undo))
+        (redo_later d.arena.held d.points.names d.command c (omega arith) d.arena.trees d.log.redo d.redo_sides.items rest.redo)
+
+    pub begin_is : whole_of d.arena d.points d.overrides.items d.flags begun_command (begun_log d.log) d.undo_sides.items d.redo_sides.items ≡ opened (label_of host) keeping false (seen d)
+    begin_is = opened_is begun_command (begun_log d.log) begun_opens d.undo_sides.items false (λ s. refl) refl

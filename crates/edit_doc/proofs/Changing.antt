@@ -1,0 +1,321 @@
+-- A change of what is seen, with the note of the step that takes it back: the fields stay sound, the history stays, and
+-- what is seen changes the same way.
+use Rattle.std.proofs.Common.{◌≡◌, ◌≢◌, ◌⊎◌, ℕ, zero, suc, ◌+◌, ◌-◌, ◌<◌, ◌≤◌, Bool, true, false, true≢false, ◌||◌, List, [], ◌∷◌, ◌++◌, length, take, drop, Option, Some, None, IfSome, refl, sym, ap, subst, ◌∙◌, inl, inr, arith, length-append}
+use Rattle.std.specs.Prelude.{IsTrue, slice_index_or, ◌==◌}
+use Rattle.std.specs.List.{list_any}
+use Rattle.std.proofs.lemmas.List.{take-append-le, drop-append-le, append-nil}
+use Rattle.std.proofs.lemmas.List.Folds.{list_any-append}
+use Rattle.std.proofs.lemmas.Bool.Decides.{eqb_tells}
+use Rattle.dom_model.specs.declared.Content.{Content}
+use Rattle.dom_model.specs.Document.{node_count, char_count}
+use Rattle.dom_model.specs.Forest.{Forest, tops, times, count_of}
+use Rattle.dom_model.specs.Shed.{shed}
+use Rattle.dom_model.specs.State.{State as Arena, IsLawful as IsArena}
+use Rattle.node_arena.specs.declared.NodeRef.{NodeRef}
+use Rattle.node_arena.specs.Held.{Holds as ArenaHolds}
+use Rattle.live_range.specs.LivePoints.{LivePoints}
+use Rattle.live_range.specs.Edit.{has_label}
+use Rattle.live_range.specs.Names.{shown}
+use Rattle.undo_log.specs.Turning.{back, inverses_back, inverses_forth, FitsBack}
+use Rattle.undo_log.specs.Log.{Log, Open, noted, is_open, is_resumed, with_noted, with_step}
+use Rattle.undo_log.specs.Log.Open.{Closed, Begun, Resumed}
+use Rattle.undo_log.proofs.Turns.{back-append, inverses_back-append, FitsBack-more}
+use Rattle.forest_changes.specs.Change.{Change, IsForest, Fits, Turns, applied, turned}
+use Rattle.forest_changes.specs.Named.{Each, named, named_in}
+use Rattle.forest_changes.specs.Down.{Sheds, IsLeft, GoesDown}
+use Rattle.forest_changes.proofs.ChangeLists.{each_of, each_join, each_first, each_rest}
+use Rattle.forest_changes.proofs.DownChange.{down, sheds_roots}
+use Rattle.forest_changes.proofs.Twice.{turns, IsForest-applied, count_of-applied, forest_of}
+use Rattle.edit_steps.specs.declared.step.Step.{Step}
+use Rattle.edit_steps.specs.Step.{change_of, changes_of, nodes_of, nodes_in, step_applied, step_turned, StepFits}
+use Rattle.edit_steps.specs.StepLaws.{change_of-turned, held-turned}
+use Rattle.edit_model.specs.declared.settings.Setting.{Setting}
+use Rattle.edit_model.specs.declared.settings.Flags.{Flags}
+use Rattle.edit_model.specs.State.{State}
+use Rattle.edit_model.specs.Lawful.{IsLawful}
+use Rattle.edit_model.specs.History.{History, document_of}
+use Rattle.edit_model.specs.Gives.{label_of, labels_of}
+use Rattle.edit_model.proofs.Steps.{labels_of-append}
+use Rattle.edit_parts.specs.declared.Counts.{Counts}
+use Rattle.edit_doc.specs.declared.command.Beside.{Beside}
+use Rattle.edit_doc.specs.declared.command.Command.{Command}
+use Rattle.edit_doc.specs.Whole.{Whole, Began, with_state}
+use Rattle.edit_doc.specs.Marks.{IsMarked}
+use Rattle.edit_doc.specs.History.{forest_before, begun_forest, is_hidden, seen_trees, state_of, begun_state, began_with, history_of, whole_of}
+use Rattle.edit_doc.specs.Sound.{RefIn, EachHeldIn, CanGoBack, IsSide, AreAlone, IsBeside, IsRunning, OpenSound, UndoSound, RedoSound, left_of, next_first, IsSound}
+use Rattle.edit_doc.proofs.Laid.{redo_later}
+use Rattle.edit_doc.proofs.HiddenTrees.{top_loose}
+use Rattle.edit_doc.proofs.Places.{node_of, loosed, named_node, each_loosed, root_stays, root_was}
+
+-- ---- the open entry with one more step
+
+noted_more : (o : Open Step) (y : Step) → IsTrue (is_open o) → noted (with_noted o y) ≡ noted o ++ y ∷ []
+noted_more Closed y h = absurd (let h' = h in cc)
+noted_more (Begun xs) y h = refl
+noted_more (Resumed xs) y h = refl
+
+resumed_more : (o : Open Step) (y : Step) → is_resumed (with_noted o y) ≡ is_resumed o
+resumed_more Closed y = refl
+resumed_more (Begun xs) y = refl
+resumed_more (Resumed xs) y = refl
+
+began_more : (s : State) (o : Open Step) (y : Step) → began_with s (with_noted o y) ≡ began_with s o
+began_more s Closed y = refl
+began_more s (Begun xs) y = refl
+began_more s (Resumed xs) y = refl
+
+running_of : (a : Arena) (points : LivePoints) (c : Command) (g : Forest Content) (o : Open Step) → IsTrue (is_open o) → OpenSound a points c g o → IsRunning a points.names c (noted o) g
+running_of a points c g Closed h r = absurd (let h' = h in cc)
+running_of a points c g (Begun xs) h r = r
+running_of a points c g (Resumed xs) h r = r
+
+of_running : (a : Arena) (points : LivePoints) (c : Command) (g : Forest Content) (o : Open Step) (y : Step) → IsTrue (is_open o) → IsRunning a points.names c (noted o ++ y ∷ []) g → OpenSound a points c g (with_noted o y)
+of_running a points c g Closed y h r = absurd (let h' = h in cc)
+of_running a points c g (Begun xs) y h r = r
+of_running a points c g (Resumed xs) y h r = r
+
+-- ---- lists of steps with one more
+
+changes_more : (xs : List Step) (y : Step) → changes_of (xs ++ y ∷ []) ≡ changes_of xs ++ change_of y ∷ []
+changes_more [] y = refl
+changes_more (x ∷ xs) y = ap (λ r. change_of x ∷ r) (changes_more xs y)
+
+each_named : (P : ℕ → Type 0) (ls : List Change) (z : Change) → Each P (named_in ls) → Each P (named z) → Each P (named_in (ls ++ z ∷ []))
+each_named P [] z hs h = each_join P (named z) [] h tt
+each_named P (x ∷ ls) z hs h = each_join P (named x) (named_in (ls ++ z ∷ [])) (each_first P (named x) (named_in ls) hs) (each_named P ls z (each_rest P (named x) (named_in ls) hs) h)
+
+each_held : (held : List (Option ℕ)) (xs : List Step) (y : Step) → EachHeldIn held xs → Each (RefIn held) (nodes_of y) → EachHeldIn held (xs ++ y ∷ [])
+each_held held [] y hs h = each_join (RefIn held) (nodes_of y) [] h tt
+each_held held (x ∷ xs) y hs h = each_join (RefIn held) (nodes_of x) (nodes_in (xs ++ y ∷ [])) (each_first (RefIn held) (nodes_of x) (nodes_in xs) hs) (each_held held xs y (each_rest (RefIn held) (nodes_of x) (nodes_in xs) hs) h)
+
+-- ---- labels in lists
+
+has_first : (xs ys : List ℕ) (l : ℕ) → has_label xs l ≡ true → has_label (xs ++ ys) l ≡ true
+has_first xs ys l h = list_any-append (λ x. x == l) xs ys ∙ rw h refl
+
+either_true : (a : Bool) → (a || true) ≡ true
+either_true true = refl
+either_true false = refl
+
+has_last : (xs : List ℕ) (l : ℕ) → has_label (xs ++ l ∷ []) l ≡ true
+has_last xs l = list_any-append (λ x. x == l) xs (l ∷ []) ∙ (rw own (either_true (has_label xs l)))
+  where
+    own : has_label (l ∷ []) l ≡ true
+    own = elim (eqb_tells l l) [ inl (e, _) ↦ rw e refl | inr (_, off) ↦ absurd (off refl) ]
+
+-- ---- the history beside a command whose marks and left trees change
+
+module _ (held : List (Option ℕ)) (names : List (List ℕ)) (c d : Command) (start : c.start ≡ d.start) where
+  pub undo_carried : (r : Bool) (high : ℕ) (f : Forest Content) (es : List (List Step)) (bs : List Beside) → ((b : Beside) → left_of r c b ≡ left_of r d b) → UndoSound held names r c high f es bs → UndoSound held names r d high f es bs
+  undo_carried r high f [] [] same h = tt
+  undo_carried r high f [] (b ∷ bs) same h = absurd h
+  undo_carried r high f (e ∷ es) [] same h = absurd h
+  undo_carried r high f (e ∷ es) (b ∷ bs) same h =
+      let ts = inverses_back applied turned (changes_of e) f in
+      let own : IsBeside names (forest_before e f) f e ts b (left_of r d b) high d.start = subst (λ ls. IsBeside names (forest_before e f) f e ts b ls high d.start) (same b) (subst (λ n. IsBeside names (forest_before e f) f e ts b (left_of r c b) high n) start h.1.0) in
+      (h.0, (own, undo_carried false b.sides.first_label (forest_before e f) es bs (λ _. refl) h.1.1))
+
+-- ---- what the fields of the command become
+
+pub record Follows (c d : Command) (x y : Change) : Type 0 where
+  pub start : d.start ≡ c.start
+  pub host : d.host ≡ c.host
+  pub keeping : d.keeping ≡ c.keeping
+  pub resumed : d.resumed ≡ c.resumed
+  pub kept : d.kept ≡ c.kept
+  pub left_before : d.left_before ≡ c.left_before
+  pub count : length d.named.items ≡ length c.named.items
+  pub stay : (l : ℕ) → IsMarked c l → IsMarked d l
+  pub marked : Each (IsMarked d) (named x)
+  pub marked_turned : Each (IsMarked d) (named y)
+  pub more : List NodeRef
+  pub left : d.left.items ≡ c.left.items ++ more
+  pub loosed_is : labels_of more ≡ loosed x
+
+module _ (a : Arena) (points : LivePoints) (overrides : List Setting) (flags : Flags) (counts : Counts) (c : Command) (log : Log Step) (us rs : List Beside) (us_room rs_room : ℕ)
+    (law : IsArena a) (open_now : IsTrue (is_open log.open_entry))
+    (ok : IsSound a points overrides flags counts c log us rs us_room rs_room) where
+  abbrev g : Forest Content
+  g = begun_forest log a.trees
+
+  abbrev pub hides : ℕ → Bool
+  hides = is_hidden (begun_forest log a.trees) c.start
+
+  abbrev xs : List Step
+  xs = noted log.open_entry
+
+  pub seen_sheds : Sheds hides a.trees
+  seen_sheds = sheds_roots hides a.trees (forest_of a law) refl (λ l h. top_loose a.trees l law.distinct (ok.hidden l h))
+
+  pub run : IsRunning a points.names c xs g
+  run = running_of a points c g log.open_entry open_now ok.running
+
+  module _ (x : Step) (fits : StepFits x a) (seen : Each (IsLeft hides a.trees) (named (change_of x))) where
+    abbrev y : Step
+    y = step_turned x a
+
+    abbrev f : Forest Content
+    f = applied (change_of x) a.trees
+
+    T : Turns (change_of x) a.trees
+    T = turns (change_of x) a.trees fits.fits
+
+    pub goes : GoesDown hides (change_of x) a.trees
+    goes = down hides (change_of x) a.trees seen_sheds fits.fits seen
+
+    y_is : change_of y ≡ turned (change_of x) a.trees
+    y_is = change_of-turned x a
+
+    ys_are : changes_of (noted (with_noted log.open_entry y)) ≡ changes_of xs ++ turned (change_of x) a.trees ∷ []
+    ys_are = ap changes_of (noted_more log.open_entry y open_now) ∙ (changes_more xs y ∙ ap (λ z. changes_of xs ++ z ∷ []) y_is)
+
+    -- the forest at the begin is the same
+    pub begun_same : begun_forest (with_step log y) f ≡ g
+    begun_same = ap (λ ls. back applied ls f) ys_are ∙ (back-append applied (changes_of xs) (turned (change_of x) a.trees) f ∙ ap (back applied (changes_of xs)) T.back)
+
+    turned_same : inverses_back applied turned (changes_of xs ++ turned (change_of x) a.trees ∷ []) f ≡ inverses_back applied turned (changes_of xs) a.trees ++ change_of x ∷ []
+    turned_same =
+        inverses_back-append applied turned (changes_of xs) (turned (change_of x) a.trees) f
+        ∙ (λ i. inverses_back applied turned (changes_of xs) (T.back i) ++ T.same i ∷ [])
+
+    steps_are : changes_of (xs ++ y ∷ []) ≡ changes_of xs ++ turned (change_of x) a.trees ∷ []
+    steps_are = changes_more xs y ∙ ap (λ z. changes_of xs ++ z ∷ []) y_is
+
+    can_back : CanGoBack a.held (xs ++ y ∷ []) f
+    can_back = (
+      subst (λ ls. FitsBack applied Fits ls f) (sym steps_are) (FitsBack-more applied Fits (changes_of xs) (turned (change_of x) a.trees) f T.fits (subst (λ (t : Forest Content). FitsBack applied Fits (changes_of xs) t) (sym T.back) run.can.0)),
+      each_held a.held xs y run.can.1 (held-turned x a fits),
+    )
+
+    -- what was seen is seen
+    pub still : (l : ℕ) → IsLeft hides a.trees l → IsLeft hides f l
+    still l h = let s = goes.stays l in omega (arith, h, s)
+
+    names_now : Each (IsLeft hides f) (named_in (changes_of (xs ++ y ∷ [])))
+    names_now = subst (λ ls. Each (IsLeft hides f) (named_in ls)) (sym steps_are)
+        (each_named (IsLeft hides f) (changes_of xs) (turned (change_of x) a.trees)
+        (each_of (IsLeft hides a.trees) (IsLeft hides f) (named_in (changes_of xs)) still run.names_there)
+        (each_of (IsLeft hides a.trees) (IsLeft hides f) (named (turned (change_of x) a.trees)) still goes.names))
+
+    off_hidden : (l : ℕ) → hides l ≡ true → node_of (change_of x) ≢ l
+    off_hidden l h same =
+        let out = seen_sheds.out (node_of (change_of x)) (named_node (IsLeft hides a.trees) (change_of x) seen) in
+        true≢false (sym h ∙ (ap hides (sym same) ∙ out))
+
+    module _ (d : Command) (now : Follows c d (change_of x) (turned (change_of x) a.trees)) where
+      hides_same : is_hidden (begun_forest (with_step log y) f) d.start ≡ hides
+      hides_same = λ i. is_hidden (begun_same i) (now.start i)
+
+      marked_still : (ls : List Change) → Each (IsMarked c) (named_in ls) → Each (IsMarked d) (named_in ls)
+      marked_still ls h = each_of (IsMarked c) (IsMarked d) (named_in ls) now.stay h
+
+      left_labels : labels_of (drop d.left_before d.left.items) ≡ labels_of (drop c.left_before c.left.items) ++ loosed (change_of x)
+      left_labels =
+          (λ i. labels_of (drop (now.left_before i) (now.left i)))
+          ∙ (ap labels_of (drop-append-le c.left_before c.left.items now.more run.left_before)
+          ∙ (labels_of-append (drop c.left_before c.left.items) now.more ∙ ap (λ ls. labels_of (drop c.left_before c.left.items) ++ ls) now.loosed_is))
+
+      runs : IsRunning (record a { trees = f }) points.names d (xs ++ y ∷ []) g
+      runs = record {
+        kept = subst (λ k. IsSide points.names g k.places k.counts.nodes k.counts.chars) (sym now.kept) run.kept;
+        settings = ap (λ k. length k.overrides.items) now.kept ∙ run.settings;
+        made = subst (λ n. AreAlone g n a.next) (sym now.start) run.made;
+        can = can_back;
+        names_there = subst (λ n. Each (IsLeft (is_hidden g n) f) (named_in (changes_of (xs ++ y ∷ [])))) (sym now.start) names_now;
+        marks = (let m = run.marks in let n = now.count in let s = now.start in omega (arith, m, n, s));
+        marked = subst (λ ls. Each (IsMarked d) (named_in ls)) (sym steps_are) (each_named (IsMarked d) (changes_of xs) (turned (change_of x) a.trees) (marked_still (changes_of xs) run.marked) now.marked_turned);
+        marked_turned = subst (λ ls. Each (IsMarked d) (named_in (inverses_back applied turned ls f))) (sym steps_are)
+            (subst (λ ls. Each (IsMarked d) (named_in ls)) (sym turned_same) (each_named (IsMarked d) (inverses_back applied turned (changes_of xs) a.trees) (change_of x) (marked_still (inverses_back applied turned (changes_of xs) a.trees) run.marked_turned) now.marked));
+        left_before = (let b = run.left_before in let e = now.left_before in let n = ap length now.left in let m = length-append c.left.items now.more in omega (arith, b, e, n, m));
+        left_seen = subst (λ n. Each (λ l. 0 < count_of (shed (is_hidden g n) f) l) (labels_of (drop d.left_before d.left.items))) (sym now.start)
+            (subst (Each (IsLeft hides f)) (sym left_labels)
+            (each_join (IsLeft hides f) (labels_of (drop c.left_before c.left.items)) (loosed (change_of x))
+            (each_of (IsLeft hides a.trees) (IsLeft hides f) (labels_of (drop c.left_before c.left.items)) still run.left_seen)
+            (each_loosed (IsLeft hides f) (change_of x) (still (node_of (change_of x)) (named_node (IsLeft hides a.trees) (change_of x) seen)))));
+        loosened = λ l inner top. (
+            let top' : 0 < times (tops (applied (change_of x) (shed hides a.trees))) l = subst (λ t. 0 < times (tops t) l) goes.same (subst (λ n. 0 < times (tops (shed (is_hidden g n) f)) l) now.start top) in
+            subst (λ ls. has_label ls l ≡ true) (sym left_labels) (elim (root_was (change_of x) (shed hides a.trees) l goes.fits top') [
+              | inl was ↦ has_first (labels_of (drop c.left_before c.left.items)) (loosed (change_of x)) l (run.loosened l inner was)
+              | inr loose ↦ subst (λ ms. has_label (labels_of (drop c.left_before c.left.items) ++ ms) l ≡ true) (sym loose) (has_last (labels_of (drop c.left_before c.left.items)) l)
+            ]));
+      }
+
+      host_still : (o : Option NodeRef) → IfSome o (λ h. RefIn a.held h × (0 < count_of (seen_trees log c.start a.trees) h.label)) → IfSome o (λ h. RefIn a.held h × (0 < count_of (shed hides f) h.label))
+      host_still None h = tt
+      host_still (Some r) h = (h.0, still r.label h.1)
+
+      left_same : (r : Bool) (b : Beside) → left_of r c b ≡ left_of r d b
+      left_same false b = refl
+      left_same true b = sym ((λ i. take (now.left_before i) (now.left i)) ∙ take-append-le c.left_before c.left.items now.more run.left_before)
+
+      -- what is seen afterwards
+      abbrev pub seen_next : LivePoints → List Setting → State
+      seen_next points' overrides' = record (state_of a points overrides flags c log) {
+        trees = applied (change_of x) (shed hides a.trees);
+        points = points';
+        overrides = overrides';
+        edits = length xs + 1;
+      }
+
+      module _ (points' : LivePoints) (overrides' : List Setting) (names : points'.names ≡ points.names) where
+        pub state_next : state_of (record a { trees = f }) points' overrides' flags d (with_step log y) ≡ seen_next points' overrides'
+        state_next = λ i. record {
+          trees = (ap (λ k. shed k f) hides_same ∙ goes.same) i;
+          points = points';
+          overrides = overrides';
+          flags = flags;
+          next = a.next;
+          cap = a.cap;
+          start = now.start i;
+          host = label_of (now.host i);
+          keeping = now.keeping i;
+          edits = (ap length (noted_more log.open_entry y open_now) ∙ length-append xs (y ∷ [])) i;
+        }
+
+        pub whole_next : whole_of (record a { trees = f }) points' overrides' flags d (with_step log y) us rs ≡ with_state (whole_of a points overrides flags c log us rs) (seen_next points' overrides')
+        whole_next = λ i. record {
+          state = state_next i;
+          history = history_of (names i) (begun_same i) (with_step log y) us rs;
+          began = (ap (λ (s : State). began_with s (with_noted log.open_entry y)) begun_is ∙ began_more (begun_state a points.names c log) log.open_entry y) i;
+          held = a.held;
+        }
+          where
+            begun_is : begun_state (record a { trees = f }) points'.names d (with_step log y) ≡ begun_state a points.names c log
+            begun_is = λ i. record {
+              trees = document_of (begun_same i);
+              points = shown (names i) (now.kept i).places;
+              overrides = (now.kept i).overrides.items;
+              flags = (now.kept i).flags;
+              next = now.start i;
+              cap = a.cap;
+              start = now.start i;
+              host = None;
+              keeping = false;
+              edits = 0;
+            }
+
+        pub sound_next : (counts' : Counts) → IsLawful (seen_next points' overrides') → counts'.nodes ≡ node_count f → counts'.chars ≡ char_count f →
+            IsSound (record a { trees = f }) points' overrides' flags counts' d (with_step log y) us rs us_room rs_room
+        sound_next counts' lawful nodes chars =
+            let start : c.start ≡ d.start = sym now.start in
+            let undo : UndoSound a.held points.names c.resumed d (next_first c.start rs) g log.undo us = undo_carried a.held points.names c d start c.resumed (next_first c.start rs) g log.undo us (left_same c.resumed) ok.undo in
+            let le : c.start ≤ d.start = omega (arith, start) in
+            let redo : RedoSound a.held points.names d g log.redo rs = redo_later a.held points.names c d le g log.redo rs ok.redo in
+            record {
+              lawful = subst IsLawful (sym state_next) lawful;
+              some_label = subst (λ n. 0 < n) start ok.some_label;
+              nodes = nodes;
+              chars = chars;
+              hidden = λ l h. (let h' : hides l ≡ true = subst (λ k. k l ≡ true) hides_same h in root_stays (change_of x) a.trees l fits.fits (off_hidden l h') (ok.hidden l h'));
+              running = of_running (record a { trees = f }) points' d (begun_forest (with_step log y) f) log.open_entry y open_now
+                  (subst (λ t. IsRunning (record a { trees = f }) points'.names d (xs ++ y ∷ []) t) (sym begun_same) (subst (λ ns. IsRunning (record a { trees = f }) ns d (xs ++ y ∷ []) g) (sym names) runs));
+              resumed = now.resumed ∙ (ok.resumed ∙ sym (resumed_more log.open_entry y));
+              host = subst (λ k. IfSome d.host (λ h. RefIn a.held h × (0 < count_of (shed k f) h.label))) (sym hides_same) (subst (λ o. IfSome o (λ h. RefIn a.held h × (0 < count_of (shed hides f) h.label))) (sym now.host) (host_still c.host ok.host));
+              undo = subst (λ t. UndoSound a.held points'.names d.resumed d (next_first d.start rs) t log.undo us) (sym begun_same)
+                  (subst (λ ns. UndoSound a.held ns d.resumed d (next_first d.start rs) g log.undo us) (sym names)
+                  (subst (λ r. UndoSound a.held points.names r d (next_first d.start rs) g log.undo us) (sym now.resumed)
+                  (subst (λ n. UndoSound a.held points.names c.resumed d (next_first n rs) g log.undo us) start undo)));
+              redo = subst (λ t. RedoSound a.held points'.names d t log.redo rs) (sym begun_same) (subst (λ ns. RedoSound a.held ns d g log.redo rs) (sym names) redo);
+              us_room_is = ok.us_room_is;
+              rs_room_is = ok.rs_room_is;
+            }

@@ -1,0 +1,154 @@
+-- A command ends.
+use Rattle.std.proofs.Common.{◌≡◌, ℕ, zero, suc, ◌+◌, ◌<◌, ◌≤◌, Bool, true, false, List, [], ◌∷◌, ◌++◌, length, take, map, Option, Some, None, refl, sym, ap, subst, ◌∙◌, inl, inr, arith}
+use Rattle.std.specs.Prelude.{IsTrue, nat_le}
+use Rattle.undo_log.specs.declared.Committed.TheVariants.{Nothing, Entry as Made}
+use Rattle.dom_model.specs.declared.Content.{Content}
+use Rattle.dom_model.specs.Document.{node_count, char_count}
+use Rattle.dom_model.specs.Forest.{Forest, tops, times, count_of}
+use Rattle.dom_model.specs.Shed.{shed, IsWhole}
+use Rattle.dom_model.specs.State.{State as Arena, IsLawful as IsArena}
+use Rattle.dom_model.proofs.Shedding.{count_of-shed}
+use Rattle.node_arena.specs.declared.NodeRef.{NodeRef}
+use Rattle.node_arena.specs.Held.{DropsMade}
+use Rattle.live_range.specs.declared.places.Places.{Places}
+use Rattle.live_range.specs.LivePoints.{LivePoints}
+use Rattle.live_range.specs.Names.{shown}
+use Rattle.undo_log.specs.Log.{Log, IsLog, Open, noted, is_open, joined, committed, committed_with}
+use Rattle.undo_log.specs.Log.Open.{Closed, Begun, Resumed}
+use Rattle.undo_log.proofs.Lists.{append-nil}
+use Rattle.forest_changes.proofs.Twice.{forest_of}
+use Rattle.edit_steps.specs.declared.step.Step.{Step}
+use Rattle.edit_model.specs.State.{State}
+use Rattle.edit_model.specs.Lawful.{IsPlaced}
+use Rattle.edit_model.specs.History.{document_of, History, rested, recorded}
+use Rattle.edit_doc.specs.declared.Doc.TheInside.{Inside}
+use Rattle.edit_doc.specs.declared.command.Beside.{Beside}
+use Rattle.edit_doc.specs.declared.command.Command.{Command}
+use Rattle.edit_doc.specs.Fields.{IsEnded, Forgets, AreResting}
+use Rattle.edit_doc.specs.Whole.{Whole, Began, history_committed, committed_history}
+use Rattle.edit_doc.specs.Held.{Holds, KeepsThere}
+use Rattle.edit_doc.specs.History.{begun_forest, is_hidden, seen_trees, state_of, begun_state, began_with, history_of, whole_of}
+use Rattle.edit_doc.specs.Sound.{RefIn, IsSound}
+use Rattle.edit_doc.proofs.HiddenTrees.{false_le, document-shed, placed-shed, placed-whole, node_count-shed, char_count-shed, model_forest}
+use Rattle.edit_doc.proofs.Inner.{seen, Ok}
+use Rattle.edit_doc.proofs.Rests.{AtRest, rest_sound, rest_state, none_noted, arena_forest}
+use Rattle.edit_doc.proofs.Rolls.{whole_g, sheds_g, Without, without_rest, without_history}
+
+-- ---- whether a step was noted
+
+pub none_made : (xs : List Step) → (0 < length xs → Nothing ≡ Made) → xs ≡ []
+none_made [] h = refl
+none_made (x ∷ xs) h = absurd (let e = h (omega arith) in cc)
+
+join_none : {A : Type 0} (es : List (List A)) → joined es [] ≡ es
+join_none [] = refl
+join_none (e ∷ es) = ap (λ r. r ∷ es) (append-nil e)
+
+pub committed_none : (l : Log Step) (o : Open Step) → noted o ≡ [] → IsTrue (is_open o) → committed_with l o ≡ record l { open_entry = Closed }
+committed_none l Closed e h = absurd (let h' = h in cc)
+committed_none l (Begun []) e h = refl
+committed_none l (Begun (x ∷ xs)) e h = absurd (cc)
+committed_none l (Resumed xs) e h = λ i. record l { undo = (ap (joined l.undo) e ∙ join_none l.undo) i; open_entry = Closed }
+
+nothing_recorded : (s0 : State) (o : Open Step) (w : Whole) → w.state.edits ≡ 0 → w.history ≡ committed_history w (began_with s0 o)
+unfolding recorded
+nothing_recorded s0 Closed w e = refl
+nothing_recorded s0 (Begun xs) w e = rw e refl
+nothing_recorded s0 (Resumed xs) w e = rw e refl
+
+-- ---- where no step was noted
+
+module _ (d : Inside) (law : IsArena d.arena) (ok : Ok d) (opened : IsTrue (is_open d.log.open_entry)) (p : Places) (resting : AreResting d.points p) where
+  abbrev rested_points : LivePoints
+  rested_points = shown d.points.names p
+
+  -- the points stand in the document, without the scratch pair too
+  pub placed_now : IsPlaced d.arena.trees rested_points
+  placed_now =
+      let h = placed-whole d.arena.trees d.arena.next (arena_forest d.arena law) (is_hidden (begun_forest d.log d.arena.trees) d.command.start) refl d.points ok.lawful.placed in
+      let own : IsPlaced d.arena.trees (record d.points { scratch = None }) = record { selection = h.selection; scratch = tt; marks = h.marks } in
+      subst (IsPlaced d.arena.trees) (sym resting.shown) own
+
+  pub document_now : document_of (seen_trees d.log d.command.start d.arena.trees) ≡ document_of d.arena.trees
+  document_now = document-shed d.arena.trees d.arena.next (arena_forest d.arena law) (is_hidden (begun_forest d.log d.arena.trees) d.command.start) refl
+
+  module _ (nothing : noted d.log.open_entry ≡ []) where
+    same_forest : begun_forest d.log d.arena.trees ≡ d.arena.trees
+    same_forest = none_noted d.log d.arena.trees nothing
+
+    abbrev k : ℕ → Bool
+    k l = nat_le d.command.start l
+
+    pub nothing_whole : IsWhole k d.arena.trees
+    nothing_whole = subst (IsWhole k) same_forest (whole_g d law ok opened)
+
+    module _ (a : Arena) (drops : DropsMade d.arena a d.command.start) (lawful : IsArena a) (us : List Beside) (forgets : Forgets d.undo_sides.items us d.command) (c : Command) (ended : IsEnded a.next c) where
+      left_out : Without d law ok opened a
+      left_out = record {
+        lawful = lawful;
+        trees = drops.trees ∙ ap (shed k) (sym same_forest);
+        next = (let n = drops.next in let s = ok.lawful.started in omega (arith, n, s));
+        cap = drops.cap;
+        held = λ q h low. (drops.held q).1 (h, low);
+      }
+
+      abbrev log' : Log Step
+      log' = record d.log { open_entry = Closed }
+
+      sheds : k 0 ≡ false
+      sheds = (sheds_g d law ok opened).document
+
+      ends : AtRest a rested_points d.overrides.items d.flags d.counts c log' us d.redo_sides.items d.undo_sides.capacity d.redo_sides.capacity
+      ends =
+          let f = arena_forest d.arena law in
+          without_rest d law ok opened a left_out us forgets c ended log' refl refl refl refl rested_points d.overrides.items d.flags d.counts
+          refl resting.resting
+          (subst (λ t. IsPlaced t rested_points) (sym drops.trees) (placed-shed d.arena.trees d.arena.next f k sheds rested_points placed_now))
+          ok.lawful.settings
+          (ok.nodes ∙ (sym (node_count-shed d.arena.trees d.arena.next f k sheds) ∙ ap node_count (sym drops.trees)))
+          (ok.chars ∙ (sym (char_count-shed d.arena.trees d.arena.next f k sheds) ∙ ap char_count (sym drops.trees)))
+
+      pub nothing_ok : IsSound a rested_points d.overrides.items d.flags d.counts c log' us d.redo_sides.items d.undo_sides.capacity d.redo_sides.capacity
+      nothing_ok = rest_sound a rested_points d.overrides.items d.flags d.counts c log' us d.redo_sides.items d.undo_sides.capacity d.redo_sides.capacity ends
+
+      document_is : document_of a.trees ≡ document_of (seen_trees d.log d.command.start d.arena.trees)
+      document_is = ap document_of drops.trees ∙ (document-shed d.arena.trees d.arena.next (arena_forest d.arena law) k sheds ∙ sym document_now)
+
+      pub nothing_state : (v : Whole) → seen d ≡ v → state_of a rested_points d.overrides.items d.flags c log' ≡ rested v.state
+      unfolding rested
+      nothing_state v sees =
+          rest_state a rested_points d.overrides.items d.flags d.counts c log' us d.redo_sides.items d.undo_sides.capacity d.redo_sides.capacity ends
+          ∙ ((λ i. record {
+            trees = document_is i;
+            points = resting.shown i;
+            overrides = d.overrides.items;
+            flags = d.flags;
+            next = drops.next i;
+            cap = drops.cap i;
+            start = drops.next i;
+            host = None;
+            keeping = false;
+            edits = 0;
+          })
+          ∙ ap (λ (w : Whole). rested w.state) sees)
+
+      pub nothing_history : (v : Whole) → seen d ≡ v → history_of d.points.names (begun_forest log' a.trees) log' us d.redo_sides.items ≡ history_committed v
+      unfolding history_committed
+      nothing_history v sees =
+          ap (λ f. history_of d.points.names f log' us d.redo_sides.items) (none_noted log' a.trees refl)
+          ∙ (without_history d law ok opened a left_out us forgets c ended log' refl refl refl refl d.points.names refl
+          ∙ (nothing_recorded (begun_state d.arena d.points.names d.command d.log) d.log.open_entry (seen d) (ap length nothing) ∙ ap history_committed sees))
+
+      abbrev nothing_doc : Whole
+      nothing_doc = whole_of a rested_points d.overrides.items d.flags c log' us d.redo_sides.items
+
+      by_left : (l : ℕ) → 0 < count_of a.trees l → l < d.command.start
+      by_left l here = false_le d.command.start l ((sheds_g d law ok opened).out l (subst (λ t. 0 < count_of t l) left_out.trees here))
+
+      pub nothing_keeps : (v : Whole) → seen d ≡ v → KeepsThere v nothing_doc
+      nothing_keeps v sees =
+          let own : KeepsThere (seen d) nothing_doc = (λ r h there. record {
+            slot = left_out.held r h.slot (by_left r.label (let le = count_of-shed (is_hidden (begun_forest log' a.trees) c.start) a.trees r.label in omega (arith, le, there)));
+            here = there;
+          }) in
+          subst (λ (w : Whole). KeepsThere w nothing_doc) sees own

@@ -1,0 +1,67 @@
+use Rattle.std.proofs.Common.{◌≡◌, ℕ, ◌<◌, refl, subst, ◌∙◌, length}
+use Rattle.undo_log.specs.Log.{noted}
+use Rattle.undo_log.specs.Log.Open.{Closed}
+use Rattle.edit_doc.specs.Fields.{IsEnded}
+use Rattle.edit_doc.proofs.Commits.{none_made, committed_none, nothing_whole, nothing_ok, nothing_state, nothing_history, nothing_keeps}
+use Rattle.edit_doc.proofs.Inner.{open_of}
+use Rattle.edit_doc.proofs.Joins.{entry_ok, entry_state, entry_history}
+use Rattle.edit_doc.proofs.Doc.commit.Goals as goal
+
+pub drop_made-requires-clause-whole : goal.drop_made-requires-clause-whole
+drop_made-requires-clause-whole c = nothing_whole c.self.inside c.lawful-2.ensures c.self.invariant (open_of c.self.inside _ c.self.view_is c.requires.«open») c.resting_places-places.result c.resting_places-places.ensures (none_made _ c.in-Nothing.ensures.answer.1)
+
+log_is : (c : goal.After-end) → c.commit.new.self ≡ record c.self.inside.log { open_entry = Closed }
+log_is c = c.in-Nothing.ensures.log ∙ committed_none c.self.inside.log c.self.inside.log.open_entry (none_made _ c.in-Nothing.ensures.answer.1) (open_of c.self.inside _ c.self.view_is c.requires.«open»)
+
+ended : (c : goal.After-end) → IsEnded c.drop_made.new.self.next c.end.new.self
+ended c = subst (λ (n : ℕ). IsEnded n c.end.new.self) c.next_label.ensures c.end.ensures
+
+pub invariant_of-self : goal.invariant_of-self
+invariant_of-self c =
+    rw (c.set_places.ensures, log_is c, c.forget_left.ensures.capacity)
+    (nothing_ok c.self.inside c.lawful-2.ensures c.self.invariant (open_of c.self.inside _ c.self.view_is c.requires.«open») c.resting_places-places.result c.resting_places-places.ensures (none_made _ c.in-Nothing.ensures.answer.1)
+    _ c.drop_made.ensures.drops c.lawful-in-Nothing.ensures _ c.forget_left.ensures.forgotten _ (ended c))
+
+pub returns-in-Nothing-clause-state : goal.returns-in-Nothing-clause-state
+returns-in-Nothing-clause-state c =
+    rw (c.set_places.ensures, log_is c)
+    (nothing_state c.self.inside c.lawful-2.ensures c.self.invariant (open_of c.self.inside _ c.self.view_is c.requires.«open») c.resting_places-places.result c.resting_places-places.ensures (none_made _ c.in-Nothing.ensures.answer.1)
+    _ c.drop_made.ensures.drops c.lawful-in-Nothing.ensures _ c.forget_left.ensures.forgotten _ (ended c) _ c.self.view_is)
+
+pub returns-in-Nothing-clause-history : goal.returns-in-Nothing-clause-history
+returns-in-Nothing-clause-history c =
+    rw (c.set_places.ensures, log_is c)
+    (nothing_history c.self.inside c.lawful-2.ensures c.self.invariant (open_of c.self.inside _ c.self.view_is c.requires.«open») c.resting_places-places.result c.resting_places-places.ensures (none_made _ c.in-Nothing.ensures.answer.1)
+    _ c.drop_made.ensures.drops c.lawful-in-Nothing.ensures _ c.forget_left.ensures.forgotten _ (ended c) _ c.self.view_is)
+
+pub returns-in-Nothing-clause-keeps : goal.returns-in-Nothing-clause-keeps
+returns-in-Nothing-clause-keeps c =
+    rw (c.set_places.ensures, log_is c)
+    (nothing_keeps c.self.inside c.lawful-2.ensures c.self.invariant (open_of c.self.inside _ c.self.view_is c.requires.«open») c.resting_places-places.result c.resting_places-places.ensures (none_made _ c.in-Nothing.ensures.answer.1)
+    _ c.drop_made.ensures.drops c.lawful-in-Nothing.ensures _ c.forget_left.ensures.forgotten _ (ended c) _ c.self.view_is)
+
+-- ---- with an edit
+
+made : (c : goal.After-end-2) → 0 < length (noted c.self.inside.log.open_entry)
+made c = c.in-Entry.ensures.answer.0 refl
+
+entry_ended : (c : goal.After-end-2) → IsEnded c.self.inside.arena.next c.end-2.new.self
+entry_ended c = subst (λ (n : ℕ). IsEnded n c.end-2.new.self) c.next_label-2.ensures c.end-2.ensures
+
+pub invariant_of-self-2 : goal.invariant_of-self-2
+invariant_of-self-2 c =
+    rw (c.set_places.ensures, c.clear.ensures, c.keep_entry.ensures.capacity)
+    (entry_ok c.self.inside c.lawful-2.ensures c.self.invariant (open_of c.self.inside _ c.self.view_is c.requires.«open») c.resting_places-places.result c.resting_places-places.ensures c.lawful.ensures (made c)
+    _ (entry_ended c) _ c.keep_entry.ensures.entered _ c.in-Entry.ensures.log)
+
+pub returns-clause-state : goal.returns-clause-state
+returns-clause-state c =
+    rw c.set_places.ensures
+    (entry_state c.self.inside c.lawful-2.ensures c.self.invariant (open_of c.self.inside _ c.self.view_is c.requires.«open») c.resting_places-places.result c.resting_places-places.ensures c.lawful.ensures (made c)
+    _ (entry_ended c) _ c.keep_entry.ensures.entered _ c.in-Entry.ensures.log _ c.self.view_is)
+
+pub returns-clause-history : goal.returns-clause-history
+returns-clause-history c =
+    rw (c.set_places.ensures, c.clear.ensures)
+    (entry_history c.self.inside c.lawful-2.ensures c.self.invariant (open_of c.self.inside _ c.self.view_is c.requires.«open») c.resting_places-places.result c.resting_places-places.ensures c.lawful.ensures (made c)
+    _ (entry_ended c) _ c.keep_entry.ensures.entered _ c.in-Entry.ensures.log _ c.self.view_is)

@@ -1,0 +1,20 @@
+use Rattle.std.proofs.Common.{◌≡◌, ℕ, false, sym, ap, subst, ◌∙◌}
+use Rattle.dom_model.specs.State.{State as Arena, IsLawful as IsArena}
+use Rattle.edit_doc.specs.Whole.{first_doc, HasNoLoose}
+use Rattle.edit_doc.specs.Fields.{IsEnded}
+use Rattle.edit_doc.specs.History.{whole_of}
+use Rattle.edit_doc.proofs.Starts.{new_ok, new_is}
+use Rattle.edit_doc.proofs.Doc.new.Goals as goal
+
+ended : (c : goal.After-none) → IsEnded c.args.arena.next c.none.result
+ended c = subst (λ (n : ℕ). IsEnded n c.none.result) c.next_label-next.ensures c.none.ensures
+
+pub invariant_of-result-2 : goal.invariant_of-result-2
+invariant_of-result-2 c =
+    rw (c.arena.view_is, c.in_ok-points.ensures, c.in_ok-no_overrides.ensures, c.in_ok-new.ensures, c.in_ok-with_capacity.ensures, c.in_ok-with_capacity-2.ensures)
+    (new_ok c.args.arena c.lawful.ensures c.requires.loose c.args.undo_depth (record { nodes = c.node_count.result; chars = c.char_count.result }) c.node_count.ensures c.char_count.ensures c.none.result (ended c))
+
+pub returns : goal.returns
+returns c =
+    (λ i. whole_of (c.arena.view_is i) (c.in_ok-points.ensures i) (c.in_ok-no_overrides.ensures i) (record { css_styling = false; paragraphs = false }) c.none.result (c.in_ok-new.ensures i) (c.in_ok-with_capacity.ensures i).items (c.in_ok-with_capacity-2.ensures i).items)
+    ∙ new_is c.args.arena c.lawful.ensures c.requires.loose c.args.undo_depth (record { nodes = c.node_count.result; chars = c.char_count.result }) c.node_count.ensures c.char_count.ensures c.none.result (ended c)

@@ -1,0 +1,41 @@
+use Rattle.std.proofs.Common.{◌≡◌, false, true, ◌∙◌, ap, subst, sym, refl, length, arith}
+use Rattle.undo_log.specs.Log.Open.{Closed}
+use Rattle.edit_doc.specs.Fields.{IsKept}
+use Rattle.edit_doc.specs.Whole.{Whole, opened}
+use Rattle.edit_doc.specs.Held.{IfHeld}
+use Rattle.edit_model.specs.Gives.{label_of}
+use Rattle.edit_doc.proofs.Inner.{closed_of}
+use Rattle.edit_doc.proofs.Laid.{resume_answer}
+use Rattle.edit_doc.proofs.Resumes.{some_sides, resume_ok, resume_is}
+use Rattle.edit_doc.proofs.Doc.resume.Goals as goal
+
+pub swap_left-requires : goal.swap_left-requires
+swap_left-requires c =
+    let closed = closed_of c.self.inside _ c.self.view_is c.requires.closed in
+    some_sides c.self.inside c.lawful.ensures closed c.self.invariant (c.if-not-resume.ensures.answer.0 refl).0
+
+pub returns-then-not-resume-clause-answer : goal.returns-then-not-resume-clause-answer
+returns-then-not-resume-clause-answer c = resume_answer c.self.inside _ c.self.view_is c.self.invariant false c.if-not-resume.ensures.answer
+
+pub returns-clause-answer : goal.returns-clause-answer
+returns-clause-answer c = resume_answer c.self.inside _ c.self.view_is c.self.invariant true c.if-not-resume.ensures.answer
+
+keeps : (c : goal.After-self-2-1) → IsKept c.self.inside.points c.self.inside.overrides.items c.self.inside.flags c.self.inside.counts c.in_ok-kept.kept
+keeps c = subst (λ xs. IsKept c.self.inside.points xs c.self.inside.flags c.self.inside.counts c.in_ok-kept.kept) c.deref.ensures.value c.in_ok-kept.ensures
+
+all : (c : goal.After-self-2-1) → c.len-self-inside.result ≡ length c.swap_left.new.command.left.items
+all c = let o = c.swap_left.new.command.left.ok in let e = c.len-self-inside.ensures in omega (arith, o, e)
+
+pub invariant_of-self-2 : goal.invariant_of-self-2
+invariant_of-self-2 c =
+    let closed = closed_of c.self.inside _ c.self.view_is c.requires.closed in
+    rw (c.if-not-resume.ensures.log, c.swap_left.ensures.capacity)
+    (resume_ok c.self.inside c.lawful.ensures closed c.self.invariant c.in_ok-kept.kept c.args.host (keeps c) c.swap_left.new.undo_sides.items c.swap_left.new.command c.swap_left.ensures.swapped c.len-self-inside.result (all c)
+    (subst (λ (w : Whole). IfHeld w c.args.host) (sym c.self.view_is) c.requires.host_held))
+
+pub returns-clause-begun : goal.returns-clause-begun
+returns-clause-begun c =
+    let closed = closed_of c.self.inside _ c.self.view_is c.requires.closed in
+    rw c.if-not-resume.ensures.log
+    (resume_is c.self.inside c.lawful.ensures closed c.self.invariant c.in_ok-kept.kept c.args.host (keeps c) c.swap_left.new.undo_sides.items c.swap_left.new.command c.swap_left.ensures.swapped c.len-self-inside.result (all c)
+    ∙ ap (opened (label_of c.args.host) false true) c.self.view_is)

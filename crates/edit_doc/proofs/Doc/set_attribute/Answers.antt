@@ -1,0 +1,66 @@
+use Rattle.std.proofs.Common.{◌≡◌, ℕ, true, false, not, refl, sym, ap, subst, ◌∙◌, Some}
+use Rattle.std.specs.Option.{option_map_or, option_and_then}
+use Rattle.dom_model.specs.declared.Content.TheVariants.{Element}
+use Rattle.dom_model.specs.AttributeList.{set_in}
+use Rattle.edit_model.specs.Confined.{has_value}
+use Rattle.dom_model.specs.Contents.{attributes_in}
+use Rattle.dom_model.specs.Forest.{content_of}
+use Rattle.edit_model.proofs.Giving.{gives_left}
+use Rattle.edit_model.specs.Edit.{Set}
+use Rattle.edit_doc.proofs.Attributed.{not_own_set, no_list_set, not_set_here, may_set_here, set_done, no_list}
+use Rattle.edit_doc.proofs.Edited.{keeps_same}
+use Rattle.edit_doc.proofs.SeenNodes.{attributes_seen}
+use Rattle.edit_doc.proofs.Doc.set_attribute.Goals as goal
+
+pub returns-then-not-is_own-clause-gives : goal.returns-then-not-is_own-clause-gives
+returns-then-not-is_own-clause-gives c =
+    let a = c.args in
+    gives_left (Set a.node.label a.name.now a.value.now) a.self.now.state a.self.now.state (not_own_set a.self.now.state a.node.label a.name.now a.value.now (sym c.is_own.ensures ∙ c.if-not-is_own.true)) refl
+
+pub returns-in_default : goal.returns-in_default
+returns-in_default c =
+    let a = c.args in
+    let none = attributes_seen c.self.inside c.lawful.ensures a.self.now c.self.view_is a.node c.requires.node_held ∙ (ap (option_and_then attributes_in) c.content.ensures ∙ no_list c.content.result.now c.in_default.not-Element) in
+    record {
+      gives = gives_left (Set a.node.label a.name.now a.value.now) a.self.now.state a.self.now.state (no_list_set a.self.now.state a.node.label a.name.now a.value.now none) refl;
+      keeps = keeps_same a.self.now;
+      err = tt;
+    }
+
+pub returns-then-has_value-clause-gives : goal.returns-then-has_value-clause-gives
+returns-then-has_value-clause-gives c =
+    let a = c.args in
+    let k = c.in-Element in
+    let content : content_of c.self.inside.arena.trees a.node.label ≡ Some (Element k.name k.attributes) = c.content.ensures ∙ ap Some k.is in
+    let same : has_value k.attributes a.name.now a.value.now ≡ true = sym c.has_value.ensures ∙ c.if-has_value.true in
+    gives_left (Set a.node.label a.name.now a.value.now) a.self.now.state a.self.now.state (not_set_here c.self.inside a.self.now c.self.view_is c.lawful.ensures c.slotted.ensures c.requires.open c.self.invariant a.node c.requires.node_held k.name k.attributes content a.name.now a.value.now same) refl
+
+pub invariant_of-self-2 : goal.invariant_of-self-2
+invariant_of-self-2 c =
+    let a = c.args in
+    let k = c.in-Element in
+    let content : content_of c.self.inside.arena.trees a.node.label ≡ Some (Element k.name k.attributes) = c.content.ensures ∙ ap Some k.is in
+    let same : c.set.new.self ≡ set_in k.attributes a.name.now a.value.now = c.in_ok-set.ensures.ok ∙ ap (λ xs. set_in xs a.name.now a.value.now) c.in_ok-list.ensures in
+    let other : has_value k.attributes a.name.now a.value.now ≡ false = sym c.has_value.ensures ∙ c.if-has_value.false in
+    let may = may_set_here c.self.inside a.self.now c.self.view_is c.lawful.ensures c.slotted.ensures c.requires.open c.self.invariant a.node c.requires.node_held k.name k.attributes content a.name.now a.value.now (sym c.is_own.ensures ∙ c.if-not-is_own.false) other in
+    (set_done c.self.inside a.self.now c.self.view_is c.lawful.ensures c.slotted.ensures c.requires.open c.self.invariant a.node c.requires.node_held k.name k.attributes content c.set.new.self c.name.new.self c.name.ensures c.make_change.new.arena c.make_change.new.log c.in_ok-make_change.ensures.arena c.in_ok-make_change.ensures.log a.name.now a.value.now same may).invariant
+
+pub returns-clause-gives : goal.returns-clause-gives
+returns-clause-gives c =
+    let a = c.args in
+    let k = c.in-Element in
+    let content : content_of c.self.inside.arena.trees a.node.label ≡ Some (Element k.name k.attributes) = c.content.ensures ∙ ap Some k.is in
+    let same : c.set.new.self ≡ set_in k.attributes a.name.now a.value.now = c.in_ok-set.ensures.ok ∙ ap (λ xs. set_in xs a.name.now a.value.now) c.in_ok-list.ensures in
+    let other : has_value k.attributes a.name.now a.value.now ≡ false = sym c.has_value.ensures ∙ c.if-has_value.false in
+    let may = may_set_here c.self.inside a.self.now c.self.view_is c.lawful.ensures c.slotted.ensures c.requires.open c.self.invariant a.node c.requires.node_held k.name k.attributes content a.name.now a.value.now (sym c.is_own.ensures ∙ c.if-not-is_own.false) other in
+    (set_done c.self.inside a.self.now c.self.view_is c.lawful.ensures c.slotted.ensures c.requires.open c.self.invariant a.node c.requires.node_held k.name k.attributes content c.set.new.self c.name.new.self c.name.ensures c.make_change.new.arena c.make_change.new.log c.in_ok-make_change.ensures.arena c.in_ok-make_change.ensures.log a.name.now a.value.now same may).gives
+
+pub returns-clause-keeps : goal.returns-clause-keeps
+returns-clause-keeps c =
+    let a = c.args in
+    let k = c.in-Element in
+    let content : content_of c.self.inside.arena.trees a.node.label ≡ Some (Element k.name k.attributes) = c.content.ensures ∙ ap Some k.is in
+    let same : c.set.new.self ≡ set_in k.attributes a.name.now a.value.now = c.in_ok-set.ensures.ok ∙ ap (λ xs. set_in xs a.name.now a.value.now) c.in_ok-list.ensures in
+    let other : has_value k.attributes a.name.now a.value.now ≡ false = sym c.has_value.ensures ∙ c.if-has_value.false in
+    let may = may_set_here c.self.inside a.self.now c.self.view_is c.lawful.ensures c.slotted.ensures c.requires.open c.self.invariant a.node c.requires.node_held k.name k.attributes content a.name.now a.value.now (sym c.is_own.ensures ∙ c.if-not-is_own.false) other in
+    (set_done c.self.inside a.self.now c.self.view_is c.lawful.ensures c.slotted.ensures c.requires.open c.self.invariant a.node c.requires.node_held k.name k.attributes content c.set.new.self c.name.new.self c.name.ensures c.make_change.new.arena c.make_change.new.log c.in_ok-make_change.ensures.arena c.in_ok-make_change.ensures.log a.name.now a.value.now same may).keeps

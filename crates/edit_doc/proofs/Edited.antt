@@ -1,0 +1,115 @@
+-- An edit that is made: what a call that makes it owes.
+use Rattle.std.proofs.Common.{◌≡◌, ℕ, ◌+◌, ◌<◌, ◌≤◌, Bool, true, false, List, [], ◌∷◌, ◌++◌, length, take, Option, Some, None, Ok, refl, sym, ap, subst, ◌∙◌, arith}
+use Rattle.std.specs.Prelude.{IsTrue, IfSome}
+use Rattle.dom_model.specs.declared.Content.{Content}
+use Rattle.dom_model.specs.Document.{node_count, char_count}
+use Rattle.dom_model.specs.Forest.{Forest, count_of}
+use Rattle.dom_model.specs.Shed.{shed}
+use Rattle.dom_model.specs.State.{State as Arena, IsLawful as IsArena}
+use Rattle.node_arena.specs.declared.NodeRef.{NodeRef}
+use Rattle.live_range.specs.LivePoints.{LivePoints}
+use Rattle.undo_log.specs.Log.{Log, noted, is_open, with_step}
+use Rattle.forest_changes.specs.Change.{applied, turned}
+use Rattle.forest_changes.specs.Named.{Each, named}
+use Rattle.forest_changes.specs.Down.{IsLeft}
+use Rattle.forest_changes.proofs.Twice.{count_of-applied}
+use Rattle.edit_steps.specs.declared.step.Step.{Step}
+use Rattle.edit_steps.specs.Step.{change_of, step_applied, step_turned, StepFits}
+use Rattle.edit_model.specs.declared.settings.Setting.{Setting}
+use Rattle.edit_model.specs.State.{State}
+use Rattle.edit_model.specs.Lawful.{IsLawful}
+use Rattle.edit_model.specs.Edit.{Edit, is_made_edit, trees_after, points_after, overrides_after, changed, counted}
+use Rattle.edit_model.specs.Run.{edit}
+use Rattle.edit_model.specs.Gives.{Gives}
+use Rattle.edit_model.proofs.Giving.{after_edit, gives_made, edited-made}
+use Rattle.edit_model.proofs.LawfulRuns.{lawful_edited}
+use Rattle.edit_parts.specs.declared.Counts.{Counts}
+use Rattle.edit_doc.specs.declared.Doc.TheInside.{Inside}
+use Rattle.edit_doc.specs.declared.command.Command.{Command}
+use Rattle.edit_doc.specs.Whole.{Whole, IsOpen, with_state}
+use Rattle.edit_doc.specs.Held.{Holds, Keeps}
+use Rattle.edit_doc.specs.History.{state_of, whole_of}
+use Rattle.edit_doc.specs.Sound.{IsSound}
+use Rattle.edit_doc.proofs.Inner.{seen, seen as seen_of, Ok as OkInside, open_of}
+use Rattle.edit_doc.proofs.SeenNodes.{out_of}
+use Rattle.edit_doc.proofs.Changing.{Follows, goes, seen_next, state_next, whole_next, sound_next}
+
+-- what the call owes after the edit
+pub record Done (d : Inside) (v : Whole) (e : Edit) (arena : Arena) (points : LivePoints) (overrides : List Setting) (counts : Counts) (c : Command) (log : Log Step) : Type 0 where
+  pub invariant : IsSound arena points overrides d.flags counts c log d.undo_sides.items d.redo_sides.items d.undo_sides.capacity d.redo_sides.capacity
+  pub gives : Gives (Ok true) v.state (state_of arena points overrides d.flags c log) (edit e)
+  pub keeps : Keeps v (whole_of arena points overrides d.flags c log d.undo_sides.items d.redo_sides.items)
+
+-- the edit in the terms of the arena: the step that is made, and what the other fields become
+pub record Makes (d : Inside) (e : Edit) (x : Step) (points : LivePoints) (overrides : List Setting) (counts : Counts) (c : Command) : Type 0 where
+  pub fits : StepFits x d.arena
+  pub seen : Each (IsLeft (out_of d) d.arena.trees) (named (change_of x))
+  pub follows : Follows d.command c (change_of x) (turned (change_of x) d.arena.trees)
+  pub names : points.names ≡ d.points.names
+  pub trees : applied (change_of x) (shed (out_of d) d.arena.trees) ≡ trees_after e (shed (out_of d) d.arena.trees)
+  pub points_are : points ≡ points_after e (shed (out_of d) d.arena.trees) d.points
+  pub overrides_are : overrides ≡ overrides_after (seen_of d).state (trees_after e (shed (out_of d) d.arena.trees)) (points_after e (shed (out_of d) d.arena.trees) d.points)
+  pub nodes : counts.nodes ≡ node_count (applied (change_of x) d.arena.trees)
+  pub chars : counts.chars ≡ char_count (applied (change_of x) d.arena.trees)
+
+module _ (d : Inside) (v : Whole) (is : seen d ≡ v) (law : IsArena d.arena) (now_open : IsOpen v) (ok : OkInside d) where
+  module _ (e : Edit) (x : Step) (points : LivePoints) (overrides : List Setting) (counts : Counts) (c : Command) (may : is_made_edit e v.state ≡ true) (m : Makes d e x points overrides counts c) where
+    opened : IsTrue (is_open d.log.open_entry)
+    opened = open_of d v is now_open
+
+    abbrev f : Forest Content
+    f = applied (change_of x) d.arena.trees
+
+    abbrev next : State
+    next = seen_next d.arena d.points d.overrides.items d.flags d.counts d.command d.log d.undo_sides.items d.redo_sides.items d.undo_sides.capacity d.redo_sides.capacity law opened ok x m.fits m.seen c m.follows points overrides
+
+    may_seen : is_made_edit e (seen d).state ≡ true
+    may_seen = subst (λ (w : Whole). is_made_edit e w.state ≡ true) (sym is) may
+
+    next_is : next ≡ after_edit e (seen d).state
+    unfolding changed counted
+    next_is = λ i. record (seen d).state {
+      trees = m.trees i;
+      points = m.points_are i;
+      overrides = m.overrides_are i;
+      edits = length (noted d.log.open_entry) + 1;
+    }
+
+    lawful_next : IsLawful next
+    lawful_next = subst IsLawful (sym (next_is)) (subst IsLawful (edited-made e (seen d).state may_seen) (lawful_edited e (seen d).state ok.lawful))
+
+    state_is : state_of (record d.arena { trees = f }) points overrides d.flags c (with_step d.log (step_turned x d.arena)) ≡ next
+    state_is = state_next d.arena d.points d.overrides.items d.flags d.counts d.command d.log d.undo_sides.items d.redo_sides.items d.undo_sides.capacity d.redo_sides.capacity law opened ok x m.fits m.seen c m.follows points overrides m.names
+
+    whole_is : whole_of (record d.arena { trees = f }) points overrides d.flags c (with_step d.log (step_turned x d.arena)) d.undo_sides.items d.redo_sides.items ≡ with_state (seen d) next
+    whole_is = whole_next d.arena d.points d.overrides.items d.flags d.counts d.command d.log d.undo_sides.items d.redo_sides.items d.undo_sides.capacity d.redo_sides.capacity law opened ok x m.fits m.seen c m.follows points overrides m.names
+
+    keeps_seen : Keeps (seen d) (with_state (seen d) next)
+    keeps_seen = record {
+      held = λ r h. record {
+        slot = h.slot;
+        here = (let down = goes d.arena d.points d.overrides.items d.flags d.counts d.command d.log d.undo_sides.items d.redo_sides.items d.undo_sides.capacity d.redo_sides.capacity law opened ok x m.fits m.seen in
+            let same = count_of-applied (change_of x) (shed (out_of d) d.arena.trees) down.fits r.label in let here = h.here in omega (arith, same, here));
+      };
+      history = refl;
+      began = refl;
+      start = refl;
+      cap = refl;
+    }
+
+    pub edit_done : Done d v e (record d.arena { trees = f }) points overrides counts c (with_step d.log (step_turned x d.arena))
+    edit_done = record {
+      invariant = sound_next d.arena d.points d.overrides.items d.flags d.counts d.command d.log d.undo_sides.items d.redo_sides.items d.undo_sides.capacity d.redo_sides.capacity law opened ok x m.fits m.seen c m.follows points overrides m.names counts lawful_next m.nodes m.chars;
+      gives = gives_made e v.state (state_of (record d.arena { trees = f }) points overrides d.flags c (with_step d.log (step_turned x d.arena))) may
+          (state_is ∙ (next_is ∙ ap (λ (w : Whole). after_edit e w.state) is));
+      keeps = subst (λ w. Keeps w (whole_of (record d.arena { trees = f }) points overrides d.flags c (with_step d.log (step_turned x d.arena)) d.undo_sides.items d.redo_sides.items)) is (subst (Keeps (seen d)) (sym whole_is) keeps_seen);
+    }
+
+    -- the same of what the calls that make it leave
+    pub edit_called : (arena : Arena) (log : Log Step) → arena ≡ step_applied x d.arena → log ≡ with_step d.log (step_turned x d.arena) → Done d v e arena points overrides counts c log
+    unfolding step_applied
+    edit_called arena log arena_is log_is =
+        subst (λ l. Done d v e arena points overrides counts c l) (sym log_is) (subst (λ a. Done d v e a points overrides counts c (with_step d.log (step_turned x d.arena))) (sym arena_is) edit_done)
+
+pub keeps_same : (v : Whole) → Keeps v v
+keeps_same v = record { held = λ r h. h; history = refl; began = refl; start = refl; cap = refl }

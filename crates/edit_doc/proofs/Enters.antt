@@ -1,0 +1,84 @@
+-- A command that made edits leaves an entry.
+use Rattle.std.proofs.Common.{◌≡◌, ℕ, zero, suc, ◌<◌, ◌≤◌, false, Option, List, [], ◌∷◌, length, take, refl, sym, ap, subst, ◌∙◌, arith}
+use Rattle.std.specs.Prelude.{IsTrue}
+use Rattle.dom_model.specs.declared.Content.{Content}
+use Rattle.dom_model.specs.Forest.{Forest, count_of}
+use Rattle.dom_model.specs.State.{State as Arena, IsLawful as IsArena}
+use Rattle.dom_model.proofs.Shedding.{count_of-shed}
+use Rattle.live_range.specs.declared.places.Places.{Places}
+use Rattle.undo_log.specs.Turning.{inverses_back}
+use Rattle.undo_log.specs.Log.{is_open}
+use Rattle.forest_changes.specs.Change.{applied, turned}
+use Rattle.forest_changes.specs.Named.{Each, named_in}
+use Rattle.forest_changes.specs.Down.{IsLeft, GoBackDown}
+use Rattle.forest_changes.proofs.ChangeLists.{each_of, back_down}
+use Rattle.forest_changes.proofs.Twice.{forest_of}
+use Rattle.edit_steps.specs.declared.step.Step.{Step}
+use Rattle.edit_steps.specs.Step.{changes_of}
+use Rattle.node_arena.specs.declared.NodeRef.{NodeRef}
+use Rattle.edit_model.specs.Gives.{labels_of}
+use Rattle.edit_doc.specs.declared.Doc.TheInside.{Inside}
+use Rattle.edit_doc.specs.declared.command.Beside.{Beside}
+use Rattle.edit_doc.specs.declared.command.Command.{Command}
+use Rattle.edit_doc.specs.Fields.{AreResting, made_sides}
+use Rattle.edit_doc.specs.History.{forest_before, is_hidden, view_at, undo_entries}
+use Rattle.edit_doc.specs.Sound.{IsBeside, UndoSound}
+use Rattle.edit_doc.proofs.Inner.{Ok}
+use Rattle.edit_doc.proofs.Turnings.{sheds_after}
+use Rattle.edit_doc.proofs.Rolls.{run, g, xs, beside_of}
+use Rattle.edit_doc.proofs.Commits.{placed_now}
+
+-- the oldest entries go
+pub undo-take : (held : List (Option ℕ)) (names : List (List ℕ)) (c : Command) (n high : ℕ) (f : Forest Content) (es : List (List Step)) (bs : List Beside) → UndoSound held names false c high f es bs → UndoSound held names false c high f (take n es) (take n bs)
+undo-take held names c zero high f es bs h = tt
+undo-take held names c (suc n) high f [] [] h = tt
+undo-take held names c (suc n) high f [] (b ∷ bs) h = absurd h
+undo-take held names c (suc n) high f (e ∷ es) [] h = absurd h
+undo-take held names c (suc n) high f (e ∷ es) (b ∷ bs) h = (h.0, (h.1.0, undo-take held names c n b.sides.first_label (forest_before e f) es bs h.1.1))
+
+pub undo_entries-take : (names : List (List ℕ)) (n : ℕ) (f : Forest Content) (es : List (List Step)) (bs : List Beside) → undo_entries names f (take n es) (take n bs) ≡ take n (undo_entries names f es bs)
+undo_entries-take names zero f es bs = refl
+undo_entries-take names (suc n) f [] bs = refl
+undo_entries-take names (suc n) f (e ∷ es) [] = refl
+undo_entries-take names (suc n) f (e ∷ es) (b ∷ bs) = ap (λ r. record { before = view_at names (forest_before e f) b.sides.before; after = view_at names f b.sides.after; edits = length e } ∷ r) (undo_entries-take names n (forest_before e f) es bs)
+
+module _ (d : Inside) (law : IsArena d.arena) (ok : Ok d) (opened : IsTrue (is_open d.log.open_entry)) (p : Places) (resting : AreResting d.points p) where
+  abbrev steps : List Step
+  steps = xs d law ok opened
+
+  abbrev before : Forest Content
+  before = g d law ok opened
+
+  below_next : (ls : List ℕ) → Each (IsLeft (is_hidden before d.command.start) d.arena.trees) ls → Each (λ l. l < d.arena.next) ls
+  below_next ls h = each_of (IsLeft (is_hidden before d.command.start) d.arena.trees) (λ l. l < d.arena.next) ls (λ l t. law.below l (let le = count_of-shed (is_hidden before d.command.start) d.arena.trees l in omega (arith, le, t))) h
+
+  -- an entry that the command began
+  pub made_beside : (b : Beside) (left : List NodeRef) → left ≡ [] → b.sides ≡ made_sides d.command p d.counts →
+      IsBeside d.points.names before d.arena.trees steps (inverses_back applied turned (changes_of steps) d.arena.trees) b left d.arena.next d.arena.next
+  made_beside b left none same =
+      let f = d.arena.trees in
+      let r = run d law ok opened in
+      let k = is_hidden before d.command.start in
+      let ts = inverses_back applied turned (changes_of steps) f in
+      let gd : GoBackDown k (changes_of steps) f = back_down k (changes_of steps) f (sheds_after before f d.command.start (forest_of d.arena law) ok.hidden) r.can.0 r.names_there in
+      let b1 : Beside = record b { sides = made_sides d.command p d.counts } in
+      let own : IsBeside d.points.names before f steps ts b1 [] d.arena.next d.arena.next = record {
+        was = r.kept;
+        is = record {
+          over = resting.over;
+          placed = placed_now d law ok opened p resting;
+          resting = resting.resting;
+          nodes_are = ok.nodes;
+          chars_are = ok.chars;
+        };
+        some_label = ok.some_label;
+        drawn = ok.lawful.started;
+        known = omega arith;
+        hidden = ok.hidden;
+        names_seen = each_of (IsLeft k f) (IsLeft k before) (named_in (changes_of steps)) (λ l t. (let s = gd.stays l in omega arith)) r.names_there;
+        names_there = r.names_there;
+        names_old = below_next (named_in (changes_of steps)) r.names_there;
+        turns_old = below_next (named_in ts) gd.names;
+        left_loose = tt;
+      } in
+      subst (λ ls. IsBeside d.points.names before f steps ts b ls d.arena.next d.arena.next) (sym none) (beside_of d.points.names before f steps ts b1 b [] d.arena.next d.arena.next (sym same) own)

@@ -1,0 +1,244 @@
+-- Forests without some of their trees: what is seen, and the document alone.
+use Rattle.std.proofs.Common.{◌≡◌, ◌⊎◌, ℕ, zero, suc, ◌+◌, ◌<◌, ◌≤◌, Bool, true, false, true≢false, cond, List, Option, Some, None, refl, sym, ap, subst, ◌∙◌, inl, inr, arith, eqb, nat_lt}
+use Rattle.std.specs.Prelude.{◌&&◌, nat_le}
+use Rattle.std.specs.Option.{option_map, option_map_or, option_and_then}
+use Rattle.std.proofs.lemmas.Bool.Decides.{eqb_tells, nat_tests}
+use Rattle.dom_model.specs.declared.Content.{Content}
+use Rattle.dom_model.specs.Contents.{length_of, length_in}
+use Rattle.dom_model.specs.Document.{node_count, char_count}
+use Rattle.dom_model.specs.Forest.{Forest, Seen, seek, tops, times, count_of, tree_of, parent_of, first_of, children_of, content_of, IsDistinct, IsWithin, RisesFrom}
+use Rattle.dom_model.specs.Forest.Forest.{Nil, Tree}
+use Rattle.dom_model.specs.Shed.{shed}
+use Rattle.dom_model.specs.State.{State as Arena}
+use Rattle.dom_model.proofs.Shedding.{count_of-shed, IsDistinct-shed, tree_of-shed, seek-shed, parent_of-shed, children_of-shed}
+use Rattle.dom_model.proofs.Stands.{true_or_false, times-tops, top_stands, seek_Stands, seek_absent}
+use Rattle.dom_model.proofs.Within.{within_self}
+use Rattle.live_range.specs.LivePoints.{LivePoints}
+use Rattle.forest_changes.specs.Change.{IsForest}
+use Rattle.forest_changes.specs.Down.{Sheds, IsLeft}
+use Rattle.edit_model.specs.Lawful.{IsPlaced, IsForest as IsModelForest}
+use Rattle.edit_model.proofs.Points.{Leaves, Placed, points_left}
+use Rattle.edit_model.proofs.Documents.{document_shape}
+use Rattle.edit_doc.specs.History.{is_hidden}
+
+-- ---- tests
+
+pub and_true : (a b : Bool) → (a && b) ≡ true → (a ≡ true) × (b ≡ true)
+and_true true true e = (refl, refl)
+and_true true false e = absurd (cc)
+and_true false b e = absurd (cc)
+
+pub both_true : (a b : Bool) → a ≡ true → b ≡ true → (a && b) ≡ true
+both_true a b e d = rw (e, d) refl
+
+pub lt_true : (a b : ℕ) → nat_lt a b ≡ true → a < b
+lt_true a b e = grind (arith, nat_tests)
+
+pub true_lt : (a b : ℕ) → a < b → nat_lt a b ≡ true
+true_lt a b h = grind (arith, nat_tests)
+
+pub le_false : (a b : ℕ) → b < a → nat_le a b ≡ false
+le_false a b h = grind (arith, nat_tests)
+
+pub le_true : (a b : ℕ) → a ≤ b → nat_le a b ≡ true
+le_true a b h = grind (arith, nat_tests)
+
+pub true_le : (a b : ℕ) → nat_le a b ≡ true → a ≤ b
+true_le a b h = grind (arith, nat_tests)
+
+pub false_le : (a b : ℕ) → nat_le a b ≡ false → b < a
+false_le a b h = grind (arith, nat_tests)
+
+-- ---- trees that are hidden
+
+pub record Hidden (g : Forest Content) (start l : ℕ) : Type 0 where
+  pub inner : 0 < l
+  pub old : l < start
+  pub root : 0 < times (tops g) l
+
+pub hidden_is : (g : Forest Content) (start l : ℕ) → is_hidden g start l ≡ true → Hidden g start l
+hidden_is g start l e =
+    let a = and_true (nat_lt 0 l) (nat_lt l start && nat_lt 0 (times (tops g) l)) e in
+    let b = and_true (nat_lt l start) (nat_lt 0 (times (tops g) l)) a.1 in
+    record { inner = lt_true 0 l a.0; old = lt_true l start b.0; root = lt_true 0 (times (tops g) l) b.1 }
+
+pub is_hidden_from : (g : Forest Content) (start l : ℕ) → Hidden g start l → is_hidden g start l ≡ true
+is_hidden_from g start l h =
+    both_true (nat_lt 0 l) (nat_lt l start && nat_lt 0 (times (tops g) l)) (true_lt 0 l h.inner)
+    (both_true (nat_lt l start) (nat_lt 0 (times (tops g) l)) (true_lt l start h.old) (true_lt 0 (times (tops g) l) h.root))
+
+-- ---- what is shed
+
+module _ {C : Type 0} where
+  pub shed-same : (k j : ℕ → Bool) (f : Forest C) → ((l : ℕ) → 0 < times (tops f) l → k l ≡ j l) → shed k f ≡ shed j f
+  shed-same k j Nil same = refl
+  shed-same k j (Tree m c ks rest) same =
+      let e : k m ≡ j m = same m (own m (times (tops rest) m)) in
+      let ih = shed-same k j rest (λ l top. same l (omega (arith, top))) in
+      rw (e, ih) refl
+    where
+      own : (m n : ℕ) → 0 < cond (eqb m m) 1 0 + n
+      own m n = grind (arith, nat_tests)
+
+  pub shed-none : (f : Forest C) → shed (λ _. false) f ≡ f
+  shed-none Nil = refl
+  shed-none (Tree m c ks rest) = ap (Tree m c ks) (shed-none rest)
+
+  -- what stays when fewer trees go
+  pub shed_more : (k j : ℕ → Bool) (f : Forest C) (l : ℕ) → ((m : ℕ) → j m ≡ true → k m ≡ true) → count_of (shed k f) l ≤ count_of (shed j f) l
+  shed_more k j Nil l less = omega arith
+  shed_more k j (Tree m c ks rest) l less =
+      let ih = shed_more k j rest l less in
+      elim (true_or_false (j m)) [
+        | inl e ↦ (let t = less m e in rw (e, t) ih)
+        | inr e ↦ elim (true_or_false (k m)) [
+          | inl t ↦ rw (e, t) (omega (arith, ih))
+          | inr t ↦ rw (e, t) (omega (arith, ih))
+        ]
+      ]
+
+  -- what stays on both counts stays when both sets of trees go
+  pub both_left : (k h : ℕ → Bool) (f : Forest C) (l : ℕ) → IsDistinct f → 0 < count_of (shed k f) l → 0 < count_of (shed h f) l → 0 < count_of (shed h (shed k f)) l
+  both_left k h Nil l once a b = a
+  both_left k h (Tree m c ks rest) l once a b =
+      let own : ℕ = cond (eqb m l) 1 0 + count_of ks l in
+      let one : own + count_of rest l ≤ 1 = omega (arith, once l) in
+      let lk = count_of-shed k rest l in
+      let lh = count_of-shed h rest l in
+      let ih = both_left k h rest l (λ n. omega (arith, once n)) in
+      elim (true_or_false (k m)) [
+        | inl e ↦ (let a' = rw e at a in elim (true_or_false (h m)) [
+          | inl t ↦ (let b' = rw t at b in rw e (ih a' b'))
+          | inr t ↦ (let b' = rw t at b in rw e (ih a' (omega (arith, a', b', one, lk))))
+        ])
+        | inr e ↦ (let a' = rw e at a in elim (true_or_false (h m)) [
+          | inl t ↦ (let b' = rw t at b in rw (e, t) (ih (omega (arith, a', b', one, lh)) b'))
+          | inr t ↦ (let b' = rw t at b in (let sum : 0 < own + count_of (shed h (shed k rest)) l = by_own own (count_of (shed k rest) l) (count_of (shed h rest) l) (count_of (shed h (shed k rest)) l) (omega (arith, a')) (omega (arith, b')) ih in rw (e, t) (omega (arith, sum))))
+        ])
+      ]
+    where
+      by_own : (own x y z : ℕ) → 0 < own + x → 0 < own + y → (0 < x → 0 < y → 0 < z) → 0 < own + z
+      by_own zero x y z a b ih = omega (arith, ih (omega arith) (omega arith))
+      by_own (suc own) x y z a b ih = omega arith
+
+  tops-more : (k : ℕ → Bool) (f : Forest C) (l : ℕ) → times (tops (shed k f)) l ≤ times (tops f) l
+  tops-more k Nil l = omega arith
+  tops-more k (Tree m c ks rest) l = elim (true_or_false (k m)) [
+    | inl e ↦ rw e (omega (arith, tops-more k rest l))
+    | inr e ↦ rw e (omega (arith, tops-more k rest l))
+  ]
+
+  -- a root that is left was one, and isn't shed
+  pub tops_left : (k : ℕ → Bool) (f : Forest C) (l : ℕ) → 0 < times (tops (shed k f)) l → (0 < times (tops f) l) × (k l ≡ false)
+  tops_left k f l h = (omega (arith, h, tops-more k f l), out f h)
+    where
+      out : (g : Forest C) → 0 < times (tops (shed k g)) l → k l ≡ false
+      out Nil t = absurd (omega (arith, t))
+      out (Tree m c ks rest) t = elim (true_or_false (k m)) [
+        | inl e ↦ (let t' = rw e at t in out rest t')
+        | inr e ↦ (let t' = rw e at t in elim (eqb_tells m l) [
+          | inl (_, same) ↦ ap k (sym same) ∙ e
+          | inr (u, _) ↦ (let t'' = rw u at t' in out rest (omega (arith, t'')))
+        ])
+      ]
+
+  -- and one that isn't shed stays
+  pub tops_stay : (k : ℕ → Bool) (f : Forest C) (l : ℕ) → k l ≡ false → times (tops (shed k f)) l ≡ times (tops f) l
+  tops_stay k Nil l off = refl
+  tops_stay k (Tree m c ks rest) l off = elim (true_or_false (k m)) [
+    | inl e ↦ rw e (elim (eqb_tells m l) [
+      | inl (_, same) ↦ absurd (true≢false (sym e ∙ (ap k same ∙ off)))
+      | inr (u, _) ↦ rw u (omega (arith, tops_stay k rest l off))
+    ])
+    | inr e ↦ rw e (omega (arith, tops_stay k rest l off))
+  ]
+
+  -- a root has no parent, and what has no parent has none among fewer trees
+  pub top_loose : (f : Forest C) (l : ℕ) → IsDistinct f → 0 < times (tops f) l → parent_of f l ≡ None
+  top_loose f l once top =
+      let t = top_stands None f l top in
+      ap (option_and_then (λ (s : Seen C). s.parent)) (seek_Stands None f l t.0 (once l) t.1) ∙ t.2
+
+  pub loose_left : (k : ℕ → Bool) (f : Forest C) (l : ℕ) → IsDistinct f → parent_of f l ≡ None → parent_of (shed k f) l ≡ None
+  loose_left k f l once loose = by_count (count_of (shed k f) l) refl
+    where
+      by_count : (n : ℕ) → count_of (shed k f) l ≡ n → parent_of (shed k f) l ≡ None
+      by_count zero e = ap (option_and_then (λ (s : Seen C). s.parent)) (seek_absent None (shed k f) l e)
+      by_count (suc n) e = parent_of-shed k f l once (omega (arith, e)) ∙ loose
+
+-- ---- the document
+
+first_left : (k : ℕ → Bool) (c : Content) (ks rest : Forest Content) → k 0 ≡ false → shed k (Tree 0 c ks rest) ≡ Tree 0 c ks (shed k rest)
+first_left k c ks rest e = rw e refl
+
+pub model_forest : (f : Forest Content) → IsForest f → (next : ℕ) → ((l : ℕ) → 0 < count_of f l → l < next) → IsModelForest f next
+model_forest f is next below = record {
+  distinct = is.distinct;
+  rising = is.rising;
+  below = below;
+  document = is.document;
+  root = is.root;
+  nodes = is.nodes;
+}
+
+-- labels of a forest are bounded by a total of theirs
+module _ (f : Forest Content) (next : ℕ) (is : IsModelForest f next) (k : ℕ → Bool) (keeps : k 0 ≡ false) where
+  pub document-shed : tree_of (shed k f) 0 ≡ tree_of f 0
+  document-shed = let d = document_shape f next is in subst (λ g. tree_of (shed k g) 0 ≡ tree_of g 0) (sym d.3) (rw keeps refl)
+
+  pub document_here : 0 < count_of (shed k f) 0
+  document_here = let d = document_shape f next is in subst (λ g. 0 < count_of (shed k g) 0) (sym d.3) (rw keeps (omega arith))
+
+  -- what is in the document is left
+  pub inside_left : (l : ℕ) → IsWithin f 0 l → 0 < count_of (shed k f) l
+  inside_left l h = let d = document_shape f next is in subst (λ g. IsWithin g 0 l → 0 < count_of (shed k g) l) (sym d.3) (λ t. rw keeps (omega (arith, t))) h
+
+  pub length_of-shed : (l : ℕ) → IsWithin f 0 l → length_of (shed k f) l ≡ length_of f l
+  length_of-shed l h = ap (λ (o : Option (Seen Content)). option_map_or (λ c. length_in c (option_map_or (λ s. s.children) o List.[])) (option_map (λ s. s.content) o) 0) (seek-shed k None f l is.distinct (inside_left l h))
+
+  leaves-shed : Leaves f (shed k f)
+  leaves-shed x h = record {
+    inside = rw document-shed h.inside;
+    fits = omega (arith, h.fits, length_of-shed x.label h.inside);
+  }
+
+  leaves-whole : Leaves (shed k f) f
+  leaves-whole x h =
+      let inside : IsWithin f 0 x.label = rw document-shed at h.inside in
+      record { inside = inside; fits = omega (arith, h.fits, length_of-shed x.label inside) }
+
+  pub placed-shed : (points : LivePoints) → IsPlaced f points → IsPlaced (shed k f) points
+  placed-shed points h = points_left f (shed k f) leaves-shed points h
+
+  pub placed-whole : (points : LivePoints) → IsPlaced (shed k f) points → IsPlaced f points
+  placed-whole points h = points_left (shed k f) f leaves-whole points h
+
+  pub node_count-shed : node_count (shed k f) ≡ node_count f
+  node_count-shed = rw document-shed refl
+
+  pub char_count-shed : char_count (shed k f) ≡ char_count f
+  char_count-shed = rw document-shed refl
+
+-- outside commands every loose tree is hidden
+pub seen_at_rest : (f : Forest Content) (next : ℕ) → IsModelForest f next → shed (is_hidden f next) f ≡ tree_of f 0
+seen_at_rest f next is =
+    shed-same (is_hidden f next) (nat_lt 0) f same ∙ alone
+  where
+    by_zero : (l : ℕ) → l < next → 0 < times (tops f) l → is_hidden f next l ≡ nat_lt 0 l
+    by_zero zero low top = refl
+    by_zero (suc l) low top = is_hidden_from f next (suc l) (record { inner = omega arith; old = low; root = top }) ∙ sym (true_lt 0 (suc l) (omega arith))
+
+    same : (l : ℕ) → 0 < times (tops f) l → is_hidden f next l ≡ nat_lt 0 l
+    same l top = by_zero l (is.below l (omega (arith, top, times-tops f l))) top
+
+    none_left : (low : ℕ) (g : Forest Content) → 0 < low → RisesFrom low g → shed (nat_lt 0) g ≡ Nil
+    none_left low Nil inner rises = refl
+    none_left low (Tree m c ks rest) inner rises =
+        let t : nat_lt 0 m ≡ true = true_lt 0 m (let r = rises.0 in omega arith) in
+        rw t (none_left (m + 1) rest (omega arith) rises.1)
+
+    alone : shed (nat_lt 0) f ≡ tree_of f 0
+    alone =
+        let d = document_shape f next is in
+        let rises : RisesFrom 0 (Tree 0 d.0 d.1 d.2) = subst (RisesFrom 0) d.3 is.rising in
+        subst (λ g. shed (nat_lt 0) g ≡ tree_of g 0) (sym d.3) (ap (Tree 0 d.0 d.1) (none_left 1 d.2 (omega arith) rises.1))

@@ -1,0 +1,34 @@
+-- The fields of a document under edits, and whether a command is open.
+use Rattle.std.proofs.Common.{◌≡◌, List, Option, Some, None, refl, sym, ap, subst, ◌∙◌}
+use Rattle.std.specs.Prelude.{IsTrue, IsSome}
+use Rattle.undo_log.specs.Log.{Open, is_open}
+use Rattle.undo_log.specs.Log.Open.{Closed, Begun, Resumed}
+use Rattle.edit_steps.specs.declared.step.Step.{Step}
+use Rattle.edit_model.specs.State.{State}
+use Rattle.edit_doc.specs.declared.Doc.TheInside.{Inside}
+use Rattle.edit_doc.specs.Whole.{Whole, Began, IsOpen, IsClosed}
+use Rattle.edit_doc.specs.History.{whole_of, began_with}
+use Rattle.edit_doc.specs.Sound.{IsSound}
+
+abbrev pub seen : Inside → Whole
+seen d = whole_of d.arena d.points d.overrides.items d.flags d.command d.log d.undo_sides.items d.redo_sides.items
+
+abbrev pub Ok : Inside → Type 0
+Ok d = IsSound d.arena d.points d.overrides.items d.flags d.counts d.command d.log d.undo_sides.items d.redo_sides.items d.undo_sides.capacity d.redo_sides.capacity
+
+closed_in : (s : State) (o : Open Step) → began_with s o ≡ None → o ≡ Closed
+closed_in s Closed e = refl
+closed_in s (Begun xs) e = absurd (cc)
+closed_in s (Resumed xs) e = absurd (cc)
+
+open_in : (s : State) (o : Open Step) → IsSome (began_with s o) → IsTrue (is_open o)
+open_in s Closed h = absurd (let h' = h in cc)
+open_in s (Begun xs) h = refl
+open_in s (Resumed xs) h = refl
+
+-- where the value has no command, no entry is open
+pub closed_of : (d : Inside) (v : Whole) → seen d ≡ v → IsClosed v → d.log.open_entry ≡ Closed
+closed_of d v is h = closed_in _ d.log.open_entry (ap (λ (w : Whole). w.began) is ∙ h)
+
+pub open_of : (d : Inside) (v : Whole) → seen d ≡ v → IsOpen v → IsTrue (is_open d.log.open_entry)
+open_of d v is h = open_in _ d.log.open_entry (subst (λ (w : Whole). IsSome w.began) (sym is) h)

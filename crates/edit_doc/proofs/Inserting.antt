@@ -1,0 +1,175 @@
+-- An insert that is made.
+use Rattle.std.proofs.Common.{◌≡◌, ℕ, ◌+◌, ◌<◌, ◌^◌, Bool, true, false, List, length, Option, Some, None, refl, sym, ap, subst, ◌∙◌, arith}
+use Rattle.dom_model.specs.declared.Content.{Content}
+use Rattle.dom_model.specs.Contents.{is_parent_at, words_length}
+use Rattle.dom_model.specs.Document.{node_count, char_count}
+use Rattle.dom_model.specs.Forest.{Forest, total, count_of, tree_of, children_of, link, CanPut, IsDistinct}
+use Rattle.dom_model.specs.Places.{place_in, index_of}
+use Rattle.dom_model.specs.Shed.{shed}
+use Rattle.dom_model.specs.State.{State as Arena, IsLawful as IsArena, IsSlotted}
+use Rattle.dom_model.proofs.Shedding.{children_of-shed}
+use Rattle.node_arena.specs.declared.NodeRef.{NodeRef}
+use Rattle.node_arena.specs.Held.{label}
+use Rattle.live_range.specs.Edit as range
+use Rattle.live_range.specs.LivePoints.{LivePoints, Fits, mapped}
+use Rattle.point_order.specs.PointOrder.{is_in_document}
+use Rattle.undo_log.specs.Log.{Log, with_step}
+use Rattle.forest_changes.specs.Change.{applied}
+use Rattle.forest_changes.specs.Named.{Each, named}
+use Rattle.forest_changes.specs.Down.{IsLeft}
+use Rattle.forest_changes.proofs.ShedChanges.{CanPut-shed}
+use Rattle.forest_changes.proofs.Twice.{forest_of}
+use Rattle.edit_steps.specs.declared.step.Step.{Step}
+use Rattle.edit_steps.specs.declared.step.Step.TheVariants.{Link}
+use Rattle.edit_steps.specs.Step.{StepFits, change_of, step_applied, step_turned}
+use Rattle.edit_model.specs.declared.settings.Setting.{Setting}
+use Rattle.edit_model.specs.State.{State}
+use Rattle.edit_model.specs.Edit.{Edit, Insert, is_made_edit, trees_after, points_after, index_before}
+use Rattle.edit_model.specs.Confined.{may_insert}
+use Rattle.edit_model.specs.Gives.{label_of}
+use Rattle.edit_model.specs.Lawful.{IsPlaced}
+use Rattle.edit_model.proofs.Fitting.{fits-insert}
+use Rattle.edit_model.proofs.Tests.{Inserts, inserts}
+use Rattle.edit_parts.specs.Following.{settled}
+use Rattle.edit_parts.specs.declared.Counts.{Counts}
+use Rattle.edit_doc.specs.declared.Doc.TheInside.{Inside}
+use Rattle.edit_doc.specs.declared.command.Command.{Command}
+use Rattle.edit_doc.specs.Fields.{with_more}
+use Rattle.edit_doc.specs.Whole.{Whole, IsOpen}
+use Rattle.edit_doc.specs.Held.{Holds, IfHeld}
+use Rattle.edit_doc.specs.Marks.{Marks, place_labels}
+use Rattle.edit_doc.proofs.Inner.{seen, Ok}
+use Rattle.edit_doc.proofs.SeenNodes.{out_of, held_seen, is_parent_seen}
+use Rattle.edit_doc.proofs.Rests.{arena_forest}
+use Rattle.edit_doc.proofs.Linked.{labels_same, inserts_follow, place_seen, link_fits}
+use Rattle.edit_doc.proofs.Inserted.{index-link, more_linked, linked_low, chars_bound, nodes_bound}
+use Rattle.edit_doc.proofs.Treed.{placed_after, settled_after}
+use Rattle.edit_doc.proofs.Edited.{Makes, Done, edit_called}
+
+pub index_left : (k : ℕ → Bool) (f : Forest Content) (p : ℕ) (b : Option ℕ) → IsDistinct f → 0 < count_of (shed k f) p → index_before (shed k f) p b ≡ index_before f p b
+unfolding index_before
+index_left k f p None once here = ap length (children_of-shed k f p once here)
+index_left k f p (Some m) once here = ap (λ xs. place_in xs m) (children_of-shed k f p once here)
+
+pub not_inserted : (s : State) (p : ℕ) (b : Option ℕ) (n : ℕ) → may_insert s p b n ≡ false → is_made_edit (Insert p b n) s ≡ false
+unfolding is_made_edit
+not_inserted s p b n h = h
+
+module _ (d : Inside) (v : Whole) (is : seen d ≡ v) (law : IsArena d.arena) (slotted : IsSlotted d.arena) (now_open : IsOpen v) (ok : Ok d) (node parent : NodeRef) (before : Option NodeRef)
+    (node_held : Holds v node) (parent_held : Holds v parent) (before_held : IfHeld v before) (may : may_insert v.state parent.label (label_of before) node.label ≡ true) where
+  abbrev f : Forest Content
+  f = d.arena.trees
+
+  abbrev g : Forest Content
+  g = shed (out_of d) d.arena.trees
+
+  abbrev p : ℕ
+  p = parent.label
+
+  abbrev b : Option ℕ
+  b = label before
+
+  abbrev n : ℕ
+  n = node.label
+
+  abbrev x : Step
+  x = Link node parent before
+
+  may_here : may_insert v.state p b n ≡ true
+  may_here = subst (λ o. may_insert v.state p o n ≡ true) (sym (labels_same before)) may
+
+  may_seen : may_insert (seen d).state p b n ≡ true
+  may_seen = subst (λ (w : Whole). may_insert w.state p b n ≡ true) (sym is) may_here
+
+  made : is_made_edit (Insert p b n) v.state ≡ true
+  unfolding is_made_edit
+  made = may_here
+
+  told : Inserts (seen d).state p b n
+  told = inserts (seen d).state p b n may_seen
+
+  bears : is_parent_at f p ≡ true
+  bears = sym (is_parent_seen d law (seen d) refl parent (held_seen d v is parent parent_held)) ∙ told.parent
+
+  can : CanPut f p b n
+  can = CanPut-shed (out_of d) f p b n (forest_of d.arena law) told.can
+
+  pub fits : StepFits (Link node parent before) d.arena
+  fits = link_fits d v is law slotted node parent before node_held parent_held before_held told.can bears
+
+  index_is : index_of (link f p b n) n ≡ index_before g p b
+  index_is = index-link f p b n law.distinct can ∙ sym (index_left (out_of d) f p b law.distinct told.can.parent)
+
+  -- ---- the numbers
+
+  module _ (enters : Bool) (enters_is : enters ≡ is_in_document f p) where
+    nodes_is : with_more enters d.counts.nodes (total (λ _ _. 1) (tree_of f n)) ≡ node_count (link f p b n)
+    nodes_is = (λ i. with_more (enters_is i) (ok.nodes i) (total (λ _ _. 1) (tree_of f n))) ∙ more_linked f d.arena.next (arena_forest d.arena law) (λ _ _. 1) p b n can
+
+    chars_is : with_more enters d.counts.chars (total (λ _ c. words_length c) (tree_of f n)) ≡ char_count (link f p b n)
+    chars_is = (λ i. with_more (enters_is i) (ok.chars i) (total (λ _ c. words_length c) (tree_of f n))) ∙ more_linked f d.arena.next (arena_forest d.arena law) (λ _ c. words_length c) p b n can
+
+    pub nodes_fit : with_more enters d.counts.nodes (total (λ _ _. 1) (tree_of f n)) < 2 ^ 32
+    nodes_fit = omega (arith, nodes_is, linked_low f d.arena.next (arena_forest d.arena law) (λ _ _. 1) p b n can, nodes_bound d.arena law)
+
+    pub chars_fit : with_more enters d.counts.chars (total (λ _ c. words_length c) (tree_of f n)) < 2 ^ 64
+    chars_fit = omega (arith, chars_is, linked_low f d.arena.next (arena_forest d.arena law) (λ _ c. words_length c) p b n can, chars_bound d.arena law)
+
+  -- ---- the points
+
+  trees_is : applied (change_of x) g ≡ trees_after (Insert p b n) g
+  unfolding applied trees_after
+  trees_is = refl
+
+  points_is : mapped (range.Inserted p (index_before g p b)) d.points ≡ points_after (Insert p b n) g d.points
+  unfolding points_after
+  points_is = refl
+
+  fit_here : Fits (range.Inserted p (index_before g p b)) d.points
+  fit_here = fits-insert (seen d).state p b n ok.lawful (omega (arith, law.capped, law.small)) may_seen
+
+  seen_place : Each (IsLeft (out_of d) d.arena.trees) (named (change_of x))
+  seen_place = place_seen d v is law slotted node parent before node_held parent_held before_held
+
+  module _ (arena : Arena) (arena_is : arena ≡ step_applied (Link node parent before) d.arena) where
+    trees_here : arena.trees ≡ link f p b n
+    unfolding step_applied applied
+    trees_here = ap (λ (a : Arena). a.trees) arena_is
+
+    index_here : index_of arena.trees n ≡ index_before g p b
+    index_here = ap (λ t. index_of t n) trees_here ∙ index_is
+
+    pub held_here : d.arena.held ≡ arena.held
+    unfolding step_applied
+    held_here = sym (ap (λ (a : Arena). a.held) arena_is)
+
+    pub points_fit : Fits (range.Inserted p (index_of arena.trees n)) d.points
+    points_fit = subst (λ i. Fits (range.Inserted p i) d.points) (sym index_here) fit_here
+
+    module _ (points : LivePoints) (points_are : points ≡ mapped (range.Inserted p (index_of arena.trees n)) d.points) where
+      points_here : points ≡ points_after (Insert p b n) g d.points
+      points_here = points_are ∙ (ap (λ i. mapped (range.Inserted p i) d.points) index_here ∙ points_is)
+
+      pub placed : IsPlaced arena.trees points
+      unfolding applied
+      placed = subst (λ t. IsPlaced t points) (sym trees_here) (subst (IsPlaced (link f p b n)) (sym points_here) (placed_after d v is law now_open ok (Insert p b n) x made fits seen_place trees_is))
+
+      module _ (overrides : List Setting) (overrides_are : overrides ≡ settled f d.points arena.trees points d.overrides.items) (enters : Bool) (enters_is : enters ≡ is_in_document f p) (counts : Counts)
+          (nodes_are : counts.nodes ≡ with_more enters d.counts.nodes (total (λ _ _. 1) (tree_of f n))) (chars_are : counts.chars ≡ with_more enters d.counts.chars (total (λ _ c. words_length c) (tree_of f n)))
+          (c : Command) (m : Marks (place_labels node parent before) d.command c) (log : Log Step) (log_is : log ≡ with_step d.log (step_turned x d.arena)) where
+        makes : Makes d (Insert p b n) x points overrides counts c
+        unfolding applied
+        makes = record {
+          fits = fits;
+          seen = seen_place;
+          follows = inserts_follow d.command c node parent before f m;
+          names = ap (λ (s : LivePoints). s.names) points_are;
+          trees = trees_is;
+          points_are = points_here;
+          overrides_are = overrides_are ∙ ((λ i. settled f d.points (trees_here i) (points_here i) d.overrides.items) ∙ settled_after d v is law now_open ok (Insert p b n) x made fits seen_place trees_is);
+          nodes = nodes_are ∙ nodes_is enters enters_is;
+          chars = chars_are ∙ chars_is enters enters_is;
+        }
+
+        pub insert_done : Done d v (Insert p (label_of before) n) arena points overrides counts c log
+        insert_done = subst (λ o. Done d v (Insert p o n) arena points overrides counts c log) (labels_same before) (edit_called d v is law now_open ok (Insert p b n) x points overrides counts c made makes arena log arena_is log_is)

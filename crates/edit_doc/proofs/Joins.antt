@@ -1,0 +1,268 @@
+-- A command with an edit joins the entry that it resumed.
+use Rattle.std.proofs.Common.{◌≡◌, ℕ, ◌<◌, ◌≤◌, Bool, true, false, List, [], ◌∷◌, ◌++◌, length, take, Option, refl, sym, ap, subst, ◌∙◌, arith, length-append, inl, inr}
+use Rattle.std.specs.Prelude.{IsTrue}
+use Rattle.std.proofs.lemmas.List.{map-append}
+use Rattle.dom_model.specs.declared.Content.{Content}
+use Rattle.dom_model.specs.Forest.{Forest, tops, times}
+use Rattle.dom_model.specs.State.{IsLawful as IsArena}
+use Rattle.dom_model.proofs.Shedding.{count_of-shed}
+use Rattle.live_range.specs.declared.places.Places.{Places}
+use Rattle.live_range.specs.Names.{shown}
+use Rattle.undo_log.specs.Turning.{back, inverses_back, FitsBack}
+use Rattle.undo_log.specs.Log.{Log, IsLog, Open, noted, is_open, is_resumed, joined, committed, committed_with}
+use Rattle.undo_log.specs.Log.Open.{Closed, Begun, Resumed}
+use Rattle.undo_log.proofs.Turns.{back-join, FitsBack-join}
+use Rattle.forest_changes.specs.Change.{Change, Fits, applied, turned}
+use Rattle.forest_changes.specs.Named.{Each, named, named_in}
+use Rattle.forest_changes.specs.Down.{IsLeft, GoBackDown}
+use Rattle.forest_changes.proofs.ChangeLists.{each_of, each_join, each_first, each_rest, back_down}
+use Rattle.forest_changes.proofs.Twice.{forest_of}
+use Rattle.edit_steps.specs.declared.step.Step.{Step}
+use Rattle.edit_steps.specs.Step.{change_of, changes_of, nodes_of, nodes_in}
+use Rattle.node_arena.specs.declared.NodeRef.{NodeRef}
+use Rattle.edit_model.specs.State.{State}
+use Rattle.edit_model.specs.History.{joined_in, joined as joined_history, recorded, rested}
+use Rattle.edit_doc.specs.declared.Doc.TheInside.{Inside}
+use Rattle.edit_doc.specs.declared.command.Beside.{Beside}
+use Rattle.edit_doc.specs.declared.command.Sides.{Sides}
+use Rattle.edit_doc.specs.declared.command.Command.{Command}
+use Rattle.edit_doc.specs.Fields.{IsEnded, AreResting, EntersIn, Enters, made_sides, joined_sides}
+use Rattle.edit_doc.specs.Whole.{Whole, history_committed, committed_history}
+use Rattle.edit_doc.specs.History.{forest_before, is_hidden, begun_forest, state_of, began_with, history_of, undo_entries, redo_entries, view_at}
+use Rattle.edit_doc.specs.Sound.{RefIn, CanGoBack, IsBeside, UndoSound, IsSound}
+use Rattle.edit_doc.proofs.Inner.{seen, Ok}
+use Rattle.edit_doc.proofs.HiddenTrees.{hidden_is, is_hidden_from, shed_more}
+use Rattle.edit_doc.proofs.Laid.{undo_later}
+use Rattle.dom_model.proofs.Stands.{true_or_false}
+use Rattle.edit_doc.proofs.Rests.{none_noted}
+use Rattle.edit_doc.proofs.Rolls.{run, g, xs, beside_of}
+use Rattle.edit_doc.proofs.Turnings.{sheds_after}
+use Rattle.edit_doc.proofs.Commits.{placed_now}
+use Rattle.edit_doc.proofs.Records.{high, high_le, some_edits, state_before, state_now, view_now, committed_made, begun_sound, begun_history, recorded_ok, recorded_state}
+
+-- ---- lists of steps joined
+
+pub each_named : (P : ℕ → Type 0) (es ys : List Step) → Each P (named_in (changes_of es)) → Each P (named_in (changes_of ys)) → Each P (named_in (changes_of (es ++ ys)))
+each_named P [] ys a b = b
+each_named P (e ∷ es) ys a b =
+    each_join P (named (change_of e)) (named_in (changes_of (es ++ ys)))
+    (each_first P (named (change_of e)) (named_in (changes_of es)) a)
+    (each_named P es ys (each_rest P (named (change_of e)) (named_in (changes_of es)) a) b)
+
+pub each_node : (P : NodeRef → Type 0) (es ys : List Step) → Each P (nodes_in es) → Each P (nodes_in ys) → Each P (nodes_in (es ++ ys))
+each_node P [] ys a b = b
+each_node P (e ∷ es) ys a b =
+    each_join P (nodes_of e) (nodes_in (es ++ ys))
+    (each_first P (nodes_of e) (nodes_in es) a)
+    (each_node P es ys (each_rest P (nodes_of e) (nodes_in es) a) b)
+
+pub before_join : (es ys : List Step) (f : Forest Content) → forest_before (es ++ ys) f ≡ forest_before es (forest_before ys f)
+before_join es ys f = ap (λ cs. back applied cs f) (map-append change_of es ys) ∙ back-join applied (changes_of es) (changes_of ys) f
+
+pub can_join : (held : List (Option ℕ)) (es ys : List Step) (f : Forest Content) → CanGoBack held ys f → CanGoBack held es (forest_before ys f) → CanGoBack held (es ++ ys) f
+can_join held es ys f a b = (
+  subst (λ cs. FitsBack applied Fits cs f) (sym (map-append change_of es ys)) (FitsBack-join applied Fits (changes_of es) (changes_of ys) f a.0 b.0),
+  each_node (RefIn held) es ys b.1 a.1,
+)
+
+-- ---- the log
+
+pub committed_joined : (l : Log Step) (o : Open Step) → is_resumed o ≡ true → committed_with l o ≡ record l { undo = joined l.undo (noted o); open_entry = Closed }
+committed_joined l Closed r = absurd (cc)
+committed_joined l (Begun ys) r = absurd (cc)
+committed_joined l (Resumed ys) r = refl
+
+pub joined_recorded : (s0 : State) (o : Open Step) (w : Whole) → is_resumed o ≡ true → 0 < w.state.edits →
+    committed_history w (began_with s0 o) ≡ record w.history { undo = joined_in w.state w.history.undo }
+unfolding recorded joined_history
+joined_recorded s0 Closed w r some = absurd (cc)
+joined_recorded s0 (Begun ys) w r some = absurd (cc)
+joined_recorded s0 (Resumed ys) w r some = rw (some_edits w.state.edits some) refl
+
+module _ (d : Inside) (law : IsArena d.arena) (ok : Ok d) (opened : IsTrue (is_open d.log.open_entry)) (p : Places) (resting : AreResting d.points p) (c : Command) (ended : IsEnded d.arena.next c) where
+  abbrev steps : List Step
+  steps = xs d law ok opened
+
+  abbrev begun : Forest Content
+  begun = g d law ok opened
+
+  abbrev now : Forest Content
+  now = d.arena.trees
+
+  -- the entry that the command resumed, with its steps
+  module _ (e : List Step) (b b' : Beside) (left : List NodeRef) (up : ℕ) (le : up ≤ d.command.start) (can : CanGoBack d.arena.held e begun)
+      (was : IsBeside d.points.names (forest_before e begun) begun e (inverses_back applied turned (changes_of e) begun) b left up d.command.start)
+      (same : b'.sides ≡ joined_sides b.sides p d.counts) (none : b'.left.items ≡ []) where
+    abbrev both : List Step
+    both = e ++ steps
+
+    abbrev first : Forest Content
+    first = forest_before e begun
+
+    pub can_both : CanGoBack d.arena.held both now
+    can_both = can_join d.arena.held e steps now (run d law ok opened).can can
+
+    abbrev k : ℕ → Bool
+    k = is_hidden first b.sides.first_label
+
+    first_low : b.sides.first_label ≤ d.command.start
+    first_low = (let t = was.drawn in omega arith)
+
+    -- what the entry's commands didn't see, the last of them didn't see
+    hidden_more : (l : ℕ) → k l ≡ true → is_hidden begun d.command.start l ≡ true
+    hidden_more l t =
+        let h = hidden_is first b.sides.first_label l t in
+        is_hidden_from begun d.command.start l (record { inner = h.inner; old = (let o = h.old in let low = first_low in omega (arith, o, low)); root = was.hidden l t })
+
+    roots : (l : ℕ) → k l ≡ true → 0 < times (tops now) l
+    roots l t = ok.hidden l (hidden_more l t)
+
+    last_there : Each (IsLeft k now) (named_in (changes_of steps))
+    last_there = each_of (IsLeft (is_hidden begun d.command.start) now) (IsLeft k now) (named_in (changes_of steps)) (λ l t. (let m = shed_more (is_hidden begun d.command.start) k now l hidden_more in omega (arith, m, t))) (run d law ok opened).names_there
+
+    last_down : GoBackDown k (changes_of steps) now
+    last_down = back_down k (changes_of steps) now (sheds_after first now b.sides.first_label (forest_of d.arena law) roots) (run d law ok opened).can.0 last_there
+
+    there : Each (IsLeft k now) (named_in (changes_of both))
+    there = each_named (IsLeft k now) e steps (each_of (IsLeft k begun) (IsLeft k now) (named_in (changes_of e)) (λ l t. (let s = last_down.stays l in omega (arith, s, t))) was.names_there) last_there
+
+    down : GoBackDown k (changes_of both) now
+    down = back_down k (changes_of both) now (sheds_after first now b.sides.first_label (forest_of d.arena law) roots) can_both.0 there
+
+    below : (ls : List ℕ) → Each (IsLeft k now) ls → Each (λ l. l < d.arena.next) ls
+    below ls h = each_of (IsLeft k now) (λ l. l < d.arena.next) ls (λ l t. law.below l (let m = count_of-shed k now l in omega (arith, m, t))) h
+
+    abbrev turns : List Change
+    turns = inverses_back applied turned (changes_of both) now
+
+    own : IsBeside d.points.names first now both turns (record b { sides = joined_sides b.sides p d.counts }) [] d.arena.next d.arena.next
+    own = record {
+      was = was.was;
+      is = record {
+        over = resting.over;
+        placed = placed_now d law ok opened p resting;
+        resting = resting.resting;
+        nodes_are = ok.nodes;
+        chars_are = ok.chars;
+      };
+      some_label = was.some_label;
+      drawn = (let t = ok.lawful.started in let low = first_low in omega (arith, t, low));
+      known = omega arith;
+      hidden = roots;
+      names_seen = each_of (IsLeft k now) (IsLeft k first) (named_in (changes_of both)) (λ l t. subst (λ h. IsLeft k h l) (before_join e steps now) (let s = down.stays l in omega (arith, s, t))) there;
+      names_there = there;
+      names_old = below (named_in (changes_of both)) there;
+      turns_old = below (named_in turns) down.names;
+      left_loose = tt;
+    }
+
+    pub joined_beside : IsBeside d.points.names (forest_before both now) now both turns b' b'.left.items d.arena.next c.start
+    joined_beside =
+        subst (λ n. IsBeside d.points.names (forest_before both now) now both turns b' b'.left.items d.arena.next n) (sym ended.start)
+        (subst (λ h. IsBeside d.points.names h now both turns b' b'.left.items d.arena.next d.arena.next) (sym (before_join e steps now))
+        (subst (λ ls. IsBeside d.points.names first now both turns b' ls d.arena.next d.arena.next) (sym none)
+        (beside_of d.points.names first now both turns (record b { sides = joined_sides b.sides p d.counts }) b' [] d.arena.next d.arena.next (sym same) own)))
+
+  start_le : d.command.start ≤ c.start
+  start_le = (let s = ended.start in let t = ok.lawful.started in omega (arith, s, t))
+
+  joined_undo : (up room : ℕ) (s : Sides) (es : List (List Step)) (bs new : List Beside) → up ≤ d.command.start → EntersIn true s p d.counts room bs new →
+      UndoSound d.arena.held d.points.names true d.command up begun es bs → UndoSound d.arena.held d.points.names false c d.arena.next now (joined es steps) new
+  joined_undo up room s es [] new le enters h = absurd enters
+  joined_undo up room s es (b ∷ bs) [] le enters h = absurd enters
+  joined_undo up room s [] (b ∷ bs) (b' ∷ bs') le enters h = absurd h
+  joined_undo up room s (e ∷ es) (b ∷ bs) (b' ∷ bs') le enters h =
+      let same = enters.1.0 in
+      let first : Forest Content = forest_before e begun in
+      let low : b.sides.first_label ≤ d.command.start = (let t = h.1.0.drawn in omega arith) in
+      let rest : UndoSound d.arena.held d.points.names false c b.sides.first_label first es bs = undo_later d.arena.held d.points.names d.command c start_le b.sides.first_label b.sides.first_label first es bs (omega arith) (let t = start_le in omega arith) h.1.1 in
+      let left = take d.command.left_before d.command.left.items in (
+        can_both e b b' left up le h.0 h.1.0 same enters.1.1,
+        (
+          joined_beside e b b' left up le h.0 h.1.0 same enters.1.1,
+          subst (λ (t : Sides). UndoSound d.arena.held d.points.names false c t.first_label (forest_before (e ++ steps) now) es bs') (sym same)
+              (subst (λ t. UndoSound d.arena.held d.points.names false c b.sides.first_label t es bs') (sym (before_join e steps now))
+              (subst (λ cs. UndoSound d.arena.held d.points.names false c b.sides.first_label first es cs) (sym enters.0) rest)),
+        ),
+      )
+
+  joined_entries : (room : ℕ) (s : Sides) (es : List (List Step)) (bs new : List Beside) → EntersIn true s p d.counts room bs new →
+      undo_entries d.points.names now (joined es steps) new ≡ joined_in (state_now d law ok opened p resting) (undo_entries d.points.names begun es bs)
+  joined_entries room s es [] new enters = absurd enters
+  joined_entries room s es (b ∷ bs) [] enters = absurd enters
+  joined_entries room s [] (b ∷ bs) (b' ∷ bs') enters = refl
+  joined_entries room s (e ∷ es) (b ∷ bs) (b' ∷ bs') enters =
+      let join = before_join e steps now in
+      let after = ap (λ (t : Sides). view_at d.points.names now t.after) enters.1.0 ∙ view_now d law ok opened p resting in
+      λ i. record {
+        before = view_at d.points.names (join i) (enters.1.0 i).before;
+        after = after i;
+        edits = length-append e steps i;
+      } ∷ undo_entries d.points.names (join i) es (enters.0 i)
+
+  module _ (resumed : is_resumed d.log.open_entry ≡ true) (us : List Beside) (enters : Enters d.command p d.counts d.undo_sides.capacity d.undo_sides.items us) where
+    entering : EntersIn true (made_sides d.command p d.counts) p d.counts d.undo_sides.capacity d.undo_sides.items us
+    entering = subst (λ r. EntersIn r (made_sides d.command p d.counts) p d.counts d.undo_sides.capacity d.undo_sides.items us) (ok.resumed ∙ resumed) enters
+
+    pub joined_sound : UndoSound d.arena.held d.points.names false c d.arena.next now (joined d.log.undo steps) us
+    joined_sound =
+        let up = high d law ok opened p resting in
+        joined_undo up d.undo_sides.capacity (made_sides d.command p d.counts) d.log.undo d.undo_sides.items us (high_le d law ok opened p resting) entering
+        (subst (λ r. UndoSound d.arena.held d.points.names r d.command up begun d.log.undo d.undo_sides.items) (ok.resumed ∙ resumed) ok.undo)
+
+    pub joined_history_is : d.log.redo ≡ [] → 0 < length steps → (v : Whole) → seen d ≡ v →
+        history_of d.points.names now (record d.log { undo = joined d.log.undo steps; open_entry = Closed }) us [] ≡ history_committed v
+    unfolding history_committed
+    joined_history_is nothing some v sees =
+        (λ i. record {
+          undo = joined_entries d.undo_sides.capacity (made_sides d.command p d.counts) d.log.undo d.undo_sides.items us entering i;
+          redo = (ap (λ es. redo_entries d.points.names now es []) nothing ∙ sym (ap (λ es. redo_entries d.points.names begun es d.redo_sides.items) nothing)) i;
+          depth = d.log.depth;
+        })
+        ∙ (sym (joined_recorded (state_before d law ok opened p resting) d.log.open_entry (seen d) resumed some) ∙ ap history_committed sees)
+
+-- ---- either way
+
+true_is : (b : Bool) → b ≡ true → IsTrue b
+true_is true e = refl
+true_is false e = absurd (cc)
+
+module _ (d : Inside) (law : IsArena d.arena) (ok : Ok d) (opened : IsTrue (is_open d.log.open_entry)) (p : Places) (resting : AreResting d.points p) (logged : IsLog d.log) (some : 0 < length (noted d.log.open_entry)) (c : Command) (ended : IsEnded d.arena.next c) (us : List Beside) (enters : Enters d.command p d.counts d.undo_sides.capacity d.undo_sides.items us) where
+  record Recorded (log : Log Step) : Type 0 where
+    closed : log.open_entry ≡ Closed
+    redo : log.redo ≡ []
+    depth : log.depth ≡ d.log.depth
+    undo : UndoSound d.arena.held d.points.names false c d.arena.next d.arena.trees log.undo us
+    history : (v : Whole) → seen d ≡ v → history_of d.points.names d.arena.trees log us [] ≡ history_committed v
+
+  recorded_is : Recorded (committed d.log)
+  recorded_is = elim (true_or_false (is_resumed d.log.open_entry)) [
+    | inl r ↦ (let nothing = (logged.resumes_last (true_is (is_resumed d.log.open_entry) r)).1 in
+        subst Recorded (sym (committed_joined d.log d.log.open_entry r)) (record {
+          closed = refl;
+          redo = nothing;
+          depth = refl;
+          undo = joined_sound d law ok opened p resting c ended r us enters;
+          history = λ v sees. joined_history_is d law ok opened p resting c ended r us enters nothing some v sees;
+        }))
+    | inr r ↦ subst Recorded (sym (committed_made d.log d.log.open_entry opened r some)) (record {
+      closed = refl;
+      redo = refl;
+      depth = refl;
+      undo = begun_sound d law ok opened p resting r c ended us enters;
+      history = λ v sees. begun_history d law ok opened p resting r c ended us enters some v sees;
+    })
+  ]
+
+  module _ (log : Log Step) (is : log ≡ committed d.log) where
+    here : Recorded log
+    here = subst Recorded (sym is) recorded_is
+
+    pub entry_ok : IsSound d.arena (shown d.points.names p) d.overrides.items d.flags d.counts c log us [] d.undo_sides.capacity d.redo_sides.capacity
+    entry_ok = recorded_ok d law ok opened p resting log here.closed here.redo here.depth us c ended here.undo
+
+    pub entry_state : (v : Whole) → seen d ≡ v → state_of d.arena (shown d.points.names p) d.overrides.items d.flags c log ≡ rested v.state
+    entry_state v sees = recorded_state d law ok opened p resting log here.closed here.redo here.depth us c ended here.undo v sees
+
+    pub entry_history : (v : Whole) → seen d ≡ v → history_of d.points.names (begun_forest log d.arena.trees) log us [] ≡ history_committed v
+    entry_history v sees = ap (λ f. history_of d.points.names f log us []) (none_noted log d.arena.trees (ap noted here.closed)) ∙ here.history v sees

@@ -1,0 +1,71 @@
+-- What an insert of a loose tree is to the arena and to the fields of the command.
+use Rattle.std.proofs.Common.{◌≡◌, ℕ, ◌+◌, ◌<◌, ◌≤◌, Bool, true, false, List, [], ◌∷◌, ◌++◌, length, Option, Some, None, refl, sym, ap, subst, ◌∙◌, arith}
+use Rattle.std.specs.Prelude.{IfSome}
+use Rattle.std.proofs.lemmas.List.{append-nil}
+use Rattle.dom_model.specs.declared.Content.{Content}
+use Rattle.dom_model.specs.Contents.{is_parent_at}
+use Rattle.dom_model.specs.Forest.{Forest, count_of, CanPut}
+use Rattle.dom_model.specs.Shed.{shed}
+use Rattle.dom_model.specs.State.{State as Arena, IsLawful as IsArena, IsSlotted, CanLink}
+use Rattle.node_arena.specs.declared.NodeRef.{NodeRef}
+use Rattle.node_arena.specs.Held.{label}
+use Rattle.forest_changes.specs.Change.{Attach, turned}
+use Rattle.forest_changes.specs.Named.{Each, listed}
+use Rattle.forest_changes.specs.Down.{IsLeft}
+use Rattle.forest_changes.proofs.DownChange.{listed_each}
+use Rattle.forest_changes.proofs.ShedChanges.{CanPut-shed}
+use Rattle.forest_changes.proofs.Twice.{forest_of}
+use Rattle.edit_steps.specs.declared.step.Step.{Step}
+use Rattle.edit_steps.specs.declared.step.Step.TheVariants.{Link}
+use Rattle.edit_steps.specs.Step.{StepFits, change_of}
+use Rattle.forest_changes.specs.Named.{named}
+use Rattle.edit_model.specs.Gives.{label_of}
+use Rattle.edit_doc.specs.declared.Doc.TheInside.{Inside}
+use Rattle.edit_doc.specs.declared.command.Command.{Command}
+use Rattle.edit_doc.specs.Whole.{Whole}
+use Rattle.edit_doc.specs.Held.{Holds, IfHeld}
+use Rattle.edit_doc.specs.Marks.{Marks, IsMarked, place_labels}
+use Rattle.edit_doc.specs.Sound.{RefIn}
+use Rattle.edit_doc.proofs.Inner.{seen}
+use Rattle.edit_doc.proofs.SeenNodes.{out_of, IsSeen, held_seen}
+use Rattle.edit_doc.proofs.Changing.{Follows}
+
+pub labels_same : (o : Option NodeRef) → label o ≡ label_of o
+labels_same None = refl
+labels_same (Some r) = refl
+
+pub inserts_follow : (c d : Command) (node parent : NodeRef) (before : Option NodeRef) (f : Forest Content) → Marks (place_labels node parent before) c d → Follows c d (Attach node.label parent.label (label before)) (turned (Attach node.label parent.label (label before)) f)
+unfolding turned
+inserts_follow c d node parent before f m = record {
+  start = ap (λ (k : Command). k.start) m.rest;
+  host = ap (λ (k : Command). k.host) m.rest;
+  keeping = ap (λ (k : Command). k.keeping) m.rest;
+  resumed = ap (λ (k : Command). k.resumed) m.rest;
+  kept = ap (λ (k : Command). k.kept) m.rest;
+  left_before = ap (λ (k : Command). k.left_before) m.rest;
+  count = m.count;
+  stay = m.stay;
+  marked = subst (λ o. Each (IsMarked d) (node.label ∷ parent.label ∷ listed o)) (sym (labels_same before)) m.marked;
+  marked_turned = (m.marked.0, tt);
+  more = [];
+  left = ap (λ (k : Command). k.left.items) m.rest ∙ sym (append-nil c.left.items);
+  loosed_is = refl;
+}
+
+module _ (d : Inside) (v : Whole) (is : seen d ≡ v) (law : IsArena d.arena) (slotted : IsSlotted d.arena) (node parent : NodeRef) (before : Option NodeRef) (node_held : Holds v node) (parent_held : Holds v parent) (before_held : IfHeld v before) where
+  before_parts : (o : Option NodeRef) → IfHeld v o → Each (RefIn d.arena.held) (listed o) × Each (IsLeft (out_of d) d.arena.trees) (listed (label o))
+  before_parts None h = (tt, tt)
+  before_parts (Some r) h = (let k = held_seen d v is r h in ((k.slot, tt), (k.here, tt)))
+
+  pub place_held : Each (RefIn d.arena.held) (node ∷ parent ∷ listed before)
+  place_held = ((held_seen d v is node node_held).slot, ((held_seen d v is parent parent_held).slot, (before_parts before before_held).0))
+
+  pub place_seen : Each (IsLeft (out_of d) d.arena.trees) (node.label ∷ parent.label ∷ listed (label before))
+  place_seen = ((held_seen d v is node node_held).here, ((held_seen d v is parent parent_held).here, (before_parts before before_held).1))
+
+  pub link_fits : CanPut (shed (out_of d) d.arena.trees) parent.label (label before) node.label → is_parent_at d.arena.trees parent.label ≡ true → StepFits (Link node parent before) d.arena
+  link_fits can bears = record {
+    fits = record { forest = forest_of d.arena law; here = record { place = CanPut-shed (out_of d) d.arena.trees parent.label (label before) node.label (forest_of d.arena law) can; parent = bears } };
+    slotted = slotted;
+    held = place_held;
+  }

@@ -1,0 +1,215 @@
+-- A document whose list of the names of marks got longer: what the history shows stays, and so does what holds of it.
+use Rattle.std.proofs.Common.{◌≡◌, ℕ, zero, suc, ◌<◌, ◌≤◌, Bool, true, false, if◌then◌else◌, get_or, map, List, [], ◌∷◌, ◌++◌, length, Option, None, refl, sym, ap, subst, ◌∙◌, arith}
+use Rattle.std.specs.List.{All, list_any}
+use Rattle.std.specs.Str.{bytes_eq}
+use Rattle.std.proofs.lemmas.List.Elements.{All-cons}
+use Rattle.dom_model.specs.declared.Content.{Content}
+use Rattle.dom_model.specs.Forest.{Forest}
+use Rattle.dom_model.specs.State.{State as Arena}
+use Rattle.live_range.specs.declared.places.Pair.{Pair}
+use Rattle.live_range.specs.declared.places.MarkPlace.{MarkPlace}
+use Rattle.live_range.specs.declared.places.Places.{Places}
+use Rattle.live_range.specs.LivePoints.{LivePoints, with_mark}
+use Rattle.live_range.specs.Names.{named, marks_of, IsOver}
+use Rattle.live_range.proofs.Apart.{All-head, All-tail}
+use Rattle.node_arena.specs.declared.NodeRef.{NodeRef}
+use Rattle.undo_log.specs.Log.{Open}
+use Rattle.undo_log.specs.Log.Open.{Closed, Begun, Resumed}
+use Rattle.undo_log.specs.Turning.{inverses_back, inverses_forth}
+use Rattle.forest_changes.specs.Change.{Change, applied, turned}
+use Rattle.edit_steps.specs.declared.step.Step.{Step}
+use Rattle.edit_steps.specs.Step.{changes_of}
+use Rattle.edit_model.specs.Lawful.{IsPlacedPair}
+use Rattle.edit_model.specs.History.{document_of}
+use Rattle.edit_model.specs.State.{State}
+use Rattle.edit_doc.specs.declared.Doc.TheInside.{Inside}
+use Rattle.edit_doc.specs.declared.command.Beside.{Beside}
+use Rattle.edit_doc.specs.declared.command.Command.{Command}
+use Rattle.edit_doc.specs.Whole.{Whole, with_state}
+use Rattle.edit_doc.specs.History.{forest_before, forest_after, begun_forest, begun_state, began_with, seen_trees, state_of, view_at, undo_entries, redo_entries, history_of, whole_of}
+use Rattle.edit_doc.specs.Sound.{IsSide, IsBeside, left_of, next_first, UndoSound, RedoSound, OpenSound, IsSound}
+use Rattle.edit_doc.proofs.Inner.{seen, Ok}
+
+-- each name keeps its place
+pub record AreLonger (old new : List (List ℕ)) : Type 0 where
+  pub more : length old ≤ length new
+  pub same : (k : ℕ) → k < length old → get_or new k [] ≡ get_or old k []
+
+module _ (last : List ℕ) where
+  one_longer : (ns : List (List ℕ)) → length ns ≤ length (ns ++ last ∷ [])
+  one_longer [] = omega arith
+  one_longer (n ∷ ns) = omega (arith, one_longer ns)
+
+  same_before : (ns : List (List ℕ)) (k : ℕ) → k < length ns → get_or (ns ++ last ∷ []) k [] ≡ get_or ns k []
+  same_before [] k l = absurd (omega (arith, l))
+  same_before (n ∷ ns) zero l = refl
+  same_before (n ∷ ns) (suc k) l = same_before ns k (omega (arith, l))
+
+  longer_if : (b : Bool) (ns : List (List ℕ)) → AreLonger ns (if b then ns else ns ++ last ∷ [])
+  longer_if true ns = record { more = omega arith; same = λ k l. refl }
+  longer_if false ns = record { more = one_longer ns; same = same_before ns }
+
+  pub longer_by : (pair : Pair) (s : LivePoints) → AreLonger s.names (with_mark last pair s).names
+  longer_by pair s = longer_if (list_any (bytes_eq last) s.names) s.names
+
+module _ (old new : List (List ℕ)) (h : AreLonger old new) where
+  -- ---- what places show
+
+  marks_same : (ms : List MarkPlace) → All (λ m. m.name < length old) ms → map (named new) ms ≡ map (named old) ms
+  marks_same [] met = refl
+  marks_same (m ∷ ms) met =
+      let here = h.same m.name (All-head (λ m. m.name < length old) m ms met) in
+      let rest = marks_same ms (All-tail (λ m. m.name < length old) m ms met) in
+      λ i. (here i, m.pair) ∷ rest i
+
+  over_longer : (p : Places) → IsOver old p → IsOver new p
+  over_longer p o = record {
+    few = o.few;
+    met = λ k d l. (let t = o.met k d l in let m = h.more in omega (arith, t, m));
+    distinct = o.distinct;
+  }
+
+  side_longer : (f : Forest Content) (p : Places) (nodes chars : ℕ) → IsSide old f p nodes chars → IsSide new f p nodes chars
+  side_longer f p nodes chars s = record {
+    over = over_longer p s.over;
+    placed = record {
+      selection = s.placed.selection;
+      scratch = s.placed.scratch;
+      marks = subst (λ ms. All (λ m. IsPlacedPair f m.1) ms) (sym (marks_same (marks_of p) s.over.met)) s.placed.marks;
+    };
+    resting = s.resting;
+    nodes_are = s.nodes_are;
+    chars_are = s.chars_are;
+  }
+
+  beside_longer : (before after : Forest Content) (e : List Step) (ts : List Change) (b : Beside) (left : List NodeRef) (high start : ℕ) →
+      IsBeside old before after e ts b left high start → IsBeside new before after e ts b left high start
+  beside_longer before after e ts b left high start s = record {
+    was = side_longer before b.sides.before b.sides.nodes_before b.sides.chars_before s.was;
+    is = side_longer after b.sides.after b.sides.nodes_after b.sides.chars_after s.is;
+    some_label = s.some_label;
+    drawn = s.drawn;
+    known = s.known;
+    hidden = s.hidden;
+    names_seen = s.names_seen;
+    names_there = s.names_there;
+    names_old = s.names_old;
+    turns_old = s.turns_old;
+    left_loose = s.left_loose;
+  }
+
+  view_same : (f : Forest Content) (p : Places) → IsOver old p → view_at new f p ≡ view_at old f p
+  view_same f p o = let e = marks_same (marks_of p) o.met in λ i. record { document = document_of f; selection = p.selection; marks = e i }
+
+  -- ---- the history
+
+  module _ (held : List (Option ℕ)) (c : Command) where
+    undo_longer : (r : Bool) (high : ℕ) (f : Forest Content) (es : List (List Step)) (bs : List Beside) → UndoSound held old r c high f es bs → UndoSound held new r c high f es bs
+    undo_longer r high f [] [] s = tt
+    undo_longer r high f [] (b ∷ bs) s = absurd s
+    undo_longer r high f (e ∷ es) [] s = absurd s
+    undo_longer r high f (e ∷ es) (b ∷ bs) s =
+        (s.0, (beside_longer (forest_before e f) f e (inverses_back applied turned (changes_of e) f) b (left_of r c b) high c.start s.1.0, undo_longer false b.sides.first_label (forest_before e f) es bs s.1.1))
+
+    redo_longer : (f : Forest Content) (es : List (List Step)) (bs : List Beside) → RedoSound held old c f es bs → RedoSound held new c f es bs
+    redo_longer f [] [] s = tt
+    redo_longer f [] (b ∷ bs) s = absurd s
+    redo_longer f (e ∷ es) [] s = absurd s
+    redo_longer f (e ∷ es) (b ∷ bs) s =
+        (s.0, (beside_longer f (forest_after e f) e (inverses_forth applied turned (changes_of e) f) b b.left.items (next_first c.start bs) c.start s.1.0, redo_longer (forest_after e f) es bs s.1.1))
+
+    undo_same : (r : Bool) (high : ℕ) (f : Forest Content) (es : List (List Step)) (bs : List Beside) → UndoSound held old r c high f es bs → undo_entries new f es bs ≡ undo_entries old f es bs
+    undo_same r high f [] bs s = refl
+    undo_same r high f (e ∷ es) [] s = refl
+    undo_same r high f (e ∷ es) (b ∷ bs) s =
+        let was = view_same (forest_before e f) b.sides.before s.1.0.was.over in
+        let is = view_same f b.sides.after s.1.0.is.over in
+        let rest = undo_same false b.sides.first_label (forest_before e f) es bs s.1.1 in
+        λ i. record { before = was i; after = is i; edits = length e } ∷ rest i
+
+    redo_same : (f : Forest Content) (es : List (List Step)) (bs : List Beside) → RedoSound held old c f es bs → redo_entries new f es bs ≡ redo_entries old f es bs
+    redo_same f [] bs s = refl
+    redo_same f (e ∷ es) [] s = refl
+    redo_same f (e ∷ es) (b ∷ bs) s =
+        let was = view_same f b.sides.before s.1.0.was.over in
+        let is = view_same (forest_after e f) b.sides.after s.1.0.is.over in
+        let rest = redo_same (forest_after e f) es bs s.1.1 in
+        λ i. record { before = was i; after = is i; edits = length e } ∷ rest i
+
+-- ---- a mark is set
+
+-- the marks with one set
+abbrev entries_with : List ℕ → Pair → List (List ℕ × Pair) → List (List ℕ × Pair)
+entries_with name pair es = (with_mark name pair (record { selection = None; scratch = None; marks = es; names = [] })).marks
+
+inserted : (P : Pair → Type 0) (name : List ℕ) (pair : Pair) → P pair → (es : List (List ℕ × Pair)) → All (λ m. P m.1) es → All (λ m. P m.1) (entries_with name pair es)
+inserted P name pair p [] h = All-cons (λ m. P m.1) (name, pair) [] p h
+inserted P name pair p (e ∷ es) h = by (bytes_eq name e.0) (inserted P name pair p es (All-tail (λ m. P m.1) e es h))
+  where
+    by : (b : Bool) → All (λ m. P m.1) (entries_with name pair es) → All (λ m. P m.1) (if b then (e.0, pair) ∷ es else e ∷ entries_with name pair es)
+    by true rest = All-cons (λ m. P m.1) (e.0, pair) es p (All-tail (λ m. P m.1) e es h)
+    by false rest = All-cons (λ m. P m.1) e (entries_with name pair es) (All-head (λ m. P m.1) e es h) rest
+
+open_marked : (a : Arena) (old new : LivePoints) (c : Command) (g : Forest Content) (o : Open Step) → o ≡ Closed → new.scratch ≡ old.scratch → OpenSound a old c g o → OpenSound a new c g o
+open_marked a old new c g Closed closed same idle = record {
+  start = idle.start;
+  host = idle.host;
+  keeping = idle.keeping;
+  named = idle.named;
+  left = idle.left;
+  left_before = idle.left_before;
+  scratch = same ∙ idle.scratch;
+}
+open_marked a old new c g (Begun xs) closed same runs = absurd (cc)
+open_marked a old new c g (Resumed xs) closed same runs = absurd (cc)
+
+none_begun : (s t : State) (o : Open Step) → o ≡ Closed → began_with s o ≡ began_with t o
+none_begun s t o closed = ap (began_with s) closed ∙ sym (ap (began_with t) closed)
+
+module _ (d : Inside) (ok : Ok d) (closed : d.log.open_entry ≡ Closed) (name : List ℕ) (pair : Pair) where
+  abbrev pub points : LivePoints
+  points = with_mark name pair d.points
+
+  longer : AreLonger d.points.names points.names
+  longer = longer_by name pair d.points
+
+  pub marked_ok : IsPlacedPair (seen_trees d.log d.command.start d.arena.trees) pair →
+      IsSound d.arena points d.overrides.items d.flags d.counts d.command d.log d.undo_sides.items d.redo_sides.items d.undo_sides.capacity d.redo_sides.capacity
+  marked_ok placed = record {
+    lawful = record {
+      forest = ok.lawful.forest;
+      placed = record {
+        selection = ok.lawful.placed.selection;
+        scratch = ok.lawful.placed.scratch;
+        marks = inserted (IsPlacedPair (seen_trees d.log d.command.start d.arena.trees)) name pair placed d.points.marks ok.lawful.placed.marks;
+      };
+      started = ok.lawful.started;
+      settings = ok.lawful.settings;
+    };
+    some_label = ok.some_label;
+    nodes = ok.nodes;
+    chars = ok.chars;
+    hidden = ok.hidden;
+    running = open_marked d.arena d.points points d.command (begun_forest d.log d.arena.trees) d.log.open_entry closed refl ok.running;
+    resumed = ok.resumed;
+    host = ok.host;
+    undo = undo_longer d.points.names points.names longer d.arena.held d.command d.command.resumed (next_first d.command.start d.redo_sides.items) (begun_forest d.log d.arena.trees) d.log.undo d.undo_sides.items ok.undo;
+    redo = redo_longer d.points.names points.names longer d.arena.held d.command (begun_forest d.log d.arena.trees) d.log.redo d.redo_sides.items ok.redo;
+    us_room_is = ok.us_room_is;
+    rs_room_is = ok.rs_room_is;
+  }
+
+  history_same : history_of points.names (begun_forest d.log d.arena.trees) d.log d.undo_sides.items d.redo_sides.items ≡ history_of d.points.names (begun_forest d.log d.arena.trees) d.log d.undo_sides.items d.redo_sides.items
+  history_same =
+      let u = undo_same d.points.names points.names longer d.arena.held d.command d.command.resumed (next_first d.command.start d.redo_sides.items) (begun_forest d.log d.arena.trees) d.log.undo d.undo_sides.items ok.undo in
+      let r = redo_same d.points.names points.names longer d.arena.held d.command (begun_forest d.log d.arena.trees) d.log.redo d.redo_sides.items ok.redo in
+      λ i. record { undo = u i; redo = r i; depth = d.log.depth }
+
+  pub marked_is : (v : Whole) → seen d ≡ v →
+      whole_of d.arena points d.overrides.items d.flags d.command d.log d.undo_sides.items d.redo_sides.items
+      ≡ with_state v (record v.state { points = with_mark name pair v.state.points })
+  marked_is v is =
+      let began = none_begun (begun_state d.arena points.names d.command d.log) (begun_state d.arena d.points.names d.command d.log) d.log.open_entry closed in
+      let here : whole_of d.arena points d.overrides.items d.flags d.command d.log d.undo_sides.items d.redo_sides.items ≡ with_state (seen d) (record (seen d).state { points = points }) =
+      (λ i. record { state = state_of d.arena points d.overrides.items d.flags d.command d.log; history = history_same i; began = began i; held = d.arena.held }) in
+      here ∙ ap (λ (w : Whole). with_state w (record w.state { points = with_mark name pair w.state.points })) is

@@ -1,0 +1,129 @@
+-- Which nodes the running command made or loosened, and which a label finds.
+use Rattle.std.proofs.Common.{◌≡◌, ◌≢◌, ◌⊎◌, ℕ, zero, suc, ◌+◌, ◌<◌, ◌≤◌, Bool, true, false, true≢false, List, [], ◌∷◌, length, drop, Option, Some, None, IfSome, refl, sym, ap, subst, ◌∙◌, inl, inr, arith, eqb, nat_lt}
+use Rattle.std.specs.Prelude.{◌||◌, nat_le, slice_index_or}
+use Rattle.std.proofs.lemmas.Bool.Decides.{nat_tests}
+use Rattle.dom_model.specs.declared.Content.{Content}
+use Rattle.dom_model.specs.Forest.{Forest, tops, times, count_of, tree_of, parent_of, IsDistinct, IsWithin}
+use Rattle.dom_model.specs.Shed.{shed}
+use Rattle.dom_model.specs.State.{IsLawful as IsArena}
+use Rattle.dom_model.proofs.Shedding.{count_of-shed, IsDistinct-shed}
+use Rattle.dom_model.proofs.Stands.{true_or_false, times-tops}
+use Rattle.forest_changes.specs.Named.{Each}
+use Rattle.live_range.specs.Edit.{has_label}
+use Rattle.undo_log.specs.Log.{Open, noted}
+use Rattle.undo_log.specs.Log.Open.{Closed, Begun, Resumed}
+use Rattle.edit_steps.specs.declared.step.Step.{Step}
+use Rattle.node_arena.specs.declared.NodeRef.{NodeRef}
+use Rattle.node_arena.specs.Held.{Holds as HoldsNode}
+use Rattle.edit_model.specs.Gives.{labels_of}
+use Rattle.edit_doc.specs.declared.Doc.TheInside.{Inside}
+use Rattle.edit_doc.specs.Whole.{Whole}
+use Rattle.edit_doc.specs.Held.{Holds}
+use Rattle.edit_doc.specs.Fields.{has_loosened}
+use Rattle.edit_doc.specs.History.{begun_forest, is_hidden, seen_trees}
+use Rattle.edit_doc.specs.Sound.{IsIdle, IsRunning, OpenSound}
+use Rattle.edit_doc.proofs.Begins.{document_tops}
+use Rattle.edit_doc.proofs.Found.{tree_left, root_stays, root_left, root_is_top}
+use Rattle.edit_doc.proofs.HiddenTrees.{Hidden, hidden_is, inside_left, tops_left}
+use Rattle.edit_doc.proofs.Inner.{seen, Ok}
+use Rattle.edit_doc.proofs.Rests.{arena_forest, trees_are}
+use Rattle.edit_doc.proofs.SeenNodes.{out_of, IsSeen}
+
+or_false : (a b : Bool) → (a || b) ≡ false → (a ≡ false) × (b ≡ false)
+or_false true b e = absurd (cc)
+or_false false b e = (refl, e)
+
+or_true : (a b : Bool) → (a || b) ≡ true → (a ≡ true) ⊎ (b ≡ true)
+or_true true b e = inl refl
+or_true false b e = inr e
+
+-- a label that is listed has the property of all that are listed
+listed_has : (P : ℕ → Type 0) (ls : List ℕ) (l : ℕ) → Each P ls → has_label ls l ≡ true → P l
+listed_has P [] l h e = absurd (cc)
+listed_has P (x ∷ xs) l h e = elim (eqb_tells' x l) [
+  | inl same ↦ subst P same h.0
+  | inr u ↦ listed_has P xs l h.1 (sym (ap (λ b. b || has_label xs l) u) ∙ e)
+]
+  where
+    eqb_tells' : (a b : ℕ) → (a ≡ b) ⊎ (eqb a b ≡ false)
+    eqb_tells' a b = grind (arith, nat_tests)
+
+drop_none : (n : ℕ) (xs : List NodeRef) → xs ≡ [] → drop n xs ≡ []
+drop_none zero xs e = e
+drop_none (suc n) [] e = refl
+drop_none (suc n) (x ∷ xs) e = absurd (cc)
+
+start_false : (a b : ℕ) → nat_le a b ≡ false → b < a
+start_false a b e = grind (arith, nat_tests)
+
+start_true : (a b : ℕ) → nat_le a b ≡ true → a ≤ b
+start_true a b e = grind (arith, nat_tests)
+
+module _ (d : Inside) (law : IsArena d.arena) (ok : Ok d) where
+  -- a label that isn't below the start isn't hidden
+  made_out : (l : ℕ) → d.command.start ≤ l → out_of d l ≡ false
+  made_out l later = elim (true_or_false (out_of d l)) [
+    | inl t ↦ absurd (let h = hidden_is (begun_forest d.log d.arena.trees) d.command.start l t in let o = h.old in omega arith)
+    | inr t ↦ t
+  ]
+
+  left_seen : (l : ℕ) → has_label (labels_of (drop d.command.left_before d.command.left.items)) l ≡ true → IsSeen d l
+  left_seen l e = at d.log.open_entry refl ok.running
+    where
+      at : (o : Open Step) → d.log.open_entry ≡ o → OpenSound d.arena d.points d.command (begun_forest d.log d.arena.trees) o → IsSeen d l
+      at Closed is idle = absurd (let none : has_label [] l ≡ true = subst (λ rs. has_label (labels_of rs) l ≡ true) (drop_none d.command.left_before d.command.left.items idle.left) e in cc)
+      at (Begun xs) is run = listed_has (IsSeen d) (labels_of (drop d.command.left_before d.command.left.items)) l run.left_seen e
+      at (Resumed xs) is run = listed_has (IsSeen d) (labels_of (drop d.command.left_before d.command.left.items)) l run.left_seen e
+
+  -- what the command loosened, or the Document, is seen
+  loosened_seen : (r : ℕ) → 0 < times (tops d.arena.trees) r → has_loosened d.command r ≡ true → IsSeen d r
+  loosened_seen r top e = elim (or_true (nat_le d.command.start r) (has_label (labels_of (drop d.command.left_before d.command.left.items)) r) e) [
+    | inl made ↦ root_stays (out_of d) d.arena.trees r top (made_out r (start_true d.command.start r made))
+    | inr left ↦ left_seen r left
+  ]
+
+  -- a root that is seen, but for the Document, was loosened by the command
+  seen_loosened : (r : ℕ) → 0 < r → 0 < times (tops (shed (out_of d) d.arena.trees)) r → has_loosened d.command r ≡ false → ⊥
+  seen_loosened r inner top e = at d.log.open_entry refl ok.running
+    where
+      out : has_label (labels_of (drop d.command.left_before d.command.left.items)) r ≡ false
+      out = (or_false (nat_le d.command.start r) (has_label (labels_of (drop d.command.left_before d.command.left.items)) r) e).1
+
+      at : (o : Open Step) → d.log.open_entry ≡ o → OpenSound d.arena d.points d.command (begun_forest d.log d.arena.trees) o → ⊥
+      at Closed is idle = document_tops d.arena.trees d.arena.next r (arena_forest d.arena law) inner
+          (subst (λ g. 0 < times (tops g) r) (trees_are d.arena d.points d.overrides.items d.flags d.counts d.command d.log d.undo_sides.items d.redo_sides.items d.undo_sides.capacity d.redo_sides.capacity law is idle.start) top)
+      at (Begun xs) is run = true≢false (sym (run.loosened r inner top) ∙ out)
+      at (Resumed xs) is run = true≢false (sym (run.loosened r inner top) ∙ out)
+
+  module _ (v : Whole) (is : seen d ≡ v) (node root : NodeRef) (held : HoldsNode d.arena node) (root_held : HoldsNode d.arena root) (loose : parent_of d.arena.trees root.label ≡ None) (above : IsWithin d.arena.trees root.label node.label) where
+    root_top : 0 < times (tops d.arena.trees) root.label
+    root_top = root_is_top d.arena.trees root.label law.distinct (law.here root.slot root.label root_held) loose
+
+    holds_seen : IsSeen d node.label → Holds v node
+    holds_seen here = subst (λ w. Holds w node) is (record { slot = held; here = here })
+
+    -- the node of a root that the command loosened
+    pub loosened_held : has_loosened d.command root.label ≡ true → Holds v node
+    loosened_held e = holds_seen (tree_left (out_of d) d.arena.trees root.label node.label law.distinct (loosened_seen root.label root_top e) above)
+
+    pub document_node_held : root.label ≡ 0 → Holds v node
+    document_node_held e = holds_seen (inside_left d.arena.trees d.arena.next (arena_forest d.arena law) (out_of d) refl node.label (subst (λ r. IsWithin d.arena.trees r node.label) e above))
+
+    -- and of another root, which isn't seen
+    pub none_seen : root.label ≢ 0 → has_loosened d.command root.label ≡ false → count_of v.state.trees node.label ≡ 0
+    none_seen other e = subst (λ (w : Whole). count_of w.state.trees node.label ≡ 0) is (zero_of (count_of (shed (out_of d) d.arena.trees) node.label) (λ here.
+        seen_loosened root.label (inner root.label other) (root_left (out_of d) d.arena.trees root.label node.label law.distinct root_top above here) e))
+      where
+        zero_of : (n : ℕ) → (0 < n → ⊥) → n ≡ 0
+        zero_of zero h = refl
+        zero_of (suc n) h = absurd (h (omega arith))
+
+        inner : (n : ℕ) → n ≢ 0 → 0 < n
+        inner zero h = absurd (h refl)
+        inner (suc n) h = omega arith
+
+    pub some_seen : Holds v node → 0 < count_of v.state.trees node.label
+    some_seen h = h.here
+
+  pub absent_seen : (v : Whole) → seen d ≡ v → (l : ℕ) → count_of d.arena.trees l ≡ 0 → count_of v.state.trees l ≡ 0
+  absent_seen v is l none = subst (λ (w : Whole). count_of w.state.trees l ≡ 0) is (omega (arith, none, count_of-shed (out_of d) d.arena.trees l))

@@ -1,0 +1,596 @@
+-- A new node leaves the fields sound and the history as it was, and what is seen has one more node.
+use Rattle.std.proofs.Common.{◌≡◌, ◌≢◌, ◌^◌, ◌||◌, ◌&&◌, true≢false, ℕ, zero, suc, ◌+◌, ◌-◌, ◌<◌, ◌≤◌, Bool, true, false, cond, List, [], ◌∷◌, ◌++◌, length, take, drop, map, Option, Some, None, IfSome, refl, sym, ap, subst, ◌∙◌, inl, inr, arith, eqb, nat_lt, nat_le, length-append}
+use Rattle.std.specs.Prelude.{IsTrue, slice_index_or, ◌==◌}
+use Rattle.std.proofs.lemmas.List.Folds.{list_any-append}
+use Rattle.std.proofs.lemmas.List.{take-append-le, drop-append-le}
+use Rattle.std.proofs.lemmas.Bool.Decides.{eqb_tells, nat_tests}
+use Rattle.dom_model.specs.declared.Content.{Content}
+use Rattle.dom_model.specs.declared.attributes.Attribute.{Attribute}
+use Rattle.dom_model.specs.declared.Content.TheVariants.{Element, Words}
+use Rattle.dom_model.specs.Document.{node_count, char_count}
+use Rattle.dom_model.specs.Forest.{Forest, Seen, total, tops, times, count_of, parent_of, first_of, first_in, with_leaf}
+use Rattle.dom_model.specs.Forest.Forest.{Nil, Tree}
+use Rattle.dom_model.specs.Shed.{shed}
+use Rattle.dom_model.specs.State.{State as Arena, IsLawful as IsArena}
+use Rattle.dom_model.proofs.Totals.{total-join}
+use Rattle.dom_model.proofs.Links.{parent_of-with_leaf, children_of-with_leaf, eqb_refl_true}
+use Rattle.dom_model.proofs.Stands.{seek_absent}
+use Rattle.std.specs.Option.{option_and_then, option_map_or}
+use Rattle.node_arena.specs.declared.NodeRef.{NodeRef}
+use Rattle.node_arena.specs.declared.MakeFault.{MakeFault}
+use Rattle.node_arena.specs.declared.MakeFault.TheVariants.{Full as ArenaFull, Memory as ArenaMemory}
+use Rattle.node_arena.specs.Held.{Makes}
+use Rattle.live_range.specs.declared.places.Places.{Places}
+use Rattle.live_range.specs.LivePoints.{LivePoints}
+use Rattle.live_range.specs.Edit.{has_label}
+use Rattle.live_range.specs.Names.{shown, named as named_marks, marks_of}
+use Rattle.undo_log.specs.Turning.{inverses_back, inverses_forth, FitsBack, FitsForth}
+use Rattle.undo_log.specs.Log.{Log, Open, noted, is_open}
+use Rattle.undo_log.specs.Log.Open.{Closed, Begun, Resumed}
+use Rattle.forest_changes.specs.Change.{Change, IsForest, Fits, applied, turned}
+use Rattle.forest_changes.specs.Named.{Each, named_in}
+use Rattle.forest_changes.specs.Down.{Sheds, IsLeft}
+use Rattle.forest_changes.specs.Leaves.{IsBelow, IsMade, BackBeside, ForthBeside}
+use Rattle.forest_changes.proofs.BesideLeaf.{fresh}
+use Rattle.forest_changes.proofs.ManyLeaves.{back_beside, forth_beside, has_made, shed-with_leaf}
+use Rattle.forest_changes.proofs.ChangeLists.{each_of, each_join, back_down, forth_down, back_fits_up, forth_fits_up}
+use Rattle.forest_changes.proofs.DownChange.{sheds_whole}
+use Rattle.forest_changes.proofs.Twice.{forest_of}
+use Rattle.edit_steps.specs.declared.step.Step.{Step}
+use Rattle.edit_steps.specs.Step.{changes_of, nodes_in}
+use Rattle.edit_model.specs.declared.settings.Setting.{Setting}
+use Rattle.edit_model.specs.declared.settings.Flags.{Flags}
+use Rattle.edit_model.specs.declared.settings.EditFault.{EditFault}
+use Rattle.edit_model.specs.declared.settings.EditFault.TheVariants.{Full, Memory}
+use Rattle.edit_model.specs.State.{State}
+use Rattle.edit_model.specs.Action.{made, words_content}
+use Rattle.edit_model.specs.Lawful.{IsLawful}
+use Rattle.edit_model.specs.History.{document_of}
+use Rattle.edit_model.specs.Gives.{label_of, labels_of, Fails}
+use Rattle.edit_model.proofs.Documents.{document-with_leaf}
+use Rattle.edit_model.proofs.Forests.{forest-with_leaf}
+use Rattle.edit_model.proofs.Points.{points_left, leaves-with_leaf}
+use Rattle.edit_model.proofs.Steps.{labels_of-append}
+use Rattle.edit_parts.specs.declared.Counts.{Counts}
+use Rattle.edit_doc.specs.declared.Doc.TheInside.{Inside}
+use Rattle.edit_doc.specs.declared.command.Beside.{Beside}
+use Rattle.edit_doc.specs.declared.command.Command.{Command}
+use Rattle.edit_doc.specs.Whole.{Whole, IsOpen}
+use Rattle.edit_doc.specs.Held.{Holds, Keeps}
+use Rattle.edit_doc.specs.Marks.{IsMarked, NotesMade}
+use Rattle.edit_doc.specs.History.{forest_before, forest_after, begun_forest, is_hidden, seen_trees, state_of, begun_state, began_with, view_at, undo_entries, redo_entries, history_of, whole_of}
+use Rattle.edit_doc.specs.Sound.{RefIn, EachHeldIn, IsSide, AreAlone, IsBeside, IsRunning, OpenSound, UndoSound, RedoSound, left_of, next_first, IsSound}
+use Rattle.edit_doc.proofs.Laid.{redo_later}
+use Rattle.edit_doc.proofs.Downs.{back_forest, forth_forest}
+use Rattle.edit_doc.proofs.HiddenTrees.{model_forest, true_lt}
+use Rattle.edit_doc.proofs.Inner.{seen, Ok, open_of}
+use Rattle.edit_doc.proofs.Changing.{undo_carried}
+
+-- ---- one more leaf
+
+off_before : (first l : ℕ) → first ≤ l → nat_lt l first ≡ false
+off_before first l le = grind (arith, nat_tests)
+
+module _ (l : ℕ) (c : Content) where
+  count-more : (f : Forest Content) (j : ℕ) → count_of f j ≤ count_of (with_leaf f l c) j
+  count-more f j = omega (arith, total-join (λ i _. cond (eqb i j) 1 0) f (Tree l c Nil Nil))
+
+  count-own : (f : Forest Content) → 0 < count_of (with_leaf f l c) l
+  count-own f = (let t = total-join (λ i _. cond (eqb i l) 1 0) f (Tree l c Nil Nil) in let u = rw (eqb_refl_true l) at t in omega (arith, u))
+
+  times-with_leaf : (f : Forest Content) (m : ℕ) → times (tops (with_leaf f l c)) m ≡ times (tops f) m + cond (eqb l m) 1 0
+  times-with_leaf Nil m = omega arith
+  times-with_leaf (Tree k d ks rest) m = omega (arith, times-with_leaf rest m)
+
+  hidden_off : (f : Forest Content) (first : ℕ) → first ≤ l → is_hidden f first l ≡ false
+  hidden_off f first le = (let far = off_before first l le in rw far (no_and (nat_lt 0 l)))
+    where
+      no_and : (b : Bool) → (b && false) ≡ false
+      no_and true = refl
+      no_and false = refl
+
+  hidden_leaf : (f : Forest Content) (first j : ℕ) → first ≤ l → is_hidden (with_leaf f l c) first j ≡ is_hidden f first j
+  hidden_leaf f first j le = elim (eqb_tells l j) [
+    | inl (_, same) ↦ subst (λ m. is_hidden (with_leaf f l c) first m ≡ is_hidden f first m) same (hidden_off (with_leaf f l c) first le ∙ sym (hidden_off f first le))
+    | inr (t, _) ↦ (let u = times-with_leaf f j in let u' = rw t at u in let e : times (tops (with_leaf f l c)) j ≡ times (tops f) j = omega (arith, u') in rw e refl)
+  ]
+
+  hides_leaf : (f : Forest Content) (first : ℕ) → first ≤ l → is_hidden (with_leaf f l c) first ≡ is_hidden f first
+  hides_leaf f first le = λ i j. hidden_leaf f first j le i
+
+  -- what is left is left beside the leaf
+  left_leaf : (h : ℕ → Bool) (f : Forest Content) → h l ≡ false → (j : ℕ) → IsLeft h f j → IsLeft h (with_leaf f l c) j
+  left_leaf h f out j t = subst (λ g. 0 < count_of g j) (sym (shed-with_leaf h l c out f)) (omega (arith, t, count-more (shed h f) j))
+
+  each_left : (before after : Forest Content) (first : ℕ) (ls : List ℕ) → first ≤ l → Each (IsLeft (is_hidden before first) after) ls → Each (IsLeft (is_hidden (with_leaf before l c) first) (with_leaf after l c)) ls
+  each_left before after first ls le hs =
+      subst (λ h. Each (IsLeft h (with_leaf after l c)) ls) (sym (hides_leaf before first le))
+      (each_of (IsLeft (is_hidden before first) after) (IsLeft (is_hidden before first) (with_leaf after l c)) ls (left_leaf (is_hidden before first) after (hidden_off before first le)) hs)
+
+  module _ (f : Forest Content) (is : IsForest f) (low : IsBelow f l) where
+    document_leaf : document_of (with_leaf f l c) ≡ document_of f
+    document_leaf = document-with_leaf f l (model_forest f is l low.below) l c
+
+    view_leaf : (names : List (List ℕ)) (p : Places) → view_at names (with_leaf f l c) p ≡ view_at names f p
+    view_leaf names p = ap (λ t. record { document = t; selection = p.selection; marks = map (named_marks names) (marks_of p) }) document_leaf
+
+    nodes_leaf : node_count (with_leaf f l c) ≡ node_count f
+    nodes_leaf = ap (λ (t : Forest Content). total (λ _ _. 1) t) document_leaf
+
+    chars_leaf : char_count (with_leaf f l c) ≡ char_count f
+    chars_leaf = rw document_leaf refl
+
+    side_leaf : (names : List (List ℕ)) (p : Places) (nodes chars : ℕ) → IsSide names f p nodes chars → IsSide names (with_leaf f l c) p nodes chars
+    side_leaf names p nodes chars h = record {
+      over = h.over;
+      placed = points_left f (with_leaf f l c) (leaves-with_leaf f l (model_forest f is l low.below) c) (shown names p) h.placed;
+      resting = h.resting;
+      nodes_are = h.nodes_are ∙ sym nodes_leaf;
+      chars_are = h.chars_are ∙ sym chars_leaf;
+    }
+
+  beside_leaf : (names : List (List ℕ)) (before after : Forest Content) (e : List Step) (ts : List Change) (b : Beside) (left : List NodeRef) (high start : ℕ) → start ≤ l →
+      IsForest before → IsBelow before l → IsForest after → IsBelow after l →
+      IsBeside names before after e ts b left high start → IsBeside names (with_leaf before l c) (with_leaf after l c) e ts b left high start
+  beside_leaf names before after e ts b left high start le is low is' low' h =
+      let first : b.sides.first_label ≤ l = (let x = h.drawn in let y = h.known in omega (arith, x, y, le)) in
+      record {
+        was = side_leaf before is low names b.sides.before b.sides.nodes_before b.sides.chars_before h.was;
+        is = side_leaf after is' low' names b.sides.after b.sides.nodes_after b.sides.chars_after h.is;
+        some_label = h.some_label;
+        drawn = h.drawn;
+        known = h.known;
+        hidden = λ j t. (let x = h.hidden j (sym (hidden_leaf before b.sides.first_label j first) ∙ t) in omega (arith, x, times-with_leaf after j));
+        names_seen = each_left before before b.sides.first_label (named_in (changes_of e)) first h.names_seen;
+        names_there = each_left before after b.sides.first_label (named_in (changes_of e)) first h.names_there;
+        names_old = h.names_old;
+        turns_old = h.turns_old;
+        left_loose = each_of (λ j. (0 < j) × ((j < high) × (parent_of after j ≡ None))) (λ j. (0 < j) × ((j < high) × (parent_of (with_leaf after l c) j ≡ None))) (labels_of left)
+            (λ j t. (t.0, (t.1.0, parent_of-with_leaf after l c (fresh l c after low') j ∙ t.1.1))) h.left_loose;
+      }
+
+  module _ (ok : IsMade c) (some : 0 < l) where
+    keeps_document : nat_le l 0 ≡ false
+    keeps_document = grind (arith, nat_tests)
+
+    -- what changes turn into is the same
+    back_turned : (xs : List Change) (f : Forest Content) → IsForest f → IsBelow f l → FitsBack applied Fits xs f → inverses_back applied turned xs (with_leaf f l c) ≡ inverses_back applied turned xs f
+    back_turned xs f is low fits =
+        let m = has_made l (c ∷ []) f is low (ok, tt) in
+        let sheds : Sheds (nat_le l) (with_leaf f l c) = sheds_whole (nat_le l) (with_leaf f l c) m.forest keeps_document m.whole in
+        let up = back_fits_up (nat_le l) xs (with_leaf f l c) sheds m.forest (subst (λ (t : Forest Content). FitsBack applied Fits xs t) (sym m.without) fits) in
+        let d = back_down (nat_le l) xs (with_leaf f l c) sheds up.0 up.1 in
+        sym d.turns ∙ ap (λ t. inverses_back applied turned xs t) m.without
+
+    forth_turned : (xs : List Change) (f : Forest Content) → IsForest f → IsBelow f l → FitsForth applied Fits xs f → inverses_forth applied turned xs (with_leaf f l c) ≡ inverses_forth applied turned xs f
+    forth_turned xs f is low fits =
+        let m = has_made l (c ∷ []) f is low (ok, tt) in
+        let sheds : Sheds (nat_le l) (with_leaf f l c) = sheds_whole (nat_le l) (with_leaf f l c) m.forest keeps_document m.whole in
+        let up = forth_fits_up (nat_le l) xs (with_leaf f l c) sheds m.forest (subst (λ (t : Forest Content). FitsForth applied Fits xs t) (sym m.without) fits) in
+        let d = forth_down (nat_le l) xs (with_leaf f l c) sheds up.0 up.1 in
+        sym d.turns ∙ ap (λ t. inverses_forth applied turned xs t) m.without
+
+    -- ---- the history
+
+    module _ (old new : List (Option ℕ)) (keeps : (q : NodeRef) → RefIn old q → RefIn new q) (names : List (List ℕ)) (d : Command) (le : d.start ≤ l) where
+      held_more : (xs : List Step) → EachHeldIn old xs → EachHeldIn new xs
+      held_more xs h = each_of (RefIn old) (RefIn new) (nodes_in xs) keeps h
+
+      pub undo_leaf : (r : Bool) (high : ℕ) (f : Forest Content) (es : List (List Step)) (bs : List Beside) → IsForest f → IsBelow f l → UndoSound old names r d high f es bs → UndoSound new names r d high (with_leaf f l c) es bs
+      undo_leaf r high f [] [] is low h = tt
+      undo_leaf r high f [] (b ∷ bs) is low h = absurd h
+      undo_leaf r high f (e ∷ es) [] is low h = absurd h
+      undo_leaf r high f (e ∷ es) (b ∷ bs) is low h =
+          let w = with_leaf f l c in
+          let g = forest_before e f in
+          let bb : BackBeside l (c ∷ []) (changes_of e) f = back_beside l (c ∷ []) (changes_of e) f low (ok, tt) h.0.0 in
+          let is' = back_forest (changes_of e) f h.0.0 is in
+          let own = beside_leaf names g f e (inverses_back applied turned (changes_of e) f) b (left_of r d b) high d.start le is' bb.below is low h.1.0 in
+          let rest = undo_leaf false b.sides.first_label g es bs is' bb.below h.1.1 in (
+            (bb.fits, held_more e h.0.1),
+            (
+              subst (λ t. IsBeside names t w e (inverses_back applied turned (changes_of e) w) b (left_of r d b) high d.start) (sym bb.same)
+                  (subst (λ ts. IsBeside names (with_leaf g l c) w e ts b (left_of r d b) high d.start) (sym (back_turned (changes_of e) f is low h.0.0)) own),
+              subst (λ t. UndoSound new names false d b.sides.first_label t es bs) (sym bb.same) rest,
+            ),
+          )
+
+      pub redo_leaf : (f : Forest Content) (es : List (List Step)) (bs : List Beside) → IsForest f → IsBelow f l → RedoSound old names d f es bs → RedoSound new names d (with_leaf f l c) es bs
+      redo_leaf f [] [] is low h = tt
+      redo_leaf f [] (b ∷ bs) is low h = absurd h
+      redo_leaf f (e ∷ es) [] is low h = absurd h
+      redo_leaf f (e ∷ es) (b ∷ bs) is low h =
+          let w = with_leaf f l c in
+          let g = forest_after e f in
+          let bb : ForthBeside l (c ∷ []) (changes_of e) f = forth_beside l (c ∷ []) (changes_of e) f low (ok, tt) h.0.0 in
+          let is' = forth_forest (changes_of e) f h.0.0 is in
+          let own = beside_leaf names f g e (inverses_forth applied turned (changes_of e) f) b b.left.items (next_first d.start bs) d.start le is low is' bb.below h.1.0 in
+          let rest = redo_leaf g es bs is' bb.below h.1.1 in (
+            (bb.fits, held_more e h.0.1),
+            (
+              subst (λ t. IsBeside names w t e (inverses_forth applied turned (changes_of e) w) b b.left.items (next_first d.start bs) d.start) (sym bb.same)
+                  (subst (λ ts. IsBeside names w (with_leaf g l c) e ts b b.left.items (next_first d.start bs) d.start) (sym (forth_turned (changes_of e) f is low h.0.0)) own),
+              subst (λ t. RedoSound new names d t es bs) (sym bb.same) rest,
+            ),
+          )
+
+      pub undo_entries_leaf : (r : Bool) (high : ℕ) (f : Forest Content) (es : List (List Step)) (bs : List Beside) → IsForest f → IsBelow f l → UndoSound old names r d high f es bs → undo_entries names (with_leaf f l c) es bs ≡ undo_entries names f es bs
+      undo_entries_leaf r high f [] bs is low h = refl
+      undo_entries_leaf r high f (e ∷ es) [] is low h = refl
+      undo_entries_leaf r high f (e ∷ es) (b ∷ bs) is low h =
+          let g = forest_before e f in
+          let bb : BackBeside l (c ∷ []) (changes_of e) f = back_beside l (c ∷ []) (changes_of e) f low (ok, tt) h.0.0 in
+          let is' = back_forest (changes_of e) f h.0.0 is in
+          let was = ap (λ t. view_at names t b.sides.before) bb.same ∙ view_leaf g is' bb.below names b.sides.before in
+          let now = view_leaf f is low names b.sides.after in
+          let rest = ap (λ t. undo_entries names t es bs) bb.same ∙ undo_entries_leaf false b.sides.first_label g es bs is' bb.below h.1.1 in
+          λ i. record { before = was i; after = now i; edits = length e } ∷ rest i
+
+      pub redo_entries_leaf : (f : Forest Content) (es : List (List Step)) (bs : List Beside) → IsForest f → IsBelow f l → RedoSound old names d f es bs → redo_entries names (with_leaf f l c) es bs ≡ redo_entries names f es bs
+      redo_entries_leaf f [] bs is low h = refl
+      redo_entries_leaf f (e ∷ es) [] is low h = refl
+      redo_entries_leaf f (e ∷ es) (b ∷ bs) is low h =
+          let g = forest_after e f in
+          let bb : ForthBeside l (c ∷ []) (changes_of e) f = forth_beside l (c ∷ []) (changes_of e) f low (ok, tt) h.0.0 in
+          let is' = forth_forest (changes_of e) f h.0.0 is in
+          let now = ap (λ t. view_at names t b.sides.after) bb.same ∙ view_leaf g is' bb.below names b.sides.after in
+          let was = view_leaf f is low names b.sides.before in
+          let rest = ap (λ t. redo_entries names t es bs) bb.same ∙ redo_entries_leaf g es bs is' bb.below h.1.1 in
+          λ i. record { before = was i; after = now i; edits = length e } ∷ rest i
+
+-- ---- the fields of a command
+
+more_marks : (xs : List Bool) (k : ℕ) → slice_index_or xs k false ≡ true → slice_index_or (xs ++ false ∷ []) k false ≡ true
+more_marks [] zero e = absurd (true≢false (sym e))
+more_marks [] (suc k) e = absurd (true≢false (sym e))
+more_marks (x ∷ xs) zero e = e
+more_marks (x ∷ xs) (suc k) e = more_marks xs k e
+
+has_first : (xs ys : List ℕ) (l : ℕ) → has_label xs l ≡ true → has_label (xs ++ ys) l ≡ true
+has_first xs ys l h = list_any-append (λ x. x == l) xs ys ∙ rw h refl
+
+has_last : (xs : List ℕ) (l : ℕ) → has_label (xs ++ l ∷ []) l ≡ true
+has_last xs l = list_any-append (λ x. x == l) xs (l ∷ []) ∙ (rw own (either_true (has_label xs l)))
+  where
+    either_true : (a : Bool) → (a || true) ≡ true
+    either_true true = refl
+    either_true false = refl
+
+    own : has_label (l ∷ []) l ≡ true
+    own = elim (eqb_tells l l) [ inl (e, _) ↦ rw e refl | inr (_, off) ↦ absurd (off refl) ]
+
+running_of : (a : Arena) (points : LivePoints) (c : Command) (g : Forest Content) (o : Open Step) → IsTrue (is_open o) → OpenSound a points c g o → IsRunning a points.names c (noted o) g
+running_of a points c g Closed h r = absurd (let h' = h in cc)
+running_of a points c g (Begun xs) h r = r
+running_of a points c g (Resumed xs) h r = r
+
+of_running : (a : Arena) (points : LivePoints) (c : Command) (g : Forest Content) (o : Open Step) → IsTrue (is_open o) → IsRunning a points.names c (noted o) g → OpenSound a points c g o
+of_running a points c g Closed h r = absurd (let h' = h in cc)
+of_running a points c g (Begun xs) h r = r
+of_running a points c g (Resumed xs) h r = r
+
+module _ (a : Arena) (points : LivePoints) (overrides : List Setting) (flags : Flags) (counts : Counts) (c d : Command) (log : Log Step) (us rs : List Beside) (us_room rs_room : ℕ)
+    (open_now : IsTrue (is_open log.open_entry)) (law : IsArena a)
+    (ok : IsSound a points overrides flags counts (record d { named = c.named; left = c.left }) log us rs us_room rs_room) where
+  -- the command with the marks and the left trees of before
+  abbrev e : Command
+  e = record d { named = c.named; left = c.left }
+
+  abbrev f : Forest Content
+  f = a.trees
+
+  abbrev g : Forest Content
+  g = begun_forest log a.trees
+
+  abbrev xs : List Step
+  xs = noted log.open_entry
+
+  run : IsRunning a points.names e xs g
+  run = running_of a points e g log.open_entry open_now ok.running
+
+  -- ---- room for more
+
+  pub sound_carried : d.named.items ≡ c.named.items → d.left.items ≡ c.left.items → IsSound a points overrides flags counts d log us rs us_room rs_room
+  sound_carried named left = record {
+    lawful = ok.lawful;
+    some_label = ok.some_label;
+    nodes = ok.nodes;
+    chars = ok.chars;
+    hidden = ok.hidden;
+    running = of_running a points d g log.open_entry open_now (record {
+      kept = run.kept;
+      settings = run.settings;
+      made = run.made;
+      can = run.can;
+      names_there = run.names_there;
+      marks = ap (λ ms. length ms + d.start) named ∙ run.marks;
+      marked = each_of (IsMarked e) (IsMarked d) (named_in (changes_of xs)) mark run.marked;
+      marked_turned = each_of (IsMarked e) (IsMarked d) (named_in (inverses_back applied turned (changes_of xs) a.trees)) mark run.marked_turned;
+      left_before = subst (λ ls. d.left_before ≤ length ls) (sym left) run.left_before;
+      left_seen = subst (λ ls. Each (λ l. 0 < count_of (shed (is_hidden g d.start) a.trees) l) (labels_of (drop d.left_before ls))) (sym left) run.left_seen;
+      loosened = λ l inner top. subst (λ ls. has_label (labels_of (drop d.left_before ls)) l ≡ true) (sym left) (run.loosened l inner top);
+    });
+    resumed = ok.resumed;
+    host = ok.host;
+    undo = undo_carried a.held points.names e d refl d.resumed (next_first d.start rs) g log.undo us (left_same d.resumed) ok.undo;
+    redo = redo_later a.held points.names e d (omega arith) g log.redo rs ok.redo;
+    us_room_is = ok.us_room_is;
+    rs_room_is = ok.rs_room_is;
+  }
+    where
+      mark : (l : ℕ) → IsMarked e l → IsMarked d l
+      mark l h le = subst (λ ms. slice_index_or ms (l - d.start) false ≡ true) (sym named) (h le)
+
+      left_same : (r : Bool) (b : Beside) → left_of r e b ≡ left_of r d b
+      left_same false b = refl
+      left_same true b = ap (take d.left_before) (sym left)
+
+  -- ---- one more node
+
+  module _ (held : List (Option ℕ)) (node : NodeRef) (x : Content) (made_of : IsMade x) (keeps : (q : NodeRef) → RefIn a.held q → RefIn held q) (own : RefIn held node) (label : node.label ≡ a.next)
+      (named : d.named.items ≡ c.named.items ++ false ∷ []) (left : d.left.items ≡ c.left.items ++ node ∷ []) where
+    abbrev l : ℕ
+    l = a.next
+
+    abbrev pub arena_made : Arena
+    arena_made = record { trees = with_leaf a.trees a.next x; next = a.next + 1; cap = a.cap; held = held }
+
+    is : IsForest f
+    is = forest_of a law
+
+    low : IsBelow f l
+    low = record { below = law.below }
+
+    some : 0 < l
+    some = law.below 0 law.document
+
+    started : d.start ≤ l
+    started = ok.lawful.started
+
+    bb : BackBeside l (x ∷ []) (changes_of xs) f
+    bb = back_beside l (x ∷ []) (changes_of xs) f low (made_of, tt) run.can.0
+
+    begun_is_forest : IsForest g
+    begun_is_forest = back_forest (changes_of xs) f run.can.0 is
+
+    begun_is : begun_forest log (with_leaf f l x) ≡ with_leaf g l x
+    begun_is = bb.same
+
+    abbrev hides : ℕ → Bool
+    hides = is_hidden g d.start
+
+    off : hides l ≡ false
+    off = hidden_off l x g d.start started
+
+    hides_is : is_hidden (begun_forest log (with_leaf f l x)) d.start ≡ hides
+    hides_is = ap (λ t. is_hidden t d.start) begun_is ∙ hides_leaf l x g d.start started
+
+    seen_is : seen_trees log d.start (with_leaf f l x) ≡ with_leaf (shed hides f) l x
+    seen_is = ap (λ k. shed k (with_leaf f l x)) hides_is ∙ shed-with_leaf hides l x off f
+
+    abbrev s : State
+    s = state_of a points overrides flags e log
+
+    state_is : state_of arena_made points overrides flags d log ≡ made x s
+    unfolding made
+    state_is = λ i. record {
+      trees = seen_is i;
+      points = points;
+      overrides = overrides;
+      flags = flags;
+      next = a.next + 1;
+      cap = a.cap;
+      start = d.start;
+      host = label_of d.host;
+      keeping = d.keeping;
+      edits = length xs;
+    }
+
+    lawful_made : IsLawful (made x s)
+    unfolding made
+    lawful_made = record {
+      forest = forest-with_leaf s.trees s.next ok.lawful.forest x made_of.plain made_of.short;
+      placed = points_left s.trees (with_leaf s.trees s.next x) (leaves-with_leaf s.trees s.next ok.lawful.forest x) points ok.lawful.placed;
+      started = (let h = started in omega (arith, h));
+      settings = ok.lawful.settings;
+    }
+
+    abbrev was_left : List ℕ
+    was_left = labels_of (drop d.left_before c.left.items)
+
+    left_labels : labels_of (drop d.left_before d.left.items) ≡ was_left ++ l ∷ []
+    left_labels =
+        ap (λ ls. labels_of (drop d.left_before ls)) left
+        ∙ (ap labels_of (drop-append-le d.left_before c.left.items (node ∷ []) run.left_before)
+        ∙ (labels_of-append (drop d.left_before c.left.items) (node ∷ []) ∙ ap (λ j. was_left ++ j ∷ []) label))
+
+    mark : (j : ℕ) → IsMarked e j → IsMarked d j
+    mark j h le = subst (λ ms. slice_index_or ms (j - d.start) false ≡ true) (sym named) (more_marks c.named.items (j - d.start) (h le))
+
+    seen_more : (j : ℕ) → IsLeft hides f j → 0 < count_of (with_leaf (shed hides f) l x) j
+    seen_more j h = omega (arith, h, count-more l x (shed hides f) j)
+
+    absent_parent : (j : ℕ) → count_of g j ≡ 0 → parent_of g j ≡ None
+    absent_parent j e = ap (λ (o : Option (Seen Content)). option_and_then (λ s. s.parent) o) (seek_absent None g j e)
+
+    absent_children : (j : ℕ) → count_of g j ≡ 0 → first_of g j ≡ None
+    absent_children j e = ap (λ (o : Option (Seen Content)). first_in (option_map_or (λ s. s.children) o [])) (seek_absent None g j e)
+
+    alone : AreAlone (with_leaf g l x) d.start (a.next + 1)
+    alone = record {
+      loose = λ j from to here. parent_of-with_leaf g l x (fresh l x g bb.below) j ∙ loose j from (count_of g j) refl;
+      leaf = λ j from to here. ap first_in (children_of-with_leaf g l x (fresh l x g bb.below) j) ∙ leaf j from (count_of g j) refl;
+    }
+      where
+        loose : (j : ℕ) → d.start ≤ j → (n : ℕ) → count_of g j ≡ n → parent_of g j ≡ None
+        loose j from zero e = absent_parent j e
+        loose j from (suc n) e = (let here : 0 < count_of g j = omega (arith, e) in run.made.loose j from (bb.below.below j here) here)
+
+        leaf : (j : ℕ) → d.start ≤ j → (n : ℕ) → count_of g j ≡ n → first_of g j ≡ None
+        leaf j from zero e = absent_children j e
+        leaf j from (suc n) e = (let here : 0 < count_of g j = omega (arith, e) in run.made.leaf j from (bb.below.below j here) here)
+
+    runs : IsRunning arena_made points.names d xs (with_leaf g l x)
+    runs = record {
+      kept = side_leaf l x g begun_is_forest bb.below points.names d.kept.places d.kept.counts.nodes d.kept.counts.chars run.kept;
+      settings = run.settings;
+      made = alone;
+      can = (bb.fits, each_of (RefIn a.held) (RefIn held) (nodes_in xs) keeps run.can.1);
+      names_there = each_left l x g f d.start (named_in (changes_of xs)) started run.names_there;
+      marks = (let m = run.marks in let n = ap length named in let k = length-append c.named.items (false ∷ []) in omega (arith, m, n, k));
+      marked = each_of (IsMarked e) (IsMarked d) (named_in (changes_of xs)) mark run.marked;
+      marked_turned = subst (λ ys. Each (IsMarked d) (named_in ys)) (sym (back_turned l x made_of some (changes_of xs) f is low run.can.0))
+          (each_of (IsMarked e) (IsMarked d) (named_in (inverses_back applied turned (changes_of xs) f)) mark run.marked_turned);
+      left_before = (let b = run.left_before in let n = ap length left in let k = length-append c.left.items (node ∷ []) in omega (arith, b, n, k));
+      left_seen = subst (λ (t : Forest Content). Each (λ j. 0 < count_of t j) (labels_of (drop d.left_before d.left.items))) (sym seen_leaf)
+          (subst (Each (λ j. 0 < count_of (with_leaf (shed hides f) l x) j)) (sym left_labels)
+          (each_join (λ j. 0 < count_of (with_leaf (shed hides f) l x) j) was_left (l ∷ [])
+          (each_of (IsLeft hides f) (λ j. 0 < count_of (with_leaf (shed hides f) l x) j) was_left seen_more run.left_seen)
+          (count-own l x (shed hides f), tt)));
+      loosened = λ j inner top. (
+          let top' : 0 < times (tops (with_leaf (shed hides f) l x)) j = subst (λ (t : Forest Content). 0 < times (tops t) j) seen_leaf top in
+          let t = times-with_leaf l x (shed hides f) j in
+          subst (λ ls. has_label ls j ≡ true) (sym left_labels) (elim (eqb_tells l j) [
+            | inl (_, same) ↦ subst (λ i. has_label (was_left ++ l ∷ []) i ≡ true) same (has_last was_left l)
+            | inr (u, _) ↦ (let t' = rw u at t in has_first was_left (l ∷ []) j (run.loosened j inner (omega (arith, t', top'))))
+          ]));
+    }
+      where
+        seen_leaf : shed (is_hidden (with_leaf g l x) d.start) (with_leaf f l x) ≡ with_leaf (shed hides f) l x
+        seen_leaf = ap (λ k. shed k (with_leaf f l x)) (hides_leaf l x g d.start started) ∙ shed-with_leaf hides l x off f
+
+    left_same : (r : Bool) (b : Beside) → left_of r e b ≡ left_of r d b
+    left_same false b = refl
+    left_same true b = sym (ap (take d.left_before) left ∙ take-append-le d.left_before c.left.items (node ∷ []) run.left_before)
+
+    host_still : (o : Option NodeRef) → IfSome o (λ h. RefIn a.held h × (0 < count_of (shed hides f) h.label)) → IfSome o (λ h. RefIn held h × (0 < count_of (with_leaf (shed hides f) l x) h.label))
+    host_still None h = tt
+    host_still (Some r) h = (keeps r h.0, seen_more r.label h.1)
+
+    undo_now : UndoSound a.held points.names d.resumed d (next_first d.start rs) g log.undo us
+    undo_now = undo_carried a.held points.names e d refl d.resumed (next_first d.start rs) g log.undo us (left_same d.resumed) ok.undo
+
+    redo_now : RedoSound a.held points.names d g log.redo rs
+    redo_now = redo_later a.held points.names e d (omega arith) g log.redo rs ok.redo
+
+    pub sound_made : IsSound arena_made points overrides flags counts d log us rs us_room rs_room
+    sound_made = record {
+      lawful = subst IsLawful (sym state_is) lawful_made;
+      some_label = ok.some_label;
+      nodes = ok.nodes ∙ sym (nodes_leaf l x f is low);
+      chars = ok.chars ∙ sym (chars_leaf l x f is low);
+      hidden = λ j h. (let h' : hides j ≡ true = subst (λ k. k j ≡ true) hides_is h in let top = ok.hidden j h' in omega (arith, top, times-with_leaf l x f j));
+      running = of_running arena_made points d (begun_forest log (with_leaf f l x)) log.open_entry open_now (subst (λ t. IsRunning arena_made points.names d xs t) (sym begun_is) runs);
+      resumed = ok.resumed;
+      host = subst (λ t. IfSome d.host (λ h. RefIn held h × (0 < count_of t h.label))) (sym seen_is) (host_still d.host ok.host);
+      undo = subst (λ t. UndoSound held points.names d.resumed d (next_first d.start rs) t log.undo us) (sym begun_is)
+          (undo_leaf l x made_of some a.held held keeps points.names d started d.resumed (next_first d.start rs) g log.undo us begun_is_forest bb.below undo_now);
+      redo = subst (λ t. RedoSound held points.names d t log.redo rs) (sym begun_is)
+          (redo_leaf l x made_of some a.held held keeps points.names d started g log.redo rs begun_is_forest bb.below redo_now);
+      us_room_is = ok.us_room_is;
+      rs_room_is = ok.rs_room_is;
+    }
+
+    history_is : history_of points.names (begun_forest log (with_leaf f l x)) log us rs ≡ history_of points.names g log us rs
+    history_is = ap (λ t. history_of points.names t log us rs) begun_is ∙ (λ i. record {
+      undo = undo_entries_leaf l x made_of some a.held held keeps points.names d started d.resumed (next_first d.start rs) g log.undo us begun_is_forest bb.below undo_now i;
+      redo = redo_entries_leaf l x made_of some a.held held keeps points.names d started g log.redo rs begun_is_forest bb.below redo_now i;
+      depth = log.depth;
+    })
+
+    begun_state_is : begun_state arena_made points.names d log ≡ begun_state a points.names e log
+    begun_state_is = λ i. record {
+      trees = (ap document_of begun_is ∙ document_leaf l x g begun_is_forest bb.below) i;
+      points = shown points.names d.kept.places;
+      overrides = d.kept.overrides.items;
+      flags = d.kept.flags;
+      next = d.start;
+      cap = a.cap;
+      start = d.start;
+      host = None;
+      keeping = false;
+      edits = 0;
+    }
+
+    pub whole_made : whole_of arena_made points overrides flags d log us rs ≡ record (whole_of a points overrides flags e log us rs) { state = made x s; held = held }
+    whole_made = λ i. record {
+      state = state_is i;
+      history = history_is i;
+      began = began_with (begun_state_is i) log.open_entry;
+      held = held;
+    }
+
+    pub keeps_made : Keeps (whole_of a points overrides flags e log us rs) (record (whole_of a points overrides flags e log us rs) { state = made x s; held = held })
+    unfolding made
+    keeps_made = record {
+      held = λ r h. record { slot = keeps r h.slot; here = seen_more r.label h.here };
+      history = refl;
+      began = refl;
+      start = refl;
+      cap = refl;
+    }
+
+    pub held_made : Holds (record (whole_of a points overrides flags e log us rs) { state = made x s; held = held }) node
+    unfolding made
+    held_made = record { slot = own; here = subst (λ j. 0 < count_of (with_leaf (shed hides f) l x) j) (sym label) (count-own l x (shed hides f)) }
+
+-- ---- what the calls owe
+
+pub record Given (d : Inside) (v : Whole) (x : Content) (node : NodeRef) (a : Arena) (c : Command) : Type 0 where
+  pub invariant : IsSound a d.points d.overrides.items d.flags d.counts c d.log d.undo_sides.items d.redo_sides.items d.undo_sides.capacity d.redo_sides.capacity
+  pub state : state_of a d.points d.overrides.items d.flags c d.log ≡ made x v.state
+  pub held : Holds (whole_of a d.points d.overrides.items d.flags c d.log d.undo_sides.items d.redo_sides.items) node
+  pub keeps : Keeps v (whole_of a d.points d.overrides.items d.flags c d.log d.undo_sides.items d.redo_sides.items)
+
+module _ (d : Inside) (v : Whole) (sees : seen d ≡ v) (law : IsArena d.arena) (now_open : IsOpen v) (ok : Ok d) where
+  opened : IsTrue (is_open d.log.open_entry)
+  opened = open_of d v sees now_open
+
+  -- only room was made
+  pub room_made : (c : Command) → record c { named = d.command.named; left = d.command.left } ≡ d.command → c.named.items ≡ d.command.named.items → c.left.items ≡ d.command.left.items →
+      IsSound d.arena d.points d.overrides.items d.flags d.counts c d.log d.undo_sides.items d.redo_sides.items d.undo_sides.capacity d.redo_sides.capacity
+  room_made c rest named left =
+      sound_carried d.arena d.points d.overrides.items d.flags d.counts d.command c d.log d.undo_sides.items d.redo_sides.items d.undo_sides.capacity d.redo_sides.capacity opened law
+      (subst (λ z. IsSound d.arena d.points d.overrides.items d.flags d.counts z d.log d.undo_sides.items d.redo_sides.items d.undo_sides.capacity d.redo_sides.capacity) (sym rest) ok) named left
+
+  pub node_made : (x : Content) → IsMade x → (a : Arena) (node : NodeRef) → Makes d.arena a node x → (b c : Command) → record b { named = d.command.named; left = d.command.left } ≡ d.command →
+      b.named.items ≡ d.command.named.items → b.left.items ≡ d.command.left.items → NotesMade node b c → Given d v x node a c
+  node_made x made_of a node m b c base named left notes =
+      let rest : record c { named = d.command.named; left = d.command.left } ≡ d.command = ap (λ (z : Command). record z { named = d.command.named; left = d.command.left }) notes.rest ∙ base in
+      let ok' = subst (λ z. IsSound d.arena d.points d.overrides.items d.flags d.counts z d.log d.undo_sides.items d.redo_sides.items d.undo_sides.capacity d.redo_sides.capacity) (sym rest) ok in
+      let named' : c.named.items ≡ d.command.named.items ++ false ∷ [] = notes.named ∙ ap (λ ms. ms ++ false ∷ []) named in
+      let left' : c.left.items ≡ d.command.left.items ++ node ∷ [] = notes.left ∙ ap (λ ls. ls ++ node ∷ []) left in
+      let arena_is : record { trees = with_leaf d.arena.trees d.arena.next x; next = d.arena.next + 1; cap = d.arena.cap; held = a.held } ≡ a = (λ i. record { trees = sym m.trees i; next = sym m.next i; cap = sym m.cap i; held = a.held }) in
+      let whole_is = whole_made d.arena d.points d.overrides.items d.flags d.counts d.command c d.log d.undo_sides.items d.redo_sides.items d.undo_sides.capacity d.redo_sides.capacity opened law ok' a.held node x made_of m.keeps m.held m.label named' left' in
+      let same : whole_of d.arena d.points d.overrides.items d.flags (record c { named = d.command.named; left = d.command.left }) d.log d.undo_sides.items d.redo_sides.items ≡ v =
+      ap (λ z. whole_of d.arena d.points d.overrides.items d.flags z d.log d.undo_sides.items d.redo_sides.items) rest ∙ sees in
+      subst (λ t. Given d v x node t c) arena_is (record {
+        invariant = sound_made d.arena d.points d.overrides.items d.flags d.counts d.command c d.log d.undo_sides.items d.redo_sides.items d.undo_sides.capacity d.redo_sides.capacity opened law ok' a.held node x made_of m.keeps m.held m.label named' left';
+        state = ap (λ (w : Whole). w.state) whole_is ∙ ap (λ (w : Whole). made x w.state) same;
+        held = subst (λ w. Holds w node) (sym whole_is) (held_made d.arena d.points d.overrides.items d.flags d.counts d.command c d.log d.undo_sides.items d.redo_sides.items d.undo_sides.capacity d.redo_sides.capacity opened law ok' a.held node x made_of m.keeps m.held m.label named' left');
+        keeps = subst (Keeps v) (sym whole_is) (subst (λ w. Keeps w (record (whole_of d.arena d.points d.overrides.items d.flags (record c { named = d.command.named; left = d.command.left }) d.log d.undo_sides.items d.redo_sides.items) { state = made x (state_of d.arena d.points d.overrides.items d.flags (record c { named = d.command.named; left = d.command.left }) d.log); held = a.held })) same
+            (keeps_made d.arena d.points d.overrides.items d.flags d.counts d.command c d.log d.undo_sides.items d.redo_sides.items d.undo_sides.capacity d.redo_sides.capacity opened law ok' a.held node x made_of m.keeps m.held m.label named' left'));
+      })
+
+  -- no node was made
+  pub none_made : (t : State) (fault : MakeFault) (r : EditFault) → (fault ≡ ArenaFull → r ≡ Full) → (fault ≡ ArenaMemory → r ≡ Memory) →
+      (fault ≡ ArenaFull → d.arena.next ≡ d.arena.cap) → (v.state.cap ≤ v.state.next → Fails Full t) → Fails r t
+  none_made t fault r full memory capped over = by_fault fault full memory capped
+    where
+      at_cap : d.arena.next ≡ d.arena.cap → v.state.cap ≤ v.state.next
+      at_cap e = subst (λ (w : Whole). w.state.cap ≤ w.state.next) sees (omega (arith, e))
+
+      by_fault : (q : MakeFault) → (q ≡ ArenaFull → r ≡ Full) → (q ≡ ArenaMemory → r ≡ Memory) → (q ≡ ArenaFull → d.arena.next ≡ d.arena.cap) → Fails r t
+      by_fault ArenaFull f m c = subst (λ z. Fails z t) (sym (f refl)) (over (at_cap (c refl)))
+      by_fault ArenaMemory f m c = subst (λ z. Fails z t) (sym (m refl)) tt
+
+-- ---- what a node is made with
+
+pub element_made : (name : List ℕ) (attributes : List Attribute) → IsMade (Element name attributes)
+element_made name attributes = record { plain = λ e. cc; short = omega arith }
+
+pub words_made : (chars : List ℕ) → length chars < 2 ^ 32 → IsMade (Words chars)
+words_made chars short = record { plain = λ e. cc; short = short }
+
+pub words_content_is : (chars : List ℕ) → length chars < 2 ^ 32 → words_content chars ≡ Words chars
+words_content_is chars short = (let t : nat_lt (length chars) (2 ^ 32) ≡ true = true_lt (length chars) (2 ^ 32) short in rw t refl)

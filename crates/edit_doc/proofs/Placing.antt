@@ -1,0 +1,134 @@
+-- The tests on places in the trees of a document.
+use Rattle.std.proofs.Common.{◌≡◌, ◌≢◌, ◌⊎◌, ℕ, ◌+◌, ◌<◌, Bool, true, false, true≢false, List, Option, Some, None, IfSome, refl, sym, ap, subst, ◌∙◌, inl, inr, arith, eqb, nat_lt}
+use Rattle.std.specs.Prelude.{◌&&◌, not, nat_le, bytes_eq, IsTrue, ◌↔◌}
+use Rattle.std.specs.Option.{option_map_or, option_and_then}
+use Rattle.std.proofs.lemmas.Bool.Decides.{nat_tests}
+use Rattle.dom_model.specs.declared.Content.{Content}
+use Rattle.dom_model.specs.declared.Content.TheVariants.{Document, Element, Words, Remark}
+use Rattle.dom_model.specs.Contents.{is_element, is_element_at, name_in, name_of, length_of}
+use Rattle.dom_model.specs.Forest.{Forest, is_label, count_of, parent_of, content_of, IsWithin}
+use Rattle.dom_model.specs.Shed.{shed}
+use Rattle.dom_model.specs.State.{IsLawful as IsArena}
+use Rattle.dom_model.proofs.Stands.{true_or_false}
+use Rattle.live_range.specs.declared.places.Point.{Point}
+use Rattle.node_arena.specs.declared.NodeRef.{NodeRef}
+use Rattle.node_arena.specs.declared.Kind.{Kind}
+use Rattle.node_arena.specs.declared.Kind.TheVariants as kind
+use Rattle.node_arena.specs.Kinds.{is_parent_kind, is_element_kind}
+use Rattle.point_order.specs.PointOrder.{is_within, is_in_document, is_placed}
+use Rattle.edit_model.specs.Confined.{has_name, is_place, is_own, is_open, may_grow, may_select, may_send}
+use Rattle.edit_model.specs.Gives.{label_of}
+use Rattle.edit_model.specs.Lawful.{IsForest}
+use Rattle.edit_doc.specs.declared.Doc.TheInside.{Inside}
+use Rattle.edit_doc.specs.Whole.{Whole}
+use Rattle.edit_doc.specs.Held.{Holds}
+use Rattle.node_arena.specs.Held.{Holds as HoldsNode}
+use Rattle.edit_doc.proofs.Asking.{second_false}
+use Rattle.edit_doc.proofs.Found.{tree_of-fewer}
+use Rattle.edit_doc.proofs.HiddenTrees.{lt_true, document-shed, inside_left, length_of-shed}
+use Rattle.edit_doc.proofs.Inner.{seen}
+use Rattle.edit_doc.proofs.Rests.{arena_forest}
+use Rattle.edit_doc.proofs.SeenNodes.{out_of}
+
+-- ---- kinds and names
+
+pub parent_kind : (k : Kind) → (k ≡ kind.Document) ⊎ (k ≡ kind.Element) → is_parent_kind k ≡ true
+parent_kind k h = elim h [ inl e ↦ ap is_parent_kind e | inr e ↦ ap is_parent_kind e ]
+
+pub leaf_kind : (k : Kind) → (k ≡ kind.Document → ⊥) → (k ≡ kind.Element → ⊥) → is_parent_kind k ≡ false
+leaf_kind kind.Document d e = absurd (d refl)
+leaf_kind kind.Element d e = absurd (e refl)
+leaf_kind kind.Words d e = refl
+leaf_kind kind.Remark d e = refl
+
+pub other_kind : (k : Kind) → (k ≡ kind.Element → ⊥) → is_element_kind k ≡ false
+other_kind kind.Document e = refl
+other_kind kind.Element e = absurd (e refl)
+other_kind kind.Words e = refl
+other_kind kind.Remark e = refl
+
+unnamed : (o : Option Content) → option_map_or is_element o false ≡ false → option_and_then name_in o ≡ None
+unnamed None e = refl
+unnamed (Some Document) e = refl
+unnamed (Some (Element name attributes)) e = absurd (cc)
+unnamed (Some (Words chars)) e = refl
+unnamed (Some (Remark chars)) e = refl
+
+pub nameless : (f : Forest Content) (l : ℕ) (name : List ℕ) → is_element_at f l ≡ false → has_name f l name ≡ false
+nameless f l name e = ap (λ o. option_map_or (λ own. bytes_eq own name) o false) (unnamed (content_of f l) e)
+
+pub named : (f : Forest Content) (l : ℕ) (own name : List ℕ) → name_of f l ≡ Some own → has_name f l name ≡ bytes_eq own name
+named f l own name e = ap (λ o. option_map_or (λ own. bytes_eq own name) o false) e
+
+-- ---- places among children
+
+pub place_is : (f : Forest Content) (p n : ℕ) (o : Option NodeRef) (b : NodeRef) (q : Option ℕ) → o ≡ Some b → parent_of f b.label ≡ q → is_place f p (label_of o) n ≡ (is_label q p && not (eqb b.label n))
+place_is f p n o b q e up = ap (λ r. is_place f p (label_of r) n) e ∙ ap (λ r. is_label r p && not (eqb b.label n)) up
+
+pub and_first : (a b : Bool) → a ≡ true → b ≡ (a && b)
+and_first a b e = sym (ap (λ x. x && b) e)
+
+pub and_none : (a b : Bool) → a ≡ false → a ≡ (a && b)
+and_none a b e = e ∙ sym (ap (λ x. x && b) e)
+
+pub within_told : (f : Forest Content) (n l : ℕ) (r : Bool) → (IsTrue r ↔ IsWithin f n l) → r ≡ is_within f n l
+within_told f n l true h = sym (less (h.0 refl))
+  where
+    less : {m : ℕ} → 0 < m → nat_lt 0 m ≡ true
+    less t = grind (arith, nat_tests)
+within_told f n l false h = elim (true_or_false (is_within f n l)) [
+  | inl t ↦ absurd (true≢false (sym (h.1 (lt_true 0 (count_of _ l) t))))
+  | inr t ↦ sym t
+]
+
+pub takes_so : (parent within place r : Bool) → parent ≡ true → place ≡ true → r ≡ within → not r ≡ (parent && (not within && place))
+takes_so parent true place r a b e = ap not e ∙ sym (ap (λ x. x && (false && place)) a)
+takes_so parent false place r a b e = ap not e ∙ (sym b ∙ sym (ap (λ x. x && (true && place)) a))
+
+-- ---- places of points
+
+module _ (d : Inside) (law : IsArena d.arena) where
+  pub in_document_seen : (l : ℕ) → is_in_document (shed (out_of d) d.arena.trees) l ≡ is_in_document d.arena.trees l
+  in_document_seen l = ap (λ t. nat_lt 0 (count_of t l)) (document-shed d.arena.trees d.arena.next (arena_forest d.arena law) (out_of d) refl)
+
+  placed_same : (p : Point) → is_placed (shed (out_of d) d.arena.trees) p ≡ is_placed d.arena.trees p
+  unfolding is_placed
+  placed_same p = elim (true_or_false (is_in_document d.arena.trees p.label)) [
+    | inl t ↦ (
+        let len = length_of-shed d.arena.trees d.arena.next (arena_forest d.arena law) (out_of d) refl p.label (lt_true 0 (count_of _ p.label) t) in
+        λ i. in_document_seen p.label i && nat_le p.offset (len i))
+    | inr u ↦ ap (λ b. b && nat_le p.offset (length_of (shed (out_of d) d.arena.trees) p.label)) (in_document_seen p.label ∙ u) ∙ sym (ap (λ b. b && nat_le p.offset (length_of d.arena.trees p.label)) u)
+  ]
+
+  pub select_is : (v : Whole) → seen d ≡ v → (p : Point) → may_select v.state p ≡ is_placed d.arena.trees p
+  unfolding may_select
+  select_is v is p = subst (λ (w : Whole). is_placed w.state.trees p ≡ is_placed d.arena.trees p) is (placed_same p)
+
+  -- ---- the points of a text
+
+  pub send_is : (v : Whole) → seen d ≡ v → (n at tail : ℕ) → may_send v.state n at tail ≡ (is_own v.state n && (is_in_document d.arena.trees tail && (not (eqb n tail) && nat_le (length_of v.state.trees n) (at + length_of v.state.trees tail))))
+  unfolding may_send
+  send_is v is n at tail =
+      ap (λ x. is_own v.state n && (x && (not (eqb n tail) && nat_le (length_of v.state.trees n) (at + length_of v.state.trees tail))))
+      (subst (λ (w : Whole). is_in_document w.state.trees tail ≡ is_in_document d.arena.trees tail) is (in_document_seen tail))
+
+  pub document_seen : (v : Whole) → seen d ≡ v → (l : ℕ) → is_in_document v.state.trees l ≡ is_in_document d.arena.trees l
+  document_seen v is l = subst (λ (w : Whole). is_in_document w.state.trees l ≡ is_in_document d.arena.trees l) is (in_document_seen l)
+
+  -- ---- points that may grow
+
+  pub inside_held : (v : Whole) → seen d ≡ v → (node : NodeRef) → HoldsNode d.arena node → is_in_document d.arena.trees node.label ≡ true → Holds v node
+  inside_held v is node held e = subst (λ w. Holds w node) is (record {
+    slot = held;
+    here = inside_left d.arena.trees d.arena.next (arena_forest d.arena law) (out_of d) refl node.label (lt_true 0 (count_of _ node.label) e);
+  })
+
+  pub grow_is : (v : Whole) → seen d ≡ v → (p : Point) → may_grow v.state p ≡ (is_open v.state p.label && (is_in_document d.arena.trees p.label && nat_lt p.offset (length_of v.state.trees p.label)))
+  unfolding may_grow
+  grow_is v is p = ap (λ x. is_open v.state p.label && (x && nat_lt p.offset (length_of v.state.trees p.label))) (document_seen v is p.label)
+
+  pub grow_absent : (v : Whole) → seen d ≡ v → (p : Point) → count_of d.arena.trees p.label ≡ 0 → may_grow v.state p ≡ false
+  grow_absent v is p none = grow_is v is p ∙ second_false (is_open v.state p.label) (is_in_document d.arena.trees p.label) (nat_lt p.offset (length_of v.state.trees p.label)) (elim (true_or_false (is_in_document d.arena.trees p.label)) [
+    | inl t ↦ absurd (let w = lt_true 0 (count_of _ p.label) t in omega (arith, w, none, tree_of-fewer d.arena.trees 0 p.label))
+    | inr u ↦ u
+  ])

@@ -1,0 +1,198 @@
+-- A command with an edit is recorded in the history.
+use Rattle.std.proofs.Common.{◌≡◌, ℕ, ◌<◌, ◌≤◌, false, List, [], ◌∷◌, length, take, None, refl, sym, ap, subst, ◌∙◌, arith}
+use Rattle.std.specs.Prelude.{IsTrue, ◌==◌}
+use Rattle.std.proofs.lemmas.Bool.Decides.{nat_tests}
+use Rattle.dom_model.specs.declared.Content.{Content}
+use Rattle.dom_model.specs.Forest.{Forest}
+use Rattle.dom_model.specs.State.{IsLawful as IsArena}
+use Rattle.live_range.specs.declared.places.Places.{Places}
+use Rattle.live_range.specs.LivePoints.{LivePoints}
+use Rattle.live_range.specs.Names.{shown}
+use Rattle.undo_log.specs.Turning.{inverses_back}
+use Rattle.undo_log.specs.Log.{Log, Open, noted, is_open, is_resumed, committed_with}
+use Rattle.undo_log.specs.Log.Open.{Closed, Begun, Resumed}
+use Rattle.forest_changes.specs.Change.{applied, turned}
+use Rattle.edit_steps.specs.declared.step.Step.{Step}
+use Rattle.edit_steps.specs.Step.{changes_of}
+use Rattle.edit_model.specs.State.{State}
+use Rattle.edit_model.specs.Lawful.{IsForest}
+use Rattle.edit_model.specs.History.{document_of, rested, recorded, with_entry, view_of}
+use Rattle.edit_model.proofs.Documents.{document_shape}
+use Rattle.edit_doc.specs.declared.Doc.TheInside.{Inside}
+use Rattle.edit_doc.specs.declared.command.Beside.{Beside}
+use Rattle.edit_doc.specs.declared.command.Sides.{Sides}
+use Rattle.edit_doc.specs.declared.command.Command.{Command}
+use Rattle.edit_doc.specs.Fields.{IsEnded, AreResting, EntersIn, Enters, made_sides}
+use Rattle.edit_doc.specs.Whole.{Whole, history_committed, committed_history}
+use Rattle.edit_doc.specs.History.{state_of, begun_state, began_with, history_of, undo_entries, view_at}
+use Rattle.edit_doc.specs.Sound.{IsBeside, UndoSound, RedoSound, next_first, IsSound}
+use Rattle.edit_doc.proofs.Inner.{seen, Ok}
+use Rattle.edit_doc.proofs.Laid.{undo_later, next_first_low}
+use Rattle.edit_doc.proofs.HiddenTrees.{model_forest}
+use Rattle.edit_doc.proofs.Rests.{AtRest, rest_sound, rest_state}
+use Rattle.edit_doc.proofs.Rolls.{run, g, xs, forest_g, bound_g}
+use Rattle.edit_doc.proofs.Commits.{placed_now, document_now}
+use Rattle.edit_doc.proofs.Enters.{undo-take, undo_entries-take, made_beside}
+
+-- ---- the log
+
+pub committed_made : (l : Log Step) (o : Open Step) → IsTrue (is_open o) → is_resumed o ≡ false → 0 < length (noted o) →
+    committed_with l o ≡ record l { undo = take l.depth (noted o ∷ l.undo); redo = []; open_entry = Closed }
+committed_made l Closed t r some = absurd (let t' = t in cc)
+committed_made l (Begun []) t r some = absurd (omega (arith, some))
+committed_made l (Begun (x ∷ ys)) t r some = refl
+committed_made l (Resumed ys) t r some = absurd (cc)
+
+-- ---- the model's record
+
+pub some_edits : (n : ℕ) → 0 < n → (n == 0) ≡ false
+some_edits n h = grind (arith, nat_tests)
+
+pub made_recorded : (s0 : State) (o : Open Step) (w : Whole) → IsTrue (is_open o) → is_resumed o ≡ false → 0 < w.state.edits →
+    committed_history w (began_with s0 o) ≡ record w.history { undo = take w.history.depth (record { before = view_of s0; after = view_of w.state; edits = w.state.edits } ∷ w.history.undo); redo = [] }
+unfolding recorded with_entry
+made_recorded s0 Closed w t r some = absurd (let t' = t in cc)
+made_recorded s0 (Begun ys) w t r some = rw (some_edits w.state.edits some) refl
+made_recorded s0 (Resumed ys) w t r some = absurd (cc)
+
+-- the document of the document is the document
+pub document_twice : (f : Forest Content) (next : ℕ) → IsForest f next → document_of (document_of f) ≡ document_of f
+document_twice f next is = let d = document_shape f next is in subst (λ h. document_of (document_of h) ≡ document_of h) (sym d.3) refl
+
+module _ (d : Inside) (law : IsArena d.arena) (ok : Ok d) (opened : IsTrue (is_open d.log.open_entry)) (p : Places) (resting : AreResting d.points p) where
+  abbrev steps : List Step
+  steps = xs d law ok opened
+
+  abbrev before : Forest Content
+  before = g d law ok opened
+
+  abbrev rested_points : LivePoints
+  rested_points = shown d.points.names p
+
+  abbrev pub high : ℕ
+  high = next_first d.command.start d.redo_sides.items
+
+  pub high_le : high ≤ d.command.start
+  high_le = next_first_low d.arena.held d.points.names d.command before d.log.redo d.redo_sides.items ok.redo
+
+  -- ---- a document whose history has the entry
+
+  module _ (log : Log Step) (closed : log.open_entry ≡ Closed) (redo : log.redo ≡ []) (depth : log.depth ≡ d.log.depth) (us : List Beside) (c : Command) (ended : IsEnded d.arena.next c) where
+    module _ (undo : UndoSound d.arena.held d.points.names false c d.arena.next d.arena.trees log.undo us) where
+      ends : AtRest d.arena rested_points d.overrides.items d.flags d.counts c log us [] d.undo_sides.capacity d.redo_sides.capacity
+      ends = record {
+        law = law;
+        closed = closed;
+        idle = record {
+          start = ended.start;
+          host = ended.host;
+          keeping = ended.keeping;
+          named = ended.named;
+          left = ended.left;
+          left_before = ended.left_before;
+          scratch = resting.resting;
+        };
+        resumed = ended.resumed;
+        placed = placed_now d law ok opened p resting;
+        settings = ok.lawful.settings;
+        nodes = ok.nodes;
+        chars = ok.chars;
+        undo = subst (λ n. UndoSound d.arena.held d.points.names false c n d.arena.trees log.undo us) (sym ended.start) undo;
+        redo = subst (λ es. RedoSound d.arena.held d.points.names c d.arena.trees es []) (sym redo) tt;
+        us_room_is = ok.us_room_is ∙ sym depth;
+        rs_room_is = ok.rs_room_is ∙ sym depth;
+      }
+
+      pub recorded_ok : IsSound d.arena rested_points d.overrides.items d.flags d.counts c log us [] d.undo_sides.capacity d.redo_sides.capacity
+      recorded_ok = rest_sound d.arena rested_points d.overrides.items d.flags d.counts c log us [] d.undo_sides.capacity d.redo_sides.capacity ends
+
+      pub recorded_state : (v : Whole) → seen d ≡ v → state_of d.arena rested_points d.overrides.items d.flags c log ≡ rested v.state
+      unfolding rested
+      recorded_state v sees =
+          rest_state d.arena rested_points d.overrides.items d.flags d.counts c log us [] d.undo_sides.capacity d.redo_sides.capacity ends
+          ∙ ((λ i. record {
+            trees = sym (document_now d law ok opened p resting) i;
+            points = resting.shown i;
+            overrides = d.overrides.items;
+            flags = d.flags;
+            next = d.arena.next;
+            cap = d.arena.cap;
+            start = d.arena.next;
+            host = None;
+            keeping = false;
+            edits = 0;
+          })
+          ∙ ap (λ (w : Whole). rested w.state) sees)
+
+  -- ---- the views on both sides of the entry
+
+  abbrev pub state_before : State
+  state_before = begun_state d.arena d.points.names d.command d.log
+
+  abbrev pub state_now : State
+  state_now = state_of d.arena d.points d.overrides.items d.flags d.command d.log
+
+  pub view_before : view_at d.points.names before d.command.kept.places ≡ view_of state_before
+  unfolding view_of
+  view_before = λ i. record {
+    document = sym (document_twice before (bound_g d law ok opened).next (model_forest before (forest_g d law ok opened) (bound_g d law ok opened).next (bound_g d law ok opened).below)) i;
+    selection = d.command.kept.places.selection;
+    marks = (shown d.points.names d.command.kept.places).marks;
+  }
+
+  pub view_now : view_at d.points.names d.arena.trees p ≡ view_of state_now
+  unfolding view_of
+  view_now = λ i. record {
+    document = sym (document_now d law ok opened p resting) i;
+    selection = (resting.shown i).selection;
+    marks = (resting.shown i).marks;
+  }
+
+  -- ---- an entry that the command began
+
+  module _ (begun : is_resumed d.log.open_entry ≡ false) (c : Command) (ended : IsEnded d.arena.next c) (us : List Beside) where
+    begun_undo : UndoSound d.arena.held d.points.names false d.command high before d.log.undo d.undo_sides.items
+    begun_undo = subst (λ r. UndoSound d.arena.held d.points.names r d.command high before d.log.undo d.undo_sides.items) (ok.resumed ∙ begun) ok.undo
+
+    start_le : d.command.start ≤ c.start
+    start_le = (let s = ended.start in let t = ok.lawful.started in omega (arith, s, t))
+
+    with_first : (b : Beside) → b.sides ≡ made_sides d.command p d.counts → b.left.items ≡ [] →
+        UndoSound d.arena.held d.points.names false c d.arena.next d.arena.trees (steps ∷ d.log.undo) (b ∷ d.undo_sides.items)
+    with_first b same none =
+        let f = d.arena.trees in
+        let ts = inverses_back applied turned (changes_of steps) f in
+        let rest = undo_later d.arena.held d.points.names d.command c start_le high d.command.start before d.log.undo d.undo_sides.items high_le start_le begun_undo in (
+          (run d law ok opened).can,
+          (
+            subst (λ n. IsBeside d.points.names before f steps ts b b.left.items d.arena.next n) (sym ended.start) (made_beside d law ok opened p resting b b.left.items none same),
+            subst (λ (s : Sides). UndoSound d.arena.held d.points.names false c s.first_label before d.log.undo d.undo_sides.items) (sym same) rest,
+          ),
+        )
+
+    entering : Enters d.command p d.counts d.undo_sides.capacity d.undo_sides.items us → EntersIn false (made_sides d.command p d.counts) p d.counts d.undo_sides.capacity d.undo_sides.items us
+    entering h = subst (λ r. EntersIn r (made_sides d.command p d.counts) p d.counts d.undo_sides.capacity d.undo_sides.items us) (ok.resumed ∙ begun) h
+
+    module _ (enters : Enters d.command p d.counts d.undo_sides.capacity d.undo_sides.items us) where
+      pub begun_sound : UndoSound d.arena.held d.points.names false c d.arena.next d.arena.trees (take d.log.depth (steps ∷ d.log.undo)) us
+      begun_sound =
+          let h = entering enters in
+          let all = undo-take d.arena.held d.points.names c d.log.depth d.arena.next d.arena.trees (steps ∷ d.log.undo) (h.0 ∷ d.undo_sides.items) (with_first h.0 h.1 h.2) in
+          let is : us ≡ take d.log.depth (h.0 ∷ d.undo_sides.items) = h.3 ∙ ap (λ n. take n (h.0 ∷ d.undo_sides.items)) ok.us_room_is in
+          subst (λ bs. UndoSound d.arena.held d.points.names false c d.arena.next d.arena.trees (take d.log.depth (steps ∷ d.log.undo)) bs) (sym is) all
+
+      pub begun_history : 0 < length steps → (v : Whole) → seen d ≡ v →
+          history_of d.points.names d.arena.trees (record d.log { undo = take d.log.depth (steps ∷ d.log.undo); redo = []; open_entry = Closed }) us [] ≡ history_committed v
+      unfolding history_committed
+      begun_history some v sees =
+          let f = d.arena.trees in
+          let h = entering enters in
+          let is : us ≡ take d.log.depth (h.0 ∷ d.undo_sides.items) = h.3 ∙ ap (λ n. take n (h.0 ∷ d.undo_sides.items)) ok.us_room_is in
+          let was = ap (λ (s : Sides). view_at d.points.names before s.before) h.1 ∙ view_before in
+          let now = ap (λ (s : Sides). view_at d.points.names f s.after) h.1 ∙ view_now in
+          let entries : undo_entries d.points.names f (take d.log.depth (steps ∷ d.log.undo)) us ≡ take d.log.depth (record { before = view_of state_before; after = view_of state_now; edits = length steps } ∷ undo_entries d.points.names before d.log.undo d.undo_sides.items) =
+          ap (undo_entries d.points.names f (take d.log.depth (steps ∷ d.log.undo))) is
+          ∙ (undo_entries-take d.points.names d.log.depth f (steps ∷ d.log.undo) (h.0 ∷ d.undo_sides.items)
+          ∙ (λ i. take d.log.depth (record { before = was i; after = now i; edits = length steps } ∷ undo_entries d.points.names before d.log.undo d.undo_sides.items))) in
+          (λ i. record { undo = entries i; redo = []; depth = d.log.depth })
+          ∙ (sym (made_recorded state_before d.log.open_entry (seen d) opened begun some) ∙ ap history_committed sees)

@@ -1,0 +1,141 @@
+-- An edit that removes a tree, which becomes loose.
+use Rattle.std.proofs.Common.{◌≡◌, ℕ, ◌+◌, ◌<◌, ◌≤◌, Bool, true, false, List, [], ◌∷◌, ◌++◌, length, take, drop, Option, Some, None, IfSome, refl, sym, ap, subst, ◌∙◌, arith}
+use Rattle.std.specs.Prelude.{IsTrue, IsSome, unwrap_or}
+use Rattle.dom_model.specs.declared.Content.{Content}
+use Rattle.dom_model.specs.Document.{node_count, char_count}
+use Rattle.dom_model.specs.Forest.{Forest, count_of, preorder, tree_of, parent_of, next_of, unlink}
+use Rattle.dom_model.specs.Places.{index_of}
+use Rattle.dom_model.specs.Shed.{shed}
+use Rattle.dom_model.specs.State.{State as Arena, IsLawful as IsArena, IsSlotted}
+use Rattle.dom_model.proofs.Shedding.{count_of-shed, parent_of-shed, tree_of-shed}
+use Rattle.node_arena.specs.declared.NodeRef.{NodeRef}
+use Rattle.node_arena.specs.Held.{Names}
+use Rattle.live_range.specs.Edit as range
+use Rattle.live_range.specs.LivePoints.{LivePoints, mapped}
+use Rattle.forest_changes.specs.Change.{Loosen, applied, turned}
+use Rattle.forest_changes.specs.Named.{Each, named, listed}
+use Rattle.forest_changes.specs.Down.{IsLeft}
+use Rattle.forest_changes.proofs.Twice.{forest_of}
+use Rattle.edit_steps.specs.declared.step.Step.{Step}
+use Rattle.edit_steps.specs.declared.step.Step.TheVariants.{Unlink}
+use Rattle.edit_steps.specs.Step.{StepFits, change_of, step_applied, step_turned}
+use Rattle.undo_log.specs.Log.{Log, with_step}
+use Rattle.edit_model.specs.declared.settings.Setting.{Setting}
+use Rattle.edit_model.specs.State.{State}
+use Rattle.edit_model.specs.Edit.{Remove, is_made_edit, trees_after, points_after, parent_or_0}
+use Rattle.edit_model.specs.Confined.{may_leave, may_remove}
+use Rattle.edit_model.specs.Gives.{label_of}
+use Rattle.edit_parts.specs.declared.Counts.{Counts}
+use Rattle.edit_doc.specs.declared.Doc.TheInside.{Inside}
+use Rattle.edit_doc.specs.declared.command.Command.{Command}
+use Rattle.edit_doc.specs.Whole.{Whole, IsOpen}
+use Rattle.edit_doc.specs.Held.{Holds, IfHeld, Finds}
+use Rattle.edit_doc.specs.Marks.{Marks, IsMarked, AreMarkable, place_labels}
+use Rattle.edit_doc.proofs.Changing.{Follows, run}
+use Rattle.edit_doc.proofs.Edited.{Makes, Done, edit_called}
+use Rattle.edit_doc.proofs.Inner.{seen, Ok, open_of}
+use Rattle.edit_doc.proofs.SeenLookUps.{index_left}
+use Rattle.edit_doc.proofs.SeenNodes.{out_of, held_seen, parent_seen, finds_parent, finds_next}
+use Rattle.edit_doc.proofs.Settling.{overrides_next, overrides_are}
+
+-- the tree of n was left loose, which stood under p before o
+follows : (c b d : Command) (node parent : NodeRef) (o : Option NodeRef) (f : Forest Content) → record b { left = c.left } ≡ c → b.left.items ≡ c.left.items ++ node ∷ [] →
+    parent_of f node.label ≡ Some parent.label → label_of o ≡ next_of f node.label → Marks (place_labels node parent o) b d → Follows c d (Loosen node.label) (turned (Loosen node.label) f)
+unfolding turned
+follows c b d node parent o f same left up next m = record {
+  start = ap (λ (k : Command). k.start) m.rest ∙ ap (λ (k : Command). k.start) same;
+  host = ap (λ (k : Command). k.host) m.rest ∙ ap (λ (k : Command). k.host) same;
+  keeping = ap (λ (k : Command). k.keeping) m.rest ∙ ap (λ (k : Command). k.keeping) same;
+  resumed = ap (λ (k : Command). k.resumed) m.rest ∙ ap (λ (k : Command). k.resumed) same;
+  kept = ap (λ (k : Command). k.kept) m.rest ∙ ap (λ (k : Command). k.kept) same;
+  left_before = ap (λ (k : Command). k.left_before) m.rest ∙ ap (λ (k : Command). k.left_before) same;
+  count = m.count ∙ ap (λ (k : Command). length k.named.items) same;
+  stay = λ l h. m.stay l (subst (λ k. IsMarked k l) (sym same) h);
+  marked = (m.marked.0, tt);
+  marked_turned = subst (λ q. Each (IsMarked d) (node.label ∷ unwrap_or q 0 ∷ listed (next_of f node.label))) (sym up) (subst (λ q. Each (IsMarked d) (node.label ∷ parent.label ∷ listed q)) next m.marked);
+  more = node ∷ [];
+  left = ap (λ (k : Command). k.left.items) m.rest ∙ left;
+  loosed_is = refl;
+}
+
+module _ (d : Inside) (law : IsArena d.arena) (v : Whole) (is : seen d ≡ v) (now_open : IsOpen v) (ok : Ok d) where
+  markable : (r : NodeRef) → Holds v r → r.label < d.command.start + length d.command.named.items
+  markable r h =
+      let here = (held_seen d v is r h).here in
+      let below = law.below r.label (omega (arith, here, count_of-shed (out_of d) d.arena.trees r.label)) in
+      let marks = (run d.arena d.points d.overrides.items d.flags d.counts d.command d.log d.undo_sides.items d.redo_sides.items d.undo_sides.capacity d.redo_sides.capacity law (open_of d v is now_open) ok).marks in
+      omega (arith, below, marks)
+
+  pub place_markable : (node parent : NodeRef) (o : Option NodeRef) → Holds v node → Holds v parent → IfHeld v o → AreMarkable d.command (place_labels node parent o)
+  place_markable node parent None hn hp ho = (markable node hn, (markable parent hp, tt))
+  place_markable node parent (Some r) hn hp ho = (markable node hn, (markable parent hp, (markable r ho, tt)))
+
+module _ (d : Inside) (law : IsArena d.arena) (v : Whole) (is : seen d ≡ v) (node : NodeRef) (holds : Holds v node) where
+  pub not_remove_root : parent_of d.arena.trees node.label ≡ None → is_made_edit (Remove node.label) v.state ≡ false
+  unfolding is_made_edit may_remove
+  not_remove_root none = (let e = parent_seen d law v is node holds ∙ none in rw e refl)
+
+  module _ (parent : NodeRef) (up : parent_of d.arena.trees node.label ≡ Some parent.label) where
+    pub not_remove_here : may_leave v.state node.label (Some parent.label) ≡ false → is_made_edit (Remove node.label) v.state ≡ false
+    unfolding is_made_edit may_remove
+    not_remove_here off = ap (may_leave v.state node.label) (parent_seen d law v is node holds ∙ up) ∙ off
+
+    pub may_remove_here : may_leave v.state node.label (Some parent.label) ≡ true → is_made_edit (Remove node.label) v.state ≡ true
+    unfolding is_made_edit may_remove
+    may_remove_here may = ap (may_leave v.state node.label) (parent_seen d law v is node holds ∙ up) ∙ may
+
+    module _ (slotted : IsSlotted d.arena) (now_open : IsOpen v) (ok : Ok d) (may : may_leave v.state node.label (Some parent.label) ≡ true) where
+      abbrev f : Forest Content
+      f = d.arena.trees
+
+      abbrev g : Forest Content
+      g = shed (out_of d) d.arena.trees
+
+      pub fits : StepFits (Unlink node) d.arena
+      fits = record {
+        fits = record { forest = forest_of d.arena law; here = subst IsSome (sym up) refl };
+        slotted = slotted;
+        held = ((held_seen d v is node holds).slot, tt);
+      }
+
+      pub left : Each (IsLeft (out_of d) d.arena.trees) (named (change_of (Unlink node)))
+      left = ((held_seen d v is node holds).here, tt)
+
+      pub trees : applied (change_of (Unlink node)) g ≡ trees_after (Remove node.label) g
+      unfolding applied trees_after
+      trees = refl
+
+      pub points_are : mapped (range.Removed (preorder (tree_of f node.label)) parent.label (index_of f node.label)) d.points ≡ points_after (Remove node.label) g d.points
+      unfolding points_after
+      points_are =
+          let here = (held_seen d v is node holds).here in
+          let t : tree_of f node.label ≡ tree_of g node.label = sym (tree_of-shed (out_of d) f node.label law.distinct here) in
+          let p : Some parent.label ≡ parent_of g node.label = sym (parent_of-shed (out_of d) f node.label law.distinct here ∙ up) in
+          let x : index_of f node.label ≡ index_of g node.label = sym (index_left (out_of d) f law.distinct node.label here) in
+          λ i. mapped (range.Removed (preorder (t i)) (unwrap_or (p i) 0) (x i)) d.points
+
+      unlinked : unlink f node.label ≡ applied (Loosen node.label) f
+      unfolding applied
+      unlinked = refl
+
+      module _ (points : LivePoints) (overrides : List Setting) (counts : Counts) (b c : Command) (o : Option NodeRef) (next : label_of o ≡ next_of d.arena.trees node.label)
+          (same : record b { left = d.command.left } ≡ d.command) (pushed : b.left.items ≡ d.command.left.items ++ node ∷ []) (m : Marks (place_labels node parent o) b c)
+          (points_is : points ≡ mapped (range.Removed (preorder (tree_of d.arena.trees node.label)) parent.label (index_of d.arena.trees node.label)) d.points)
+          (overrides_is : overrides ≡ overrides_next d v is law now_open ok (Remove node.label) (Unlink node) fits left (may_remove_here may) trees)
+          (nodes : counts.nodes ≡ node_count (unlink d.arena.trees node.label)) (chars : counts.chars ≡ char_count (unlink d.arena.trees node.label)) where
+        removes : Makes d (Remove node.label) (Unlink node) points overrides counts c
+        removes = record {
+          fits = fits;
+          seen = left;
+          follows = follows d.command b c node parent o f same pushed up next m;
+          names = ap (λ (p : LivePoints). p.names) points_is;
+          trees = trees;
+          points_are = points_is ∙ points_are;
+          overrides_are = overrides_is ∙ overrides_are d v is law now_open ok (Remove node.label) (Unlink node) fits left (may_remove_here may) trees;
+          nodes = nodes ∙ ap node_count unlinked;
+          chars = chars ∙ ap char_count unlinked;
+        }
+
+        pub remove_done : (arena : Arena) (log : Log Step) → arena ≡ step_applied (Unlink node) d.arena → log ≡ with_step d.log (step_turned (Unlink node) d.arena) → Done d v (Remove node.label) arena points overrides counts c log
+        remove_done arena log arena_is log_is =
+            edit_called d v is law now_open ok (Remove node.label) (Unlink node) points overrides counts c (may_remove_here may) removes arena log arena_is log_is

@@ -1,0 +1,154 @@
+-- An edit that replaces characters of a text.
+use Rattle.std.proofs.Common.{◌≡◌, ℕ, ◌+◌, ◌<◌, ◌≤◌, ◌^◌, Bool, true, false, List, [], ◌∷◌, ◌++◌, length, Option, Some, None, refl, sym, ap, subst, ◌∙◌, arith}
+use Rattle.std.specs.Prelude.{◌&&◌}
+use Rattle.std.specs.Option.{option_map_or}
+use Rattle.std.proofs.lemmas.List.{append-nil}
+use Rattle.dom_model.specs.declared.Content.{Content}
+use Rattle.dom_model.specs.declared.Content.TheVariants.{Words}
+use Rattle.dom_model.specs.Contents.{has_chars, has_chars_at, with_chars}
+use Rattle.dom_model.specs.Document.{node_count, char_count}
+use Rattle.dom_model.specs.Forest.{Forest, total, content_of, tree_of}
+use Rattle.dom_model.specs.Revised.{revised}
+use Rattle.dom_model.specs.Shed.{shed}
+use Rattle.dom_model.specs.State.{State as Arena, IsLawful as IsArena, IsSlotted}
+use Rattle.dom_model.proofs.Revising.{total-revised}
+use Rattle.dom_model.proofs.Shedding.{IsDistinct-shed}
+use Rattle.node_arena.specs.declared.NodeRef.{NodeRef}
+use Rattle.live_range.specs.Edit as range
+use Rattle.live_range.specs.LivePoints.{LivePoints, Fits, mapped}
+use Rattle.forest_changes.specs.Change.{Rewrite, applied, turned}
+use Rattle.forest_changes.specs.Named.{Each, named}
+use Rattle.forest_changes.specs.Down.{IsLeft}
+use Rattle.forest_changes.proofs.Twice.{forest_of}
+use Rattle.forest_changes.proofs.ShedChanges.{content_of-shed}
+use Rattle.edit_steps.specs.declared.step.Step.{Step}
+use Rattle.edit_steps.specs.declared.step.Step.TheVariants.{Words as Rewords}
+use Rattle.edit_steps.specs.Step.{StepFits, change_of, step_applied, step_turned}
+use Rattle.undo_log.specs.Log.{Log, with_step}
+use Rattle.edit_model.specs.declared.settings.Setting.{Setting}
+use Rattle.edit_model.specs.State.{State}
+use Rattle.edit_model.specs.Edit.{Replace, is_made_edit, trees_after, points_after, with_replaced}
+use Rattle.edit_model.specs.Confined.{is_own, may_change, may_replace}
+use Rattle.edit_model.proofs.Fitting.{fits-replace}
+use Rattle.edit_parts.specs.declared.Counts.{Counts}
+use Rattle.edit_doc.specs.declared.Doc.TheInside.{Inside}
+use Rattle.edit_doc.specs.declared.command.Command.{Command}
+use Rattle.edit_doc.specs.Whole.{Whole, IsOpen}
+use Rattle.edit_doc.specs.Held.{Holds}
+use Rattle.edit_doc.specs.Marks.{Marks}
+use Rattle.edit_doc.proofs.Attributed.{revised_same}
+use Rattle.edit_doc.proofs.Changing.{Follows}
+use Rattle.edit_doc.proofs.Edited.{Makes, Done, edit_called}
+use Rattle.edit_doc.proofs.Inner.{seen, Ok}
+use Rattle.edit_doc.proofs.Lessened.{Changes, changes}
+use Rattle.edit_doc.proofs.Ordered.{tree_of-revised}
+use Rattle.edit_doc.proofs.SeenNodes.{out_of, held_seen, content_seen}
+use Rattle.edit_doc.proofs.Settling.{overrides_next, overrides_are}
+
+and_false : (a : Bool) → (a && false) ≡ false
+and_false true = refl
+and_false false = refl
+
+follows : (c d : Command) (n : ℕ) (words : List ℕ) (f : Forest Content) → Marks (n ∷ []) c d → Follows c d (Rewrite n words) (turned (Rewrite n words) f)
+unfolding turned
+follows c d n words f m = record {
+  start = ap (λ (k : Command). k.start) m.rest;
+  host = ap (λ (k : Command). k.host) m.rest;
+  keeping = ap (λ (k : Command). k.keeping) m.rest;
+  resumed = ap (λ (k : Command). k.resumed) m.rest;
+  kept = ap (λ (k : Command). k.kept) m.rest;
+  left_before = ap (λ (k : Command). k.left_before) m.rest;
+  count = m.count;
+  stay = m.stay;
+  marked = (m.marked.0, tt);
+  marked_turned = (m.marked.0, tt);
+  more = [];
+  left = ap (λ (k : Command). k.left.items) m.rest ∙ sym (append-nil c.left.items);
+  loosed_is = refl;
+}
+
+module _ (d : Inside) (law : IsArena d.arena) (v : Whole) (is : seen d ≡ v) (node : NodeRef) (holds : Holds v node) (at count : ℕ) (put : List ℕ) (con : Content) (content : content_of d.arena.trees node.label ≡ Some con) where
+  content_here : content_of v.state.trees node.label ≡ Some con
+  content_here = content_seen d law v is node holds ∙ content
+
+  pub may_replace_here : is_own v.state node.label ≡ true → may_change (Some con) at count put ≡ true → is_made_edit (Replace node.label at count put) v.state ≡ true
+  unfolding is_made_edit may_replace
+  may_replace_here own change = rw (own, content_here) change
+
+  pub not_replace_here : may_change (Some con) at count put ≡ false → is_made_edit (Replace node.label at count put) v.state ≡ false
+  unfolding is_made_edit may_replace
+  not_replace_here off = rw (content_here, off) (and_false (is_own v.state node.label))
+
+  pub points_fit : Ok d → is_own v.state node.label ≡ true → may_change (Some con) at count put ≡ true → Fits (range.Replaced node.label at count (length put)) d.points
+  unfolding is_made_edit
+  points_fit ok own change =
+      let may : is_made_edit (Replace node.label at count put) (seen d).state ≡ true = subst (λ (w : Whole). is_made_edit (Replace node.label at count put) w.state ≡ true) (sym is) (may_replace_here own change) in
+      let capped = law.capped in
+      let low = law.small in
+      fits-replace (seen d).state node.label at count put ok.lawful (omega (arith, capped, low)) may
+
+  module _ (slotted : IsSlotted d.arena) (now_open : IsOpen v) (ok : Ok d) (own : is_own v.state node.label ≡ true) (change : may_change (Some con) at count put ≡ true)
+      (words : List ℕ) (words_are : Words words ≡ with_replaced at count put con) (short : length words < 2 ^ 32) where
+    abbrev g : Forest Content
+    g = shed (out_of d) d.arena.trees
+
+    t : Changes (Some con) at count put
+    t = changes (Some con) at count put change
+
+    con_is : con ≡ Words t.chars
+    con_is = let e = t.content in cc
+
+    same : with_chars words con ≡ with_replaced at count put con
+    same = ap (with_chars words) con_is ∙ words_are
+
+    pub fits : StepFits (Rewords node words) d.arena
+    fits = record {
+      fits = record { forest = forest_of d.arena law; here = (ap (λ o. option_map_or has_chars o false) (content ∙ ap Some con_is), short) };
+      slotted = slotted;
+      held = ((held_seen d v is node holds).slot, tt);
+    }
+
+    pub left : Each (IsLeft (out_of d) d.arena.trees) (named (change_of (Rewords node words)))
+    left = ((held_seen d v is node holds).here, tt)
+
+    pub trees : applied (change_of (Rewords node words)) g ≡ trees_after (Replace node.label at count put) g
+    unfolding applied trees_after
+    trees = revised_same g node.label (with_chars words) (with_replaced at count put) con (IsDistinct-shed (out_of d) d.arena.trees law.distinct)
+        (content_of-shed (out_of d) d.arena.trees node.label (forest_of d.arena law) (held_seen d v is node holds).here ∙ content) same
+
+    nodes_same : node_count (applied (Rewrite node.label words) d.arena.trees) ≡ node_count d.arena.trees
+    unfolding applied
+    nodes_same = ap (total (λ _ _. 1)) (tree_of-revised node.label (with_chars words) d.arena.trees 0) ∙ total-revised node.label (with_chars words) (λ _. 1) (tree_of d.arena.trees 0)
+
+    chars_same : char_count (revised d.arena.trees node.label (with_replaced at count put)) ≡ char_count (applied (Rewrite node.label words) d.arena.trees)
+    unfolding applied
+    chars_same = ap char_count (sym (revised_same d.arena.trees node.label (with_chars words) (with_replaced at count put) con law.distinct content same))
+
+    pub points_are : mapped (range.Replaced node.label at count (length put)) d.points ≡ points_after (Replace node.label at count put) g d.points
+    unfolding points_after
+    points_are = refl
+
+    module _ (points : LivePoints) (overrides : List Setting) (counts : Counts) (c : Command) (m : Marks (node.label ∷ []) d.command c)
+        (points_is : points ≡ mapped (range.Replaced node.label at count (length put)) d.points)
+        (overrides_is : overrides ≡ overrides_next d v is law now_open ok (Replace node.label at count put) (Rewords node words) fits left (may_replace_here own change) trees)
+        (nodes : counts.nodes ≡ d.counts.nodes) (chars : counts.chars ≡ char_count (revised d.arena.trees node.label (with_replaced at count put))) where
+      replaces : Makes d (Replace node.label at count put) (Rewords node words) points overrides counts c
+      replaces = record {
+        fits = fits;
+        seen = left;
+        follows = follows d.command c node.label words d.arena.trees m;
+        names = ap (λ (p : LivePoints). p.names) points_is;
+        trees = trees;
+        points_are = points_is ∙ points_are;
+        overrides_are = overrides_is ∙ overrides_are d v is law now_open ok (Replace node.label at count put) (Rewords node words) fits left (may_replace_here own change) trees;
+        nodes = nodes ∙ (ok.nodes ∙ sym nodes_same);
+        chars = chars ∙ chars_same;
+      }
+
+      pub replace_done : (arena : Arena) (log : Log Step) → arena ≡ step_applied (Rewords node words) d.arena → log ≡ with_step d.log (step_turned (Rewords node words) d.arena) → Done d v (Replace node.label at count put) arena points overrides counts c log
+      replace_done arena log arena_is log_is =
+          edit_called d v is law now_open ok (Replace node.label at count put) (Rewords node words) points overrides counts c (may_replace_here own change) replaces arena log arena_is log_is
+
+pub not_own_replace : (s : State) (n at count : ℕ) (put : List ℕ) → is_own s n ≡ false → is_made_edit (Replace n at count put) s ≡ false
+unfolding is_made_edit may_replace
+not_own_replace s n at count put off = rw off refl

@@ -1,0 +1,108 @@
+-- The last entry is resumed.
+use Rattle.std.proofs.Common.{◌≡◌, ℕ, ◌<◌, ◌≤◌, Bool, true, false, List, [], ◌∷◌, length, take, Option, Some, None, IfSome, refl, sym, ap, subst, ◌∙◌, arith}
+use Rattle.dom_model.specs.declared.Content.{Content}
+use Rattle.dom_model.specs.Forest.{Forest}
+use Rattle.dom_model.specs.State.{State as Arena, IsLawful as IsArena}
+use Rattle.node_arena.specs.declared.NodeRef.{NodeRef}
+use Rattle.undo_log.specs.Turning.{inverses_back}
+use Rattle.undo_log.specs.Log.{Log, resumed as resumed_log}
+use Rattle.undo_log.specs.Log.Open.{Closed}
+use Rattle.forest_changes.specs.Change.{applied, turned}
+use Rattle.edit_steps.specs.declared.step.Step.{Step}
+use Rattle.edit_steps.specs.Step.{changes_of}
+use Rattle.edit_model.specs.Gives.{label_of}
+use Rattle.edit_doc.specs.declared.Doc.TheInside.{Inside}
+use Rattle.edit_doc.specs.declared.command.Beside.{Beside}
+use Rattle.edit_doc.specs.declared.command.Kept.{Kept}
+use Rattle.edit_doc.specs.declared.command.Command.{Command}
+use Rattle.edit_doc.specs.Fields.{IsKept, SwapsLeft}
+use Rattle.edit_doc.specs.Whole.{Whole, opened}
+use Rattle.edit_doc.specs.Held.{IfHeld}
+use Rattle.edit_doc.specs.History.{forest_before, undo_entries, redo_entries, whole_of}
+use Rattle.edit_doc.specs.Sound.{IsBeside, UndoSound, next_first, IsSound}
+use Rattle.edit_doc.proofs.Inner.{seen, Ok}
+use Rattle.edit_doc.proofs.Laid.{beside_later, undo_later, redo_later, next_first_low, undo_sides_length}
+use Rattle.edit_doc.proofs.Rolls.{beside_of}
+use Rattle.edit_doc.proofs.Begins.{Opens, rest, take_all, held_host, opened_ok, opened_is}
+
+-- the command but for its left trees
+record Swapped (c m : Command) : Type 0 where
+  start : m.start ≡ c.start
+  named : m.named.items ≡ c.named.items
+  keeping : m.keeping ≡ c.keeping
+
+swapped : (us new : List Beside) (c m : Command) → SwapsLeft us new c m → Swapped c m
+swapped [] new c m h = absurd h
+swapped (b ∷ bs) new c m h = record { start = ap (λ (x : Command). x.start) h.1; named = ap (λ (x : Command). x.named.items) h.1; keeping = ap (λ (x : Command). x.keeping) h.1 }
+
+swapped_entries : (names : List (List ℕ)) (f : Forest Content) (es : List (List Step)) (us new : List Beside) (c m : Command) → SwapsLeft us new c m → undo_entries names f es new ≡ undo_entries names f es us
+swapped_entries names f es [] new c m h = absurd h
+swapped_entries names f [] (b ∷ bs) new c m h = refl
+swapped_entries names f (e ∷ es) (b ∷ bs) new c m h = ap (undo_entries names f (e ∷ es)) h.0
+
+swapped_undo : (held : List (Option ℕ)) (names : List (List ℕ)) (c m r : Command) → c.start ≤ r.start → r.left.items ≡ m.left.items → r.left_before ≡ length r.left.items →
+    (high : ℕ) (f : Forest Content) (es : List (List Step)) (us new : List Beside) → high ≤ r.start → SwapsLeft us new c m → UndoSound held names false c high f es us → UndoSound held names true r high f es new
+swapped_undo held names c m r le same all high f es [] new known h u = absurd h
+swapped_undo held names c m r le same all high f [] (b ∷ bs) new known h u = absurd u
+swapped_undo held names c m r le same all high f (e ∷ es) (b ∷ bs) new known h u =
+    let ts = inverses_back applied turned (changes_of e) f in
+    let b' : Beside = record b { left = c.left } in
+    let left : b.left.items ≡ take r.left_before r.left.items = sym (take_all r.left_before r.left.items all ∙ (same ∙ ap (λ (x : Command). x.left.items) h.1)) in
+    let own = beside_of names (forest_before e f) f e ts b b' b.left.items high r.start refl (beside_later names (forest_before e f) f e ts b b.left.items high c.start high r.start u.1.0 (omega arith) known) in
+    let first : b.sides.first_label ≤ r.start = (let t = u.1.0.drawn in omega arith) in
+    subst (λ ns. UndoSound held names true r high f (e ∷ es) ns) (sym h.0) (
+      u.0,
+      (
+        subst (λ ls. IsBeside names (forest_before e f) f e ts b' ls high r.start) left own,
+        undo_later held names c r le b.sides.first_label b.sides.first_label (forest_before e f) es bs (omega arith) first u.1.1,
+      ),
+    )
+
+module _ (d : Inside) (law : IsArena d.arena) (closed : d.log.open_entry ≡ Closed) (ok : Ok d) where
+  pub some_sides : 0 < length d.log.undo → 0 < length d.undo_sides.items
+  some_sides h =
+      let r = rest d law closed ok in
+      let n = undo_sides_length d.arena.held d.points.names d.command false (next_first d.command.start d.redo_sides.items) d.arena.trees d.log.undo d.undo_sides.items r.undo in
+      omega (arith, n, h)
+
+  module _ (k : Kept) (host : Option NodeRef) (keeps : IsKept d.points d.overrides.items d.flags d.counts k) (us : List Beside) (m : Command) (swaps : SwapsLeft d.undo_sides.items us d.command m) (n : ℕ) (all : n ≡ length m.left.items) where
+    abbrev command : Command
+    command = record m { host = host; resumed = true; left_before = n; kept = k }
+
+    opens : Opens d command (resumed_log d.log)
+    opens =
+        let r = rest d law closed ok in
+        let s = swapped d.undo_sides.items us d.command m swaps in
+        record {
+          start = s.start;
+          named = s.named ∙ r.idle.named;
+          kept = keeps;
+          left_before = all;
+          none = refl;
+          depth = refl;
+        }
+
+    start_le : d.command.start ≤ command.start
+    start_le = (let e = opens.start in omega (arith, e))
+
+    pub resume_ok : IfHeld (seen d) host → IsSound d.arena d.points d.overrides.items d.flags d.counts command (resumed_log d.log) us d.redo_sides.items d.undo_sides.capacity d.redo_sides.capacity
+    resume_ok held =
+        let r = rest d law closed ok in
+        let high = next_first d.command.start d.redo_sides.items in
+        let low = next_first_low d.arena.held d.points.names d.command d.arena.trees d.log.redo d.redo_sides.items r.redo in
+        let undo = swapped_undo d.arena.held d.points.names d.command m command start_le refl all high d.arena.trees d.log.undo d.undo_sides.items us (omega (arith, low, start_le)) swaps r.undo in
+        opened_ok d law closed ok command (resumed_log d.log) opens us (λ g h. h) refl (held_host d law closed ok host held)
+        (subst (λ (x : ℕ). UndoSound d.arena.held d.points.names true command (next_first x d.redo_sides.items) d.arena.trees d.log.undo us) (sym opens.start) undo)
+        (redo_later d.arena.held d.points.names d.command command start_le d.arena.trees d.log.redo d.redo_sides.items r.redo)
+
+    pub resume_is : whole_of d.arena d.points d.overrides.items d.flags command (resumed_log d.log) us d.redo_sides.items ≡ opened (label_of host) false true (seen d)
+    resume_is =
+        let r = rest d law closed ok in
+        let s = swapped d.undo_sides.items us d.command m swaps in
+        opened_is d law closed ok command (resumed_log d.log) opens us true (λ t. refl)
+        (λ i. record {
+          undo = swapped_entries d.points.names d.arena.trees d.log.undo d.undo_sides.items us d.command m swaps i;
+          redo = redo_entries d.points.names d.arena.trees d.log.redo d.redo_sides.items;
+          depth = d.log.depth;
+        })
+        ∙ ap (λ b. opened (label_of host) b true (seen d)) (s.keeping ∙ r.idle.keeping)

@@ -1,0 +1,383 @@
+-- A command is taken back.
+use Rattle.std.proofs.Common.{◌≡◌, ℕ, zero, suc, ◌+◌, ◌<◌, ◌≤◌, Bool, true, false, List, [], ◌∷◌, length, take, Option, Some, None, refl, sym, ap, subst, ◌∙◌, inl, inr, arith}
+use Rattle.std.specs.Prelude.{IsTrue, nat_le}
+use Rattle.dom_model.specs.declared.Content.{Content}
+use Rattle.dom_model.specs.Document.{node_count, char_count}
+use Rattle.dom_model.specs.Forest.{Forest, tops, times, count_of, tree_of, parent_of, first_of, IsDistinct, IsWithin}
+use Rattle.dom_model.specs.Shed.{shed, IsWhole}
+use Rattle.dom_model.specs.State.{State as Arena, IsLawful as IsArena, IsSlotted}
+use Rattle.dom_model.proofs.Shedding.{count_of-shed, whole_stays}
+use Rattle.dom_model.proofs.Stands.{true_or_false}
+use Rattle.dom_model.proofs.Links.{parent_count}
+use Rattle.dom_model.proofs.Drop.{leaf_out}
+use Rattle.dom_model.proofs.Within.{within_self, within_child}
+use Rattle.node_arena.specs.declared.NodeRef.{NodeRef}
+use Rattle.node_arena.specs.Held.{DropsMade}
+use Rattle.live_range.specs.LivePoints.{LivePoints}
+use Rattle.live_range.specs.Names.{shown, IsOver}
+use Rattle.undo_log.specs.Turning.{back, inverses_back, FitsBack}
+use Rattle.undo_log.specs.Log.{Log, IsLog, Open, noted, is_open, is_resumed, abandoned}
+use Rattle.undo_log.specs.Log.Open.{Closed, Begun, Resumed}
+use Rattle.undo_log.specs.States.{start, start_with}
+use Rattle.forest_changes.specs.Change.{Change, IsForest, Fits, applied, turned}
+use Rattle.forest_changes.specs.Named.{Each, named_in}
+use Rattle.forest_changes.specs.Down.{Sheds, IsLeft}
+use Rattle.forest_changes.proofs.ChangeLists.{each_of}
+use Rattle.forest_changes.proofs.DownChange.{sheds_whole}
+use Rattle.forest_changes.proofs.Twice.{forest_of}
+use Rattle.edit_steps.specs.declared.step.Step.{Step}
+use Rattle.edit_steps.specs.Step.{changes_of, step_applied, step_turned, StepFits}
+use Rattle.edit_steps.proofs.StepLists.{go_back, back_fits}
+use Rattle.edit_model.specs.declared.settings.Setting.{Setting}
+use Rattle.edit_model.specs.declared.settings.Flags.{Flags}
+use Rattle.edit_model.specs.State.{State}
+use Rattle.edit_model.specs.Lawful.{IsPlaced}
+use Rattle.edit_model.specs.History.{document_of, History}
+use Rattle.edit_parts.specs.declared.Counts.{Counts}
+use Rattle.edit_doc.specs.declared.Doc.TheInside.{Inside}
+use Rattle.edit_doc.specs.declared.command.Beside.{Beside}
+use Rattle.edit_doc.specs.declared.command.Sides.{Sides}
+use Rattle.edit_doc.specs.declared.command.Command.{Command}
+use Rattle.edit_doc.specs.Fields.{IsEnded, ForgetsIn, Forgets}
+use Rattle.edit_doc.specs.Whole.{Whole, Began, state_rolled_back, rolled_to}
+use Rattle.edit_doc.specs.Held.{Holds, KeepsThere}
+use Rattle.edit_doc.specs.History.{forest_before, forest_after, is_hidden, view_at, begun_forest, state_of, begun_state, began_with, history_of, undo_entries, redo_entries, whole_of}
+use Rattle.edit_doc.specs.Sound.{RefIn, AreAlone, IsSide, IsBeside, IsIdle, IsRunning, OpenSound, UndoSound, RedoSound, left_of, next_first, IsSound}
+use Rattle.edit_doc.proofs.HiddenTrees.{le_false, le_true, true_le, false_le, document-shed, model_forest}
+use Rattle.edit_doc.proofs.Downs.{back_forest, back_bounded, forth_labels, back_labels, Bounded, KeepsLeft, EntriesLeft, side-shed, undo-shed, redo-shed, undo_entries-shed, redo_entries-shed}
+use Rattle.edit_doc.proofs.Inner.{seen, Ok}
+use Rattle.edit_doc.proofs.Laid.{undo_later, redo_later, next_first_low, undo_sides_length}
+use Rattle.edit_doc.proofs.Rests.{AtRest, rest_sound, rest_state, none_noted}
+
+-- ---- an entry's left trees
+
+-- an entry depends on the sides alone
+pub beside_of : (names : List (List ℕ)) (before after : Forest Content) (e : List Step) (ts : List Change) (b c : Beside) (left : List NodeRef) (high start : ℕ) →
+    b.sides ≡ c.sides → IsBeside names before after e ts b left high start → IsBeside names before after e ts c left high start
+beside_of names before after e ts b c left high start same h = record {
+  was = subst (λ (s : Sides). IsSide names before s.before s.nodes_before s.chars_before) same h.was;
+  is = subst (λ (s : Sides). IsSide names after s.after s.nodes_after s.chars_after) same h.is;
+  some_label = subst (λ (s : Sides). 0 < s.first_label) same h.some_label;
+  drawn = subst (λ (s : Sides). s.first_label ≤ high) same h.drawn;
+  known = h.known;
+  hidden = subst (λ (s : Sides). (l : ℕ) → is_hidden before s.first_label l ≡ true → 0 < times (tops after) l) same h.hidden;
+  names_seen = subst (λ (s : Sides). Each (IsLeft (is_hidden before s.first_label) before) (named_in (changes_of e))) same h.names_seen;
+  names_there = subst (λ (s : Sides). Each (IsLeft (is_hidden before s.first_label) after) (named_in (changes_of e))) same h.names_there;
+  names_old = h.names_old;
+  turns_old = h.turns_old;
+  left_loose = h.left_loose;
+}
+
+module _ (held : List (Option ℕ)) (names : List (List ℕ)) (c : Command) where
+  pub undo_forgets : (r : Bool) (high : ℕ) (f : Forest Content) (es : List (List Step)) (us new : List Beside) → ForgetsIn r us new (take c.left_before c.left.items) → UndoSound held names r c high f es us → UndoSound held names false c high f es new
+  undo_forgets false high f es us new e h = subst (λ bs. UndoSound held names false c high f es bs) (sym e) h
+  undo_forgets true high f es [] new e h = absurd e
+  undo_forgets true high f es (b ∷ bs) [] e h = absurd e
+  undo_forgets true high f [] (b ∷ bs) (b' ∷ bs') e h = absurd h
+  undo_forgets true high f (x ∷ es) (b ∷ bs) (b' ∷ bs') e h =
+      let ts = inverses_back applied turned (changes_of x) f in (
+        h.0,
+        (
+          beside_of names (forest_before x f) f x ts b b' b'.left.items high c.start (sym e.1.0) (subst (λ ls. IsBeside names (forest_before x f) f x ts b ls high c.start) (sym e.1.1) h.1.0),
+          subst (λ (s : Sides). UndoSound held names false c s.first_label (forest_before x f) es bs') (sym e.1.0) (subst (λ cs. UndoSound held names false c b.sides.first_label (forest_before x f) es cs) (sym e.0) h.1.1),
+        ),
+      )
+
+  pub entries_forget : (r : Bool) (f : Forest Content) (es : List (List Step)) (us new : List Beside) → ForgetsIn r us new (take c.left_before c.left.items) → undo_entries names f es new ≡ undo_entries names f es us
+  entries_forget false f es us new e = ap (undo_entries names f es) e
+  entries_forget true f es [] new e = absurd e
+  entries_forget true f es (b ∷ bs) [] e = absurd e
+  entries_forget true f [] (b ∷ bs) (b' ∷ bs') e = refl
+  entries_forget true f (x ∷ es) (b ∷ bs) (b' ∷ bs') e = λ i. record {
+    before = view_at names (forest_before x f) (e.1.0 i).before;
+    after = view_at names f (e.1.0 i).after;
+    edits = length x;
+  } ∷ undo_entries names (forest_before x f) es (e.0 i)
+
+-- ---- the running command
+
+pub run_of : (a : Arena) (points : LivePoints) (c : Command) (g : Forest Content) (o : Open Step) → IsTrue (is_open o) → OpenSound a points c g o → IsRunning a points.names c (noted o) g
+run_of a points c g Closed h r = absurd (let h' = h in cc)
+run_of a points c g (Begun xs) h r = r
+run_of a points c g (Resumed xs) h r = r
+
+pub started_at : (o : Open Step) (a : Arena) → IsTrue (is_open o) → start_with step_applied o a ≡ back step_applied (noted o) a
+started_at Closed a h = absurd (let h' = h in cc)
+started_at (Begun xs) a h = refl
+started_at (Resumed xs) a h = refl
+
+-- the steps of the history name only labels below the start
+module _ (k : ℕ → Bool) (f0 : Forest Content) (held : List (Option ℕ)) (names : List (List ℕ)) (c : Command) (stays : (l : ℕ) → l < c.start → 0 < count_of f0 l → IsLeft k f0 l) where
+  here_left : (f : Forest Content) → ((l : ℕ) → count_of f l ≡ count_of f0 l) → (j : ℕ → Bool) (high : ℕ) → high ≤ c.start → (ls : List ℕ) → Each (IsLeft j f) ls → Each (λ l. l < high) ls → Each (IsLeft k f0) ls
+  here_left f same j high known [] a b = tt
+  here_left f same j high known (l ∷ ls) a b =
+      (stays l (let lt = b.0 in omega (arith, lt, known)) (let s = same l in let here = a.0 in let le = count_of-shed j f l in omega (arith, s, here, le)), here_left f same j high known ls a.1 b.1)
+
+  pub undo_left : (r : Bool) (high : ℕ) (f : Forest Content) (es : List (List Step)) (bs : List Beside) → ((l : ℕ) → count_of f l ≡ count_of f0 l) → UndoSound held names r c high f es bs → EntriesLeft k f0 es
+  undo_left r high f [] bs same h = tt
+  undo_left r high f (e ∷ es) [] same h = absurd h
+  undo_left r high f (e ∷ es) (b ∷ bs) same h = (
+    here_left f same (is_hidden (forest_before e f) b.sides.first_label) high h.1.0.known (named_in (changes_of e)) h.1.0.names_there h.1.0.names_old,
+    undo_left false b.sides.first_label (forest_before e f) es bs (λ l. back_labels (changes_of e) f l h.0.0 ∙ same l) h.1.1,
+  )
+
+  pub redo_left : (f : Forest Content) (es : List (List Step)) (bs : List Beside) → ((l : ℕ) → count_of f l ≡ count_of f0 l) → RedoSound held names c f es bs → EntriesLeft k f0 es
+  redo_left f [] bs same h = tt
+  redo_left f (e ∷ es) [] same h = absurd h
+  redo_left f (e ∷ es) (b ∷ bs) same h = (
+    here_left f same (is_hidden f b.sides.first_label) (next_first c.start bs) h.1.0.known (named_in (changes_of e)) h.1.0.names_seen h.1.0.names_old,
+    redo_left (forest_after e f) es bs (λ l. forth_labels (changes_of e) f l h.0.0 ∙ same l) h.1.1,
+  )
+
+-- nodes that are alone are whole trees
+pub whole_alone : (g : Forest Content) (first next : ℕ) → IsDistinct g → ((l : ℕ) → 0 < count_of g l → l < next) → AreAlone g first next → IsWhole (nat_le first) g
+whole_alone g first next once below alone = record { same = same }
+  where
+    no_child : (l p : ℕ) → parent_of g l ≡ Some p → first ≤ p → ⊥
+    no_child l p e far =
+        let here = (parent_count g l p once e).1 in
+        let root = alone.loose p far (below p here) here in
+        let off : p ≡ l → ⊥ = (λ s. (let t = ap (parent_of g) s ∙ e in let u = sym root ∙ t in absurd (let u' : None ≡ Some p = u in cc))) in
+        let out = leaf_out g p once here root (alone.leaf p far (below p here) here) l off in
+        let inside = within_child g p once here l p e (within_self g p once here) in
+        omega (arith, out, inside)
+
+    no_parent : (l p : ℕ) → parent_of g l ≡ Some p → first ≤ l → ⊥
+    no_parent l p e far =
+        let here = (parent_count g l p once e).0 in
+        let root = alone.loose l far (below l here) here in
+        absurd (let u : None ≡ Some p = sym root ∙ e in cc)
+
+    same : (l p : ℕ) → parent_of g l ≡ Some p → nat_le first l ≡ nat_le first p
+    same l p e = elim (true_or_false (nat_le first l)) [
+      | inl a ↦ absurd (no_parent l p e (true_le first l a))
+      | inr a ↦ elim (true_or_false (nat_le first p)) [
+        | inl b ↦ absurd (no_child l p e (true_le first p b))
+        | inr b ↦ a ∙ sym b
+      ]
+    ]
+
+-- ---- what goes with the nodes that were made since
+
+-- The arena at the forest as the command began, or at one where it noted nothing, without what was made since. The labels
+-- may be drawn again from the start on, or stay spent.
+module _ (d : Inside) (law : IsArena d.arena) (ok : Ok d) (opened : IsTrue (is_open d.log.open_entry)) where
+  pub run : IsRunning d.arena d.points.names d.command (noted d.log.open_entry) (begun_forest d.log d.arena.trees)
+  run = run_of d.arena d.points d.command (begun_forest d.log d.arena.trees) d.log.open_entry opened ok.running
+
+  abbrev pub g : Forest Content
+  g = begun_forest d.log d.arena.trees
+
+  abbrev pub xs : List Step
+  xs = noted d.log.open_entry
+
+  abbrev pub k : ℕ → Bool
+  k l = nat_le d.command.start l
+
+  pub fits_of : IsSlotted d.arena → FitsBack step_applied StepFits xs d.arena
+  fits_of slotted = back_fits xs d.arena slotted run.can.1 run.can.0
+
+  pub forest_g : IsForest g
+  forest_g = back_forest (changes_of xs) d.arena.trees run.can.0 (forest_of d.arena law)
+
+  pub bound_g : Bounded g
+  bound_g = back_bounded xs d.arena.trees run.can.0 (record { next = d.arena.next; below = law.below })
+
+  below_g : (l : ℕ) → 0 < count_of g l → l < d.arena.next
+  below_g l here = law.below l (let s = back_labels (changes_of xs) d.arena.trees l run.can.0 in omega arith)
+
+  pub whole_g : IsWhole k g
+  whole_g = whole_alone g d.command.start d.arena.next forest_g.distinct below_g run.made
+
+  pub sheds_g : Sheds k g
+  sheds_g = sheds_whole k g forest_g (le_false d.command.start 0 ok.some_label) whole_g
+
+  stays_g : (l : ℕ) → l < d.command.start → 0 < count_of g l → IsLeft k g l
+  stays_g l low here = (let s = whole_stays k g forest_g.distinct whole_g l (le_false d.command.start l low) in omega (arith, s, here))
+
+  pub undo_left_g : EntriesLeft k g d.log.undo
+  undo_left_g = undo_left k g d.arena.held d.points.names d.command stays_g d.command.resumed (next_first d.command.start d.redo_sides.items) g d.log.undo d.undo_sides.items (λ l. refl) ok.undo
+
+  pub redo_left_g : EntriesLeft k g d.log.redo
+  redo_left_g = redo_left k g d.arena.held d.points.names d.command stays_g g d.log.redo d.redo_sides.items (λ l. refl) ok.redo
+
+  -- the arena without them
+  pub record Without (a : Arena) : Type 0 where
+    pub lawful : IsArena a
+    pub trees : a.trees ≡ shed k g
+    pub next : d.command.start ≤ a.next
+    pub cap : a.cap ≡ d.arena.cap
+    pub held : (q : NodeRef) → RefIn d.arena.held q → q.label < d.command.start → RefIn a.held q
+
+  -- the fields afterwards
+  module _ (a : Arena) (w : Without a) (us : List Beside) (forgets : Forgets d.undo_sides.items us d.command) (c : Command) (ended : IsEnded a.next c) (log : Log Step) (closed : log.open_entry ≡ Closed) (depth : log.depth ≡ d.log.depth) (undo_is : log.undo ≡ d.log.undo) (redo_is : log.redo ≡ d.log.redo) where
+    keeps : KeepsLeft k g d.arena.held a.held
+    keeps q h left = w.held q h (false_le d.command.start q.label (sheds_g.out q.label left))
+
+    start_le : d.command.start ≤ c.start
+    start_le = (let s = ended.start in let n = w.next in omega (arith, s, n))
+
+    abbrev high : ℕ
+    high = next_first d.command.start d.redo_sides.items
+
+    undo_sound : UndoSound a.held d.points.names false d.command high a.trees d.log.undo us
+    undo_sound =
+        subst (λ t. UndoSound a.held d.points.names false d.command high t d.log.undo us) (sym w.trees)
+        (undo_forgets a.held d.points.names d.command d.command.resumed high (shed k g) d.log.undo d.undo_sides.items us forgets
+        (undo-shed k d.arena.held a.held d.points.names d.command d.command.resumed high g d.log.undo d.undo_sides.items sheds_g forest_g bound_g keeps undo_left_g ok.undo))
+
+    redo_sound : RedoSound a.held d.points.names d.command a.trees d.log.redo d.redo_sides.items
+    redo_sound =
+        subst (λ t. RedoSound a.held d.points.names d.command t d.log.redo d.redo_sides.items) (sym w.trees)
+        (redo-shed k d.arena.held a.held d.points.names d.command g d.log.redo d.redo_sides.items sheds_g forest_g bound_g keeps redo_left_g ok.redo)
+
+    high_le : high ≤ next_first c.start d.redo_sides.items
+    high_le = by_case d.redo_sides.items
+      where
+        by_case : (bs : List Beside) → next_first d.command.start bs ≤ next_first c.start bs
+        by_case [] = start_le
+        by_case (b ∷ bs) = omega arith
+
+    high_known : next_first c.start d.redo_sides.items ≤ c.start
+    high_known = next_first_low a.held d.points.names c a.trees d.log.redo d.redo_sides.items (redo_later a.held d.points.names d.command c start_le a.trees d.log.redo d.redo_sides.items redo_sound)
+
+    pub without_rest : (points : LivePoints) (overrides : List Setting) (flags : Flags) (counts : Counts) →
+        points.names ≡ d.points.names → points.scratch ≡ None → IsPlaced a.trees points → length overrides ≡ 32 → counts.nodes ≡ node_count a.trees → counts.chars ≡ char_count a.trees →
+        AtRest a points overrides flags counts c log us d.redo_sides.items d.undo_sides.capacity d.redo_sides.capacity
+    without_rest points overrides flags counts names scratch placed settings nodes chars = record {
+      law = w.lawful;
+      closed = closed;
+      idle = record {
+        start = ended.start;
+        host = ended.host;
+        keeping = ended.keeping;
+        named = ended.named;
+        left = ended.left;
+        left_before = ended.left_before;
+        scratch = scratch;
+      };
+      resumed = ended.resumed;
+      placed = placed;
+      settings = settings;
+      nodes = nodes;
+      chars = chars;
+      undo = subst (λ es. UndoSound a.held points.names false c (next_first c.start d.redo_sides.items) a.trees es us) (sym undo_is)
+          (subst (λ ns. UndoSound a.held ns false c (next_first c.start d.redo_sides.items) a.trees d.log.undo us) (sym names)
+          (undo_later a.held d.points.names d.command c start_le high (next_first c.start d.redo_sides.items) a.trees d.log.undo us high_le high_known undo_sound));
+      redo = subst (λ es. RedoSound a.held points.names c a.trees es d.redo_sides.items) (sym redo_is)
+          (subst (λ ns. RedoSound a.held ns c a.trees d.log.redo d.redo_sides.items) (sym names)
+          (redo_later a.held d.points.names d.command c start_le a.trees d.log.redo d.redo_sides.items redo_sound));
+      us_room_is = ok.us_room_is ∙ sym depth;
+      rs_room_is = ok.rs_room_is ∙ sym depth;
+    }
+
+    pub without_history : (names : List (List ℕ)) → names ≡ d.points.names → history_of names a.trees log us d.redo_sides.items ≡ history_of d.points.names g d.log d.undo_sides.items d.redo_sides.items
+    without_history names same =
+        (λ i. record {
+          undo = undo_entries (same i) (w.trees i) (undo_is i) us;
+          redo = redo_entries (same i) (w.trees i) (redo_is i) d.redo_sides.items;
+          depth = depth i;
+        })
+        ∙ (λ i. record {
+          undo = (entries_forget a.held d.points.names d.command d.command.resumed (shed k g) d.log.undo d.undo_sides.items us forgets
+              ∙ undo_entries-shed k d.arena.held a.held d.points.names d.command d.command.resumed high g d.log.undo d.undo_sides.items sheds_g forest_g bound_g undo_left_g ok.undo) i;
+          redo = redo_entries-shed k d.arena.held a.held d.points.names d.command g d.log.redo d.redo_sides.items sheds_g forest_g bound_g redo_left_g ok.redo i;
+          depth = d.log.depth;
+        })
+
+  -- ---- roll_back
+
+  pub resumed_some : IsLog d.log → d.command.resumed ≡ true → 0 < length d.undo_sides.items
+  resumed_some log e =
+      let n = undo_sides_length d.arena.held d.points.names d.command d.command.resumed (next_first d.command.start d.redo_sides.items) g d.log.undo d.undo_sides.items ok.undo in
+      let more = (log.resumes_last (true_is (is_resumed d.log.open_entry) (sym ok.resumed ∙ e))).0 in
+      omega (arith, n, more)
+    where
+      true_is : (b : Bool) → b ≡ true → IsTrue b
+      true_is true e = refl
+      true_is false e = absurd (cc)
+
+  module _ (slotted : IsSlotted d.arena) (a1 : Arena) (abandons : a1 ≡ start step_applied d.log d.arena) where
+    pub back_is : a1 ≡ record d.arena { trees = g }
+    back_is = abandons ∙ (started_at d.log.open_entry d.arena opened ∙ (go_back xs d.arena (fits_of slotted)).state)
+
+    pub drop_whole : IsWhole k a1.trees
+    drop_whole = subst (λ (b : Arena). IsWhole k b.trees) (sym back_is) whole_g
+
+    module _ (a2 a3 : Arena) (drops : DropsMade a1 a2 d.command.start) (rewinds : a3 ≡ record a2 { next = d.command.start }) (lawful : IsArena a3) where
+      rolled : Without a3
+      rolled = record {
+        lawful = lawful;
+        trees = ap (λ (b : Arena). b.trees) rewinds ∙ (drops.trees ∙ ap (λ (b : Arena). shed k b.trees) back_is);
+        next = (let n = ap (λ (b : Arena). b.next) rewinds in omega (arith, n));
+        cap = ap (λ (b : Arena). b.cap) rewinds ∙ (drops.cap ∙ ap (λ (b : Arena). b.cap) back_is);
+        held = λ q h low. subst (λ (b : Arena). RefIn b.held q) (sym rewinds) ((drops.held q).1 (subst (λ (b : Arena). RefIn b.held q) (sym back_is) h, low));
+      }
+
+      module _ (us : List Beside) (forgets : Forgets d.undo_sides.items us d.command) (c : Command) (ended : IsEnded a3.next c) where
+        abbrev kept_points : LivePoints
+        kept_points = shown d.points.names d.command.kept.places
+
+        abbrev log' : Log Step
+        log' = abandoned d.log
+
+        resting : AtRest a3 kept_points d.command.kept.overrides.items d.command.kept.flags d.command.kept.counts c log' us d.redo_sides.items d.undo_sides.capacity d.redo_sides.capacity
+        resting =
+            let side = side-shed k sheds_g.document d.points.names g d.command.kept.places d.command.kept.counts.nodes d.command.kept.counts.chars forest_g bound_g run.kept in
+            without_rest a3 rolled us forgets c ended log' refl refl refl refl kept_points d.command.kept.overrides.items d.command.kept.flags d.command.kept.counts
+            refl side.resting
+            (subst (λ t. IsPlaced t kept_points) (sym rolled.trees) side.placed)
+            run.settings
+            (side.nodes_are ∙ ap node_count (sym rolled.trees))
+            (side.chars_are ∙ ap char_count (sym rolled.trees))
+
+        pub rolled_ok : IsSound a3 kept_points d.command.kept.overrides.items d.command.kept.flags d.command.kept.counts c log' us d.redo_sides.items d.undo_sides.capacity d.redo_sides.capacity
+        rolled_ok = rest_sound a3 kept_points d.command.kept.overrides.items d.command.kept.flags d.command.kept.counts c log' us d.redo_sides.items d.undo_sides.capacity d.redo_sides.capacity resting
+
+        begun_is : (o : Open Step) (s t : State) → IsTrue (is_open o) → t ≡ rolled_to s (began_with t o)
+        begun_is Closed s t h = absurd (let h' = h in cc)
+        begun_is (Begun ys) s t h = refl
+        begun_is (Resumed ys) s t h = refl
+
+        document_is : document_of a3.trees ≡ document_of g
+        document_is = ap document_of rolled.trees ∙ document-shed g bound_g.next (model_forest g forest_g bound_g.next bound_g.below) k sheds_g.document
+
+        next_is : a3.next ≡ d.command.start
+        next_is = ap (λ (b : Arena). b.next) rewinds
+
+        pub rolled_state : (v : Whole) → seen d ≡ v → state_of a3 kept_points d.command.kept.overrides.items d.command.kept.flags c log' ≡ state_rolled_back v
+        unfolding state_rolled_back
+        rolled_state v sees =
+            rest_state a3 kept_points d.command.kept.overrides.items d.command.kept.flags d.command.kept.counts c log' us d.redo_sides.items d.undo_sides.capacity d.redo_sides.capacity resting
+            ∙ ((λ i. record {
+              trees = document_is i;
+              points = kept_points;
+              overrides = d.command.kept.overrides.items;
+              flags = d.command.kept.flags;
+              next = next_is i;
+              cap = rolled.cap i;
+              start = next_is i;
+              host = None;
+              keeping = false;
+              edits = 0;
+            })
+            ∙ (begun_is d.log.open_entry (seen d).state (begun_state d.arena d.points.names d.command d.log) opened ∙ ap state_rolled_back sees))
+
+        pub rolled_history : (v : Whole) → seen d ≡ v → history_of d.points.names (begun_forest log' a3.trees) log' us d.redo_sides.items ≡ v.history
+        rolled_history v sees =
+            ap (λ f. history_of d.points.names f log' us d.redo_sides.items) (none_noted log' a3.trees refl)
+            ∙ (without_history a3 rolled us forgets c ended log' refl refl refl refl d.points.names refl ∙ ap (λ (w : Whole). w.history) sees)
+
+        by_left : (l : ℕ) → 0 < count_of a3.trees l → l < d.command.start
+        by_left l here = false_le d.command.start l (sheds_g.out l (subst (λ t. 0 < count_of t l) rolled.trees here))
+
+        abbrev rolled_whole : Whole
+        rolled_whole = whole_of a3 kept_points d.command.kept.overrides.items d.command.kept.flags c log' us d.redo_sides.items
+
+        pub rolled_keeps : (v : Whole) → seen d ≡ v → KeepsThere v rolled_whole
+        rolled_keeps v sees =
+            let own : KeepsThere (seen d) rolled_whole = (λ r h there. record {
+              slot = rolled.held r h.slot (by_left r.label (let le = count_of-shed (is_hidden (begun_forest log' a3.trees) c.start) a3.trees r.label in omega (arith, le, there)));
+              here = there;
+            }) in
+            subst (λ (w : Whole). KeepsThere w rolled_whole) sees own

@@ -1,0 +1,67 @@
+-- Room for one more tree that is left loose changes nothing that holds.
+use Rattle.std.proofs.Common.{◌≡◌, ℕ, ◌+◌, ◌<◌, ◌≤◌, Bool, true, false, List, [], ◌∷◌, length, take, drop, Option, Some, None, refl, sym, ap, subst, ◌∙◌, arith}
+use Rattle.dom_model.specs.declared.Content.{Content}
+use Rattle.dom_model.specs.Forest.{Forest, tops, times, count_of}
+use Rattle.dom_model.specs.Shed.{shed}
+use Rattle.dom_model.specs.State.{State as Arena}
+use Rattle.live_range.specs.Edit.{has_label}
+use Rattle.live_range.specs.LivePoints.{LivePoints}
+use Rattle.undo_log.specs.Log.{Log, Open, noted}
+use Rattle.undo_log.specs.Log.Open.{Closed, Begun, Resumed}
+use Rattle.forest_changes.specs.Named.{Each}
+use Rattle.edit_steps.specs.declared.step.Step.{Step}
+use Rattle.edit_model.specs.declared.settings.Setting.{Setting}
+use Rattle.edit_model.specs.declared.settings.Flags.{Flags}
+use Rattle.edit_model.specs.Gives.{labels_of}
+use Rattle.edit_parts.specs.declared.Counts.{Counts}
+use Rattle.edit_doc.specs.declared.command.Beside.{Beside}
+use Rattle.edit_doc.specs.declared.command.Command.{Command}
+use Rattle.edit_doc.specs.History.{begun_forest, is_hidden}
+use Rattle.edit_doc.specs.Sound.{IsRunning, OpenSound, IsSound, left_of, next_first}
+use Rattle.edit_doc.proofs.Changing.{undo_carried}
+use Rattle.edit_doc.proofs.Laid.{redo_later}
+
+module _ (c : Command) (l : _) (e : (record c { left = l }).left.items ≡ c.left.items) where
+  abbrev d : Command
+  d = record c { left = l }
+
+  left_same : (r : Bool) (b : Beside) → left_of r c b ≡ left_of r d b
+  left_same false b = refl
+  left_same true b = ap (take c.left_before) (sym e)
+
+  runs : (a : Arena) (names : List (List ℕ)) (xs : List Step) (g : Forest Content) → IsRunning a names c xs g → IsRunning a names d xs g
+  runs a names xs g r = record {
+    kept = r.kept;
+    settings = r.settings;
+    made = r.made;
+    can = r.can;
+    names_there = r.names_there;
+    marks = r.marks;
+    marked = r.marked;
+    marked_turned = r.marked_turned;
+    left_before = subst (λ ns. c.left_before ≤ length ns) (sym e) r.left_before;
+    left_seen = subst (λ ns. Each (λ m. 0 < count_of (shed (is_hidden g c.start) a.trees) m) (labels_of (drop c.left_before ns))) (sym e) r.left_seen;
+    loosened = λ m inner top. subst (λ ns. has_label (labels_of (drop c.left_before ns)) m ≡ true) (sym e) (r.loosened m inner top);
+  }
+
+  opens : (a : Arena) (points : LivePoints) (g : Forest Content) (o : Open Step) → OpenSound a points c g o → OpenSound a points d g o
+  opens a points g Closed h = record { start = h.start; host = h.host; keeping = h.keeping; named = h.named; left = e ∙ h.left; left_before = h.left_before; scratch = h.scratch }
+  opens a points g (Begun xs) h = runs a points.names (noted (Begun xs)) g h
+  opens a points g (Resumed xs) h = runs a points.names (noted (Resumed xs)) g h
+
+  pub room_made : (a : Arena) (points : LivePoints) (overrides : List Setting) (flags : Flags) (counts : Counts) (log : Log Step) (us rs : List Beside) (us_room rs_room : ℕ) →
+      IsSound a points overrides flags counts c log us rs us_room rs_room → IsSound a points overrides flags counts d log us rs us_room rs_room
+  room_made a points overrides flags counts log us rs us_room rs_room ok = record {
+    lawful = ok.lawful;
+    some_label = ok.some_label;
+    nodes = ok.nodes;
+    chars = ok.chars;
+    hidden = ok.hidden;
+    running = opens a points (begun_forest log a.trees) log.open_entry ok.running;
+    resumed = ok.resumed;
+    host = ok.host;
+    undo = undo_carried a.held points.names c d refl c.resumed (next_first c.start rs) (begun_forest log a.trees) log.undo us (left_same c.resumed) ok.undo;
+    redo = redo_later a.held points.names c d (omega arith) (begun_forest log a.trees) log.redo rs ok.redo;
+    us_room_is = ok.us_room_is;
+    rs_room_is = ok.rs_room_is;
+  }

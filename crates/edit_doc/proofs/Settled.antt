@@ -1,0 +1,45 @@
+-- Whether the active range changes is told alike by the arena's forest and by what is seen of it.
+use Rattle.std.proofs.Common.{◌≡◌, ℕ, ◌+◌, ◌<◌, ◌≤◌, Bool, true, false, cond, eqb, List, Option, Some, None, refl, sym, ap, subst, ◌∙◌, arith}
+use Rattle.std.specs.Prelude.{IfSome, if◌then◌else◌}
+use Rattle.dom_model.specs.declared.Content.{Content}
+use Rattle.dom_model.specs.Forest.{Forest, count_of, tree_of, IsDistinct}
+use Rattle.dom_model.specs.Shed.{shed}
+use Rattle.dom_model.proofs.Totals.{total-without}
+use Rattle.live_range.specs.declared.places.Point.{Point}
+use Rattle.live_range.specs.declared.places.Pair.{Pair}
+use Rattle.live_range.specs.LivePoints.{LivePoints}
+use Rattle.live_range.specs.ActiveRange.{range_changed}
+use Rattle.point_order.specs.PointOrder.{is_before, is_placed}
+use Rattle.edit_model.specs.declared.settings.Setting.{Setting}
+use Rattle.edit_model.specs.State.{State}
+use Rattle.edit_model.specs.Edit.{overrides_after}
+use Rattle.edit_model.specs.Lawful.{IsPlaced, IsPlacedPair}
+use Rattle.edit_model.specs.Overrides.{no_overrides}
+use Rattle.edit_model.proofs.Points.{placed_is}
+use Rattle.edit_parts.specs.Following.{settled}
+use Rattle.edit_doc.proofs.Ordered.{before-left}
+
+-- a point of what is left stands at a node that is left
+placed_left : (f : Forest Content) (p : Point) → is_placed f p ≡ true → 0 < count_of f p.label
+placed_left f p h = (let inside = (placed_is f p h).inside in omega (arith, inside, total-without (λ m _. cond (eqb m p.label) 1 0) f 0))
+
+module _ (k : ℕ → Bool) where
+  pair_order : (f : Forest Content) (p : Pair) → IsDistinct f → IsPlacedPair (shed k f) p → is_before (shed k f) p.focus p.anchor ≡ is_before f p.focus p.anchor
+  pair_order f p once h = before-left k f once p.focus p.anchor (placed_left (shed k f) p.focus h.focus) (placed_left (shed k f) p.anchor h.anchor)
+
+  pub range_seen : (f g : Forest Content) (o u : Option Pair) → IsDistinct f → IsDistinct g → IfSome o (IsPlacedPair (shed k f)) → IfSome u (IsPlacedPair (shed k g)) → range_changed (is_before (shed k f)) (is_before (shed k g)) o u ≡ range_changed (is_before f) (is_before g) o u
+  range_seen f g None None once once' h h' = refl
+  range_seen f g None (Some q) once once' h h' = refl
+  range_seen f g (Some p) None once once' h h' = refl
+  range_seen f g (Some p) (Some q) once once' h h' =
+      let a = pair_order f p once h in
+      let b = pair_order g q once' h' in
+      λ i. range_changed (λ _ _. a i) (λ _ _. b i) (Some p) (Some q)
+
+  -- what `settle` leaves is what the definitions say of what is seen
+  pub settled_seen : (f g : Forest Content) (s : State) (after : LivePoints) → IsDistinct f → IsDistinct g → s.trees ≡ shed k f → IsPlaced (shed k f) s.points → IsPlaced (shed k g) after → settled f s.points g after s.overrides ≡ overrides_after s (shed k g) after
+  unfolding overrides_after
+  settled_seen f g s after once once' trees was is =
+      ap (λ b. if b then no_overrides else s.overrides)
+      (sym (range_seen f g s.points.selection after.selection once once' was.selection is.selection)
+      ∙ ap (λ t. range_changed (is_before t) (is_before (shed k g)) s.points.selection after.selection) (sym trees))

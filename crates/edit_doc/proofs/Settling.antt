@@ -1,0 +1,97 @@
+-- Where the points stand after an edit that is made, and what settling the overrides writes.
+use Rattle.std.proofs.Common.{◌≡◌, ℕ, ◌+◌, ◌<◌, ◌≤◌, Bool, true, false, List, length, Option, Some, None, refl, sym, ap, subst, ◌∙◌, arith}
+use Rattle.std.specs.Prelude.{IsTrue, if◌then◌else◌}
+use Rattle.dom_model.specs.declared.Content.{Content}
+use Rattle.dom_model.specs.Forest.{Forest, count_of}
+use Rattle.dom_model.specs.Shed.{shed}
+use Rattle.dom_model.specs.State.{State as Arena, IsLawful as IsArena}
+use Rattle.live_range.specs.LivePoints.{LivePoints}
+use Rattle.live_range.specs.ActiveRange.{range_changed}
+use Rattle.point_order.specs.PointOrder.{is_before}
+use Rattle.undo_log.specs.Log.{is_open}
+use Rattle.forest_changes.specs.Change.{applied}
+use Rattle.forest_changes.specs.Named.{Each, named}
+use Rattle.forest_changes.specs.Down.{IsLeft, GoesDown}
+use Rattle.forest_changes.proofs.Twice.{IsForest-applied, count_of-applied}
+use Rattle.edit_steps.specs.declared.step.Step.{Step}
+use Rattle.edit_steps.specs.Step.{change_of, step_applied, StepFits}
+use Rattle.edit_model.specs.declared.settings.Setting.{Setting}
+use Rattle.edit_model.specs.Overrides.{no_overrides}
+use Rattle.edit_model.specs.Edit.{Edit, is_made_edit, trees_after, points_after, overrides_after}
+use Rattle.edit_model.specs.Lawful.{IsForest, IsPlaced}
+use Rattle.edit_model.proofs.Made.{made_placed}
+use Rattle.edit_parts.specs.declared.overrides.Watch.{Watch}
+use Rattle.edit_parts.specs.Following.{Watches, settled}
+use Rattle.edit_doc.specs.declared.Doc.TheInside.{Inside}
+use Rattle.edit_doc.specs.Whole.{Whole, IsOpen}
+use Rattle.edit_doc.proofs.Inner.{seen, seen as seen_of, Ok, open_of}
+use Rattle.edit_doc.proofs.SeenNodes.{out_of}
+use Rattle.edit_doc.proofs.Changing.{goes}
+use Rattle.edit_doc.proofs.HiddenTrees.{model_forest, placed-whole}
+use Rattle.edit_doc.proofs.Rests.{arena_forest}
+use Rattle.edit_doc.proofs.Settled.{settled_seen}
+
+none_set : length no_overrides ≡ 32
+unfolding no_overrides
+none_set = refl
+
+settled_length : (b : Bool) (list : List Setting) → length list ≡ 32 → length (if b then no_overrides else list) ≡ 32
+settled_length true list h = none_set
+settled_length false list h = h
+
+module _ (d : Inside) (law : IsArena d.arena) (ok : Ok d) where
+  pub points_now : IsPlaced d.arena.trees d.points
+  points_now = placed-whole d.arena.trees d.arena.next (arena_forest d.arena law) (out_of d) refl d.points ok.lawful.placed
+
+module _ (d : Inside) (v : Whole) (is : seen d ≡ v) (law : IsArena d.arena) (now_open : IsOpen v) (ok : Ok d)
+    (e : Edit) (x : Step) (fits : StepFits x d.arena) (left : Each (IsLeft (out_of d) d.arena.trees) (named (change_of x))) (may : is_made_edit e v.state ≡ true)
+    (trees : applied (change_of x) (shed (out_of d) d.arena.trees) ≡ trees_after e (shed (out_of d) d.arena.trees)) where
+  abbrev f : Forest Content
+  f = d.arena.trees
+
+  abbrev g : Forest Content
+  g = applied (change_of x) d.arena.trees
+
+  abbrev after : LivePoints
+  after = points_after e (shed (out_of d) d.arena.trees) d.points
+
+  down : GoesDown (out_of d) (change_of x) d.arena.trees
+  down = goes d.arena d.points d.overrides.items d.flags d.counts d.command d.log d.undo_sides.items d.redo_sides.items d.undo_sides.capacity d.redo_sides.capacity law (open_of d v is now_open) ok x fits left
+
+  shed_is : shed (out_of d) g ≡ trees_after e (shed (out_of d) f)
+  shed_is = down.same ∙ trees
+
+  may_seen : is_made_edit e (seen_of d).state ≡ true
+  may_seen = subst (λ (w : Whole). is_made_edit e w.state ≡ true) (sym is) may
+
+  placed_seen : IsPlaced (shed (out_of d) g) after
+  placed_seen = subst (λ t. IsPlaced t after) (sym shed_is) (made_placed e (seen_of d).state ok.lawful may_seen)
+
+  forest_next : IsForest g d.arena.next
+  forest_next = model_forest g (IsForest-applied (change_of x) f fits.fits) d.arena.next (λ l h. law.below l (let same = count_of-applied (change_of x) f fits.fits l in omega (arith, h, same)))
+
+  pub points_next : IsPlaced g after
+  points_next = placed-whole g d.arena.next forest_next (out_of d) refl after placed_seen
+
+  abbrev pub overrides_next : List Setting
+  overrides_next = settled d.arena.trees d.points (applied (change_of x) d.arena.trees) (points_after e (shed (out_of d) d.arena.trees) d.points) d.overrides.items
+
+  pub overrides_are : overrides_next ≡ overrides_after (seen_of d).state (trees_after e (shed (out_of d) f)) after
+  overrides_are =
+      settled_seen (out_of d) f g (seen_of d).state after law.distinct forest_next.distinct refl ok.lawful.placed placed_seen
+      ∙ ap (λ t. overrides_after (seen_of d).state t after) shed_is
+
+  pub overrides_length : length overrides_next ≡ 32
+  overrides_length = settled_length (range_changed (is_before f) (is_before g) d.points.selection after.selection) d.overrides.items ok.lawful.settings
+
+  -- what settling writes
+  pub settled_items : (new before old : List Setting) (n : LivePoints) (a : Arena) (w : Option Watch) → n ≡ after → a ≡ step_applied x d.arena → before ≡ d.overrides.items → old ≡ d.overrides.items →
+      Watches d.arena.trees d.points before w → ((h : Forest Content) (b : LivePoints) → Watches h b old w → new ≡ settled h b a.trees n old) → new ≡ overrides_next
+  unfolding step_applied
+  settled_items new before old n a w en ea eb eo watches settles =
+      settles f d.points (subst (λ xs. Watches f d.points xs w) (eb ∙ sym eo) watches)
+      ∙ (λ i. settled f d.points (ea i).trees (en i) (eo i))
+
+  pub placed_called : (n : LivePoints) (a : Arena) → n ≡ after → a ≡ step_applied x d.arena → IsPlaced a.trees n
+  unfolding step_applied
+  placed_called n a en ea = subst (λ (b : Arena). IsPlaced b.trees n) (sym ea) (subst (IsPlaced g) (sym en) points_next)

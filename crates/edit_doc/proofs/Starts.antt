@@ -1,0 +1,89 @@
+-- A new document.
+use Rattle.std.proofs.Common.{◌≡◌, ℕ, ◌<◌, false, List, [], ◌∷◌, length, Option, None, refl, sym, ap, subst, ◌∙◌, arith}
+use Rattle.dom_model.specs.declared.Content.{Content}
+use Rattle.dom_model.specs.Document.{node_count, char_count}
+use Rattle.dom_model.specs.Forest.{Forest, tops}
+use Rattle.dom_model.specs.Forest.Forest.{Nil, Tree}
+use Rattle.dom_model.specs.State.{State as Arena, IsLawful as IsArena}
+use Rattle.live_range.specs.LivePoints.{LivePoints, no_points}
+use Rattle.undo_log.specs.Log.{Log, empty}
+use Rattle.edit_steps.specs.declared.step.Step.{Step}
+use Rattle.edit_model.specs.declared.settings.Flags.{Flags}
+use Rattle.edit_model.specs.Lawful.{IsForest, IsPlacedPair}
+use Rattle.std.proofs.lemmas.List.Elements.{All-nil}
+use Rattle.edit_model.specs.History.{document_of}
+use Rattle.edit_model.specs.Overrides.{no_overrides}
+use Rattle.edit_model.proofs.Documents.{document_shape}
+use Rattle.edit_parts.specs.declared.Counts.{Counts}
+use Rattle.edit_doc.specs.declared.command.Command.{Command}
+use Rattle.edit_doc.specs.Fields.{IsEnded}
+use Rattle.edit_doc.specs.Whole.{Whole, HasNoLoose, first_doc, first_state}
+use Rattle.edit_doc.specs.History.{whole_of}
+use Rattle.edit_doc.specs.Sound.{IsSound}
+use Rattle.edit_doc.proofs.Rests.{AtRest, rest_sound, rest_whole, arena_forest}
+use Rattle.edit_doc.proofs.Turnings.{unset_length}
+
+alone_is : (f : Forest Content) (next : ℕ) → IsForest f next → tops f ≡ 0 ∷ [] → document_of f ≡ f
+alone_is f next is h =
+    let d = document_shape f next is in
+    let e : tops (Tree 0 d.0 d.1 d.2) ≡ 0 ∷ [] = subst (λ g. tops g ≡ 0 ∷ []) d.3 h in
+    subst (λ g. document_of g ≡ g) (sym d.3) (ap (Tree 0 d.0 d.1) (none d.2 (ap length e)))
+  where
+    none : (g : Forest Content) → length (0 ∷ tops g) ≡ 1 → Nil ≡ g
+    none Nil e = refl
+    none (Tree m c ks rest) e = absurd (omega (arith, e))
+
+module _ (a : Arena) (law : IsArena a) (loose : HasNoLoose a) (depth : ℕ) (counts : Counts) (nodes : counts.nodes ≡ node_count a.trees) (chars : counts.chars ≡ char_count a.trees) (c : Command) (ended : IsEnded a.next c) where
+  abbrev flags : Flags
+  flags = record { css_styling = false; paragraphs = false }
+
+  abbrev log : Log Step
+  log = empty depth
+
+  fresh : AtRest a no_points no_overrides flags counts c log [] [] depth depth
+  fresh = record {
+    law = law;
+    closed = refl;
+    idle = record {
+      start = ended.start;
+      host = ended.host;
+      keeping = ended.keeping;
+      named = ended.named;
+      left = ended.left;
+      left_before = ended.left_before;
+      scratch = refl;
+    };
+    resumed = ended.resumed;
+    placed = record { selection = tt; scratch = tt; marks = All-nil (λ m. IsPlacedPair a.trees m.1) };
+    settings = unset_length;
+    nodes = nodes;
+    chars = chars;
+    undo = tt;
+    redo = tt;
+    us_room_is = refl;
+    rs_room_is = refl;
+  }
+
+  pub new_ok : IsSound a no_points no_overrides flags counts c log [] [] depth depth
+  new_ok = rest_sound a no_points no_overrides flags counts c log [] [] depth depth fresh
+
+  pub new_is : whole_of a no_points no_overrides flags c log [] [] ≡ first_doc a depth
+  unfolding first_doc first_state
+  new_is = rest_whole a no_points no_overrides flags counts c log [] [] depth depth fresh
+      ∙ (λ i. record {
+        state = record {
+          trees = alone_is a.trees a.next (arena_forest a law) loose i;
+          points = no_points;
+          overrides = no_overrides;
+          flags = flags;
+          next = a.next;
+          cap = a.cap;
+          start = a.next;
+          host = None;
+          keeping = false;
+          edits = 0;
+        };
+        history = record { undo = []; redo = []; depth = depth };
+        began = None;
+        held = a.held;
+      })

@@ -1,0 +1,74 @@
+-- What the fields of a document tell of it as a whole.
+use Rattle.std.proofs.Common.{◌≡◌, ℕ, ◌<◌, ◌≤◌, Bool, true, false, length, Option, Some, None, IfSome, refl, sym, ap, subst, ◌∙◌, arith}
+use Rattle.dom_model.specs.declared.Content.{Content}
+use Rattle.dom_model.specs.Document.{node_count, char_count}
+use Rattle.dom_model.specs.Forest.{Forest, tree_of}
+use Rattle.dom_model.specs.Forest.Forest.{Nil, Tree}
+use Rattle.dom_model.specs.State.{IsLawful as IsArena}
+use Rattle.live_range.specs.LivePoints.{LivePoints}
+use Rattle.undo_log.specs.Log.{IsLog}
+use Rattle.node_arena.specs.declared.NodeRef.{NodeRef}
+use Rattle.node_arena.specs.Held.{Holds as HoldsNode}
+use Rattle.edit_model.specs.Lawful.{IsForest}
+use Rattle.edit_model.specs.Gives.{label_of}
+use Rattle.edit_model.specs.State.{State}
+use Rattle.edit_model.specs.History.{document_of, rested}
+use Rattle.edit_model.proofs.Documents.{document_shape}
+use Rattle.edit_doc.specs.declared.Doc.TheInside.{Inside}
+use Rattle.edit_doc.specs.Whole.{Whole, IsClosed, IsDoc}
+use Rattle.edit_doc.specs.Held.{Holds, Finds, IfHeld, IsPart}
+use Rattle.edit_doc.specs.Sound.{RefIn}
+use Rattle.edit_doc.proofs.HiddenTrees.{node_count-shed, char_count-shed, document_here}
+use Rattle.edit_doc.proofs.Inner.{seen, Ok, closed_of}
+use Rattle.edit_doc.proofs.Laid.{undo_count}
+use Rattle.edit_doc.proofs.Rests.{AtRest, arena_forest, rested_state, rest_state, rest_of}
+use Rattle.edit_doc.proofs.SeenNodes.{out_of, IsSeen}
+
+-- the document of a document
+document_twice : (f : Forest Content) (next : ℕ) → IsForest f next → document_of (document_of f) ≡ document_of f
+document_twice f next is = let s = document_shape f next is in subst (λ g. tree_of (tree_of g 0) 0 ≡ tree_of g 0) (sym s.3) refl
+
+no_scratch : (p : LivePoints) → p.scratch ≡ None → record p { scratch = None } ≡ p
+no_scratch p e = λ i. record p { scratch = sym e i }
+
+module _ (d : Inside) (law : IsArena d.arena) (ok : Ok d) where
+  at_rest : IsClosed (seen d) → rested (seen d).state ≡ (seen d).state
+  unfolding rested rested_state
+  at_rest closed =
+      let rest = rest_of d.arena d.points d.overrides.items d.flags d.counts d.command d.log d.undo_sides.items d.redo_sides.items d.undo_sides.capacity d.redo_sides.capacity law (closed_of d (seen d) refl closed) ok in
+      let e = rest_state d.arena d.points d.overrides.items d.flags d.counts d.command d.log d.undo_sides.items d.redo_sides.items d.undo_sides.capacity d.redo_sides.capacity rest in
+      ap rested e ∙ ((λ i. record (rested_state d.arena d.points d.overrides.items d.flags) {
+        trees = document_twice d.arena.trees d.arena.next (arena_forest d.arena law) i;
+        points = no_scratch d.points rest.idle.scratch i;
+      }) ∙ sym e)
+
+  pub is_doc : IsLog d.log → (v : Whole) → seen d ≡ v → IsDoc v
+  is_doc log v is = subst IsDoc is (record {
+    lawful = ok.lawful;
+    capped = law.capped;
+    resting = at_rest;
+    some_depth = log.some_depth;
+    within = (let n = undo_count d (seen d) refl ok in let w = log.within in omega (arith, n, w));
+  })
+
+  pub part_is : (v : Whole) → seen d ≡ v → IsPart v.state.trees d.arena.trees
+  part_is v is = subst (λ (w : Whole). IsPart w.state.trees d.arena.trees) is (record { left_out = out_of d; not_document = refl; is = refl })
+
+  pub nodes_are : (v : Whole) → seen d ≡ v → d.counts.nodes ≡ node_count v.state.trees
+  nodes_are v is = subst (λ (w : Whole). d.counts.nodes ≡ node_count w.state.trees) is (ok.nodes ∙ sym (node_count-shed d.arena.trees d.arena.next (arena_forest d.arena law) (out_of d) refl))
+
+  pub chars_are : (v : Whole) → seen d ≡ v → d.counts.chars ≡ char_count v.state.trees
+  chars_are v is = subst (λ (w : Whole). d.counts.chars ≡ char_count w.state.trees) is (ok.chars ∙ sym (char_count-shed d.arena.trees d.arena.next (arena_forest d.arena law) (out_of d) refl))
+
+  pub document_held : (v : Whole) → seen d ≡ v → (r : NodeRef) → r.label ≡ 0 → HoldsNode d.arena r → Holds v r
+  document_held v is r e held = subst (λ w. Holds w r) is (record {
+    slot = held;
+    here = subst (IsSeen d) (sym e) (document_here d.arena.trees d.arena.next (arena_forest d.arena law) (out_of d) refl);
+  })
+
+  host_held : (o : Option NodeRef) → IfSome o (λ h. RefIn d.arena.held h × IsSeen d h.label) → IfHeld (seen d) o
+  host_held None h = tt
+  host_held (Some r) h = record { slot = h.0; here = h.1 }
+
+  pub host_is : (v : Whole) → seen d ≡ v → Finds v d.command.host v.state.host
+  host_is v is = subst (λ (w : Whole). Finds w d.command.host w.state.host) is (record { is = refl; held = host_held d.command.host ok.host })

@@ -1,0 +1,87 @@
+-- What calls do to the fields of a running command and of what stands beside entries. No public clause cites this module.
+use Rattle.std.specs.Prelude.{◌≡◌, ℕ, ◌+◌, ◌≤◌, if◌then◌else◌, Bool, true, false, ◌||◌, nat_le, List, [], ◌∷◌, length, take, drop, Option, None}
+use Rattle.live_range.specs.declared.places.Places.{Places}
+use Rattle.live_range.specs.LivePoints.{LivePoints}
+use Rattle.live_range.specs.Edit.{has_label}
+use Rattle.live_range.specs.Names.{shown, IsOver}
+use Rattle.node_arena.specs.declared.NodeRef.{NodeRef}
+use Rattle.edit_model.specs.declared.settings.Setting.{Setting}
+use Rattle.edit_model.specs.declared.settings.Flags.{Flags}
+use Rattle.edit_model.specs.Gives.{labels_of}
+use Rattle.edit_parts.specs.declared.Counts.{Counts}
+use Rattle.edit_doc.specs.declared.command.Beside.{Beside}
+use Rattle.edit_doc.specs.declared.command.Sides.{Sides}
+use Rattle.edit_doc.specs.declared.command.Kept.{Kept}
+use Rattle.edit_doc.specs.declared.command.Command.{Command}
+
+-- what a command keeps as it begins
+pub record IsKept (points : LivePoints) (overrides : List Setting) (flags : Flags) (counts : Counts) (k : Kept) : Type 0 where
+  pub shown : shown points.names k.places ≡ points
+  pub over : IsOver points.names k.places
+  pub overrides_are : k.overrides.items ≡ overrides
+  pub flags_are : k.flags ≡ flags
+  pub counts_are : k.counts ≡ counts
+
+-- nothing of a command is there
+pub record IsEnded (next : ℕ) (c : Command) : Type 0 where
+  pub start : c.start ≡ next
+  pub host : c.host ≡ None
+  pub keeping : c.keeping ≡ false
+  pub resumed : c.resumed ≡ false
+  pub named : c.named.items ≡ []
+  pub left : c.left.items ≡ []
+  pub left_before : c.left_before ≡ 0
+
+-- the places of all points but the scratch pair
+pub record AreResting (points : LivePoints) (p : Places) : Type 0 where
+  pub shown : shown points.names p ≡ record points { scratch = None }
+  pub over : IsOver points.names p
+  pub resting : p.scratch ≡ None
+
+-- the left trees of the first entry and those of the command are exchanged
+abbrev pub SwapsLeft : List Beside → List Beside → Command → Command → Type 0
+SwapsLeft [] us c d = ⊥
+SwapsLeft (b ∷ bs) us c d = (us ≡ record b { left = c.left } ∷ bs) × (d ≡ record c { left = b.left })
+
+-- what the command left is forgotten, and a resumed entry has its left trees again
+abbrev pub ForgetsIn : Bool → List Beside → List Beside → List NodeRef → Type 0
+ForgetsIn false us new ls = new ≡ us
+ForgetsIn true [] new ls = ⊥
+ForgetsIn true (b ∷ bs) [] ls = ⊥
+ForgetsIn true (b ∷ bs) (b' ∷ bs') ls = (bs' ≡ bs) × ((b'.sides ≡ b.sides) × (b'.left.items ≡ ls))
+
+abbrev pub Forgets : List Beside → List Beside → Command → Type 0
+Forgets us new c = ForgetsIn c.resumed us new (take c.left_before c.left.items)
+
+-- the command made the node of the label, or loosened its tree
+abbrev pub has_loosened : Command → ℕ → Bool
+has_loosened c l = nat_le c.start l || has_label (labels_of (drop c.left_before c.left.items)) l
+
+-- the sides of an entry that a command makes, and of one that it joins
+abbrev pub made_sides : Command → Places → Counts → Sides
+made_sides c p counts = record {
+  before = c.kept.places;
+  after = p;
+  first_label = c.start;
+  nodes_before = c.kept.counts.nodes;
+  nodes_after = counts.nodes;
+  chars_before = c.kept.counts.chars;
+  chars_after = counts.chars;
+}
+
+abbrev pub joined_sides : Sides → Places → Counts → Sides
+joined_sides s p counts = record s { after = p; nodes_after = counts.nodes; chars_after = counts.chars }
+
+-- the command's entry is the first, in place of the one that it resumed
+abbrev pub EntersIn : Bool → Sides → Places → Counts → ℕ → List Beside → List Beside → Type 0
+EntersIn false s p counts room us new = (b : Beside) × (b.sides ≡ s) × (b.left.items ≡ []) × (new ≡ take room (b ∷ us))
+EntersIn true s p counts room [] new = ⊥
+EntersIn true s p counts room (b ∷ bs) [] = ⊥
+EntersIn true s p counts room (b ∷ bs) (b' ∷ bs') = (bs' ≡ bs) × ((b'.sides ≡ joined_sides b.sides p counts) × (b'.left.items ≡ []))
+
+abbrev pub Enters : Command → Places → Counts → ℕ → List Beside → List Beside → Type 0
+Enters c p counts room us new = EntersIn c.resumed (made_sides c p counts) p counts room us new
+
+-- a number of the document, with that of a tree if that comes into it
+abbrev pub with_more : Bool → ℕ → ℕ → ℕ
+with_more enters n more = if enters then n + more else n

@@ -1,0 +1,126 @@
+-- How the fields of a document under edits give its state and its history. No public clause cites this module.
+--
+-- The history is computed: undoing the noted steps of the open entry gives the forest as the command began, and from there
+-- undoing, or redoing, an entry at a time gives the forest at each kept place of the history.
+use Rattle.std.specs.Prelude.{ℕ, ◌<◌, Bool, false, true, ◌&&◌, nat_lt, List, [], ◌∷◌, length, map, Option, Some, None}
+use Rattle.dom_model.specs.declared.Content.{Content}
+use Rattle.dom_model.specs.Forest.{Forest, tops, times}
+use Rattle.dom_model.specs.Shed.{shed}
+use Rattle.dom_model.specs.State.{State as Arena}
+use Rattle.live_range.specs.declared.places.Places.{Places}
+use Rattle.live_range.specs.LivePoints.{LivePoints}
+use Rattle.live_range.specs.Names.{shown, named, marks_of}
+use Rattle.undo_log.specs.Turning.{back, forth}
+use Rattle.undo_log.specs.Log.{Log, Open, noted}
+use Rattle.undo_log.specs.Log.Open.{Closed, Begun, Resumed}
+use Rattle.forest_changes.specs.Change.{applied}
+use Rattle.edit_steps.specs.declared.step.Step.{Step}
+use Rattle.edit_steps.specs.Step.{changes_of}
+use Rattle.edit_model.specs.declared.settings.Setting.{Setting}
+use Rattle.edit_model.specs.declared.settings.Flags.{Flags}
+use Rattle.edit_model.specs.State.{State}
+use Rattle.edit_model.specs.Gives.{label_of}
+use Rattle.edit_model.specs.History.{View, Entry, History, document_of}
+use Rattle.edit_doc.specs.declared.command.Beside.{Beside}
+use Rattle.edit_doc.specs.declared.command.Kept.{Kept}
+use Rattle.edit_doc.specs.declared.command.Command.{Command}
+use Rattle.edit_doc.specs.Whole.{Began, Whole}
+
+-- the forest before the edits that the steps take back, and after the edits that they make again
+abbrev pub forest_before : List Step → Forest Content → Forest Content
+forest_before xs f = back applied (changes_of xs) f
+
+abbrev pub forest_after : List Step → Forest Content → Forest Content
+forest_after xs f = forth applied (changes_of xs) f
+
+-- the forest as the running command began, with the nodes that it made since, each alone in a loose tree; without a
+-- command, the forest itself
+abbrev pub begun_forest : Log Step → Forest Content → Forest Content
+begun_forest log f = forest_before (noted log.open_entry) f
+
+-- The trees that the definitions don't see: those that were loose as the command began. Outside commands these are all
+-- loose trees, since `start` is the next label then.
+abbrev pub is_hidden : Forest Content → ℕ → ℕ → Bool
+is_hidden g start l = nat_lt 0 l && (nat_lt l start && nat_lt 0 (times (tops g) l))
+
+abbrev pub seen_trees : Log Step → ℕ → Forest Content → Forest Content
+seen_trees log start f = shed (is_hidden (begun_forest log f) start) f
+
+-- ---- the state
+
+abbrev pub state_of : Arena → LivePoints → List Setting → Flags → Command → Log Step → State
+state_of a points overrides flags c log = record {
+  trees = seen_trees log c.start a.trees;
+  points = points;
+  overrides = overrides;
+  flags = flags;
+  next = a.next;
+  cap = a.cap;
+  start = c.start;
+  host = label_of c.host;
+  keeping = c.keeping;
+  edits = length (noted log.open_entry);
+}
+
+-- the state as the running command began
+abbrev pub begun_state : Arena → List (List ℕ) → Command → Log Step → State
+begun_state a names c log = record {
+  trees = document_of (begun_forest log a.trees);
+  points = shown names c.kept.places;
+  overrides = c.kept.overrides.items;
+  flags = c.kept.flags;
+  next = c.start;
+  cap = a.cap;
+  start = c.start;
+  host = None;
+  keeping = false;
+  edits = 0;
+}
+
+abbrev pub began_with : State → Open Step → Option Began
+began_with s Closed = None
+began_with s (Begun xs) = Some (record { state = s; resumed = false })
+began_with s (Resumed xs) = Some (record { state = s; resumed = true })
+
+-- ---- the history
+
+abbrev pub view_at : List (List ℕ) → Forest Content → Places → View
+view_at names f p = record { document = document_of f; selection = p.selection; marks = map (named names) (marks_of p) }
+
+-- the entries that undo would take from the forest on, and redo
+abbrev pub undo_entries : List (List ℕ) → Forest Content → List (List Step) → List Beside → List Entry
+undo_entries names f [] bs = []
+undo_entries names f (e ∷ es) [] = []
+undo_entries names f (e ∷ es) (b ∷ bs) =
+    record {
+      before = view_at names (forest_before e f) b.sides.before;
+      after = view_at names f b.sides.after;
+      edits = length e;
+    } ∷ undo_entries names (forest_before e f) es bs
+
+abbrev pub redo_entries : List (List ℕ) → Forest Content → List (List Step) → List Beside → List Entry
+redo_entries names f [] bs = []
+redo_entries names f (e ∷ es) [] = []
+redo_entries names f (e ∷ es) (b ∷ bs) =
+    record {
+      before = view_at names f b.sides.before;
+      after = view_at names (forest_after e f) b.sides.after;
+      edits = length e;
+    } ∷ redo_entries names (forest_after e f) es bs
+
+abbrev pub history_of : List (List ℕ) → Forest Content → Log Step → List Beside → List Beside → History
+history_of names f log us rs = record {
+  undo = undo_entries names f log.undo us;
+  redo = redo_entries names f log.redo rs;
+  depth = log.depth;
+}
+
+-- ---- the document
+
+abbrev pub whole_of : Arena → LivePoints → List Setting → Flags → Command → Log Step → List Beside → List Beside → Whole
+whole_of a points overrides flags c log us rs = record {
+  state = state_of a points overrides flags c log;
+  history = history_of points.names (begun_forest log a.trees) log us rs;
+  began = began_with (begun_state a points.names c log) log.open_entry;
+  held = a.held;
+}

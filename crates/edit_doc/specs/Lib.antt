@@ -1,0 +1,7 @@
+pub mod Whole
+pub mod Held
+pub mod WholeCode
+pub mod History
+pub mod Sound
+pub mod Fields
+pub mod Marks

@@ -1,0 +1,30 @@
+-- Which nodes of the running command its edits name. No public clause cites this module.
+use Rattle.std.specs.Prelude.{◌≡◌, ℕ, ◌+◌, ◌-◌, ◌<◌, ◌≤◌, false, true, List, [], ◌∷◌, ◌++◌, length, Option, slice_index_or}
+use Rattle.node_arena.specs.declared.NodeRef.{NodeRef}
+use Rattle.forest_changes.specs.Named.{Each, listed}
+use Rattle.edit_model.specs.Gives.{label_of}
+use Rattle.edit_doc.specs.declared.command.Command.{Command}
+
+-- the labels of a node and a place
+abbrev pub place_labels : NodeRef → NodeRef → Option NodeRef → List ℕ
+place_labels node parent before = node.label ∷ parent.label ∷ listed (label_of before)
+
+-- the command has a mark for each of the labels that it drew
+abbrev pub AreMarkable : Command → List ℕ → Type 0
+AreMarkable c ls = Each (λ l. l < c.start + length c.named.items) ls
+
+abbrev pub IsMarked : Command → ℕ → Type 0
+IsMarked c l = c.start ≤ l → slice_index_or c.named.items (l - c.start) false ≡ true
+
+-- each of the labels that the command drew is marked, and all else is as it was
+pub record Marks (ls : List ℕ) (old new : Command) : Type 0 where
+  pub rest : record new { named = old.named } ≡ old
+  pub count : length new.named.items ≡ length old.named.items
+  pub marked : Each (IsMarked new) ls
+  pub stay : (l : ℕ) → IsMarked old l → IsMarked new l
+
+-- there is one more mark, which isn't set, and one more tree was left
+pub record NotesMade (node : NodeRef) (old new : Command) : Type 0 where
+  pub rest : record new { named = old.named; left = old.left } ≡ old
+  pub named : new.named.items ≡ old.named.items ++ false ∷ []
+  pub left : new.left.items ≡ old.left.items ++ node ∷ []

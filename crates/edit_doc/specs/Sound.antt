@@ -1,0 +1,155 @@
+-- What holds of the fields of every document under edits. No public clause cites this module.
+use Rattle.std.specs.Prelude.{◌≡◌, ℕ, ◌+◌, ◌-◌, ◌<◌, ◌≤◌, Bool, false, true, List, [], ◌∷◌, length, take, drop, Option, Some, None, IfSome, slice_index_or}
+use Rattle.dom_model.specs.declared.Content.{Content}
+use Rattle.dom_model.specs.Document.{node_count, char_count}
+use Rattle.dom_model.specs.Forest.{Forest, tops, times, count_of, parent_of, first_of}
+use Rattle.dom_model.specs.Shed.{shed}
+use Rattle.dom_model.specs.State.{State as Arena}
+use Rattle.live_range.specs.declared.places.Places.{Places}
+use Rattle.live_range.specs.LivePoints.{LivePoints}
+use Rattle.live_range.specs.Edit.{has_label}
+use Rattle.live_range.specs.Names.{shown, IsOver}
+use Rattle.undo_log.specs.Turning.{inverses_back, inverses_forth, FitsBack, FitsForth}
+use Rattle.undo_log.specs.Log.{Log, Open, noted, is_resumed}
+use Rattle.undo_log.specs.Log.Open.{Closed}
+use Rattle.node_arena.specs.declared.NodeRef.{NodeRef}
+use Rattle.forest_changes.specs.Change.{Change, Fits, applied, turned}
+use Rattle.forest_changes.specs.Named.{Each, named_in}
+use Rattle.forest_changes.specs.Down.{IsLeft}
+use Rattle.edit_steps.specs.declared.step.Step.{Step}
+use Rattle.edit_steps.specs.Step.{changes_of, nodes_in}
+use Rattle.edit_model.specs.declared.settings.Setting.{Setting}
+use Rattle.edit_model.specs.declared.settings.Flags.{Flags}
+use Rattle.edit_model.specs.Gives.{labels_of}
+use Rattle.edit_model.specs.Lawful.{IsLawful, IsPlaced}
+use Rattle.edit_parts.specs.declared.Counts.{Counts}
+use Rattle.edit_doc.specs.declared.command.Beside.{Beside}
+use Rattle.edit_doc.specs.declared.command.Kept.{Kept}
+use Rattle.edit_doc.specs.declared.command.Command.{Command}
+use Rattle.edit_doc.specs.Marks.{IsMarked}
+use Rattle.edit_doc.specs.History.{forest_before, forest_after, begun_forest, is_hidden, seen_trees, state_of}
+
+-- ---- steps over forests
+
+-- the slot has the node of the label
+abbrev pub RefIn : List (Option ℕ) → NodeRef → Type 0
+RefIn held r = slice_index_or held r.slot None ≡ Some r.label
+
+-- each node that the steps name is held
+abbrev pub EachHeldIn : List (Option ℕ) → List Step → Type 0
+EachHeldIn held xs = Each (RefIn held) (nodes_in xs)
+
+-- the steps can be taken back, or forth, and name nodes that are held
+abbrev pub CanGoBack : List (Option ℕ) → List Step → Forest Content → Type 0
+CanGoBack held xs f = FitsBack applied Fits (changes_of xs) f × EachHeldIn held xs
+
+abbrev pub CanGoForth : List (Option ℕ) → List Step → Forest Content → Type 0
+CanGoForth held xs f = FitsForth applied Fits (changes_of xs) f × EachHeldIn held xs
+
+-- ---- the sides of an entry
+
+-- the places are those of points that stand in the document of a forest, the scratch pair isn't there, and the numbers
+-- are those of the document
+pub record IsSide (names : List (List ℕ)) (f : Forest Content) (p : Places) (nodes chars : ℕ) : Type 0 where
+  pub over : IsOver names p
+  pub placed : IsPlaced f (shown names p)
+  pub resting : p.scratch ≡ None
+  pub nodes_are : nodes ≡ node_count f
+  pub chars_are : chars ≡ char_count f
+
+-- each node of these labels is alone in a loose tree
+pub record AreAlone (f : Forest Content) (low high : ℕ) : Type 0 where
+  pub loose : (l : ℕ) → low ≤ l → l < high → 0 < count_of f l → parent_of f l ≡ None
+  pub leaf : (l : ℕ) → low ≤ l → l < high → 0 < count_of f l → first_of f l ≡ None
+
+-- An entry that leads from one forest to another. Its steps name only nodes that its commands saw, on both sides: those of
+-- the document before it, and those that they made, with labels below `high`, the first that a later entry can have; and so
+-- do those that the steps turn into. The trees that they didn't see are still loose after it, and so are those that it
+-- left loose.
+pub record IsBeside (names : List (List ℕ)) (before after : Forest Content) (e : List Step) (turns : List Change) (b : Beside) (left : List NodeRef) (high start : ℕ) : Type 0 where
+  pub was : IsSide names before b.sides.before b.sides.nodes_before b.sides.chars_before
+  pub is : IsSide names after b.sides.after b.sides.nodes_after b.sides.chars_after
+  pub some_label : 0 < b.sides.first_label
+  pub drawn : b.sides.first_label ≤ high
+  pub known : high ≤ start
+  pub hidden : (l : ℕ) → is_hidden before b.sides.first_label l ≡ true → 0 < times (tops after) l
+  pub names_seen : Each (IsLeft (is_hidden before b.sides.first_label) before) (named_in (changes_of e))
+  pub names_there : Each (IsLeft (is_hidden before b.sides.first_label) after) (named_in (changes_of e))
+  pub names_old : Each (λ l. l < high) (named_in (changes_of e))
+  pub turns_old : Each (λ l. l < high) (named_in turns)
+  pub left_loose : Each (λ l. (0 < l) × ((l < high) × (parent_of after l ≡ None))) (labels_of left)
+
+-- ---- the history over a forest
+
+-- what the entry that undo would take left loose: while a command resumes it, the command keeps that
+abbrev pub left_of : Bool → Command → Beside → List NodeRef
+left_of false c b = b.left.items
+left_of true c b = take c.left_before c.left.items
+
+-- the first label of the entries that redo would take; without any, the next one as the running command began
+abbrev pub next_first : ℕ → List Beside → ℕ
+next_first start [] = start
+next_first start (b ∷ bs) = b.sides.first_label
+
+abbrev pub UndoSound : List (Option ℕ) → List (List ℕ) → Bool → Command → ℕ → Forest Content → List (List Step) → List Beside → Type 0
+UndoSound held names resumed c high f [] [] = Unit {0}
+UndoSound held names resumed c high f [] (b ∷ bs) = ⊥
+UndoSound held names resumed c high f (e ∷ es) [] = ⊥
+UndoSound held names resumed c high f (e ∷ es) (b ∷ bs) =
+    CanGoBack held e f
+    × (IsBeside names (forest_before e f) f e (inverses_back applied turned (changes_of e) f) b (left_of resumed c b) high c.start
+    × UndoSound held names false c b.sides.first_label (forest_before e f) es bs)
+
+abbrev pub RedoSound : List (Option ℕ) → List (List ℕ) → Command → Forest Content → List (List Step) → List Beside → Type 0
+RedoSound held names c f [] [] = Unit {0}
+RedoSound held names c f [] (b ∷ bs) = ⊥
+RedoSound held names c f (e ∷ es) [] = ⊥
+RedoSound held names c f (e ∷ es) (b ∷ bs) =
+    CanGoForth held e f
+    × (IsBeside names f (forest_after e f) e (inverses_forth applied turned (changes_of e) f) b b.left.items (next_first c.start bs) c.start × RedoSound held names c (forest_after e f) es bs)
+
+-- ---- the running command
+
+-- outside commands nothing of a command is there
+pub record IsIdle (c : Command) (points : LivePoints) (next : ℕ) : Type 0 where
+  pub start : c.start ≡ next
+  pub host : c.host ≡ None
+  pub keeping : c.keeping ≡ false
+  pub named : c.named.items ≡ []
+  pub left : c.left.items ≡ []
+  pub left_before : c.left_before ≡ 0
+  pub scratch : points.scratch ≡ None
+
+-- what a command keeps of its begin is as it was, and what it changes is seen
+pub record IsRunning (a : Arena) (names : List (List ℕ)) (c : Command) (xs : List Step) (g : Forest Content) : Type 0 where
+  pub kept : IsSide names g c.kept.places c.kept.counts.nodes c.kept.counts.chars
+  pub settings : length c.kept.overrides.items ≡ 32
+  pub made : AreAlone g c.start a.next
+  pub can : CanGoBack a.held xs a.trees
+  pub names_there : Each (IsLeft (is_hidden g c.start) a.trees) (named_in (changes_of xs))
+  pub marks : length c.named.items + c.start ≡ a.next
+  pub marked : Each (IsMarked c) (named_in (changes_of xs))
+  pub marked_turned : Each (IsMarked c) (named_in (inverses_back applied turned (changes_of xs) a.trees))
+  pub left_before : c.left_before ≤ length c.left.items
+  pub left_seen : Each (λ l. 0 < count_of (shed (is_hidden g c.start) a.trees) l) (labels_of (drop c.left_before c.left.items))
+  pub loosened : (l : ℕ) → 0 < l → 0 < times (tops (shed (is_hidden g c.start) a.trees)) l → has_label (labels_of (drop c.left_before c.left.items)) l ≡ true
+
+abbrev pub OpenSound : Arena → LivePoints → Command → Forest Content → Open Step → Type 0
+OpenSound a points c g Closed = IsIdle c points a.next
+OpenSound a points c g o = IsRunning a points.names c (noted o) g
+
+-- ---- all of it
+
+pub record IsSound (a : Arena) (points : LivePoints) (overrides : List Setting) (flags : Flags) (counts : Counts) (c : Command) (log : Log Step) (us rs : List Beside) (us_room rs_room : ℕ) : Type 0 where
+  pub lawful : IsLawful (state_of a points overrides flags c log)
+  pub some_label : 0 < c.start
+  pub nodes : counts.nodes ≡ node_count a.trees
+  pub chars : counts.chars ≡ char_count a.trees
+  pub hidden : (l : ℕ) → is_hidden (begun_forest log a.trees) c.start l ≡ true → 0 < times (tops a.trees) l
+  pub running : OpenSound a points c (begun_forest log a.trees) log.open_entry
+  pub resumed : c.resumed ≡ is_resumed log.open_entry
+  pub host : IfSome c.host (λ h. RefIn a.held h × (0 < count_of (seen_trees log c.start a.trees) h.label))
+  pub undo : UndoSound a.held points.names c.resumed c (next_first c.start rs) (begun_forest log a.trees) log.undo us
+  pub redo : RedoSound a.held points.names c (begun_forest log a.trees) log.redo rs
+  pub us_room_is : us_room ≡ log.depth
+  pub rs_room_is : rs_room ≡ log.depth

@@ -1,0 +1,216 @@
+//! What is kept of the running command, and beside each entry of the log.
+
+ghost use Rattle.std.specs.Prelude.{◌≡◌, ℕ, ◌<◌, [], ◌∷◌, length, IfOk, vec_len, vec_capacity};
+ghost use Rattle.edit_doc.specs.Fields.{IsKept, IsEnded, AreResting, has_loosened, made_sides, joined_sides};
+ghost use Rattle.edit_doc.specs.Marks.{Marks, AreMarkable, NotesMade, place_labels};
+
+use crate::Counts;
+use edit_model::{Flags, Setting};
+use edit_parts::copy_overrides;
+use live_range::{Places, Points};
+use node_arena::NodeRef;
+use std::alloc::{AllocError, Global};
+
+/// Where the points stand just before and just after the commands of an entry, the next label as the first of them began,
+/// and the numbers of the document on both sides.
+#[derive(Clone, Copy)]
+pub struct Sides {
+    pub before: Places,
+    pub after: Places,
+    pub first_label: u32,
+    pub nodes_before: u32,
+    pub nodes_after: u32,
+    pub chars_before: u64,
+    pub chars_after: u64,
+}
+
+// An entry's sides, and the roots of trees that its commands left loose: none so far, since no tree is given up.
+#[derive(Drop)]
+pub(crate) struct Beside {
+    pub(crate) sides: Sides,
+    pub(crate) left: Vec<NodeRef>,
+}
+
+// What a command finds as it begins, for rolling it back.
+#[derive(Drop)]
+pub(crate) struct Kept {
+    pub(crate) places: Places,
+    pub(crate) overrides: Vec<Setting>,
+    pub(crate) flags: Flags,
+    pub(crate) counts: Counts,
+}
+
+// The running command. Outside commands it has no host, nothing is named or left, and `start` is the next label.
+#[derive(Drop)]
+pub(crate) struct Command {
+    pub(crate) start: u32,
+    pub(crate) host: Option<NodeRef>,
+    pub(crate) keeping: bool,
+    pub(crate) resumed: bool,
+    // of each label from `start` on, whether an edit names its node
+    pub(crate) named: Vec<bool>,
+    // every tree that is loose now and wasn't as the command began has its root here; the first `left_before` are those
+    // of the resumed entry
+    pub(crate) left: Vec<NodeRef>,
+    pub(crate) left_before: usize,
+    pub(crate) kept: Kept,
+}
+
+impl Kept {
+    // What a command keeps as it begins.
+    pub(crate) fn of(
+        alloc: Global,
+        points: &Points,
+        overrides: &[Setting],
+        flags: Flags,
+        counts: Counts,
+    ) -> Result<Kept, AllocError>
+        ensures { IfOk result (IsKept points.now overrides.now flags counts) }
+    {
+        Ok(Kept {
+            places: points.places(),
+            overrides: copy_overrides(alloc, overrides)?,
+            flags,
+            counts,
+        })
+    }
+}
+
+impl Command {
+    // No command.
+    pub(crate) fn none(alloc: Global, next: u32, kept: Kept) -> Command
+        ensures { IsEnded next result }
+    {
+        Command {
+            start: next,
+            host: None,
+            keeping: false,
+            resumed: false,
+            named: Vec::new(alloc),
+            left: Vec::new(alloc),
+            left_before: 0,
+            kept,
+        }
+    }
+
+    // The command is over.
+    pub(crate) fn end(&mut self, next: u32)
+        ensures { IsEnded next self.new }
+    {
+        self.start = next;
+        self.host = None;
+        self.keeping = false;
+        self.resumed = false;
+        self.named.clear();
+        self.left.clear();
+        self.left_before = 0;
+    }
+
+    // An edit names a node.
+    pub(crate) fn name(&mut self, node: NodeRef)
+        requires { AreMarkable self.old (node.label ∷ []) }
+        ensures { Marks (node.label ∷ []) self.old self.new }
+    {
+        if node.label >= self.start {
+            self.named[(node.label - self.start) as usize] = true;
+        }
+    }
+
+    // An edit names a node and a place.
+    pub(crate) fn name_place(&mut self, node: NodeRef, parent: NodeRef, before: Option<NodeRef>)
+        requires { AreMarkable self.old (place_labels node parent before) }
+        ensures { Marks (place_labels node parent before) self.old self.new }
+    {
+        self.name(node);
+        self.name(parent);
+        if let Some(before) = before {
+            self.name(before);
+        }
+    }
+
+    // A node was made.
+    pub(crate) fn note_made(&mut self, node: NodeRef)
+        requires marks { vec_len self.old.named < vec_capacity self.old.named }
+        requires room { vec_len self.old.left < vec_capacity self.old.left }
+        ensures { NotesMade node self.old self.new }
+    {
+        let _ = self.named.push(false);
+        let _ = self.left.push(node);
+    }
+
+    // Whether the command made the node or removed it.
+    pub(crate) fn has_loosened(&self, node: NodeRef) -> bool
+        ensures { result ≡ has_loosened self.now node.label }
+    {
+        if node.label >= self.start {
+            return true;
+        }
+        for i in self.left_before..self.left.len() {
+            if self.left[i].label == node.label {
+                return true;
+            }
+        }
+        false
+    }
+
+    // What stands beside the entry of the command.
+    pub(crate) fn beside(&self, alloc: Global, after: Places, counts: Counts) -> Beside
+        ensures sides { result.sides ≡ made_sides self.now after counts }
+        ensures left { result.left.items ≡ [] }
+    {
+        Beside {
+            sides: Sides {
+                before: self.kept.places,
+                after,
+                first_label: self.start,
+                nodes_before: self.kept.counts.nodes,
+                nodes_after: counts.nodes,
+                chars_before: self.kept.counts.chars,
+                chars_after: counts.chars,
+            },
+            left: Vec::new(alloc),
+        }
+    }
+}
+
+impl Beside {
+    pub(crate) fn counts_before(&self) -> Counts
+        ensures nodes { result.nodes ≡ self.now.sides.nodes_before }
+        ensures chars { result.chars ≡ self.now.sides.chars_before }
+    {
+        Counts {
+            nodes: self.sides.nodes_before,
+            chars: self.sides.chars_before,
+        }
+    }
+
+    pub(crate) fn counts_after(&self) -> Counts
+        ensures nodes { result.nodes ≡ self.now.sides.nodes_after }
+        ensures chars { result.chars ≡ self.now.sides.chars_after }
+    {
+        Counts {
+            nodes: self.sides.nodes_after,
+            chars: self.sides.chars_after,
+        }
+    }
+
+    // Another command joined the entry.
+    pub(crate) fn join(&mut self, after: Places, counts: Counts)
+        ensures sides { self.new.sides ≡ joined_sides self.old.sides after counts }
+        ensures left { self.new.left.items ≡ [] }
+    {
+        self.sides.after = after;
+        self.sides.nodes_after = counts.nodes;
+        self.sides.chars_after = counts.chars;
+        self.left.clear();
+    }
+}
+
+// The places of all points, without the scratch pair.
+pub(crate) fn resting_places(points: &Points) -> Places
+    ensures { AreResting points.now result }
+{
+    let mut places = points.places();
+    places.scratch = None;
+    places
+}

@@ -1,0 +1,223 @@
+//! The elementary edits.
+
+ghost use Rattle.std.specs.Prelude.{◌≡◌, ℕ, OnErr};
+ghost use Rattle.edit_model.specs.Gives.{Gives, label_of};
+ghost use Rattle.edit_model.specs.Run.{insert, remove, move, replace, set_attribute, unset_attribute};
+ghost use Rattle.edit_doc.specs.Whole.{IsOpen};
+ghost use Rattle.edit_doc.specs.Held.{Holds, IfHeld, Keeps};
+
+use crate::change::{comes_in, counts_with, make_change};
+use crate::numbers::{chars_replaced, counts_without};
+use crate::{Chars, Doc, EditFault, Name, NodeRef};
+use edit_parts::{
+    adjust_inserted, adjust_moved, has_value, is_in_document, moving_from, removal_of, replaced,
+    settle, watch_range,
+};
+use edit_steps::Step;
+use node_arena::Content;
+
+impl Doc {
+    /// Inserts a loose tree under a parent, before one of its children or at the end. Answers whether it was inserted.
+    pub fn insert(
+        &mut self,
+        parent: NodeRef,
+        before: Option<NodeRef>,
+        node: NodeRef,
+    ) -> Result<bool, EditFault>
+        requires open { IsOpen self.old }
+        requires parent_held { Holds self.old parent }
+        requires before_held { IfHeld self.old before }
+        requires node_held { Holds self.old node }
+        ensures gives { Gives result self.old.state self.new.state (insert parent.label (label_of before) node.label) }
+        ensures keeps { Keeps self.old self.new }
+        ensures err { OnErr result (self.new ≡ self.old) }
+    {
+        self.arena.lawful();
+        self.arena.slotted();
+        if !self.may_insert(parent, before, node) {
+            return Ok(false);
+        }
+        let watch = watch_range(&self.arena, &self.points, &self.overrides);
+        let enters = is_in_document(&self.arena, parent);
+        let counts = counts_with(&self.arena, self.counts, node, enters);
+        let link = Step::Link {
+            node,
+            parent,
+            before,
+        };
+        make_change(&mut self.arena, &mut self.log, link)?;
+        self.counts = counts;
+        self.command.name_place(node, parent, before);
+        adjust_inserted(&self.arena, &mut self.points, parent, node);
+        settle(&self.arena, &self.points, &mut self.overrides, watch);
+        Ok(true)
+    }
+
+    /// Removes the tree of a node, which becomes loose. Answers whether it was removed.
+    pub fn remove(&mut self, node: NodeRef) -> Result<bool, EditFault>
+        requires open { IsOpen self.old }
+        requires node_held { Holds self.old node }
+        ensures gives { Gives result self.old.state self.new.state (remove node.label) }
+        ensures keeps { Keeps self.old self.new }
+        ensures err { OnErr result (self.new ≡ self.old) }
+    {
+        self.arena.lawful();
+        self.arena.slotted();
+        let Some(parent) = self.arena.parent(node) else {
+            return Ok(false);
+        };
+        if !self.may_leave(node, parent) {
+            return Ok(false);
+        }
+        self.command.left.reserve(1)?;
+        let watch = watch_range(&self.arena, &self.points, &self.overrides);
+        let removal = removal_of(&self.arena, &self.points, node, parent);
+        let counts = counts_without(&self.arena, self.counts, node, parent);
+        let next = self.arena.next(node);
+        make_change(&mut self.arena, &mut self.log, Step::Unlink { node })?;
+        self.counts = counts;
+        let _ = self.command.left.push(node);
+        self.command.name_place(node, parent, next);
+        removal.adjust(&mut self.points);
+        settle(&self.arena, &self.points, &mut self.overrides, watch);
+        Ok(true)
+    }
+
+    /// Moves the tree of a node under a parent, before one of its children or at the end, with the points in it. Answers
+    /// whether it was moved.
+    pub fn move_keeping(
+        &mut self,
+        node: NodeRef,
+        parent: NodeRef,
+        before: Option<NodeRef>,
+    ) -> Result<bool, EditFault>
+        requires open { IsOpen self.old }
+        requires node_held { Holds self.old node }
+        requires parent_held { Holds self.old parent }
+        requires before_held { IfHeld self.old before }
+        ensures gives { Gives result self.old.state self.new.state (move node.label parent.label (label_of before)) }
+        ensures keeps { Keeps self.old self.new }
+        ensures err { OnErr result (self.new ≡ self.old) }
+    {
+        self.arena.lawful();
+        self.arena.slotted();
+        let Some(from) = self.arena.parent(node) else {
+            return Ok(false);
+        };
+        if !self.may_go(node, from, parent, before) {
+            return Ok(false);
+        }
+        let watch = watch_range(&self.arena, &self.points, &self.overrides);
+        let place = moving_from(&self.arena, &self.points, node, from, parent);
+        let enters = comes_in(&self.arena, node, parent);
+        let counts = counts_with(&self.arena, self.counts, node, enters);
+        let next = self.arena.next(node);
+        let step = Step::Place {
+            node,
+            parent,
+            before,
+        };
+        make_change(&mut self.arena, &mut self.log, step)?;
+        self.counts = counts;
+        self.command.name_place(node, from, next);
+        self.command.name_place(node, parent, before);
+        adjust_moved(&self.arena, &mut self.points, place, parent, node);
+        settle(&self.arena, &self.points, &mut self.overrides, watch);
+        Ok(true)
+    }
+
+    /// Replaces `count` characters of a text, from the offset `at` on. Answers whether the text changed.
+    pub fn replace_words(
+        &mut self,
+        node: NodeRef,
+        at: u32,
+        count: u32,
+        put: &[char],
+    ) -> Result<bool, EditFault>
+        requires open { IsOpen self.old }
+        requires node_held { Holds self.old node }
+        ensures gives { Gives result self.old.state self.new.state (replace node.label at count put.now) }
+        ensures keeps { Keeps self.old self.new }
+        ensures err { OnErr result (self.new ≡ self.old) }
+    {
+        self.arena.lawful();
+        self.arena.slotted();
+        if !self.is_own(node) {
+            return Ok(false);
+        }
+        let content = self.arena.content(node);
+        let Some(words) = replaced(self.alloc, content, at, count, put)? else {
+            return Ok(false);
+        };
+        let watch = watch_range(&self.arena, &self.points, &self.overrides);
+        let chars = chars_replaced(&self.arena, self.counts.chars, node, at, count, put);
+        let step = Step::Words { node, words };
+        make_change(&mut self.arena, &mut self.log, step)?;
+        self.counts.chars = chars;
+        self.command.name(node);
+        self.points
+            .replaced(node.label, at, count, put.len() as u32);
+        settle(&self.arena, &self.points, &mut self.overrides, watch);
+        Ok(true)
+    }
+
+    /// Sets an attribute of an element: one that is there keeps its place, a new one goes last. Answers whether the list
+    /// changed.
+    pub fn set_attribute(
+        &mut self,
+        node: NodeRef,
+        name: &Name,
+        value: &Chars,
+    ) -> Result<bool, EditFault>
+        requires open { IsOpen self.old }
+        requires node_held { Holds self.old node }
+        ensures gives { Gives result self.old.state self.new.state (set_attribute node.label name.now value.now) }
+        ensures keeps { Keeps self.old self.new }
+        ensures err { OnErr result (self.new ≡ self.old) }
+    {
+        self.arena.lawful();
+        self.arena.slotted();
+        if !self.is_own(node) {
+            return Ok(false);
+        }
+        let Content::Element { attributes, .. } = self.arena.content(node) else {
+            return Ok(false);
+        };
+        if has_value(attributes, name, value) {
+            return Ok(false);
+        }
+        let mut list = attributes.copy()?;
+        list.set(name, value)?;
+        let step = Step::Attributes { node, list };
+        make_change(&mut self.arena, &mut self.log, step)?;
+        self.command.name(node);
+        Ok(true)
+    }
+
+    /// Unsets an attribute of an element. Answers whether it was there and was unset.
+    pub fn unset_attribute(&mut self, node: NodeRef, name: &Name) -> Result<bool, EditFault>
+        requires open { IsOpen self.old }
+        requires node_held { Holds self.old node }
+        ensures gives { Gives result self.old.state self.new.state (unset_attribute node.label name.now) }
+        ensures keeps { Keeps self.old self.new }
+        ensures err { OnErr result (self.new ≡ self.old) }
+    {
+        self.arena.lawful();
+        self.arena.slotted();
+        if !self.is_own(node) {
+            return Ok(false);
+        }
+        let Content::Element { attributes, .. } = self.arena.content(node) else {
+            return Ok(false);
+        };
+        if attributes.get(name.as_slice()).is_none() {
+            return Ok(false);
+        }
+        let mut list = attributes.copy()?;
+        list.unset(name.as_slice());
+        let step = Step::Attributes { node, list };
+        make_change(&mut self.arena, &mut self.log, step)?;
+        self.command.name(node);
+        Ok(true)
+    }
+}

@@ -1,0 +1,109 @@
+//! A document under edits: its nodes, its live points, the overrides and flags of commands, and the history that undo and
+//! redo go through.
+//!
+//! A command runs between [`Doc::begin`] and [`Doc::commit`] or [`Doc::roll_back`]. Its edits are those of the DOM Standard,
+//! made only inside its affected editing host and on nodes that it made; an edit that lies outside, or that would change
+//! nothing, is left out and answers false. Contracts see the state and the history of `edit_model`.
+#![tactic(auto)]
+
+ghost use Rattle.std.specs.Prelude.{◌≡◌, ℕ, ◌<◌, IfOk};
+ghost use Rattle.edit_doc.specs.Whole.{HasNoLoose, first_doc};
+
+mod change;
+mod command;
+mod commands;
+mod composed;
+mod confined;
+mod edits;
+mod making;
+mod numbers;
+mod reads;
+mod selecting;
+
+use circular_buffer::HeapCircularBuffer;
+pub use command::Sides;
+use command::{Beside, Command, Kept};
+pub use dom_model::{Attributes, Chars, Name};
+pub use edit_model::{EditFault, Flags, Setting};
+pub use edit_parts::Counts;
+use edit_parts::no_overrides;
+use edit_steps::Step;
+pub use live_range::{MarkFault, Pair, Point, Points};
+pub use node_arena::{Arena, Kind, NodeList, NodeRef};
+use std::alloc::{AllocError, Global};
+use std::marker::Model;
+pub use undo_log::Committed;
+use undo_log::UndoLog;
+
+/// A document under edits.
+#[derive(Drop)]
+pub struct Doc {
+    alloc: Global,
+    // with the trees that only entries of the log name
+    arena: Arena,
+    points: Points,
+    // of each command, in their order
+    overrides: Vec<Setting>,
+    flags: Flags,
+    counts: Counts,
+    log: UndoLog<Step>,
+    undo_sides: HeapCircularBuffer<Beside>,
+    redo_sides: HeapCircularBuffer<Beside>,
+    command: Command,
+}
+
+impl Model for Doc {
+    ghost use Rattle.edit_doc.specs.Whole.{Whole};
+
+    ghost Value = { Whole };
+
+    ghost use Rattle.edit_doc.specs.WholeCode.{whole_code};
+
+    ghost coded = { whole_code };
+
+    ghost use Rattle.edit_doc.specs.History.{whole_of};
+    ghost use Rattle.edit_doc.specs.Sound.{IsSound};
+
+    ghost view = { λ d. whole_of d.arena d.points d.overrides.items d.flags d.command d.log d.undo_sides.items d.redo_sides.items };
+
+    ghost invariant = { λ d. IsSound d.arena d.points d.overrides.items d.flags d.counts d.command d.log d.undo_sides.items d.redo_sides.items d.undo_sides.capacity d.redo_sides.capacity };
+}
+
+impl Doc {
+    /// The document of an arena, with an empty history of at most `undo_depth` entries.
+    pub fn new(alloc: Global, arena: Arena, undo_depth: usize) -> Result<Doc, AllocError>
+        requires depth { 0 < undo_depth }
+        requires loose { HasNoLoose arena }
+        ensures { IfOk result (λ d. d ≡ first_doc arena undo_depth) }
+    {
+        arena.lawful();
+        let counts = Counts {
+            nodes: arena.node_count(),
+            chars: arena.char_count(),
+        };
+        let flags = Flags {
+            css_styling: false,
+            paragraphs: false,
+        };
+        let points = Points::new(alloc)?;
+        let kept = Kept {
+            places: points.places(),
+            overrides: Vec::new(alloc),
+            flags,
+            counts,
+        };
+        let next = arena.next_label();
+        Ok(Doc {
+            alloc,
+            arena,
+            points,
+            overrides: no_overrides(alloc)?,
+            flags,
+            counts,
+            log: UndoLog::new(alloc, undo_depth)?,
+            undo_sides: HeapCircularBuffer::with_capacity(alloc, undo_depth)?,
+            redo_sides: HeapCircularBuffer::with_capacity(alloc, undo_depth)?,
+            command: Command::none(alloc, next, kept),
+        })
+    }
+}

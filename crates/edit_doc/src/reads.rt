@@ -1,0 +1,204 @@
+//! What is read of a document under edits.
+
+ghost use Rattle.std.specs.Prelude.{◌≡◌, ℕ, ◌↔◌, None, Some, IsTrue, IfSome, true};
+ghost use Rattle.dom_model.specs.Contents.{is_element_at, has_chars_at, name_of, attributes_of, chars_of, length_of};
+ghost use Rattle.dom_model.specs.Document.{node_count, char_count, page_depth};
+ghost use Rattle.dom_model.specs.Forest.{content_of, count_of, tree_of, parent_of, first_of, last_of, prev_of, next_of};
+ghost use Rattle.dom_model.specs.Places.{index_of};
+ghost use Rattle.edit_model.specs.Gives.{label_of};
+ghost use Rattle.edit_doc.specs.Whole.{IsDoc};
+ghost use Rattle.edit_doc.specs.Held.{Holds, Finds, IfHeld, IsPart};
+ghost use Rattle.node_arena.specs.Kinds.{kind_of};
+ghost use Rattle.point_order.specs.PointOrder.{is_before, is_placed};
+
+use crate::{Arena, Attributes, Chars, Counts, Doc, Kind, Name, NodeRef, Point};
+use edit_parts::root_of;
+use node_arena::Content;
+use point_order::comes_before;
+
+impl Doc {
+    /// What holds of every document under edits, for proofs. It does nothing.
+    pub fn lawful(&self)
+        ensures { IsDoc self.now }
+    {
+        self.arena.lawful();
+        self.log.lawful();
+    }
+
+    /// The nodes: those of the state, and loose trees of kept entries beside them, which no definition sees.
+    pub fn arena(&self) -> &Arena
+        ensures trees { IsPart self.now.state.trees result.now.trees }
+        ensures document { tree_of result.now.trees 0 ≡ tree_of self.now.state.trees 0 }
+        ensures held { result.now.held ≡ self.now.held }
+        ensures next { result.now.next ≡ self.now.state.next }
+        ensures cap { result.now.cap ≡ self.now.state.cap }
+    {
+        self.arena.lawful();
+        &self.arena
+    }
+
+    /// The affected editing host of the running command.
+    pub fn host(&self) -> Option<NodeRef>
+        ensures { Finds self.now result self.now.state.host }
+    {
+        self.arena.lawful();
+        self.command.host
+    }
+
+    /// The numbers of the document, which are kept.
+    pub fn counts(&self) -> Counts
+        ensures nodes { result.nodes ≡ node_count self.now.state.trees }
+        ensures chars { result.chars ≡ char_count self.now.state.trees }
+    {
+        self.arena.lawful();
+        self.counts
+    }
+
+    /// How deep the deepest node of the document is. It walks the document.
+    pub fn page_depth(&self) -> u32
+        ensures { result ≡ page_depth self.now.state.trees }
+    {
+        self.arena.lawful();
+        self.arena.page_depth()
+    }
+
+    /// Whether a point of the document comes before another one.
+    pub fn is_before(&self, first: Point, second: Point) -> bool
+        requires first { is_placed self.now.state.trees first ≡ true }
+        requires second { is_placed self.now.state.trees second ≡ true }
+        ensures { result ≡ is_before self.now.state.trees first second }
+    {
+        self.arena.lawful();
+        comes_before(&self.arena, first, second)
+    }
+
+    /// The root of the document.
+    pub fn document(&self) -> NodeRef
+        ensures label { result.label ≡ 0 }
+        ensures held { Holds self.now result }
+    {
+        self.arena.lawful();
+        self.arena.document()
+    }
+
+    /// The node of a label, in the document or in a loose tree of the running command.
+    pub fn find(&self, label: u32) -> Option<NodeRef>
+        ensures found { IfSome result (λ r. (r.label ≡ label) × Holds self.now r) }
+        ensures absent { (result ≡ None) ↔ (count_of self.now.state.trees label ≡ 0) }
+    {
+        self.arena.lawful();
+        let node = self.arena.find(label)?;
+        let root = root_of(&self.arena, node);
+        if root.label == 0 || self.command.has_loosened(root) {
+            Some(node)
+        } else {
+            None
+        }
+    }
+
+    pub fn parent(&self, node: NodeRef) -> Option<NodeRef>
+        requires { Holds self.now node }
+        ensures { Finds self.now result (parent_of self.now.state.trees node.label) }
+    {
+        self.arena.lawful();
+        self.arena.parent(node)
+    }
+
+    pub fn first_child(&self, node: NodeRef) -> Option<NodeRef>
+        requires { Holds self.now node }
+        ensures { Finds self.now result (first_of self.now.state.trees node.label) }
+    {
+        self.arena.lawful();
+        self.arena.first_child(node)
+    }
+
+    pub fn last_child(&self, node: NodeRef) -> Option<NodeRef>
+        requires { Holds self.now node }
+        ensures { Finds self.now result (last_of self.now.state.trees node.label) }
+    {
+        self.arena.lawful();
+        self.arena.last_child(node)
+    }
+
+    pub fn prev(&self, node: NodeRef) -> Option<NodeRef>
+        requires { Holds self.now node }
+        ensures { Finds self.now result (prev_of self.now.state.trees node.label) }
+    {
+        self.arena.lawful();
+        self.arena.prev(node)
+    }
+
+    pub fn next(&self, node: NodeRef) -> Option<NodeRef>
+        requires { Holds self.now node }
+        ensures { Finds self.now result (next_of self.now.state.trees node.label) }
+    {
+        self.arena.lawful();
+        self.arena.next(node)
+    }
+
+    /// How many siblings stand before a node.
+    pub fn index(&self, node: NodeRef) -> u32
+        requires { Holds self.now node }
+        ensures { result ≡ index_of self.now.state.trees node.label }
+    {
+        self.arena.lawful();
+        self.arena.index(node)
+    }
+
+    /// The length of a node: the count of its characters for a text or a comment, else that of its children.
+    pub fn length(&self, node: NodeRef) -> u32
+        requires { Holds self.now node }
+        ensures { result ≡ length_of self.now.state.trees node.label }
+    {
+        self.arena.lawful();
+        self.arena.length(node)
+    }
+
+    /// What a node is.
+    pub fn kind(&self, node: NodeRef) -> Kind
+        requires { Holds self.now node }
+        ensures { kind_of self.now.state.trees node.label ≡ Some result }
+    {
+        self.arena.lawful();
+        self.arena.kind(node)
+    }
+
+    /// What a node is, with its name and attributes, or its characters.
+    pub fn content(&self, node: NodeRef) -> &Content
+        requires { Holds self.now node }
+        ensures { content_of self.now.state.trees node.label ≡ Some result.now }
+    {
+        self.arena.lawful();
+        self.arena.content(node)
+    }
+
+    /// The name of an element.
+    pub fn name(&self, node: NodeRef) -> &Name
+        requires held { Holds self.now node }
+        requires element { is_element_at self.now.state.trees node.label ≡ true }
+        ensures { name_of self.now.state.trees node.label ≡ Some result.now }
+    {
+        self.arena.lawful();
+        self.arena.name(node)
+    }
+
+    /// The attributes of an element.
+    pub fn attributes(&self, node: NodeRef) -> &Attributes
+        requires held { Holds self.now node }
+        requires element { is_element_at self.now.state.trees node.label ≡ true }
+        ensures { attributes_of self.now.state.trees node.label ≡ Some result.now }
+    {
+        self.arena.lawful();
+        self.arena.attributes(node)
+    }
+
+    /// The characters of a text or a comment.
+    pub fn words(&self, node: NodeRef) -> &Chars
+        requires held { Holds self.now node }
+        requires chars { has_chars_at self.now.state.trees node.label ≡ true }
+        ensures { chars_of self.now.state.trees node.label ≡ Some result.now }
+    {
+        self.arena.lawful();
+        self.arena.words(node)
+    }
+}

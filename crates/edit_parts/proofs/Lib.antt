@@ -1,0 +1,7 @@
+pub mod Settings
+pub mod Below
+pub mod Bearing
+pub mod Standing
+pub mod Points
+pub mod Ranges
+pub mod Splices

@@ -1,0 +1,15 @@
+use Rattle.std.proofs.Common.{◌≡◌, ℕ}
+use Rattle.dom_model.specs.declared.Content.{Content}
+use Rattle.dom_model.specs.Forest.{depth_of}
+use Rattle.dom_model.specs.TreeOrder.{total_after}
+use Rattle.edit_parts.specs.Walk.{IsIn}
+use Rattle.edit_parts.proofs.trees.after.Given as goal
+
+abbrev pub invariant-loop-at : goal.invariant-loop-at
+invariant-loop-at l = record {
+  place : IsIn l.arena l.top l.at;
+  same : (w : ℕ → Content → ℕ) → total_after w l.arena.trees l.fn.node.label ≡ total_after w l.arena.trees l.at.label;
+}
+
+abbrev pub decreases-loop-at : goal.decreases-loop-at
+decreases-loop-at l = depth_of l.arena.trees l.at.label

@@ -1,0 +1,17 @@
+use Rattle.std.proofs.Common.{◌≡◌, Some}
+use Rattle.dom_model.specs.declared.Content.{Content}
+use Rattle.dom_model.specs.Forest.{content_of}
+use Rattle.dom_model.specs.TreeOrder.{total_from}
+use Rattle.edit_parts.specs.Walk.{IsIn}
+use Rattle.edit_parts.proofs.Bearing.{weight}
+use Rattle.edit_parts.proofs.trees.bears_nothing.Given as goal
+
+abbrev pub invariant-loop-next : goal.invariant-loop-next
+invariant-loop-next l = record {
+  place : IsIn l.arena l.top l.at;
+  none : (c : Content) → content_of l.arena.trees l.at.label ≡ Some c → weight l.at.label c ≡ 0;
+  same : total_from weight l.arena.trees l.at.label ≡ total_from weight l.arena.trees l.top.label;
+}
+
+abbrev pub decreases-loop-next : goal.decreases-loop-next
+decreases-loop-next l = total_from (λ _ _. 1) l.arena.trees l.at.label

@@ -1,0 +1,47 @@
+-- What is looked at before an edit, by which the points and the overrides follow it. No public clause cites this module.
+use Rattle.std.specs.Prelude.{◌≡◌, ◌≢◌, ℕ, ◌≤◌, true, false, List, length, take, Option, Some, None, IfSome, if◌then◌else◌}
+use Rattle.std.specs.Option.{option_map}
+use Rattle.dom_model.specs.declared.Content.{Content}
+use Rattle.dom_model.specs.Forest.{Forest, tree_of, preorder}
+use Rattle.dom_model.specs.Places.{index_of}
+use Rattle.live_range.specs.declared.places.Pair.{Pair}
+use Rattle.live_range.specs.declared.places.Point.{Point}
+use Rattle.live_range.specs.Edit.{has_label}
+use Rattle.live_range.specs.LivePoints.{LivePoints, TellsAlike, labels_of}
+use Rattle.live_range.specs.ActiveRange.{range_start, range_end, range_changed}
+use Rattle.point_order.specs.PointOrder.{is_before}
+use Rattle.edit_model.specs.declared.settings.Setting.{Setting}
+use Rattle.edit_model.specs.Overrides.{no_overrides}
+use Rattle.edit_parts.specs.declared.overrides.ActiveRange.{ActiveRange}
+use Rattle.edit_parts.specs.declared.overrides.Watch.{Watch}
+use Rattle.edit_parts.specs.declared.following.Removal.{Removal}
+
+-- ---- overrides
+
+abbrev pub range_in : Forest Content → Option Pair → Option ActiveRange
+range_in f pair = option_map (λ p. record { start = range_start (is_before f) p; end = range_end (is_before f) p }) pair
+
+-- the watch tells the active range, or no override is set
+abbrev pub Watches : Forest Content → LivePoints → List Setting → Option Watch → Type 0
+Watches f points overrides None = overrides ≡ no_overrides
+Watches f points overrides (Some w) = w.range ≡ range_in f points.selection
+
+-- the overrides after a step from one forest and its selection to another
+abbrev pub settled : Forest Content → LivePoints → Forest Content → LivePoints → List Setting → List Setting
+settled f points g after overrides =
+    if range_changed (is_before f) (is_before g) points.selection after.selection then no_overrides else overrides
+
+-- ---- points
+
+-- Of each label at which a point stands the list tells whether it is in the tree of n; without a place, none is, and none
+-- is the parent
+pub record IsRemoval (f : Forest Content) (points : LivePoints) (n p : ℕ) (r : Removal) : Type 0 where
+  pub few : r.count ≤ 36
+  pub tells : TellsAlike points (take r.count r.gone) (preorder (tree_of f n))
+  pub place : IfSome r.place (λ at. (at.label ≡ p) × (at.offset ≡ index_of f n))
+  pub apart : r.place ≡ None → (l : ℕ) → has_label (labels_of points) l ≡ true → (has_label (preorder (tree_of f n)) l ≡ false) × (l ≢ p)
+
+-- where n stands, or else no point stands at its parent nor at the other
+abbrev pub IsFrom : Forest Content → LivePoints → ℕ → ℕ → ℕ → Option Point → Type 0
+IsFrom f points n from to None = (has_label (labels_of points) from ≡ false) × (has_label (labels_of points) to ≡ false)
+IsFrom f points n from to (Some at) = (at.label ≡ from) × (at.offset ≡ index_of f n)

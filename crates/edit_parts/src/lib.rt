@@ -1,0 +1,30 @@
+//! The parts of a document under edits that look at its trees and its live points alone: the numbers of a tree and what it
+//! bears, the contents that edits make of others, how the points follow an edit, and the overrides, which are unset where
+//! the active range changes.
+#![tactic(auto)]
+
+mod following;
+mod overrides;
+mod texts;
+mod trees;
+
+pub use following::{
+    Removal, add_counts, adjust_inserted, adjust_moved, moving_from, removal_of, stands_at,
+    take_counts,
+};
+pub use overrides::{
+    ActiveRange, Watch, copy_overrides, no_overrides, place_of, settle, unset_overrides,
+    watch_range,
+};
+pub use texts::{fault_of, has_value, replaced, tail_of};
+pub use trees::{bears_nothing, is_in_document, root_of, tree_counts};
+
+/// How many nodes and characters a tree has; only the characters of texts count.
+#[derive(Clone, Copy, PartialEq, Eq, Debug)]
+pub struct Counts {
+    pub nodes: u32,
+    pub chars: u64,
+}
+
+#[cfg(test)]
+mod tests;

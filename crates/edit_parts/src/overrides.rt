@@ -1,0 +1,141 @@
+//! The overrides of commands, which are unset where the active range changes.
+
+ghost use Rattle.std.specs.Prelude.{◌≡◌, ℕ, ◌<◌, false, length, IfOk, IfSome};
+ghost use Rattle.dom_model.specs.declared.Content.{Content};
+ghost use Rattle.dom_model.specs.Forest.{Forest};
+ghost use Rattle.edit_model.specs.Lawful.{IsPlacedPair};
+ghost use Rattle.edit_model.specs.Overrides.{no_overrides, place_of};
+ghost use Rattle.edit_parts.specs.Following.{Watches, range_in, settled};
+ghost use Rattle.live_range.specs.LivePoints.{LivePoints};
+
+use edit_model::Setting;
+use html_names::Command;
+use live_range::{Point, Points};
+use node_arena::Arena;
+use point_order::comes_before;
+use std::alloc::{AllocError, Global};
+
+const COMMANDS: usize = 32;
+
+/// From the earlier of the selection's points to the later.
+#[derive(Clone, Copy, PartialEq, Eq)]
+pub struct ActiveRange {
+    start: Point,
+    end: Point,
+}
+
+/// The active range, if there is one, while an override is set.
+#[derive(Clone, Copy)]
+pub struct Watch {
+    range: Option<ActiveRange>,
+}
+
+/// The place of a command's override.
+pub fn place_of(command: Command) -> usize
+    ensures place { result ≡ place_of command }
+    ensures bound { result < 32 }
+{
+    command as usize
+}
+
+/// No command has an override.
+pub fn no_overrides(alloc: Global) -> Result<Vec<Setting>, AllocError>
+    ensures { IfOk result (λ list. list.items ≡ no_overrides) }
+{
+    let mut list = Vec::with_capacity(alloc, COMMANDS)?;
+    for _ in 0..COMMANDS {
+        list.push(Setting::Absent)?;
+    }
+    Ok(list)
+}
+
+fn copy_setting(setting: &Setting) -> Result<Setting, AllocError>
+    ensures { IfOk result (λ copied. copied ≡ setting.now) }
+{
+    Ok(match setting {
+        Setting::On => Setting::On,
+        Setting::Off => Setting::Off,
+        Setting::Text { value } => Setting::Text {
+            value: value.clone()?,
+        },
+        Setting::Absent => Setting::Absent,
+    })
+}
+
+/// A copy of the overrides.
+pub fn copy_overrides(alloc: Global, overrides: &[Setting]) -> Result<Vec<Setting>, AllocError>
+    ensures { IfOk result (λ list. list.items ≡ overrides.now) }
+{
+    let mut list = Vec::with_capacity(alloc, overrides.len())?;
+    for setting in overrides {
+        list.push(copy_setting(setting)?)?;
+    }
+    Ok(list)
+}
+
+/// Unsets each override.
+pub fn unset_overrides(overrides: &mut [Setting])
+    requires { length overrides.old ≡ 32 }
+    ensures { overrides.new ≡ no_overrides }
+{
+    for i in 0..overrides.len() {
+        overrides[i] = Setting::Absent;
+    }
+}
+
+fn has_override(overrides: &[Setting]) -> bool
+    requires { length overrides.now ≡ 32 }
+    ensures { result ≡ false → overrides.now ≡ no_overrides }
+{
+    for setting in overrides {
+        if !matches!(setting, Setting::Absent) {
+            return true;
+        }
+    }
+    false
+}
+
+fn active_range(arena: &Arena, points: &Points) -> Option<ActiveRange>
+    requires { IfSome points.now.selection (IsPlacedPair arena.now.trees) }
+    ensures { result ≡ range_in arena.now.trees points.now.selection }
+{
+    let pair = points.selection()?;
+    Some(if comes_before(arena, pair.focus, pair.anchor) {
+        ActiveRange {
+            start: pair.focus,
+            end: pair.anchor,
+        }
+    } else {
+        ActiveRange {
+            start: pair.anchor,
+            end: pair.focus,
+        }
+    })
+}
+
+/// What is looked at before a step that can change the active range; None where no override is set.
+pub fn watch_range(arena: &Arena, points: &Points, overrides: &[Setting]) -> Option<Watch>
+    requires settings { length overrides.now ≡ 32 }
+    requires placed { IfSome points.now.selection (IsPlacedPair arena.now.trees) }
+    ensures { Watches arena.now.trees points.now overrides.now result }
+{
+    if !has_override(overrides) {
+        return None;
+    }
+    Some(Watch {
+        range: active_range(arena, points),
+    })
+}
+
+/// Unsets the overrides after a step that changed the active range.
+pub fn settle(arena: &Arena, points: &Points, overrides: &mut [Setting], watch: Option<Watch>)
+    requires settings { length overrides.old ≡ 32 }
+    requires placed { IfSome points.now.selection (IsPlacedPair arena.now.trees) }
+    ensures { (f : Forest Content) (before : LivePoints) → Watches f before overrides.old watch → overrides.new ≡ settled f before arena.now.trees points.now overrides.old }
+{
+    if let Some(watch) = watch {
+        if active_range(arena, points) != watch.range {
+            unset_overrides(overrides);
+        }
+    }
+}

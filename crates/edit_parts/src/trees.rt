@@ -1,0 +1,153 @@
+//! The tree of a node: its numbers, and whether it bears what commands keep.
+
+ghost use Rattle.std.specs.Prelude.{◌≡◌, ℕ, not, None, filter, IfSome};
+ghost use Rattle.std.specs.List.{list_all};
+ghost use Rattle.dom_model.specs.declared.Content.{Content};
+ghost use Rattle.dom_model.specs.Contents.{words_length};
+ghost use Rattle.dom_model.specs.Forest.{total, tree_of, parent_of, IsWithin};
+ghost use Rattle.dom_model.specs.TreeOrder.{total_from, total_after};
+ghost use Rattle.edit_model.specs.Kept.{bears_nothing, borne_by, is_blank, is_empty, is_kept, is_thing};
+ghost use Rattle.edit_parts.specs.Walk.{IsIn, Goes, Stops};
+ghost use Rattle.node_arena.specs.Held.{Holds};
+ghost use Rattle.point_order.specs.PointOrder.{is_in_document};
+
+use crate::Counts;
+use node_arena::{Arena, Content, NodeRef};
+
+// The first node in tree order after the tree of a node, in the tree of `top`.
+fn after(arena: &Arena, top: NodeRef, node: NodeRef) -> Option<NodeRef>
+    requires top_held { Holds arena.now top }
+    requires inside { IsIn arena.now top node }
+    ensures found { IfSome result (λ next. IsIn arena.now top next × ((w : ℕ → Content → ℕ) → total_after w arena.now.trees node.label ≡ total_from w arena.now.trees next.label)) }
+    ensures none { (result ≡ None) → (w : ℕ → Content → ℕ) → total_after w arena.now.trees node.label ≡ total_after w arena.now.trees top.label }
+{
+    arena.lawful();
+    let mut at = node;
+    while at.label != top.label {
+        if let Some(next) = arena.next(at) {
+            return Some(next);
+        }
+        match arena.parent(at) {
+            Some(parent) => at = parent,
+            None => return None,
+        }
+    }
+    None
+}
+
+// The next node in tree order in the tree of `top`.
+fn following(arena: &Arena, top: NodeRef, node: NodeRef) -> Option<NodeRef>
+    requires top_held { Holds arena.now top }
+    requires inside { IsIn arena.now top node }
+    ensures found { IfSome result (Goes arena.now top node) }
+    ensures none { (result ≡ None) → Stops arena.now top node }
+{
+    arena.lawful();
+    match arena.first_child(node) {
+        Some(child) => Some(child),
+        None => after(arena, top, node),
+    }
+}
+
+/// The root of the tree in which a node is.
+pub fn root_of(arena: &Arena, node: NodeRef) -> NodeRef
+    requires { Holds arena.now node }
+    ensures held { Holds arena.now result }
+    ensures root { parent_of arena.now.trees result.label ≡ None }
+    ensures above { IsWithin arena.now.trees result.label node.label }
+{
+    arena.lawful();
+    let mut at = node;
+    while let Some(parent) = arena.parent(at) {
+        at = parent;
+    }
+    at
+}
+
+/// Whether a node is in the document and not in a loose tree.
+pub fn is_in_document(arena: &Arena, node: NodeRef) -> bool
+    requires { Holds arena.now node }
+    ensures { result ≡ is_in_document arena.now.trees node.label }
+{
+    arena.is_within(arena.document(), node)
+}
+
+fn char_count(content: &Content) -> u64
+    ensures { result ≡ words_length content.now }
+{
+    match content {
+        Content::Words(chars) => chars.len() as u64,
+        _ => 0,
+    }
+}
+
+/// How many nodes the tree of a node has, and how many characters its texts have.
+pub fn tree_counts(arena: &Arena, top: NodeRef) -> Counts
+    requires { Holds arena.now top }
+    ensures nodes { result.nodes ≡ total (λ _ _. 1) (tree_of arena.now.trees top.label) }
+    ensures chars { result.chars ≡ total (λ _ c. words_length c) (tree_of arena.now.trees top.label) }
+{
+    arena.lawful();
+    let mut at = top;
+    let mut nodes = 1;
+    let mut chars = char_count(arena.content(top));
+    while let Some(next) = following(arena, top, at) {
+        at = next;
+        nodes += 1;
+        chars += char_count(arena.content(at));
+    }
+    Counts { nodes, chars }
+}
+
+fn is_blank(c: char) -> bool
+    ensures { result ≡ is_blank c }
+{
+    matches!(c, '\t' | '\n' | '\r' | ' ')
+}
+
+fn is_all_blank(chars: &[char]) -> bool
+    ensures { result ≡ list_all is_blank chars.now }
+{
+    for c in chars {
+        if !is_blank(*c) {
+            return false;
+        }
+    }
+    true
+}
+
+fn is_thing(name: &[u8]) -> bool
+    ensures { result ≡ is_thing name.now }
+{
+    name == b"img".as_slice() || name == b"hr".as_slice()
+}
+
+// Whether a node is an image, a rule, or a text with a character that isn't blank.
+fn bears(content: &Content) -> bool
+    ensures { (l : ℕ) → result ≡ not (is_empty (filter is_kept (borne_by l content.now))) }
+{
+    match content {
+        Content::Element { name, .. } => is_thing(name.as_slice()),
+        Content::Words(chars) => !is_all_blank(chars.as_slice()),
+        _ => false,
+    }
+}
+
+/// Whether the tree of a node has no image, no rule, and no characters but tab, LF, CR and space.
+pub fn bears_nothing(arena: &Arena, top: NodeRef) -> bool
+    requires { Holds arena.now top }
+    ensures { result ≡ bears_nothing (tree_of arena.now.trees top.label) }
+{
+    arena.lawful();
+    let mut at = top;
+    if bears(arena.content(at)) {
+        return false;
+    }
+    while let Some(next) = following(arena, top, at) {
+        at = next;
+        if bears(arena.content(at)) {
+            return false;
+        }
+    }
+    true
+}
