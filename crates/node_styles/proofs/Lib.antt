@@ -1,0 +1,4 @@
+pub mod Defaults
+pub mod Elements
+pub mod Lineages
+pub mod Nearest

@@ -1,0 +1,10 @@
+pub mod Lineage
+pub mod LegacySizes
+pub mod OwnStyles
+pub mod Resolved
+pub mod Blocks
+pub mod NameClasses
+pub mod Allowed
+pub mod Families
+pub mod TableTexts
+pub mod Traits

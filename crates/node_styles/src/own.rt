@@ -1,0 +1,444 @@
+//! The values that an element itself gives a property.
+
+ghost use Rattle.std.specs.Prelude.{◌≡◌, codes};
+ghost use Rattle.std.specs.Option.{option_map, option_copied, option_and_then, option_or};
+ghost use Rattle.css_value.specs.Values as values;
+ghost use Rattle.css_value.specs.Colours.{colour_of};
+ghost use Rattle.css_value.specs.TextDecoration.{text_decoration_of};
+ghost use Rattle.style_table.specs.declared.Property.TheVariants as property;
+ghost use Rattle.node_styles.specs.Families.{family_text};
+ghost use Rattle.node_styles.specs.OwnStyles as own;
+ghost use Rattle.node_styles.specs.TableTexts as table;
+ghost use Rattle.node_styles.specs.Traits as traits;
+
+use crate::hints::{align_hint, color_hint, family_hint, size_hint};
+use css_value::{
+    Colour, Display, FontStyle, TextAlign, TextDecoration, WhiteSpace, find, read_display,
+    read_font_size, read_font_style, read_font_weight, read_text_align, read_text_decoration,
+    read_white_space,
+};
+use node_arena::Content;
+use style_table::{Property, default_of};
+
+#[tactic(auto, unfolding(crate::specs::OwnStyles::attribute))]
+/// The value of an attribute of an element.
+pub(crate) fn attribute<'a>(content: &'a Content, name: &[u8]) -> Option<&'a [char]>
+    ensures { option_copied result ≡ own.attribute content.now name.now }
+{
+    match content {
+        Content::Element { attributes, .. } => match attributes.get(name) {
+            Some(value) => Some(value.as_slice()),
+            None => None,
+        },
+        _ => None,
+    }
+}
+
+#[tactic(auto, unfolding(crate::specs::OwnStyles::is_named))]
+/// Whether a node is an element of this name.
+pub(crate) fn is_element_named(content: &Content, name: &[u8]) -> bool
+    ensures { result ≡ own.is_named name.now content.now }
+{
+    match content {
+        Content::Element { name: own, .. } => own.as_slice() == name,
+        _ => false,
+    }
+}
+
+#[tactic(auto, unfolding(crate::specs::OwnStyles::declared))]
+// What the style attribute declares of a property, valid or not.
+pub(crate) fn declared<'a>(content: &'a Content, name: &[u8]) -> Option<&'a [char]>
+    ensures { option_copied result ≡ own.declared content.now name.now }
+{
+    find(attribute(content, b"style")?, name)
+}
+
+#[tactic(auto, unfolding(crate::specs::OwnStyles::defaulted))]
+// The text of the default by the element's name.
+fn defaulted(content: &Content, property: Property) -> Option<&'static str>
+    ensures { option_copied result ≡ own.defaulted content.now property }
+{
+    match content {
+        Content::Element { name, .. } => {
+            let has_href = attribute(content, b"href").is_some();
+            match default_of(name.as_slice(), has_href, property) {
+                Some(row) => Some(row.text),
+                None => None,
+            }
+        }
+        _ => None,
+    }
+}
+
+// The display that a text of the table stands for.
+#[tactic(auto, unfolding(css_value::specs::Values::display_of))]
+fn display_named(text: &str) -> Option<Display>
+    ensures { result ≡ values.display_of text.now }
+{
+    match text {
+        "block" => Some(Display::Block),
+        "inline" => Some(Display::Inline),
+        "inline-block" => Some(Display::InlineBlock),
+        "inline-table" => Some(Display::InlineTable),
+        "list-item" => Some(Display::ListItem),
+        "table" => Some(Display::Table),
+        "none" => Some(Display::NoBox),
+        _ => None,
+    }
+}
+
+fn default_display(content: &Content) -> Option<Display>
+    ensures { result ≡ option_and_then values.display_of (own.defaulted content.now property.Display) }
+{
+    display_named(defaulted(content, Property::Display)?)
+}
+
+#[tactic(auto, unfolding(crate::specs::OwnStyles::own_display))]
+pub(crate) fn own_display(content: &Content) -> Option<Display>
+    ensures { result ≡ own.own_display content.now }
+{
+    let stated = match declared(content, b"display") {
+        Some(text) => read_display(text),
+        None => None,
+    };
+    match stated {
+        Some(value) => Some(value),
+        None => default_display(content),
+    }
+}
+
+// The white-space that a text of the table stands for.
+#[tactic(auto, unfolding(css_value::specs::Values::white_space_of))]
+fn white_space_named(text: &str) -> Option<WhiteSpace>
+    ensures { result ≡ values.white_space_of text.now }
+{
+    match text {
+        "normal" => Some(WhiteSpace::Normal),
+        "nowrap" => Some(WhiteSpace::NoWrap),
+        "pre" => Some(WhiteSpace::Pre),
+        "pre-wrap" => Some(WhiteSpace::PreWrap),
+        "pre-line" => Some(WhiteSpace::PreLine),
+        _ => None,
+    }
+}
+
+fn default_white_space(content: &Content) -> Option<WhiteSpace>
+    ensures { result ≡ option_and_then values.white_space_of (own.defaulted content.now property.WhiteSpace) }
+{
+    white_space_named(defaulted(content, Property::WhiteSpace)?)
+}
+
+#[tactic(auto, unfolding(crate::specs::OwnStyles::own_white_space))]
+pub(crate) fn own_white_space(content: &Content) -> Option<WhiteSpace>
+    ensures { result ≡ own.own_white_space content.now }
+{
+    let stated = match declared(content, b"white-space") {
+        Some(text) => read_white_space(text),
+        None => None,
+    };
+    match stated {
+        Some(value) => Some(value),
+        None => default_white_space(content),
+    }
+}
+
+#[tactic(auto, using(crate::proofs::Defaults::weight_default))]
+fn default_font_weight(content: &Content) -> Option<u16>
+    ensures { result ≡ option_and_then values.font_weight_of (own.defaulted content.now property.FontWeight) }
+{
+    match defaulted(content, Property::FontWeight) {
+        Some(_) => Some(700),
+        None => None,
+    }
+}
+
+#[tactic(auto, unfolding(crate::specs::OwnStyles::own_font_weight))]
+pub(crate) fn own_font_weight(content: &Content) -> Option<u16>
+    ensures { result ≡ own.own_font_weight content.now }
+{
+    let stated = match declared(content, b"font-weight") {
+        Some(text) => read_font_weight(text),
+        None => None,
+    };
+    match stated {
+        Some(value) => Some(value),
+        None => default_font_weight(content),
+    }
+}
+
+#[tactic(auto, using(crate::proofs::Defaults::style_default))]
+fn default_font_style(content: &Content) -> Option<FontStyle>
+    ensures { result ≡ option_and_then values.font_style_of (own.defaulted content.now property.FontStyle) }
+{
+    match defaulted(content, Property::FontStyle) {
+        Some(_) => Some(FontStyle::Italic),
+        None => None,
+    }
+}
+
+#[tactic(auto, unfolding(crate::specs::OwnStyles::own_font_style))]
+pub(crate) fn own_font_style(content: &Content) -> Option<FontStyle>
+    ensures { result ≡ own.own_font_style content.now }
+{
+    let stated = match declared(content, b"font-style") {
+        Some(text) => read_font_style(text),
+        None => None,
+    };
+    match stated {
+        Some(value) => Some(value),
+        None => default_font_style(content),
+    }
+}
+
+/// A family's name as the page has it, the one that the table gives, or the initial one.
+#[derive(Clone, Copy)]
+pub(crate) enum Family<'a> {
+    Written(&'a [char]),
+    Monospace,
+    Serif,
+}
+
+#[tactic(auto, using(crate::proofs::Defaults::family_default))]
+fn default_font_family<'a>(content: &Content) -> Option<Family<'a>>
+    ensures { option_map family_text result ≡ option_and_then own.family_of (own.defaulted content.now property.FontFamily) }
+{
+    match defaulted(content, Property::FontFamily) {
+        Some(_) => Some(Family::Monospace),
+        None => None,
+    }
+}
+
+// The family that the style gives.
+fn stated_font_family(content: &Content) -> Option<&[char]>
+    ensures { option_copied result ≡ option_and_then own.family_of (own.declared content.now (codes "font-family")) }
+{
+    let text = declared(content, b"font-family")?;
+    if text.is_empty() { None } else { Some(text) }
+}
+
+// The family that the style or a hint gives.
+fn written_font_family(content: &Content) -> Option<&[char]>
+    ensures { option_copied result ≡ option_or (option_and_then own.family_of (own.declared content.now (codes "font-family"))) (own.family_hint content.now) }
+{
+    match stated_font_family(content) {
+        Some(text) => Some(text),
+        None => family_hint(content),
+    }
+}
+
+#[tactic(auto, unfolding(crate::specs::OwnStyles::own_font_family))]
+pub(crate) fn own_font_family(content: &Content) -> Option<Family<'_>>
+    ensures { option_map family_text result ≡ own.own_font_family content.now }
+{
+    match written_font_family(content) {
+        Some(text) => Some(Family::Written(text)),
+        None => default_font_family(content),
+    }
+}
+
+// The pixels of a size that the table gives.
+fn size_named(text: &str) -> Option<u16>
+    ensures { result ≡ table.pixels_of text.now }
+{
+    match text {
+        "32px" => Some(32),
+        "24px" => Some(24),
+        "19px" => Some(19),
+        "16px" => Some(16),
+        "13px" => Some(13),
+        "11px" => Some(11),
+        "18px" => Some(18),
+        _ => None,
+    }
+}
+
+#[tactic(auto, using(crate::proofs::Defaults::size_default))]
+fn default_font_size(content: &Content) -> Option<u16>
+    ensures { result ≡ option_and_then values.font_size_of (own.defaulted content.now property.FontSize) }
+{
+    size_named(defaulted(content, Property::FontSize)?)
+}
+
+// The size that a hint or the table gives.
+fn presented_font_size(content: &Content) -> Option<u16>
+    ensures { result ≡ option_or (own.size_hint content.now) (option_and_then values.font_size_of (own.defaulted content.now property.FontSize)) }
+{
+    match size_hint(content) {
+        Some(size) => Some(size),
+        None => default_font_size(content),
+    }
+}
+
+#[tactic(auto, unfolding(crate::specs::OwnStyles::own_font_size))]
+pub(crate) fn own_font_size(content: &Content) -> Option<u16>
+    ensures { result ≡ own.own_font_size content.now }
+{
+    let stated = match declared(content, b"font-size") {
+        Some(text) => read_font_size(text),
+        None => None,
+    };
+    match stated {
+        Some(value) => Some(value),
+        None => presented_font_size(content),
+    }
+}
+
+// The colours of the table: links are blue.
+#[tactic(auto, using(crate::proofs::Defaults::color_default))]
+fn default_color(content: &Content) -> Option<Colour>
+    ensures { result ≡ option_and_then colour_of (own.defaulted content.now property.Color) }
+{
+    match defaulted(content, Property::Color) {
+        Some(_) => Some(Colour {
+            red: 0,
+            green: 0,
+            blue: 238,
+            clear: false,
+        }),
+        None => None,
+    }
+}
+
+fn presented_color(content: &Content) -> Option<Colour>
+    ensures { result ≡ option_or (own.color_hint content.now) (option_and_then colour_of (own.defaulted content.now property.Color)) }
+{
+    match color_hint(content) {
+        Some(colour) => Some(colour),
+        None => default_color(content),
+    }
+}
+
+#[tactic(auto, unfolding(crate::specs::OwnStyles::own_color))]
+pub(crate) fn own_color(content: &Content) -> Option<Colour>
+    ensures { result ≡ own.own_color content.now }
+{
+    let stated = match declared(content, b"color") {
+        Some(text) => Colour::read(text),
+        None => None,
+    };
+    match stated {
+        Some(value) => Some(value),
+        None => presented_color(content),
+    }
+}
+
+// What is marked has a yellow background.
+#[tactic(auto, using(crate::proofs::Defaults::background_default))]
+fn default_background_color(content: &Content) -> Option<Colour>
+    ensures { result ≡ option_and_then colour_of (own.defaulted content.now property.BackgroundColor) }
+{
+    match defaulted(content, Property::BackgroundColor) {
+        Some(_) => Some(Colour {
+            red: 255,
+            green: 255,
+            blue: 0,
+            clear: false,
+        }),
+        None => None,
+    }
+}
+
+#[tactic(auto, unfolding(crate::specs::OwnStyles::own_background_color))]
+pub(crate) fn own_background_color(content: &Content) -> Option<Colour>
+    ensures { result ≡ own.own_background_color content.now }
+{
+    let stated = match declared(content, b"background-color") {
+        Some(text) => Colour::read(text),
+        None => None,
+    };
+    match stated {
+        Some(value) => Some(value),
+        None => default_background_color(content),
+    }
+}
+
+// The lines that a text of the table stands for.
+fn lines_named(text: &str) -> Option<TextDecoration>
+    ensures { result ≡ table.lines_of text.now }
+{
+    match text {
+        "underline" => Some(TextDecoration {
+            underline: true,
+            overline: false,
+            line_through: false,
+        }),
+        "line-through" => Some(TextDecoration {
+            underline: false,
+            overline: false,
+            line_through: true,
+        }),
+        _ => None,
+    }
+}
+
+#[tactic(auto, using(crate::proofs::Defaults::decoration_default))]
+fn default_text_decoration(content: &Content) -> Option<TextDecoration>
+    ensures { result ≡ option_and_then text_decoration_of (own.defaulted content.now property.TextDecoration) }
+{
+    lines_named(defaulted(content, Property::TextDecoration)?)
+}
+
+#[tactic(auto, unfolding(crate::specs::OwnStyles::own_text_decoration))]
+pub(crate) fn own_text_decoration(content: &Content) -> Option<TextDecoration>
+    ensures { result ≡ own.own_text_decoration content.now }
+{
+    let stated = match declared(content, b"text-decoration") {
+        Some(text) => read_text_decoration(text),
+        None => None,
+    };
+    match stated {
+        Some(value) => Some(value),
+        None => default_text_decoration(content),
+    }
+}
+
+#[tactic(auto, using(crate::proofs::Defaults::align_default))]
+fn default_text_align(content: &Content) -> Option<TextAlign>
+    ensures { result ≡ option_and_then values.text_align_of (own.defaulted content.now property.TextAlign) }
+{
+    match defaulted(content, Property::TextAlign) {
+        Some(_) => Some(TextAlign::Center),
+        None => None,
+    }
+}
+
+fn presented_text_align(content: &Content) -> Option<TextAlign>
+    ensures { result ≡ option_or (own.align_hint content.now) (option_and_then values.text_align_of (own.defaulted content.now property.TextAlign)) }
+{
+    match align_hint(content) {
+        Some(alignment) => Some(alignment),
+        None => default_text_align(content),
+    }
+}
+
+#[tactic(auto, unfolding(crate::specs::OwnStyles::own_text_align))]
+pub(crate) fn own_text_align(content: &Content) -> Option<TextAlign>
+    ensures { result ≡ own.own_text_align content.now }
+{
+    let stated = match declared(content, b"text-align") {
+        Some(text) => read_text_align(text),
+        None => None,
+    };
+    match stated {
+        Some(value) => Some(value),
+        None => presented_text_align(content),
+    }
+}
+
+// Whether the element gives the property a value.
+pub(crate) fn has_own(content: &Content, property: Property) -> bool
+    ensures { result ≡ traits.has_own property content.now }
+{
+    match property {
+        Property::Display => own_display(content).is_some(),
+        Property::WhiteSpace => own_white_space(content).is_some(),
+        Property::FontWeight => own_font_weight(content).is_some(),
+        Property::FontStyle => own_font_style(content).is_some(),
+        Property::FontFamily => own_font_family(content).is_some(),
+        Property::FontSize => own_font_size(content).is_some(),
+        Property::Color => own_color(content).is_some(),
+        Property::BackgroundColor => own_background_color(content).is_some(),
+        Property::TextDecoration => own_text_decoration(content).is_some(),
+        Property::TextAlign => own_text_align(content).is_some(),
+    }
+}

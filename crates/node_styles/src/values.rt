@@ -1,0 +1,225 @@
+//! The resolved values of the properties of a node.
+
+ghost use Rattle.std.specs.Prelude.{◌≡◌, IfOk};
+ghost use Rattle.node_arena.specs.Held.{Holds};
+ghost use Rattle.node_styles.specs.Families.{family_text};
+ghost use Rattle.node_styles.specs.Resolved as resolved;
+
+use crate::lineage::{Trait, nearest};
+use crate::own::{
+    Family, own_background_color, own_color, own_display, own_font_family, own_font_size,
+    own_font_style, own_font_weight, own_text_align, own_text_decoration, own_white_space,
+};
+use css_value::{
+    Colour, Display, FontStyle, TextAlign, TextDecoration, WhiteSpace, print_font_size,
+    print_font_weight,
+};
+use node_arena::{Arena, Chars, NodeRef};
+use std::alloc::{AllocError, Global};
+use style_table::Property;
+
+/// The resolved `display`.
+#[tactic(auto, unfolding(crate::specs::Resolved::display))]
+pub fn display(arena: &Arena, node: NodeRef) -> Display
+    requires { Holds arena.now node }
+    ensures { result ≡ resolved.display arena.now.trees node.label }
+{
+    match own_display(arena.content(node)) {
+        Some(value) => value,
+        None => Display::Inline,
+    }
+}
+
+/// The resolved `background-color`. It isn't inherited.
+#[tactic(auto, unfolding(crate::specs::Resolved::background_color))]
+pub fn background_color(arena: &Arena, node: NodeRef) -> Colour
+    requires { Holds arena.now node }
+    ensures { result ≡ resolved.background_color arena.now.trees node.label }
+{
+    match own_background_color(arena.content(node)) {
+        Some(value) => value,
+        None => Colour {
+            red: 0,
+            green: 0,
+            blue: 0,
+            clear: true,
+        },
+    }
+}
+
+/// The resolved `text-decoration`. It isn't inherited.
+#[tactic(auto, unfolding(crate::specs::Resolved::text_decoration))]
+pub fn text_decoration(arena: &Arena, node: NodeRef) -> TextDecoration
+    requires { Holds arena.now node }
+    ensures { result ≡ resolved.text_decoration arena.now.trees node.label }
+{
+    match own_text_decoration(arena.content(node)) {
+        Some(value) => value,
+        None => TextDecoration {
+            underline: false,
+            overline: false,
+            line_through: false,
+        },
+    }
+}
+
+/// The resolved `white-space`.
+#[tactic(auto, unfolding(crate::specs::Resolved::white_space))]
+pub fn white_space(arena: &Arena, node: NodeRef) -> WhiteSpace
+    requires { Holds arena.now node }
+    ensures { result ≡ resolved.white_space arena.now.trees node.label }
+{
+    let own = match nearest(arena, node, Trait::Own(Property::WhiteSpace)) {
+        Some(owner) => own_white_space(arena.content(owner)),
+        None => None,
+    };
+    match own {
+        Some(value) => value,
+        None => WhiteSpace::Normal,
+    }
+}
+
+/// The resolved `font-weight`, 100 to 900.
+#[tactic(auto, unfolding(crate::specs::Resolved::font_weight))]
+pub fn font_weight(arena: &Arena, node: NodeRef) -> u16
+    requires { Holds arena.now node }
+    ensures { result ≡ resolved.font_weight arena.now.trees node.label }
+{
+    let own = match nearest(arena, node, Trait::Own(Property::FontWeight)) {
+        Some(owner) => own_font_weight(arena.content(owner)),
+        None => None,
+    };
+    match own {
+        Some(value) => value,
+        None => 400,
+    }
+}
+
+/// The resolved `font-style`.
+#[tactic(auto, unfolding(crate::specs::Resolved::font_style))]
+pub fn font_style(arena: &Arena, node: NodeRef) -> FontStyle
+    requires { Holds arena.now node }
+    ensures { result ≡ resolved.font_style arena.now.trees node.label }
+{
+    let own = match nearest(arena, node, Trait::Own(Property::FontStyle)) {
+        Some(owner) => own_font_style(arena.content(owner)),
+        None => None,
+    };
+    match own {
+        Some(value) => value,
+        None => FontStyle::Normal,
+    }
+}
+
+/// The resolved `font-size` in pixels.
+#[tactic(auto, unfolding(crate::specs::Resolved::font_size))]
+pub fn font_size(arena: &Arena, node: NodeRef) -> u16
+    requires { Holds arena.now node }
+    ensures { result ≡ resolved.font_size arena.now.trees node.label }
+{
+    let own = match nearest(arena, node, Trait::Own(Property::FontSize)) {
+        Some(owner) => own_font_size(arena.content(owner)),
+        None => None,
+    };
+    match own {
+        Some(value) => value,
+        None => 16,
+    }
+}
+
+/// The resolved `color`.
+#[tactic(auto, unfolding(crate::specs::Resolved::color))]
+pub fn color(arena: &Arena, node: NodeRef) -> Colour
+    requires { Holds arena.now node }
+    ensures { result ≡ resolved.color arena.now.trees node.label }
+{
+    let own = match nearest(arena, node, Trait::Own(Property::Color)) {
+        Some(owner) => own_color(arena.content(owner)),
+        None => None,
+    };
+    match own {
+        Some(value) => value,
+        None => Colour {
+            red: 0,
+            green: 0,
+            blue: 0,
+            clear: false,
+        },
+    }
+}
+
+/// The resolved `text-align`.
+#[tactic(auto, unfolding(crate::specs::Resolved::text_align))]
+pub fn text_align(arena: &Arena, node: NodeRef) -> TextAlign
+    requires { Holds arena.now node }
+    ensures { result ≡ resolved.text_align arena.now.trees node.label }
+{
+    let own = match nearest(arena, node, Trait::Own(Property::TextAlign)) {
+        Some(owner) => own_text_align(arena.content(owner)),
+        None => None,
+    };
+    match own {
+        Some(value) => value,
+        None => TextAlign::Left,
+    }
+}
+
+// The resolved family.
+#[tactic(auto, unfolding(crate::specs::Resolved::font_family))]
+fn font_family(arena: &Arena, node: NodeRef) -> Family<'_>
+    requires { Holds arena.now node }
+    ensures { family_text result ≡ resolved.font_family arena.now.trees node.label }
+{
+    let own = match nearest(arena, node, Trait::Own(Property::FontFamily)) {
+        Some(owner) => own_font_family(arena.content(owner)),
+        None => None,
+    };
+    match own {
+        Some(family) => family,
+        None => Family::Serif,
+    }
+}
+
+// The characters of a word.
+fn chars_of(alloc: Global, word: &[u8]) -> Result<Vec<char>, AllocError>
+    ensures { IfOk result (λ text. text.items ≡ word.now) }
+{
+    word.iter().map(|b| *b as char).collect(alloc)
+}
+
+fn print_font_family(alloc: Global, family: Family) -> Result<Vec<char>, AllocError>
+    ensures { IfOk result (λ text. text.items ≡ family_text family.entry) }
+{
+    match family {
+        Family::Written(text) => text.to_vec(alloc),
+        Family::Monospace => chars_of(alloc, b"monospace"),
+        Family::Serif => chars_of(alloc, b"serif"),
+    }
+}
+
+/// The resolved value of a property as a text: a weight as a number, a size as `Npx`, a colour as `rgb(r, g, b)` or, for
+/// `transparent`, as `rgba(0, 0, 0, 0)`.
+#[tactic(auto, unfolding(crate::specs::Resolved::resolved))]
+pub fn resolved(
+    alloc: Global,
+    arena: &Arena,
+    node: NodeRef,
+    property: Property,
+) -> Result<Chars, AllocError>
+    requires { Holds arena.now node }
+    ensures { IfOk result (λ text. text ≡ resolved.resolved arena.now.trees node.label property) }
+{
+    let text = match property {
+        Property::Display => display(arena, node).print(alloc),
+        Property::WhiteSpace => white_space(arena, node).print(alloc),
+        Property::FontWeight => print_font_weight(alloc, font_weight(arena, node)),
+        Property::FontStyle => font_style(arena, node).print(alloc),
+        Property::FontFamily => print_font_family(alloc, font_family(arena, node)),
+        Property::FontSize => print_font_size(alloc, font_size(arena, node)),
+        Property::Color => color(arena, node).print(alloc),
+        Property::BackgroundColor => background_color(arena, node).print(alloc),
+        Property::TextDecoration => text_decoration(arena, node).print(alloc),
+        Property::TextAlign => text_align(arena, node).print(alloc),
+    };
+    Ok(Chars::from_vec(text?))
+}

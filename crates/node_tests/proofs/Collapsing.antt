@@ -1,0 +1,192 @@
+-- Whether whitespace collapses at what stands before and after it.
+use Rattle.std.proofs.Common.{◌≡◌, ℕ, ◌<◌, Bool, true, false, not, cond, ◌||◌, List, [], ◌∷◌, Option, Some, None, refl, sym, ap, ◌∙◌, inl, inr, arith}
+use Rattle.std.specs.Option.{option_or, option_map, option_map_or, unwrap_or}
+use Rattle.std.proofs.lemmas.Bool.Decides.{eqb_tells}
+use Rattle.dom_model.specs.declared.Content.{Content}
+use Rattle.dom_model.specs.declared.Content.TheVariants.{Document, Element, Words, Remark}
+use Rattle.dom_model.specs.State.{State, IsLawful}
+use Rattle.dom_model.specs.Contents.{may_have_children}
+use Rattle.dom_model.specs.Forest.{Forest, Seen, join, count_of, IsDistinct, tree_of, preorder, preorder_onto, parent_of, first_of, first_in, prev_of}
+use Rattle.dom_model.specs.Forest.Forest.{Nil, Tree}
+use Rattle.dom_model.proofs.Links.{seen, eqb_refl_true}
+use Rattle.node_styles.specs.Blocks.{is_block, is_whitespace, is_whitespace_in}
+use Rattle.node_tests.specs.declared.neighbours.Neighbour.{Neighbour}
+use Rattle.node_tests.specs.declared.neighbours.Neighbour.TheVariants.{BlockEdge, LineBreak, Solid}
+use Rattle.node_tests.specs.Surroundings.{later, labels_after, in_block, trees_after, nodes_before, nodes_after}
+use Rattle.node_tests.specs.CollapsedWhitespace.{decides, collapses_at, is_break, is_solid}
+use Rattle.node_tests.specs.SolidNeighbours.{met, first_met, last_in_order, neighbour_after, is_solid_neighbour}
+use Rattle.node_tests.proofs.Pieces.{count_in_tree, find_where, once_kids, once_rest, tree-below, tree-after, has, hasnt, back}
+use Rattle.node_tests.proofs.Pieces.Where.{Here, Below, After}
+use Rattle.node_tests.proofs.Inside.{siblings, tree_is_kids}
+use Rattle.node_tests.proofs.Around.{content_at, single_block, inner_is}
+use Rattle.node_tests.proofs.Steps.{prev_step, labels-parent, labels-block, labels-root}
+use Rattle.node_tests.proofs.Walking.{prev_parent}
+
+yields : Neighbour → Bool
+yields m = not (is_solid_neighbour m)
+
+map_or : (a b : Option Neighbour) (d : Bool) → unwrap_or (option_map yields (option_or a b)) d ≡ unwrap_or (option_map yields a) (unwrap_or (option_map yields b) d)
+map_or None b d = refl
+map_or (Some x) b d = refl
+
+module _ (f : Forest Content) where
+  decides_met : (l : ℕ) → decides f l ≡ option_map yields (met f l)
+  unfolding decides met yields
+  decides_met l = by_tests (is_block f l) (is_break f l) (is_solid f l)
+    where
+      by_tests : (a b c : Bool) → cond (a || b) (Some true) (cond c (Some false) None) ≡ option_map (λ m. not (is_solid_neighbour m)) (cond a (Some BlockEdge) (cond b (Some LineBreak) (cond c (Some Solid) None)))
+      by_tests true b c = refl
+      by_tests false true c = refl
+      by_tests false false true = refl
+      by_tests false false false = refl
+
+  at_first : (l : ℕ) (ls : List ℕ) → collapses_at f (l ∷ ls) ≡ unwrap_or (option_map yields (met f l)) (collapses_at f ls)
+  unfolding collapses_at
+  at_first l ls = ap (λ o. unwrap_or o (collapses_at f ls)) (decides_met l)
+
+  collapses-back : (g : Forest Content) (ls : List ℕ) → collapses_at f (back g ls) ≡ unwrap_or (option_map yields (last_in_order f g)) (collapses_at f ls)
+  collapses-back Nil ls = refl
+  collapses-back (Tree m c ks rest) ls =
+      collapses-back rest (back ks (m ∷ ls))
+      ∙ ap (unwrap_or (option_map yields (last_in_order f rest))) (
+      collapses-back ks (m ∷ ls)
+      ∙ ap (unwrap_or (option_map yields (last_in_order f ks))) (at_first m ls)
+      ∙ sym (map_or (last_in_order f ks) (met f m) (collapses_at f ls)))
+      ∙ sym (map_or (last_in_order f rest) (option_or (last_in_order f ks) (met f m)) (collapses_at f ls))
+
+  collapses-onto : (g : Forest Content) (ls : List ℕ) → collapses_at f (preorder_onto g ls) ≡ unwrap_or (option_map yields (first_met f g)) (collapses_at f ls)
+  collapses-onto Nil ls = refl
+  collapses-onto (Tree m c ks rest) ls =
+      at_first m (preorder_onto ks (preorder_onto rest ls))
+      ∙ ap (unwrap_or (option_map yields (met f m))) (
+      collapses-onto ks (preorder_onto rest ls)
+      ∙ ap (unwrap_or (option_map yields (first_met f ks))) (collapses-onto rest ls)
+      ∙ sym (map_or (first_met f ks) (first_met f rest) (collapses_at f ls)))
+      ∙ sym (map_or (met f m) (option_or (first_met f ks) (first_met f rest)) (collapses_at f ls))
+
+  none_left : collapses_at f [] ≡ true
+  unfolding collapses_at
+  none_left = refl
+
+-- ---- the labels after a node
+
+after_skip : (f : Forest Content) (l : ℕ) (xs : List ℕ) → count_of f l ≡ 0 → labels_after (preorder_onto f xs) l ≡ labels_after xs l
+after_skip Nil l xs none = refl
+after_skip (Tree m c ks rest) l xs none =
+    elim (eqb_tells m l) [
+      | inl (t, _) ↦ absurd (let none' = rw t at none in omega (arith, none'))
+      | inr (t, _) ↦ (let none' = rw t at none in
+          rw t (after_skip ks l (preorder_onto rest xs) (omega (arith, none')) ∙ after_skip rest l xs (omega (arith, none'))))
+    ]
+
+onto_join : (g h : Forest Content) (xs : List ℕ) → preorder_onto (join g h) xs ≡ preorder_onto g (preorder_onto h xs)
+onto_join Nil h xs = refl
+onto_join (Tree m c ks rest) h xs = ap (λ ys. m ∷ preorder_onto ks ys) (onto_join rest h xs)
+
+module _ (l : ℕ) (d : Content) (js : Forest Content) where
+  after_is : (g : Forest Content) (xs : List ℕ) → IsDistinct g → 0 < count_of g l → tree_of g l ≡ Tree l d js Nil → labels_after (preorder_onto g xs) l ≡ preorder_onto js (preorder_onto (later g l) xs)
+  after_is Nil xs once here e = absurd (omega (arith, here))
+  after_is (Tree m c ks rest) xs once here e =
+      elim (find_where m ks rest l (once l) here) [
+        | Here _ t ↦ (
+            let e' : Tree m c ks Nil ≡ Tree l d js Nil = rw t at e in
+            let same : ks ≡ js = (let u = e' in cc) in
+            rw t (ap (λ x. preorder_onto x (preorder_onto rest xs)) same))
+        | Below t some none ↦ (
+            let e' = sym (tree-below m c ks rest l t none) ∙ e in
+            rw (t, has (count_of ks l) some)
+            (after_is ks (preorder_onto rest xs) (once_kids m c ks rest once) some e' ∙ ap (preorder_onto js) (sym (onto_join (later ks l) rest xs))))
+        | After t none some ↦ (
+            let e' = sym (tree-after m c ks rest l t none) ∙ e in
+            rw (t, hasnt (count_of ks l) none)
+            (after_skip ks l (preorder_onto rest xs) none ∙ after_is rest xs (once_rest m c ks rest once) some e'))
+      ]
+
+module _ (f : Forest Content) (once : IsDistinct f) where
+  module _ (l : ℕ) (here : 0 < count_of f l) (leaf : first_of f l ≡ None) where
+    after_trees : nodes_after f l ≡ preorder (trees_after f l)
+    unfolding nodes_after trees_after
+    after_trees =
+        let c = content_at f once l here in
+        let inner = inner_is f once l here in
+        let tree : tree_of (in_block f l) l ≡ Tree l c.0 Nil Nil = inner ∙ tree_is_kids f once l c.0 here c.1 ∙ ap (λ o. Tree l c.0 (siblings f o) Nil) leaf in
+        after_is l c.0 Nil (in_block f l) [] (single_block f once l) (there c.0 tree) tree
+      where
+        there : (c : Content) → tree_of (in_block f l) l ≡ Tree l c Nil Nil → 0 < count_of (in_block f l) l
+        there c tree =
+            let one = eqb_refl_true l in
+            let some : 0 < count_of (tree_of (in_block f l) l) l = rw (tree, one) (omega arith) in
+            omega (arith, some, count_in_tree (in_block f l) l l)
+
+    pub after_collapses : not (is_solid_neighbour (neighbour_after f l)) ≡ collapses_at f (nodes_after f l)
+    unfolding neighbour_after yields
+    after_collapses =
+        by_met (first_met f (trees_after f l))
+        ∙ ap (unwrap_or (option_map yields (first_met f (trees_after f l)))) (sym (none_left f))
+        ∙ sym (collapses-onto f (trees_after f l) [])
+        ∙ ap (collapses_at f) (sym after_trees)
+      where
+        by_met : (o : Option Neighbour) → not (is_solid_neighbour (unwrap_or o BlockEdge)) ≡ unwrap_or (option_map yields o) true
+        by_met None = refl
+        by_met (Some m) = refl
+
+  -- ---- the walk back
+
+  module _ (l k : ℕ) (prev : prev_of f l ≡ Some k) where
+    by_prev : collapses_at f (nodes_before f l) ≡ unwrap_or (option_map yields (last_in_order f (tree_of f k))) (collapses_at f (nodes_before f k))
+    by_prev =
+        let p = prev_parent f l k prev in
+        ap (collapses_at f) (prev_step f once l k p.0 p.1 prev).labels ∙ collapses-back f (tree_of f k) (nodes_before f k)
+
+    pub back_found : (m : Neighbour) → Some m ≡ last_in_order f (tree_of f k) → not (is_solid_neighbour m) ≡ collapses_at f (nodes_before f l)
+    unfolding yields
+    back_found m e = sym (by_prev ∙ ap (λ o. unwrap_or (option_map yields o) (collapses_at f (nodes_before f k))) (sym e))
+
+    pub back_passed : None ≡ last_in_order f (tree_of f k) → collapses_at f (nodes_before f k) ≡ collapses_at f (nodes_before f l)
+    back_passed e = sym (by_prev ∙ ap (λ o. unwrap_or (option_map yields o) (collapses_at f (nodes_before f k))) (sym e))
+
+  block_edge : (p : ℕ) → is_block f p ≡ true → met f p ≡ Some BlockEdge
+  unfolding met
+  block_edge p block = rw block refl
+
+  module _ (l p : ℕ) (child : parent_of f l ≡ Some p) (first : prev_of f l ≡ None) where
+    by_inline : is_block f p ≡ false → collapses_at f (nodes_before f l) ≡ unwrap_or (option_map yields (met f p)) (collapses_at f (nodes_before f p))
+    by_inline inline = ap (collapses_at f) (labels-parent f once l p child first inline) ∙ at_first f p (nodes_before f p)
+
+    by_block : is_block f p ≡ true → true ≡ collapses_at f (nodes_before f l)
+    by_block block = sym (ap (collapses_at f) (labels-block f once l p child first block) ∙ none_left f)
+
+    pub up_found : (m : Neighbour) → Some m ≡ met f p → not (is_solid_neighbour m) ≡ collapses_at f (nodes_before f l)
+    unfolding yields
+    up_found m e = by_test (is_block f p) refl
+      where
+        by_test : (b : Bool) → is_block f p ≡ b → not (is_solid_neighbour m) ≡ collapses_at f (nodes_before f l)
+        by_test true block =
+            let same : m ≡ BlockEdge = (let t : Some m ≡ Some BlockEdge = e ∙ block_edge p block in cc) in
+            ap (λ x. not (is_solid_neighbour x)) same ∙ by_block block
+        by_test false inline = sym (by_inline inline ∙ ap (λ o. unwrap_or (option_map yields o) (collapses_at f (nodes_before f p))) (sym e))
+
+    pub up_passed : None ≡ met f p → collapses_at f (nodes_before f p) ≡ collapses_at f (nodes_before f l)
+    up_passed e = by_test (is_block f p) refl
+      where
+        by_test : (b : Bool) → is_block f p ≡ b → collapses_at f (nodes_before f p) ≡ collapses_at f (nodes_before f l)
+        by_test true block = absurd (let t : None ≡ Some BlockEdge = e ∙ block_edge p block in cc)
+        by_test false inline = sym (by_inline inline ∙ ap (λ o. unwrap_or (option_map yields o) (collapses_at f (nodes_before f p))) (sym e))
+
+  pub top_collapses : (l : ℕ) → 0 < count_of f l → parent_of f l ≡ None → true ≡ collapses_at f (nodes_before f l)
+  top_collapses l here root = sym (ap (collapses_at f) (labels-root f once l here root) ∙ none_left f)
+
+-- whitespace has no children
+pub whitespace_leaf : (s : State) → IsLawful s → (l : ℕ) → 0 < count_of s.trees l → is_whitespace s.trees l ≡ true → first_of s.trees l ≡ None
+unfolding is_whitespace
+whitespace_leaf s law l here white =
+    let t = seen s.trees l law.distinct here in
+    let node = law.nodes l t.0 t.2 in
+    let own = ap (λ o. option_map_or (is_whitespace_in s.trees (parent_of s.trees l)) (option_map (λ (x : Seen Content). x.content) o) false) (sym t.2) ∙ white in
+    ap (λ o. first_in (option_map_or (λ (x : Seen Content). x.children) o [])) t.2 ∙ ap first_in (by_content t.0.content t.0.children own node.leaf)
+  where
+    by_content : (c : Content) (xs : List ℕ) → is_whitespace_in s.trees (parent_of s.trees l) c ≡ true → (may_have_children c ≡ false → xs ≡ []) → xs ≡ []
+    by_content (Words chars) xs e leaf = leaf refl
+    by_content Document xs e leaf = absurd (let t = e in cc)
+    by_content (Element name attributes) xs e leaf = absurd (let t = e in cc)
+    by_content (Remark chars) xs e leaf = absurd (let t = e in cc)

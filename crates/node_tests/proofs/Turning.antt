@@ -1,0 +1,218 @@
+-- The places beside the children of a node.
+use Rattle.std.proofs.Common.{◌≡◌, ◌≢◌, ℕ, zero, suc, ◌+◌, ◌<◌, ◌≤◌, Bool, true, false, ◌||◌, List, [], ◌∷◌, length, Option, Some, None, refl, sym, ap, ◌∙◌, inl, inr, arith, eqb, is_none, add-one, add-zero}
+use Rattle.std.specs.Prelude.{slice_get}
+use Rattle.std.specs.Option.{option_map_or}
+use Rattle.std.proofs.lemmas.Bool.Decides.{eqb_tells}
+use Rattle.dom_model.specs.declared.Content.{Content}
+use Rattle.dom_model.specs.declared.Content.TheVariants.{Document, Element, Words, Remark}
+use Rattle.dom_model.specs.Contents.{may_have_children, length_in, length_of}
+use Rattle.dom_model.specs.Forest.{Forest, times, first_in, last_or, last_in, before_from, before_in, after_in, parent_of, children_of, first_of, last_of, prev_of, next_of}
+use Rattle.dom_model.specs.Places.{place_in, index_of}
+use Rattle.dom_model.specs.State.{State, IsLawful}
+use Rattle.dom_model.proofs.Laws.{leaf_children}
+use Rattle.dom_model.proofs.Lists.{before_from_some}
+use Rattle.dom_model.proofs.Links.{parent_count}
+use Rattle.node_arena.specs.declared.NodeRef.{NodeRef}
+use Rattle.node_arena.specs.Held.{Holds, label}
+use Rattle.node_tests.specs.BlockPoints.{child_before}
+use Rattle.node_tests.specs.Gaps.{StandsAt}
+use Rattle.node_tests.proofs.Around.{content_at, family, next_in, prev_in}
+
+-- ---- lists
+
+differ : (m n : ℕ) → m ≢ n → eqb m n ≡ false
+differ m n off = elim (eqb_tells m n) [ inl (_, e) ↦ absurd (off e) | inr (t, _) ↦ t ]
+
+eqb_shift : (m n : ℕ) → eqb (m + 1) (n + 1) ≡ eqb m n
+eqb_shift m n =
+    elim (eqb_tells m n) [
+      | inl (t, e) ↦ elim (eqb_tells (m + 1) (n + 1)) [ inl (u, _) ↦ u ∙ sym t | inr (_, off) ↦ absurd (off (omega (arith, e))) ]
+      | inr (t, off) ↦ elim (eqb_tells (m + 1) (n + 1)) [ inl (_, e) ↦ absurd (off (omega (arith, e))) | inr (u, _) ↦ u ∙ sym t ]
+    ]
+
+-- the element before an index, where o stands before the list
+abbrev preceding : Option ℕ → List ℕ → ℕ → Option ℕ
+preceding o xs zero = o
+preceding o xs (suc i) = slice_get xs i
+
+cons : (x : ℕ) (xs : List ℕ) (i : ℕ) → slice_get (x ∷ xs) i ≡ preceding (Some x) xs i
+cons x xs zero = refl
+cons x xs (suc i) = refl
+
+before_is : (f : Forest Content) (l i : ℕ) → child_before f l i ≡ preceding None (children_of f l) i
+before_is f l zero = refl
+before_is f l (suc i) = refl
+
+before_place : (o : Option ℕ) (xs : List ℕ) (l : ℕ) → 0 < times xs l → preceding o xs (place_in xs l) ≡ before_from o xs l
+before_place o [] l h = absurd (omega (arith, h))
+before_place o (x ∷ xs) l h =
+    elim (eqb_tells x l) [
+      | inl (t, _) ↦ rw t refl
+      | inr (t, _) ↦ (let h' = rw t at h in rw (t, add-one) (cons x xs (place_in xs l) ∙ before_place (Some x) xs l (omega (arith, h'))))
+    ]
+
+at_place : (xs : List ℕ) (l : ℕ) → 0 < times xs l → slice_get xs (place_in xs l) ≡ Some l
+at_place [] l h = absurd (omega (arith, h))
+at_place (x ∷ xs) l h =
+    elim (eqb_tells x l) [
+      | inl (t, is) ↦ rw t (ap Some is)
+      | inr (t, _) ↦ (let h' = rw t at h in rw (t, add-one) (at_place xs l (omega (arith, h'))))
+    ]
+
+first_get : (xs : List ℕ) → slice_get xs 0 ≡ first_in xs
+first_get [] = refl
+first_get (x ∷ xs) = refl
+
+after_place : (xs : List ℕ) (l : ℕ) → 0 < times xs l → slice_get xs (suc (place_in xs l)) ≡ after_in xs l
+after_place [] l h = absurd (omega (arith, h))
+after_place (x ∷ xs) l h =
+    elim (eqb_tells x l) [
+      | inl (t, _) ↦ rw t (first_get xs)
+      | inr (t, _) ↦ (let h' = rw t at h in rw (t, add-one) (after_place xs l (omega (arith, h'))))
+    ]
+
+last_place : (o : Option ℕ) (xs : List ℕ) (n : ℕ) → n ≡ length xs → preceding o xs n ≡ last_or o xs
+last_place o [] zero e = refl
+last_place o [] (suc n) e = absurd (omega (arith, e))
+last_place o (x ∷ xs) zero e = absurd (omega (arith, e))
+last_place o (x ∷ xs) (suc n) e = cons x xs n ∙ last_place (Some x) xs n (omega (arith, e))
+
+past_get : (xs : List ℕ) (n : ℕ) → length xs ≤ n → slice_get xs n ≡ None
+past_get [] n h = refl
+past_get (x ∷ xs) zero h = absurd (omega (arith, h))
+past_get (x ∷ xs) (suc n) h = past_get xs n (omega (arith, h))
+
+place_low : (xs : List ℕ) (l : ℕ) → 0 < times xs l → place_in xs l < length xs
+place_low [] l h = absurd (omega (arith, h))
+place_low (x ∷ xs) l h =
+    elim (eqb_tells x l) [
+      | inl (t, _) ↦ rw t (omega arith)
+      | inr (t, _) ↦ (let h' = rw t at h in rw t (omega (arith, place_low xs l (omega (arith, h')))))
+    ]
+
+-- the first place has no label before it, and the last none after it
+none_before : (xs : List ℕ) (l : ℕ) → 0 < times xs l → is_none (before_in xs l) ≡ eqb (place_in xs l) 0
+none_before [] l h = absurd (omega (arith, h))
+none_before (x ∷ xs) l h =
+    elim (eqb_tells x l) [
+      | inl (t, _) ↦ rw t refl
+      | inr (t, _) ↦ (let h' = rw t at h in
+          rw t (before_from_some x xs l (omega (arith, h')) ∙ sym (differ (place_in xs l + 1) 0 (λ e. omega (arith, e)))))
+    ]
+
+none_first : (xs : List ℕ) → is_none (first_in xs) ≡ eqb 0 (length xs)
+none_first [] = refl
+none_first (x ∷ xs) = sym (differ 0 (length (x ∷ xs)) (λ e. omega (arith, e)))
+
+none_after : (xs : List ℕ) (l : ℕ) → 0 < times xs l → is_none (after_in xs l) ≡ eqb (place_in xs l + 1) (length xs)
+none_after [] l h = absurd (omega (arith, h))
+none_after (x ∷ xs) l h =
+    let longer : length (x ∷ xs) ≡ length xs + 1 = omega arith in
+    elim (eqb_tells x l) [
+      | inl (t, _) ↦ rw t (none_first xs ∙ sym (eqb_shift 0 (length xs)) ∙ ap (eqb (0 + 1)) (sym longer))
+      | inr (t, _) ↦ (let h' = rw t at h in
+          rw t (none_after xs l (omega (arith, h')) ∙ sym (eqb_shift (place_in xs l + 1) (length xs)) ∙ ap (eqb (place_in xs l + 1 + 1)) (sym longer)))
+    ]
+
+-- ---- the end of a node
+
+no_item : (n : ℕ) → preceding None [] n ≡ None
+no_item zero = refl
+no_item (suc n) = refl
+
+leaf_end : (xs : List ℕ) (n : ℕ) → xs ≡ [] → (preceding None xs n ≡ last_in xs) × (slice_get xs n ≡ None)
+leaf_end xs n e = rw e (no_item n, refl)
+
+list_end : (xs : List ℕ) → (preceding None xs (length xs) ≡ last_in xs) × (slice_get xs (length xs) ≡ None)
+list_end xs = (last_place None xs (length xs) refl, past_get xs (length xs) (omega arith))
+
+at_end : (c : Content) (xs : List ℕ) → (may_have_children c ≡ false → xs ≡ []) → (preceding None xs (length_in c xs) ≡ last_in xs) × (slice_get xs (length_in c xs) ≡ None)
+at_end Document xs leaf = list_end xs
+at_end (Element name attributes) xs leaf = list_end xs
+at_end (Words chars) xs leaf = leaf_end xs (length chars) (leaf refl)
+at_end (Remark chars) xs leaf = leaf_end xs (length chars) (leaf refl)
+
+not_empty : (xs : List ℕ) (l : ℕ) → xs ≡ [] → 0 < times xs l → ⊥
+not_empty xs l e h = let h' = rw e at h in omega (arith, h')
+
+parent_length : (c : Content) (xs : List ℕ) (l : ℕ) → (may_have_children c ≡ false → xs ≡ []) → 0 < times xs l → length_in c xs ≡ length xs
+parent_length Document xs l leaf h = refl
+parent_length (Element name attributes) xs l leaf h = refl
+parent_length (Words chars) xs l leaf h = absurd (not_empty xs l (leaf refl) h)
+parent_length (Remark chars) xs l leaf h = absurd (not_empty xs l (leaf refl) h)
+
+-- ---- places of nodes
+
+or_true : (a : Bool) → (a || true) ≡ true
+or_true true = refl
+or_true false = refl
+
+module _ (s : State) (law : IsLawful s) where
+  pub stands_start : (r : NodeRef) (o : Option NodeRef) → label o ≡ first_of s.trees r.label → StandsAt s.trees (record { node = r; before = None; after = o }) (record { node = r.label; offset = 0 })
+  stands_start r o first = record {
+    node = refl;
+    before = refl;
+    after = first ∙ sym (first_get (children_of s.trees r.label));
+    ends = refl;
+  }
+
+  pub stands_end : (r : NodeRef) → Holds s r → (o : Option NodeRef) → label o ≡ last_of s.trees r.label → StandsAt s.trees (record { node = r; before = o; after = None }) (record { node = r.label; offset = length_of s.trees r.label })
+  stands_end r held o last =
+      let l = r.label in
+      let c = content_at s.trees law.distinct l (law.here r.slot l held) in
+      let length : length_of s.trees l ≡ length_in c.0 (children_of s.trees l) = ap (λ o. option_map_or (λ c. length_in c (children_of s.trees l)) o 0) c.1 in
+      let e = at_end c.0 (children_of s.trees l) (leaf_children s law l c.0 c.1) in
+      let same : eqb (length_of s.trees l) (length_of s.trees l) ≡ true = (elim (eqb_tells (length_of s.trees l) (length_of s.trees l)) [ inl (t, _) ↦ t | inr (_, off) ↦ absurd (off refl) ]) in
+      record {
+        node = refl;
+        before = last ∙ sym (before_is s.trees l (length_of s.trees l) ∙ ap (preceding None (children_of s.trees l)) length ∙ e.0);
+        after = sym (ap (slice_get (children_of s.trees l)) length ∙ e.1);
+        ends = or_true (is_none (label o)) ∙ sym (ap (λ b. eqb (length_of s.trees l) 0 || b) same ∙ or_true (eqb (length_of s.trees l) 0));
+      }
+
+  module _ (r p : NodeRef) (child : parent_of s.trees r.label ≡ Some p.label) where
+    among : 0 < times (children_of s.trees p.label) r.label
+    among = let n = family s.trees law.distinct r.label p.label child in rw n.children n.among
+
+    long : length_of s.trees p.label ≡ length (children_of s.trees p.label)
+    long =
+        let c = content_at s.trees law.distinct p.label (parent_count s.trees r.label p.label law.distinct child).1 in
+        ap (λ o. option_map_or (λ c. length_in c (children_of s.trees p.label)) o 0) c.1
+        ∙ parent_length c.0 (children_of s.trees p.label) r.label (leaf_children s law p.label c.0 c.1) among
+
+    index : index_of s.trees r.label ≡ place_in (children_of s.trees p.label) r.label
+    index = ap (λ o. option_map_or (λ q. place_in (children_of s.trees q) r.label) o 0) child
+
+    pub stands_before : (o : Option NodeRef) → label o ≡ prev_of s.trees r.label → StandsAt s.trees (record { node = p; before = o; after = Some r }) (record { node = p.label; offset = index_of s.trees r.label + 0 })
+    stands_before o prev =
+        let xs = children_of s.trees p.label in
+        let at : index_of s.trees r.label + 0 ≡ place_in xs r.label = rw add-zero index in
+        let before : label o ≡ before_in xs r.label = prev ∙ prev_in s.trees law.distinct r.label p.label child in
+        let short : eqb (place_in xs r.label) (length_of s.trees p.label) ≡ false = differ (place_in xs r.label) (length_of s.trees p.label) (λ e. omega (arith, e, long, place_low xs r.label among)) in
+        record {
+          node = refl;
+          before = before ∙ sym (before_is s.trees p.label (index_of s.trees r.label + 0) ∙ ap (preceding None xs) at ∙ before_place None xs r.label among);
+          after = sym (ap (slice_get xs) at ∙ at_place xs r.label among);
+          ends =
+              ap (λ b. b || false) (ap is_none before ∙ none_before xs r.label among)
+              ∙ ap (λ b. eqb (place_in xs r.label) 0 || b) (sym short)
+              ∙ ap (λ n. eqb n 0 || eqb n (length_of s.trees p.label)) (sym at);
+        }
+
+    pub stands_after : (o : Option NodeRef) → label o ≡ next_of s.trees r.label → StandsAt s.trees (record { node = p; before = Some r; after = o }) (record { node = p.label; offset = index_of s.trees r.label + 1 })
+    stands_after o next =
+        let xs = children_of s.trees p.label in
+        let at : index_of s.trees r.label + 1 ≡ suc (place_in xs r.label) = rw add-one (ap suc index) in
+        let after : label o ≡ after_in xs r.label = next ∙ next_in s.trees law.distinct r.label p.label child in
+        let some : eqb (place_in xs r.label + 1) 0 ≡ false = differ (place_in xs r.label + 1) 0 (λ e. omega (arith, e)) in
+        record {
+          node = refl;
+          before = sym (ap (child_before s.trees p.label) at ∙ at_place xs r.label among);
+          after = after ∙ sym (ap (slice_get xs) at ∙ after_place xs r.label among);
+          ends =
+              ap is_none after
+              ∙ none_after xs r.label among
+              ∙ ap (eqb (place_in xs r.label + 1)) (sym long)
+              ∙ ap (λ b. b || eqb (place_in xs r.label + 1) (length_of s.trees p.label)) (sym some)
+              ∙ ap (λ n. eqb (n + 1) 0 || eqb (n + 1) (length_of s.trees p.label)) (sym index);
+        }

@@ -1,0 +1,111 @@
+-- The turns of a walk from place to place, and the walk.
+use Rattle.std.proofs.Common.{◌≡◌, ℕ, suc, ◌-◌, ◌<◌, Bool, true, false, cond, ◌&&◌, ◌||◌, Some, None, refl, sym, ap, ◌∙◌, arith, eqb, is_none}
+use Rattle.dom_model.specs.declared.Content.{Content}
+use Rattle.dom_model.specs.Contents.{length_of}
+use Rattle.dom_model.specs.Forest.{Forest, parent_of}
+use Rattle.dom_model.specs.State.{State}
+use Rattle.node_arena.specs.declared.NodeRef.{NodeRef}
+use Rattle.node_arena.specs.Held.{label}
+use Rattle.node_tests.specs.declared.breaks.Gap.{Gap}
+use Rattle.node_tests.specs.Visible.{is_visible}
+use Rattle.node_tests.specs.BlockPoints.{child_before, child_at, starts_after, ends_before, is_block_start, is_block_end, is_block_boundary}
+use Rattle.node_tests.specs.LineBreaks.{Place, Turn, past, out_of, back_past, forth_past, turn_back, turn_forth, walk}
+use Rattle.node_tests.specs.LineBreaks.Turn.{Answer, GoOn}
+use Rattle.node_tests.specs.Gaps.{HoldsGap, StandsAt, meets_boundary}
+
+mix : (r x y s e : Bool) → ((r && (x || y)) || s || e) ≡ (((r && x) || s) || ((r && y) || e))
+mix false x y s e = refl
+mix true true y s e = refl
+mix true false true true e = refl
+mix true false true false e = refl
+mix true false false s e = refl
+
+module _ (f : Forest Content) (at : Gap) (place : Place) (stands : StandsAt f at place) where
+  boundary_is : is_block_boundary f place.node place.offset ≡ meets_boundary f at
+  unfolding is_block_boundary is_block_start is_block_end
+  boundary_is =
+      let l = at.node.label in
+      let root = is_none (parent_of f l) in
+      let first = eqb place.offset 0 in
+      let last = eqb place.offset (length_of f l) in
+      let before = starts_after f (child_before f l place.offset) in
+      let after = ends_before f (child_at f l place.offset) in
+      ap (λ n. is_block_boundary f n place.offset) stands.node
+      ∙ sym (mix root first last before after)
+      ∙ ap (λ b. (root && b) || before || after) (sym stands.ends)
+      ∙ ap (λ o. (root && (is_none (label at.before) || is_none (label at.after))) || starts_after f o || after) (sym stands.before)
+      ∙ ap (λ o. (root && (is_none (label at.before) || is_none (label at.after))) || starts_after f (label at.before) || ends_before f o) (sym stands.after)
+
+  pub back_ends : meets_boundary f at ≡ true → turn_back f place ≡ Answer true
+  unfolding turn_back
+  back_ends met = ap (λ b. cond b (Answer true) (back_past f place.node (child_before f place.node place.offset))) (boundary_is ∙ met)
+
+  pub forth_ends : meets_boundary f at ≡ true → turn_forth f place ≡ Answer true
+  unfolding turn_forth
+  forth_ends met = ap (λ b. cond b (Answer true) (forth_past f place.node (child_at f place.node place.offset))) (boundary_is ∙ met)
+
+  module _ (inner : meets_boundary f at ≡ false) where
+    back_goes : turn_back f place ≡ back_past f at.node.label (label at.before)
+    unfolding turn_back
+    back_goes =
+        ap (λ b. cond b (Answer true) (back_past f place.node (child_before f place.node place.offset))) (boundary_is ∙ inner)
+        ∙ ap (λ n. back_past f n (child_before f n place.offset)) stands.node
+        ∙ ap (back_past f at.node.label) (sym stands.before)
+
+    forth_goes : turn_forth f place ≡ forth_past f at.node.label (label at.after)
+    unfolding turn_forth
+    forth_goes =
+        ap (λ b. cond b (Answer true) (forth_past f place.node (child_at f place.node place.offset))) (boundary_is ∙ inner)
+        ∙ ap (λ n. forth_past f n (child_at f n place.offset)) stands.node
+        ∙ ap (forth_past f at.node.label) (sym stands.after)
+
+    pub back_child : (child : NodeRef) → at.before ≡ Some child → turn_back f place ≡ past f child.label (length_of f child.label)
+    back_child child is = back_goes ∙ ap (λ o. back_past f at.node.label (label o)) is
+
+    pub back_out : at.before ≡ None → turn_back f place ≡ out_of f at.node.label 0
+    back_out is = back_goes ∙ ap (λ o. back_past f at.node.label (label o)) is
+
+    pub forth_child : (child : NodeRef) → at.after ≡ Some child → turn_forth f place ≡ past f child.label 0
+    forth_child child is = forth_goes ∙ ap (λ o. forth_past f at.node.label (label o)) is
+
+    pub forth_out : at.after ≡ None → turn_forth f place ≡ out_of f at.node.label 1
+    forth_out is = forth_goes ∙ ap (λ o. forth_past f at.node.label (label o)) is
+
+pub past_seen : (f : Forest Content) (k n : ℕ) → is_visible f k ≡ true → past f k n ≡ Answer false
+past_seen f k n seen = ap (λ b. cond b (Answer false) (GoOn (record { node = k; offset = n }))) seen
+
+pub past_unseen : (f : Forest Content) (k n : ℕ) → is_visible f k ≡ false → past f k n ≡ GoOn (record { node = k; offset = n })
+past_unseen f k n unseen = ap (λ b. cond b (Answer false) (GoOn (record { node = k; offset = n }))) unseen
+
+-- ---- the walk
+
+pub walk_answers : (turn : Place → Turn) (n : ℕ) (at : Place) (b : Bool) → turn at ≡ Answer b → walk turn (suc n) at ≡ b
+walk_answers turn n at b e = ap (λ t. elim t [ Answer b ↦ b | GoOn next ↦ walk turn n next ]) e
+
+pub walk_goes : (turn : Place → Turn) (n : ℕ) (at next : Place) → turn at ≡ GoOn next → walk turn (suc n) at ≡ walk turn n next
+walk_goes turn n at next e = ap (λ t. elim t [ Answer b ↦ b | GoOn next ↦ walk turn n next ]) e
+
+-- a walk that has come to a gap with so many turns left
+pub record Reached (s : State) (turn : Place → Turn) (left : ℕ) (at : Gap) (answer : Bool) : Type 0 where
+  pub held : HoldsGap s at
+  pub place : Place
+  pub stands : StandsAt s.trees at place
+  pub same : walk turn left place ≡ answer
+
+less_one : (n : ℕ) → 0 < n → n ≡ suc (n - 1)
+less_one n h = omega (arith, h)
+
+pub answered : (s : State) (turn : Place → Turn) (left : ℕ) (at : Gap) (answer b : Bool) → 0 < left → (reached : Reached s turn left at answer) → turn reached.place ≡ Answer b → b ≡ answer
+answered s turn left at answer b some reached e =
+    sym (walk_answers turn (left - 1) reached.place b e) ∙ ap (λ n. walk turn n reached.place) (sym (less_one left some)) ∙ reached.same
+
+pub gone_on : (s : State) (turn : Place → Turn) (left : ℕ) (at next : Gap) (answer : Bool) → 0 < left → (reached : Reached s turn left at answer) → (place : Place) × (turn reached.place ≡ GoOn place) × HoldsGap s next × StandsAt s.trees next place → Reached s turn (left - 1) next answer
+gone_on s turn left at next answer some reached (place, e, held, stands) = record {
+  held = held;
+  place = place;
+  stands = stands;
+  same = sym (walk_goes turn (left - 1) reached.place place e) ∙ ap (λ n. walk turn n reached.place) (sym (less_one left some)) ∙ reached.same;
+}
+
+pub run_out : (s : State) (turn : Place → Turn) (left : ℕ) (at : Gap) (answer : Bool) → left ≡ 0 → Reached s turn left at answer → true ≡ answer
+run_out s turn left at answer none reached = sym (ap (λ n. walk turn n reached.place) none) ∙ reached.same

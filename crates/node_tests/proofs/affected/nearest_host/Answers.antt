@@ -1,0 +1,31 @@
+use Rattle.std.proofs.Common.{sym, ◌∙◌, arith}
+use Rattle.dom_model.proofs.Within.{depth_of-parent}
+use Rattle.node_tests.proofs.Hosting.{own_at_host, own_at_root, own_up, own_on, own_ends, own_none}
+use Rattle.node_tests.proofs.affected.nearest_host.Goals as goal
+
+pub returns-in-None-clause-none : goal.returns-in-None-clause-none
+returns-in-None-clause-none c =
+    let f = c.args.arena.now.trees in
+    own_none f c.lawful.ensures.distinct c.args.node.label c.loop-at.at.label c.loop-at.invariant.own
+    (own_at_root f c.lawful.ensures.distinct c.loop-at.at.label (sym c.is_host.ensures ∙ c.loop-at-test.true) (sym c.in-None.ensures.is))
+
+pub loop-at-smaller : goal.loop-at-smaller
+loop-at-smaller c =
+    omega (arith, depth_of-parent c.args.arena.now.trees c.loop-at.at.label c.in-Some.parent.label c.lawful.ensures.distinct (sym c.in-Some.ensures.is))
+
+pub loop-at-preserved : goal.loop-at-preserved
+loop-at-preserved c =
+    let f = c.args.arena.now.trees in
+    let law = c.lawful.ensures in
+    record {
+      held = c.in-Some.ensures.held;
+      own = own_on f law.distinct c.args.node.label c.loop-at.at.label c.in-Some.parent.label c.loop-at.invariant.own
+          (own_up f law.distinct c.loop-at.at.label c.in-Some.parent.label (sym c.is_host.ensures ∙ c.loop-at-test.true) (sym c.in-Some.ensures.is));
+    }
+
+pub returns-clause-own : goal.returns-clause-own
+returns-clause-own c =
+    let f = c.args.arena.now.trees in
+    let law = c.lawful.ensures in
+    own_ends f law.distinct c.args.node.label c.loop-at.at.label _ c.loop-at.invariant.own
+    (own_at_host f law.distinct c.loop-at.at.label (sym c.is_host.ensures ∙ c.loop-at-test.false))

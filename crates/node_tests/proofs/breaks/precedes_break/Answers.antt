@@ -1,0 +1,15 @@
+use Rattle.std.proofs.Common.{ap}
+use Rattle.dom_model.specs.Contents.{length_of}
+use Rattle.node_tests.specs.LineBreaks.{Place, turn_forth, precedes_break, walk}
+use Rattle.node_tests.proofs.breaks.precedes_break.Goals as goal
+
+pub walk-init : goal.walk-init
+unfolding precedes_break
+walk-init c =
+    let place : Place = record { node = c.args.node.label; offset = length_of c.args.arena.now.trees c.args.node.label } in
+    record {
+      held = c.end_of-at.ensures.held;
+      place = place;
+      stands = c.end_of-at.ensures.place;
+      same = ap (λ n. walk (turn_forth c.args.arena.now.trees) n place) c.turns-left.ensures;
+    }

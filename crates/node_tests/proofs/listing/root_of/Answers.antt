@@ -1,0 +1,23 @@
+use Rattle.std.proofs.Common.{sym, arith}
+use Rattle.dom_model.proofs.Within.{within_self, within_up, depth_of-parent}
+use Rattle.node_tests.proofs.listing.root_of.Goals as goal
+
+pub loop-parent-init : goal.loop-parent-init
+loop-parent-init c =
+    let law = c.lawful.ensures in
+    record {
+      held = c.requires;
+      within = within_self c.args.arena.now.trees c.args.node.label law.distinct (law.here c.args.node.slot c.args.node.label c.requires);
+    }
+
+pub loop-parent-smaller : goal.loop-parent-smaller
+loop-parent-smaller c =
+    omega (arith, depth_of-parent c.args.arena.now.trees c.loop-parent.at.label c.in-Some.parent.label c.lawful.ensures.distinct (sym c.in-Some.ensures.is))
+
+pub loop-parent-preserved : goal.loop-parent-preserved
+loop-parent-preserved c =
+    let law = c.lawful.ensures in
+    record {
+      held = c.in-Some.ensures.held;
+      within = within_up c.args.arena.now.trees law.distinct c.loop-parent.at.label c.in-Some.parent.label c.args.node.label (sym c.in-Some.ensures.is) c.loop-parent.invariant.within;
+    }

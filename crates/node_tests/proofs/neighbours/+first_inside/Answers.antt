@@ -1,0 +1,62 @@
+use Rattle.std.proofs.Common.{refl, sym, ap, ◌∙◌, arith}
+use Rattle.std.specs.Option.{option_or}
+use Rattle.dom_model.specs.Forest.{next_of}
+use Rattle.node_arena.specs.Held.{label}
+use Rattle.node_tests.specs.SolidNeighbours.{first_met}
+use Rattle.node_tests.proofs.Inside.{siblings}
+use Rattle.node_tests.proofs.Kids.{first_kid, next_kid, next_smaller, tree_smaller}
+use Rattle.node_tests.proofs.Meeting.{first_at, first_kids, first_next}
+use Rattle.node_tests.proofs.neighbours.+first_inside.Goals as goal
+
+pub returns-in-Some : goal.returns-in-Some
+returns-in-Some t c =
+    let law = c.lawful.ensures in
+    first_at c.args.arena.now.trees law.distinct c.args.node.label (law.here c.args.node.slot c.args.node.label c.requires) c.met_at.result c.met_at.ensures c.in-Some.met c.in-Some.is
+
+pub loop-child-init : goal.loop-child-init
+loop-child-init t c =
+    let law = c.lawful.ensures in
+    record {
+      kid = first_kid c.args.arena.now law c.args.node c.first_child-child.result c.requires c.first_child-child.ensures;
+      same = first_kids c.args.arena.now.trees law.distinct c.args.node.label (law.here c.args.node.slot c.args.node.label c.requires) c.met_at.result c.met_at.ensures (label c.first_child-child.result) c.in_default.is c.first_child-child.ensures.is;
+    }
+
+pub first_inside-requires : goal.first_inside-requires
+first_inside-requires t c =
+    let kid = rw c.in-Some-child.is at c.loop-child.invariant.kid in
+    (omega (arith, c.decreases, tree_smaller c.args.arena.now c.lawful.ensures c.args.node.label c.in-Some-child.at kid), kid.held)
+
+pub returns-in-Some-first_inside : goal.returns-in-Some-first_inside
+returns-in-Some-first_inside t c =
+    let f = c.args.arena.now.trees in
+    let law = c.lawful.ensures in
+    let kid = rw c.in-Some-child.is at c.loop-child.invariant.kid in
+    let same = rw c.in-Some-child.is at c.loop-child.invariant.same in
+    let k = c.in-Some-child.at.label in
+    sym (same ∙ first_next f law.distinct k c.args.node.label kid.under (next_of f k) refl ∙ ap (λ o. option_or o (first_met f (siblings f (next_of f k)))) (sym c.in-Some-first_inside.ensures))
+
+pub next-child-requires : goal.next-child-requires
+next-child-requires t c = let kid = rw c.in-Some-child.is at c.loop-child.invariant.kid in kid.held
+
+pub loop-child-smaller : goal.loop-child-smaller
+loop-child-smaller t c =
+    let kid = rw c.in-Some-child.is at c.loop-child.invariant.kid in
+    rw c.in-Some-child.is (next_smaller c.args.arena.now c.lawful.ensures c.args.node.label c.in-Some-child.at kid c.next-child.result c.next-child.ensures)
+
+pub loop-child-preserved : goal.loop-child-preserved
+loop-child-preserved t c =
+    let f = c.args.arena.now.trees in
+    let law = c.lawful.ensures in
+    let kid = rw c.in-Some-child.is at c.loop-child.invariant.kid in
+    let same = rw c.in-Some-child.is at c.loop-child.invariant.same in
+    let k = c.in-Some-child.at.label in
+    record {
+      kid = next_kid c.args.arena.now law c.args.node.label c.in-Some-child.at kid c.next-child.result c.next-child.ensures;
+      same =
+          same
+          ∙ first_next f law.distinct k c.args.node.label kid.under (label c.next-child.result) c.next-child.ensures.is
+          ∙ ap (λ o. option_or o (first_met f (siblings f (label c.next-child.result)))) (sym c.first_inside.ensures ∙ c.in_default-first_inside.is);
+    }
+
+pub returns : goal.returns
+returns t c = sym (rw c.in_default-child.is at c.loop-child.invariant.same)

@@ -1,0 +1,20 @@
+use Rattle.std.proofs.Common.{◌≡◌}
+use Rattle.std.specs.Option.{option_or}
+use Rattle.dom_model.specs.Forest.{tree_of}
+use Rattle.node_arena.specs.Held.{label}
+use Rattle.node_tests.specs.SolidNeighbours.{last_met}
+use Rattle.node_tests.proofs.Inside.{siblings, nodes}
+use Rattle.node_tests.proofs.Kids.{Kid}
+use Rattle.node_tests.proofs.neighbours.+last_inside.Given as goal
+
+abbrev pub decreases-last_inside : goal.decreases-last_inside
+decreases-last_inside l = nodes (tree_of l.arena.now.trees l.node.label)
+
+abbrev pub invariant-loop-child : goal.invariant-loop-child
+invariant-loop-child l = record {
+  kid : Kid l.arena l.fn.node.label l.child;
+  same : last_met l.arena.trees (tree_of l.arena.trees l.fn.node.label) ≡ option_or (last_met l.arena.trees (siblings l.arena.trees (label l.child))) l.last;
+}
+
+abbrev pub decreases-loop-child : goal.decreases-loop-child
+decreases-loop-child l = nodes (siblings l.arena.trees (label l.child))

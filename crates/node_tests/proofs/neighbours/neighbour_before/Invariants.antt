@@ -1,0 +1,14 @@
+use Rattle.std.proofs.Common.{◌≡◌}
+use Rattle.node_arena.specs.Held.{Holds}
+use Rattle.node_tests.specs.SolidNeighbours.{neighbour_before}
+use Rattle.node_tests.proofs.Walking.{behind}
+use Rattle.node_tests.proofs.neighbours.neighbour_before.Given as goal
+
+abbrev pub invariant-walk : goal.invariant-walk
+invariant-walk l = record {
+  held : Holds l.arena l.at;
+  same : neighbour_before l.arena.trees l.at.label ≡ neighbour_before l.arena.trees l.fn.node.label;
+}
+
+abbrev pub decreases-walk : goal.decreases-walk
+decreases-walk l = behind l.arena.trees l.at.label

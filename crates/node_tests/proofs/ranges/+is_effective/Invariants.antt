@@ -1,0 +1,19 @@
+use Rattle.std.proofs.Common.{◌≡◌}
+use Rattle.dom_model.specs.Forest.{tree_of}
+use Rattle.node_arena.specs.Held.{label}
+use Rattle.node_tests.specs.Ranges.{all_effective}
+use Rattle.node_tests.proofs.Inside.{siblings, nodes}
+use Rattle.node_tests.proofs.Kids.{Kid}
+use Rattle.node_tests.proofs.ranges.+is_effective.Given as goal
+
+abbrev pub decreases-is_effective : goal.decreases-is_effective
+decreases-is_effective l = nodes (tree_of l.arena.now.trees l.node.label)
+
+abbrev pub invariant-loop-child : goal.invariant-loop-child
+invariant-loop-child l = record {
+  kid : Kid l.arena l.fn.node.label l.child;
+  same : all_effective l.arena.trees l.fn.range.0 l.fn.range.1 (tree_of l.arena.trees l.fn.node.label) ≡ all_effective l.arena.trees l.fn.range.0 l.fn.range.1 (siblings l.arena.trees (label l.child));
+}
+
+abbrev pub decreases-loop-child : goal.decreases-loop-child
+decreases-loop-child l = nodes (siblings l.arena.trees (label l.child))

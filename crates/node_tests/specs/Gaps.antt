@@ -1,0 +1,37 @@
+-- Places told by the children beside them.
+use Rattle.std.specs.Prelude.{◌≡◌, ◌==◌, ◌||◌, ◌&&◌, Bool, is_none, IfSome}
+use Rattle.dom_model.specs.declared.Content.{Content}
+use Rattle.dom_model.specs.Contents.{length_of}
+use Rattle.dom_model.specs.Forest.{Forest, parent_of}
+use Rattle.dom_model.specs.State.{State}
+use Rattle.node_arena.specs.Held.{Holds, label}
+use Rattle.node_tests.specs.BlockPoints.{child_before, child_at, starts_after, ends_before}
+use Rattle.node_tests.specs.LineBreaks as line_breaks
+use Rattle.node_tests.specs.declared.breaks.Gap.{Gap}
+use Rattle.node_tests.specs.declared.breaks.Turn.{Turn}
+use Rattle.node_tests.specs.declared.breaks.Turn.TheVariants.{Answer, GoOn}
+
+-- the arena holds the nodes
+pub record HoldsGap (s : State) (at : Gap) : Type 0 where
+  pub node : Holds s at.node
+  pub before : IfSome at.before (λ r. Holds s r)
+  pub after : IfSome at.after (λ r. Holds s r)
+
+-- the children beside a place of a node, and whether it is the first place or the last
+pub record StandsAt (f : Forest Content) (at : Gap) (place : line_breaks.Place) : Type 0 where
+  pub node : place.node ≡ at.node.label
+  pub before : label at.before ≡ child_before f at.node.label place.offset
+  pub after : label at.after ≡ child_at f at.node.label place.offset
+  pub ends : (is_none (label at.before) || is_none (label at.after)) ≡ ((place.offset == 0) || (place.offset == length_of f at.node.label))
+
+-- a turn comes to this
+abbrev pub Comes : State → Turn → line_breaks.Turn → Type 0
+Comes s (Answer b) turn = turn ≡ line_breaks.Turn.Answer b
+Comes s (GoOn at) turn = (place : line_breaks.Place) × (turn ≡ line_breaks.Turn.GoOn place) × HoldsGap s at × StandsAt s.trees at place
+
+-- a place is at an end of a tree, or beside a visible block or after a visible br
+abbrev pub meets_boundary : Forest Content → Gap → Bool
+meets_boundary f at =
+    (is_none (parent_of f at.node.label) && (is_none (label at.before) || is_none (label at.after)))
+    || starts_after f (label at.before)
+    || ends_before f (label at.after)

@@ -1,0 +1,14 @@
+pub mod Surroundings
+pub mod CollapsedWhitespace
+pub mod SolidNeighbours
+pub mod Visible
+pub mod BlockProps
+pub mod BlockPoints
+pub mod Ranges
+pub mod Listing
+pub mod AffectedHost
+pub mod CommandValues
+pub mod WorkedPages
+pub mod Modifiable
+pub mod LineBreaks
+pub mod Gaps

@@ -1,0 +1,69 @@
+-- The solid neighbours of a br, and which brs break no line (HTML Editing APIs, "extraneous line break", "collapsed line
+-- break").
+use Rattle.std.specs.Prelude.{ℕ, Bool, true, false, not, ◌&&◌, List, [], ◌∷◌, Option, Some, None, if◌then◌else◌, codes}
+use Rattle.std.specs.Option.{option_map_or, option_or, unwrap_or}
+use Rattle.dom_model.specs.declared.Content.{Content}
+use Rattle.dom_model.specs.Forest.{Forest, parent_of, children_of, content_of}
+use Rattle.dom_model.specs.Forest.Forest.{Nil, Tree}
+use Rattle.node_styles.specs.OwnStyles.{is_named}
+use Rattle.node_styles.specs.Blocks.{is_block}
+use Rattle.node_tests.specs.declared.neighbours.Neighbour.{Neighbour}
+use Rattle.node_tests.specs.declared.neighbours.Neighbour.TheVariants.{BlockEdge, LineBreak, Solid}
+use Rattle.node_tests.specs.Surroundings.{trees_before, trees_after}
+use Rattle.node_tests.specs.CollapsedWhitespace.{is_solid, is_break}
+
+-- what is met at a node: a block, a br, or Words that isn't whitespace or an image
+unfoldable pub met : Forest Content → ℕ → Option Neighbour
+met f l =
+    if is_block f l then Some BlockEdge
+    else (if is_break f l then Some LineBreak
+    else (if is_solid f l then Some Solid
+    else None))
+
+-- the first that is met in trees, from the front and from the back, where a block is met before what it holds; f is the
+-- forest that the trees stand in
+abbrev pub first_met : Forest Content → Forest Content → Option Neighbour
+first_met f Nil = None
+first_met f (Tree l c ks rest) = option_or (met f l) (option_or (first_met f ks) (first_met f rest))
+
+abbrev pub last_met : Forest Content → Forest Content → Option Neighbour
+last_met f Nil = None
+last_met f (Tree l c ks rest) = option_or (last_met f rest) (option_or (met f l) (last_met f ks))
+
+-- the first in tree order from the back, where a block is met after what it holds
+abbrev pub last_in_order : Forest Content → Forest Content → Option Neighbour
+last_in_order f Nil = None
+last_in_order f (Tree l c ks rest) = option_or (last_in_order f rest) (option_or (last_in_order f ks) (met f l))
+
+-- the solid neighbours in the nearest block, whose start and end are block edges too
+unfoldable pub neighbour_before : Forest Content → ℕ → Neighbour
+neighbour_before f l = unwrap_or (last_met f (trees_before f l)) BlockEdge
+
+unfoldable pub neighbour_after : Forest Content → ℕ → Neighbour
+neighbour_after f l = unwrap_or (first_met f (trees_after f l)) BlockEdge
+
+abbrev pub is_block_edge : Neighbour → Bool
+is_block_edge BlockEdge = true
+is_block_edge _ = false
+
+abbrev pub is_solid_neighbour : Neighbour → Bool
+is_solid_neighbour Solid = true
+is_solid_neighbour _ = false
+
+abbrev pub is_sole : List ℕ → Bool
+is_sole (x ∷ []) = true
+is_sole _ = false
+
+-- its parent is an li that has no other child
+unfoldable pub is_sole_in_item : Forest Content → ℕ → Bool
+is_sole_in_item f l =
+    option_map_or (λ p. option_map_or (is_named (codes "li")) (content_of f p) false && is_sole (children_of f p)) (parent_of f l) false
+
+-- a br after text or an image and before a block edge, which shows no line of its own
+unfoldable pub is_extraneous_break : Forest Content → ℕ → Bool
+is_extraneous_break f l =
+    is_break f l && is_block_edge (neighbour_after f l) && is_solid_neighbour (neighbour_before f l) && not (is_sole_in_item f l)
+
+-- a br after a block edge or a br, and before a block edge
+unfoldable pub is_collapsed_break : Forest Content → ℕ → Bool
+is_collapsed_break f l = is_break f l && not (is_solid_neighbour (neighbour_before f l)) && is_block_edge (neighbour_after f l)
