@@ -1,6 +1,5 @@
 -- One level more of indentation.
-use Rattle.std.proofs.Common.{◌≡◌, ℕ, zero, suc, ◌+◌, List, [], ◌∷◌, ◌++◌, sym, ap, ◌∙◌, refl, subst, append_assoc, add-one, codes}
-use Rattle.std.proofs.lemmas.List.{append-nil}
+use Rattle.std.proofs.Common.{◌≡◌, ℕ, zero, suc, ◌+◌, List, ◌∷◌, ◌++◌, sym, ap, ◌∙◌, refl, append_assoc, add-one, codes}
 use Rattle.page_write.specs.Listing.{indent}
 
 -- two spaces before an indentation are as well two behind it

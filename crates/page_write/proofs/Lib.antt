@@ -1,4 +1,4 @@
 pub mod Appending
 pub mod Indenting
-pub mod Onward
+pub mod Placing
 pub mod Visiting

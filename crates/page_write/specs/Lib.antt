@@ -1,3 +1,3 @@
 pub mod Html
 pub mod Listing
-pub mod Onward
+pub mod PointLines

@@ -3,7 +3,7 @@
 ghost use Rattle.std.specs.Prelude.{◌≡◌, ◌+◌, ◌<◌, ◌^◌, ◌++◌, OnOk, IfOk, IfSome, IsSome, Some, slice_get};
 ghost use Rattle.dom_model.specs.declared.attributes.Attribute.{Attribute};
 ghost use Rattle.node_arena.specs.Held.{Holds, label};
-ghost use Rattle.page_write.specs.Onward.{onward_at, IsInner};
+ghost use Rattle.node_paths.specs.Onward.{onward_at, IsInner};
 ghost use Rattle.page_write.specs.Html.{text_char, value_char, text_html, value_html, attribute_html, attributes_html, start_tag, end_tag, comment_html, opening, closing, html_of, document_html};
 
 use dom_model::{Attributes, Chars, Content, Name};

@@ -1,11 +1,13 @@
-//! Writes a document as HTML, and as a listing of its nodes.
+//! Writes a document as HTML, as a listing of its nodes, and the points that are kept in it.
 #![tactic(auto)]
 
 mod html;
 mod listing;
+mod points;
 
 pub use html::write_html;
 pub use listing::write_tree;
+pub use points::write_points;
 
 #[cfg(test)]
 mod tests {

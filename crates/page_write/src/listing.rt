@@ -3,7 +3,7 @@
 ghost use Rattle.std.specs.Prelude.{◌≡◌, ◌+◌, ◌<◌, ◌^◌, ◌++◌, OnOk, IfOk, IfSome, codes};
 ghost use Rattle.dom_model.specs.Forest.{total};
 ghost use Rattle.node_arena.specs.Held.{Holds, label};
-ghost use Rattle.page_write.specs.Onward.{onward_at, IsInner};
+ghost use Rattle.node_paths.specs.Onward.{onward_at, IsInner};
 ghost use Rattle.escaped_text.specs.Escaped.{escaped_bytes};
 ghost use Rattle.page_write.specs.Listing.{line_byte, on_one_line, node_line, indent, lines_of, document_lines};
 

@@ -1,8 +1,8 @@
 use Rattle.std.proofs.Common.{◌≡◌, ◌++◌, ◌≤◌, IfSome}
 use Rattle.node_arena.specs.Held.{Holds, label}
-use Rattle.page_write.specs.Onward.{onward_at, IsInner}
+use Rattle.node_paths.specs.Onward.{onward_at, IsInner}
 use Rattle.page_write.specs.Html.{html_of}
-use Rattle.page_write.proofs.Visiting.{size_from}
+use Rattle.node_paths.proofs.Visiting.{size_from}
 use Rattle.page_write.proofs.html.+push_trees.Given as goal
 
 abbrev pub decreases-push_trees : goal.decreases-push_trees

@@ -1,6 +1,7 @@
 use Rattle.std.proofs.Common.{ap, ◌+◌, ◌<◌, ◌^◌, arith}
 use Rattle.node_arena.specs.Held.{label}
-use Rattle.page_write.proofs.Visiting.{size_from, come_to, led, size_led, size_here, lines_written}
+use Rattle.node_paths.proofs.Visiting.{size_from, come_to, led, size_led, size_here}
+use Rattle.page_write.proofs.Visiting.{lines_written}
 use Rattle.page_write.proofs.listing.+push_lines.Goals as goal
 
 pub push_lines-requires : goal.push_lines-requires

@@ -1,8 +1,8 @@
 use Rattle.std.proofs.Common.{◌≡◌, ◌++◌, ◌≤◌, IfSome}
 use Rattle.node_arena.specs.Held.{Holds, label}
-use Rattle.page_write.specs.Onward.{onward_at, IsInner}
+use Rattle.node_paths.specs.Onward.{onward_at, IsInner}
 use Rattle.page_write.specs.Listing.{lines_of}
-use Rattle.page_write.proofs.Visiting.{size_from}
+use Rattle.node_paths.proofs.Visiting.{size_from}
 use Rattle.page_write.proofs.listing.+push_lines.Given as goal
 
 abbrev pub decreases-push_lines : goal.decreases-push_lines

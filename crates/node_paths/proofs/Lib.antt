@@ -1,0 +1,4 @@
+pub mod Onward
+pub mod Visiting
+pub mod Ways
+pub mod Walking
