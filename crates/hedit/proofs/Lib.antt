@@ -1,5 +1,7 @@
 pub mod WordsLemmas
 pub mod BlockLemmas
 pub mod BlockGrammar
+pub mod Names
 pub mod Runs
+pub mod Turns
 pub mod Whole

@@ -1,5 +1,5 @@
 -- How the parts of a run follow their transcripts.
-use Rattle.std.proofs.Common.{◌≡◌, ◌≢◌, ◌⊎◌, ◌==◌, Bool, true, false, ℕ, ◌+◌, ◌<◌, ◌≤◌, List, [], ◌∷◌, ◌++◌, length, take, Option, Some, None, refl, sym, ap, ◌∙◌, subst, inl, inr, arith, append_assoc, codes, bytes_eq}
+use Rattle.std.proofs.Common.{◌≡◌, ◌≢◌, ◌⊎◌, ◌==◌, Bool, true, false, ℕ, suc, ◌+◌, ◌<◌, ◌≤◌, List, [], ◌∷◌, ◌++◌, length, take, Option, Some, None, refl, sym, ap, ◌∙◌, subst, inl, inr, arith, append_assoc, codes, bytes_eq}
 use Rattle.std.proofs.lemmas.Bool.Decides.{nat_tests}
 use Rattle.std.proofs.lemmas.List.{append-nil}
 use Rattle.edit_io.specs.Faults.{Rose}
@@ -19,7 +19,13 @@ use Rattle.page_read.specs.Faults.{kind_of, kind_word}
 use Rattle.page_read.specs.declared.faults.PageKind.{PageKind}
 use Rattle.page_read.specs.declared.faults.PageKind.TheVariants as kinds
 use Rattle.hedit.specs.Block.{Block, NoOpening, NoClosing, Whole, lines_of, block_of}
-use Rattle.hedit.specs.Transcript.{Transcript, transcript_of, refused, word_of, numbers_line, reply_to, replies_to, checked, acted, run_block, ordered}
+use Rattle.edit_doc.specs.Whole.{first_state}
+use Rattle.edit_engine.specs.Editing.{Editing, new_editing}
+use Rattle.page_grammar.specs.Page.{size}
+use Rattle.dom_model.specs.Forest.{tops}
+use Rattle.page_read.specs.Answer.{IsDocument}
+use Rattle.hedit.specs.Replies.{line_reply, replies_to}
+use Rattle.hedit.specs.Transcript.{Transcript, transcript_of, refused, word_of, numbers_line, page_editing, checked, acted, run_block, ordered}
 use Rattle.hedit.specs.Following.{Follows, IsWanted, Answered}
 use Rattle.hedit.specs.declared.session.Status.{Status}
 use Rattle.hedit.specs.declared.session.Status.TheVariants.{Done, Usage, ReadFault, WriteFault, Memory, PageRefused, TooLong}
@@ -65,26 +71,26 @@ pub checked_answered : (r : Reading) → Answered (checked r).status
 checked_answered (Children f) = tt
 checked_answered (Refused place kind) = tt
 
-pub acted_answered : (acts : List (List ℕ)) (r : Reading) → Answered (acted acts r).status
-acted_answered acts (Children f) = tt
-acted_answered acts (Refused place kind) = tt
+pub acted_answered : (cap undo : ℕ) (acts : List (List ℕ)) (r : Reading) → Answered (acted cap undo acts r).status
+acted_answered cap undo acts (Children f) = tt
+acted_answered cap undo acts (Refused place kind) = tt
 
-pub block_answered : (cap size : ℕ) (b : Block) → Answered (run_block cap size b).status
-block_answered cap size NoOpening = tt
-block_answered cap size NoClosing = tt
-block_answered cap size (Whole page acts) = acted_answered acts (page_reading 200 cap page)
+pub block_answered : (cap undo size : ℕ) (b : Block) → Answered (run_block cap undo size b).status
+block_answered cap undo size NoOpening = tt
+block_answered cap undo size NoClosing = tt
+block_answered cap undo size (Whole page acts) = acted_answered cap undo acts (page_reading 200 cap page)
 
 pub ordered_answered : (input : List ℕ) (order : Order) → Answered (ordered input order).status
 ordered_answered input Check = checked_answered (page_reading 200 2000000 input)
-ordered_answered input (Run cap undo) = block_answered cap (length input) (block_of input)
+ordered_answered input (Run cap undo) = block_answered cap undo (length input) (block_of input)
 
 pub checked_wanted : (cap : ℕ) (bytes : List ℕ) (fault : PageFault) (o : Option Kind) → IsFaultAnswer cap bytes fault o → IsWanted fault.at o (checked (page_reading 200 cap bytes))
 checked_wanted cap bytes fault None e = tt
 checked_wanted cap bytes fault (Some kind) e = ap checked e
 
-pub acted_wanted : (acts : List (List ℕ)) (cap : ℕ) (bytes : List ℕ) (fault : PageFault) (o : Option Kind) → IsFaultAnswer cap bytes fault o → IsWanted fault.at o (acted acts (page_reading 200 cap bytes))
-acted_wanted acts cap bytes fault None e = tt
-acted_wanted acts cap bytes fault (Some kind) e = ap (acted acts) e
+pub acted_wanted : (undo : ℕ) (acts : List (List ℕ)) (cap : ℕ) (bytes : List ℕ) (fault : PageFault) (o : Option Kind) → IsFaultAnswer cap bytes fault o → IsWanted fault.at o (acted cap undo acts (page_reading 200 cap bytes))
+acted_wanted undo acts cap bytes fault None e = tt
+acted_wanted undo acts cap bytes fault (Some kind) e = ap (acted cap undo acts) e
 
 -- the line of a kind is the line that is wanted
 pub wanted_line : (place : ℕ) (k : PageKind) (want : Transcript) → k ≢ kinds.Memory → IsWanted place (kind_of k) want → refused place (kind_word k) ≡ want
@@ -103,13 +109,13 @@ wanted_line place kinds.Memory want other e = absurd (other refl)
 
 -- ---- acts one after another
 
-pub replies_to-cons : (trees : Forest Content) (line : List ℕ) (lines : List (List ℕ)) → replies_to trees (line ∷ lines) ≡ reply_to trees line ++ replies_to trees lines
+pub replies_to-cons : (e : Editing) (line : List ℕ) (lines : List (List ℕ)) → replies_to e (line ∷ lines) ≡ (line_reply e line).text ++ replies_to (line_reply e line).after lines
 unfolding replies_to
-replies_to-cons trees line lines = refl
+replies_to-cons e line lines = refl
 
-pub replies_to-nil : (trees : Forest Content) → replies_to trees [] ≡ []
+pub replies_to-nil : (e : Editing) → replies_to e [] ≡ []
 unfolding replies_to
-replies_to-nil trees = refl
+replies_to-nil e = refl
 
 -- What the acts so far had to write is written, and rest is still to be written.
 pub record SoFar (start now : Option (List ℕ)) (rest whole : List ℕ) : Type 0 where
@@ -155,13 +161,25 @@ so_far-whole start now rest whole c0 c1 s none less =
       counted = less;
     }
 
--- the replies to some lines are that to the first, and then those to the others
-pub acts_parted : (trees : Forest Content) (text line later : List ℕ) → 0 < length text → (0 < length text → lines_of text ≡ line ∷ lines_of later) → replies_to trees (lines_of text) ≡ reply_to trees line ++ replies_to trees (lines_of later)
-acts_parted trees text line later some parts = ap (replies_to trees) (parts some) ∙ replies_to-cons trees line (lines_of later)
+-- the replies to some lines are that to the first, and then those to the others by the editor that it leaves
+pub acts_parted : (e : Editing) (text line later : List ℕ) → 0 < length text → (0 < length text → lines_of text ≡ line ∷ lines_of later) → replies_to e (lines_of text) ≡ (line_reply e line).text ++ replies_to (line_reply e line).after (lines_of later)
+acts_parted e text line later some parts = ap (replies_to e) (parts some) ∙ replies_to-cons e line (lines_of later)
 
 pub some_left : (empty : Bool) (text : List ℕ) → empty ≡ (length text == 0) → empty ≡ false → 0 < length text
 some_left empty text is none = grind (arith, nat_tests)
 
-pub none_left : (trees : Forest Content) (empty : Bool) (text : List ℕ) → empty ≡ (length text == 0) → empty ≡ true → replies_to trees (lines_of text) ≡ []
-none_left trees empty [] is so = replies_to-nil trees
-none_left trees empty (b ∷ text) is so = absurd (let e : (length (b ∷ text) == 0) ≡ true = sym is ∙ so in grind (arith, nat_tests))
+pub none_left : (e : Editing) (empty : Bool) (text : List ℕ) → empty ≡ (length text == 0) → empty ≡ true → replies_to e (lines_of text) ≡ []
+none_left e empty [] is so = replies_to-nil e
+none_left e empty (b ∷ text) is so = absurd (let z : (length (b ∷ text) == 0) ≡ true = sym is ∙ so in grind (arith, nat_tests))
+
+-- ---- a page's editor
+
+pub page_replies : (a : State) (cap undo : ℕ) (f : Siblings) (lines : List (List ℕ)) → IsDocument a cap f → replies_to (new_editing a undo) lines ≡ replies_to (page_editing cap undo f) lines
+unfolding first_state
+page_replies a cap undo f lines d = ap (λ e. replies_to e lines) (by_parts a.trees a.next a.cap d.trees d.next d.cap)
+  where
+    by_parts : (t : Forest Content) (n k : ℕ) → t ≡ document_of f → n ≡ suc (size f) → k ≡ cap → new_editing (record { trees = t; next = n; cap = k; held = [] }) undo ≡ page_editing cap undo f
+    by_parts t n k et en ek = rw (et, en, ek) refl
+
+pub alone : (a : State) (cap : ℕ) (f : Siblings) → IsDocument a cap f → tops a.trees ≡ 0 ∷ []
+alone a cap f d = rw d.trees refl

@@ -18,7 +18,7 @@ use Rattle.hedit.specs.declared.words.Setting.TheVariants.{Cap, Undo}
 use Rattle.hedit.specs.declared.words.Options.{Options}
 use Rattle.hedit.proofs.Runs.{nothing_taken, ordered_answered}
 
--- ---- an order's cap is a label
+-- ---- an order's cap is a label, and it keeps entries
 
 picked : (b : Bool) (k n : ℕ) → (if b then Some k else None) ≡ Some n → (b ≡ true) × (k ≡ n)
 picked true k n e = (refl, let e' = e in cc)
@@ -36,28 +36,27 @@ amount_above s (Some k) n e =
     let above : 0 < k = grind (arith, nat_tests) in
     rw (← p.1) above
 
-abbrev CapAbove : Options → Type 0
-CapAbove o = IfSome o.cap (λ n. 0 < n)
+abbrev AmountsAbove : Options → Type 0
+AmountsAbove o = IfSome o.cap (λ n. 0 < n) × IfSome o.undo (λ n. 0 < n)
 
-settings_above : (xs : List (Setting × ℕ)) (words : List (List ℕ)) (before after : Options) → AreSettings xs words before after → CapAbove before → CapAbove after
-settings_above [] words before after s above = subst CapAbove s.1 above
+settings_above : (xs : List (Setting × ℕ)) (words : List (List ℕ)) (before after : Options) → AreSettings xs words before after → AmountsAbove before → AmountsAbove after
+settings_above [] words before after s above = subst AmountsAbove s.1 above
 settings_above (x ∷ xs) words before after s above =
     settings_above xs s.0 (with_setting before x.0 x.1) after s.3 (one x.0 x.1 (amount_above x.0 (number_of s.1.0) x.1 s.1.1))
   where
-    one : (k : Setting) (n : ℕ) → 0 < n → CapAbove (with_setting before k n)
-    one Cap n some = some
-    one Undo n some = above
+    one : (k : Setting) (n : ℕ) → 0 < n → AmountsAbove (with_setting before k n)
+    one Cap n some = (some, above.1)
+    one Undo n some = (above.0, some)
 
-run_above : (options : Options) (cap : ℕ) → CapAbove options → cap ≡ unwrap_or options.cap (usual Cap) → 0 < cap
-run_above options cap above is = by_case options.cap above is
-  where
-    by_case : (o : Option ℕ) → IfSome o (λ n. 0 < n) → cap ≡ unwrap_or o (usual Cap) → 0 < cap
-    by_case None above is = rw is (lit< tt)
-    by_case (Some n) above is = rw is above
+picked_above : (o : Option ℕ) (n most : ℕ) → 0 < most → IfSome o (λ k. 0 < k) → n ≡ unwrap_or o most → 0 < n
+picked_above None n most some above is = rw is some
+picked_above (Some k) n most some above is = rw is above
 
 pub order_has_cap : (words : List (List ℕ)) (order : Order) → IsOrder words order → HasCap order
 order_has_cap words Check is = tt
-order_has_cap words (Run cap undo) is = run_above is.2 cap (settings_above is.0 is.1 none_given is.2 is.4 tt) is.5
+order_has_cap words (Run cap undo) is =
+    let above = settings_above is.0 is.1 none_given is.2 is.4 (tt, tt) in
+    (picked_above is.2.cap cap (usual Cap) (lit< tt) above.0 is.5, picked_above is.2.undo undo (usual Undo) (lit< tt) above.1 is.6)
 
 -- ---- what is told
 

@@ -22,10 +22,10 @@ abbrev pub IsWanted : ℕ → Option Kind → Transcript → Type 0
 IsWanted place None want = Unit {0}
 IsWanted place (Some kind) want = want ≡ refused place (word_of kind)
 
--- an order whose cap is a label
+-- an order whose cap is a label, and that keeps some entries for undo
 abbrev pub HasCap : Order → Type 0
 HasCap Check = Unit {0}
-HasCap (Run cap undo) = 0 < cap
+HasCap (Run cap undo) = (0 < cap) × (0 < undo)
 
 -- the statuses that the transcript of an input gives
 abbrev pub Answered : Status → Type 0

@@ -1,4 +1,5 @@
 pub mod Words
 pub mod Block
+pub mod Replies
 pub mod Transcript
 pub mod Following

@@ -1,6 +1,5 @@
 -- What a run of the program answers: a status, and the text that it writes.
-use Rattle.std.specs.Prelude.{ℕ, nat_lt, List, [], ◌∷◌, ◌++◌, length, codes, bytes_eq, Option, if◌then◌else◌}
-use Rattle.std.specs.List.{flat_map}
+use Rattle.std.specs.Prelude.{ℕ, suc, nat_lt, List, [], ◌++◌, length, codes, Option, if◌then◌else◌}
 use Rattle.std.specs.Option.{option_map_or}
 use Rattle.std.specs.Fmt.{decimal}
 use Rattle.dom_model.specs.declared.Content.{Content}
@@ -9,8 +8,9 @@ use Rattle.dom_model.specs.Document.{node_count, char_count}
 use Rattle.page_grammar.specs.Kind.{Kind, TooLong as PageTooLong, Unclosed, NotUtf8, TooDeep, Full, UnsupportedElement, RepeatedAttribute, UnknownReference, StrayEnd, BadAttribute, BadTag}
 use Rattle.page_grammar.specs.Nodes.{document_of}
 use Rattle.page_grammar.specs.Reading.{Reading, Children, Refused, page_reading}
-use Rattle.page_write.specs.Html.{document_html}
-use Rattle.page_write.specs.Listing.{document_lines}
+use Rattle.page_grammar.specs.Page.{Siblings, size}
+use Rattle.edit_engine.specs.Editing.{Editing, new_editing}
+use Rattle.hedit.specs.Replies.{replies_to}
 use Rattle.hedit.specs.Words.{order_of}
 use Rattle.hedit.specs.Block.{Block, NoOpening, NoClosing, Whole, block_of}
 use Rattle.hedit.specs.declared.words.Order.{Order}
@@ -38,16 +38,10 @@ usual_cap = 2000000
 
 -- ---- acts
 
--- the reply to a line; an empty line is no act
-abbrev pub reply_to : Forest Content → List ℕ → List ℕ
-reply_to trees line =
-    if bytes_eq line [] then []
-    else (if bytes_eq line (codes "html") then document_html trees ++ codes "\n"
-    else (if bytes_eq line (codes "tree") then document_lines trees
-    else codes "! 2 unknown act\n"))
-
-unfoldable pub replies_to : Forest Content → List (List ℕ) → List ℕ
-replies_to trees lines = flat_map (reply_to trees) lines
+-- the editor with which a session on a page begins
+abbrev pub page_editing : (cap undo : ℕ) → Siblings → Editing
+page_editing cap undo children =
+    new_editing (record { trees = document_of children; next = suc (size children); cap = cap; held = [] }) undo
 
 -- ---- pages
 
@@ -82,20 +76,20 @@ checked (Children children) = transcript_of Done (numbers_line (document_of chil
 checked (Refused place kind) = refused place (word_of kind)
 
 -- `run`: the page of the block, and then the acts
-abbrev pub acted : List (List ℕ) → Reading → Transcript
-acted acts (Children children) = transcript_of Done (replies_to (document_of children) acts)
-acted acts (Refused place kind) = refused place (word_of kind)
+abbrev pub acted : (cap undo : ℕ) → List (List ℕ) → Reading → Transcript
+acted cap undo acts (Children children) = transcript_of Done (replies_to (page_editing cap undo children) acts)
+acted cap undo acts (Refused place kind) = refused place (word_of kind)
 
-abbrev pub run_block : (cap size : ℕ) → Block → Transcript
-run_block cap size NoOpening = refused 0 (codes "no-opening")
-run_block cap size NoClosing = refused size (codes "no-closing")
-run_block cap size (Whole page acts) = acted acts (page_reading depth_limit cap page)
+abbrev pub run_block : (cap undo size : ℕ) → Block → Transcript
+run_block cap undo size NoOpening = refused 0 (codes "no-opening")
+run_block cap undo size NoClosing = refused size (codes "no-closing")
+run_block cap undo size (Whole page acts) = acted cap undo acts (page_reading depth_limit cap page)
 
 -- ---- the whole
 
 abbrev pub ordered : List ℕ → Order → Transcript
 ordered input Check = checked (page_reading depth_limit usual_cap input)
-ordered input (Run cap undo) = run_block cap (length input) (block_of input)
+ordered input (Run cap undo) = run_block cap undo (length input) (block_of input)
 
 abbrev pub read_transcript : List ℕ → Order → Transcript
 read_transcript input order = if nat_lt input_limit (length input) then transcript_of TooLong [] else ordered input order

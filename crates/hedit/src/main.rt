@@ -4,7 +4,10 @@
 //! the program is proved at [`session::run_session`].
 #![tactic(auto)]
 
+mod acts;
 mod block;
+#[cfg(test)]
+mod editing_tests;
 mod reply;
 mod session;
 #[cfg(test)]

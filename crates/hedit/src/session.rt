@@ -7,12 +7,17 @@ ghost use Rattle.page_grammar.specs.Reading.{page_reading};
 ghost use Rattle.page_read.specs.Faults.{kind_of};
 ghost use Rattle.hedit.specs.Words.{order_of};
 ghost use Rattle.hedit.specs.Block.{lines_of, block_of};
-ghost use Rattle.hedit.specs.Transcript.{Transcript, numbers_line, transcript_of, refused, checked, acted, run_block, ordered, transcript, replies_to, reply_to, depth_limit, usual_cap, input_limit};
+ghost use Rattle.edit_doc.specs.Whole.{HasNoLoose};
+ghost use Rattle.edit_engine.specs.Editing.{new_editing};
+ghost use Rattle.hedit.specs.Replies.{line_reply, replies_to};
+ghost use Rattle.hedit.specs.Transcript.{Transcript, numbers_line, transcript_of, refused, checked, acted, run_block, ordered, transcript, depth_limit, usual_cap, input_limit};
 ghost use Rattle.hedit.specs.Following.{Follows, IsWanted, HasCap, RunFollows, Answered, IsSilent};
 
+use crate::acts::answer_line;
 use crate::block::{PageBlock, after_line, line_end, read_block};
-use crate::reply::{numbers, refusal, reply};
+use crate::reply::{numbers, refusal};
 use crate::words::{Order, read_words};
+use edit_engine::Editor;
 use edit_io::{ReadAllFault, Sink, SinkFault, Source, read_all, write_all};
 use node_arena::Arena;
 use page_read::{PageFault, PageKind, read_page};
@@ -35,6 +40,13 @@ pub enum Status {
     PageRefused = 6,
     /// The input has more than 8,388,608 bytes. Nothing is written.
     TooLong = 7,
+}
+
+// How many labels a session may draw, and how many entries it keeps for undo.
+#[derive(Clone, Copy)]
+struct Limits {
+    cap: u32,
+    undo: u32,
 }
 
 // Writes a text, and answers the status, or why the writing failed.
@@ -89,23 +101,24 @@ fn check<O: Sink>(alloc: Global, input: &[u8], output: &mut O) -> Status
 }
 
 // Answers one line.
-fn act<O: Sink>(alloc: Global, arena: &Arena, line: &[u8], output: &mut O) -> Status
-    ensures { Follows (transcript_of Status.Done (reply_to arena.now.trees line.now)) (O.taken output.old) (O.taken output.new) (O.faults output.old) (O.faults output.new) result }
+fn act<O: Sink>(alloc: Global, editor: &mut Editor, line: &[u8], output: &mut O) -> Status
+    ensures follows { Follows (transcript_of Status.Done (line_reply editor.old line.now).text) (O.taken output.old) (O.taken output.new) (O.faults output.old) (O.faults output.new) result }
+    ensures after { result ≡ Status.Done → editor.new ≡ (line_reply editor.old line.now).after }
 {
-    match reply(alloc, arena, line) {
+    match answer_line(alloc, editor, line) {
         Ok(text) => answer(output, &text, Status::Done),
         Err(_) => Status::Memory,
     }
 }
 
 // Answers the lines of the acts, as far as memory and the output go.
-fn run_acts<O: Sink>(alloc: Global, arena: &Arena, acts: &[u8], output: &mut O) -> Status
-    ensures { Follows (transcript_of Status.Done (replies_to arena.now.trees (lines_of acts.now))) (O.taken output.old) (O.taken output.new) (O.faults output.old) (O.faults output.new) result }
+fn run_acts<O: Sink>(alloc: Global, editor: &mut Editor, acts: &[u8], output: &mut O) -> Status
+    ensures { Follows (transcript_of Status.Done (replies_to editor.old (lines_of acts.now))) (O.taken output.old) (O.taken output.new) (O.faults output.old) (O.faults output.new) result }
 {
     let mut rest = acts;
     while !rest.is_empty() {
         let end = line_end(rest);
-        match act(alloc, arena, &rest[..end], output) {
+        match act(alloc, editor, &rest[..end], output) {
             Status::Done => {}
             status => return status,
         }
@@ -114,26 +127,46 @@ fn run_acts<O: Sink>(alloc: Global, arena: &Arena, acts: &[u8], output: &mut O) 
     Status::Done
 }
 
-// `run` over a page and the lines of its acts.
-fn run_page<O: Sink>(alloc: Global, page: &[u8], acts: &[u8], cap: u32, output: &mut O) -> Status
-    requires { 0 < cap }
-    ensures { Follows (acted (lines_of acts.now) (page_reading 200 cap page.now)) (O.taken output.old) (O.taken output.new) (O.faults output.old) (O.faults output.new) result }
+// `run` over the nodes of a page and the lines of its acts.
+fn edit_page<O: Sink>(alloc: Global, arena: Arena, undo: u32, acts: &[u8], output: &mut O) -> Status
+    requires depth { 0 < undo }
+    requires loose { HasNoLoose arena }
+    ensures { Follows (transcript_of Status.Done (replies_to (new_editing arena undo) (lines_of acts.now))) (O.taken output.old) (O.taken output.new) (O.faults output.old) (O.faults output.new) result }
 {
-    match read_page(alloc, page, cap) {
-        Ok(arena) => run_acts(alloc, &arena, acts, output),
+    match Editor::new(alloc, arena, undo as usize) {
+        Ok(mut editor) => run_acts(alloc, &mut editor, acts, output),
+        Err(_) => Status::Memory,
+    }
+}
+
+// `run` over a page and the lines of its acts.
+fn run_page<O: Sink>(
+    alloc: Global,
+    page: &[u8],
+    acts: &[u8],
+    limits: Limits,
+    output: &mut O,
+) -> Status
+    requires cap { 0 < limits.cap }
+    requires undo { 0 < limits.undo }
+    ensures { Follows (acted limits.cap limits.undo (lines_of acts.now) (page_reading 200 limits.cap page.now)) (O.taken output.old) (O.taken output.new) (O.faults output.old) (O.faults output.new) result }
+{
+    match read_page(alloc, page, limits.cap) {
+        Ok(arena) => edit_page(alloc, arena, limits.undo, acts, output),
         Err(fault) => refuse_page(alloc, output, fault),
     }
 }
 
 // `run`: the page of the block, and then the acts.
-fn run<O: Sink>(alloc: Global, input: &[u8], cap: u32, output: &mut O) -> Status
-    requires { 0 < cap }
-    ensures { Follows (run_block cap (length input.now) (block_of input.now)) (O.taken output.old) (O.taken output.new) (O.faults output.old) (O.faults output.new) result }
+fn run<O: Sink>(alloc: Global, input: &[u8], limits: Limits, output: &mut O) -> Status
+    requires cap { 0 < limits.cap }
+    requires undo { 0 < limits.undo }
+    ensures { Follows (run_block limits.cap limits.undo (length input.now) (block_of input.now)) (O.taken output.old) (O.taken output.new) (O.faults output.old) (O.faults output.new) result }
 {
     match read_block(input) {
         PageBlock::NoOpening => refuse(alloc, output, 0, "no-opening"),
         PageBlock::NoClosing => refuse(alloc, output, input.len(), "no-closing"),
-        PageBlock::Whole { page, acts } => run_page(alloc, page, acts, cap, output),
+        PageBlock::Whole { page, acts } => run_page(alloc, page, acts, limits, output),
     }
 }
 
@@ -144,7 +177,7 @@ fn obey<O: Sink>(alloc: Global, order: Order, input: &[u8], output: &mut O) -> S
 {
     match order {
         Order::Check => check(alloc, input, output),
-        Order::Run { cap, undo: _ } => run(alloc, input, cap, output),
+        Order::Run { cap, undo } => run(alloc, input, Limits { cap, undo }, output),
     }
 }
 

@@ -1,5 +1,5 @@
 use Rattle.hedit.proofs.Runs.{follows_nothing}
 use Rattle.hedit.proofs.session.act.Goals as goal
 
-pub returns-in-Err : goal.returns-in-Err
-returns-in-Err g c = follows_nothing _ _ _ tt
+pub returns-in-Err-clause-follows : goal.returns-in-Err-clause-follows
+returns-in-Err-clause-follows g c = follows_nothing _ _ _ tt

@@ -1,13 +1,13 @@
 use Rattle.std.proofs.Common.{◌≤◌, length}
 use Rattle.hedit.specs.Block.{lines_of}
-use Rattle.hedit.specs.Transcript.{replies_to}
+use Rattle.hedit.specs.Replies.{replies_to}
 use Rattle.hedit.proofs.Runs.{SoFar}
 use Rattle.hedit.proofs.session.run_acts.Given as goal
 
 -- the replies so far are written, and those to the rest are still to be written
 abbrev pub invariant-loop-rest : goal.invariant-loop-rest
 invariant-loop-rest g l = record {
-  written : SoFar (g.O.Sink.taken l.initial.output) (g.O.Sink.taken l.output) (replies_to l.arena.trees (lines_of l.rest)) (replies_to l.arena.trees (lines_of l.acts));
+  written : SoFar (g.O.Sink.taken l.initial.output) (g.O.Sink.taken l.output) (replies_to l.editor (lines_of l.rest)) (replies_to l.initial.editor (lines_of l.acts));
   counted : g.O.Sink.faults l.initial.output ≤ g.O.Sink.faults l.output;
 }
 

@@ -1,0 +1,11 @@
+pub mod AllLinks
+pub mod Carets
+pub mod Commanding
+pub mod CommonHost
+pub mod Depths
+pub mod Editors
+pub mod HostSteps
+pub mod Lines
+pub mod Outcomes
+pub mod Seeing
+pub mod Walking

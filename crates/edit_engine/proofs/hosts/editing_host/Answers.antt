@@ -1,0 +1,37 @@
+use Rattle.std.proofs.Common.{sym, ◌∙◌, arith}
+use Rattle.dom_model.proofs.Within.{depth_of-parent}
+use Rattle.edit_engine.proofs.HostSteps.{refused, at_host, passed_on, at_root}
+use Rattle.edit_engine.proofs.hosts.editing_host.Goals as goal
+
+pub returns-then-not-takes_host : goal.returns-then-not-takes_host
+returns-then-not-takes_host c = record {
+  is =
+      sym (refused c.args.doc.now.state.trees c.lawful.ensures.lawful.forest.distinct c.loop-parent.at.label c.in-Some.parent.label c.content.result.now c.content-above.result.now (sym c.in-Some.ensures.is) c.content.ensures c.content-above.ensures (sym c.takes_host.ensures ∙ c.if-not-takes_host.true))
+      ∙ c.loop-parent.invariant.same;
+  held = tt;
+}
+
+pub returns-then-is_true_state : goal.returns-then-is_true_state
+returns-then-is_true_state c = record {
+  is =
+      sym (at_host c.args.doc.now.state.trees c.lawful.ensures.lawful.forest.distinct c.loop-parent.at.label c.in-Some.parent.label c.content.result.now c.content-above.result.now (sym c.in-Some.ensures.is) c.content.ensures c.content-above.ensures (sym c.takes_host.ensures ∙ c.if-not-takes_host.false) (sym c.is_true_state.ensures ∙ c.if-is_true_state.true))
+      ∙ c.loop-parent.invariant.same;
+  held = c.in-Some.ensures.held;
+}
+
+pub loop-parent-smaller : goal.loop-parent-smaller
+loop-parent-smaller c = omega (arith, depth_of-parent c.args.doc.now.state.trees c.loop-parent.at.label c.in-Some.parent.label c.lawful.ensures.lawful.forest.distinct (sym c.in-Some.ensures.is))
+
+pub loop-parent-preserved : goal.loop-parent-preserved
+loop-parent-preserved c = record {
+  held = c.in-Some.ensures.held;
+  same =
+      sym (passed_on c.args.doc.now.state.trees c.lawful.ensures.lawful.forest.distinct c.loop-parent.at.label c.in-Some.parent.label c.content.result.now c.content-above.result.now (sym c.in-Some.ensures.is) c.content.ensures c.content-above.ensures (sym c.takes_host.ensures ∙ c.if-not-takes_host.false) (sym c.is_true_state.ensures ∙ c.if-is_true_state.false))
+      ∙ c.loop-parent.invariant.same;
+}
+
+pub returns : goal.returns
+returns c = record {
+  is = sym (at_root c.args.doc.now.state.trees c.lawful.ensures.lawful.forest.distinct c.loop-parent.at.label (sym c.in_default.ensures.is)) ∙ c.loop-parent.invariant.same;
+  held = tt;
+}

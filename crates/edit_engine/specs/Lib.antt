@@ -1,0 +1,13 @@
+pub mod Lineage
+pub mod Listed
+pub mod Ranges
+pub mod Hosts
+pub mod Unlink
+pub mod Commands
+pub mod Editing
+pub mod Execution
+pub mod Queries
+pub mod Places
+pub mod Views
+pub mod Faults
+pub mod Clearing

@@ -1,0 +1,46 @@
+-- Places: points by the path of their node.
+use Rattle.std.specs.Prelude.{◌≡◌, ℕ, nat_le, List, length, false, Option, Some, None, if◌then◌else◌}
+use Rattle.std.specs.Option.{option_and_then, option_map}
+use Rattle.dom_model.specs.declared.Content.{Content}
+use Rattle.dom_model.specs.Contents.{length_of}
+use Rattle.dom_model.specs.Forest.{Forest}
+use Rattle.live_range.specs.LivePoints.{has_mark, with_mark, without_mark}
+use Rattle.live_range.specs.declared.places.Point.{Point}
+use Rattle.live_range.specs.declared.places.Pair.{Pair}
+use Rattle.node_paths.specs.Paths.{label_at}
+use Rattle.script_read.specs.declared.act.Place.{Place}
+use Rattle.edit_model.specs.Action.{Select, Unselect, acted}
+use Rattle.edit_engine.specs.Editing.{Editing, with_state}
+
+abbrev pub point_in : Forest Content → ℕ → ℕ → Option Point
+point_in f offset l = if nat_le offset (length_of f l) then Some (record { label = l; offset = offset }) else None
+
+-- the point at a place; none where the path names no node, or the offset is past the node's length
+unfoldable pub point_at : Forest Content → Place → Option Point
+point_at f place = option_and_then (point_in f place.offset) (label_at f place.path)
+
+abbrev pub pair_of : Option Point → Option Point → Option Pair
+pair_of None focus = None
+pair_of (Some anchor) focus = option_map (λ p. record { anchor = anchor; focus = p }) focus
+
+unfoldable pub pair_at : Forest Content → Place → Place → Option Pair
+pair_at f anchor focus = pair_of (point_at f anchor) (point_at f focus)
+
+-- ---- the editor after a selecting act
+
+abbrev pub selecting : Editing → Pair → Editing
+selecting e pair = with_state e (acted (Select pair.anchor pair.focus) e.state)
+
+abbrev pub unselecting : Editing → Editing
+unselecting e = with_state e (acted Unselect e.state)
+
+abbrev pub marking : Editing → List ℕ → Pair → Editing
+marking e name pair = with_state e (record e.state { points = with_mark name pair e.state.points })
+
+abbrev pub unmarking : Editing → List ℕ → Editing
+unmarking e name = with_state e (record e.state { points = without_mark name e.state.points })
+
+-- 16 other marks are there
+pub record IsCrowded (e : Editing) (name : List ℕ) : Type 0 where
+  pub full : length e.state.points.marks ≡ 16
+  pub new : has_mark name e.state.points ≡ false

@@ -1,0 +1,31 @@
+-- What is printed of an editor.
+use Rattle.std.specs.Prelude.{ℕ, List, ◌++◌, length, codes}
+use Rattle.std.specs.Fmt.{decimal}
+use Rattle.dom_model.specs.Document.{node_count, char_count}
+use Rattle.edit_doc.specs.Whole.{first_edits}
+use Rattle.page_write.specs.Html.{document_html}
+use Rattle.page_write.specs.Listing.{document_lines}
+use Rattle.page_write.specs.PointLines.{point_lines}
+use Rattle.edit_engine.specs.declared.answers.ViewKind.{ViewKind}
+use Rattle.edit_engine.specs.declared.answers.ViewKind.TheVariants.{Html, Tree, Points, Stat}
+use Rattle.edit_engine.specs.Editing.{Editing}
+
+-- how many nodes and characters the document has, and the next label
+abbrev pub document_numbers : (nodes chars next : ℕ) → List ℕ
+document_numbers nodes chars next = codes "nodes " ++ decimal nodes ++ codes " chars " ++ decimal chars ++ codes " next " ++ decimal next
+
+-- the edits of the entry that undo would take, and how many entries undo and redo would take
+abbrev pub history_numbers : (edits undo redo : ℕ) → List ℕ
+history_numbers edits undo redo = codes " edits " ++ decimal edits ++ codes " undo " ++ decimal undo ++ codes " redo " ++ decimal redo ++ codes "\n"
+
+unfoldable pub stat_line : Editing → List ℕ
+stat_line e =
+    document_numbers (node_count e.state.trees) (char_count e.state.trees) e.state.next
+    ++ history_numbers (first_edits e.history.undo) (length e.history.undo) (length e.history.redo)
+
+-- in whole lines
+abbrev pub view_text : Editing → ViewKind → List ℕ
+view_text e Html = document_html e.state.trees ++ codes "\n"
+view_text e Tree = document_lines e.state.trees
+view_text e Points = point_lines e.state.trees e.state.points
+view_text e Stat = stat_line e

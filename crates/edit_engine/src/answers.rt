@@ -1,0 +1,95 @@
+//! What an editor answers, and why it refuses.
+
+use dom_model::Chars;
+use edit_doc::{EditFault, MarkFault};
+use std::alloc::AllocError;
+
+/// What executing a command answers (HTML Editing APIs, "execCommand()").
+#[derive(Clone, Copy, PartialEq, Eq, Debug)]
+pub enum Answer {
+    /// The action was taken.
+    Yes,
+    /// The command isn't supported or not enabled, or its action refuses the value.
+    No,
+}
+
+/// Why a command was taken back.
+#[derive(Clone, Copy, PartialEq, Eq, Debug)]
+pub enum ExecFault {
+    /// It would have drawn a label that isn't below the cap.
+    Full = 1,
+    /// The document is deeper than 250.
+    Deep = 2,
+    /// There is no memory for it.
+    Memory = 3,
+}
+
+impl From<AllocError> for ExecFault {
+    ghost use Rattle.std.specs.Prelude.{◌≡◌};
+    ghost use Rattle.edit_engine.specs.declared.answers.ExecFault.TheVariants.{Memory};
+
+    ghost from_gives = { λ _ fault. fault ≡ Memory };
+
+    fn from(_: AllocError) -> ExecFault {
+        ExecFault::Memory
+    }
+}
+
+impl From<EditFault> for ExecFault {
+    ghost use Rattle.std.specs.Prelude.{◌≡◌};
+    ghost use Rattle.edit_engine.specs.Faults.{exec_fault};
+
+    ghost from_gives = { λ fault out. out ≡ exec_fault fault };
+
+    fn from(fault: EditFault) -> ExecFault {
+        match fault {
+            EditFault::Full => ExecFault::Full,
+            EditFault::Memory => ExecFault::Memory,
+        }
+    }
+}
+
+/// What a question about a command is answered.
+#[derive(Drop)]
+pub enum Reply {
+    Flag(bool),
+    Wording(Chars),
+}
+
+/// Why a pair of points was not selected or marked.
+#[derive(Clone, Copy, PartialEq, Eq, Debug)]
+pub enum PlaceFault {
+    /// A path names no node, or an offset is past its length.
+    BadPlace = 1,
+    /// 16 marks of other names are there.
+    TooManyMarks = 2,
+    /// There is no memory for the mark.
+    Memory = 3,
+}
+
+impl From<MarkFault> for PlaceFault {
+    ghost use Rattle.edit_engine.specs.Faults.{place_fault};
+    ghost use Rattle.std.specs.Prelude.{◌≡◌};
+
+    ghost from_gives = { λ fault out. out ≡ place_fault fault };
+
+    fn from(fault: MarkFault) -> PlaceFault {
+        match fault {
+            MarkFault::TooManyMarks => PlaceFault::TooManyMarks,
+            MarkFault::Memory => PlaceFault::Memory,
+        }
+    }
+}
+
+/// What of an editor is printed.
+#[derive(Clone, Copy, PartialEq, Eq, Debug)]
+pub enum ViewKind {
+    /// The HTML of the document.
+    Html,
+    /// A line for each node.
+    Tree,
+    /// The selection and the marks.
+    Points,
+    /// The numbers of the document and of the history.
+    Stat,
+}

@@ -1,0 +1,19 @@
+//! An editor of a document: commands, questions about them, the selection and marks, undo and redo, and what is printed.
+//!
+//! A command (HTML Editing APIs, "execCommand()") is taken whole or not at all. Contracts see an editor as the state of
+//! its document and the history of views that undo and redo go through.
+#![tactic(auto)]
+
+mod answers;
+mod commands;
+mod editor;
+mod hosts;
+mod links;
+mod places;
+mod queries;
+mod unlink;
+mod views;
+
+pub use answers::{Answer, ExecFault, PlaceFault, Reply, ViewKind};
+pub use commands::Supported;
+pub use editor::Editor;

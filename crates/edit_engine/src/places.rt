@@ -1,0 +1,56 @@
+//! Points by the path of their node.
+
+ghost use Rattle.std.specs.Prelude.{◌≡◌, IfSome, true};
+ghost use Rattle.point_order.specs.PointOrder.{is_placed, is_in_document};
+ghost use Rattle.edit_model.specs.Lawful.{IsPlacedPair};
+ghost use Rattle.edit_doc.specs.Whole.{IsClosed};
+ghost use Rattle.edit_doc.specs.Held.{Holds};
+ghost use Rattle.edit_engine.specs.Places.{point_in, point_at, pair_at};
+
+use edit_doc::{Doc, NodeRef, Pair, Point};
+use node_paths::resolve;
+use script_read::Place;
+
+// The point at an offset of a node of the document.
+fn point_in(doc: &Doc, node: NodeRef, offset: u32) -> Option<Point>
+    requires held { Holds doc.now node }
+    requires inner { is_in_document doc.now.state.trees node.label ≡ true }
+    ensures point { result ≡ point_in doc.now.state.trees offset node.label }
+    ensures placed { IfSome result (λ p. is_placed doc.now.state.trees p ≡ true) }
+{
+    if offset <= doc.length(node) {
+        Some(Point {
+            label: node.label,
+            offset,
+        })
+    } else {
+        None
+    }
+}
+
+#[tactic(auto, unfolding(crate::specs::Places::point_at))]
+fn point_at(doc: &Doc, place: &Place) -> Option<Point>
+    requires { IsClosed doc.now }
+    ensures point { result ≡ point_at doc.now.state.trees place.now }
+    ensures placed { IfSome result (λ p. is_placed doc.now.state.trees p ≡ true) }
+{
+    doc.lawful();
+    let arena = doc.arena();
+    arena.lawful();
+    match resolve(arena, place.path.as_slice()) {
+        None => None,
+        Some(node) => point_in(doc, node, place.offset),
+    }
+}
+
+/// The pair of points at two places, where there are such points.
+#[tactic(auto, unfolding(crate::specs::Places::pair_at))]
+pub(crate) fn pair_at(doc: &Doc, anchor: &Place, focus: &Place) -> Option<Pair>
+    requires { IsClosed doc.now }
+    ensures pair { result ≡ pair_at doc.now.state.trees anchor.now focus.now }
+    ensures placed { IfSome result (λ p. IsPlacedPair doc.now.state.trees p) }
+{
+    let anchor = point_at(doc, anchor)?;
+    let focus = point_at(doc, focus)?;
+    Some(Pair { anchor, focus })
+}

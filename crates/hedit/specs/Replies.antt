@@ -1,0 +1,127 @@
+-- The replies to the lines of a session, and the editor after each.
+use Rattle.std.specs.Prelude.{◌≡◌, ℕ, Bool, true, false, not, ◌&&◌, ◌||◌, ◌==◌, nat_le, nat_eq, min, List, [], ◌∷◌, ◌++◌, length, codes, bytes_eq, Option, Some, None, if◌then◌else◌}
+use Rattle.std.specs.List.{starts_with}
+use Rattle.std.specs.Fmt.{decimal}
+use Rattle.live_range.specs.LivePoints.{has_mark}
+use Rattle.live_range.specs.declared.places.Pair.{Pair}
+use Rattle.escaped_text.specs.Escaped.{escaped_bytes}
+use Rattle.script_read.specs.declared.act.Act.{Act}
+use Rattle.script_read.specs.declared.act.Act.TheVariants.{Select, Unselect, Mark, Unmark, Exec, Query, Undo, Redo, Probe, Html, Tree, Points, Stat}
+use Rattle.script_read.specs.Acts.{line_limit, is_name}
+use Rattle.script_read.specs.Reading.{Line, Long, Unknown, Known, line_of}
+use Rattle.edit_engine.specs.declared.answers.Reply.{Reply}
+use Rattle.edit_engine.specs.declared.answers.Reply.TheVariants as reply
+use Rattle.edit_engine.specs.declared.answers.ViewKind.TheVariants as view
+use Rattle.edit_engine.specs.Editing.{Editing, undone, redone, turned}
+use Rattle.edit_engine.specs.Execution.{Outcome, Refused, Deep, Full, Acted, outcome}
+use Rattle.edit_engine.specs.Places.{pair_at, selecting, unselecting, marking, unmarking}
+use Rattle.edit_engine.specs.Queries.{reply_of}
+use Rattle.edit_engine.specs.Views.{view_text}
+
+-- what is written, and the editor after it
+pub record Replied : Type 0 where
+  pub text : List ℕ
+  pub after : Editing
+
+abbrev pub replied : List ℕ → Editing → Replied
+replied text e = record { text = text; after = e }
+
+abbrev pub truth : Bool → List ℕ
+truth b = if b then codes "true\n" else codes "false\n"
+
+-- ---- points
+
+abbrev pub bad_place : List ℕ
+bad_place = codes "! 4 bad place\n"
+
+abbrev pub select_reply : Editing → Option Pair → Replied
+select_reply e None = replied bad_place e
+select_reply e (Some pair) = replied (codes "ok\n") (selecting e pair)
+
+-- 16 other marks are there
+abbrev pub is_crowded : Editing → List ℕ → Bool
+is_crowded e name = (length e.state.points.marks == 16) && not (has_mark name e.state.points)
+
+abbrev pub mark_reply : Editing → List ℕ → Option Pair → Replied
+mark_reply e name None = replied bad_place e
+mark_reply e name (Some pair) =
+    if is_crowded e name then replied (codes "! 5 too many marks\n") e else replied (codes "ok\n") (marking e name pair)
+
+abbrev pub unmark_reply : Editing → List ℕ → Replied
+unmark_reply e name = replied (truth (has_mark name e.state.points)) (unmarking e name)
+
+-- ---- commands
+
+abbrev pub exec_reply : Editing → Outcome → Replied
+exec_reply e Refused = replied (truth false) e
+exec_reply e Deep = replied (codes "! 7 deep\n") e
+exec_reply e Full = replied (codes "! 6 full\n") e
+exec_reply e (Acted answer after) = replied (truth answer) after
+
+abbrev pub query_text : Reply → List ℕ
+query_text (reply.Flag b) = truth b
+query_text (reply.Wording text) = codes "= " ++ escaped_bytes text ++ codes "\n"
+
+-- ---- the history: as many entries are taken as are asked for and there
+
+abbrev pub taken : List ℕ → ℕ → List ℕ
+taken word count = word ++ decimal count ++ codes "\n"
+
+unfoldable pub undo_reply : Editing → ℕ → Replied
+undo_reply e n =
+    replied (taken (codes "undo ") (min n (length e.history.undo))) (turned (min n (length e.history.undo)) undone e)
+
+unfoldable pub redo_reply : Editing → ℕ → Replied
+redo_reply e n =
+    replied (taken (codes "redo ") (min n (length e.history.redo))) (turned (min n (length e.history.redo)) redone e)
+
+-- ---- acts
+
+abbrev pub unknown_act : List ℕ
+unknown_act = codes "! 2 unknown act\n"
+
+abbrev pub act_reply : Editing → Act → Replied
+act_reply e (Select anchor focus) = select_reply e (pair_at e.state.trees anchor focus)
+act_reply e Unselect = replied (codes "ok\n") (unselecting e)
+act_reply e (Mark name anchor focus) = mark_reply e name (pair_at e.state.trees anchor focus)
+act_reply e (Unmark name) = unmark_reply e name
+act_reply e (Exec name value) = exec_reply e (outcome e name value)
+act_reply e (Query kind name) = replied (query_text (reply_of e.state kind name)) e
+act_reply e (Undo count) = undo_reply e count
+act_reply e (Redo count) = redo_reply e count
+act_reply e (Probe path) = replied unknown_act e
+act_reply e Html = replied (view_text e view.Html) e
+act_reply e Tree = replied (view_text e view.Tree) e
+act_reply e Points = replied (view_text e view.Points) e
+act_reply e Stat = replied (view_text e view.Stat) e
+
+-- ---- lines
+
+abbrev pub known_reply : Editing → Option Act → Replied
+known_reply e None = replied (codes "! 1 syntax\n") e
+known_reply e (Some act) = act_reply e act
+
+abbrev pub read_reply : Editing → Line → Replied
+read_reply e Long = replied (codes "! 3 long line\n") e
+read_reply e Unknown = replied unknown_act e
+read_reply e (Known act) = known_reply e act
+
+-- the act `probe` isn't built yet: a line that begins with it is unknown
+abbrev pub is_unbuilt : List ℕ → Bool
+is_unbuilt line = nat_le (length line) line_limit && (bytes_eq line (codes "probe") || starts_with nat_eq line (codes "probe "))
+
+-- an empty line is no act
+unfoldable pub line_reply : Editing → List ℕ → Replied
+line_reply e line =
+    if bytes_eq line [] then replied [] e else (if is_unbuilt line then replied unknown_act e else read_reply e (line_of line))
+
+-- each line is answered by the editor that the earlier lines left
+unfoldable pub replies_to : Editing → List (List ℕ) → List ℕ
+replies_to e [] = []
+replies_to e (line ∷ lines) = (line_reply e line).text ++ replies_to (line_reply e line).after lines
+
+-- the name of a command in an act is one of letters, digits and `-`
+abbrev pub IsNamed : Act → Type 0
+IsNamed (Exec name value) = is_name name ≡ true
+IsNamed (Query kind name) = is_name name ≡ true
+IsNamed _ = Unit {0}

@@ -1,0 +1,117 @@
+//! Sessions that edit: rows of acts and what they answer.
+use crate::session::Status;
+use crate::tests::answer_to;
+use std::alloc::{AllocError, Global};
+use std::test::Fail;
+
+// What a session on a page answers.
+fn answer(alloc: Global, words: &[&str], page: &str, acts: &str) -> Result<Vec<u8>, AllocError> {
+    let input = format!(in alloc; "page <<END\n{page}\nEND\n{acts}")?;
+    let (status, written) = answer_to(alloc, words, input.as_bytes())?;
+    if status == Status::Done {
+        Ok(written)
+    } else {
+        Err(AllocError)
+    }
+}
+
+const LINK: &str = "<div contenteditable=\"true\"><p><a href=\"u\">x</a></p></div>";
+
+const CLASSED: &str = "<div contenteditable=\"true\"><p><a href=\"u\" class=\"c\">x</a></p></div>";
+
+const TWO: &str = "<p>out</p><div contenteditable=\"true\"><p>in</p></div>";
+
+const PLAIN: &str = "<div contenteditable=\"true\"><p>x</p></div>";
+
+#[test]
+fn edits_pages(rt: HostRuntime) -> Result<(), Fail> {
+    for (page, acts, want) in [
+        // a link with nothing but href goes, and its caret stays in the text; undo brings both back
+        (
+            LINK,
+            "select 0/0/0/0:1 0/0/0/0:1\nexec unlink\nhtml\npoints\nundo 1\nhtml\npoints\nstat\nredo 5\nhtml\nstat\n",
+            "ok\ntrue\n<div contenteditable=\"true\"><p>x</p></div>\nanchor 0/0/0:1\nfocus 0/0/0:1\nundo 1\n<div contenteditable=\"true\"><p><a href=\"u\">x</a></p></div>\nanchor 0/0/0/0:1\nfocus 0/0/0/0:1\nnodes 5 chars 1 next 5 edits 0 undo 0 redo 1\nredo 1\n<div contenteditable=\"true\"><p>x</p></div>\nnodes 4 chars 1 next 5 edits 2 undo 1 redo 0\n",
+        ),
+        // a link with another attribute loses its href; undo brings it back to its place
+        (
+            CLASSED,
+            "select 0/0/0/0:1 0/0/0/0:1\nexec UnLink\nhtml\nstat\nundo 1\nhtml\n",
+            "ok\ntrue\n<div contenteditable=\"true\"><p><a class=\"c\">x</a></p></div>\nnodes 5 chars 1 next 5 edits 1 undo 1 redo 0\nundo 1\n<div contenteditable=\"true\"><p><a href=\"u\" class=\"c\">x</a></p></div>\n",
+        ),
+        // a range that begins outside the editing host: nothing is enabled
+        (
+            TWO,
+            "select 0/0:1 1/0/0:1\nquery enabled unlink\nexec unlink\nhtml\n",
+            "ok\nfalse\nfalse\n<p>out</p><div contenteditable=\"true\"><p>in</p></div>\n",
+        ),
+        // the empty page
+        (
+            "",
+            "html\ntree\npoints\nexec bold\nexec styleWithCSS\nquery state styleWithCSS\nexec useCSS\nquery state styleWithCSS\n",
+            "\nnone\nfalse\ntrue\ntrue\ntrue\nfalse\n",
+        ),
+        // commands that aren't supported, and lines outside the grammar
+        (
+            PLAIN,
+            "exec insertHTML <b>y</b>\nexec paste\nexec frobnicate\nquery supported paste\nselect 0/9:0 0:0\njump\nundo x\nprobe 0\nhtml\n",
+            "false\nfalse\nfalse\nfalse\n! 4 bad place\n! 2 unknown act\n! 1 syntax\n! 2 unknown act\n<div contenteditable=\"true\"><p>x</p></div>\n",
+        ),
+        // the default single-line container
+        (
+            PLAIN,
+            "query value defaultParagraphSeparator\nexec defaultParagraphSeparator P\nquery value defaultParagraphSeparator\nexec defaultParagraphSeparator span\nquery value defaultParagraphSeparator\nquery value unlink\nunselect\nundo 3\n",
+            "= div\ntrue\n= p\nfalse\n= p\n= \nok\nundo 0\n",
+        ),
+        // a command with edits drops what redo would take
+        (
+            "<div contenteditable=\"true\"><a href=\"u\">x</a><a href=\"v\">y</a></div>",
+            "select 0/0/0:0 0/0/0:0\nexec unlink\nundo 1\nselect 0/1/0:0 0/1/0:0\nexec unlink\nhtml\nredo 1\nselect 0:0 0:2\nexec unlink\nhtml\n",
+            "ok\ntrue\nundo 1\nok\ntrue\n<div contenteditable=\"true\"><a href=\"u\">x</a>y</div>\nredo 0\nok\ntrue\n<div contenteditable=\"true\">xy</div>\n",
+        ),
+    ] {
+        let written = answer(rt.alloc(), ["run"].as_slice(), page, acts)?;
+        assert_eq!(rt; written.as_slice(), want.as_bytes(), "on {acts:?}");
+    }
+    Ok(())
+}
+
+#[test]
+fn marks_are_sixteen(rt: HostRuntime) -> Result<(), Fail> {
+    let mut acts = String::new(rt.alloc());
+    let mut want = Vec::new(rt.alloc());
+    for k in 0..16 {
+        let line = format!(in rt.alloc(); "mark m{k} 0:0 0:0\n")?;
+        acts.push_str(line.as_str())?;
+        want.extend_from_slice(b"ok\n")?;
+    }
+    acts.push_str("mark m3 0:0 0:1\nmark m16 0:0 0:0\nmark m16 0:0 9:0\n")?;
+    want.extend_from_slice(b"ok\n! 5 too many marks\n! 4 bad place\n")?;
+    let written = answer(rt.alloc(), ["run"].as_slice(), PLAIN, acts.as_str())?;
+    assert_eq!(rt; written.as_slice(), want.as_slice());
+    Ok(())
+}
+
+#[test]
+fn undo_keeps_as_many_as_asked(rt: HostRuntime) -> Result<(), Fail> {
+    let page = "<div contenteditable=\"true\"><a href=\"u\">x</a><a href=\"v\">y</a></div>";
+    let acts =
+        "select 0/0/0:0 0/0/0:0\nexec unlink\nselect 0/1/0:0 0/1/0:0\nexec unlink\nundo 5\nhtml\n";
+    let written = answer(rt.alloc(), ["run", "--undo", "1"].as_slice(), page, acts)?;
+    let want =
+        "ok\ntrue\nok\ntrue\nundo 1\n<div contenteditable=\"true\">x<a href=\"v\">y</a></div>\n";
+    assert_eq!(rt; written.as_slice(), want.as_bytes());
+    Ok(())
+}
+
+#[test]
+fn long_lines_are_told(rt: HostRuntime) -> Result<(), Fail> {
+    let mut acts = String::new(rt.alloc());
+    for _ in 0..8193 {
+        acts.push_str("h")?;
+    }
+    acts.push_str("\nstat")?;
+    let written = answer(rt.alloc(), ["run"].as_slice(), PLAIN, acts.as_str())?;
+    let want = "! 3 long line\nnodes 4 chars 1 next 4 edits 0 undo 0 redo 0\n";
+    assert_eq!(rt; written.as_slice(), want.as_bytes());
+    Ok(())
+}
