@@ -1,3 +1,4 @@
+mod breaks;
 mod classes;
 mod nodes;
 mod ranges;

@@ -5,7 +5,7 @@ ghost use Rattle.dom_model.specs.Forest.{count_of};
 
 use super::read;
 use live_range::Point;
-use node_arena::Arena;
+use node_arena::{Arena, NodeList};
 use node_tests::*;
 use std::process::Abort;
 use std::test::Fail;
@@ -222,6 +222,20 @@ fn check_each(rt: &impl Abort, arena: &Arena, range: (Point, Point), row: &Range
     }
 }
 
+// Whether a list names the nodes of these labels in this order.
+fn has_labels(list: &NodeList, labels: &[u32]) -> bool {
+    let nodes = list.as_slice();
+    if nodes.len() != labels.len() {
+        return false;
+    }
+    for i in 0..nodes.len() {
+        if nodes[i].label != labels[i] {
+            return false;
+        }
+    }
+    true
+}
+
 #[test]
 fn ranges_contain_nodes(rt: HostRuntime) -> Result<(), Fail> {
     for row in &RANGES {
@@ -239,6 +253,10 @@ fn ranges_contain_nodes(rt: HostRuntime) -> Result<(), Fail> {
             },
         );
         check_each(&rt, &arena, range, row);
+        let contained = contained_nodes(rt.alloc(), &arena, range)?;
+        assert!(rt; has_labels(&contained, row.contained), "{}", row.page);
+        let effective = effective_nodes(rt.alloc(), &arena, range)?;
+        assert!(rt; has_labels(&effective, row.effective), "{}", row.page);
     }
     Ok(())
 }
