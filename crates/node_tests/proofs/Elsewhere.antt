@@ -45,7 +45,7 @@ module _ (f : Forest Content) (once : IsDistinct f) where
       let low = count_in_tree (tree_of f a) b l in
       omega (arith, same, low, bl)
 
-  parent_among : (p k : ℕ) → 0 < times (children_of f p) k → parent_of f k ≡ Some p
+  pub parent_among : (p k : ℕ) → 0 < times (children_of f p) k → parent_of f k ≡ Some p
   parent_among p k h = by_seen (seek None f p) refl h
     where
       by_seen : (o : Option (Seen Content)) → seek None f p ≡ o → 0 < times (option_map_or (λ s. s.children) o []) k → parent_of f k ≡ Some p

@@ -16,3 +16,5 @@ mod Wanting
 mod Elsewhere
 mod Turning
 mod Turns
+mod Tags
+mod Endings

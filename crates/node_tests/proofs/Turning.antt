@@ -6,7 +6,7 @@ use Rattle.std.proofs.lemmas.Bool.Decides.{eqb_tells}
 use Rattle.dom_model.specs.declared.Content.{Content}
 use Rattle.dom_model.specs.declared.Content.TheVariants.{Document, Element, Words, Remark}
 use Rattle.dom_model.specs.Contents.{may_have_children, length_in, length_of}
-use Rattle.dom_model.specs.Forest.{Forest, times, first_in, last_or, last_in, before_from, before_in, after_in, parent_of, children_of, first_of, last_of, prev_of, next_of}
+use Rattle.dom_model.specs.Forest.{Forest, times, count_of, first_in, last_or, last_in, before_from, before_in, after_in, parent_of, children_of, first_of, last_of, prev_of, next_of}
 use Rattle.dom_model.specs.Places.{place_in, index_of}
 use Rattle.dom_model.specs.State.{State, IsLawful}
 use Rattle.dom_model.proofs.Laws.{leaf_children}
@@ -14,7 +14,7 @@ use Rattle.dom_model.proofs.Lists.{before_from_some}
 use Rattle.dom_model.proofs.Links.{parent_count}
 use Rattle.node_arena.specs.declared.NodeRef.{NodeRef}
 use Rattle.node_arena.specs.Held.{Holds, label}
-use Rattle.node_tests.specs.BlockPoints.{child_before}
+use Rattle.node_tests.specs.BlockPoints.{child_before, child_at}
 use Rattle.node_tests.specs.Gaps.{StandsAt}
 use Rattle.node_tests.proofs.Around.{content_at, family, next_in, prev_in}
 
@@ -59,7 +59,7 @@ at_place (x ∷ xs) l h =
       | inr (t, _) ↦ (let h' = rw t at h in rw (t, add-one) (at_place xs l (omega (arith, h'))))
     ]
 
-first_get : (xs : List ℕ) → slice_get xs 0 ≡ first_in xs
+pub first_get : (xs : List ℕ) → slice_get xs 0 ≡ first_in xs
 first_get [] = refl
 first_get (x ∷ xs) = refl
 
@@ -156,45 +156,89 @@ module _ (s : State) (law : IsLawful s) where
     ends = refl;
   }
 
+  -- the children beside the end of a node
+  module _ (l : ℕ) (here : 0 < count_of s.trees l) where
+    at_length : (preceding None (children_of s.trees l) (length_of s.trees l) ≡ last_of s.trees l) × (child_at s.trees l (length_of s.trees l) ≡ None)
+    at_length =
+        let c = content_at s.trees law.distinct l here in
+        let length : length_of s.trees l ≡ length_in c.0 (children_of s.trees l) = ap (λ o. option_map_or (λ c. length_in c (children_of s.trees l)) o 0) c.1 in
+        let e = at_end c.0 (children_of s.trees l) (leaf_children s law l c.0 c.1) in
+        (ap (preceding None (children_of s.trees l)) length ∙ e.0, ap (slice_get (children_of s.trees l)) length ∙ e.1)
+
+    pub before_end : child_before s.trees l (length_of s.trees l) ≡ last_of s.trees l
+    before_end = before_is s.trees l (length_of s.trees l) ∙ at_length.0
+
+    pub after_end : child_at s.trees l (length_of s.trees l) ≡ None
+    after_end = at_length.1
+
   pub stands_end : (r : NodeRef) → Holds s r → (o : Option NodeRef) → label o ≡ last_of s.trees r.label → StandsAt s.trees (record { node = r; before = o; after = None }) (record { node = r.label; offset = length_of s.trees r.label })
   stands_end r held o last =
       let l = r.label in
-      let c = content_at s.trees law.distinct l (law.here r.slot l held) in
-      let length : length_of s.trees l ≡ length_in c.0 (children_of s.trees l) = ap (λ o. option_map_or (λ c. length_in c (children_of s.trees l)) o 0) c.1 in
-      let e = at_end c.0 (children_of s.trees l) (leaf_children s law l c.0 c.1) in
+      let here = law.here r.slot l held in
       let same : eqb (length_of s.trees l) (length_of s.trees l) ≡ true = (elim (eqb_tells (length_of s.trees l) (length_of s.trees l)) [ inl (t, _) ↦ t | inr (_, off) ↦ absurd (off refl) ]) in
       record {
         node = refl;
-        before = last ∙ sym (before_is s.trees l (length_of s.trees l) ∙ ap (preceding None (children_of s.trees l)) length ∙ e.0);
-        after = sym (ap (slice_get (children_of s.trees l)) length ∙ e.1);
+        before = last ∙ sym (before_end l here);
+        after = sym (after_end l here);
         ends = or_true (is_none (label o)) ∙ sym (ap (λ b. eqb (length_of s.trees l) 0 || b) same ∙ or_true (eqb (length_of s.trees l) 0));
       }
 
-  module _ (r p : NodeRef) (child : parent_of s.trees r.label ≡ Some p.label) where
-    among : 0 < times (children_of s.trees p.label) r.label
-    among = let n = family s.trees law.distinct r.label p.label child in rw n.children n.among
+  -- the children beside a child
+  module _ (l p : ℕ) (child : parent_of s.trees l ≡ Some p) where
+    among : 0 < times (children_of s.trees p) l
+    among = let n = family s.trees law.distinct l p child in rw n.children n.among
 
-    long : length_of s.trees p.label ≡ length (children_of s.trees p.label)
+    long : length_of s.trees p ≡ length (children_of s.trees p)
     long =
-        let c = content_at s.trees law.distinct p.label (parent_count s.trees r.label p.label law.distinct child).1 in
-        ap (λ o. option_map_or (λ c. length_in c (children_of s.trees p.label)) o 0) c.1
-        ∙ parent_length c.0 (children_of s.trees p.label) r.label (leaf_children s law p.label c.0 c.1) among
+        let c = content_at s.trees law.distinct p (parent_count s.trees l p law.distinct child).1 in
+        ap (λ o. option_map_or (λ c. length_in c (children_of s.trees p)) o 0) c.1
+        ∙ parent_length c.0 (children_of s.trees p) l (leaf_children s law p c.0 c.1) among
 
-    index : index_of s.trees r.label ≡ place_in (children_of s.trees p.label) r.label
-    index = ap (λ o. option_map_or (λ q. place_in (children_of s.trees q) r.label) o 0) child
+    index : index_of s.trees l ≡ place_in (children_of s.trees p) l
+    index = ap (λ o. option_map_or (λ q. place_in (children_of s.trees q) l) o 0) child
 
+    before_at : index_of s.trees l + 0 ≡ place_in (children_of s.trees p) l
+    before_at = rw add-zero index
+
+    after_at : index_of s.trees l + 1 ≡ suc (place_in (children_of s.trees p) l)
+    after_at = rw add-one (ap suc index)
+
+    pub before_index : child_before s.trees p (index_of s.trees l + 0) ≡ prev_of s.trees l
+    before_index =
+        before_is s.trees p (index_of s.trees l + 0)
+        ∙ ap (preceding None (children_of s.trees p)) before_at
+        ∙ before_place None (children_of s.trees p) l among
+        ∙ sym (prev_in s.trees law.distinct l p child)
+
+    pub after_index : child_at s.trees p (index_of s.trees l + 1) ≡ next_of s.trees l
+    after_index =
+        ap (slice_get (children_of s.trees p)) after_at
+        ∙ after_place (children_of s.trees p) l among
+        ∙ sym (next_in s.trees law.distinct l p child)
+
+    pub first_index : index_of s.trees l ≡ 0 → first_of s.trees p ≡ Some l
+    first_index none =
+        sym (first_get (children_of s.trees p))
+        ∙ ap (slice_get (children_of s.trees p)) (sym none ∙ index)
+        ∙ at_place (children_of s.trees p) l among
+
+    pub last_index : length (children_of s.trees p) ≡ index_of s.trees l + 1 → next_of s.trees l ≡ None
+    last_index whole = sym after_index ∙ past_get (children_of s.trees p) (index_of s.trees l + 1) (omega (arith, whole))
+
+  module _ (r p : NodeRef) (child : parent_of s.trees r.label ≡ Some p.label) where
     pub stands_before : (o : Option NodeRef) → label o ≡ prev_of s.trees r.label → StandsAt s.trees (record { node = p; before = o; after = Some r }) (record { node = p.label; offset = index_of s.trees r.label + 0 })
     stands_before o prev =
         let xs = children_of s.trees p.label in
-        let at : index_of s.trees r.label + 0 ≡ place_in xs r.label = rw add-zero index in
+        let some = among r.label p.label child in
+        let at = before_at r.label p.label child in
         let before : label o ≡ before_in xs r.label = prev ∙ prev_in s.trees law.distinct r.label p.label child in
-        let short : eqb (place_in xs r.label) (length_of s.trees p.label) ≡ false = differ (place_in xs r.label) (length_of s.trees p.label) (λ e. omega (arith, e, long, place_low xs r.label among)) in
+        let short : eqb (place_in xs r.label) (length_of s.trees p.label) ≡ false = differ (place_in xs r.label) (length_of s.trees p.label) (λ e. omega (arith, e, long r.label p.label child, place_low xs r.label some)) in
         record {
           node = refl;
-          before = before ∙ sym (before_is s.trees p.label (index_of s.trees r.label + 0) ∙ ap (preceding None xs) at ∙ before_place None xs r.label among);
-          after = sym (ap (slice_get xs) at ∙ at_place xs r.label among);
+          before = prev ∙ sym (before_index r.label p.label child);
+          after = sym (ap (slice_get xs) at ∙ at_place xs r.label some);
           ends =
-              ap (λ b. b || false) (ap is_none before ∙ none_before xs r.label among)
+              ap (λ b. b || false) (ap is_none before ∙ none_before xs r.label some)
               ∙ ap (λ b. eqb (place_in xs r.label) 0 || b) (sym short)
               ∙ ap (λ n. eqb n 0 || eqb n (length_of s.trees p.label)) (sym at);
         }
@@ -202,17 +246,18 @@ module _ (s : State) (law : IsLawful s) where
     pub stands_after : (o : Option NodeRef) → label o ≡ next_of s.trees r.label → StandsAt s.trees (record { node = p; before = Some r; after = o }) (record { node = p.label; offset = index_of s.trees r.label + 1 })
     stands_after o next =
         let xs = children_of s.trees p.label in
-        let at : index_of s.trees r.label + 1 ≡ suc (place_in xs r.label) = rw add-one (ap suc index) in
+        let some = among r.label p.label child in
+        let at = after_at r.label p.label child in
         let after : label o ≡ after_in xs r.label = next ∙ next_in s.trees law.distinct r.label p.label child in
-        let some : eqb (place_in xs r.label + 1) 0 ≡ false = differ (place_in xs r.label + 1) 0 (λ e. omega (arith, e)) in
+        let later : eqb (place_in xs r.label + 1) 0 ≡ false = differ (place_in xs r.label + 1) 0 (λ e. omega (arith, e)) in
         record {
           node = refl;
-          before = sym (ap (child_before s.trees p.label) at ∙ at_place xs r.label among);
-          after = after ∙ sym (ap (slice_get xs) at ∙ after_place xs r.label among);
+          before = sym (ap (child_before s.trees p.label) at ∙ at_place xs r.label some);
+          after = next ∙ sym (after_index r.label p.label child);
           ends =
               ap is_none after
-              ∙ none_after xs r.label among
-              ∙ ap (eqb (place_in xs r.label + 1)) (sym long)
-              ∙ ap (λ b. b || eqb (place_in xs r.label + 1) (length_of s.trees p.label)) (sym some)
-              ∙ ap (λ n. eqb (n + 1) 0 || eqb (n + 1) (length_of s.trees p.label)) (sym index);
+              ∙ none_after xs r.label some
+              ∙ ap (eqb (place_in xs r.label + 1)) (sym (long r.label p.label child))
+              ∙ ap (λ b. b || eqb (place_in xs r.label + 1) (length_of s.trees p.label)) (sym later)
+              ∙ ap (λ n. eqb (n + 1) 0 || eqb (n + 1) (length_of s.trees p.label)) (sym (index r.label p.label child));
         }

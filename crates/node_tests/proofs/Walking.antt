@@ -53,7 +53,7 @@ module _ (f : Forest Content) where
 module _ (f : Forest Content) (once : IsDistinct f) where
   -- ---- the walks end
 
-  after_less : (l : ℕ) → 0 < count_of f l → total_after (λ _ _. 1) f l < total_from (λ _ _. 1) f l
+  pub after_less : (l : ℕ) → 0 < count_of f l → total_after (λ _ _. 1) f l < total_from (λ _ _. 1) f l
   after_less l here =
       let a = at_label f once l here in
       let p = a.parts (λ _ _. 1) in

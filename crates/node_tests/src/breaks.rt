@@ -134,12 +134,19 @@ fn turn_forth(arena: &Arena, at: Gap) -> Turn
     }
 }
 
-// How many turns a walk takes at most. Each test reads the whole document for this count, however short its walk is; a proof
-// that a walk in the document ends by itself within so many turns would spare that.
-fn turns(arena: &Arena) -> u128
-    ensures { result ≡ line_breaks.turns arena.now.trees }
+// So many turns that a walk from a node which takes more is cut short. In the document a walk passes the start or the end of a
+// node at each turn, so it ends by itself; only outside it do the nodes and characters of the document have to be counted.
+fn turns(arena: &Arena, node: NodeRef) -> u128
+    requires { Holds arena.now node }
+    ensures back { line_breaks.walk (line_breaks.turn_back arena.now.trees) result (record { node = node.label; offset = 0 }) ≡ line_breaks.follows_break arena.now.trees node.label }
+    ensures forth { line_breaks.walk (line_breaks.turn_forth arena.now.trees) result (record { node = node.label; offset = length_of arena.now.trees node.label }) ≡ line_breaks.precedes_break arena.now.trees node.label }
 {
-    2 * arena.node_count() as u128 + arena.char_count() as u128 + 2
+    arena.lawful();
+    if arena.is_within(arena.document(), node) {
+        2 * arena.next_label() as u128 + 2
+    } else {
+        2 * arena.node_count() as u128 + arena.char_count() as u128 + 2
+    }
 }
 
 /// Whether a node follows a line break: from its start back, a block boundary comes before anything visible.
@@ -147,7 +154,7 @@ pub fn follows_break(arena: &Arena, node: NodeRef) -> bool
     requires { Holds arena.now node }
     ensures { result ≡ line_breaks.follows_break arena.now.trees node.label }
 {
-    let mut left = turns(arena);
+    let mut left = turns(arena, node);
     let mut at = start_of(arena, node);
     'walk: while left > 0 {
         match turn_back(arena, at) {
@@ -164,7 +171,7 @@ pub fn precedes_break(arena: &Arena, node: NodeRef) -> bool
     requires { Holds arena.now node }
     ensures { result ≡ line_breaks.precedes_break arena.now.trees node.label }
 {
-    let mut left = turns(arena);
+    let mut left = turns(arena, node);
     let mut at = end_of(arena, node);
     'walk: while left > 0 {
         match turn_forth(arena, at) {

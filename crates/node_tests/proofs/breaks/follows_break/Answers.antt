@@ -1,5 +1,4 @@
-use Rattle.std.proofs.Common.{ap}
-use Rattle.node_tests.specs.LineBreaks.{Place, turn_back, follows_break, walk}
+use Rattle.node_tests.specs.LineBreaks.{Place, follows_break}
 use Rattle.node_tests.proofs.breaks.follows_break.Goals as goal
 
 pub walk-init : goal.walk-init
@@ -10,5 +9,5 @@ walk-init c =
       held = c.start_of-at.ensures.held;
       place = place;
       stands = c.start_of-at.ensures.place;
-      same = ap (λ n. walk (turn_back c.args.arena.now.trees) n place) c.turns-left.ensures;
+      same = c.turns-left.ensures.back;
     }

@@ -1,6 +1,5 @@
-use Rattle.std.proofs.Common.{ap}
 use Rattle.dom_model.specs.Contents.{length_of}
-use Rattle.node_tests.specs.LineBreaks.{Place, turn_forth, precedes_break, walk}
+use Rattle.node_tests.specs.LineBreaks.{Place, precedes_break}
 use Rattle.node_tests.proofs.breaks.precedes_break.Goals as goal
 
 pub walk-init : goal.walk-init
@@ -11,5 +10,5 @@ walk-init c =
       held = c.end_of-at.ensures.held;
       place = place;
       stands = c.end_of-at.ensures.place;
-      same = ap (λ n. walk (turn_forth c.args.arena.now.trees) n place) c.turns-left.ensures;
+      same = c.turns-left.ensures.forth;
     }

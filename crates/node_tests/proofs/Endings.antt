@@ -1,0 +1,227 @@
+-- A walk from place to place in the document ends by itself, before it takes as many turns as it may.
+use Rattle.std.proofs.Common.{◌≡◌, ◌≢◌, ℕ, zero, suc, ◌⊎◌, ◌+◌, ◌*◌, ◌-◌, ◌<◌, ◌≤◌, Bool, true, false, cond, List, [], ◌∷◌, Option, Some, None, refl, sym, ap, subst, ◌∙◌, inl, inr, arith}
+use Rattle.std.specs.Prelude.{slice_get}
+use Rattle.std.proofs.lemmas.Bool.Decides.{eqb_tells}
+use Rattle.dom_model.specs.declared.Content.{Content}
+use Rattle.dom_model.specs.Contents.{length_of}
+use Rattle.dom_model.specs.Forest.{Forest, times, count_of, IsWithin, parent_of, children_of, first_of, last_of, prev_of, next_of}
+use Rattle.dom_model.specs.Forest.Forest.{Tree}
+use Rattle.dom_model.specs.Places.{index_of}
+use Rattle.dom_model.specs.State.{State, IsLawful}
+use Rattle.dom_model.specs.TreeOrder.{total_after}
+use Rattle.dom_model.proofs.Indexes.{index_of-first, index_of-last}
+use Rattle.dom_model.proofs.Links.{parent_count, eqb_refl_true}
+use Rattle.dom_model.proofs.Neighbours.{parent_of-last}
+use Rattle.dom_model.proofs.Walks.{document_first, total_after_document, total_from_whole}
+use Rattle.dom_model.proofs.Within.{within_child, within_step, depth_of-root}
+use Rattle.node_tests.specs.BlockPoints.{child_before, child_at, is_block_boundary}
+use Rattle.node_tests.specs.LineBreaks.{Place, Turn, past, out_to, out_of, back_past, forth_past, turn_back, turn_forth, turns, walk, follows_break, precedes_break}
+use Rattle.node_tests.specs.LineBreaks.Turn.{Answer, GoOn}
+use Rattle.node_tests.specs.Visible.{is_visible}
+use Rattle.node_tests.proofs.Elsewhere.{parent_among}
+use Rattle.node_tests.proofs.Inside.{nodes}
+use Rattle.node_tests.proofs.Pieces.{has}
+use Rattle.node_tests.proofs.Steps.{prev_next}
+use Rattle.node_tests.proofs.Tags.{from_start, past_end, start_low, own_end, first_start, next_start, last_end}
+use Rattle.node_tests.proofs.Turning.{before_end, after_end, before_index, after_index, first_index, last_index, first_get}
+use Rattle.node_tests.proofs.Turns.{walk_answers, walk_goes}
+
+-- ---- walks
+
+turn_is : (t : Turn) → ((b : Bool) × (t ≡ Answer b)) ⊎ ((next : Place) × (t ≡ GoOn next))
+turn_is (Answer b) = inl (b, refl)
+turn_is (GoOn next) = inr (next, refl)
+
+-- where each turn lowers a number, it doesn't matter how many turns more than that number are allowed
+walk_same : (turn : Place → Turn) (Fits : Place → Type 0) (rank : Place → ℕ) → ((at next : Place) → Fits at → turn at ≡ GoOn next → Fits next × (rank next < rank at)) → (n m : ℕ) (at : Place) → Fits at → rank at < n → rank at < m → walk turn n at ≡ walk turn m at
+walk_same turn Fits rank lower zero m at fits a b = absurd (omega (arith, a))
+walk_same turn Fits rank lower (suc n) zero at fits a b = absurd (omega (arith, b))
+walk_same turn Fits rank lower (suc n) (suc m) at fits a b =
+    elim (turn_is (turn at)) [
+      | inl (x, e) ↦ walk_answers turn n at x e ∙ sym (walk_answers turn m at x e)
+      | inr (next, e) ↦ (
+          let low = lower at next fits e in
+          walk_goes turn n at next e
+          ∙ walk_same turn Fits rank lower n m next low.0 (omega (arith, a, low.1)) (omega (arith, b, low.1))
+          ∙ sym (walk_goes turn m at next e))
+    ]
+
+no_answer : (b : Bool) (next : Place) → Answer b ≡ GoOn next → ⊥
+no_answer b next e = let t = e in cc
+
+same_place : (at next : Place) → GoOn at ≡ GoOn next → at ≡ next
+same_place at next e = let t = e in cc
+
+-- a turn that goes on is at no boundary, and goes past no visible child
+goes_on : (b : Bool) (t : Turn) (next : Place) → cond b (Answer true) t ≡ GoOn next → t ≡ GoOn next
+goes_on true t next e = absurd (no_answer true next e)
+goes_on false t next e = e
+
+goes_past : (f : Forest Content) (k n : ℕ) (next : Place) → past f k n ≡ GoOn next → next ≡ record { node = k; offset = n }
+goes_past f k n next e = by_seen (is_visible f k) e
+  where
+    by_seen : (b : Bool) → cond b (Answer false) (GoOn (record { node = k; offset = n })) ≡ GoOn next → next ≡ record { node = k; offset = n }
+    by_seen true e = absurd (no_answer false next e)
+    by_seen false e = sym (same_place (record { node = k; offset = n }) next e)
+
+goes_out : (f : Forest Content) (l places : ℕ) (next : Place) → out_of f l places ≡ GoOn next → (p : ℕ) × (parent_of f l ≡ Some p) × (next ≡ record { node = p; offset = index_of f l + places })
+goes_out f l places next e = by_parent (parent_of f l) e
+  where
+    by_parent : (o : Option ℕ) → out_to f l places o ≡ GoOn next → (p : ℕ) × (o ≡ Some p) × (next ≡ record { node = p; offset = index_of f l + places })
+    by_parent None e = absurd (no_answer true next e)
+    by_parent (Some p) e = (p, refl, sym (same_place (record { node = p; offset = index_of f l + places }) next e))
+
+listed : (xs : List ℕ) (i k : ℕ) → slice_get xs i ≡ Some k → 0 < times xs k
+listed [] i k e = absurd (let t = e in cc)
+listed (x ∷ xs) zero k e =
+    let is : x ≡ k = (let t = e in cc) in
+    let one : 0 < times (x ∷ xs) x = (let t = eqb_refl_true x in rw t (omega arith)) in
+    subst (λ j. 0 < times (x ∷ xs) j) is one
+listed (x ∷ xs) (suc i) k e = omega (arith, listed xs i k e)
+
+module _ (s : State) (law : IsLawful s) where
+  child_before_of : (l o k : ℕ) → child_before s.trees l o ≡ Some k → parent_of s.trees k ≡ Some l
+  child_before_of l zero k e = absurd (let t = e in cc)
+  child_before_of l (suc o) k e = parent_among s.trees law.distinct l k (listed (children_of s.trees l) o k e)
+
+  child_at_of : (l o k : ℕ) → child_at s.trees l o ≡ Some k → parent_of s.trees k ≡ Some l
+  child_at_of l o k e = parent_among s.trees law.distinct l k (listed (children_of s.trees l) o k e)
+
+  last_alone : (k m : ℕ) → last_of s.trees k ≡ Some m → next_of s.trees m ≡ None
+  last_alone k m last = last_index s law m k (parent_of-last s.trees law.distinct k m last) (index_of-last s.trees law.distinct k m last)
+
+  -- ---- back
+
+  -- the starts and ends before a place of a node, by the child before it
+  abbrev passed_back : ℕ → Option ℕ → ℕ
+  passed_back l None = 2 * nodes s.trees + 1 - from_start s.trees l
+  passed_back l (Some k) = 2 * nodes s.trees - past_end s.trees k
+
+  abbrev back_rank : Place → ℕ
+  back_rank at = passed_back at.node (child_before s.trees at.node at.offset)
+
+  back_end : (k : ℕ) → 0 < count_of s.trees k → (o : Option ℕ) → last_of s.trees k ≡ o → passed_back k o < 2 * nodes s.trees - past_end s.trees k
+  back_end k here None e = omega (arith, own_end s.trees law.distinct k here, start_low s.trees law.distinct k)
+  back_end k here (Some m) e =
+      let child = parent_of-last s.trees law.distinct k m e in
+      omega (arith, last_end s.trees law.distinct m k child (last_alone k m e), own_end s.trees law.distinct k here, start_low s.trees law.distinct k)
+
+  back_out : (l p : ℕ) → parent_of s.trees l ≡ Some p → (o : Option ℕ) → prev_of s.trees l ≡ o → passed_back p o < 2 * nodes s.trees + 1 - from_start s.trees l
+  back_out l p child None e =
+      let here = (parent_count s.trees l p law.distinct child).1 in
+      let first = first_index s law l p child (index_of-first s.trees law.distinct l e) in
+      omega (arith, first_start s.trees law.distinct p l here first, start_low s.trees law.distinct p)
+  back_out l p child (Some m) e =
+      let n = prev_next s.trees law.distinct l m p child e in
+      omega (arith, next_start s.trees law.distinct m l p n.0 n.1, start_low s.trees law.distinct l)
+
+  back_lower : (at next : Place) → 0 < count_of s.trees at.node → turn_back s.trees at ≡ GoOn next → (0 < count_of s.trees next.node) × (back_rank next < back_rank at)
+  unfolding turn_back
+  back_lower at next here e =
+      by_child (child_before s.trees at.node at.offset) refl (goes_on (is_block_boundary s.trees at.node at.offset) (back_past s.trees at.node (child_before s.trees at.node at.offset)) next e)
+    where
+      by_child : (o : Option ℕ) → child_before s.trees at.node at.offset ≡ o → back_past s.trees at.node o ≡ GoOn next → (0 < count_of s.trees next.node) × (back_rank next < passed_back at.node o)
+      by_child None is e =
+          let out = goes_out s.trees at.node 0 next e in
+          let p = out.0 in
+          rw out.2 (
+            (parent_count s.trees at.node p law.distinct out.1).1,
+            rw (before_index s law at.node p out.1) (back_out at.node p out.1 (prev_of s.trees at.node) refl),
+          )
+      by_child (Some k) is e =
+          let there = (parent_count s.trees k at.node law.distinct (child_before_of at.node at.offset k is)).0 in
+          rw (goes_past s.trees k (length_of s.trees k) next e) (
+            there,
+            rw (before_end s law k there) (back_end k there (last_of s.trees k) refl),
+          )
+
+  -- ---- forth
+
+  -- the starts and ends after a place of a node that the document has, by the child after it
+  abbrev left_forth : ℕ → Option ℕ → ℕ
+  left_forth l None = past_end s.trees l + 1 - past_end s.trees 0
+  left_forth l (Some k) = from_start s.trees k - past_end s.trees 0
+
+  abbrev forth_rank : Place → ℕ
+  forth_rank at = left_forth at.node (child_at s.trees at.node at.offset)
+
+  doc_tree : (c : Content) × (ks : Forest Content) × (rest : Forest Content) × (s.trees ≡ Tree 0 c ks rest)
+  doc_tree = document_first s.trees law.distinct law.rising law.document law.root
+
+  -- what comes after the document comes after each node of it
+  behind_it : (c : Content) (ks rest : Forest Content) (l : ℕ) → IsWithin (Tree 0 c ks rest) 0 l → total_after (λ _ _. 1) (Tree 0 c ks rest) 0 ≤ total_after (λ _ _. 1) (Tree 0 c ks rest) l
+  behind_it c ks rest l inside =
+      elim (eqb_tells 0 l) [
+        | inl (t, _) ↦ rw t (omega arith)
+        | inr (t, _) ↦ (
+            let inside' = rw t at inside in
+            let low : 0 < count_of ks l = omega (arith, inside') in
+            rw (t, has (count_of ks l) low) (omega arith))
+      ]
+
+  end_high : (l : ℕ) → IsWithin s.trees 0 l → past_end s.trees 0 ≤ past_end s.trees l
+  end_high l inside =
+      let d = doc_tree in
+      let behind = subst (λ g. IsWithin g 0 l → total_after (λ _ _. 1) g 0 ≤ total_after (λ _ _. 1) g l) (sym d.3) (behind_it d.0 d.1 d.2 l) inside in
+      omega (arith, behind, depth_of-root s.trees 0 law.distinct law.document law.root)
+
+  forth_start : (k : ℕ) → 0 < count_of s.trees k → IsWithin s.trees 0 k → (o : Option ℕ) → first_of s.trees k ≡ o → left_forth k o < from_start s.trees k - past_end s.trees 0
+  forth_start k here inside None e = omega (arith, own_end s.trees law.distinct k here, end_high k inside)
+  forth_start k here inside (Some m) e = omega (arith, first_start s.trees law.distinct k m here e, own_end s.trees law.distinct k here, end_high k inside)
+
+  forth_out : (l p : ℕ) → parent_of s.trees l ≡ Some p → IsWithin s.trees 0 l → (o : Option ℕ) → next_of s.trees l ≡ o → left_forth p o < past_end s.trees l + 1 - past_end s.trees 0
+  forth_out l p child inside None e = omega (arith, last_end s.trees law.distinct l p child e, end_high l inside)
+  forth_out l p child inside (Some m) e = omega (arith, next_start s.trees law.distinct l m p child e, end_high l inside)
+
+  not_document : (l p : ℕ) → parent_of s.trees l ≡ Some p → 0 ≢ l
+  not_document l p child is = let t : None ≡ Some p = sym law.root ∙ ap (parent_of s.trees) is ∙ child in cc
+
+  forth_lower : (at next : Place) → IsWithin s.trees 0 at.node → turn_forth s.trees at ≡ GoOn next → IsWithin s.trees 0 next.node × (forth_rank next < forth_rank at)
+  unfolding turn_forth
+  forth_lower at next inside e =
+      by_child (child_at s.trees at.node at.offset) refl (goes_on (is_block_boundary s.trees at.node at.offset) (forth_past s.trees at.node (child_at s.trees at.node at.offset)) next e)
+    where
+      by_child : (o : Option ℕ) → child_at s.trees at.node at.offset ≡ o → forth_past s.trees at.node o ≡ GoOn next → IsWithin s.trees 0 next.node × (forth_rank next < left_forth at.node o)
+      by_child None is e =
+          let out = goes_out s.trees at.node 1 next e in
+          let p = out.0 in
+          rw out.2 (
+            within_step s.trees 0 law.distinct law.document at.node p (not_document at.node p out.1) out.1 inside,
+            rw (after_index s law at.node p out.1) (forth_out at.node p out.1 inside (next_of s.trees at.node) refl),
+          )
+      by_child (Some k) is e =
+          let child = child_at_of at.node at.offset k is in
+          let there = (parent_count s.trees k at.node law.distinct child).0 in
+          let below = within_child s.trees 0 law.distinct law.document k at.node child inside in
+          rw (goes_past s.trees k 0 next e) (
+            below,
+            rw (first_get (children_of s.trees k)) (forth_start k there below (first_of s.trees k) refl),
+          )
+
+  -- ---- the walks of a node of the document
+
+  module _ (l : ℕ) (here : 0 < count_of s.trees l) (inside : IsWithin s.trees 0 l) where
+    sizes : (2 * nodes s.trees < turns s.trees + past_end s.trees 0) × (nodes s.trees ≤ s.next)
+    sizes =
+        let d = doc_tree in
+        let whole = total_from_whole s.trees d.0 d.1 d.2 d.3 (λ _ _. 1) in
+        let after = total_after_document s.trees d.0 d.1 d.2 d.3 (λ _ _. 1) in
+        (omega (arith, whole, after), law.few)
+
+    pub back_free : (n : ℕ) → n ≡ 2 * s.next + 2 → walk (turn_back s.trees) n (record { node = l; offset = 0 }) ≡ follows_break s.trees l
+    unfolding follows_break
+    back_free n is =
+        let own = own_end s.trees law.distinct l here in
+        let low = end_high l inside in
+        walk_same (turn_back s.trees) (λ at. 0 < count_of s.trees at.node) back_rank back_lower n (turns s.trees) (record { node = l; offset = 0 }) here
+        (omega (arith, is, sizes.1))
+        (omega (arith, own, low, sizes.0))
+
+    pub forth_free : (n : ℕ) → n ≡ 2 * s.next + 2 → walk (turn_forth s.trees) n (record { node = l; offset = length_of s.trees l }) ≡ precedes_break s.trees l
+    unfolding precedes_break
+    forth_free n is =
+        let own = own_end s.trees law.distinct l here in
+        let few = start_low s.trees law.distinct l in
+        walk_same (turn_forth s.trees) (λ at. IsWithin s.trees 0 at.node) forth_rank forth_lower n (turns s.trees) (record { node = l; offset = length_of s.trees l }) inside
+        (rw (after_end s law l here) (omega (arith, is, own, few, sizes.1)))
+        (rw (after_end s law l here) (omega (arith, own, few, sizes.0)))
