@@ -1,10 +1,10 @@
 -- What each command comes to, told of an editor's document.
-use Rattle.std.proofs.Common.{◌≡◌, ℕ, ◌≤◌, true, false, List, [], ◌∷◌, length, Some, None, Err, refl, sym, ◌∙◌, subst, arith}
+use Rattle.std.proofs.Common.{◌≡◌, ℕ, true, false, List, [], ◌∷◌, length, Some, None, Err, refl, sym, ◌∙◌, arith}
 use Rattle.std.specs.Prelude.{nat_lt}
 use Rattle.dom_model.specs.Document.{page_depth}
 use Rattle.node_arena.specs.declared.NodeRef.{NodeRef}
 use Rattle.edit_model.specs.Gives.{labels_of}
-use Rattle.edit_model.specs.State.{State, IsOver}
+use Rattle.edit_model.specs.State.{IsOver}
 use Rattle.edit_doc.specs.Whole.{Whole, IsDoc}
 use Rattle.edit_engine.specs.declared.answers.ExecFault.{ExecFault}
 use Rattle.edit_engine.specs.declared.answers.ExecFault.TheVariants as fault
@@ -17,6 +17,7 @@ use Rattle.edit_engine.specs.Execution.{Refused, Deep, Acted, outcome, command_o
 use Rattle.edit_engine.specs.Unlink.{links_touched}
 use Rattle.edit_engine.proofs.Depths.{Kept, bound_recorded}
 use Rattle.edit_engine.proofs.Outcomes.{cleared_outcome, full_outcome, no_links_outcome}
+use Rattle.edit_engine.proofs.Shallower.{cleared_depth}
 
 -- the editor of a document
 abbrev pub shown : Whole → Editing
@@ -34,10 +35,10 @@ taken_tells fault.Memory old new links v is full deep back = same_editor old new
 pub cleared_tells : (old new : Whole) (links v : List ℕ) → links ≡ links_touched old.state → IsCleared old new links → run_outcome (shown old) Unlink v ≡ Acted true (shown new)
 cleared_tells old new links v is done = cleared_outcome (shown old) v links is done.within ∙ rw (done.state, done.history) refl
 
-pub kept_cleared : (n m : ℕ) (old new : Whole) (links : List ℕ) → Kept n old → IsDoc old → IsCleared old new links → n ≤ m → page_depth new.state.trees ≤ m → Kept m new
-kept_cleared n m old new links kept law done more deep =
-    let deep' = subst (λ (s : State). page_depth s.trees ≤ m) done.state deep in
-    let b = bound_recorded n m (shown old) (cleared_to old.state links) old.state.next law.lawful.forest kept.1 more deep' in
+pub kept_cleared : (n : ℕ) (old new : Whole) (links : List ℕ) → Kept n old → IsDoc old → IsCleared old new links → Kept n new
+kept_cleared n old new links kept law done =
+    let deep = cleared_depth n old.state links law.lawful (law.resting kept.0) kept.1.now in
+    let b = bound_recorded n n (shown old) (cleared_to old.state links) old.state.next law.lawful.forest kept.1 (omega arith) deep in
     (done.closed, rw (done.state, done.history) b)
 
 no_labels : (xs : List NodeRef) → length xs ≡ 0 → labels_of xs ≡ []

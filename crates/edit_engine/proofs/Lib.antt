@@ -7,5 +7,7 @@ pub mod Editors
 pub mod HostSteps
 pub mod Lines
 pub mod Outcomes
+pub mod Ranks
 pub mod Seeing
+pub mod Shallower
 pub mod Walking

@@ -102,7 +102,7 @@ fn flags_after(flags: Flags, command: Supported, value: &[char]) -> Option<Flags
 #[derive(Drop)]
 pub struct Editor {
     doc: Doc,
-    // No view of the history is deeper, nor is the document.
+    // No view of the history is deeper, nor is the document. A command that may make it deeper raises this.
     deepest: u32,
 }
 
@@ -188,7 +188,7 @@ impl Editor {
         }
     }
 
-    // The command unlink. Where there are no links nothing is begun.
+    // The command unlink. Where there are no links nothing is begun. It makes no document deeper, so the bound stays.
     fn unlink(&mut self, alloc: Global) -> Result<Answer, ExecFault>
         ensures { (value : List ℕ) → Tells result self.old self.new (run_outcome self.old Supported.Unlink value) }
     {
@@ -198,10 +198,7 @@ impl Editor {
             return Ok(Answer::Yes);
         }
         match unlink_each(alloc, &mut self.doc, &list) {
-            Ok(()) => {
-                self.deepest = self.deepest.max(self.doc.page_depth());
-                Ok(Answer::Yes)
-            }
+            Ok(()) => Ok(Answer::Yes),
             Err(fault) => Err(fault),
         }
     }

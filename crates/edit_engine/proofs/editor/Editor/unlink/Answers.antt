@@ -16,7 +16,7 @@ returns-then-is_empty c =
 pub invariant_of-self : goal.invariant_of-self
 invariant_of-self c =
     let w = c.self.inside.doc in
-    kept_cleared c.self.inside.deepest c.max-self-inside.result w c.unlink_each.new.doc (labels_of c.deref.result.now) c.self.invariant c.lawful.ensures c.in-Ok.ensures.done (omega (arith, c.max-self-inside.ensures)) (omega (arith, c.max-self-inside.ensures, c.page_depth.ensures))
+    kept_cleared c.self.inside.deepest w c.unlink_each.new.doc (labels_of c.deref.result.now) c.self.invariant c.lawful.ensures c.in-Ok.ensures.done
 
 pub returns : goal.returns
 returns c =
