@@ -1,0 +1,13 @@
+pub mod Alike
+pub mod Lines
+pub mod Rounds
+pub mod Shows
+pub mod OwnHost
+pub mod Named
+pub mod Edges
+pub mod Affected
+pub mod Covered
+pub mod Found
+pub mod Walks
+pub mod Outside
+pub mod Listed
