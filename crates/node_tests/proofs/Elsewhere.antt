@@ -1,57 +1,32 @@
 -- No node of another tree than the start's is contained in a range, nor in effect.
-use Rattle.std.proofs.Common.{◌≡◌, ◌≢◌, ℕ, zero, suc, ◌<◌, Bool, true, false, not, ◌&&◌, ◌||◌, List, [], ◌∷◌, Option, Some, None, refl, sym, ap, ◌∙◌, inl, inr, arith, eqb}
+use Rattle.std.proofs.Common.{◌≡◌, ◌≢◌, ℕ, zero, suc, ◌<◌, Bool, true, false, not, ◌&&◌, ◌||◌, List, Option, Some, None, refl, sym, ap, ◌∙◌, inl, inr, arith, eqb}
 use Rattle.std.specs.Prelude.{map, IfOk, Result, Ok, Err}
 use Rattle.node_arena.specs.declared.NodeRef.{NodeRef}
-use Rattle.std.specs.List.{find}
-use Rattle.std.specs.Option.{option_map_or}
 use Rattle.std.proofs.lemmas.Bool.Decides.{eqb_tells}
 use Rattle.dom_model.specs.declared.Content.{Content}
 use Rattle.dom_model.specs.Contents.{length_of}
-use Rattle.dom_model.specs.Forest.{Forest, Seen, seek, times, count_of, IsDistinct, IsWithin, tree_of, parent_of, children_of, depth_of}
-use Rattle.dom_model.specs.Forest.Forest.{Nil, Tree}
+use Rattle.dom_model.specs.Forest.{Forest, count_of, IsDistinct, IsWithin, tree_of, parent_of, depth_of}
 use Rattle.dom_model.specs.Places.{first_of_two}
-use Rattle.dom_model.proofs.Links.{parent_count, parent_of_child, found_stands, eqb_refl_true}
-use Rattle.dom_model.proofs.Within.{within_self, within_child, within_up, depth_of-parent}
+use Rattle.dom_model.proofs.Links.{parent_count}
+use Rattle.dom_model.proofs.Within.{within_self, within_child, depth_of-parent}
 use Rattle.dom_model.proofs.Earlier.{first_of_two-within, first_of_two-apart}
 use Rattle.live_range.specs.declared.places.Point.{Point}
-use Rattle.point_order.specs.PointOrder.{is_before, is_within, child_toward}
+use Rattle.point_order.specs.PointOrder.{is_before, child_toward}
 use Rattle.node_tests.specs.declared.listing.Wanted.TheVariants.{Contained, Effective}
 use Rattle.node_tests.specs.CollapsedWhitespace.{is_words}
 use Rattle.node_tests.specs.Listing.{is_wanted}
-use Rattle.node_tests.specs.Ranges.{is_contained, is_partial, is_touched, is_cut, has_trees, all_effective, is_effectively_contained, contained_nodes, effective_nodes}
+use Rattle.node_tests.specs.Ranges.{is_contained, is_partial, is_touched, all_effective, is_effectively_contained, contained_nodes, effective_nodes}
 use Rattle.node_tests.proofs.Wanting.{passed, passed_root}
-use Rattle.node_tests.proofs.Pieces.{hasnt, count_in_tree, tree_in_tree}
+use Rattle.node_tests.proofs.Pieces.{count_in_tree}
+use Rattle.node_tests.proofs.Toward.{through, toward_none}
+use Rattle.node_tests.proofs.Untouched.{all_false, some_trees}
 
 -- a copy has what the list has
 pub copied : {E : Type 0} (r : Result (List NodeRef) E) (items : List NodeRef) (labels : List ℕ) → IfOk r (λ list. list ≡ items) → map (λ k. k.label) items ≡ labels → IfOk r (λ list. map (λ k. k.label) list ≡ labels)
 copied (Ok list) items labels same is = ap (map (λ k. k.label)) same ∙ is
 copied (Err e) items labels same is = tt
 
-find-none : (p : ℕ → Bool) (xs : List ℕ) → ((k : ℕ) → 0 < times xs k → p k ≡ false) → find p xs ≡ None
-find-none p [] h = refl
-find-none p (x ∷ xs) h =
-    let self = eqb_refl_true x in
-    let at : 0 < times (x ∷ xs) x = (rw self (omega arith)) in
-    rw (h x at) (find-none p xs (λ k t. h k (omega (arith, t))))
-
-no_count : (n : ℕ) → (0 < n → ⊥) → n ≡ 0
-no_count zero h = refl
-no_count (suc n) h = absurd (h (omega arith))
-
 module _ (f : Forest Content) (once : IsDistinct f) where
-  through : (a b l : ℕ) → IsWithin f a b → IsWithin f b l → IsWithin f a l
-  through a b l ab bl =
-      let same : count_of (tree_of (tree_of f a) b) l ≡ count_of (tree_of f b) l = ap (λ g. count_of g l) (tree_in_tree f a b once ab) in
-      let low = count_in_tree (tree_of f a) b l in
-      omega (arith, same, low, bl)
-
-  pub parent_among : (p k : ℕ) → 0 < times (children_of f p) k → parent_of f k ≡ Some p
-  parent_among p k h = by_seen (seek None f p) refl h
-    where
-      by_seen : (o : Option (Seen Content)) → seek None f p ≡ o → 0 < times (option_map_or (λ s. s.children) o []) k → parent_of f k ≡ Some p
-      by_seen None e t = absurd (omega (arith, t))
-      by_seen (Some s) e t = parent_of_child f p k s once (found_stands f p s once e) t
-
   abbrev Rooted : ℕ → Type 0
   Rooted l = (y : ℕ) × (0 < count_of f y) × (parent_of f y ≡ None) × IsWithin f y l
 
@@ -74,7 +49,7 @@ module _ (f : Forest Content) (once : IsDistinct f) where
       apart same = out (rw same other.3)
 
       no_first : (a b : ℕ) → IsWithin f root a → IsWithin f l b → first_of_two f a b ≡ None
-      no_first a b ia ib = first_of_two-apart f once root other.0 a b apart top other.2 there other.1 ia (through other.0 l b other.3 ib)
+      no_first a b ia ib = first_of_two-apart f once root other.0 a b apart top other.2 there other.1 ia (through f once other.0 l b other.3 ib)
 
       pub not_below : (k : ℕ) → IsWithin f root k → IsWithin f l k → ⊥
       not_below k ia ib =
@@ -84,20 +59,14 @@ module _ (f : Forest Content) (once : IsDistinct f) where
           let t : None ≡ Some k = sym none ∙ some in
           cc
 
-      toward_none : (a b : ℕ) → (IsWithin f a b → ⊥) → child_toward f a b ≡ None
-      toward_none a b off =
-          find-none (λ k. is_within f k b) (children_of f a) (λ k t.
-          let up = parent_among a k t in
-          hasnt (count_of (tree_of f k) b) (no_count (count_of (tree_of f k) b) (λ w. off (within_up f once k a b up w))))
-
       -- no point of one is before one of the other
       pub no_order : (p q : Point) → q.label ≡ l → IsWithin f root p.label → is_before f p q ≡ false
       unfolding is_before
       no_order p q at inside =
           let q_in : IsWithin f l q.label = rw at (within_self f l once here) in
           let off : eqb p.label q.label ≡ false = elim (eqb_tells p.label q.label) [ inl (_, same) ↦ absurd (not_below p.label inside (rw same q_in)) | inr (t, _) ↦ t ] in
-          let down : child_toward f p.label q.label ≡ None = toward_none p.label q.label (λ w. not_below q.label (through root p.label q.label inside w) q_in) in
-          let up : child_toward f q.label p.label ≡ None = toward_none q.label p.label (λ w. not_below p.label inside (through l q.label p.label q_in w)) in
+          let down : child_toward f p.label q.label ≡ None = toward_none f once p.label q.label (λ w. not_below q.label (through f once root p.label q.label inside w) q_in) in
+          let up : child_toward f q.label p.label ≡ None = toward_none f once q.label p.label (λ w. not_below p.label inside (through f once l q.label p.label q_in w)) in
           rw (off, down, up, no_first p.label q.label inside q_in) refl
 
     module _ (start end : Point) (inside : IsWithin f root start.label) where
@@ -123,27 +92,6 @@ module _ (f : Forest Content) (once : IsDistinct f) where
           and_none true = refl
           and_none false = refl
 
-      kids_false : (g : Forest Content) → (has_trees g ≡ true → all_effective f start end g ≡ false) → (has_trees g && all_effective f start end g) ≡ false
-      kids_false Nil h = refl
-      kids_false (Tree k c ks rest) h = h refl
-
-      all_false : (g : Forest Content) → ((k : ℕ) → 0 < count_of g k → is_touched f start end k ≡ false) → has_trees g ≡ true → all_effective f start end g ≡ false
-      all_false Nil off some = absurd (let s = some in cc)
-      all_false (Tree k c ks rest) off some =
-          let self = eqb_refl_true k in
-          let at : 0 < count_of (Tree k c ks rest) k = (rw self (omega arith)) in
-          let inner = kids_false ks (all_false ks (λ j h. off j (omega (arith, h)))) in
-          ap (λ v. (v || (not (is_cut f start end k) && (has_trees ks && all_effective f start end ks))) && all_effective f start end rest) (off k at)
-          ∙ (ap (λ v. (not (is_cut f start end k) && v) && all_effective f start end rest) inner ∙ and_false (not (is_cut f start end k)) (all_effective f start end rest))
-        where
-          and_false : (a b : Bool) → ((a && false) && b) ≡ false
-          and_false true b = refl
-          and_false false b = refl
-
-      some_trees : (g : Forest Content) (k : ℕ) → 0 < count_of g k → has_trees g ≡ true
-      some_trees Nil k h = absurd (omega (arith, h))
-      some_trees (Tree m c ks rest) k h = refl
-
       not_effective : 0 < count_of f end.label → (l : ℕ) → 0 < count_of f l → (IsWithin f root l → ⊥) → is_effectively_contained f start end l ≡ false
       unfolding is_effectively_contained
       not_effective end_here l here out = by_end (count_of (tree_of f root) end.label) refl
@@ -152,7 +100,7 @@ module _ (f : Forest Content) (once : IsDistinct f) where
           by_end zero e = ap (λ v. v && all_effective f start end (tree_of f l)) (no_order end.label end_here (λ w. omega (arith, e, w)) start end refl inside)
           by_end (suc n) e =
               let none : all_effective f start end (tree_of f l) ≡ false =
-              all_false (tree_of f l) (λ k h. let low = count_in_tree f l k in untouched k (omega (arith, low, h)) (λ w. not_below l here out k w h) (omega (arith, e)))
+              all_false f start end (tree_of f l) (λ k h. let low = count_in_tree f l k in untouched k (omega (arith, low, h)) (λ w. not_below l here out k w h) (omega (arith, e)))
               (some_trees (tree_of f l) l (within_self f l once here)) in
               ap (λ v. is_before f start end && v) none ∙ (elim (is_before f start end) as (λ v. (v && false) ≡ false) [ true ↦ refl | false ↦ refl ])
 

@@ -1,16 +1,15 @@
 -- A walk from place to place in the document ends by itself, before it takes as many turns as it may.
-use Rattle.std.proofs.Common.{◌≡◌, ◌≢◌, ℕ, zero, suc, ◌⊎◌, ◌+◌, ◌*◌, ◌-◌, ◌<◌, ◌≤◌, Bool, true, false, cond, List, [], ◌∷◌, Option, Some, None, refl, sym, ap, subst, ◌∙◌, inl, inr, arith}
-use Rattle.std.specs.Prelude.{slice_get}
+use Rattle.std.proofs.Common.{◌≡◌, ◌≢◌, ℕ, zero, suc, ◌⊎◌, ◌+◌, ◌*◌, ◌-◌, ◌<◌, ◌≤◌, Bool, true, false, cond, Option, Some, None, refl, sym, ap, subst, ◌∙◌, inl, inr, arith}
 use Rattle.std.proofs.lemmas.Bool.Decides.{eqb_tells}
 use Rattle.dom_model.specs.declared.Content.{Content}
 use Rattle.dom_model.specs.Contents.{length_of}
-use Rattle.dom_model.specs.Forest.{Forest, times, count_of, IsWithin, parent_of, children_of, first_of, last_of, prev_of, next_of}
+use Rattle.dom_model.specs.Forest.{Forest, count_of, IsWithin, parent_of, children_of, first_of, last_of, prev_of, next_of}
 use Rattle.dom_model.specs.Forest.Forest.{Tree}
 use Rattle.dom_model.specs.Places.{index_of}
 use Rattle.dom_model.specs.State.{State, IsLawful}
 use Rattle.dom_model.specs.TreeOrder.{total_after}
 use Rattle.dom_model.proofs.Indexes.{index_of-first, index_of-last}
-use Rattle.dom_model.proofs.Links.{parent_count, eqb_refl_true}
+use Rattle.dom_model.proofs.Links.{parent_count}
 use Rattle.dom_model.proofs.Neighbours.{parent_of-last}
 use Rattle.dom_model.proofs.Walks.{document_first, total_after_document, total_from_whole}
 use Rattle.dom_model.proofs.Within.{within_child, within_step, depth_of-root}
@@ -18,12 +17,12 @@ use Rattle.node_tests.specs.BlockPoints.{child_before, child_at, is_block_bounda
 use Rattle.node_tests.specs.LineBreaks.{Place, Turn, past, out_to, out_of, back_past, forth_past, turn_back, turn_forth, turns, walk, follows_break, precedes_break}
 use Rattle.node_tests.specs.LineBreaks.Turn.{Answer, GoOn}
 use Rattle.node_tests.specs.Visible.{is_visible}
-use Rattle.node_tests.proofs.Elsewhere.{parent_among}
+use Rattle.node_tests.proofs.Toward.{parent_among}
 use Rattle.node_tests.proofs.Inside.{nodes}
 use Rattle.node_tests.proofs.Pieces.{has}
 use Rattle.node_tests.proofs.Steps.{prev_next}
 use Rattle.node_tests.proofs.Tags.{from_start, past_end, start_low, own_end, first_start, next_start, last_end}
-use Rattle.node_tests.proofs.Turning.{before_end, after_end, before_index, after_index, first_index, last_index, first_get}
+use Rattle.node_tests.proofs.Turning.{before_end, after_end, before_index, after_index, first_index, last_index, first_get, get_times}
 use Rattle.node_tests.proofs.Turns.{walk_answers, walk_goes}
 
 -- ---- walks
@@ -71,21 +70,13 @@ goes_out f l places next e = by_parent (parent_of f l) e
     by_parent None e = absurd (no_answer true next e)
     by_parent (Some p) e = (p, refl, sym (same_place (record { node = p; offset = index_of f l + places }) next e))
 
-listed : (xs : List ℕ) (i k : ℕ) → slice_get xs i ≡ Some k → 0 < times xs k
-listed [] i k e = absurd (let t = e in cc)
-listed (x ∷ xs) zero k e =
-    let is : x ≡ k = (let t = e in cc) in
-    let one : 0 < times (x ∷ xs) x = (let t = eqb_refl_true x in rw t (omega arith)) in
-    subst (λ j. 0 < times (x ∷ xs) j) is one
-listed (x ∷ xs) (suc i) k e = omega (arith, listed xs i k e)
-
 module _ (s : State) (law : IsLawful s) where
   child_before_of : (l o k : ℕ) → child_before s.trees l o ≡ Some k → parent_of s.trees k ≡ Some l
   child_before_of l zero k e = absurd (let t = e in cc)
-  child_before_of l (suc o) k e = parent_among s.trees law.distinct l k (listed (children_of s.trees l) o k e)
+  child_before_of l (suc o) k e = parent_among s.trees law.distinct l k (get_times (children_of s.trees l) o k e)
 
   child_at_of : (l o k : ℕ) → child_at s.trees l o ≡ Some k → parent_of s.trees k ≡ Some l
-  child_at_of l o k e = parent_among s.trees law.distinct l k (listed (children_of s.trees l) o k e)
+  child_at_of l o k e = parent_among s.trees law.distinct l k (get_times (children_of s.trees l) o k e)
 
   last_alone : (k m : ℕ) → last_of s.trees k ≡ Some m → next_of s.trees m ≡ None
   last_alone k m last = last_index s law m k (parent_of-last s.trees law.distinct k m last) (index_of-last s.trees law.distinct k m last)

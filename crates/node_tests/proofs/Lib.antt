@@ -13,7 +13,11 @@ mod ChildAt
 mod Effective
 mod Hosting
 mod Wanting
+mod Toward
+mod Untouched
 mod Elsewhere
+mod Skipping
+mod KidIndexes
 mod Turning
 mod Turns
 mod Tags

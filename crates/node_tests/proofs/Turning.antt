@@ -11,7 +11,7 @@ use Rattle.dom_model.specs.Places.{place_in, index_of}
 use Rattle.dom_model.specs.State.{State, IsLawful}
 use Rattle.dom_model.proofs.Laws.{leaf_children}
 use Rattle.dom_model.proofs.Lists.{before_from_some}
-use Rattle.dom_model.proofs.Links.{parent_count}
+use Rattle.dom_model.proofs.Links.{parent_count, times-children_of}
 use Rattle.node_arena.specs.declared.NodeRef.{NodeRef}
 use Rattle.node_arena.specs.Held.{Holds, label}
 use Rattle.node_tests.specs.BlockPoints.{child_before, child_at}
@@ -57,6 +57,25 @@ at_place (x ∷ xs) l h =
     elim (eqb_tells x l) [
       | inl (t, is) ↦ rw t (ap Some is)
       | inr (t, _) ↦ (let h' = rw t at h in rw (t, add-one) (at_place xs l (omega (arith, h'))))
+    ]
+
+-- an element of a list, and where it stands
+pub get_times : (xs : List ℕ) (i k : ℕ) → slice_get xs i ≡ Some k → 0 < times xs k
+get_times [] i k e = absurd (let t = e in cc)
+get_times (x ∷ xs) zero k e =
+    let is : x ≡ k = (let t = e in cc) in
+    elim (eqb_tells x k) [ inl (t, _) ↦ rw t (omega arith) | inr (_, off) ↦ absurd (off is) ]
+get_times (x ∷ xs) (suc i) k e = omega (arith, get_times xs i k e)
+
+place_is : (xs : List ℕ) (i k : ℕ) → ((j : ℕ) → times xs j ≤ 1) → slice_get xs i ≡ Some k → place_in xs k ≡ i
+place_is [] i k once e = absurd (let t = e in cc)
+place_is (x ∷ xs) zero k once e =
+    let is : x ≡ k = (let t = e in cc) in
+    elim (eqb_tells x k) [ inl (t, _) ↦ rw t refl | inr (_, off) ↦ absurd (off is) ]
+place_is (x ∷ xs) (suc i) k once e =
+    elim (eqb_tells x k) [
+      | inl (t, _) ↦ absurd (let one = rw t at (once k) in omega (arith, one, get_times xs i k e))
+      | inr (t, _) ↦ rw (t, add-one) (ap suc (place_is xs i k (λ j. omega (arith, once j)) e))
     ]
 
 pub first_get : (xs : List ℕ) → slice_get xs 0 ≡ first_in xs
@@ -215,6 +234,18 @@ module _ (s : State) (law : IsLawful s) where
         ap (slice_get (children_of s.trees p)) after_at
         ∙ after_place (children_of s.trees p) l among
         ∙ sym (next_in s.trees law.distinct l p child)
+
+    pub index_low : index_of s.trees l < length_of s.trees p
+    index_low = omega (arith, index, long, place_low (children_of s.trees p) l among)
+
+    pub next_index : (k : ℕ) → parent_of s.trees k ≡ Some p → next_of s.trees l ≡ Some k → index_of s.trees k ≡ index_of s.trees l + 1
+    next_index k child_k next =
+        ap (λ o. option_map_or (λ q. place_in (children_of s.trees q) k) o 0) child_k
+        ∙ place_is (children_of s.trees p) (index_of s.trees l + 1) k (λ j. times-children_of s.trees p j law.distinct) (after_index ∙ next)
+
+    pub index_first : first_of s.trees p ≡ Some l → index_of s.trees l ≡ 0
+    index_first first =
+        index ∙ place_is (children_of s.trees p) 0 l (λ j. times-children_of s.trees p j law.distinct) (first_get (children_of s.trees p) ∙ first)
 
     pub first_index : index_of s.trees l ≡ 0 → first_of s.trees p ≡ Some l
     first_index none =

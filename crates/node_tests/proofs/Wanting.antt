@@ -74,7 +74,7 @@ module _ (test : ℕ → Bool) where
         ∙ (ap (λ xs. old ++ xs) (sym whole) ∙ same))
 
   -- none of them passes
-  passed_none : (f : Forest Content) → ((l : ℕ) → 0 < count_of f l → test l ≡ false) → passed f ≡ []
+  pub passed_none : (f : Forest Content) → ((l : ℕ) → 0 < count_of f l → test l ≡ false) → passed f ≡ []
   passed_none Nil off = refl
   passed_none (Tree l c ks rest) off =
       let self : eqb l l ≡ true = eqb_refl_true l in

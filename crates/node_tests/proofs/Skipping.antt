@@ -1,0 +1,152 @@
+-- A tree that lies wholly before the start of a range, or wholly after its end, has no wanted node.
+use Rattle.std.proofs.Common.{◌≡◌, ◌≢◌, ℕ, zero, suc, ◌<◌, ◌≤◌, Bool, true, false, not, ◌&&◌, ◌||◌, [], Some, None, refl, sym, ap, subst, ◌∙◌, inl, inr, arith, eqb}
+use Rattle.std.specs.Option.{option_map_or}
+use Rattle.std.proofs.lemmas.Bool.{lt-ltb, le-ltb, lt-leb}
+use Rattle.std.proofs.lemmas.Bool.Decides.{eqb_tells}
+use Rattle.dom_model.specs.declared.Content.{Content}
+use Rattle.dom_model.specs.Contents.{length_of}
+use Rattle.dom_model.specs.Forest.{Forest, count_of, IsDistinct, IsWithin, tree_of, parent_of, children_of}
+use Rattle.dom_model.specs.Places.{place_in, index_of, first_of_two}
+use Rattle.dom_model.proofs.Earlier.{first_of_two-siblings, first_of_two-swap}
+use Rattle.dom_model.proofs.Links.{eqb_refl_true}
+use Rattle.dom_model.proofs.Move.{parent_apart}
+use Rattle.dom_model.proofs.Within.{within_self}
+use Rattle.live_range.specs.declared.places.Point.{Point}
+use Rattle.point_order.specs.PointOrder.{is_before, child_toward}
+use Rattle.node_tests.specs.declared.listing.Wanted.{Wanted}
+use Rattle.node_tests.specs.declared.listing.Wanted.TheVariants.{Contained, Effective}
+use Rattle.node_tests.specs.CollapsedWhitespace.{is_words}
+use Rattle.node_tests.specs.Listing.{is_wanted, NoneAfter, NoneBefore}
+use Rattle.node_tests.specs.Ranges.{is_contained, is_partial, is_touched, all_effective, is_effectively_contained}
+use Rattle.node_tests.proofs.Pieces.{count_in_tree}
+use Rattle.node_tests.proofs.Toward.{through, toward, toward_none, apart}
+use Rattle.node_tests.proofs.Untouched.{all_false, some_trees}
+use Rattle.node_tests.proofs.Wanting.{passed, passed_none}
+
+and_none : (v : Bool) → (v && false) ≡ false
+and_none true = refl
+and_none false = refl
+
+differs : (m n : ℕ) → m ≢ n → eqb m n ≡ false
+differs m n off = elim (eqb_tells m n) [ inl (_, e) ↦ absurd (off e) | inr (t, _) ↦ t ]
+
+module _ (f : Forest Content) (once : IsDistinct f) where
+  -- ---- trees on one side of a point
+
+  index_in : (k top : ℕ) → parent_of f k ≡ Some top → index_of f k ≡ place_in (children_of f top) k
+  index_in k top child = ap (λ o. option_map_or (λ p. place_in (children_of f p) k) o 0) child
+
+  -- no point below a later sibling comes before one below an earlier one
+  pub order : (top k c : ℕ) (p q : Point) → parent_of f k ≡ Some top → parent_of f c ≡ Some top → index_of f k < index_of f c → IsWithin f c p.label → IsWithin f k q.label → is_before f p q ≡ false
+  unfolding is_before
+  order top k c p q child other low in_c in_k =
+      let off : k ≢ c = (λ e. omega (arith, low, ap (index_of f) e)) in
+      let there : 0 < count_of f q.label = (let fewer = count_in_tree f k q.label in omega (arith, fewer, in_k)) in
+      let unlike : q.label ≢ p.label = (λ e. apart f once top k c q.label p.label child other off in_k in_c (subst (λ y. IsWithin f q.label y) e (within_self f q.label once there))) in
+      let down : child_toward f p.label q.label ≡ None = toward_none f once p.label q.label (λ w. apart f once top c k p.label q.label other child (λ e. off (sym e)) in_c in_k w) in
+      let up : child_toward f q.label p.label ≡ None = toward_none f once q.label p.label (λ w. apart f once top k c q.label p.label child other off in_k in_c w) in
+      let places : place_in (children_of f top) k < place_in (children_of f top) c = omega (arith, low, index_in k top child, index_in c top other) in
+      let first : first_of_two f p.label q.label ≡ Some q.label = first_of_two-swap f p.label q.label ∙ first_of_two-siblings f once k c top q.label p.label child other places in_k in_c in
+      rw (differs p.label q.label (λ e. unlike (sym e)), down, up, first) (differs q.label p.label unlike)
+
+  pub own_after : (start : Point) (k : ℕ) → parent_of f k ≡ Some start.label → index_of f k < start.offset → NoneAfter f start k
+  unfolding is_before
+  own_after start k child low x o inside =
+      let off : start.label ≢ x = (λ e. parent_apart f k start.label once child (subst (λ y. IsWithin f k y) (sym e) inside)) in
+      rw (differs start.label x off, toward f once start.label k x child inside) (lt-leb start.offset (index_of f k) low)
+
+  pub own_before : (end : Point) (k : ℕ) → parent_of f k ≡ Some end.label → end.offset ≤ index_of f k → NoneBefore f end k
+  unfolding is_before
+  own_before end k child low x o inside =
+      let off : x ≢ end.label = (λ e. parent_apart f k end.label once child (subst (λ y. IsWithin f k y) e inside)) in
+      let none : child_toward f x end.label ≡ None = toward_none f once x end.label (λ w. parent_apart f k end.label once child (through f once k x end.label inside w)) in
+      rw (differs x end.label off, none, toward f once end.label k x child inside) (le-ltb (index_of f k) end.offset low)
+
+  -- ---- no node of these is wanted
+
+  module _ (start end : Point) where
+    on_start : is_before f start (record { label = start.label; offset = suc start.offset }) ≡ true
+    unfolding is_before
+    on_start = rw (eqb_refl_true start.label) (lt-ltb start.offset (suc start.offset) (omega arith))
+
+    on_end : (n : ℕ) → end.offset ≡ suc n → is_before f (record { label = end.label; offset = 0 }) end ≡ true
+    unfolding is_before
+    on_end n e = rw (eqb_refl_true end.label) (lt-ltb 0 end.offset (omega (arith, e)))
+
+    no_part : (y : ℕ) → y ≢ start.label → (eqb y end.label && not (eqb end.offset 0)) ≡ false → is_partial f start end y ≡ false
+    unfolding is_partial
+    no_part y off none =
+        ap (λ v. is_words f y && ((v && not (eqb start.offset (length_of f y))) || (eqb y end.label && not (eqb end.offset 0)))) (differs y start.label off)
+        ∙ (ap (λ v. is_words f y && v) none ∙ and_none (is_words f y))
+
+    untouched : (y : ℕ) → is_contained f start end y ≡ false → is_partial f start end y ≡ false → is_touched f start end y ≡ false
+    unfolding is_touched
+    untouched y out none = ap (λ v. v || is_partial f start end y) out ∙ none
+
+    unlisted : (k x : ℕ) → IsWithin f k x → ((y : ℕ) → IsWithin f k y → is_touched f start end y ≡ false) → is_effectively_contained f start end x ≡ false
+    unfolding is_effectively_contained
+    unlisted k x inside off =
+        let there : 0 < count_of f x = (let fewer = count_in_tree f k x in omega (arith, fewer, inside)) in
+        ap (λ v. is_before f start end && v) (all_false f start end (tree_of f x) (λ y h. off y (through f once k x y inside h)) (some_trees (tree_of f x) x (within_self f x once there)))
+        ∙ and_none (is_before f start end)
+
+    reversed : (x : ℕ) → is_before f start end ≡ false → is_effectively_contained f start end x ≡ false
+    unfolding is_effectively_contained
+    reversed x e = ap (λ v. v && all_effective f start end (tree_of f x)) e
+
+    module _ (k : ℕ) (none : NoneAfter f start k) where
+      out_after : (x : ℕ) → IsWithin f k x → is_contained f start end x ≡ false
+      unfolding is_contained
+      out_after x inside = ap (λ v. v && is_before f (record { label = x; offset = length_of f x }) end) (none x 0 inside)
+
+      not_start : (y : ℕ) → IsWithin f k y → y ≢ start.label
+      not_start y inside e =
+          let t = none start.label (suc start.offset) (subst (λ z. IsWithin f k z) e inside) in
+          let u = on_start in
+          cc
+
+      past_start : (n : ℕ) → count_of (tree_of f k) end.label ≡ n → (x : ℕ) → IsWithin f k x → is_effectively_contained f start end x ≡ false
+      past_start zero e x inside =
+          unlisted k x inside (λ y h.
+          let off : y ≢ end.label = (λ is. let h' = subst (λ z. IsWithin f k z) is h in omega (arith, h', e)) in
+          untouched y (out_after y h) (no_part y (not_start y h) (ap (λ v. v && not (eqb end.offset 0)) (differs y end.label off))))
+      past_start (suc n) e x inside = reversed x (none end.label end.offset (omega (arith, e)))
+
+      unwanted_after : (w : Wanted) (x : ℕ) → IsWithin f k x → is_wanted w f start end x ≡ false
+      unfolding is_wanted
+      unwanted_after Contained x inside = out_after x inside
+      unwanted_after Effective x inside = past_start (count_of (tree_of f k) end.label) refl x inside
+
+      pub skipped_after : (w : Wanted) → passed (is_wanted w f start end) (tree_of f k) ≡ []
+      skipped_after w = passed_none (is_wanted w f start end) (tree_of f k) (unwanted_after w)
+
+    module _ (k : ℕ) (none : NoneBefore f end k) where
+      out_before : (x : ℕ) → IsWithin f k x → is_contained f start end x ≡ false
+      unfolding is_contained
+      out_before x inside =
+          ap (λ v. is_before f start (record { label = x; offset = 0 }) && v) (none x (length_of f x) inside)
+          ∙ and_none (is_before f start (record { label = x; offset = 0 }))
+
+      at_start : (n y : ℕ) → end.offset ≡ n → IsWithin f k y → (eqb y end.label && not (eqb end.offset 0)) ≡ false
+      at_start zero y e inside = ap (λ v. eqb y end.label && not (eqb v 0)) e ∙ and_none (eqb y end.label)
+      at_start (suc n) y e inside =
+          let off : y ≢ end.label = (λ is.
+          let t = none end.label 0 (subst (λ z. IsWithin f k z) is inside) in
+          let u = on_end n e in
+          cc) in
+          ap (λ v. v && not (eqb end.offset 0)) (differs y end.label off)
+
+      past_end : (n : ℕ) → count_of (tree_of f k) start.label ≡ n → (x : ℕ) → IsWithin f k x → is_effectively_contained f start end x ≡ false
+      past_end zero e x inside =
+          unlisted k x inside (λ y h.
+          let off : y ≢ start.label = (λ is. let h' = subst (λ z. IsWithin f k z) is h in omega (arith, h', e)) in
+          untouched y (out_before y h) (no_part y off (at_start end.offset y refl h)))
+      past_end (suc n) e x inside = reversed x (none start.label start.offset (omega (arith, e)))
+
+      unwanted_before : (w : Wanted) (x : ℕ) → IsWithin f k x → is_wanted w f start end x ≡ false
+      unfolding is_wanted
+      unwanted_before Contained x inside = out_before x inside
+      unwanted_before Effective x inside = past_end (count_of (tree_of f k) start.label) refl x inside
+
+      pub skipped_before : (w : Wanted) → passed (is_wanted w f start end) (tree_of f k) ≡ []
+      skipped_before w = passed_none (is_wanted w f start end) (tree_of f k) (unwanted_before w)
