@@ -1,0 +1,4 @@
+pub mod Subsequences
+pub mod Leaves
+pub mod QuietActions
+pub mod Tame

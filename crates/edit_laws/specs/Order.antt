@@ -1,0 +1,28 @@
+-- What the document bears, in tree order, and what a command that keeps contents makes of it.
+use Rattle.std.specs.Prelude.{◌≡◌, true, List, [], ◌∷◌}
+use Rattle.dom_model.specs.declared.Content.{Content}
+use Rattle.dom_model.specs.Forest.{Forest}
+use Rattle.edit_model.specs.Kept.{Leaf, leaves, kept_leaves}
+use Rattle.edit_model.specs.State.{State}
+use Rattle.edit_model.specs.History.{document_of}
+use Rattle.edit_model.specs.Lawful.{IsLawful}
+
+-- the first list is the second with members left out
+pub data Subsequence : List Leaf → List Leaf → Type 0 where
+  empty : Subsequence [] []
+  both : {xs ys : List Leaf} (x : Leaf) → Subsequence xs ys → Subsequence (x ∷ xs) (x ∷ ys)
+  left_out : {xs ys : List Leaf} (y : Leaf) → Subsequence xs ys → Subsequence xs (y ∷ ys)
+
+-- a forest bears what another one bore, in the same order; of it only characters that are not kept may be missing
+pub record KeepsLeaves (before after : Forest Content) : Type 0 where
+  pub in_order : Subsequence (leaves after) (leaves before)
+  pub whole : kept_leaves after ≡ kept_leaves before
+
+-- so it is with the documents of two states
+abbrev pub KeepsOrder : State → State → Type 0
+KeepsOrder s t = KeepsLeaves (document_of s.trees) (document_of t.trees)
+
+-- a lawful state in which a command runs that keeps contents
+pub record IsKeeping (s : State) : Type 0 where
+  pub lawful : IsLawful s
+  pub keeping : s.keeping ≡ true
