@@ -11,7 +11,7 @@ use Rattle.edit_model.specs.Kept.{borne_by, leaves, kept_leaves, bears_nothing}
 use Rattle.edit_model.specs.Edit.{Edit, Insert, Remove, Move, Replace, Set, Unset, is_made_edit, trees_after, with_set, with_unset, changed, edited}
 use Rattle.edit_model.specs.Action as action
 use Rattle.edit_model.specs.Action.{Action, made, words_content, extended, acted}
-use Rattle.edit_model.specs.Run.{Reaches, Run, final}
+use Rattle.edit_model.specs.Run.{Reaches, here, onward, Run, final}
 use Rattle.edit_model.specs.History.{document_of}
 use Rattle.edit_model.specs.Lawful.{IsForest, IsLawful}
 use Rattle.edit_model.specs.Laws.{TakesNothing}
@@ -143,3 +143,7 @@ quiet_keeps (action.Flag flags) quiet s is = keeps_refl (tree_of s.trees 0)
 pub bare_insert_acted : (p : ℕ) (b : Option ℕ) (n : ℕ) (s : State) → IsKeeping s → leaves (tree_of s.trees n) ≡ [] → KeepsOrder s (acted (action.Change (Insert p b n)) s)
 unfolding acted
 bare_insert_acted p b n s is bare = bare_insert_keeps p b n s is bare
+
+pub keeping_edited : (e : Edit) (s : State) → IsKeeping s → IsKeeping (edited e s)
+unfolding acted
+keeping_edited e s is = keeping_along (onward here (action.Change e)) is

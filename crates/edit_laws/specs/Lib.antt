@@ -1,3 +1,4 @@
 pub mod Order
 pub mod Tame
+pub mod Moves
 pub mod Laws
