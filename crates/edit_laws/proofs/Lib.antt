@@ -6,3 +6,4 @@ pub mod Around
 pub mod Patterns
 pub mod Slides
 pub mod Lifting
+pub mod Handing
