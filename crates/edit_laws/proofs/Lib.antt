@@ -7,3 +7,4 @@ pub mod Patterns
 pub mod Slides
 pub mod Lifting
 pub mod Handing
+pub mod Turned
