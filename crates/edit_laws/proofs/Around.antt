@@ -163,7 +163,7 @@ pub spot_leaves : (f g : Forest Content) (q : ℕ) (kids others : Forest Content
 spot_leaves f g q kids others spot e same =
     ap leaves e
     ∙ (leaves-fill spot.around (Tree q spot.content kids spot.rest) (Tree q spot.content others spot.rest)
-        (leaves-Tree q spot.content others spot.rest ∙ (rw same refl ∙ sym (leaves-Tree q spot.content kids spot.rest)))
+    (leaves-Tree q spot.content others spot.rest ∙ (rw same refl ∙ sym (leaves-Tree q spot.content kids spot.rest)))
     ∙ sym (ap leaves spot.is))
 
 pub spot_as : (f : Forest Content) (q : ℕ) (kids others : Forest Content) → kids ≡ others → Spot f q kids → Spot f q others

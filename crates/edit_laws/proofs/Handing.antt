@@ -91,7 +91,7 @@ hand s is q pre x e g o c n d j k post bare spot =
     let apart = node_apart s is.lawful q pre x e g (Tree o c (Tree n d j k) post) spot in
     slide s is q kids others spot n x None inside
     (rw (spot_without f once q kids spot n inside, spot_tree f once q kids spot n inside, tree, out)
-      (spot_put_below f once q kids spot (join pre (Tree x e g (Tree o c k post))) x None (Tree n d j Nil) here ∙ ap (λ h. fill spot.around (Tree q spot.content h spot.rest)) (put_last_below pre x e g (Tree o c k post) n d j apart)))
+    (spot_put_below f once q kids spot (join pre (Tree x e g (Tree o c k post))) x None (Tree n d j Nil) here ∙ ap (λ h. fill spot.around (Tree q spot.content h spot.rest)) (put_last_below pre x e g (Tree o c k post) n d j apart)))
     (hand_leaves pre x e g o c n d j k post bare)
 
 pub hand_all : (list : Forest Content) (s : State) → IsKeeping s → (q : ℕ) (pre : Forest Content) (x : ℕ) (e : Content) (g : Forest Content) (o : ℕ) (c : Content) (k post : Forest Content) → borne_by o c ≡ []
@@ -103,7 +103,7 @@ hand_all Nil s is q pre x e g o c k post bare spot =
 hand_all (Tree n d j list) s is q pre x e g o c k post bare spot =
     rw (for_each-cons, final-bind, final_move_last x n s)
     (by_made (may_move s n x None) refl (hand s is q pre x e g o c n d j (join list k) post bare spot)
-      (λ next. hand_all list t (keeping_edited (Move n x None) s is) q pre x e (join g (Tree n d j Nil)) o c k post bare next))
+    (λ next. hand_all list t (keeping_edited (Move n x None) s is) q pre x e (join g (Tree n d j Nil)) o c k post bare next))
   where
     t : State
     t = edited (Move n x None) s
@@ -121,7 +121,7 @@ hand_all (Tree n d j list) s is q pre x e g o c k post bare spot =
         let self : 0 < times (tops (Tree n d j (join list k))) n = omega (arith, self_one n) in
         let shut : (is_open s o && (is_open s x && is_parent_at s.trees x)) ≡ false = sym (hand_open s is q pre x e g o c (Tree n d j (join list k)) post spot n self) ∙ w in
         let stays : (m : ℕ) → 0 < times (tops list) m → final (move_last x m) s ≡ s = λ m h.
-          final_move_last x m s ∙ move_stays m x None s (hand_open s is q pre x e g o c (Tree n d j (join list k)) post spot m (omega (arith, h, tops-join list k m)) ∙ shut) in
+        final_move_last x m s ∙ move_stays m x None s (hand_open s is q pre x e g o c (Tree n d j (join list k)) post spot m (omega (arith, h, tops-join list k m)) ∙ shut) in
         rw (one.left refl, each_stays (tops list) (move_last x) s stays)
         (record { keeps = keeps_refl (document_of s.trees); ends = some_stay g (Tree n d j list) spot shut })
 
@@ -137,8 +137,8 @@ module _ (s : State) (is : IsKeeping s) (q : ℕ) (pre : Forest Content) (p : �
       let child = top_parent s is.lawful q kids spot n among in
       let beside = node_parent s is.lawful q pre p e g post spot in
       let off : n ≢ p = λ same. (
-          let h' : 0 < times (tops post) p = subst (λ m. 0 < times (tops post) m) same h in
-          omega (arith, h', times-tops post p, kids_once p, count-join pre (Tree p e g post) p, self_one p)) in
+      let h' : 0 < times (tops post) p = subst (λ m. 0 < times (tops post) m) same h in
+      omega (arith, h', times-tops post p, kids_once p, count-join pre (Tree p e g post) p, self_one p)) in
       goes_where_open s n q p None child (not_within_beside s.trees once n q p child beside off) refl
       (below_inside s is.lawful q kids spot p (omega (arith, count-join pre (Tree p e g post) p, self_one p)))
       (λ same. parent_other s.trees once p q beside same)
@@ -161,7 +161,7 @@ take s is q pre p e g n d j post spot =
     let apart = node_apart s is.lawful q pre p e g (Tree n d j post) spot in
     slide s is q kids others spot n p None inside
     (rw (spot_without f once q kids spot n inside, spot_tree f once q kids spot n inside, tree, out)
-      (spot_put_below f once q kids spot (join pre (Tree p e g post)) p None (Tree n d j Nil) here ∙ ap (λ h. fill spot.around (Tree q spot.content h spot.rest)) (put_last_below pre p e g post n d j apart)))
+    (spot_put_below f once q kids spot (join pre (Tree p e g post)) p None (Tree n d j Nil) here ∙ ap (λ h. fill spot.around (Tree q spot.content h spot.rest)) (put_last_below pre p e g post n d j apart)))
     (take_leaves pre p e g n d j post)
 
 pub take_all : (list : Forest Content) (s : State) → IsKeeping s → (q : ℕ) (pre : Forest Content) (p : ℕ) (e : Content) (g post : Forest Content)
@@ -173,7 +173,7 @@ take_all Nil s is q pre p e g post spot =
 take_all (Tree n d j list) s is q pre p e g post spot =
     rw (for_each-cons, final-bind, final_move_last p n s)
     (by_made (may_move s n p None) refl (take s is q pre p e g n d j (join list post) spot)
-      (λ next. take_all list t (keeping_edited (Move n p None) s is) q pre p e (join g (Tree n d j Nil)) post next))
+    (λ next. take_all list t (keeping_edited (Move n p None) s is) q pre p e (join g (Tree n d j Nil)) post next))
   where
     t : State
     t = edited (Move n p None) s
@@ -191,6 +191,6 @@ take_all (Tree n d j list) s is q pre p e g post spot =
         let self : 0 < times (tops (Tree n d j (join list post))) n = omega (arith, self_one n) in
         let shut : (is_open s q && (is_open s p && is_parent_at s.trees p)) ≡ false = sym (take_open s is q pre p e g (Tree n d j (join list post)) spot n self) ∙ w in
         let stays : (m : ℕ) → 0 < times (tops list) m → final (move_last p m) s ≡ s = λ m h.
-          final_move_last p m s ∙ move_stays m p None s (take_open s is q pre p e g (Tree n d j (join list post)) spot m (omega (arith, h, tops-join list post m)) ∙ shut) in
+        final_move_last p m s ∙ move_stays m p None s (take_open s is q pre p e g (Tree n d j (join list post)) spot m (omega (arith, h, tops-join list post m)) ∙ shut) in
         rw (one.left refl, each_stays (tops list) (move_last p) s stays)
         (record { keeps = keeps_refl (document_of s.trees); ends = some_stay g (Tree n d j list) spot shut })

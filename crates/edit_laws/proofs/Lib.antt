@@ -8,3 +8,6 @@ pub mod Slides
 pub mod Lifting
 pub mod Handing
 pub mod Turned
+pub mod Seats
+pub mod Loose
+pub mod MoveLaws

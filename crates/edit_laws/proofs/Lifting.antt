@@ -84,7 +84,7 @@ lift s is q pre o c n d j k post bare spot =
     let apart = node_apart s is.lawful q pre o c (Tree n d j k) post spot in
     slide s is q kids others spot n q (Some o) inside
     (rw (spot_without f once q kids spot n inside, spot_tree f once q kids spot n inside, t.tree, t.out)
-      (spot_put_top f once q kids spot (join pre (Tree o c k post)) (Some o) (Tree n d j Nil) ∙ ap (λ g. fill spot.around (Tree q spot.content g spot.rest)) (put_before_node pre o c k post n d j apart)))
+    (spot_put_top f once q kids spot (join pre (Tree o c k post)) (Some o) (Tree n d j Nil) ∙ ap (λ g. fill spot.around (Tree q spot.content g spot.rest)) (put_before_node pre o c k post n d j apart)))
     (lift_leaves pre o c n d j k post bare)
 
 -- how a loop ends: all nodes went, or the rest of them stays since one of two nodes isn't open
@@ -103,7 +103,7 @@ lift_all Nil s is q pre o c k post bare spot = rw (for_each-nil, final-answer) (
 lift_all (Tree n d j list) s is q pre o c k post bare spot =
     rw (for_each-cons, final-bind, final_move_before o n q s (node_parent s is.lawful q pre o c (Tree n d j (join list k)) post spot))
     (by_made (may_move s n q (Some o)) refl (lift s is q pre o c n d j (join list k) post bare spot)
-      (λ next. lift_all list t (keeping_edited (Move n q (Some o)) s is) q (join pre (Tree n d j Nil)) o c k post bare (spot_as (document_of t.trees) q (join pre (Tree n d j (Tree o c (join list k) post))) (join (join pre (Tree n d j Nil)) (Tree o c (join list k) post)) (sym (join-assoc pre (Tree n d j Nil) (Tree o c (join list k) post))) next)))
+    (λ next. lift_all list t (keeping_edited (Move n q (Some o)) s is) q (join pre (Tree n d j Nil)) o c k post bare (spot_as (document_of t.trees) q (join pre (Tree n d j (Tree o c (join list k) post))) (join (join pre (Tree n d j Nil)) (Tree o c (join list k) post)) (sym (join-assoc pre (Tree n d j Nil) (Tree o c (join list k) post))) next)))
   where
     t : State
     t = edited (Move n q (Some o)) s
@@ -121,7 +121,7 @@ lift_all (Tree n d j list) s is q pre o c k post bare spot =
         let self : 0 < times (tops (Tree n d j (join list k))) n = omega (arith, self_one n) in
         let shut : (is_open s o && (is_open s q && is_parent_at s.trees q)) ≡ false = sym (lift_open s is.lawful q pre o c (Tree n d j (join list k)) post spot n self) ∙ e in
         let stays : (m : ℕ) → 0 < times (tops list) m → final (move_before o m) s ≡ s = λ m h.
-          final_move_before o m q s (node_parent s is.lawful q pre o c (Tree n d j (join list k)) post spot)
-          ∙ move_stays m q (Some o) s (lift_open s is.lawful q pre o c (Tree n d j (join list k)) post spot m (omega (arith, h, tops-join list k m)) ∙ shut) in
+        final_move_before o m q s (node_parent s is.lawful q pre o c (Tree n d j (join list k)) post spot)
+        ∙ move_stays m q (Some o) s (lift_open s is.lawful q pre o c (Tree n d j (join list k)) post spot m (omega (arith, h, tops-join list k m)) ∙ shut) in
         rw (one.left refl, each_stays (tops list) (move_before o) s stays)
         (record { keeps = keeps_refl (document_of s.trees); ends = some_stay pre (Tree n d j list) spot shut })

@@ -61,8 +61,8 @@ slide s is q kids others spot n p b inside put same =
     let f = s.trees in
     let here : IsWithin f 0 n = (let e = ap (λ g. count_of g n) spot.is in omega (arith, e, count-fill spot.around (Tree q spot.content kids spot.rest) n, inside)) in
     let now : may_move s n p b ≡ true → tree_of (trees_after (Move n p b) f) 0 ≡ fill spot.around (Tree q spot.content others spot.rest) = λ may.
-      document_moved s is.lawful n p b may
-      ∙ (ap (λ t. put_under (without (tree_of f 0) n) p b t) (sym (tree_of-inside f 0 n is.lawful.forest.distinct here)) ∙ put) in
+    document_moved s is.lawful n p b may
+    ∙ (ap (λ t. put_under (without (tree_of f 0) n) p b t) (sym (tree_of-inside f 0 n is.lawful.forest.distinct here)) ∙ put) in
     record {
       keeps = by_made (Move n p b) s (λ may. keeps_same (tree_of f 0) (tree_of (trees_after (Move n p b) f) 0) (spot_leaves (tree_of f 0) (tree_of (trees_after (Move n p b) f) 0) q kids others spot (now may) same));
       moved = λ may. spot_other (tree_of f 0) _ q kids others spot (ap (λ g. tree_of g 0) (trees_made (Move n p b) s may) ∙ now may);

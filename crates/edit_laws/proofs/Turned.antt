@@ -94,7 +94,7 @@ drop s is q pre o c n d j k post spot =
     let left_once : IsDistinct (join pre (Tree o c k post)) = λ l. omega (arith, kids_once l, count-join pre (Tree o c (join k (Tree n d j Nil)) post) l, count-join k (Tree n d j Nil) l, count-join pre (Tree o c k post) l) in
     slide s is q kids others spot n q (first_in (tops post)) inside
     (rw (spot_without f once q kids spot n inside, spot_tree f once q kids spot n inside, t.tree, t.out)
-      (spot_put_top f once q kids spot (join pre (Tree o c k post)) (first_in (tops post)) (Tree n d j Nil) ∙ ap (λ g. fill spot.around (Tree q spot.content g spot.rest)) (put_after_node pre o c k post n d j left_once)))
+    (spot_put_top f once q kids spot (join pre (Tree o c k post)) (first_in (tops post)) (Tree n d j Nil) ∙ ap (λ g. fill spot.around (Tree q spot.content g spot.rest)) (put_after_node pre o c k post n d j left_once)))
     (drop_leaves pre o c n d j k post)
 
 pub drop_all : (r : Forest Content) (s : State) → IsKeeping s → (q : ℕ) (pre : Forest Content) (o : ℕ) (c : Content) (k post : Forest Content)
@@ -106,7 +106,7 @@ drop_all Nil s is q pre o c k post spot =
 drop_all (Tree n d j r) s is q pre o c k post spot =
     rw (for_each-cons, final-bind, final_move_after o n q s (node_parent s is.lawful q pre o c (join k (turned r (Tree n d j Nil))) post spot), next_is s is.lawful q pre o c (join k (turned r (Tree n d j Nil))) post spot)
     (by_made (may_move s n q (first_in (tops post))) refl (drop s is q pre o c n d j (join k (turned r Nil)) post here)
-      (λ next. drop_all r t (keeping_edited (Move n q (first_in (tops post))) s is) q pre o c k (Tree n d j post) next))
+    (λ next. drop_all r t (keeping_edited (Move n q (first_in (tops post))) s is) q pre o c k (Tree n d j post) next))
   where
     t : State
     t = edited (Move n q (first_in (tops post))) s
@@ -129,9 +129,9 @@ drop_all (Tree n d j r) s is q pre o c k post spot =
         let among : (m : ℕ) → 0 < times (tops (Tree n d j r)) m → 0 < times (tops ks) m = λ m h. omega (arith, h, tops-join k (turned r (Tree n d j Nil)) m, times-turned r (Tree n d j Nil) m) in
         let shut : (is_open s o && (is_open s q && is_parent_at s.trees q)) ≡ false = sym (drop_open s is q pre o c ks post spot n (among n (omega (arith, self_one n)))) ∙ w in
         let stays : (m : ℕ) → 0 < times (tops r) m → final (move_after o m) s ≡ s = λ m h.
-          final_move_after o m q s (node_parent s is.lawful q pre o c ks post spot)
-          ∙ (ap (λ b. edited (Move m q b) s) (next_is s is.lawful q pre o c ks post spot)
-          ∙ move_stays m q (first_in (tops post)) s (drop_open s is q pre o c ks post spot m (among m (omega (arith, h))) ∙ shut)) in
+        final_move_after o m q s (node_parent s is.lawful q pre o c ks post spot)
+        ∙ (ap (λ b. edited (Move m q b) s) (next_is s is.lawful q pre o c ks post spot)
+        ∙ move_stays m q (first_in (tops post)) s (drop_open s is q pre o c ks post spot m (among m (omega (arith, h))) ∙ shut)) in
         rw (one.left refl, each_stays (tops r) (move_after o) s stays)
         (record { keeps = keeps_refl (document_of s.trees); ends = some_stay (Tree n d j r) post spot shut })
 
@@ -161,8 +161,8 @@ module _ (s : State) (is : IsKeeping s) (q : ℕ) (pre : Forest Content) (p : �
       let child = top_parent s is.lawful q kids spot n (omega (arith, h, tops-join pre (Tree p e g post) n)) in
       let beside = node_parent s is.lawful q pre p e g post spot in
       let off : n ≢ p = λ same. (
-          let h' : 0 < times (tops pre) p = subst (λ m. 0 < times (tops pre) m) same h in
-          omega (arith, h', times-tops pre p, kids_once p, count-join pre (Tree p e g post) p, self_one p)) in
+      let h' : 0 < times (tops pre) p = subst (λ m. 0 < times (tops pre) m) same h in
+      omega (arith, h', times-tops pre p, kids_once p, count-join pre (Tree p e g post) p, self_one p)) in
       goes_where_open s n q p (first_in (tops g)) child (not_within_beside s.trees once n q p child beside off)
       (place_first n child g (λ m k. child_parent s is.lawful q pre p e g post spot m k))
       (below_inside s is.lawful q kids spot p (omega (arith, count-join pre (Tree p e g post) p, self_one p)))
@@ -183,7 +183,7 @@ front s is q pre n d j p e g post bare spot =
     let t = take_one pre n d j (Tree p e g post) kids_once in
     slide s is q kids others spot n p (first_in (tops g)) inside
     (rw (spot_without f once q kids spot n inside, spot_tree f once q kids spot n inside, t.tree, t.out)
-      (spot_put_below f once q kids spot (join pre (Tree p e g post)) p (first_in (tops g)) (Tree n d j Nil) here ∙ ap (λ h. fill spot.around (Tree q spot.content h spot.rest)) (put_first_below pre p e g post n d j apart)))
+    (spot_put_below f once q kids spot (join pre (Tree p e g post)) p (first_in (tops g)) (Tree n d j Nil) here ∙ ap (λ h. fill spot.around (Tree q spot.content h spot.rest)) (put_first_below pre p e g post n d j apart)))
     (front_leaves pre n d j p e g post bare)
 
 pub front_all : (r : Forest Content) (s : State) → IsKeeping s → (q : ℕ) (pre : Forest Content) (p : ℕ) (e : Content) (g post : Forest Content) → borne_by p e ≡ []
@@ -193,7 +193,7 @@ front_all Nil s is q pre p e g post bare spot = rw (for_each-nil, final-answer) 
 front_all (Tree n d j r) s is q pre p e g post bare spot =
     rw (for_each-cons, final-bind, final_move_first p n s, first_is s is q (join pre (turned r (Tree n d j Nil))) p e g post around)
     (by_made (may_move s n p (first_in (tops g))) refl (front s is q (join pre (turned r Nil)) n d j p e g post bare here)
-      (λ next. front_all r t (keeping_edited (Move n p (first_in (tops g))) s is) q pre p e (Tree n d j g) post bare (spot_as (document_of t.trees) q _ _ (join-assoc pre (turned r Nil) (Tree p e (Tree n d j g) post)) next)))
+    (λ next. front_all r t (keeping_edited (Move n p (first_in (tops g))) s is) q pre p e (Tree n d j g) post bare (spot_as (document_of t.trees) q _ _ (join-assoc pre (turned r Nil) (Tree p e (Tree n d j g) post)) next)))
   where
     t : State
     t = edited (Move n p (first_in (tops g))) s
@@ -216,9 +216,9 @@ front_all (Tree n d j r) s is q pre p e g post bare spot =
         let among : (m : ℕ) → 0 < times (tops (Tree n d j r)) m → 0 < times (tops before) m = λ m h. omega (arith, h, tops-join pre (turned r (Tree n d j Nil)) m, times-turned r (Tree n d j Nil) m) in
         let shut : (is_open s q && (is_open s p && is_parent_at s.trees p)) ≡ false = sym (front_open s is q before p e g post around n (among n (omega (arith, self_one n)))) ∙ w in
         let stays : (m : ℕ) → 0 < times (tops r) m → final (move_first p m) s ≡ s = λ m h.
-          final_move_first p m s
-          ∙ (ap (λ b. edited (Move m p b) s) (first_is s is q before p e g post around)
-          ∙ move_stays m p (first_in (tops g)) s (front_open s is q before p e g post around m (among m (omega (arith, h))) ∙ shut)) in
+        final_move_first p m s
+        ∙ (ap (λ b. edited (Move m p b) s) (first_is s is q before p e g post around)
+        ∙ move_stays m p (first_in (tops g)) s (front_open s is q before p e g post around m (among m (omega (arith, h))) ∙ shut)) in
         rw (one.left refl, each_stays (tops r) (move_first p) s stays)
         (record { keeps = keeps_refl (document_of s.trees); ends = some_stay (Tree n d j r) g spot shut })
 
@@ -241,5 +241,5 @@ swap s is q pre x e g n d j post bare spot =
     let apart = node_apart s is.lawful q pre x e g (Tree n d j post) spot in
     slide s is q kids others spot n q (Some x) inside
     (rw (spot_without f once q kids spot n inside, spot_tree f once q kids spot n inside, tree, out)
-      (spot_put_top f once q kids spot (join pre (Tree x e g post)) (Some x) (Tree n d j Nil) ∙ ap (λ h. fill spot.around (Tree q spot.content h spot.rest)) (put_before_node pre x e g post n d j apart)))
+    (spot_put_top f once q kids spot (join pre (Tree x e g post)) (Some x) (Tree n d j Nil) ∙ ap (λ h. fill spot.around (Tree q spot.content h spot.rest)) (put_before_node pre x e g post n d j apart)))
     (swap_leaves pre x e g n d j post bare)

@@ -2,3 +2,4 @@ pub mod Order
 pub mod Tame
 pub mod Moves
 pub mod Laws
+pub mod MoveLaws

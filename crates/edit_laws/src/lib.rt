@@ -2,5 +2,13 @@
 #![tactic(auto)]
 
 mod laws;
+mod moves;
 
-pub use laws::{keeping_stays, order_follows, quiet_actions_keep, bare_inserts_keep, tame_acts, tame_answers, tame_follows, tame_looks, tame_chooses, tame_given, tame_for_each, tame_while};
+pub use laws::{
+    bare_inserts_keep, keeping_stays, order_follows, quiet_actions_keep, tame_acts, tame_answers,
+    tame_chooses, tame_follows, tame_for_each, tame_given, tame_looks, tame_while,
+};
+pub use moves::{
+    first_children_go_before, first_children_go_over, last_children_go_after,
+    moves_out_are_left_out, next_goes_over, next_siblings_go_in, previous_siblings_go_in,
+};
