@@ -11,3 +11,4 @@ pub mod Turned
 pub mod Seats
 pub mod Loose
 pub mod MoveLaws
+pub mod Renaming

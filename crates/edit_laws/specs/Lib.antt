@@ -3,3 +3,4 @@ pub mod Tame
 pub mod Moves
 pub mod Laws
 pub mod MoveLaws
+pub mod CompositionLaws

@@ -1,9 +1,11 @@
 //! The laws of order: what algorithms that keep contents make of the characters, images and rules of a document.
 #![tactic(auto)]
 
+mod compositions;
 mod laws;
 mod moves;
 
+pub use compositions::tag_names_keep;
 pub use laws::{
     bare_inserts_keep, keeping_stays, order_follows, quiet_actions_keep, tame_acts, tame_answers,
     tame_chooses, tame_follows, tame_for_each, tame_given, tame_looks, tame_while,

@@ -1,0 +1,8 @@
+//! The laws of order of compositions of edits that the standards name, each the contract of a function that does nothing.
+
+ghost use Rattle.edit_laws.specs.CompositionLaws.{TagNamesKeep};
+
+/// Setting the tag name of a bare node, to one that is neither img nor hr, keeps the order.
+pub fn tag_names_keep()
+    ensures { TagNamesKeep }
+{}
