@@ -12,3 +12,5 @@ pub mod Seats
 pub mod Loose
 pub mod MoveLaws
 pub mod Renaming
+pub mod Hosts
+pub mod Splitting

@@ -34,7 +34,7 @@ put_under-join Nil g p b t none = refl
 put_under-join (Tree m c ks rest) g p b t none =
     rw (off_by m p (omega (arith, none)), put_under_nowhere ks p b t (omega (arith, none)), put_under-join rest g p b t (omega (arith, none))) refl
 
-other_label : (m b : ℕ) → eqb m b ≡ false → eqb b m ≡ false
+pub other_label : (m b : ℕ) → eqb m b ≡ false → eqb b m ≡ false
 other_label m b h = grind (arith, h)
 
 pub put_before-join : (pre g : Forest Content) (b : ℕ) (t : Forest Content) → count_of pre b ≡ 0 → put_before (join pre g) (Some b) t ≡ join pre (put_before g (Some b) t)

@@ -38,7 +38,7 @@ plain_borne : (l : ℕ) (name : List ℕ) (attributes : List Attribute) → is_t
 unfolding borne_by
 plain_borne l name attributes plain = rw plain refl
 
-made_trees : (c : Content) (s : State) → (made c s).trees ≡ with_leaf s.trees s.next c
+pub made_trees : (c : Content) (s : State) → (made c s).trees ≡ with_leaf s.trees s.next c
 unfolding made
 made_trees c s = refl
 
@@ -52,7 +52,7 @@ keeps_made name attributes s is = quiet_keeps (MakeElement name attributes) tt s
 
 -- the new node, before it is put in
 module _ (s : State) (is : IsKeeping s) (c : Content) where
-  new_absent : count_of s.trees s.next ≡ 0
+  pub new_absent : count_of s.trees s.next ≡ 0
   new_absent = fresh s.trees s.next is.lawful.forest
 
   pub new_tree : tree_of (made c s).trees s.next ≡ Tree s.next c Nil Nil

@@ -5,7 +5,7 @@ mod compositions;
 mod laws;
 mod moves;
 
-pub use compositions::tag_names_keep;
+pub use compositions::{split_texts_keep, tag_names_keep};
 pub use laws::{
     bare_inserts_keep, keeping_stays, order_follows, quiet_actions_keep, tame_acts, tame_answers,
     tame_chooses, tame_follows, tame_for_each, tame_given, tame_looks, tame_while,
