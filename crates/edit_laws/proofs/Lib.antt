@@ -12,5 +12,6 @@ pub mod Seats
 pub mod Loose
 pub mod MoveLaws
 pub mod Renaming
+pub mod NewElements
 pub mod Hosts
 pub mod Splitting

@@ -34,7 +34,7 @@ use Rattle.edit_laws.proofs.Patterns.{tree_of-join}
 use Rattle.edit_laws.proofs.Slides.{parent_other}
 use Rattle.edit_laws.proofs.MoveLaws.{go_over, go_nowhere}
 
-plain_borne : (l : ℕ) (name : List ℕ) (attributes : List Attribute) → is_thing name ≡ false → borne_by l (Element name attributes) ≡ []
+pub plain_borne : (l : ℕ) (name : List ℕ) (attributes : List Attribute) → is_thing name ≡ false → borne_by l (Element name attributes) ≡ []
 unfolding borne_by
 plain_borne l name attributes plain = rw plain refl
 
@@ -42,11 +42,11 @@ pub made_trees : (c : Content) (s : State) → (made c s).trees ≡ with_leaf s.
 unfolding made
 made_trees c s = refl
 
-keeping_made : (name : List ℕ) (attributes : List Attribute) (s : State) → IsKeeping s → IsKeeping (made (Element name attributes) s)
+pub keeping_made : (name : List ℕ) (attributes : List Attribute) (s : State) → IsKeeping s → IsKeeping (made (Element name attributes) s)
 unfolding acted
 keeping_made name attributes s is = keeping_along (onward here (MakeElement name attributes)) is
 
-keeps_made : (name : List ℕ) (attributes : List Attribute) (s : State) → IsKeeping s → KeepsOrder s (made (Element name attributes) s)
+pub keeps_made : (name : List ℕ) (attributes : List Attribute) (s : State) → IsKeeping s → KeepsOrder s (made (Element name attributes) s)
 unfolding acted
 keeps_made name attributes s is = quiet_keeps (MakeElement name attributes) tt s is
 

@@ -1,13 +1,14 @@
 -- The laws of order.
-use Rattle.std.specs.Prelude.{◌≡◌, ℕ, Bool, List, [], Option, if◌then◌else◌}
+use Rattle.std.specs.Prelude.{◌≡◌, ℕ, Bool, false, List, [], Option, if◌then◌else◌}
+use Rattle.dom_model.specs.declared.attributes.Attribute.{Attribute}
 use Rattle.dom_model.specs.Forest.{tree_of}
-use Rattle.edit_model.specs.Kept.{leaves}
+use Rattle.edit_model.specs.Kept.{leaves, is_thing}
 use Rattle.edit_model.specs.State.{State}
 use Rattle.edit_model.specs.Edit.{Insert}
 use Rattle.edit_model.specs.Action.{Action, Change, acted}
-use Rattle.edit_model.specs.Run.{Reaches, Run, ◌>>=◌, act, answer, look, given, for_each, while_at_most}
+use Rattle.edit_model.specs.Run.{Reaches, Run, ◌>>=◌, act, answer, look, given, for_each, while_at_most, insert, make_element}
 use Rattle.edit_laws.specs.Order.{KeepsOrder, IsKeeping}
-use Rattle.edit_laws.specs.Tame.{Tame, IsQuiet}
+use Rattle.edit_laws.specs.Tame.{Tame, TameWith, IsQuiet}
 
 -- ---- states
 
@@ -56,3 +57,26 @@ TameForEach A = (xs : List A) (f : A → Run (Unit {0})) → ((x : A) → Tame (
 abbrev pub TameWhile : Type 0 → Type 0
 TameWhile A =
     (bound : ℕ) (test : State → A → Bool) (body : A → Run A) (a : A) → ((a : A) → Tame (body a)) → Tame (while_at_most bound test body a)
+
+-- ---- new elements
+
+-- a node whose tree bears nothing may be inserted anywhere
+abbrev pub TameWithInserts : Type 0
+TameWithInserts = (p : ℕ) (b : Option ℕ) (x : ℕ) → TameWith x (insert p b x)
+
+abbrev pub TameWithFollows : Type 0 → Type 0 → Type 0
+TameWithFollows A B = (x : ℕ) (m : Run A) (k : A → Run B) → TameWith x m → ((a : A) → Tame (k a)) → TameWith x (m >>= k)
+
+abbrev pub TameWithLooks : Type 0 → Type 0
+TameWithLooks A = (x : ℕ) (k : State → Run A) → ((s : State) → TameWith x (k s)) → TameWith x (look k)
+
+abbrev pub TameWithChooses : Type 0 → Type 0
+TameWithChooses A = (x : ℕ) (b : Bool) (m n : Run A) → TameWith x m → TameWith x n → TameWith x (if b then m else n)
+
+abbrev pub TameWithGiven : Type 0 → Type 0 → Type 0
+TameWithGiven A B = (x : ℕ) (o : Option A) (n : Run B) (f : A → Run B) → TameWith x n → ((a : A) → TameWith x (f a)) → TameWith x (given o n f)
+
+-- a new element that is neither img nor hr bears nothing
+abbrev pub TameNewElements : Type 0 → Type 0
+TameNewElements A =
+    (name : List ℕ) (attributes : List Attribute) (k : ℕ → Run A) → is_thing name ≡ false → ((x : ℕ) → TameWith x (k x)) → Tame (make_element name attributes >>= k)

@@ -1,6 +1,6 @@
 //! The laws, each the contract of a function that does nothing.
 
-ghost use Rattle.edit_laws.specs.Laws.{KeepingStays, OrderFollows, QuietActionsKeep, BareInsertsKeep, TameActs, TameAnswers, TameFollows, TameLooks, TameChooses, TameGiven, TameForEach, TameWhile};
+ghost use Rattle.edit_laws.specs.Laws.{KeepingStays, OrderFollows, QuietActionsKeep, BareInsertsKeep, TameActs, TameAnswers, TameFollows, TameLooks, TameChooses, TameGiven, TameForEach, TameWhile, TameWithInserts, TameWithFollows, TameWithLooks, TameWithChooses, TameWithGiven, TameNewElements};
 
 /// Every action leaves a state in which a command keeps contents such a state.
 pub fn keeping_stays()
@@ -60,4 +60,34 @@ pub fn tame_for_each<A>()
 /// or while a test holds.
 pub fn tame_while<A>()
     ensures { TameWhile A }
+{}
+
+/// A node whose tree bears nothing is inserted,
+pub fn tame_with_inserts()
+    ensures { TameWithInserts }
+{}
+
+/// and tame runs follow,
+pub fn tame_with_follows<A, B>()
+    ensures { TameWithFollows A B }
+{}
+
+/// at a place that the state tells,
+pub fn tame_with_looks<A>()
+    ensures { TameWithLooks A }
+{}
+
+/// by a test,
+pub fn tame_with_chooses<A>()
+    ensures { TameWithChooses A }
+{}
+
+/// or by what is there:
+pub fn tame_with_given<A, B>()
+    ensures { TameWithGiven A B }
+{}
+
+/// so a run that makes an element which is neither img nor hr, and inserts it, is tame.
+pub fn tame_new_elements<A>()
+    ensures { TameNewElements A }
 {}
