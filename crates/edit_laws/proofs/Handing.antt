@@ -1,29 +1,29 @@
 -- Nodes go, in order, to the end of a node that stands just before them: the first children of the next sibling, or the next
 -- siblings themselves.
-use Rattle.std.proofs.Common.{◌≡◌, ◌≢◌, ℕ, ◌+◌, ◌<◌, Bool, true, false, ◌&&◌, cond, eqb, List, [], Option, Some, None, refl, sym, ap, subst, ◌∙◌, arith, true≢false}
+use Rattle.std.proofs.Common.{◌≡◌, ◌≢◌, ℕ, ◌<◌, Bool, true, false, ◌&&◌, eqb, [], Option, Some, None, refl, sym, ap, subst, ◌∙◌, arith, true≢false}
 use Rattle.std.specs.Option.{option_map_or}
-use Rattle.std.proofs.lemmas.Bool.{eq-eqb, eqb-false}
+use Rattle.std.proofs.lemmas.Bool.{eq-eqb}
 use Rattle.dom_model.specs.declared.Content.{Content}
 use Rattle.dom_model.specs.Contents.{is_parent_at}
 use Rattle.dom_model.specs.Forest.{Forest, Seen, times, tops, count_of, IsDistinct, IsWithin, seek, parent_of, children_of, tree_of, without, join}
 use Rattle.dom_model.specs.Forest.Forest.{Nil, Tree}
 use Rattle.dom_model.proofs.Stands.{times-tops}
-use Rattle.dom_model.proofs.Links.{found_stands, parent_of_child, eqb_refl_true, join-Nil}
+use Rattle.dom_model.proofs.Links.{found_stands, parent_of_child, join-Nil}
 use Rattle.edit_model.specs.State.{State}
 use Rattle.edit_model.specs.Kept.{borne_by}
-use Rattle.edit_model.specs.Confined.{is_open, is_place, may_move}
+use Rattle.edit_model.specs.Confined.{is_open, may_move}
 use Rattle.edit_model.specs.Edit.{Move, edited}
 use Rattle.edit_model.specs.History.{document_of}
 use Rattle.edit_model.specs.Lawful.{IsLawful}
-use Rattle.edit_model.specs.Run.{Run, final, for_each}
+use Rattle.edit_model.specs.Run.{final, for_each}
 use Rattle.edit_model.specs.Compositions.{move_last}
 use Rattle.edit_model.proofs.Resting.{seek_document}
 use Rattle.edit_model.proofs.Steps.{final-bind, final-answer, final-edit, for_each-cons, for_each-nil}
-use Rattle.edit_laws.specs.Order.{KeepsOrder, IsKeeping}
+use Rattle.edit_laws.specs.Order.{IsKeeping}
 use Rattle.edit_laws.proofs.Subsequences.{keeps_refl, keeps_trans}
 use Rattle.edit_laws.proofs.QuietActions.{keeping_edited}
 use Rattle.edit_laws.proofs.Around.{Spot, spot_distinct, spot_as, spot_tree, spot_without, spot_put_below, spot_top, self_one, off_by, fill, count-fill, owner_of}
-use Rattle.edit_laws.proofs.Patterns.{count-join, join-assoc, Taken, take_first, take_one, put_last_below, hand_leaves, take_leaves}
+use Rattle.edit_laws.proofs.Patterns.{count-join, join-assoc, take_first, take_one, put_last_below, hand_leaves, take_leaves}
 use Rattle.edit_laws.proofs.Slides.{document_distinct, Slide, slide, parent_other, not_within_cousin, not_within_beside, goes_where_open, each_stays}
 use Rattle.edit_laws.proofs.Lifting.{node_parent, child_parent, node_apart, tops-join, move_stays, Ends, all_went, some_stay, Ran}
 

@@ -1,11 +1,11 @@
 -- A new leaf leaves the hosts of the other nodes, and the parent of an editable node is inside the host.
 use Rattle.std.proofs.Common.{◌≡◌, ◌≢◌, ℕ, Bool, true, false, ◌||◌, cond, eqb, Option, Some, None, refl, sym, ap, ◌∙◌, inl, inr, true≢false}
-use Rattle.std.specs.Option.{option_map, option_map_or}
+use Rattle.std.specs.Option.{option_map_or}
 use Rattle.std.proofs.lemmas.Bool.{cases_Bool, ne_eqb, eq-eqb}
 use Rattle.dom_model.specs.declared.Content.{Content}
 use Rattle.dom_model.specs.Contents.{is_element}
 use Rattle.dom_model.specs.Editing.{is_true_state, is_false_state, host_by, offered, host_from, editing_host, is_editable}
-use Rattle.dom_model.specs.Forest.{Forest, is_label, either, parent_of, content_of, join, put_before, put_under}
+use Rattle.dom_model.specs.Forest.{Forest, is_label, either, parent_of, join, put_before, put_under}
 use Rattle.dom_model.specs.Forest.Forest.{Nil, Tree}
 use Rattle.dom_model.proofs.Hosts.{editing_host-child}
 use Rattle.dom_model.proofs.Links.{parent_count}

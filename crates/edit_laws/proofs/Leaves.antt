@@ -1,16 +1,15 @@
 -- What a forest bears under each change of its trees.
-use Rattle.std.proofs.Common.{◌≡◌, ℕ, Bool, true, false, ◌&&◌, cond, eqb, List, [], ◌∷◌, ◌++◌, Option, Some, None, refl, sym, ap, ◌∙◌, inl, inr, append_assoc}
+use Rattle.std.proofs.Common.{◌≡◌, ℕ, Bool, true, false, ◌&&◌, cond, eqb, List, [], ◌∷◌, ◌++◌, Option, refl, sym, ap, ◌∙◌, append_assoc}
 use Rattle.std.specs.List.{filter}
-use Rattle.std.proofs.lemmas.Bool.{and_parts, cases_Bool}
-use Rattle.std.proofs.lemmas.List.{append-nil}
+use Rattle.std.proofs.lemmas.Bool.{and_parts}
 use Rattle.std.proofs.lemmas.List.Elements.{filter-append}
 use Rattle.dom_model.specs.declared.Content.{Content}
 use Rattle.dom_model.specs.Forest.{Forest, is_label, join, tree_of, without, put_before, put_under}
 use Rattle.dom_model.specs.Forest.Forest.{Nil, Tree}
 use Rattle.dom_model.specs.Revised.{revised}
-use Rattle.edit_model.specs.Kept.{Leaf, borne_by, leaves, is_kept, kept_leaves, is_empty, bears_nothing}
+use Rattle.edit_model.specs.Kept.{borne_by, leaves, is_kept, kept_leaves, is_empty, bears_nothing}
 use Rattle.edit_model.proofs.Bearing.{bears-Tree}
-use Rattle.edit_laws.specs.Order.{Subsequence, KeepsLeaves}
+use Rattle.edit_laws.specs.Order.{Subsequence}
 use Rattle.edit_laws.proofs.Subsequences.{subsequence_refl, subsequence_append, subsequence_nothing}
 
 pub leaves-Nil : leaves Nil ≡ []

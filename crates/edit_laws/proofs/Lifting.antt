@@ -1,30 +1,27 @@
 -- The first children of a node go to just before it, in order.
-use Rattle.std.proofs.Common.{◌≡◌, ◌≢◌, ℕ, ◌+◌, ◌<◌, Bool, true, false, ◌&&◌, not, cond, eqb, List, [], Option, Some, None, refl, sym, ap, subst, ◌∙◌, arith}
+use Rattle.std.proofs.Common.{◌≡◌, ℕ, ◌+◌, ◌<◌, Bool, true, false, ◌&&◌, [], Option, Some, None, refl, sym, ap, subst, ◌∙◌, arith}
 use Rattle.std.specs.Option.{option_and_then}
-use Rattle.std.proofs.lemmas.Bool.{ne_eqb, eq-eqb}
+use Rattle.std.proofs.lemmas.Bool.{ne_eqb}
 use Rattle.dom_model.specs.declared.Content.{Content}
 use Rattle.dom_model.specs.Contents.{is_parent_at}
-use Rattle.dom_model.specs.Forest.{Forest, Seen, times, tops, is_label, count_of, IsDistinct, IsWithin, seek, parent_of, tree_of, join, either}
+use Rattle.dom_model.specs.Forest.{Forest, Seen, times, tops, count_of, IsDistinct, IsWithin, seek, parent_of, tree_of, join}
 use Rattle.dom_model.specs.Forest.Forest.{Nil, Tree}
-use Rattle.dom_model.proofs.Stands.{times-tops}
 use Rattle.dom_model.proofs.Links.{found_stands, parent_of_child, eqb_refl_true}
 use Rattle.edit_model.specs.State.{State}
 use Rattle.edit_model.specs.Kept.{borne_by}
 use Rattle.edit_model.specs.Confined.{is_open, is_place, may_move}
 use Rattle.edit_model.specs.Edit.{Move, is_made_edit, edited}
-use Rattle.edit_model.specs.Action.{Change}
 use Rattle.edit_model.specs.History.{document_of}
 use Rattle.edit_model.specs.Lawful.{IsLawful}
-use Rattle.edit_model.specs.Run.{Run, final, for_each, onward, here}
+use Rattle.edit_model.specs.Run.{final, for_each}
 use Rattle.edit_model.proofs.Steps.{final-bind, final-answer, final-look, final-edit, for_each-cons, for_each-nil}
-use Rattle.edit_model.proofs.LawfulRuns.{lawful_edited}
 use Rattle.edit_model.proofs.Giving.{edited-left}
 use Rattle.edit_laws.specs.Order.{KeepsOrder, IsKeeping}
 use Rattle.edit_laws.specs.Moves.{move_before}
 use Rattle.edit_laws.proofs.Subsequences.{keeps_refl, keeps_trans}
 use Rattle.edit_laws.proofs.QuietActions.{keeping_edited}
-use Rattle.edit_laws.proofs.Around.{Spot, spot_distinct, spot_as, spot_tree, spot_without, spot_put_top, self_one, off_by, fill, count-fill}
-use Rattle.edit_laws.proofs.Patterns.{count-join, join-assoc, seek-join, Taken, take_first, put_before_node, lift_leaves}
+use Rattle.edit_laws.proofs.Around.{Spot, spot_distinct, spot_as, spot_tree, spot_without, spot_put_top, self_one, fill, count-fill}
+use Rattle.edit_laws.proofs.Patterns.{count-join, join-assoc, seek-join, take_first, put_before_node, lift_leaves}
 use Rattle.edit_laws.proofs.Slides.{document_distinct, Slide, slide, found_below, parent_other, not_within_above, goes_where_open, each_stays}
 
 pub final_move_before : (o n q : ℕ) (s : State) → parent_of s.trees o ≡ Some q → final (move_before o n) s ≡ edited (Move n q (Some o)) s

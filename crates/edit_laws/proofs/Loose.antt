@@ -1,13 +1,12 @@
 -- What happens among loose trees leaves the document as it is.
-use Rattle.std.proofs.Common.{◌≡◌, ℕ, ◌<◌, zero, suc, Bool, true, false, List, [], ◌∷◌, Option, Some, None, refl, sym, ap, ◌∙◌, inl, inr, arith, nat_lt}
+use Rattle.std.proofs.Common.{◌≡◌, ℕ, ◌<◌, zero, suc, List, [], ◌∷◌, Option, Some, None, refl, ap, ◌∙◌, inl, inr, arith}
 use Rattle.std.proofs.lemmas.Bool.{cases_Bool, ltb-true, lt-ltb}
-use Rattle.dom_model.specs.declared.Content.{Content}
-use Rattle.dom_model.specs.Forest.{Forest, count_of, IsWithin, parent_of, next_of, first_of, tree_of, without, put_under}
+use Rattle.dom_model.specs.Forest.{count_of, parent_of, next_of, first_of, tree_of, put_under}
 use Rattle.dom_model.proofs.Totals.{put_under_nowhere}
 use Rattle.dom_model.proofs.DropTree.{without_absent}
 use Rattle.edit_model.specs.State.{State}
 use Rattle.edit_model.specs.Confined.{may_move}
-use Rattle.edit_model.specs.Edit.{Move, is_made_edit, trees_after, edited}
+use Rattle.edit_model.specs.Edit.{Move, is_made_edit, edited}
 use Rattle.edit_model.specs.History.{document_of}
 use Rattle.edit_model.specs.Lawful.{IsLawful}
 use Rattle.edit_model.specs.Run.{Run, final, for_each}

@@ -3,7 +3,7 @@ use Rattle.std.proofs.Common.{◌≡◌, ℕ, ◌<◌, zero, suc, List, [], ◌�
 use Rattle.std.specs.Option.{option_map, option_map_or, option_and_then}
 use Rattle.std.proofs.lemmas.List.{append-nil, reverse-append}
 use Rattle.dom_model.specs.declared.Content.{Content}
-use Rattle.dom_model.specs.Forest.{Forest, Seen, times, tops, count_of, IsWithin, parent_of, children_of, next_of, content_of, after_in, first_in, seek, tree_of, join}
+use Rattle.dom_model.specs.Forest.{Forest, Seen, times, tops, count_of, IsWithin, parent_of, children_of, next_of, after_in, first_in, seek, tree_of, join}
 use Rattle.dom_model.specs.Forest.Forest.{Nil, Tree}
 use Rattle.dom_model.specs.Places.{rest_in}
 use Rattle.dom_model.proofs.Lists.{times-append}
@@ -21,13 +21,13 @@ use Rattle.edit_laws.specs.MoveLaws.{IsBare}
 use Rattle.edit_laws.proofs.Subsequences.{keeps_refl}
 use Rattle.edit_laws.proofs.Leaves.{leaves-Nil, leaves-Tree}
 use Rattle.edit_laws.proofs.QuietActions.{same_document}
-use Rattle.edit_laws.proofs.Around.{Spot, spot_here, spot_as, spot_tree, spot_distinct, self_one}
-use Rattle.edit_laws.proofs.Patterns.{count-join, join-assoc, tree_of-join, take_one}
+use Rattle.edit_laws.proofs.Around.{spot_here, spot_as, spot_tree, spot_distinct, self_one}
+use Rattle.edit_laws.proofs.Patterns.{count-join, join-assoc, take_one}
 use Rattle.edit_laws.proofs.Slides.{document_distinct, each_stays}
-use Rattle.edit_laws.proofs.Lifting.{node_found, node_apart, lift_all, final_move_before}
+use Rattle.edit_laws.proofs.Lifting.{node_found, lift_all, final_move_before}
 use Rattle.edit_laws.proofs.Handing.{owner_children, below_inside, hand_all, take_all}
-use Rattle.edit_laws.proofs.Turned.{turned, tops-after, next_is, drop_all, front_all, swap}
-use Rattle.edit_laws.proofs.Seats.{Seat, seat, Parts, parts_of, Headed, headed}
+use Rattle.edit_laws.proofs.Turned.{turned, next_is, drop_all, front_all, swap}
+use Rattle.edit_laws.proofs.Seats.{Seat, seat, parts_of, Headed, headed}
 use Rattle.edit_laws.proofs.Loose.{IsLoose, none_there, loose_parent, still_each, still_last, still_first, still_before, still_after, before_root, after_root}
 
 -- ---- lists of trees from the end

@@ -3,7 +3,7 @@ use Rattle.std.proofs.Common.{◌≡◌, ℕ, Bool, true, false, if◌then◌els
 use Rattle.dom_model.specs.declared.Content.TheVariants.{Element}
 use Rattle.dom_model.specs.declared.attributes.Attribute.{Attribute}
 use Rattle.dom_model.specs.Forest.{tree_of}
-use Rattle.dom_model.specs.Forest.Forest.{Nil, Tree}
+use Rattle.dom_model.specs.Forest.Forest.{Nil}
 use Rattle.edit_model.specs.State.{State}
 use Rattle.edit_model.specs.Kept.{leaves, is_thing}
 use Rattle.edit_model.specs.Action.{made}

@@ -1,20 +1,19 @@
 -- The actions that keep the order from each state in which a command keeps contents.
-use Rattle.std.proofs.Common.{◌≡◌, ℕ, ◌<◌, true, false, eqb, List, [], ◌++◌, Option, Some, None, refl, sym, ap, subst, ◌∙◌, inl, inr, arith}
+use Rattle.std.proofs.Common.{◌≡◌, ℕ, ◌<◌, true, false, eqb, List, [], Option, refl, sym, ap, subst, ◌∙◌, inl, inr, arith}
 use Rattle.std.proofs.lemmas.Bool.{and_parts, cases_Bool, ne_eqb}
 use Rattle.dom_model.specs.declared.Content.{Content}
 use Rattle.dom_model.specs.declared.Content.TheVariants.{Document, Element, Words, Remark}
-use Rattle.dom_model.specs.Forest.{Forest, join, tree_of, parent_of, unlink}
-use Rattle.dom_model.specs.Forest.Forest.{Nil, Tree}
+use Rattle.dom_model.specs.Forest.{Forest, tree_of}
+use Rattle.dom_model.specs.Forest.Forest.{Tree}
 use Rattle.dom_model.proofs.Links.{join-Nil}
 use Rattle.edit_model.specs.State.{State}
-use Rattle.edit_model.specs.Kept.{borne_by, leaves, kept_leaves, bears_nothing}
+use Rattle.edit_model.specs.Kept.{borne_by, leaves, bears_nothing}
 use Rattle.edit_model.specs.Edit.{Edit, Insert, Remove, Move, Replace, Set, Unset, is_made_edit, trees_after, with_set, with_unset, changed, edited}
 use Rattle.edit_model.specs.Action as action
 use Rattle.edit_model.specs.Action.{Action, made, words_content, extended, acted}
 use Rattle.edit_model.specs.Run.{Reaches, here, onward, Run, final}
 use Rattle.edit_model.specs.History.{document_of}
-use Rattle.edit_model.specs.Lawful.{IsForest, IsLawful}
-use Rattle.edit_model.specs.Laws.{TakesNothing}
+use Rattle.edit_model.specs.Lawful.{IsForest}
 use Rattle.edit_model.proofs.CommandParts.{command_along}
 use Rattle.edit_model.proofs.Commands.{nothing_kept}
 use Rattle.edit_model.proofs.Documents.{document_shape, document-link, document-unlink, document-with_leaf, document-revised}

@@ -1,11 +1,11 @@
 -- Setting a tag name keeps the order.
-use Rattle.std.proofs.Common.{◌≡◌, ◌≢◌, ℕ, ◌+◌, ◌<◌, Bool, true, false, ◌||◌, not, cond, eqb, if◌then◌else◌, List, [], ◌++◌, Option, Some, None, refl, sym, ap, subst, ◌∙◌, inl, inr, arith}
+use Rattle.std.proofs.Common.{◌≡◌, ◌≢◌, ℕ, Bool, true, false, ◌||◌, not, cond, eqb, if◌then◌else◌, List, [], ◌++◌, Option, Some, None, refl, sym, ap, subst, ◌∙◌, inl, inr, arith}
 use Rattle.std.proofs.lemmas.Bool.{cases_Bool, ne_eqb}
 use Rattle.std.proofs.lemmas.List.{append-nil}
 use Rattle.dom_model.specs.declared.Content.{Content}
 use Rattle.dom_model.specs.declared.Content.TheVariants.{Element}
 use Rattle.dom_model.specs.declared.attributes.Attribute.{Attribute}
-use Rattle.dom_model.specs.Forest.{Forest, seek, count_of, IsWithin, parent_of, children_of, next_of, content_of, tree_of, link, with_leaf}
+use Rattle.dom_model.specs.Forest.{seek, count_of, IsWithin, parent_of, children_of, next_of, content_of, tree_of, link, with_leaf}
 use Rattle.dom_model.specs.Forest.Forest.{Nil, Tree}
 use Rattle.dom_model.proofs.Totals.{total-without}
 use Rattle.dom_model.proofs.Links.{parent_count, children_of-link, children_of-with_leaf, next_of-link, seek-with_leaf_new, eqb_refl_true}
@@ -16,7 +16,7 @@ use Rattle.edit_model.specs.Confined.{has_name, is_editable_for, may_insert}
 use Rattle.edit_model.specs.Edit.{Insert, is_made_edit, trees_after, edited}
 use Rattle.edit_model.specs.Action.{MakeElement, made, acted}
 use Rattle.edit_model.specs.History.{document_of}
-use Rattle.edit_model.specs.Run.{Run, here, onward, final, ◌>>=◌, answer, given, look, remove}
+use Rattle.edit_model.specs.Run.{here, onward, final, ◌>>=◌, answer, given, remove}
 use Rattle.edit_model.specs.Compositions.{attribute_list_of, move_each_last, renamed, set_tag_name}
 use Rattle.edit_model.proofs.Documents.{document-with_leaf}
 use Rattle.edit_model.proofs.Forests.{fresh}

@@ -1,18 +1,17 @@
 -- Where a node of the document stands, from what look-ups tell.
-use Rattle.std.proofs.Common.{◌≡◌, ℕ, ◌+◌, ◌<◌, zero, suc, cond, eqb, List, [], ◌∷◌, ◌++◌, reverse, Option, Some, None, refl, sym, ap, subst, ◌∙◌, inl, inr, arith}
+use Rattle.std.proofs.Common.{◌≡◌, ℕ, ◌<◌, List, [], ◌∷◌, ◌++◌, Option, Some, refl, sym, ap, ◌∙◌, inl, inr, arith}
 use Rattle.std.specs.Option.{option_map, option_map_or}
 use Rattle.std.proofs.lemmas.Bool.Decides.{eqb_tells}
 use Rattle.dom_model.specs.declared.Content.{Content}
-use Rattle.dom_model.specs.Forest.{Forest, Seen, times, tops, count_of, IsDistinct, seek, parent_of, children_of, content_of, join}
+use Rattle.dom_model.specs.Forest.{Forest, Seen, times, tops, count_of, parent_of, children_of, content_of, join}
 use Rattle.dom_model.specs.Forest.Forest.{Nil, Tree}
 use Rattle.dom_model.proofs.Links.{child_of_parent}
 use Rattle.edit_model.specs.State.{State}
-use Rattle.edit_model.specs.Kept.{borne_by}
 use Rattle.edit_model.specs.History.{document_of}
 use Rattle.edit_model.specs.Lawful.{IsLawful}
 use Rattle.edit_laws.proofs.Around.{Spot, spot_here, spot_as}
 use Rattle.edit_laws.proofs.Lifting.{node_found}
-use Rattle.edit_laws.proofs.Handing.{owner_found, owner_children}
+use Rattle.edit_laws.proofs.Handing.{owner_found}
 
 -- ---- lists of trees by their labels
 

@@ -1,13 +1,12 @@
 -- A move that keeps the order, as one fact: the children of one node become others that bear the same.
-use Rattle.std.proofs.Common.{◌≡◌, ◌≢◌, ℕ, ◌+◌, ◌<◌, zero, suc, Bool, true, false, ◌&&◌, ◌||◌, not, cond, eqb, List, [], ◌∷◌, Option, Some, None, refl, sym, ap, subst, ◌∙◌, inl, inr, arith, true≢false, is_none, nat_lt}
-use Rattle.std.specs.Option.{option_and_then}
-use Rattle.std.proofs.lemmas.Bool.{cases_Bool, ne_eqb, eq-eqb, lt-ltb, le-ltb}
+use Rattle.std.proofs.Common.{◌≡◌, ◌≢◌, ℕ, ◌+◌, ◌<◌, zero, suc, Bool, true, false, ◌&&◌, ◌||◌, not, cond, eqb, List, [], ◌∷◌, Option, Some, None, refl, sym, ap, subst, ◌∙◌, arith, true≢false, nat_lt}
+use Rattle.std.proofs.lemmas.Bool.{ne_eqb, eq-eqb, lt-ltb}
 use Rattle.dom_model.specs.declared.Content.{Content}
 use Rattle.dom_model.specs.Contents.{is_parent_at}
-use Rattle.dom_model.specs.Forest.{Forest, Seen, times, is_label, count_of, IsDistinct, IsWithin, seek, parent_of, next_of, tree_of, without, put_under, link, unlink, CanPut}
-use Rattle.dom_model.specs.Forest.Forest.{Nil, Tree}
+use Rattle.dom_model.specs.Forest.{Forest, Seen, times, count_of, IsDistinct, IsWithin, seek, parent_of, tree_of, without, put_under, unlink}
+use Rattle.dom_model.specs.Forest.Forest.{Tree}
 use Rattle.dom_model.proofs.Totals.{total-without}
-use Rattle.dom_model.proofs.Links.{found_stands, parent_of_child, parent_count}
+use Rattle.dom_model.proofs.Links.{parent_count}
 use Rattle.dom_model.proofs.Move.{tree_of-unlink, parent_apart}
 use Rattle.dom_model.proofs.Within.{within_self, within_child, within_step}
 use Rattle.edit_model.specs.State.{State}
@@ -16,7 +15,7 @@ use Rattle.edit_model.specs.Confined.{is_open, is_place, stands_so, may_go, may_
 use Rattle.point_order.specs.PointOrder.{is_within, is_in_document}
 use Rattle.edit_model.specs.Edit.{Move, is_made_edit, trees_after, edited}
 use Rattle.edit_model.specs.History.{document_of}
-use Rattle.edit_model.specs.Lawful.{IsForest, IsLawful}
+use Rattle.edit_model.specs.Lawful.{IsLawful}
 use Rattle.edit_model.specs.Run.{Run, final, for_each}
 use Rattle.edit_model.proofs.Documents.{document-link, document-unlink}
 use Rattle.edit_model.proofs.Forests.{forest-unlink, can_go}
@@ -27,9 +26,9 @@ use Rattle.edit_model.proofs.Steps.{final-bind, final-answer, for_each-cons, for
 use Rattle.edit_model.proofs.Tests.{goes, parent_there}
 use Rattle.edit_model.proofs.Trees.{tree_of-inside}
 use Rattle.edit_laws.specs.Order.{KeepsOrder, IsKeeping}
-use Rattle.edit_laws.proofs.Subsequences.{keeps_same, keeps_refl}
+use Rattle.edit_laws.proofs.Subsequences.{keeps_same}
 use Rattle.edit_laws.proofs.QuietActions.{by_made}
-use Rattle.edit_laws.proofs.Around.{Spot, fill, spot_other, spot_leaves, spot_seek, spot_top, count-fill}
+use Rattle.edit_laws.proofs.Around.{Spot, fill, spot_other, spot_leaves, spot_seek, count-fill}
 
 -- ---- the document
 

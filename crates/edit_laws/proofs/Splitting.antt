@@ -1,38 +1,37 @@
 -- Splitting a text keeps the order.
-use Rattle.std.proofs.Common.{◌≡◌, ◌≢◌, ℕ, ◌+◌, ◌-◌, ◌<◌, ◌≤◌, ◌^◌, zero, suc, Bool, true, false, ◌&&◌, ◌||◌, not, cond, eqb, if◌then◌else◌, List, [], ◌∷◌, ◌++◌, length, take, drop, map, Option, Some, None, is_none, nat_lt, nat_le, bytes_eq, refl, sym, ap, subst, ◌∙◌, inl, inr, arith, true≢false}
+use Rattle.std.proofs.Common.{◌≡◌, ◌≢◌, ℕ, ◌+◌, ◌-◌, ◌<◌, ◌≤◌, ◌^◌, zero, suc, Bool, true, false, ◌&&◌, ◌||◌, not, List, [], ◌++◌, length, take, drop, map, Option, Some, None, is_none, nat_lt, nat_le, bytes_eq, refl, sym, ap, subst, ◌∙◌, inl, inr, arith, true≢false}
 use Rattle.std.specs.Option.{option_map, option_map_or, option_and_then}
 use Rattle.std.specs.Prelude.{unwrap_or}
-use Rattle.std.proofs.lemmas.Bool.{cases_Bool, ne_eqb, eq-eqb, lt-ltb, le-leb}
+use Rattle.std.proofs.lemmas.Bool.{cases_Bool, ne_eqb, lt-ltb, le-leb}
 use Rattle.std.proofs.lemmas.Bool.Decides.{leb_tells}
 use Rattle.std.proofs.lemmas.List.{append-nil, append_assoc, length-append, length-drop, map-append, take-append-drop}
 use Rattle.std.proofs.lemmas.Slice.Eq.{bytes_eq-Decides}
 use Rattle.std.proofs.Math.ListN.{drop_of_length-le}
 use Rattle.dom_model.specs.declared.Content.{Content}
-use Rattle.dom_model.specs.declared.Content.TheVariants.{Document, Element, Words, Remark}
+use Rattle.dom_model.specs.declared.Content.TheVariants.{Words}
 use Rattle.dom_model.specs.Contents.{is_parent_at, may_have_children, char_length, chars_in}
-use Rattle.dom_model.specs.Editing.{editing_host, is_editable}
-use Rattle.dom_model.specs.Forest.{Forest, Seen, tops, times, is_label, first_in, count_of, IsWithin, seek, parent_of, children_of, next_of, content_of, tree_of, join, link, with_leaf, without, put_before, put_under, CanPut, IsDistinct}
+use Rattle.dom_model.specs.Editing.{editing_host}
+use Rattle.dom_model.specs.Forest.{Forest, Seen, tops, times, is_label, count_of, IsWithin, seek, parent_of, next_of, content_of, tree_of, join, link, with_leaf, without, put_before, put_under, CanPut, IsDistinct}
 use Rattle.dom_model.specs.Forest.Forest.{Nil, Tree}
 use Rattle.dom_model.specs.Revised.{revised}
 use Rattle.dom_model.specs.Places.{index_of}
 use Rattle.dom_model.proofs.Totals.{put_under_nowhere}
 use Rattle.dom_model.proofs.Stands.{Stands, seek_absent}
-use Rattle.dom_model.proofs.Links.{join-Nil, eqb_refl_true, seen, parent_count, child_of_parent, parent_of-with_leaf, seek-with_leaf_new}
+use Rattle.dom_model.proofs.Links.{join-Nil, eqb_refl_true, seen, parent_count, child_of_parent, parent_of-with_leaf}
 use Rattle.dom_model.proofs.Kept.{content_of-link, content_of-with_leaf_other}
 use Rattle.dom_model.proofs.Neighbours.{parent_of-next}
 use Rattle.edit_model.specs.State.{State}
-use Rattle.edit_model.specs.Kept.{Leaf, Letter, borne_by, leaves}
+use Rattle.edit_model.specs.Kept.{Letter, borne_by, leaves}
 use Rattle.edit_model.specs.Confined.{spliced, is_inside, is_made, is_open, is_own, is_editable_for, is_place, may_change, may_insert, may_replace}
 use Rattle.edit_model.specs.Edit.{Insert, Replace, is_made_edit, trees_after, with_replaced, edited}
 use Rattle.edit_model.specs.Action as action
 use Rattle.edit_model.specs.Action.{MakeWords, made, words_content, sent, grown, acted}
 use Rattle.edit_model.specs.History.{document_of}
-use Rattle.edit_model.specs.Lawful.{IsForest, IsLawful}
-use Rattle.edit_model.specs.Run.{Run, here, onward, final, ◌>>◌, done, send, grow, answer, given}
+use Rattle.edit_model.specs.Lawful.{IsLawful}
+use Rattle.edit_model.specs.Run.{here, onward, final, answer, given}
 use Rattle.edit_model.specs.Compositions.{characters_of, points_sent, split_under, split_words}
 use Rattle.edit_model.proofs.CommandParts.{final_command, command_acted}
 use Rattle.edit_model.proofs.Documents.{document-link, document-revised, document-with_leaf, within_below}
-use Rattle.edit_model.proofs.Forests.{fresh}
 use Rattle.edit_model.proofs.IslandRuns.{trees_made, trees_left}
 use Rattle.edit_model.proofs.OutsideRuns.{trees-grown, trees-sent}
 use Rattle.edit_model.proofs.Steps.{final-bind, final-answer, final-look, final-edit, value-edit, final-make_words, value-make_words, final-perform}
@@ -41,10 +40,10 @@ use Rattle.edit_laws.specs.Order.{KeepsOrder, IsKeeping}
 use Rattle.edit_laws.proofs.Subsequences.{keeps_same, keeps_refl}
 use Rattle.edit_laws.proofs.Leaves.{leaves-Nil, leaves-Tree, leaves-join}
 use Rattle.edit_laws.proofs.QuietActions.{keeping_along, keeping_edited, keeping_final}
-use Rattle.edit_laws.proofs.Around.{off_by, self_one, Around, Here, Below, Past, fill, count_around, Spot, spot_count, spot_put_top, spot_leaves, spot_as, count-fill}
+use Rattle.edit_laws.proofs.Around.{off_by, self_one, Around, Here, Below, Past, fill, count_around, Spot, spot_count, spot_put_top, spot_leaves, spot_as}
 use Rattle.edit_laws.proofs.Patterns.{other_label, count-join, without-join, put_after_node}
 use Rattle.edit_laws.proofs.Slides.{document_distinct}
-use Rattle.edit_laws.proofs.Lifting.{node_found, node_once, node_apart}
+use Rattle.edit_laws.proofs.Lifting.{node_found, node_once}
 use Rattle.edit_laws.proofs.Turned.{next_is}
 use Rattle.edit_laws.proofs.Seats.{Seat, seat}
 use Rattle.edit_laws.proofs.Loose.{IsLoose, loose_parent}

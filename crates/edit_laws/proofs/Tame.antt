@@ -1,15 +1,14 @@
 -- Runs that keep the order, by their parts.
-use Rattle.std.proofs.Common.{◌≡◌, ℕ, zero, suc, Bool, true, false, if◌then◌else◌, List, [], ◌∷◌, Option, Some, None}
+use Rattle.std.proofs.Common.{ℕ, zero, suc, Bool, true, false, if◌then◌else◌, List, [], ◌∷◌, Option, Some, None}
 use Rattle.dom_model.specs.declared.attributes.Attribute.{Attribute}
 use Rattle.edit_model.specs.State.{State}
 use Rattle.edit_model.specs.Edit.{Remove, Set, Unset, is_made_edit}
 use Rattle.edit_model.specs.Action.{Action, Change, MakeElement, MakeWords}
 use Rattle.edit_model.specs.Run.{Run, final, value, ◌>>=◌, act, answer, look, given, for_each, while_at_most, edit, remove, set_attribute, unset_attribute, make_element, make_words, perform}
 use Rattle.edit_model.proofs.Steps.{final-bind, final-answer, final-look, final-act}
-use Rattle.edit_laws.specs.Order.{IsKeeping}
 use Rattle.edit_laws.specs.Tame.{Tame, IsQuiet}
 use Rattle.edit_laws.proofs.Subsequences.{keeps_refl, keeps_trans}
-use Rattle.edit_laws.proofs.QuietActions.{keeping_final, quiet_keeps, same_trees}
+use Rattle.edit_laws.proofs.QuietActions.{keeping_final, quiet_keeps}
 
 pub tame_act : {A : Type 0} (a : Action) (tells : State → A) → IsQuiet a → Tame (act a tells)
 tame_act a tells quiet = record { keeps = λ s is. rw (final-act a tells s) (quiet_keeps a quiet s is) }

@@ -1,11 +1,11 @@
 -- Lists that a loop goes through from the end: the last children of a node go to just after it, and the siblings before a node to
 -- its front. Also a node goes over the bare one before it.
-use Rattle.std.proofs.Common.{◌≡◌, ◌≢◌, ℕ, ◌+◌, ◌<◌, Bool, true, false, ◌&&◌, cond, eqb, List, [], ◌∷◌, ◌++◌, reverse, Option, Some, None, refl, sym, ap, subst, ◌∙◌, arith}
+use Rattle.std.proofs.Common.{◌≡◌, ◌≢◌, ℕ, ◌+◌, ◌<◌, Bool, true, false, ◌&&◌, [], ◌∷◌, ◌++◌, Some, refl, sym, ap, subst, ◌∙◌, arith}
 use Rattle.std.specs.Option.{option_and_then, option_map_or}
 use Rattle.std.proofs.lemmas.Bool.{ne_eqb}
 use Rattle.dom_model.specs.declared.Content.{Content}
 use Rattle.dom_model.specs.Contents.{is_parent_at}
-use Rattle.dom_model.specs.Forest.{Forest, Seen, times, tops, first_in, after_in, count_of, IsDistinct, IsWithin, parent_of, children_of, next_of, first_of, tree_of, without, join}
+use Rattle.dom_model.specs.Forest.{Forest, Seen, times, tops, first_in, after_in, count_of, IsDistinct, parent_of, children_of, next_of, first_of, tree_of, without, join}
 use Rattle.dom_model.specs.Forest.Forest.{Nil, Tree}
 use Rattle.dom_model.proofs.Stands.{times-tops}
 use Rattle.dom_model.proofs.Lists.{after_in-middle}
@@ -16,16 +16,16 @@ use Rattle.edit_model.specs.Confined.{is_open, is_place, may_move}
 use Rattle.edit_model.specs.Edit.{Move, edited}
 use Rattle.edit_model.specs.History.{document_of}
 use Rattle.edit_model.specs.Lawful.{IsLawful}
-use Rattle.edit_model.specs.Run.{Run, final, for_each}
+use Rattle.edit_model.specs.Run.{final, for_each}
 use Rattle.edit_model.proofs.Steps.{final-bind, final-answer, final-look, final-edit, for_each-cons, for_each-nil}
-use Rattle.edit_laws.specs.Order.{KeepsOrder, IsKeeping}
-use Rattle.edit_laws.specs.Moves.{move_after, move_first, move_before}
+use Rattle.edit_laws.specs.Order.{IsKeeping}
+use Rattle.edit_laws.specs.Moves.{move_after, move_first}
 use Rattle.edit_laws.proofs.Subsequences.{keeps_refl, keeps_trans}
 use Rattle.edit_laws.proofs.QuietActions.{keeping_edited}
 use Rattle.edit_laws.proofs.Around.{Spot, spot_distinct, spot_as, spot_tree, spot_without, spot_put_top, spot_put_below, self_one, fill}
-use Rattle.edit_laws.proofs.Patterns.{count-join, join-assoc, Taken, take_last, take_one, put_after_node, put_first_below, put_before_node, drop_leaves, front_leaves, swap_leaves}
+use Rattle.edit_laws.proofs.Patterns.{count-join, join-assoc, take_last, take_one, put_after_node, put_first_below, put_before_node, drop_leaves, front_leaves, swap_leaves}
 use Rattle.edit_laws.proofs.Slides.{document_distinct, Slide, slide, parent_other, not_within_above, not_within_beside, goes_where_open, each_stays}
-use Rattle.edit_laws.proofs.Lifting.{node_parent, node_found, child_parent, node_apart, owner_inside, tops-join, move_stays, Ends, all_went, some_stay, Ran, final_move_before}
+use Rattle.edit_laws.proofs.Lifting.{node_parent, node_found, child_parent, node_apart, owner_inside, tops-join, move_stays, all_went, some_stay, Ran}
 use Rattle.edit_laws.proofs.Handing.{owner_children, top_parent, below_inside}
 
 -- ---- a forest turned round, before another

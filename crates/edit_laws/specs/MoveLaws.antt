@@ -1,7 +1,7 @@
 -- The laws of order of moves: each loop keeps the order where its nodes stand as said, whatever of it is left out.
 use Rattle.std.specs.Prelude.{◌≡◌, ℕ, List, [], ◌∷◌, ◌++◌, Some}
 use Rattle.dom_model.specs.declared.Content.{Content}
-use Rattle.dom_model.specs.Forest.{IsWithin, parent_of, children_of, next_of, content_of, tree_of}
+use Rattle.dom_model.specs.Forest.{IsWithin, children_of, next_of, content_of, tree_of}
 use Rattle.edit_model.specs.State.{State}
 use Rattle.edit_model.specs.Kept.{borne_by, leaves}
 use Rattle.edit_model.specs.Compositions.{move_each_last}

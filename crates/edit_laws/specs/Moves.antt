@@ -1,7 +1,7 @@
 -- Loops of moves, by name: each keeps the order where its nodes stand so that nothing is between them and where they go.
 use Rattle.std.specs.Prelude.{ℕ, List, Some, reverse}
 use Rattle.dom_model.specs.Forest.{parent_of, next_of, first_of}
-use Rattle.edit_model.specs.Run.{Run, ◌>>=◌, ◌>>◌, done, look, given, for_each, move}
+use Rattle.edit_model.specs.Run.{Run, ◌>>◌, done, look, given, for_each, move}
 
 -- n goes just before o, or just after it
 unfoldable pub move_before : ℕ → ℕ → Run (Unit {0})

@@ -3,7 +3,7 @@ use Rattle.std.specs.Prelude.{◌≡◌, ℕ, []}
 use Rattle.dom_model.specs.Forest.{tree_of}
 use Rattle.edit_model.specs.Kept.{leaves}
 use Rattle.edit_model.specs.State.{State}
-use Rattle.edit_model.specs.Edit.{Insert, Remove, Move, Replace, Set, Unset}
+use Rattle.edit_model.specs.Edit.{Insert, Move, Replace}
 use Rattle.edit_model.specs.Action.{Action, Change}
 use Rattle.edit_model.specs.Run.{Run, final}
 use Rattle.edit_laws.specs.Order.{KeepsOrder, IsKeeping}
