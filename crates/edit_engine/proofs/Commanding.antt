@@ -14,7 +14,7 @@ use Rattle.edit_engine.specs.declared.answers.ExecFault.TheVariants as exec
 use Rattle.edit_engine.specs.Clearing.{began_unlink, cleared_to, IsCleared, IsTakenBack}
 use Rattle.edit_engine.specs.Faults.{exec_fault}
 use Rattle.edit_engine.specs.Hosts.{affected_host}
-use Rattle.edit_engine.specs.Listed.{EachHeld}
+use Rattle.edit_doc.specs.Held.{EachHeld}
 use Rattle.edit_engine.specs.Unlink.{clear_link}
 
 pub opened_open : (d new : Whole) (h : Option ℕ) → new ≡ opened h true false d → IsOpen new

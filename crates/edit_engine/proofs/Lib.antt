@@ -1,13 +1,14 @@
 pub mod AllLinks
+pub mod Appending
 pub mod Carets
 pub mod Commanding
-pub mod CommonHost
 pub mod Depths
 pub mod Editors
-pub mod HostSteps
+pub mod Finding
 pub mod Lines
 pub mod Outcomes
 pub mod Ranks
 pub mod Seeing
 pub mod Shallower
+pub mod Upward
 pub mod Walking

@@ -17,7 +17,7 @@ use Rattle.edit_model.specs.Gives.{label_of, labels_of}
 use Rattle.edit_model.proofs.Steps.{labels_of_push}
 use Rattle.edit_doc.specs.Whole.{Whole, IsDoc}
 use Rattle.edit_doc.specs.Held.{Holds, IfHeld, Finds}
-use Rattle.edit_engine.specs.Listed.{EachHeld}
+use Rattle.edit_doc.specs.Held.{EachHeld}
 use Rattle.node_paths.specs.Onward.{onward_at, IsInner}
 use Rattle.node_paths.proofs.Onward.{children_led}
 use Rattle.node_paths.proofs.Visiting.{Visit, visit, size_from, inner_first}

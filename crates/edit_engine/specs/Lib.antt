@@ -1,5 +1,4 @@
 pub mod Lineage
-pub mod Listed
 pub mod Ranges
 pub mod Hosts
 pub mod Unlink
@@ -8,6 +7,7 @@ pub mod Editing
 pub mod Execution
 pub mod Queries
 pub mod Places
+pub mod Probe
 pub mod Views
 pub mod Faults
 pub mod Clearing

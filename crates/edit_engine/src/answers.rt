@@ -2,6 +2,7 @@
 
 use dom_model::Chars;
 use edit_doc::{EditFault, MarkFault};
+use script_read::Path;
 use std::alloc::AllocError;
 
 /// What executing a command answers (HTML Editing APIs, "execCommand()").
@@ -82,7 +83,7 @@ impl From<MarkFault> for PlaceFault {
 }
 
 /// What of an editor is printed.
-#[derive(Clone, Copy, PartialEq, Eq, Debug)]
+#[derive(Drop)]
 pub enum ViewKind {
     /// The HTML of the document.
     Html,
@@ -92,4 +93,28 @@ pub enum ViewKind {
     Points,
     /// The numbers of the document and of the history.
     Stat,
+    /// What the tests of nodes answer of the node at a path.
+    Probe {
+        path: Path,
+    },
+}
+
+/// Why something of an editor was not printed.
+#[derive(Clone, Copy, PartialEq, Eq, Debug)]
+pub enum ViewFault {
+    /// The path names no node.
+    BadPlace = 1,
+    /// There is no memory for the text.
+    Memory = 2,
+}
+
+impl From<AllocError> for ViewFault {
+    ghost use Rattle.std.specs.Prelude.{◌≡◌};
+    ghost use Rattle.edit_engine.specs.declared.answers.ViewFault.TheVariants.{Memory};
+
+    ghost from_gives = { λ _ fault. fault ≡ Memory };
+
+    fn from(_: AllocError) -> ViewFault {
+        ViewFault::Memory
+    }
 }

@@ -8,7 +8,7 @@ ghost use Rattle.edit_engine.specs.Commands.{supported_named, is_enabled, is_fla
 ghost use Rattle.edit_engine.specs.Editing.{Editing, new_editing, undone, redone};
 ghost use Rattle.edit_engine.specs.Execution.{outcome, command_outcome, run_outcome, Tells};
 ghost use Rattle.edit_engine.specs.Clearing.{began_unlink, IsCleared, IsTakenBack};
-ghost use Rattle.edit_engine.specs.Listed.{EachHeld};
+ghost use Rattle.edit_doc.specs.Held.{EachHeld};
 ghost use Rattle.edit_engine.specs.Unlink.{clear_link, links_touched};
 ghost use Rattle.edit_model.specs.Gives.{labels_of};
 ghost use Rattle.edit_model.specs.Run.{final, for_each};
@@ -18,11 +18,12 @@ ghost use Rattle.edit_engine.specs.Places.{pair_at, selecting, unselecting, mark
 ghost use Rattle.edit_engine.specs.Queries.{reply_of};
 ghost use Rattle.edit_engine.specs.Views.{view_text};
 
-use crate::answers::{Answer, ExecFault, PlaceFault, Reply, ViewKind};
+use crate::answers::{Answer, ExecFault, PlaceFault, Reply, ViewFault, ViewKind};
 use crate::commands::{Supported, is_value};
 use crate::hosts::affected_host;
 use crate::links::links_of;
-use crate::places::pair_at;
+use crate::places::{node_at, pair_at};
+use crate::probe::probe_line;
 use crate::queries::{ask, is_enabled};
 use crate::unlink::clear_links;
 use crate::views::{html_line, points_lines, stat_line, tree_lines};
@@ -271,15 +272,20 @@ impl Editor {
     }
 
     #[tactic(auto, unfolding(crate::specs::Views::stat_line))]
-    /// What is printed of the editor, in whole lines.
-    pub fn view(&self, alloc: Global, kind: ViewKind) -> Result<Vec<u8>, AllocError>
-        ensures { IfOk result (λ text. text.items ≡ view_text self.now kind) }
+    /// What is printed of the editor, in whole lines. A path that names no node is refused before any memory is taken.
+    pub fn view(&self, alloc: Global, kind: &ViewKind) -> Result<Vec<u8>, ViewFault>
+        ensures text { IfOk result (λ text. view_text self.now kind.now ≡ Some text.items) }
+        ensures bad_place { (result ≡ Err ViewFault.BadPlace) ↔ (view_text self.now kind.now ≡ None) }
     {
         match kind {
-            ViewKind::Html => html_line(alloc, &self.doc),
-            ViewKind::Tree => tree_lines(alloc, &self.doc),
-            ViewKind::Points => points_lines(alloc, &self.doc),
-            ViewKind::Stat => stat_line(alloc, &self.doc),
+            ViewKind::Html => Ok(html_line(alloc, &self.doc)?),
+            ViewKind::Tree => Ok(tree_lines(alloc, &self.doc)?),
+            ViewKind::Points => Ok(points_lines(alloc, &self.doc)?),
+            ViewKind::Stat => Ok(stat_line(alloc, &self.doc)?),
+            ViewKind::Probe { path } => match node_at(&self.doc, path) {
+                Some(node) => Ok(probe_line(alloc, &self.doc, node)?),
+                None => Err(ViewFault::BadPlace),
+            },
         }
     }
 }

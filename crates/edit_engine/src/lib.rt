@@ -10,10 +10,11 @@ mod editor;
 mod hosts;
 mod links;
 mod places;
+mod probe;
 mod queries;
 mod unlink;
 mod views;
 
-pub use answers::{Answer, ExecFault, PlaceFault, Reply, ViewKind};
+pub use answers::{Answer, ExecFault, PlaceFault, Reply, ViewFault, ViewKind};
 pub use commands::Supported;
 pub use editor::Editor;

@@ -6,10 +6,9 @@ ghost use Rattle.dom_model.specs.Forest.{preorder, parent_of};
 ghost use Rattle.point_order.specs.PointOrder.{is_placed, is_in_document};
 ghost use Rattle.edit_model.specs.Lawful.{IsPlacedPair};
 ghost use Rattle.edit_model.specs.Gives.{label_of, labels_of};
-ghost use Rattle.edit_doc.specs.Held.{Holds, IfHeld};
+ghost use Rattle.edit_doc.specs.Held.{Holds, IfHeld, EachHeld};
 ghost use Rattle.node_paths.specs.Onward.{onward_at, IsInner};
 ghost use Rattle.edit_engine.specs.Lineage.{lineage, is_above};
-ghost use Rattle.edit_engine.specs.Listed.{EachHeld};
 ghost use Rattle.edit_engine.specs.Ranges.{is_contained};
 ghost use Rattle.edit_engine.specs.Unlink.{is_link, is_simple_link, is_touched, links_in, links_of_pair};
 

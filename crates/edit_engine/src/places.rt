@@ -4,12 +4,13 @@ ghost use Rattle.std.specs.Prelude.{◌≡◌, IfSome, true};
 ghost use Rattle.point_order.specs.PointOrder.{is_placed, is_in_document};
 ghost use Rattle.edit_model.specs.Lawful.{IsPlacedPair};
 ghost use Rattle.edit_doc.specs.Whole.{IsClosed};
-ghost use Rattle.edit_doc.specs.Held.{Holds};
+ghost use Rattle.edit_doc.specs.Held.{Holds, Finds};
+ghost use Rattle.node_paths.specs.Paths.{label_at};
 ghost use Rattle.edit_engine.specs.Places.{point_in, point_at, pair_at};
 
 use edit_doc::{Doc, NodeRef, Pair, Point};
 use node_paths::resolve;
-use script_read::Place;
+use script_read::{Path, Place};
 
 // The point at an offset of a node of the document.
 fn point_in(doc: &Doc, node: NodeRef, offset: u32) -> Option<Point>
@@ -28,16 +29,25 @@ fn point_in(doc: &Doc, node: NodeRef, offset: u32) -> Option<Point>
     }
 }
 
+/// The node at a path. It takes no memory.
+pub(crate) fn node_at(doc: &Doc, path: &Path) -> Option<NodeRef>
+    requires { IsClosed doc.now }
+    ensures found { Finds doc.now result (label_at doc.now.state.trees path.now) }
+    ensures inner { IfSome result (λ r. is_in_document doc.now.state.trees r.label ≡ true) }
+{
+    doc.lawful();
+    let arena = doc.arena();
+    arena.lawful();
+    resolve(arena, path.as_slice())
+}
+
 #[tactic(auto, unfolding(crate::specs::Places::point_at))]
 fn point_at(doc: &Doc, place: &Place) -> Option<Point>
     requires { IsClosed doc.now }
     ensures point { result ≡ point_at doc.now.state.trees place.now }
     ensures placed { IfSome result (λ p. is_placed doc.now.state.trees p ≡ true) }
 {
-    doc.lawful();
-    let arena = doc.arena();
-    arena.lawful();
-    match resolve(arena, place.path.as_slice()) {
+    match node_at(doc, &place.path) {
         None => None,
         Some(node) => point_in(doc, node, place.offset),
     }

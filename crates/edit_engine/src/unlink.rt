@@ -4,9 +4,8 @@ ghost use Rattle.std.specs.Prelude.{◌≡◌, ℕ, List, IfOk, Some};
 ghost use Rattle.dom_model.specs.Forest.{parent_of, children_of};
 ghost use Rattle.edit_model.specs.Gives.{Gives, labels_of};
 ghost use Rattle.edit_model.specs.Run.{for_each};
-ghost use Rattle.edit_doc.specs.Held.{Holds, Keeps};
+ghost use Rattle.edit_doc.specs.Held.{Holds, EachHeld, Keeps};
 ghost use Rattle.edit_doc.specs.Whole.{IsOpen};
-ghost use Rattle.edit_engine.specs.Listed.{EachHeld};
 ghost use Rattle.edit_engine.specs.Unlink.{move_before, unwrapped, span_for, stripped, cleared, clear_link};
 
 use crate::hosts::is_editable_for;

@@ -1,46 +1,17 @@
--- Numbers by `parse`, the two first words of the options, and that `order_of` decides the grammar.
-use Rattle.std.proofs.Common.{◌≡◌, ◌↔◌, ℕ, ◌<◌, ◌≤◌, ◌^◌, Bool, true, false, ◌&&◌, cond, List, [], ◌∷◌, ◌++◌, length, take, drop, map, get_or, codes, Option, Some, None, is_some, nat_eq, Result, refl, sym, ◌∙◌, ap, subst, inl, inr, arith, rules}
-use Rattle.std.specs.Char.{is_ascii_digit}
+-- The two first words of the options, and that `order_of` decides the grammar.
+use Rattle.std.proofs.Common.{◌≡◌, ◌↔◌, ℕ, ◌<◌, ◌≤◌, Bool, true, false, ◌&&◌, cond, List, [], ◌∷◌, ◌++◌, length, take, drop, map, get_or, codes, Option, Some, None, is_some, nat_eq, refl, sym, ◌∙◌, ap, subst, inl, inr, arith}
 use Rattle.std.specs.Bool.{Decides}
-use Rattle.std.specs.List.{list_all, starts_with}
+use Rattle.std.specs.List.{starts_with}
 use Rattle.std.specs.Option.{option_map, option_and_then, option_map_or}
-use Rattle.std.specs.Result.{result_ok}
 use Rattle.std.specs.Str.{bytes_eq}
-use Rattle.std.specs.Str.Parse.{ParsesUnsigned, digits_value}
-use Rattle.std.proofs.lemmas.Bool.Decides.{nat_tests}
 use Rattle.std.proofs.lemmas.List.{take-append-drop}
 use Rattle.std.proofs.lemmas.Slice.Eq.{bytes_eq-Decides}
-use Rattle.std.proofs.lemmas.Str.Parse.{IsNumeralModel, numerals_by_value, parse_gives, digits_value_short}
 use Rattle.hedit.specs.declared.words.Order.{Order}
 use Rattle.hedit.specs.declared.words.Order.TheVariants.{Run, Check}
 use Rattle.hedit.specs.declared.words.Setting.{Setting}
 use Rattle.hedit.specs.declared.words.Setting.TheVariants.{Cap, Undo}
 use Rattle.hedit.specs.declared.words.Options.{Options}
-use Rattle.hedit.specs.Words.{is_number, number_of, name_of, amount_of, given, with_setting, none_given, setting_named, setting_joined, setting_read, joined_read, options_read, run_of, order_of, is_empty, IsSetting, AreSettings, IsOrder}
-
--- ---- numbers
-
-digits : IsNumeralModel (λ ds. list_all is_ascii_digit ds ≡ true) (digits_value 10)
-digits = numerals_by_value _ (search rules)
-
-pub record IsDigits (text : List ℕ) : Type 0 where
-  pub some : 0 < length text
-  pub few : length text ≤ 9
-  pub all : list_all is_ascii_digit text ≡ true
-
-is_digits : (text : List ℕ) → is_number text ≡ true → IsDigits text
-is_digits text is = record {
-  some = grind (arith, nat_tests, is);
-  few = grind (arith, nat_tests, is);
-  all = grind (arith, nat_tests, is);
-}
-
-pub parse_number : {E : Type 0} (text : List ℕ) (r : Result ℕ E) → ParsesUnsigned 32 10 text r → is_number text ≡ true → result_ok r ≡ number_of text
-parse_number text r parsed is =
-    let d = is_digits text is in
-    let below : digits_value 10 text < 10 ^ 9 = digits_value_short digits text 9 d.all d.few in
-    let e = parse_gives digits 32 text r parsed d.all d.some (omega (arith, below)) in
-    rw (e, is) refl
+use Rattle.hedit.specs.Words.{name_of, amount_of, given, with_setting, none_given, setting_named, setting_joined, setting_read, joined_read, options_read, run_of, order_of, is_empty, IsSetting, AreSettings, IsOrder}
 
 -- ---- the two first words
 

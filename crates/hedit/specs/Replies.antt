@@ -1,16 +1,17 @@
 -- The replies to the lines of a session, and the editor after each.
 use Rattle.std.specs.Prelude.{◌≡◌, ℕ, Bool, true, false, not, ◌&&◌, ◌||◌, ◌==◌, nat_le, nat_eq, min, List, [], ◌∷◌, ◌++◌, length, codes, bytes_eq, Option, Some, None, if◌then◌else◌}
-use Rattle.std.specs.List.{starts_with}
+use Rattle.std.specs.Option.{unwrap_or}
 use Rattle.std.specs.Fmt.{decimal}
 use Rattle.live_range.specs.LivePoints.{has_mark}
 use Rattle.live_range.specs.declared.places.Pair.{Pair}
 use Rattle.escaped_text.specs.Escaped.{escaped_bytes}
 use Rattle.script_read.specs.declared.act.Act.{Act}
 use Rattle.script_read.specs.declared.act.Act.TheVariants.{Select, Unselect, Mark, Unmark, Exec, Query, Undo, Redo, Probe, Html, Tree, Points, Stat}
-use Rattle.script_read.specs.Acts.{line_limit, is_name}
+use Rattle.script_read.specs.Acts.{is_name}
 use Rattle.script_read.specs.Reading.{Line, Long, Unknown, Known, line_of}
 use Rattle.edit_engine.specs.declared.answers.Reply.{Reply}
 use Rattle.edit_engine.specs.declared.answers.Reply.TheVariants as reply
+use Rattle.edit_engine.specs.declared.answers.ViewKind.{ViewKind}
 use Rattle.edit_engine.specs.declared.answers.ViewKind.TheVariants as view
 use Rattle.edit_engine.specs.Editing.{Editing, undone, redone, turned}
 use Rattle.edit_engine.specs.Execution.{Outcome, Refused, Deep, Full, Acted, outcome}
@@ -75,6 +76,14 @@ unfoldable pub redo_reply : Editing → ℕ → Replied
 redo_reply e n =
     replied (taken (codes "redo ") (min n (length e.history.redo))) (turned (min n (length e.history.redo)) redone e)
 
+-- ---- what is printed; a path may name no node
+
+abbrev pub shown : Option (List ℕ) → List ℕ
+shown text = unwrap_or text bad_place
+
+abbrev pub view_reply : Editing → ViewKind → Replied
+view_reply e kind = replied (shown (view_text e kind)) e
+
 -- ---- acts
 
 abbrev pub unknown_act : List ℕ
@@ -89,11 +98,11 @@ act_reply e (Exec name value) = exec_reply e (outcome e name value)
 act_reply e (Query kind name) = replied (query_text (reply_of e.state kind name)) e
 act_reply e (Undo count) = undo_reply e count
 act_reply e (Redo count) = redo_reply e count
-act_reply e (Probe path) = replied unknown_act e
-act_reply e Html = replied (view_text e view.Html) e
-act_reply e Tree = replied (view_text e view.Tree) e
-act_reply e Points = replied (view_text e view.Points) e
-act_reply e Stat = replied (view_text e view.Stat) e
+act_reply e (Probe path) = view_reply e (view.Probe path)
+act_reply e Html = view_reply e view.Html
+act_reply e Tree = view_reply e view.Tree
+act_reply e Points = view_reply e view.Points
+act_reply e Stat = view_reply e view.Stat
 
 -- ---- lines
 
@@ -106,14 +115,10 @@ read_reply e Long = replied (codes "! 3 long line\n") e
 read_reply e Unknown = replied unknown_act e
 read_reply e (Known act) = known_reply e act
 
--- the act `probe` isn't built yet: a line that begins with it is unknown
-abbrev pub is_unbuilt : List ℕ → Bool
-is_unbuilt line = nat_le (length line) line_limit && (bytes_eq line (codes "probe") || starts_with nat_eq line (codes "probe "))
-
 -- an empty line is no act
 unfoldable pub line_reply : Editing → List ℕ → Replied
 line_reply e line =
-    if bytes_eq line [] then replied [] e else (if is_unbuilt line then replied unknown_act e else read_reply e (line_of line))
+    if bytes_eq line [] then replied [] e else read_reply e (line_of line)
 
 -- each line is answered by the editor that the earlier lines left
 unfoldable pub replies_to : Editing → List (List ℕ) → List ℕ

@@ -1,9 +1,8 @@
 -- The words of the command line, after the program's name: `check`, or `run` and its options.
-use Rattle.std.specs.Prelude.{◌≡◌, ◌⊎◌, ℕ, Bool, true, false, ◌&&◌, nat_lt, nat_le, nat_eq, List, [], ◌∷◌, ◌++◌, length, drop, codes, bytes_eq, Option, Some, None, is_some, unwrap_or, if◌then◌else◌}
+use Rattle.std.specs.Prelude.{◌≡◌, ◌⊎◌, ℕ, Bool, true, false, ◌&&◌, nat_lt, nat_le, nat_eq, List, [], ◌∷◌, ◌++◌, drop, codes, bytes_eq, Option, Some, None, is_some, unwrap_or, if◌then◌else◌}
 use Rattle.std.specs.Option.{option_map, option_and_then, option_map_or}
-use Rattle.std.specs.List.{starts_with, list_all}
-use Rattle.std.specs.Char.{is_ascii_digit}
-use Rattle.std.specs.Str.Parse.{digits_value}
+use Rattle.std.specs.List.{starts_with}
+use Rattle.script_read.specs.Reading.{number_of}
 use Rattle.hedit.specs.declared.words.Order.{Order}
 use Rattle.hedit.specs.declared.words.Order.TheVariants.{Run, Check}
 use Rattle.hedit.specs.declared.words.Setting.{Setting}
@@ -13,15 +12,6 @@ use Rattle.hedit.specs.declared.words.Options.{Options}
 abbrev pub is_empty : List (List ℕ) → Bool
 is_empty [] = true
 is_empty (word ∷ words) = false
-
--- ---- numbers
-
--- 1 to 9 decimal digits; leading zeros count as digits
-abbrev pub is_number : List ℕ → Bool
-is_number text = nat_lt 0 (length text) && (nat_le (length text) 9 && list_all is_ascii_digit text)
-
-abbrev pub number_of : List ℕ → Option ℕ
-number_of text = if is_number text then Some (digits_value 10 text) else None
 
 -- ---- settings
 
@@ -40,7 +30,7 @@ abbrev pub usual : Setting → ℕ
 usual Cap = 2000000
 usual Undo = 100
 
--- the amount that a text gives a setting
+-- the amount that a text gives a setting; numbers are those of acts
 abbrev pub amount_of : Setting → List ℕ → Option ℕ
 amount_of s text = option_and_then (λ n. if nat_lt 0 n && nat_le n (greatest s) then Some n else None) (number_of text)
 

@@ -8,10 +8,11 @@ ghost use Rattle.edit_engine.specs.Editing.{undone, redone, turned};
 ghost use Rattle.edit_engine.specs.Execution.{outcome};
 ghost use Rattle.edit_engine.specs.Places.{pair_at};
 ghost use Rattle.edit_engine.specs.Queries.{reply_of};
-ghost use Rattle.hedit.specs.Replies.{truth, bad_place, select_reply, mark_reply, unmark_reply, exec_reply, query_text, taken, undo_reply, redo_reply, act_reply, read_reply, is_unbuilt, line_reply, IsNamed};
+ghost use Rattle.edit_engine.specs.Views.{view_text};
+ghost use Rattle.hedit.specs.Replies.{truth, bad_place, select_reply, mark_reply, unmark_reply, exec_reply, query_text, taken, undo_reply, redo_reply, shown, act_reply, read_reply, line_reply, IsNamed};
 
 use dom_model::{Chars, Name};
-use edit_engine::{Answer, Editor, ExecFault, PlaceFault, Reply, ViewKind};
+use edit_engine::{Answer, Editor, ExecFault, PlaceFault, Reply, ViewFault, ViewKind};
 use escaped_text::push_escaped;
 use html_names::QueryKind;
 use script_read::{Act, LineFault, Place, read_line};
@@ -185,14 +186,24 @@ fn answer_redo(alloc: Global, editor: &mut Editor, count: u32) -> Result<Vec<u8>
     redo_text(alloc, taken)?.as_bytes().to_vec(alloc)
 }
 
+fn view(alloc: Global, editor: &Editor, kind: &ViewKind) -> Result<Vec<u8>, AllocError>
+    ensures { IfOk result (λ bytes. bytes.items ≡ shown (view_text editor.now kind.now)) }
+{
+    match editor.view(alloc, kind) {
+        Ok(text) => Ok(text),
+        Err(ViewFault::BadPlace) => b"! 4 bad place\n".to_vec(alloc),
+        Err(ViewFault::Memory) => Err(AllocError),
+    }
+}
+
 // Takes an act, and answers it.
-fn take(alloc: Global, editor: &mut Editor, act: &Act) -> Result<Vec<u8>, AllocError>
-    requires { IsNamed act.now }
-    ensures text { IfOk result (λ bytes. bytes.items ≡ (act_reply editor.old act.now).text) }
-    ensures after { OnOk result (editor.new ≡ (act_reply editor.old act.now).after) }
+fn take(alloc: Global, editor: &mut Editor, act: Act) -> Result<Vec<u8>, AllocError>
+    requires { IsNamed act }
+    ensures text { IfOk result (λ bytes. bytes.items ≡ (act_reply editor.old act).text) }
+    ensures after { OnOk result (editor.new ≡ (act_reply editor.old act).after) }
 {
     match act {
-        Act::Select { anchor, focus } => select(editor, anchor, focus).to_vec(alloc),
+        Act::Select { anchor, focus } => select(editor, &anchor, &focus).to_vec(alloc),
         Act::Unselect => {
             editor.unselect();
             b"ok\n".to_vec(alloc)
@@ -201,24 +212,18 @@ fn take(alloc: Global, editor: &mut Editor, act: &Act) -> Result<Vec<u8>, AllocE
             name,
             anchor,
             focus,
-        } => mark(editor, name, anchor, focus)?.to_vec(alloc),
-        Act::Unmark { name } => truth(editor.unmark(name)).to_vec(alloc),
-        Act::Exec { name, value } => exec(alloc, editor, name, value)?.to_vec(alloc),
-        Act::Query { kind, name } => query(alloc, editor, *kind, name),
-        Act::Undo { count } => answer_undo(alloc, editor, *count),
-        Act::Redo { count } => answer_redo(alloc, editor, *count),
-        Act::Probe { .. } => b"! 2 unknown act\n".to_vec(alloc),
-        Act::Html => editor.view(alloc, ViewKind::Html),
-        Act::Tree => editor.view(alloc, ViewKind::Tree),
-        Act::Points => editor.view(alloc, ViewKind::Points),
-        Act::Stat => editor.view(alloc, ViewKind::Stat),
+        } => mark(editor, &name, &anchor, &focus)?.to_vec(alloc),
+        Act::Unmark { name } => truth(editor.unmark(&name)).to_vec(alloc),
+        Act::Exec { name, value } => exec(alloc, editor, &name, &value)?.to_vec(alloc),
+        Act::Query { kind, name } => query(alloc, editor, kind, &name),
+        Act::Undo { count } => answer_undo(alloc, editor, count),
+        Act::Redo { count } => answer_redo(alloc, editor, count),
+        Act::Probe { path } => view(alloc, editor, &ViewKind::Probe { path }),
+        Act::Html => view(alloc, editor, &ViewKind::Html),
+        Act::Tree => view(alloc, editor, &ViewKind::Tree),
+        Act::Points => view(alloc, editor, &ViewKind::Points),
+        Act::Stat => view(alloc, editor, &ViewKind::Stat),
     }
-}
-
-fn is_unbuilt(line: &[u8]) -> bool
-    ensures { result ≡ is_unbuilt line.now }
-{
-    line.len() <= 8192 && (line == b"probe".as_slice() || line.starts_with(b"probe "))
 }
 
 // Answers a line that may be an act.
@@ -227,7 +232,7 @@ fn answer_act(alloc: Global, editor: &mut Editor, line: &[u8]) -> Result<Vec<u8>
     ensures after { OnOk result (editor.new ≡ (read_reply editor.old (line_of line.now)).after) }
 {
     match read_line(alloc, line) {
-        Ok(act) => take(alloc, editor, &act),
+        Ok(act) => take(alloc, editor, act),
         Err(LineFault::Syntax) => b"! 1 syntax\n".to_vec(alloc),
         Err(LineFault::UnknownAct) => b"! 2 unknown act\n".to_vec(alloc),
         Err(LineFault::LongLine) => b"! 3 long line\n".to_vec(alloc),
@@ -243,9 +248,6 @@ pub fn answer_line(alloc: Global, editor: &mut Editor, line: &[u8]) -> Result<Ve
 {
     if line.is_empty() {
         return Ok(Vec::new(alloc));
-    }
-    if is_unbuilt(line) {
-        return b"! 2 unknown act\n".to_vec(alloc);
     }
     answer_act(alloc, editor, line)
 }

@@ -53,8 +53,8 @@ fn edits_pages(rt: HostRuntime) -> Result<(), Fail> {
         // commands that aren't supported, and lines outside the grammar
         (
             PLAIN,
-            "exec insertHTML <b>y</b>\nexec paste\nexec frobnicate\nquery supported paste\nselect 0/9:0 0:0\njump\nundo x\nprobe 0\nhtml\n",
-            "false\nfalse\nfalse\nfalse\n! 4 bad place\n! 2 unknown act\n! 1 syntax\n! 2 unknown act\n<div contenteditable=\"true\"><p>x</p></div>\n",
+            "exec insertHTML <b>y</b>\nexec paste\nexec frobnicate\nquery supported paste\nselect 0/9:0 0:0\njump\nundo x\nprobe 0:1\nprobes 0\nhtml\n",
+            "false\nfalse\nfalse\nfalse\n! 4 bad place\n! 2 unknown act\n! 1 syntax\n! 1 syntax\n! 2 unknown act\n<div contenteditable=\"true\"><p>x</p></div>\n",
         ),
         // the default single-line container
         (
@@ -71,6 +71,49 @@ fn edits_pages(rt: HostRuntime) -> Result<(), Fail> {
     ] {
         let written = answer(rt.alloc(), ["run"].as_slice(), page, acts)?;
         assert_eq!(rt; written.as_slice(), want.as_bytes(), "on {acts:?}");
+    }
+    Ok(())
+}
+
+#[test]
+fn tells_what_tests_answer(rt: HostRuntime) -> Result<(), Fail> {
+    for (page, path, want) in [
+        // a line break that ends its block shows no line
+        (
+            "<div contenteditable=\"true\"><p>a<br></p></div>",
+            "0/0/1",
+            "editable yes host 0 block no visible no whitespace no collapsed-whitespace no extraneous yes collapsed-break no prop no display inline white-space normal\n",
+        ),
+        // a text has no style of its own
+        (
+            "<div contenteditable=\"true\"><p> <b>a</b></p></div>",
+            "0/0/0",
+            "editable yes host 0 block no visible no whitespace yes collapsed-whitespace yes extraneous no collapsed-break no prop no display - white-space -\n",
+        ),
+        // a host isn't editable, nor is the document
+        (
+            "<div contenteditable=\"true\"><p>x</p></div>",
+            "0",
+            "editable no host none block yes visible yes whitespace no collapsed-whitespace no extraneous no collapsed-break no prop no display block white-space normal\n",
+        ),
+        (
+            "<div contenteditable=\"true\"><p>x</p></div>",
+            ".",
+            "editable no host none block yes visible yes whitespace no collapsed-whitespace no extraneous no collapsed-break no prop no display - white-space -\n",
+        ),
+        // the one line break of a block holds it open; the nearest host counts
+        (
+            "<div contenteditable=\"true\"><pre contenteditable=\"\"><p style=\"display: list-item\"><br></p></pre></div>",
+            "0/0/0/0",
+            "editable yes host 0/0 block no visible yes whitespace no collapsed-whitespace no extraneous no collapsed-break yes prop yes display inline white-space pre\n",
+        ),
+        // paths that name no node
+        ("<div contenteditable=\"true\"></div>", "1", "! 4 bad place\n"),
+        ("<div contenteditable=\"true\"></div>", "0/0", "! 4 bad place\n"),
+    ] {
+        let acts = format!(in rt.alloc(); "probe {path}\n")?;
+        let written = answer(rt.alloc(), ["run"].as_slice(), page, acts.as_str())?;
+        assert_eq!(rt; written.as_slice(), want.as_bytes(), "on {path:?} of {page:?}");
     }
     Ok(())
 }

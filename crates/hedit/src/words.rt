@@ -1,10 +1,9 @@
 //! The words of the command line, after the program's name.
 
 ghost use Rattle.std.specs.Prelude.{◌≡◌, ◌↔◌, map, string_bytes};
-ghost use Rattle.std.specs.Char.{is_ascii_digit};
-ghost use Rattle.std.specs.List.{list_all};
-ghost use Rattle.hedit.specs.Words.{is_number, number_of, greatest, amount_of, given, with_setting, setting_named, setting_read, joined_read, options_read, order_of, IsOrder};
+ghost use Rattle.hedit.specs.Words.{greatest, amount_of, given, with_setting, setting_named, setting_read, joined_read, options_read, order_of, IsOrder};
 
+use script_read::read_number;
 use std::marker::Copy;
 
 /// What the program is asked to do.
@@ -56,28 +55,6 @@ impl Options {
     }
 }
 
-fn all_digits(text: &str) -> bool
-    ensures { result ≡ list_all is_ascii_digit text.now }
-{
-    text.bytes().all(|b| b.is_ascii_digit())
-}
-
-fn is_number(text: &str) -> bool
-    ensures { result ≡ is_number text.now }
-{
-    !text.is_empty() && text.len() <= 9 && all_digits(text)
-}
-
-fn read_number(text: &str) -> Option<u32>
-    ensures { result ≡ number_of text.now }
-{
-    if is_number(text) {
-        text.parse::<u32>().ok()
-    } else {
-        None
-    }
-}
-
 fn greatest(setting: Setting) -> u32
     ensures { result ≡ greatest setting }
 {
@@ -90,7 +67,7 @@ fn greatest(setting: Setting) -> u32
 fn read_amount(setting: Setting, text: &str) -> Option<u32>
     ensures { result ≡ amount_of setting text.now }
 {
-    let amount = read_number(text)?;
+    let amount = read_number(text.as_bytes())?;
     if 0 < amount && amount <= greatest(setting) {
         Some(amount)
     } else {

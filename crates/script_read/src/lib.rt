@@ -1,4 +1,4 @@
-//! Lines of a session, read into acts. [`read_line`] is the whole grammar.
+//! Lines of a session, read into acts. [`read_line`] is the whole grammar, and [`read_number`] that of its numbers.
 #![tactic(auto)]
 
 mod act;
@@ -12,4 +12,5 @@ mod verb;
 pub use act::{Act, LineFault, Path, Place};
 pub use laws::printed_texts_are_read_back;
 pub use line::read_line;
+pub use parts::read_number;
 pub use verb::Verb;

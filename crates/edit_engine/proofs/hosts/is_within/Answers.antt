@@ -1,6 +1,6 @@
 use Rattle.std.proofs.Common.{sym, ◌∙◌, arith}
 use Rattle.dom_model.proofs.Within.{depth_of-parent}
-use Rattle.edit_engine.proofs.HostSteps.{within_on, within_here, within_none}
+use Rattle.edit_engine.proofs.Upward.{within_on, within_here, within_none}
 use Rattle.edit_engine.proofs.hosts.is_within.Goals as goal
 
 pub loop-at-smaller : goal.loop-at-smaller

@@ -4,7 +4,7 @@ use Rattle.dom_model.specs.Forest.{preorder}
 use Rattle.point_order.specs.PointOrder.{is_in_document}
 use Rattle.edit_model.specs.Gives.{label_of, labels_of}
 use Rattle.edit_doc.specs.Held.{IfHeld}
-use Rattle.edit_engine.specs.Listed.{EachHeld}
+use Rattle.edit_doc.specs.Held.{EachHeld}
 use Rattle.edit_engine.specs.Unlink.{is_link, is_touched}
 use Rattle.node_paths.specs.Onward.{onward_at, IsInner}
 use Rattle.node_paths.proofs.Visiting.{size_from}

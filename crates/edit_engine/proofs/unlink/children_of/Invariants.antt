@@ -2,7 +2,7 @@ use Rattle.std.proofs.Common.{◌≡◌, ◌++◌}
 use Rattle.dom_model.specs.Forest.{tops, children_of}
 use Rattle.edit_model.specs.Gives.{label_of, labels_of}
 use Rattle.edit_doc.specs.Held.{IfHeld}
-use Rattle.edit_engine.specs.Listed.{EachHeld}
+use Rattle.edit_doc.specs.Held.{EachHeld}
 use Rattle.node_paths.specs.Onward.{onward_at, IsInner}
 use Rattle.node_paths.proofs.Visiting.{size_from}
 use Rattle.edit_engine.proofs.unlink.children_of.Given as goal

@@ -1,0 +1,146 @@
+//! What the tests of nodes answer of a node, on one line.
+
+ghost use Rattle.std.specs.Prelude.{◌≡◌, ◌++◌, OnOk, IfOk, IfSome, codes};
+ghost use Rattle.dom_model.specs.Contents.{is_element_at};
+ghost use Rattle.dom_model.specs.Editing.{editing_host};
+ghost use Rattle.node_arena.specs.Held.{label};
+ghost use Rattle.edit_doc.specs.Whole.{IsClosed};
+ghost use Rattle.edit_doc.specs.Held.{Holds, IfHeld};
+ghost use Rattle.edit_engine.specs.Probe.{tested, path_or_none, host_words, text_words, break_words, style_text, style_words, probe_line};
+
+use doc_tests::{
+    editing_host, is_block, is_block_prop, is_collapsed_break, is_collapsed_whitespace,
+    is_extraneous_break, is_visible, is_whitespace, resolved,
+};
+use edit_doc::{Doc, Kind, NodeRef};
+use escaped_text::push_chars;
+use node_paths::push_path;
+use std::alloc::{AllocError, Global};
+use style_table::Property;
+
+// Appends a test: its words and its answer.
+fn push_test(bytes: &mut Vec<u8>, words: &[u8], answer: bool) -> Result<(), AllocError>
+    ensures ok { OnOk result (bytes.new.items ≡ bytes.old.items ++ tested words.now answer) }
+{
+    bytes.extend_from_slice(words)?;
+    bytes.extend_from_slice(if answer { b" yes" } else { b" no" })?;
+    Ok(())
+}
+
+// Appends the path of a node, if there is one.
+fn push_node(
+    alloc: Global,
+    bytes: &mut Vec<u8>,
+    doc: &Doc,
+    node: Option<NodeRef>,
+) -> Result<(), AllocError>
+    requires closed { IsClosed doc.now }
+    requires held { IfHeld doc.now node }
+    ensures ok { OnOk result (bytes.new.items ≡ bytes.old.items ++ path_or_none doc.now.state.trees (label node)) }
+{
+    match node {
+        None => bytes.extend_from_slice(b"none"),
+        Some(node) => {
+            doc.lawful();
+            let arena = doc.arena();
+            arena.lawful();
+            push_path(alloc, bytes, arena, node)
+        }
+    }
+}
+
+fn push_host(
+    alloc: Global,
+    bytes: &mut Vec<u8>,
+    doc: &Doc,
+    host: Option<NodeRef>,
+) -> Result<(), AllocError>
+    requires closed { IsClosed doc.now }
+    requires held { IfHeld doc.now host }
+    ensures ok { OnOk result (bytes.new.items ≡ bytes.old.items ++ host_words doc.now.state.trees (label host)) }
+{
+    push_test(bytes, b"editable", host.is_some())?;
+    bytes.extend_from_slice(b" host ")?;
+    push_node(alloc, bytes, doc, host)
+}
+
+#[tactic(auto, unfolding(crate::specs::Probe::text_words))]
+fn push_text_tests(bytes: &mut Vec<u8>, doc: &Doc, node: NodeRef) -> Result<(), AllocError>
+    requires { Holds doc.now node }
+    ensures ok { OnOk result (bytes.new.items ≡ bytes.old.items ++ text_words doc.now.state.trees node.label) }
+{
+    push_test(bytes, b" block", is_block(doc, node))?;
+    push_test(bytes, b" visible", is_visible(doc, node))?;
+    push_test(bytes, b" whitespace", is_whitespace(doc, node))?;
+    push_test(bytes, b" collapsed-whitespace", is_collapsed_whitespace(doc, node))?;
+    Ok(())
+}
+
+#[tactic(auto, unfolding(crate::specs::Probe::break_words))]
+fn push_break_tests(bytes: &mut Vec<u8>, doc: &Doc, node: NodeRef) -> Result<(), AllocError>
+    requires { Holds doc.now node }
+    ensures ok { OnOk result (bytes.new.items ≡ bytes.old.items ++ break_words doc.now.state.trees node.label) }
+{
+    push_test(bytes, b" extraneous", is_extraneous_break(doc, node))?;
+    push_test(bytes, b" collapsed-break", is_collapsed_break(doc, node))?;
+    push_test(bytes, b" prop", is_block_prop(doc, node))?;
+    Ok(())
+}
+
+fn is_element(doc: &Doc, node: NodeRef) -> bool
+    requires { Holds doc.now node }
+    ensures { result ≡ is_element_at doc.now.state.trees node.label }
+{
+    matches!(doc.kind(node), Kind::Element)
+}
+
+#[tactic(auto, unfolding(crate::specs::Probe::style_text))]
+fn push_style(
+    alloc: Global,
+    bytes: &mut Vec<u8>,
+    doc: &Doc,
+    node: NodeRef,
+    property: Property,
+) -> Result<(), AllocError>
+    requires { Holds doc.now node }
+    ensures ok { OnOk result (bytes.new.items ≡ bytes.old.items ++ style_text doc.now.state.trees node.label property) }
+{
+    if !is_element(doc, node) {
+        return bytes.extend_from_slice(b"-");
+    }
+    let text = resolved(alloc, doc, node, property)?;
+    push_chars(bytes, text.as_slice())
+}
+
+#[tactic(auto, unfolding(crate::specs::Probe::style_words))]
+fn push_styles(
+    alloc: Global,
+    bytes: &mut Vec<u8>,
+    doc: &Doc,
+    node: NodeRef,
+) -> Result<(), AllocError>
+    requires { Holds doc.now node }
+    ensures ok { OnOk result (bytes.new.items ≡ bytes.old.items ++ style_words doc.now.state.trees node.label) }
+{
+    bytes.extend_from_slice(b" display ")?;
+    push_style(alloc, bytes, doc, node, Property::Display)?;
+    bytes.extend_from_slice(b" white-space ")?;
+    push_style(alloc, bytes, doc, node, Property::WhiteSpace)?;
+    Ok(())
+}
+
+/// What the tests answer of a node.
+#[tactic(auto, unfolding(crate::specs::Probe::probe_line))]
+pub(crate) fn probe_line(alloc: Global, doc: &Doc, node: NodeRef) -> Result<Vec<u8>, AllocError>
+    requires closed { IsClosed doc.now }
+    requires held { Holds doc.now node }
+    ensures { IfOk result (λ text. text.items ≡ probe_line doc.now.state.trees node.label) }
+{
+    let mut bytes = Vec::new(alloc);
+    push_host(alloc, &mut bytes, doc, editing_host(doc, node))?;
+    push_text_tests(&mut bytes, doc, node)?;
+    push_break_tests(&mut bytes, doc, node)?;
+    push_styles(alloc, &mut bytes, doc, node)?;
+    bytes.push(b'\n')?;
+    Ok(bytes)
+}
