@@ -15,3 +15,4 @@ pub mod Renaming
 pub mod NewElements
 pub mod Hosts
 pub mod Splitting
+pub mod Fronts

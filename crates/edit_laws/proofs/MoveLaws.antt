@@ -48,14 +48,14 @@ turned_back f = turned_twice f Nil Nil ∙ join-Nil f
 backwards : (f : Forest Content) (list : List ℕ) → tops f ≡ list → tops (turned f Nil) ≡ reverse list
 backwards f list e = tops-turned f Nil ∙ (append-nil (reverse (tops f)) ∙ ap reverse e)
 
-headed_first : (f : Forest Content) (o : ℕ) → first_in (tops f) ≡ Some o → Headed f o (tops (rest_in f))
+pub headed_first : (f : Forest Content) (o : ℕ) → first_in (tops f) ≡ Some o → Headed f o (tops (rest_in f))
 headed_first Nil o e = absurd (let e' = e in cc)
 headed_first (Tree m c ks rest) o e =
     let head : m ≡ o = (let e' = e in cc) in
     record { content = c; kids = ks; post = rest; is = ap (λ k. Tree k c ks rest) head; seconds = refl }
 
 -- a child of a loose node is loose
-loose_child : (s : State) → IsLawful s → (p q : ℕ) (before after : List ℕ) → children_of s.trees q ≡ before ++ p ∷ after → IsLoose s q → IsLoose s p
+pub loose_child : (s : State) → IsLawful s → (p q : ℕ) (before after : List ℕ) → children_of s.trees q ≡ before ++ p ∷ after → IsLoose s q → IsLoose s p
 loose_child s is p q before after kids none = loose_parent s is p q (by_seen (seek None s.trees q) refl) none
   where
     among : 0 < times (children_of s.trees q) p

@@ -1,11 +1,13 @@
 -- The laws of order of moves: each loop keeps the order where its nodes stand as said, whatever of it is left out.
-use Rattle.std.specs.Prelude.{◌≡◌, ℕ, List, [], ◌∷◌, ◌++◌, Some}
+use Rattle.std.specs.Prelude.{◌≡◌, ℕ, List, [], ◌∷◌, ◌++◌, true, false, Some}
 use Rattle.dom_model.specs.declared.Content.{Content}
-use Rattle.dom_model.specs.Forest.{IsWithin, children_of, next_of, content_of, tree_of}
+use Rattle.dom_model.specs.Contents.{is_parent_at}
+use Rattle.dom_model.specs.Forest.{IsWithin, parent_of, children_of, next_of, content_of, tree_of}
 use Rattle.edit_model.specs.State.{State}
 use Rattle.edit_model.specs.Kept.{borne_by, leaves}
 use Rattle.edit_model.specs.Compositions.{move_each_last}
-use Rattle.edit_model.specs.Run.{final}
+use Rattle.edit_model.specs.Confined.{is_made, is_open}
+use Rattle.edit_model.specs.Run.{final, ◌>>◌}
 use Rattle.edit_laws.specs.Order.{KeepsOrder, IsKeeping}
 use Rattle.edit_laws.specs.Moves.{move_before, move_all_before, move_all_after, move_all_first}
 
@@ -50,3 +52,16 @@ NextGoesOver =
 abbrev pub MovesOutAreLeftOut : Type 0
 MovesOutAreLeftOut =
     (list : List ℕ) (x : ℕ) (s : State) → IsKeeping s → (IsWithin s.trees 0 x → ⊥) → KeepsOrder s (final (move_each_last list x) s)
+
+-- the first children of a bare node go to the end of the sibling just before it, which the command made and which may have
+-- children, and then those after them to just before the node
+abbrev pub ChildrenPart : Type 0
+ChildrenPart =
+    (front list rest : List ℕ) (o x : ℕ) (s : State) → IsKeeping s → next_of s.trees x ≡ Some o → is_made s x ≡ true → is_parent_at s.trees x ≡ true
+    → children_of s.trees o ≡ front ++ (list ++ rest) → IsBare s o → KeepsOrder s (final (move_each_last front x >> move_all_before list o) s)
+
+-- the same where the other node isn't in the document, and the parent of the node isn't open: none of them goes
+abbrev pub ChildrenStay : Type 0
+ChildrenStay =
+    (front list rest : List ℕ) (o x q : ℕ) (s : State) → IsKeeping s → parent_of s.trees o ≡ Some q → is_open s q ≡ false → (IsWithin s.trees 0 x → ⊥)
+    → children_of s.trees o ≡ front ++ (list ++ rest) → KeepsOrder s (final (move_each_last front x >> move_all_before list o) s)

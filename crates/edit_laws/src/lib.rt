@@ -13,6 +13,7 @@ pub use laws::{
     tame_with_looks,
 };
 pub use moves::{
-    first_children_go_before, first_children_go_over, last_children_go_after,
-    moves_out_are_left_out, next_goes_over, next_siblings_go_in, previous_siblings_go_in,
+    children_part, children_stay, first_children_go_before, first_children_go_over,
+    last_children_go_after, moves_out_are_left_out, next_goes_over, next_siblings_go_in,
+    previous_siblings_go_in,
 };

@@ -1,7 +1,7 @@
 //! The laws of order of loops of moves, each the contract of a function that does nothing. Of a loop all moves are made or
 //! none, and the order is kept either way.
 
-ghost use Rattle.edit_laws.specs.MoveLaws.{FirstChildrenGoBefore, LastChildrenGoAfter, FirstChildrenGoOver, NextSiblingsGoIn, PreviousSiblingsGoIn, NextGoesOver, MovesOutAreLeftOut};
+ghost use Rattle.edit_laws.specs.MoveLaws.{FirstChildrenGoBefore, LastChildrenGoAfter, FirstChildrenGoOver, NextSiblingsGoIn, PreviousSiblingsGoIn, NextGoesOver, MovesOutAreLeftOut, ChildrenPart, ChildrenStay};
 
 /// The first children of a bare node go to just before it.
 pub fn first_children_go_before()
@@ -36,4 +36,14 @@ pub fn next_goes_over()
 /// Any nodes go to the end of a node that is not in the document.
 pub fn moves_out_are_left_out()
     ensures { MovesOutAreLeftOut }
+{}
+
+/// The first children of a bare node go to a made one before it, and those after them to just before the node.
+pub fn children_part()
+    ensures { ChildrenPart }
+{}
+
+/// None of them goes where the made one isn't in the document and the node's parent isn't open.
+pub fn children_stay()
+    ensures { ChildrenStay }
 {}
