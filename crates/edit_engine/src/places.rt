@@ -53,14 +53,27 @@ fn point_at(doc: &Doc, place: &Place) -> Option<Point>
     }
 }
 
-/// The pair of points at two places, where there are such points.
+fn is_same_place(place: &Place, other: &Place) -> bool
+    ensures { result ≡ true → place.now ≡ other.now }
+{
+    place.offset == other.offset && place.path.as_slice() == other.path.as_slice()
+}
+
+/// The pair of points at two places, where there are such points. One place is looked for once.
 #[tactic(auto, unfolding(crate::specs::Places::pair_at))]
 pub(crate) fn pair_at(doc: &Doc, anchor: &Place, focus: &Place) -> Option<Pair>
     requires { IsClosed doc.now }
     ensures pair { result ≡ pair_at doc.now.state.trees anchor.now focus.now }
     ensures placed { IfSome result (λ p. IsPlacedPair doc.now.state.trees p) }
 {
-    let anchor = point_at(doc, anchor)?;
-    let focus = point_at(doc, focus)?;
-    Some(Pair { anchor, focus })
+    let first = point_at(doc, anchor)?;
+    let second = if is_same_place(anchor, focus) {
+        first
+    } else {
+        point_at(doc, focus)?
+    };
+    Some(Pair {
+        anchor: first,
+        focus: second,
+    })
 }
