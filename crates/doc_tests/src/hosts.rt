@@ -27,7 +27,7 @@ pub fn is_editable(doc: &Doc, host: NodeRef, node: NodeRef) -> bool
     node_tests::is_editable(nodes(doc), host, node)
 }
 
-/// The editing host with which a node is editable. `None` where it isn't editable; so a host that stands in no other has none.
+/// The editing host with which a node is editable. `None` where it isn't editable; an editing host itself never is.
 pub fn editing_host(doc: &Doc, node: NodeRef) -> Option<NodeRef>
     requires { Holds doc.now node }
     ensures { Finds doc.now result (editing.editing_host doc.now.state.trees node.label) }
