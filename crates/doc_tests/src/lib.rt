@@ -22,3 +22,6 @@ pub use shown::{
     is_block_prop, is_collapsed_break, is_collapsed_whitespace, is_extraneous_break,
     is_formattable, is_visible, is_whitespace,
 };
+
+#[cfg(test)]
+mod tests;
