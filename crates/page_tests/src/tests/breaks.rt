@@ -5,7 +5,7 @@ use node_tests::{follows_break, precedes_break};
 use std::test::Fail;
 
 // A page, the label of a node, and whether it follows and precedes a line break.
-static BREAKS: [(&str, u32, bool, bool); 22] = [
+static BREAKS: [(&str, u32, bool, bool); 33] = [
     ("<p>a<br>b</p>", 2, true, false),
     ("<p>a<br>b</p>", 3, false, true),
     ("<p>a<br>b</p>", 4, true, true),
@@ -28,6 +28,17 @@ static BREAKS: [(&str, u32, bool, bool); 22] = [
     ("<b>a<br></b>c", 4, false, true),
     ("a<p style=\"display: none\">b</p>c", 1, true, false),
     ("a<p style=\"display: none\">b</p>c", 4, false, true),
+    ("<p>a</p><p><b></b>c</p>d", 0, true, true),
+    ("<p>a</p><p><b></b>c</p>d", 2, true, true),
+    ("<p>a</p><p><b></b>c</p>d", 4, true, false),
+    ("<p>a</p><p><b></b>c</p>d", 5, true, true),
+    ("<p>a</p><p><b></b>c</p>d", 6, true, true),
+    ("a<br>b<i>c</i>", 1, true, false),
+    ("a<br>b<i>c</i>", 2, false, true),
+    ("a<br>b<i>c</i>", 3, true, false),
+    ("a<br>b<i>c</i>", 4, false, true),
+    ("a<br>b<i>c</i>", 5, false, true),
+    ("<p style=\"display: none\">a</p>b", 3, true, true),
 ];
 
 #[test]

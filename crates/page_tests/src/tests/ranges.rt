@@ -5,8 +5,9 @@ ghost use Rattle.dom_model.specs.Forest.{count_of};
 
 use super::read;
 use live_range::Point;
-use node_arena::{Arena, NodeList};
+use node_arena::{Arena, NodeRef};
 use node_tests::*;
+use std::alloc::{AllocError, Global};
 use std::process::Abort;
 use std::test::Fail;
 
@@ -222,18 +223,12 @@ fn check_each(rt: &impl Abort, arena: &Arena, range: (Point, Point), row: &Range
     }
 }
 
-// Whether a list names the nodes of these labels in this order.
-fn has_labels(list: &NodeList, labels: &[u32]) -> bool {
-    let nodes = list.as_slice();
-    if nodes.len() != labels.len() {
-        return false;
+fn labels(alloc: Global, list: &[NodeRef]) -> Result<Vec<u32>, AllocError> {
+    let mut labels = Vec::new(alloc);
+    for node in list {
+        labels.push(node.label)?;
     }
-    for i in 0..nodes.len() {
-        if nodes[i].label != labels[i] {
-            return false;
-        }
-    }
-    true
+    Ok(labels)
 }
 
 #[test]
@@ -254,9 +249,56 @@ fn ranges_contain_nodes(rt: HostRuntime) -> Result<(), Fail> {
         );
         check_each(&rt, &arena, range, row);
         let contained = contained_nodes(rt.alloc(), &arena, range)?;
-        assert!(rt; has_labels(&contained, row.contained), "{}", row.page);
+        assert_eq!(rt;
+            labels(rt.alloc(), contained.as_slice())?.as_slice(),
+            row.contained
+        );
         let effective = effective_nodes(rt.alloc(), &arena, range)?;
-        assert!(rt; has_labels(&effective, row.effective), "{}", row.page);
+        assert_eq!(rt;
+            labels(rt.alloc(), effective.as_slice())?.as_slice(),
+            row.effective
+        );
+    }
+    Ok(())
+}
+
+static ISLAND: &str =
+    "<div contenteditable=\"true\">a<u contenteditable=\"false\">b<i contenteditable=\"true\">c</i></u></div><p>d</p>";
+
+// The labels of the ends of a range in the page above, and that of its host.
+static HOSTS: [(u32, u32, Option<u32>); 9] = [
+    (2, 2, Some(1)),
+    (1, 2, Some(1)),
+    (2, 6, Some(1)),
+    (6, 6, Some(5)),
+    (5, 6, Some(5)),
+    (4, 4, None),
+    (2, 4, None),
+    (2, 8, None),
+    (8, 8, None),
+];
+
+#[test]
+fn ranges_have_hosts(rt: HostRuntime) -> Result<(), Fail> {
+    let arena = read(rt.alloc(), ISLAND)?;
+    for (start, end, wanted) in &HOSTS {
+        let start = arena.find(*start).ok_or("start")?;
+        let end = arena.find(*end).ok_or("end")?;
+        let range = (
+            Point {
+                label: start.label,
+                offset: 0,
+            },
+            Point {
+                label: end.label,
+                offset: 0,
+            },
+        );
+        let host = match affected_host(&arena, range) {
+            Some(host) => Some(host.label),
+            None => None,
+        };
+        assert_eq!(rt; host, *wanted);
     }
     Ok(())
 }
