@@ -1,9 +1,11 @@
 -- What a walk over a tree looks for. No public clause cites this module.
-use Rattle.std.specs.Prelude.{◌≡◌, ℕ, ◌<◌, ◌≤◌, Bool, false, List, [], ◌∷◌, Some, if◌then◌else◌}
+use Rattle.std.specs.Prelude.{◌≡◌, ℕ, ◌<◌, ◌≤◌, Bool, true, false, List, [], ◌∷◌, Some, if◌then◌else◌}
 use Rattle.dom_model.specs.declared.Content.{Content}
 use Rattle.dom_model.specs.Forest.{Forest, IsWithin, parent_of}
 use Rattle.dom_model.specs.Places.{index_of}
 use Rattle.live_range.specs.declared.places.Point.{Point}
+use Rattle.node_tests.specs.declared.listing.Parting.{Parting}
+use Rattle.node_tests.specs.declared.listing.Sides.{Sides}
 use Rattle.node_tests.specs.declared.listing.Wanted.{Wanted}
 use Rattle.node_tests.specs.declared.listing.Wanted.TheVariants.{Contained, Effective}
 use Rattle.point_order.specs.PointOrder.{is_before}
@@ -17,16 +19,26 @@ is_wanted Effective f start end l = is_effectively_contained f start end l
 abbrev pub only_if : (ℕ → Bool) → ℕ → List ℕ
 only_if test l = if test l then l ∷ [] else []
 
--- no place in the tree of a node comes after a point, or before it
-abbrev pub NoneAfter : Forest Content → Point → ℕ → Type 0
-NoneAfter f start k = (x o : ℕ) → IsWithin f k x → is_before f start (record { label = x; offset = o }) ≡ false
+-- each place in the tree of a node comes before a point, or after it
+pub record LiesBefore (f : Forest Content) (p : Point) (k : ℕ) : Type 0 where
+  pub comes : (x o : ℕ) → IsWithin f k x → is_before f (record { label = x; offset = o }) p ≡ true
+  pub none : (x o : ℕ) → IsWithin f k x → is_before f p (record { label = x; offset = o }) ≡ false
 
-abbrev pub NoneBefore : Forest Content → Point → ℕ → Type 0
-NoneBefore f end k = (x o : ℕ) → IsWithin f k x → is_before f (record { label = x; offset = o }) end ≡ false
+pub record LiesAfter (f : Forest Content) (p : Point) (k : ℕ) : Type 0 where
+  pub comes : (x o : ℕ) → IsWithin f k x → is_before f p (record { label = x; offset = o }) ≡ true
+  pub none : (x o : ℕ) → IsWithin f k x → is_before f (record { label = x; offset = o }) p ≡ false
 
--- so it is of the first children of a node, this many, or of those from an index on
-abbrev pub FirstEnd : Forest Content → Point → ℕ → ℕ → Type 0
-FirstEnd f start p count = (k : ℕ) → parent_of f k ≡ Some p → index_of f k < count → NoneAfter f start k
+-- which children of a node lie before a point, and which after it
+pub record Parts (f : Forest Content) (p : Point) (node : ℕ) (parting : Parting) : Type 0 where
+  pub before : (k : ℕ) → parent_of f k ≡ Some node → index_of f k < parting.ended → LiesBefore f p k
+  pub after : (k : ℕ) → parent_of f k ≡ Some node → parting.begun ≤ index_of f k → LiesAfter f p k
 
-abbrev pub RestBegin : Forest Content → Point → ℕ → ℕ → Type 0
-RestBegin f end p index = (k : ℕ) → parent_of f k ≡ Some p → index ≤ index_of f k → NoneBefore f end k
+-- what is known of the tree of a node is so
+pub record Lies (f : Forest Content) (start end : Point) (sides : Sides) (k : ℕ) : Type 0 where
+  pub after : sides.after ≡ true → LiesAfter f start k
+  pub before : sides.before ≡ true → LiesBefore f end k
+
+-- a range in which nodes are sought that it effectively contains isn't collapsed
+abbrev pub IsOpen : Wanted → Forest Content → Point → Point → Type 0
+IsOpen Contained f start end = Unit {0}
+IsOpen Effective f start end = is_before f start end ≡ true

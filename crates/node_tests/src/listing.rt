@@ -4,13 +4,13 @@ ghost use Rattle.std.specs.Prelude.{◌≡◌, ◌<◌, ◌≤◌, ◌⊎◌, �
 ghost use Rattle.std.specs.List.{All, filter};
 ghost use Rattle.dom_model.specs.Forest.{count_of, parent_of, preorder, tree_of, IsWithin};
 ghost use Rattle.node_arena.specs.Held.{Holds};
-ghost use Rattle.node_tests.specs.Listing.{is_wanted, only_if, FirstEnd, RestBegin};
+ghost use Rattle.node_tests.specs.Listing.{is_wanted, only_if, IsOpen, Lies, Parts};
 ghost use Rattle.node_tests.specs.Ranges as ranges;
 
 use crate::ranges::{held, is_contained, is_effectively_contained};
 use live_range::Point;
 use node_arena::{Arena, NodeList, NodeRef};
-use point_order::child_toward;
+use point_order::{child_toward, comes_before};
 use std::alloc::{AllocError, Global};
 
 /// Which nodes of a range are listed.
@@ -18,6 +18,20 @@ use std::alloc::{AllocError, Global};
 enum Wanted {
     Contained,
     Effective,
+}
+
+/// Where a point parts the children of a node: so many lie before it, and those from an index on after it.
+#[derive(Clone, Copy)]
+struct Parting {
+    ended: u32,
+    begun: u32,
+}
+
+/// What is known of a tree: that it lies after the start of a range, and before its end.
+#[derive(Clone, Copy)]
+struct Sides {
+    after: bool,
+    before: bool,
 }
 
 #[tactic(auto, unfolding(crate::specs::Listing::is_wanted))]
@@ -33,96 +47,143 @@ fn is_wanted(arena: &Arena, node: NodeRef, range: (Point, Point), wanted: Wanted
     }
 }
 
+// The same by what is known of the node's tree, where that is enough.
+fn is_wanted_there(
+    arena: &Arena,
+    node: NodeRef,
+    range: (Point, Point),
+    sides: Sides,
+    wanted: Wanted,
+) -> bool
+    requires node_held { Holds arena.now node }
+    requires start_held { 0 < count_of arena.now.trees range.0.label }
+    requires end_held { 0 < count_of arena.now.trees range.1.label }
+    requires sides { Lies arena.now.trees range.0 range.1 sides node.label }
+    requires open { IsOpen wanted arena.now.trees range.0 range.1 }
+    ensures { result ≡ is_wanted wanted arena.now.trees range.0 range.1 node.label }
+{
+    arena.lawful();
+    if sides.after && sides.before {
+        return true;
+    }
+    is_wanted(arena, node, range, wanted)
+}
+
 // Puts a node behind those found before, where it is wanted.
 fn push_wanted(
     arena: &Arena,
     node: NodeRef,
     range: (Point, Point),
+    sides: Sides,
     wanted: Wanted,
     found: &mut Vec<NodeRef>,
 ) -> Result<(), AllocError>
     requires node_held { Holds arena.now node }
     requires start_held { 0 < count_of arena.now.trees range.0.label }
     requires end_held { 0 < count_of arena.now.trees range.1.label }
+    requires sides { Lies arena.now.trees range.0 range.1 sides node.label }
+    requires open { IsOpen wanted arena.now.trees range.0 range.1 }
     requires found_held { All (λ r. Holds arena.now r) found.old.items }
     ensures nodes { OnOk result (map (λ r. r.label) found.new.items ≡ map (λ r. r.label) found.old.items ++ only_if (is_wanted wanted arena.now.trees range.0 range.1) node.label) }
     ensures held { OnOk result (All (λ r. Holds arena.now r) found.new.items) }
 {
-    if is_wanted(arena, node, range, wanted) {
+    if is_wanted_there(arena, node, range, sides, wanted) {
         found.push(node)?;
     }
     Ok(())
 }
 
-// How many of the first children of a node lie before the start of a range with all that they hold.
-fn first_ended(arena: &Arena, node: NodeRef, start: Point) -> u32
+// Where a point parts the children of a node. If it stands below none of them, nothing is known.
+fn parts_at(arena: &Arena, node: NodeRef, point: Point) -> Parting
     requires node_held { Holds arena.now node }
-    requires start_held { 0 < count_of arena.now.trees start.label }
-    ensures { FirstEnd arena.now.trees start node.label result }
+    requires point_held { 0 < count_of arena.now.trees point.label }
+    ensures { Parts arena.now.trees point node.label result }
 {
     arena.lawful();
-    if start.label == node.label {
-        return start.offset;
+    if point.label == node.label {
+        return Parting {
+            ended: point.offset,
+            begun: point.offset,
+        };
     }
-    match child_toward(arena, node, held(arena, start.label)) {
-        Some(child) => arena.index(child),
-        None => 0,
+    match child_toward(arena, node, held(arena, point.label)) {
+        Some(child) => {
+            let index = arena.index(child);
+            Parting {
+                ended: index,
+                begun: index + 1,
+            }
+        }
+        None => Parting {
+            ended: 0,
+            begun: arena.length(node),
+        },
     }
 }
 
-// The index from which on the children of a node lie after the end of a range.
-fn rest_begun(arena: &Arena, node: NodeRef, end: Point) -> u32
-    requires node_held { Holds arena.now node }
-    requires end_held { 0 < count_of arena.now.trees end.label }
-    ensures { RestBegin arena.now.trees end node.label result }
+// Whether the child at an index lies before the start of a range or after its end.
+fn is_outside(start: Parting, end: Parting, index: u32) -> bool
+    ensures outside { result ≡ Bool.true → (index < start.ended) ⊎ (end.begun ≤ index) }
 {
-    arena.lawful();
-    if end.label == node.label {
-        return end.offset;
-    }
-    match child_toward(arena, node, held(arena, end.label)) {
-        Some(child) => arena.index(child) + 1,
-        None => arena.length(node),
-    }
+    index < start.ended || end.begun <= index
 }
 
-// Whether an index isn't below one and is below another.
-fn is_between(low: u32, index: u32, high: u32) -> bool
-    ensures outside { result ≡ Bool.false → (index < low) ⊎ (high ≤ index) }
+// What is known of the child at an index.
+fn inner_sides(sides: Sides, start: Parting, end: Parting, index: u32) -> Sides
+    ensures after { result.after ≡ Bool.true → (sides.after ≡ Bool.true) ⊎ (start.begun ≤ index) }
+    ensures before { result.before ≡ Bool.true → (sides.before ≡ Bool.true) ⊎ (index < end.ended) }
 {
-    low <= index && index < high
+    Sides {
+        after: sides.after || start.begun <= index,
+        before: sides.before || index < end.ended,
+    }
 }
 
-// Puts the wanted nodes of the tree of a node behind those found before. It looks into no child that lies wholly before the
-// range or after it.
+// Puts the wanted nodes of the tree of a node behind those found before. It looks into no child that lies before the range or
+// after it, and tests no node of a child that lies between its ends.
 fn push_tree(
     arena: &Arena,
     node: NodeRef,
     range: (Point, Point),
+    sides: Sides,
     wanted: Wanted,
     found: &mut Vec<NodeRef>,
 ) -> Result<(), AllocError>
     requires node_held { Holds arena.now node }
     requires start_held { 0 < count_of arena.now.trees range.0.label }
     requires end_held { 0 < count_of arena.now.trees range.1.label }
+    requires sides { Lies arena.now.trees range.0 range.1 sides node.label }
+    requires open { IsOpen wanted arena.now.trees range.0 range.1 }
     requires found_held { All (λ r. Holds arena.now r) found.old.items }
     ensures nodes { OnOk result (map (λ r. r.label) found.new.items ≡ map (λ r. r.label) found.old.items ++ filter (is_wanted wanted arena.now.trees range.0 range.1) (preorder (tree_of arena.now.trees node.label))) }
     ensures held { OnOk result (All (λ r. Holds arena.now r) found.new.items) }
 {
     arena.lawful();
-    push_wanted(arena, node, range, wanted, found)?;
-    let low = first_ended(arena, node, range.0);
-    let high = rest_begun(arena, node, range.1);
+    push_wanted(arena, node, range, sides, wanted, found)?;
+    let start = parts_at(arena, node, range.0);
+    let end = parts_at(arena, node, range.1);
     let mut index: u32 = 0;
     let mut child = arena.first_child(node);
     while let Some(at) = child {
-        if is_between(low, index, high) {
-            push_tree(arena, at, range, wanted, found)?;
+        if !is_outside(start, end, index) {
+            let inner = inner_sides(sides, start, end, index);
+            push_tree(arena, at, range, inner, wanted, found)?;
         }
         index += 1;
         child = arena.next(at);
     }
     Ok(())
+}
+
+// Nothing is known of a tree.
+fn no_side() -> Sides
+    ensures after { result.after ≡ Bool.false }
+    ensures before { result.before ≡ Bool.false }
+{
+    Sides {
+        after: false,
+        before: false,
+    }
 }
 
 // The root of the tree of a node.
@@ -156,7 +217,7 @@ pub fn contained_nodes(
     let start = held(arena, range.0.label);
     let root = root_of(arena, start);
     let mut found = Vec::new(alloc);
-    push_tree(arena, root, range, Wanted::Contained, &mut found)?;
+    push_tree(arena, root, range, no_side(), Wanted::Contained, &mut found)?;
     NodeList::from_slice(alloc, &found)
 }
 
@@ -173,9 +234,12 @@ pub fn effective_nodes(
     ensures held { IfOk result (λ list. All (λ r. Holds arena.now r) list) }
 {
     arena.lawful();
+    let mut found = Vec::new(alloc);
+    if !comes_before(arena, range.0, range.1) {
+        return NodeList::from_slice(alloc, &found);
+    }
     let start = held(arena, range.0.label);
     let root = root_of(arena, start);
-    let mut found = Vec::new(alloc);
-    push_tree(arena, root, range, Wanted::Effective, &mut found)?;
+    push_tree(arena, root, range, no_side(), Wanted::Effective, &mut found)?;
     NodeList::from_slice(alloc, &found)
 }

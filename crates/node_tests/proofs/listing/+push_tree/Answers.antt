@@ -5,13 +5,13 @@ use Rattle.dom_model.specs.Forest.{tree_of}
 use Rattle.dom_model.proofs.Few.{some_nodes}
 use Rattle.dom_model.proofs.Indexes.{index_of_low}
 use Rattle.node_arena.specs.Held.{Holds, label}
-use Rattle.node_tests.specs.Listing.{is_wanted}
+use Rattle.node_tests.specs.Listing.{is_wanted, Lies}
 use Rattle.node_tests.proofs.Kids.{first_kid, next_kid, next_smaller, tree_smaller}
 use Rattle.node_tests.proofs.KidIndexes.{first_place, next_place}
-use Rattle.node_tests.proofs.Skipping.{skipped_after, skipped_before}
+use Rattle.node_tests.proofs.Skipping.{skipped_after, skipped_before, child_after, child_before}
 use Rattle.node_tests.proofs.Wanting.{passed, listed_init, listed_next}
 use Rattle.node_tests.proofs.listing.+push_tree.Goals as goal
-use Rattle.node_tests.proofs.listing.+push_tree.Goals.{then-is_between+in_ok-push_tree, else-is_between}
+use Rattle.node_tests.proofs.listing.+push_tree.Goals.{then-not-is_outside+in_ok-push_tree, else-not-is_outside}
 
 pub loop-child-init : goal.loop-child-init
 loop-child-init t c =
@@ -26,8 +26,23 @@ loop-child-init t c =
 
 pub push_tree-requires : goal.push_tree-requires
 push_tree-requires t c =
+    let f = c.args.arena.now.trees in
+    let once = c.lawful.ensures.distinct in
+    let l = c.args.node.label in
+    let k = c.in-Some.at.label in
     let kid = rw c.in-Some.is at c.loop-child.invariant.kid in
-    (omega (arith, c.decreases, tree_smaller c.args.arena.now c.lawful.ensures c.args.node.label c.in-Some.at kid), (kid.held, (c.requires.start_held, (c.requires.end_held, c.loop-child.invariant.held))))
+    let place = rw c.in-Some.is at c.loop-child.invariant.place in
+    let lies : Lies f c.args.range.0 c.args.range.1 c.inner_sides-inner.result k = record {
+      after = λ e. elim (c.inner_sides-inner.ensures.after e) [
+        | inl known ↦ child_after f once c.args.range.0 l k kid.under (c.requires.sides.after known)
+        | inr high ↦ c.parts_at-start.ensures.after k kid.under (omega (arith, high, place))
+      ];
+      before = λ e. elim (c.inner_sides-inner.ensures.before e) [
+        | inl known ↦ child_before f once c.args.range.1 l k kid.under (c.requires.sides.before known)
+        | inr low ↦ c.parts_at-end.ensures.before k kid.under (omega (arith, low, place))
+      ];
+    } in
+    (omega (arith, c.decreases, tree_smaller c.args.arena.now c.lawful.ensures c.args.node.label c.in-Some.at kid), (kid.held, (c.requires.start_held, (c.requires.end_held, (lies, (c.requires.open, c.loop-child.invariant.held))))))
 
 pub overflow_add-index : goal.overflow_add-index
 overflow_add-index t c =
@@ -55,22 +70,22 @@ loop-child-preserved t c =
     let kid = rw c.in-Some.is at c.loop-child.invariant.kid in
     let place = rw c.in-Some.is at c.loop-child.invariant.place in
     let listed = rw c.in-Some.is at c.loop-child.invariant.listed in
-    let pushed : map (λ r. r.label) c.if-is_between.found.items ≡ map (λ r. r.label) c.loop-child.found.items ++ passed test (tree_of s.trees k) =
-    elim c.if-is_between.branch [
-      | then-is_between+in_ok-push_tree w ↦ ap (λ v. map (λ r. r.label) v.items) w.found-is ∙ w.in_ok-push_tree.ensures.nodes
-      | else-is_between w ↦ (
+    let pushed : map (λ r. r.label) c.if-not-is_outside.found.items ≡ map (λ r. r.label) c.loop-child.found.items ++ passed test (tree_of s.trees k) =
+    elim c.if-not-is_outside.branch [
+      | then-not-is_outside+in_ok-push_tree w ↦ ap (λ v. map (λ r. r.label) v.items) w.found-is ∙ w.in_ok-push_tree.ensures.nodes
+      | else-not-is_outside w ↦ (
           let none : passed test (tree_of s.trees k) ≡ [] =
-          elim (c.is_between.ensures.outside w.if-is_between.false) [
-            | inl low ↦ skipped_after s.trees law.distinct start end k (c.first_ended-low.ensures k kid.under (omega (arith, low, place))) c.args.wanted
-            | inr high ↦ skipped_before s.trees law.distinct start end k (c.rest_begun-high.ensures k kid.under (omega (arith, high, place))) c.args.wanted
+          elim (c.is_outside.ensures.outside w.if-not-is_outside.false) [
+            | inl low ↦ skipped_before s.trees law.distinct start end k (c.parts_at-start.ensures.before k kid.under (omega (arith, low, place))) c.args.wanted
+            | inr high ↦ skipped_after s.trees law.distinct start end k (c.parts_at-end.ensures.after k kid.under (omega (arith, high, place))) c.args.wanted
           ] in
           ap (λ v. map (λ r. r.label) v.items) w.found-is
           ∙ sym (ap (λ xs. map (λ r. r.label) c.loop-child.found.items ++ xs) none ∙ append-nil (map (λ r. r.label) c.loop-child.found.items)))
     ] in
-    let held : All (λ r. Holds s r) c.if-is_between.found.items =
-    elim c.if-is_between.branch [
-      | then-is_between+in_ok-push_tree w ↦ subst (λ v. All (λ r. Holds s r) v.items) (sym w.found-is) w.in_ok-push_tree.ensures.held
-      | else-is_between w ↦ subst (λ v. All (λ r. Holds s r) v.items) (sym w.found-is) c.loop-child.invariant.held
+    let held : All (λ r. Holds s r) c.if-not-is_outside.found.items =
+    elim c.if-not-is_outside.branch [
+      | then-not-is_outside+in_ok-push_tree w ↦ subst (λ v. All (λ r. Holds s r) v.items) (sym w.found-is) w.in_ok-push_tree.ensures.held
+      | else-not-is_outside w ↦ subst (λ v. All (λ r. Holds s r) v.items) (sym w.found-is) c.loop-child.invariant.held
     ] in
     record {
       kid = next_kid s law c.args.node.label c.in-Some.at kid c.next-child.result c.next-child.ensures;

@@ -1,9 +1,10 @@
-use Rattle.std.proofs.Common.{◌++◌, ap, ◌∙◌, subst}
+use Rattle.std.proofs.Common.{◌++◌, sym, ap, ◌∙◌, subst}
 use Rattle.std.specs.Prelude.{map}
 use Rattle.dom_model.specs.Forest.{IsWithin, tree_of}
 use Rattle.node_tests.specs.declared.listing.Wanted.TheVariants.{Effective}
 use Rattle.node_tests.specs.Listing.{is_wanted}
 use Rattle.node_tests.proofs.Wanting.{passed}
+use Rattle.node_tests.proofs.Skipping.{none_effective}
 use Rattle.node_tests.proofs.Elsewhere.{all_listed, copied}
 use Rattle.node_tests.proofs.listing.effective_nodes.Goals as goal
 
@@ -13,8 +14,15 @@ returns-clause-nodes c =
     let law = c.lawful.ensures in
     let root = c.root_of-root.result in
     let inside : IsWithin f root.label c.args.range.0.label = subst (λ k. IsWithin f root.label k) c.held-start.ensures.label c.root_of-root.ensures.within in
-    copied c.from_slice.result _ _ c.from_slice.ensures
-    (ap (map (λ r. r.label)) c.deref.ensures.value
+    copied c.from_slice-2.result _ _ c.from_slice-2.ensures
+    (ap (map (λ r. r.label)) c.deref-2.ensures.value
     ∙ (c.in_ok-push_tree.ensures.nodes
     ∙ (ap (λ xs. map (λ r. r.label) xs ++ passed (is_wanted Effective f c.args.range.0 c.args.range.1) (tree_of f root.label)) c.new-found.ensures.items
     ∙ all_listed f law.distinct root.label (law.here root.slot root.label c.root_of-root.ensures.held) c.root_of-root.ensures.root c.args.range.0 c.args.range.1 inside c.requires.end_held)))
+
+pub returns-then-not-comes_before-clause-nodes : goal.returns-then-not-comes_before-clause-nodes
+returns-then-not-comes_before-clause-nodes c =
+    copied c.from_slice.result _ _ c.from_slice.ensures
+    (ap (map (λ r. r.label)) c.deref.ensures.value
+    ∙ (ap (map (λ r. r.label)) c.new-found.ensures.items
+    ∙ none_effective c.args.arena.now.trees c.lawful.ensures.distinct c.args.range.0 c.args.range.1 (sym c.comes_before.ensures ∙ c.if-not-comes_before.true)))
