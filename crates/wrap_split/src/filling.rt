@@ -1,0 +1,331 @@
+//! Moving a list into the node that it is wrapped in.
+
+ghost use Rattle.std.specs.Prelude.{◌≡◌, ◌<◌, IfOk, length};
+ghost use Rattle.edit_model.specs.Gives.{Gives, label_of, labels_of};
+ghost use Rattle.edit_model.specs.Run.{final};
+ghost use Rattle.point_order.specs.PointOrder.{is_earlier};
+ghost use Rattle.edit_doc.specs.Whole.{IsOpen, with_state};
+ghost use Rattle.edit_doc.specs.Held.{Holds, IfHeld, EachHeld, Keeps};
+ghost use Rattle.wrap_split.specs.Wrap.{is_inline, is_other, append_break, prepend_break, joins_end, joins_front, parted_end, to_end, move_front, move_all_front, parted_front, to_front, moved_in, grow_at, stood, drop_parent, move_children, merged};
+
+use crate::listing::{first_visible, last_visible};
+use crate::moves::{insert_before, make_break, move_each_last};
+use crate::nodes::{is_break, is_editable_for};
+use crate::siblings::children_of;
+use crate::walks::is_it;
+use doc_tests::is_block;
+use edit_doc::{Doc, EditFault, NodeRef, Point};
+use std::alloc::{AllocError, Global};
+
+fn is_inline(doc: &Doc, node: Option<NodeRef>) -> bool
+    requires { IfHeld doc.now node }
+    ensures { result ≡ is_inline doc.now.state (label_of node) }
+{
+    match node {
+        Some(node) => !is_block(doc, node),
+        None => false,
+    }
+}
+
+// There, and no br.
+fn is_other(doc: &Doc, node: Option<NodeRef>) -> bool
+    requires { IfHeld doc.now node }
+    ensures { result ≡ is_other doc.now.state (label_of node) }
+{
+    match node {
+        Some(node) => !is_break(doc, node),
+        None => false,
+    }
+}
+
+// Whether a node comes before another one in tree order.
+fn is_earlier(doc: &Doc, node: NodeRef, other: NodeRef) -> bool
+    requires node_held { Holds doc.now node }
+    requires other_held { Holds doc.now other }
+    ensures { result ≡ is_earlier doc.now.state.trees node.label other.label }
+{
+    let arena = doc.arena();
+    arena.lawful();
+    is_it(arena.before(node, other), node)
+}
+
+#[tactic(auto, using(edit_model::proofs::Steps::steps, edit_model::proofs::Steps::exits), unfolding(crate::specs::Wrap::append_break))]
+fn append_break(alloc: Global, doc: &mut Doc, node: NodeRef) -> Result<(), EditFault>
+    requires open { IsOpen doc.old }
+    requires node_held { Holds doc.old node }
+    ensures gives { Gives result doc.old.state doc.new.state (append_break node.label) }
+    ensures keeps { Keeps doc.old doc.new }
+{
+    let made = make_break(alloc, doc)?;
+    doc.insert(node, None, made)?;
+    Ok(())
+}
+
+#[tactic(auto, using(edit_model::proofs::Steps::steps, edit_model::proofs::Steps::exits), unfolding(crate::specs::Wrap::prepend_break))]
+fn prepend_break(alloc: Global, doc: &mut Doc, node: NodeRef) -> Result<(), EditFault>
+    requires open { IsOpen doc.old }
+    requires node_held { Holds doc.old node }
+    ensures gives { Gives result doc.old.state doc.new.state (prepend_break node.label) }
+    ensures keeps { Keeps doc.old doc.new }
+{
+    let made = make_break(alloc, doc)?;
+    let first = doc.first_child(node);
+    doc.insert(node, first, made)?;
+    Ok(())
+}
+
+// Whether a br has to part what the node ends with from what comes after it there.
+#[tactic(auto, unfolding(crate::specs::Wrap::joins_end))]
+fn joins_end(doc: &Doc, node: NodeRef, before: Option<NodeRef>, after: Option<NodeRef>) -> bool
+    requires node_held { Holds doc.now node }
+    requires before_held { IfHeld doc.now before }
+    requires after_held { IfHeld doc.now after }
+    ensures { result ≡ joins_end doc.now.state node.label (label_of before) (label_of after) }
+{
+    is_block(doc, node)
+        && is_inline(doc, before)
+        && is_inline(doc, after)
+        && is_other(doc, doc.last_child(node))
+}
+
+// Whether a br has to part what the node begins with from the list that comes before it there.
+#[tactic(auto, using(edit_model::proofs::Steps::ends), unfolding(crate::specs::Wrap::joins_front))]
+fn joins_front(
+    alloc: Global,
+    doc: &Doc,
+    node: NodeRef,
+    list: &[NodeRef],
+) -> Result<bool, AllocError>
+    requires some { 0 < length list.now }
+    requires node_held { Holds doc.now node }
+    requires list_held { EachHeld doc.now list.now }
+    ensures { IfOk result (λ b. b ≡ joins_front doc.now.state node.label (labels_of list.now)) }
+{
+    let children = children_of(alloc, doc, node)?;
+    let last = list[list.len() - 1];
+    Ok(
+        is_block(doc, node)
+            && is_inline(doc, first_visible(doc, &children))
+            && is_inline(doc, last_visible(doc, list))
+            && !is_break(doc, last),
+    )
+}
+
+#[tactic(auto, using(edit_model::proofs::Steps::steps, edit_model::proofs::Steps::exits), unfolding(crate::specs::Wrap::parted_end))]
+fn part_end(
+    alloc: Global,
+    doc: &mut Doc,
+    node: NodeRef,
+    before: Option<NodeRef>,
+    after: Option<NodeRef>,
+) -> Result<(), EditFault>
+    requires open { IsOpen doc.old }
+    requires node_held { Holds doc.old node }
+    requires before_held { IfHeld doc.old before }
+    requires after_held { IfHeld doc.old after }
+    ensures gives { Gives result doc.old.state doc.new.state (parted_end node.label (label_of before) (label_of after)) }
+    ensures keeps { Keeps doc.old doc.new }
+{
+    if joins_end(doc, node, before, after) {
+        append_break(alloc, doc, node)?;
+    }
+    Ok(())
+}
+
+#[tactic(auto, using(edit_model::proofs::Steps::steps, edit_model::proofs::Steps::exits), unfolding(crate::specs::Wrap::to_end))]
+fn move_to_end(
+    alloc: Global,
+    doc: &mut Doc,
+    node: NodeRef,
+    list: &[NodeRef],
+) -> Result<(), EditFault>
+    requires open { IsOpen doc.old }
+    requires node_held { Holds doc.old node }
+    requires list_held { EachHeld doc.old list.now }
+    ensures gives { Gives result doc.old.state doc.new.state (to_end node.label (labels_of list.now)) }
+    ensures keeps { Keeps doc.old doc.new }
+{
+    let children = children_of(alloc, doc, node)?;
+    let before = last_visible(doc, &children);
+    let after = first_visible(doc, list);
+    part_end(alloc, doc, node, before, after)?;
+    move_each_last(doc, list, node)
+}
+
+#[tactic(auto, using(edit_model::proofs::Steps::steps, edit_model::proofs::Steps::exits), unfolding(crate::specs::Wrap::move_front))]
+fn move_front(doc: &mut Doc, parent: NodeRef, node: NodeRef) -> Result<(), EditFault>
+    requires open { IsOpen doc.old }
+    requires parent_held { Holds doc.old parent }
+    requires node_held { Holds doc.old node }
+    ensures gives { Gives result doc.old.state doc.new.state (move_front parent.label node.label) }
+    ensures keeps { Keeps doc.old doc.new }
+{
+    let first = doc.first_child(parent);
+    doc.move_keeping(node, parent, first)?;
+    Ok(())
+}
+
+// Moves each node, the last one first, to the front of another one.
+#[tactic(auto, using(edit_model::proofs::Steps::backs, edit_model::proofs::Steps::exits), unfolding(crate::specs::Wrap::move_all_front))]
+fn move_all_front(doc: &mut Doc, list: &[NodeRef], parent: NodeRef) -> Result<(), EditFault>
+    requires open { IsOpen doc.old }
+    requires list_held { EachHeld doc.old list.now }
+    requires parent_held { Holds doc.old parent }
+    ensures gives { Gives result doc.old.state doc.new.state (move_all_front (labels_of list.now) parent.label) }
+    ensures keeps { Keeps doc.old doc.new }
+{
+    let mut left = list.len();
+    while left > 0 {
+        left -= 1;
+        move_front(doc, parent, list[left])?;
+    }
+    Ok(())
+}
+
+#[tactic(auto, using(edit_model::proofs::Steps::steps, edit_model::proofs::Steps::exits), unfolding(crate::specs::Wrap::parted_front))]
+fn part_front(
+    alloc: Global,
+    doc: &mut Doc,
+    node: NodeRef,
+    list: &[NodeRef],
+) -> Result<(), EditFault>
+    requires open { IsOpen doc.old }
+    requires some { 0 < length list.now }
+    requires node_held { Holds doc.old node }
+    requires list_held { EachHeld doc.old list.now }
+    ensures gives { Gives result doc.old.state doc.new.state (parted_front node.label (labels_of list.now)) }
+    ensures keeps { Keeps doc.old doc.new }
+{
+    if joins_front(alloc, doc, node, list)? {
+        prepend_break(alloc, doc, node)?;
+    }
+    Ok(())
+}
+
+#[tactic(auto, using(edit_model::proofs::Steps::steps, edit_model::proofs::Steps::exits), unfolding(crate::specs::Wrap::to_front))]
+fn move_to_front(
+    alloc: Global,
+    doc: &mut Doc,
+    node: NodeRef,
+    list: &[NodeRef],
+) -> Result<(), EditFault>
+    requires open { IsOpen doc.old }
+    requires some { 0 < length list.now }
+    requires node_held { Holds doc.old node }
+    requires list_held { EachHeld doc.old list.now }
+    ensures gives { Gives result doc.old.state doc.new.state (to_front node.label (labels_of list.now)) }
+    ensures keeps { Keeps doc.old doc.new }
+{
+    part_front(alloc, doc, node, list)?;
+    move_all_front(doc, list, node)
+}
+
+#[tactic(auto, using(edit_model::proofs::Steps::steps, edit_model::proofs::Steps::exits), unfolding(crate::specs::Wrap::moved_in))]
+pub(crate) fn move_in(
+    alloc: Global,
+    doc: &mut Doc,
+    node: NodeRef,
+    list: &[NodeRef],
+    first: NodeRef,
+) -> Result<(), EditFault>
+    requires open { IsOpen doc.old }
+    requires some { 0 < length list.now }
+    requires node_held { Holds doc.old node }
+    requires list_held { EachHeld doc.old list.now }
+    requires first_held { Holds doc.old first }
+    ensures gives { Gives result doc.old.state doc.new.state (moved_in node.label (labels_of list.now) first.label) }
+    ensures keeps { Keeps doc.old doc.new }
+{
+    if is_earlier(doc, node, first) {
+        return move_to_end(alloc, doc, node, list);
+    }
+    move_to_front(alloc, doc, node, list)
+}
+
+// The points at the place of a node, which was inserted there, grow.
+#[tactic(auto, using(edit_model::proofs::Steps::actions), unfolding(crate::specs::Wrap::grow_at))]
+fn grow_at(doc: &mut Doc, node: NodeRef)
+    requires { Holds doc.old node }
+    ensures grown { doc.new ≡ with_state doc.old (final (grow_at node.label) doc.old.state) }
+    ensures keeps { Keeps doc.old doc.new }
+{
+    if let Some(parent) = doc.parent(node) {
+        let offset = doc.index(node);
+        doc.grow(Point {
+            label: parent.label,
+            offset,
+        });
+    }
+}
+
+// Puts a node that has no parent before the first member.
+#[tactic(auto, using(edit_model::proofs::Steps::steps, edit_model::proofs::Steps::exits), unfolding(crate::specs::Wrap::stood))]
+pub(crate) fn put_before(doc: &mut Doc, node: NodeRef, first: NodeRef) -> Result<(), EditFault>
+    requires open { IsOpen doc.old }
+    requires node_held { Holds doc.old node }
+    requires first_held { Holds doc.old first }
+    ensures gives { Gives result doc.old.state doc.new.state (stood node.label first.label) }
+    ensures keeps { Keeps doc.old doc.new }
+{
+    if doc.parent(node).is_none() {
+        insert_before(doc, first, node)?;
+        grow_at(doc, node);
+    }
+    Ok(())
+}
+
+// Removes an emptied parent.
+#[tactic(auto, using(edit_model::proofs::Steps::steps, edit_model::proofs::Steps::exits), unfolding(crate::specs::Wrap::drop_empty, crate::specs::Wrap::drop_parent))]
+pub(crate) fn drop_parent(doc: &mut Doc, node: Option<NodeRef>) -> Result<(), EditFault>
+    requires open { IsOpen doc.old }
+    requires node_held { IfHeld doc.old node }
+    ensures gives { Gives result doc.old.state doc.new.state (drop_parent (label_of node)) }
+    ensures keeps { Keeps doc.old doc.new }
+{
+    let Some(node) = node else {
+        return Ok(());
+    };
+    if is_editable_for(doc, node) && doc.first_child(node).is_none() {
+        doc.remove(node)?;
+    }
+    Ok(())
+}
+
+#[tactic(auto, using(edit_model::proofs::Steps::steps, edit_model::proofs::Steps::exits), unfolding(crate::specs::Wrap::move_children))]
+fn move_children(
+    alloc: Global,
+    doc: &mut Doc,
+    node: NodeRef,
+    from: NodeRef,
+) -> Result<(), EditFault>
+    requires open { IsOpen doc.old }
+    requires node_held { Holds doc.old node }
+    requires from_held { Holds doc.old from }
+    ensures gives { Gives result doc.old.state doc.new.state (move_children node.label from.label) }
+    ensures keeps { Keeps doc.old doc.new }
+{
+    let children = children_of(alloc, doc, from)?;
+    move_each_last(doc, &children, node)
+}
+
+// Moves the children of the sibling after a node to its end, and removes the sibling.
+#[tactic(auto, using(edit_model::proofs::Steps::steps, edit_model::proofs::Steps::exits), unfolding(crate::specs::Wrap::merged))]
+pub(crate) fn merge(
+    alloc: Global,
+    doc: &mut Doc,
+    node: NodeRef,
+    next: NodeRef,
+) -> Result<(), EditFault>
+    requires open { IsOpen doc.old }
+    requires node_held { Holds doc.old node }
+    requires next_held { Holds doc.old next }
+    ensures gives { Gives result doc.old.state doc.new.state (merged node.label next.label) }
+    ensures keeps { Keeps doc.old doc.new }
+{
+    let last = doc.last_child(node);
+    let first = doc.first_child(next);
+    part_end(alloc, doc, node, last, first)?;
+    move_children(alloc, doc, node, next)?;
+    doc.remove(next)?;
+    Ok(())
+}

@@ -1,0 +1,24 @@
+//! Wrapping and splitting: the algorithms on line breaks and lists of siblings that the commands of the W3C's *HTML Editing
+//! APIs* have in common, over a document under edits.
+//!
+//! Each call is proved to make one run of elementary edits, which its definition composes step by step. The nodes of a list
+//! need only be held; those that have no parent, or another parent than the first that has one, are left out of it.
+#![tactic(auto)]
+
+mod breaks;
+mod filling;
+mod listing;
+mod moves;
+mod nodes;
+mod rule;
+mod siblings;
+mod split;
+mod target;
+mod walks;
+mod wrapping;
+
+pub use breaks::{breaks_at_end, breaks_before, breaks_from};
+pub use edit_doc::{Doc, EditFault, NodeList, NodeRef};
+pub use rule::{Blank, Criterion, Recipe, WrapRule};
+pub use split::{remove_keeping_children, split_parent};
+pub use wrapping::wrap;

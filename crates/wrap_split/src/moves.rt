@@ -1,0 +1,142 @@
+//! Inserting and moving beside a node.
+
+ghost use Rattle.std.specs.Prelude.{◌≡◌, IfOk};
+ghost use Rattle.edit_model.specs.Compositions.{move_each_last};
+ghost use Rattle.edit_model.specs.Gives.{Gives, GivesNode, labels_of};
+ghost use Rattle.edit_doc.specs.Whole.{IsOpen};
+ghost use Rattle.edit_doc.specs.Held.{Holds, EachHeld, Keeps};
+ghost use Rattle.wrap_split.specs.Split.{insert_before, insert_after, move_before, move_after, move_all_before, move_all_after, make_break};
+
+use edit_doc::{Attributes, Doc, EditFault, Name, NodeRef};
+use std::alloc::Global;
+
+// Makes a br.
+#[tactic(auto, using(edit_model::proofs::Steps::steps, edit_model::proofs::Steps::exits), unfolding(crate::specs::Split::make_break))]
+pub(crate) fn make_break(alloc: Global, doc: &mut Doc) -> Result<NodeRef, EditFault>
+    requires open { IsOpen doc.old }
+    ensures gives { GivesNode result doc.old.state doc.new.state make_break }
+    ensures held { IfOk result (λ r. Holds doc.new r) }
+    ensures keeps { Keeps doc.old doc.new }
+{
+    let name = Name::from_slice(alloc, b"br")?;
+    doc.make_element(&name, &Attributes::new(alloc))
+}
+
+// Inserts a loose node just before another one.
+#[tactic(auto, using(edit_model::proofs::Steps::steps, edit_model::proofs::Steps::exits), unfolding(crate::specs::Split::insert_before))]
+pub(crate) fn insert_before(doc: &mut Doc, other: NodeRef, node: NodeRef) -> Result<(), EditFault>
+    requires open { IsOpen doc.old }
+    requires other_held { Holds doc.old other }
+    requires node_held { Holds doc.old node }
+    ensures gives { Gives result doc.old.state doc.new.state (insert_before other.label node.label) }
+    ensures keeps { Keeps doc.old doc.new }
+{
+    let Some(parent) = doc.parent(other) else {
+        return Ok(());
+    };
+    doc.insert(parent, Some(other), node)?;
+    Ok(())
+}
+
+// Inserts a loose node just after another one.
+#[tactic(auto, using(edit_model::proofs::Steps::steps, edit_model::proofs::Steps::exits), unfolding(crate::specs::Split::insert_after))]
+pub(crate) fn insert_after(doc: &mut Doc, other: NodeRef, node: NodeRef) -> Result<(), EditFault>
+    requires open { IsOpen doc.old }
+    requires other_held { Holds doc.old other }
+    requires node_held { Holds doc.old node }
+    ensures gives { Gives result doc.old.state doc.new.state (insert_after other.label node.label) }
+    ensures keeps { Keeps doc.old doc.new }
+{
+    let Some(parent) = doc.parent(other) else {
+        return Ok(());
+    };
+    let next = doc.next(other);
+    doc.insert(parent, next, node)?;
+    Ok(())
+}
+
+#[tactic(auto, using(edit_model::proofs::Steps::steps, edit_model::proofs::Steps::exits), unfolding(crate::specs::Split::move_before))]
+fn move_before(doc: &mut Doc, other: NodeRef, node: NodeRef) -> Result<(), EditFault>
+    requires open { IsOpen doc.old }
+    requires other_held { Holds doc.old other }
+    requires node_held { Holds doc.old node }
+    ensures gives { Gives result doc.old.state doc.new.state (move_before other.label node.label) }
+    ensures keeps { Keeps doc.old doc.new }
+{
+    let Some(parent) = doc.parent(other) else {
+        return Ok(());
+    };
+    doc.move_keeping(node, parent, Some(other))?;
+    Ok(())
+}
+
+#[tactic(auto, using(edit_model::proofs::Steps::steps, edit_model::proofs::Steps::exits), unfolding(crate::specs::Split::move_after))]
+fn move_after(doc: &mut Doc, other: NodeRef, node: NodeRef) -> Result<(), EditFault>
+    requires open { IsOpen doc.old }
+    requires other_held { Holds doc.old other }
+    requires node_held { Holds doc.old node }
+    ensures gives { Gives result doc.old.state doc.new.state (move_after other.label node.label) }
+    ensures keeps { Keeps doc.old doc.new }
+{
+    let Some(parent) = doc.parent(other) else {
+        return Ok(());
+    };
+    let next = doc.next(other);
+    doc.move_keeping(node, parent, next)?;
+    Ok(())
+}
+
+// Moves each node in order to just before another one.
+#[tactic(auto, using(edit_model::proofs::Steps::eachs, edit_model::proofs::Steps::exits), unfolding(crate::specs::Split::move_all_before))]
+pub(crate) fn move_all_before(
+    doc: &mut Doc,
+    list: &[NodeRef],
+    other: NodeRef,
+) -> Result<(), EditFault>
+    requires open { IsOpen doc.old }
+    requires list_held { EachHeld doc.old list.now }
+    requires other_held { Holds doc.old other }
+    ensures gives { Gives result doc.old.state doc.new.state (move_all_before (labels_of list.now) other.label) }
+    ensures keeps { Keeps doc.old doc.new }
+{
+    for node in list {
+        move_before(doc, other, *node)?;
+    }
+    Ok(())
+}
+
+// Moves each node, the last one first, to just after another one.
+#[tactic(auto, using(edit_model::proofs::Steps::backs, edit_model::proofs::Steps::exits), unfolding(crate::specs::Split::move_all_after))]
+pub(crate) fn move_all_after(
+    doc: &mut Doc,
+    list: &[NodeRef],
+    other: NodeRef,
+) -> Result<(), EditFault>
+    requires open { IsOpen doc.old }
+    requires list_held { EachHeld doc.old list.now }
+    requires other_held { Holds doc.old other }
+    ensures gives { Gives result doc.old.state doc.new.state (move_all_after (labels_of list.now) other.label) }
+    ensures keeps { Keeps doc.old doc.new }
+{
+    let mut left = list.len();
+    while left > 0 {
+        left -= 1;
+        move_after(doc, other, list[left])?;
+    }
+    Ok(())
+}
+
+// Moves each node in order to the end of another one.
+#[tactic(auto, using(edit_model::proofs::Steps::eachs, edit_model::proofs::Steps::exits), unfolding(edit_model::specs::Compositions::move_each_last))]
+pub(crate) fn move_each_last(doc: &mut Doc, list: &[NodeRef], to: NodeRef) -> Result<(), EditFault>
+    requires open { IsOpen doc.old }
+    requires list_held { EachHeld doc.old list.now }
+    requires to_held { Holds doc.old to }
+    ensures gives { Gives result doc.old.state doc.new.state (move_each_last (labels_of list.now) to.label) }
+    ensures keeps { Keeps doc.old doc.new }
+{
+    for node in list {
+        doc.move_keeping(*node, to, None)?;
+    }
+    Ok(())
+}

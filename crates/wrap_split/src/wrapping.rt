@@ -1,0 +1,198 @@
+//! Wrapping a list of siblings.
+
+ghost use Rattle.std.specs.Prelude.{◌≡◌, ◌<◌, IfOk, length};
+ghost use Rattle.edit_model.specs.Gives.{Gives, GivesMaybe, label_of, labels_of};
+ghost use Rattle.edit_doc.specs.Whole.{IsOpen};
+ghost use Rattle.edit_doc.specs.Held.{Holds, IfHeld, EachHeld, Keeps};
+ghost use Rattle.wrap_split.specs.Target.{MayBeAsked, Tells, Makes};
+ghost use Rattle.wrap_split.specs.Wrap.{merge_next, filled_from, filled, wrap_ends, wrap_list, wrap_members, wrap};
+
+use crate::breaks::breaks_from;
+use crate::filling::{drop_parent, merge, move_in, put_before};
+use crate::listing::{all_hidden, widened};
+use crate::rule::{Blank, WrapRule};
+use crate::siblings::{first_parent, members};
+use crate::target::{if_fits, target};
+use edit_doc::{Doc, EditFault, NodeList, NodeRef};
+use std::alloc::{AllocError, Global};
+
+#[tactic(auto, using(edit_model::proofs::Steps::steps, edit_model::proofs::Steps::exits), unfolding(crate::specs::Wrap::merge_next))]
+fn merge_next<C: Fn(&Doc, NodeRef) -> bool, M: Fn() -> Result<Option<Blank>, AllocError>>(
+    alloc: Global,
+    doc: &mut Doc,
+    node: NodeRef,
+    rule: &WrapRule<C, M>,
+) -> Result<(), EditFault>
+    requires open { IsOpen doc.old }
+    requires node_held { Holds doc.old node }
+    requires may_be_asked { MayBeAsked (C.pre rule.now.meets) (λ d. d.now) }
+    requires tells { Tells (C.post rule.now.meets) (λ d. d.now) rule.now.criterion }
+    ensures gives { Gives result doc.old.state doc.new.state (merge_next rule.now.criterion node.label) }
+    ensures keeps { Keeps doc.old doc.new }
+{
+    let next = doc.next(node);
+    let Some(next) = if_fits(doc, next, rule) else {
+        return Ok(());
+    };
+    merge(alloc, doc, node, next)
+}
+
+#[tactic(auto, using(edit_model::proofs::Steps::steps, edit_model::proofs::Steps::exits), unfolding(crate::specs::Wrap::filled_from))]
+fn fill_from<C: Fn(&Doc, NodeRef) -> bool, M: Fn() -> Result<Option<Blank>, AllocError>>(
+    alloc: Global,
+    doc: &mut Doc,
+    node: NodeRef,
+    list: &[NodeRef],
+    from: (NodeRef, Option<NodeRef>),
+    rule: &WrapRule<C, M>,
+) -> Result<Option<NodeRef>, EditFault>
+    requires open { IsOpen doc.old }
+    requires some { 0 < length list.now }
+    requires node_held { Holds doc.old node }
+    requires list_held { EachHeld doc.old list.now }
+    requires first_held { Holds doc.old from.0 }
+    requires parent_held { IfHeld doc.old from.1 }
+    requires may_be_asked { MayBeAsked (C.pre rule.now.meets) (λ d. d.now) }
+    requires tells { Tells (C.post rule.now.meets) (λ d. d.now) rule.now.criterion }
+    ensures gives { GivesMaybe result doc.old.state doc.new.state (filled_from rule.now.criterion node.label (labels_of list.now) from.0.label (label_of from.1)) }
+    ensures held { IfOk result (λ found. IfHeld doc.new found) }
+    ensures keeps { Keeps doc.old doc.new }
+{
+    move_in(alloc, doc, node, list, from.0)?;
+    drop_parent(doc, from.1)?;
+    merge_next(alloc, doc, node, rule)?;
+    breaks_from(doc, node)?;
+    Ok(Some(node))
+}
+
+#[tactic(auto, using(edit_model::proofs::Steps::steps, edit_model::proofs::Steps::exits), unfolding(crate::specs::Wrap::filled))]
+fn fill<C: Fn(&Doc, NodeRef) -> bool, M: Fn() -> Result<Option<Blank>, AllocError>>(
+    alloc: Global,
+    doc: &mut Doc,
+    node: NodeRef,
+    list: &[NodeRef],
+    first: NodeRef,
+    rule: &WrapRule<C, M>,
+) -> Result<Option<NodeRef>, EditFault>
+    requires open { IsOpen doc.old }
+    requires some { 0 < length list.now }
+    requires node_held { Holds doc.old node }
+    requires list_held { EachHeld doc.old list.now }
+    requires first_held { Holds doc.old first }
+    requires may_be_asked { MayBeAsked (C.pre rule.now.meets) (λ d. d.now) }
+    requires tells { Tells (C.post rule.now.meets) (λ d. d.now) rule.now.criterion }
+    ensures gives { GivesMaybe result doc.old.state doc.new.state (filled rule.now.criterion node.label (labels_of list.now) first.label) }
+    ensures held { IfOk result (λ found. IfHeld doc.new found) }
+    ensures keeps { Keeps doc.old doc.new }
+{
+    put_before(doc, node, first)?;
+    let parent = doc.parent(first);
+    fill_from(alloc, doc, node, list, (first, parent), rule)
+}
+
+#[tactic(auto, using(edit_model::proofs::Steps::steps, edit_model::proofs::Steps::exits), unfolding(crate::specs::Wrap::into_target, crate::specs::Wrap::wrap_ends))]
+fn wrap_ends<C: Fn(&Doc, NodeRef) -> bool, M: Fn() -> Result<Option<Blank>, AllocError>>(
+    alloc: Global,
+    doc: &mut Doc,
+    list: &[NodeRef],
+    first: NodeRef,
+    last: NodeRef,
+    rule: &WrapRule<C, M>,
+) -> Result<Option<NodeRef>, EditFault>
+    requires open { IsOpen doc.old }
+    requires some { 0 < length list.now }
+    requires list_held { EachHeld doc.old list.now }
+    requires first_held { Holds doc.old first }
+    requires last_held { Holds doc.old last }
+    requires may_be_asked { MayBeAsked (C.pre rule.now.meets) (λ d. d.now) }
+    requires tells { Tells (C.post rule.now.meets) (λ d. d.now) rule.now.criterion }
+    requires makes_always { M.IsAlwaysCallable rule.now.make }
+    requires makes { Makes (M.post rule.now.make) rule.now.recipe }
+    ensures gives { GivesMaybe result doc.old.state doc.new.state (wrap_ends rule.now.criterion rule.now.recipe (labels_of list.now) first.label last.label) }
+    ensures held { IfOk result (λ found. IfHeld doc.new found) }
+    ensures keeps { Keeps doc.old doc.new }
+{
+    let Some(node) = target(doc, first, last, rule)? else {
+        return Ok(None);
+    };
+    fill(alloc, doc, node, list, first, rule)
+}
+
+#[tactic(auto, using(edit_model::proofs::Steps::steps, edit_model::proofs::Steps::exits, edit_model::proofs::Steps::ends), unfolding(crate::specs::Wrap::wrap_list))]
+fn wrap_list<C: Fn(&Doc, NodeRef) -> bool, M: Fn() -> Result<Option<Blank>, AllocError>>(
+    alloc: Global,
+    doc: &mut Doc,
+    list: &[NodeRef],
+    rule: &WrapRule<C, M>,
+) -> Result<Option<NodeRef>, EditFault>
+    requires open { IsOpen doc.old }
+    requires list_held { EachHeld doc.old list.now }
+    requires may_be_asked { MayBeAsked (C.pre rule.now.meets) (λ d. d.now) }
+    requires tells { Tells (C.post rule.now.meets) (λ d. d.now) rule.now.criterion }
+    requires makes_always { M.IsAlwaysCallable rule.now.make }
+    requires makes { Makes (M.post rule.now.make) rule.now.recipe }
+    ensures gives { GivesMaybe result doc.old.state doc.new.state (wrap_list rule.now.criterion rule.now.recipe (labels_of list.now)) }
+    ensures held { IfOk result (λ found. IfHeld doc.new found) }
+    ensures keeps { Keeps doc.old doc.new }
+{
+    if list.len() == 0 {
+        return Ok(None);
+    }
+    wrap_ends(alloc, doc, list, list[0], list[list.len() - 1], rule)
+}
+
+#[tactic(auto, using(edit_model::proofs::Steps::steps, edit_model::proofs::Steps::exits, edit_model::proofs::Steps::ends), unfolding(crate::specs::Wrap::wrap_members))]
+fn wrap_members<C: Fn(&Doc, NodeRef) -> bool, M: Fn() -> Result<Option<Blank>, AllocError>>(
+    alloc: Global,
+    doc: &mut Doc,
+    list: Vec<NodeRef>,
+    rule: &WrapRule<C, M>,
+) -> Result<Option<NodeRef>, EditFault>
+    requires open { IsOpen doc.old }
+    requires list_held { EachHeld doc.old list.items }
+    requires may_be_asked { MayBeAsked (C.pre rule.now.meets) (λ d. d.now) }
+    requires tells { Tells (C.post rule.now.meets) (λ d. d.now) rule.now.criterion }
+    requires makes_always { M.IsAlwaysCallable rule.now.make }
+    requires makes { Makes (M.post rule.now.make) rule.now.recipe }
+    ensures gives { GivesMaybe result doc.old.state doc.new.state (wrap_members rule.now.criterion rule.now.recipe (labels_of list.items)) }
+    ensures held { IfOk result (λ found. IfHeld doc.new found) }
+    ensures keeps { Keeps doc.old doc.new }
+{
+    if list.len() == 0 {
+        return Ok(None);
+    }
+    if all_hidden(doc, &list) {
+        return Ok(None);
+    }
+    let first = list[0];
+    let last = list[list.len() - 1];
+    let list = widened(doc, list, first, last)?;
+    wrap_list(alloc, doc, &list, rule)
+}
+
+/// Wraps a list of siblings in the sibling beside it that the rule allows, or else in an element that the rule makes.
+/// Answers that node; None where nothing of the list shows and none is a br, or where there is no such node. Of the list,
+/// the members that have a parent, and the same one as the first of them, are taken.
+#[tactic(auto, using(edit_model::proofs::Steps::steps, edit_model::proofs::Steps::exits), unfolding(crate::specs::Wrap::wrap))]
+pub fn wrap<C: Fn(&Doc, NodeRef) -> bool, M: Fn() -> Result<Option<Blank>, AllocError>>(
+    alloc: Global,
+    doc: &mut Doc,
+    list: NodeList,
+    rule: &WrapRule<C, M>,
+) -> Result<Option<NodeRef>, EditFault>
+    requires open { IsOpen doc.old }
+    requires list_held { EachHeld doc.old list }
+    requires may_be_asked { MayBeAsked (C.pre rule.now.meets) (λ d. d.now) }
+    requires tells { Tells (C.post rule.now.meets) (λ d. d.now) rule.now.criterion }
+    requires makes_always { M.IsAlwaysCallable rule.now.make }
+    requires makes { Makes (M.post rule.now.make) rule.now.recipe }
+    ensures gives { GivesMaybe result doc.old.state doc.new.state (wrap rule.now.criterion rule.now.recipe (labels_of list)) }
+    ensures held { IfOk result (λ found. IfHeld doc.new found) }
+    ensures keeps { Keeps doc.old doc.new }
+{
+    let Some(parent) = first_parent(doc, list.as_slice()) else {
+        return Ok(None);
+    };
+    let kept = members(alloc, doc, parent, list.as_slice())?;
+    wrap_members(alloc, doc, kept, rule)
+}
