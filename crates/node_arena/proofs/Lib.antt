@@ -6,6 +6,7 @@ pub mod LinkOk
 pub mod Walk
 pub mod UnlinkOk
 pub mod MakeOk
+mod SiblingOrder
 pub mod SlottedOk
 pub mod FindOk
 pub mod HostsOk

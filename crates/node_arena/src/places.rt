@@ -1,7 +1,7 @@
 //! The place of a node: by its label, among its siblings, and below the root of its tree.
 
-ghost use Rattle.std.specs.Prelude.{◌≡◌, ◌≢◌, ◌≤◌, min, None, IfSome, IsTrue, ◌↔◌, length};
-ghost use Rattle.dom_model.specs.Forest.{count_of, children_of, depth_of, IsWithin};
+ghost use Rattle.std.specs.Prelude.{◌≡◌, ◌≢◌, ◌≤◌, min, None, IfSome, IsTrue, ◌↔◌, length, Some, nat_lt};
+ghost use Rattle.dom_model.specs.Forest.{count_of, children_of, parent_of, depth_of, IsWithin};
 ghost use Rattle.dom_model.specs.Contents.{length_of};
 ghost use Rattle.dom_model.specs.Places.{index_of, first_of_two};
 ghost use Rattle.node_arena.specs.Held.{Holds, Names};
@@ -114,6 +114,44 @@ impl Arena {
         at
     }
 
+    // Whether the first of two children of one parent comes before the second. It goes on from both at once, to the front and
+    // to the end, until one of them meets the other or an end.
+    fn is_earlier_child(&self, x: NodeRef, y: NodeRef, parent: NodeRef) -> bool
+        requires first_held { Holds self.now x }
+        requires second_held { Holds self.now y }
+        requires first_child { parent_of self.now.trees x.label ≡ Some parent.label }
+        requires second_child { parent_of self.now.trees y.label ≡ Some parent.label }
+        ensures { result ≡ nat_lt (index_of self.now.trees x.label) (index_of self.now.trees y.label) }
+    {
+        self.lawful();
+        let mut before_x = x;
+        let mut before_y = y;
+        let mut after_x = x;
+        let mut after_y = y;
+        while let Some(left_x) = self.prev(before_x) {
+            let Some(left_y) = self.prev(before_y) else {
+                return false;
+            };
+            let Some(right_x) = self.next(after_x) else {
+                return false;
+            };
+            let Some(right_y) = self.next(after_y) else {
+                return true;
+            };
+            if right_x.label == y.label {
+                return true;
+            }
+            if right_y.label == x.label {
+                return false;
+            }
+            before_x = left_x;
+            before_y = left_y;
+            after_x = right_x;
+            after_y = right_y;
+        }
+        self.prev(before_y).is_some()
+    }
+
     // The same of two nodes of one depth that are not the same.
     fn before_apart(
         &self,
@@ -138,7 +176,7 @@ impl Arena {
         while let Some(p) = self.parent(x) {
             let q = self.parent(y).unwrap();
             if p.label == q.label {
-                return Some(if self.index(x) < self.index(y) { a } else { b });
+                return Some(if self.is_earlier_child(x, y, p) { a } else { b });
             }
             x = p;
             y = q;
