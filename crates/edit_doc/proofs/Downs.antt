@@ -3,9 +3,9 @@ use Rattle.std.proofs.Common.{◌≡◌, ℕ, zero, suc, ◌+◌, ◌<◌, ◌�
 use Rattle.std.specs.Prelude.{nat_le}
 use Rattle.dom_model.specs.declared.Content.{Content}
 use Rattle.dom_model.specs.Document.{node_count, char_count}
-use Rattle.dom_model.specs.Forest.{Forest, tops, times, count_of, tree_of, parent_of, IsDistinct}
+use Rattle.dom_model.specs.Forest.{Forest, tops, times, count_of, tree_of, parent_of, first_in, IsDistinct}
 use Rattle.dom_model.specs.Shed.{shed}
-use Rattle.dom_model.proofs.Shedding.{count_of-shed}
+use Rattle.dom_model.proofs.Shedding.{count_of-shed, parent_of-shed, children_of-shed}
 use Rattle.undo_log.specs.Turning.{back, forth, inverses_back, inverses_forth, FitsBack, FitsForth}
 use Rattle.forest_changes.specs.Change.{Change, IsForest, Fits, applied, turned}
 use Rattle.forest_changes.specs.Named.{Each, named_in}
@@ -24,7 +24,7 @@ use Rattle.edit_model.specs.Gives.{labels_of}
 use Rattle.edit_doc.specs.declared.command.Beside.{Beside}
 use Rattle.edit_doc.specs.declared.command.Command.{Command}
 use Rattle.edit_doc.specs.History.{forest_before, forest_after, is_hidden, view_at, undo_entries, redo_entries}
-use Rattle.edit_doc.specs.Sound.{RefIn, EachHeldIn, CanGoBack, CanGoForth, IsSide, IsBeside, left_of, next_first, UndoSound, RedoSound}
+use Rattle.edit_doc.specs.Sound.{RefIn, EachHeldIn, CanGoBack, CanGoForth, IsSide, AreFresh, IsBeside, left_of, next_first, UndoSound, RedoSound}
 use Rattle.edit_doc.proofs.HiddenTrees.{Hidden, hidden_is, is_hidden_from, shed_more, both_left, tops_left, tops_stay, top_loose, loose_left, model_forest, document-shed, placed-shed, node_count-shed, char_count-shed}
 
 -- ---- steps keep a forest and its labels
@@ -89,6 +89,12 @@ each_both : {A : Type 0} (P Q R : A → Type 0) (ls : List A) → ((l : A) → P
 each_both P Q R [] f a b = tt
 each_both P Q R (l ∷ ls) f a b = (f l a.0 b.0, each_both P Q R ls f a.1 b.1)
 
+fresh-shed : (k : ℕ → Bool) (f : Forest Content) (first : ℕ) → IsDistinct f → AreFresh f first → AreFresh (shed k f) first
+fresh-shed k f first once h = record {
+  loose = λ l from here. parent_of-shed k f l once here ∙ h.loose l from (omega (arith, here, count_of-shed k f l));
+  leaf = λ l from here. ap first_in (children_of-shed k f l once here) ∙ h.leaf l from (omega (arith, here, count_of-shed k f l));
+}
+
 beside-shed : (k : ℕ → Bool) → k 0 ≡ false → (names : List (List ℕ)) (before after : Forest Content) (e : List Step) (ts : List Change) (b : Beside) (left : List NodeRef) (high start : ℕ) →
     IsForest before → Bounded before → IsForest after → Bounded after →
     Each (IsLeft k before) (named_in (changes_of e)) → Each (IsLeft k after) (named_in (changes_of e)) →
@@ -97,6 +103,7 @@ beside-shed k keeps names before after e ts b left high start is bound is' bound
   was = side-shed k keeps names before b.sides.before b.sides.nodes_before b.sides.chars_before is bound h.was;
   is = side-shed k keeps names after b.sides.after b.sides.nodes_after b.sides.chars_after is' bound' h.is;
   some_label = h.some_label;
+  fresh = fresh-shed k before b.sides.first_label is.distinct h.fresh;
   drawn = h.drawn;
   known = h.known;
   hidden = λ l t. (

@@ -25,7 +25,7 @@ use Rattle.edit_doc.specs.History.{forest_before, is_hidden, view_at, undo_entri
 use Rattle.edit_doc.specs.Sound.{IsBeside, UndoSound}
 use Rattle.edit_doc.proofs.Inner.{Ok}
 use Rattle.edit_doc.proofs.Turnings.{sheds_after}
-use Rattle.edit_doc.proofs.Rolls.{run, g, xs, beside_of}
+use Rattle.edit_doc.proofs.Rolls.{run, g, xs, below_g, beside_of}
 use Rattle.edit_doc.proofs.Commits.{placed_now}
 
 -- the oldest entries go
@@ -72,6 +72,10 @@ module _ (d : Inside) (law : IsArena d.arena) (ok : Ok d) (opened : IsTrue (is_o
           chars_are = ok.chars;
         };
         some_label = ok.some_label;
+        fresh = record {
+          loose = λ l from there. r.made.loose l from (below_g d law ok opened l there) there;
+          leaf = λ l from there. r.made.leaf l from (below_g d law ok opened l there) there;
+        };
         drawn = ok.lawful.started;
         known = omega arith;
         hidden = ok.hidden;

@@ -146,6 +146,7 @@ module _ (d : Inside) (law : IsArena d.arena) (ok : Ok d) (opened : IsTrue (is_o
         chars_are = ok.chars;
       };
       some_label = was.some_label;
+      fresh = was.fresh;
       drawn = (let t = ok.lawful.started in let low = first_low in omega (arith, t, low));
       known = omega arith;
       hidden = roots;

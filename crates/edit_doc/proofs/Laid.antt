@@ -98,6 +98,7 @@ beside_later names before after e ts b left high start up later h le known = rec
   was = h.was;
   is = h.is;
   some_label = h.some_label;
+  fresh = h.fresh;
   drawn = (let t = h.drawn in omega arith);
   known = known;
   hidden = h.hidden;

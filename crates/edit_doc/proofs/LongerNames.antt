@@ -88,6 +88,7 @@ module _ (old new : List (List ℕ)) (h : AreLonger old new) where
     was = side_longer before b.sides.before b.sides.nodes_before b.sides.chars_before s.was;
     is = side_longer after b.sides.after b.sides.nodes_after b.sides.chars_after s.is;
     some_label = s.some_label;
+    fresh = s.fresh;
     drawn = s.drawn;
     known = s.known;
     hidden = s.hidden;

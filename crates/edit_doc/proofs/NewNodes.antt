@@ -59,7 +59,7 @@ use Rattle.edit_doc.specs.Whole.{Whole, IsOpen}
 use Rattle.edit_doc.specs.Held.{Holds, Keeps}
 use Rattle.edit_doc.specs.Marks.{IsMarked, NotesMade}
 use Rattle.edit_doc.specs.History.{forest_before, forest_after, begun_forest, is_hidden, seen_trees, state_of, begun_state, began_with, view_at, undo_entries, redo_entries, history_of, whole_of}
-use Rattle.edit_doc.specs.Sound.{RefIn, EachHeldIn, IsSide, AreAlone, IsBeside, IsRunning, OpenSound, UndoSound, RedoSound, left_of, next_first, IsSound}
+use Rattle.edit_doc.specs.Sound.{RefIn, EachHeldIn, IsSide, AreFresh, AreAlone, IsBeside, IsRunning, OpenSound, UndoSound, RedoSound, left_of, next_first, IsSound}
 use Rattle.edit_doc.proofs.Laid.{redo_later}
 use Rattle.edit_doc.proofs.Downs.{back_forest, forth_forest}
 use Rattle.edit_doc.proofs.HiddenTrees.{model_forest, true_lt}
@@ -129,6 +129,20 @@ module _ (l : ℕ) (c : Content) where
       chars_are = h.chars_are ∙ sym chars_leaf;
     }
 
+  fresh_leaf : (f : Forest Content) (first : ℕ) → IsBelow f l → AreFresh f first → AreFresh (with_leaf f l c) first
+  fresh_leaf f first low h = record {
+    loose = λ j from here. parent_of-with_leaf f l c (fresh l c f low) j ∙ loose j from (count_of f j) refl;
+    leaf = λ j from here. ap first_in (children_of-with_leaf f l c (fresh l c f low) j) ∙ leaf j from (count_of f j) refl;
+  }
+    where
+      loose : (j : ℕ) → first ≤ j → (n : ℕ) → count_of f j ≡ n → parent_of f j ≡ None
+      loose j from zero e = ap (λ (o : Option (Seen Content)). option_and_then (λ s. s.parent) o) (seek_absent None f j e)
+      loose j from (suc n) e = h.loose j from (omega (arith, e))
+
+      leaf : (j : ℕ) → first ≤ j → (n : ℕ) → count_of f j ≡ n → first_of f j ≡ None
+      leaf j from zero e = ap (λ (o : Option (Seen Content)). first_in (option_map_or (λ s. s.children) o [])) (seek_absent None f j e)
+      leaf j from (suc n) e = h.leaf j from (omega (arith, e))
+
   beside_leaf : (names : List (List ℕ)) (before after : Forest Content) (e : List Step) (ts : List Change) (b : Beside) (left : List NodeRef) (high start : ℕ) → start ≤ l →
       IsForest before → IsBelow before l → IsForest after → IsBelow after l →
       IsBeside names before after e ts b left high start → IsBeside names (with_leaf before l c) (with_leaf after l c) e ts b left high start
@@ -138,6 +152,7 @@ module _ (l : ℕ) (c : Content) where
         was = side_leaf before is low names b.sides.before b.sides.nodes_before b.sides.chars_before h.was;
         is = side_leaf after is' low' names b.sides.after b.sides.nodes_after b.sides.chars_after h.is;
         some_label = h.some_label;
+        fresh = fresh_leaf before b.sides.first_label low h.fresh;
         drawn = h.drawn;
         known = h.known;
         hidden = λ j t. (let x = h.hidden j (sym (hidden_leaf before b.sides.first_label j first) ∙ t) in omega (arith, x, times-with_leaf after j));

@@ -42,7 +42,7 @@ use Rattle.edit_doc.specs.Fields.{IsEnded, ForgetsIn, Forgets}
 use Rattle.edit_doc.specs.Whole.{Whole, Began, state_rolled_back, rolled_to}
 use Rattle.edit_doc.specs.Held.{Holds, KeepsThere}
 use Rattle.edit_doc.specs.History.{forest_before, forest_after, is_hidden, view_at, begun_forest, state_of, begun_state, began_with, history_of, undo_entries, redo_entries, whole_of}
-use Rattle.edit_doc.specs.Sound.{RefIn, AreAlone, IsSide, IsBeside, IsIdle, IsRunning, OpenSound, UndoSound, RedoSound, left_of, next_first, IsSound}
+use Rattle.edit_doc.specs.Sound.{RefIn, AreFresh, AreAlone, IsSide, IsBeside, IsIdle, IsRunning, OpenSound, UndoSound, RedoSound, left_of, next_first, IsSound}
 use Rattle.edit_doc.proofs.HiddenTrees.{le_false, le_true, true_le, false_le, document-shed, model_forest}
 use Rattle.edit_doc.proofs.Downs.{back_forest, back_bounded, forth_labels, back_labels, Bounded, KeepsLeft, EntriesLeft, side-shed, undo-shed, redo-shed, undo_entries-shed, redo_entries-shed}
 use Rattle.edit_doc.proofs.Inner.{seen, Ok}
@@ -58,6 +58,7 @@ beside_of names before after e ts b c left high start same h = record {
   was = subst (λ (s : Sides). IsSide names before s.before s.nodes_before s.chars_before) same h.was;
   is = subst (λ (s : Sides). IsSide names after s.after s.nodes_after s.chars_after) same h.is;
   some_label = subst (λ (s : Sides). 0 < s.first_label) same h.some_label;
+  fresh = subst (λ (s : Sides). AreFresh before s.first_label) same h.fresh;
   drawn = subst (λ (s : Sides). s.first_label ≤ high) same h.drawn;
   known = h.known;
   hidden = subst (λ (s : Sides). (l : ℕ) → is_hidden before s.first_label l ≡ true → 0 < times (tops after) l) same h.hidden;
@@ -183,7 +184,7 @@ module _ (d : Inside) (law : IsArena d.arena) (ok : Ok d) (opened : IsTrue (is_o
   pub bound_g : Bounded g
   bound_g = back_bounded xs d.arena.trees run.can.0 (record { next = d.arena.next; below = law.below })
 
-  below_g : (l : ℕ) → 0 < count_of g l → l < d.arena.next
+  pub below_g : (l : ℕ) → 0 < count_of g l → l < d.arena.next
   below_g l here = law.below l (let s = back_labels (changes_of xs) d.arena.trees l run.can.0 in omega arith)
 
   pub whole_g : IsWhole k g

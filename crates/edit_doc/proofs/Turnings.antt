@@ -80,6 +80,7 @@ module _ (a : Arena) (is : IsForest a.trees) (slotted : IsSlotted a) (names : Li
         was = h.was;
         is = h.is;
         some_label = h.some_label;
+        fresh = h.fresh;
         drawn = h.drawn;
         known = h.known;
         hidden = h.hidden;
@@ -121,6 +122,7 @@ module _ (a : Arena) (is : IsForest a.trees) (slotted : IsSlotted a) (names : Li
         was = h.was;
         is = h.is;
         some_label = h.some_label;
+        fresh = h.fresh;
         drawn = h.drawn;
         known = h.known;
         hidden = h.hidden;

@@ -62,6 +62,11 @@ pub record AreAlone (f : Forest Content) (low high : ℕ) : Type 0 where
   pub loose : (l : ℕ) → low ≤ l → l < high → 0 < count_of f l → parent_of f l ≡ None
   pub leaf : (l : ℕ) → low ≤ l → l < high → 0 < count_of f l → first_of f l ≡ None
 
+-- each node of this label or a greater one is alone in a loose tree
+pub record AreFresh (f : Forest Content) (first : ℕ) : Type 0 where
+  pub loose : (l : ℕ) → first ≤ l → 0 < count_of f l → parent_of f l ≡ None
+  pub leaf : (l : ℕ) → first ≤ l → 0 < count_of f l → first_of f l ≡ None
+
 -- An entry that leads from one forest to another. Its steps name only nodes that its commands saw, on both sides: those of
 -- the document before it, and those that they made, with labels below `high`, the first that a later entry can have; and so
 -- do those that the steps turn into. The trees that they didn't see are still loose after it, and so are those that it
@@ -70,6 +75,7 @@ pub record IsBeside (names : List (List ℕ)) (before after : Forest Content) (e
   pub was : IsSide names before b.sides.before b.sides.nodes_before b.sides.chars_before
   pub is : IsSide names after b.sides.after b.sides.nodes_after b.sides.chars_after
   pub some_label : 0 < b.sides.first_label
+  pub fresh : AreFresh before b.sides.first_label
   pub drawn : b.sides.first_label ≤ high
   pub known : high ≤ start
   pub hidden : (l : ℕ) → is_hidden before b.sides.first_label l ≡ true → 0 < times (tops after) l
