@@ -259,6 +259,12 @@ module _ (d : Inside) (law : IsArena d.arena) (ok : Ok d) (opened : IsTrue (is_o
     here : Recorded log
     here = subst Recorded (sym is) recorded_is
 
+    pub entry_closed : log.open_entry ≡ Closed
+    entry_closed = here.closed
+
+    pub entry_redo : log.redo ≡ []
+    entry_redo = here.redo
+
     pub entry_ok : IsSound d.arena (shown d.points.names p) d.overrides.items d.flags d.counts c log us [] d.undo_sides.capacity d.redo_sides.capacity
     entry_ok = recorded_ok d law ok opened p resting log here.closed here.redo here.depth us c ended here.undo
 

@@ -44,3 +44,7 @@ pub mod Lessened
 pub mod Replaced
 pub mod Removed
 pub mod Roomier
+pub mod GivingUp
+pub mod Unnamed
+pub mod Freed
+pub mod Spared

@@ -131,32 +131,32 @@ module _ (k : ℕ → Bool) (f0 : Forest Content) (held : List (Option ℕ)) (na
   )
 
 -- nodes that are alone are whole trees
-pub whole_alone : (g : Forest Content) (first next : ℕ) → IsDistinct g → ((l : ℕ) → 0 < count_of g l → l < next) → AreAlone g first next → IsWhole (nat_le first) g
-whole_alone g first next once below alone = record { same = same }
+pub whole_those : (k : ℕ → Bool) (g : Forest Content) → IsDistinct g → ((l : ℕ) → k l ≡ true → 0 < count_of g l → (parent_of g l ≡ None) × (first_of g l ≡ None)) → IsWhole k g
+whole_those k g once alone = record { same = same }
   where
-    no_child : (l p : ℕ) → parent_of g l ≡ Some p → first ≤ p → ⊥
-    no_child l p e far =
+    no_child : (l p : ℕ) → parent_of g l ≡ Some p → k p ≡ true → ⊥
+    no_child l p e is =
         let here = (parent_count g l p once e).1 in
-        let root = alone.loose p far (below p here) here in
-        let off : p ≡ l → ⊥ = (λ s. (let t = ap (parent_of g) s ∙ e in let u = sym root ∙ t in absurd (let u' : None ≡ Some p = u in cc))) in
-        let out = leaf_out g p once here root (alone.leaf p far (below p here) here) l off in
+        let own = alone p is here in
+        let off : p ≡ l → ⊥ = (λ s. (let t = ap (parent_of g) s ∙ e in let u = sym own.0 ∙ t in absurd (let u' : None ≡ Some p = u in cc))) in
+        let out = leaf_out g p once here own.0 own.1 l off in
         let inside = within_child g p once here l p e (within_self g p once here) in
         omega (arith, out, inside)
 
-    no_parent : (l p : ℕ) → parent_of g l ≡ Some p → first ≤ l → ⊥
-    no_parent l p e far =
+    no_parent : (l p : ℕ) → parent_of g l ≡ Some p → k l ≡ true → ⊥
+    no_parent l p e is =
         let here = (parent_count g l p once e).0 in
-        let root = alone.loose l far (below l here) here in
+        let root = (alone l is here).0 in
         absurd (let u : None ≡ Some p = sym root ∙ e in cc)
 
-    same : (l p : ℕ) → parent_of g l ≡ Some p → nat_le first l ≡ nat_le first p
-    same l p e = elim (true_or_false (nat_le first l)) [
-      | inl a ↦ absurd (no_parent l p e (true_le first l a))
-      | inr a ↦ elim (true_or_false (nat_le first p)) [
-        | inl b ↦ absurd (no_child l p e (true_le first p b))
-        | inr b ↦ a ∙ sym b
-      ]
+    same : (l p : ℕ) → parent_of g l ≡ Some p → k l ≡ k p
+    same l p e = elim (true_or_false (k l)) [
+      | inl a ↦ absurd (no_parent l p e a)
+      | inr a ↦ elim (true_or_false (k p)) [ inl b ↦ absurd (no_child l p e b) | inr b ↦ a ∙ sym b ]
     ]
+
+whole_alone : (g : Forest Content) (first next : ℕ) → IsDistinct g → ((l : ℕ) → 0 < count_of g l → l < next) → AreAlone g first next → IsWhole (nat_le first) g
+whole_alone g first next once below alone = whole_those (nat_le first) g once (λ l t here. (let from = true_le first l t in (alone.loose l from (below l here) here, alone.leaf l from (below l here) here)))
 
 -- ---- what goes with the nodes that were made since
 

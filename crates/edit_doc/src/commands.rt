@@ -8,6 +8,7 @@ ghost use Rattle.edit_doc.specs.Fields.{SwapsLeft, Forgets, Enters};
 ghost use Rattle.edit_doc.specs.Held.{IfHeld, KeepsThere};
 
 use crate::command::{Beside, Command, Kept, resting_places};
+use crate::giving_up::{first_undone, give_up_unnamed};
 use crate::{Committed, Counts, Doc, NodeRef};
 use circular_buffer::HeapCircularBuffer;
 use edit_parts::unset_overrides;
@@ -91,6 +92,9 @@ impl Doc {
             }
             Committed::Entry => {}
         }
+        let low = first_undone(&self.redo_sides, self.command.start);
+        give_up_unnamed(&mut self.arena, low, &self.command);
+        self.arena.lawful();
         keep_entry(
             self.alloc,
             &mut self.undo_sides,

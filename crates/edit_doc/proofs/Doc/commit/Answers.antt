@@ -1,10 +1,14 @@
-use Rattle.std.proofs.Common.{◌≡◌, ℕ, ◌<◌, refl, subst, ◌∙◌, length}
+use Rattle.std.proofs.Common.{◌≡◌, ℕ, ◌<◌, true, None, refl, sym, subst, ◌∙◌, length}
 use Rattle.undo_log.specs.Log.{noted}
 use Rattle.undo_log.specs.Log.Open.{Closed}
 use Rattle.edit_doc.specs.Fields.{IsEnded}
 use Rattle.edit_doc.proofs.Commits.{none_made, committed_none, nothing_whole, nothing_ok, nothing_state, nothing_history, nothing_keeps}
 use Rattle.edit_doc.proofs.Inner.{open_of}
-use Rattle.edit_doc.proofs.Joins.{entry_ok, entry_state, entry_history}
+use Rattle.edit_doc.proofs.Rolls.{run}
+use Rattle.edit_doc.proofs.Spared.{spared_ok, spared_state, spared_history, spared_keeps}
+use Rattle.edit_doc.proofs.Unnamed.{unnamed, some_low, unnamed_loose}
+use Rattle.dom_model.specs.Forest.{parent_of}
+use Rattle.edit_doc.specs.GivingUp.{GivesUp, is_unnamed}
 use Rattle.edit_doc.proofs.Doc.commit.Goals as goal
 
 pub drop_made-requires-clause-whole : goal.drop_made-requires-clause-whole
@@ -45,23 +49,43 @@ returns-in-Nothing-clause-keeps c =
 made : (c : goal.After-end-2) → 0 < length (noted c.self.inside.log.open_entry)
 made c = c.in-Entry.ensures.answer.0 refl
 
+pub give_up_unnamed-requires-clause-inner : goal.give_up_unnamed-requires-clause-inner
+give_up_unnamed-requires-clause-inner c = subst (λ (n : ℕ). 0 < n) (sym c.first_undone-low.ensures) (some_low c.self.inside c.lawful-2.ensures c.self.invariant (open_of c.self.inside _ c.self.view_is c.requires.«open»))
+
+pub give_up_unnamed-requires-clause-marks : goal.give_up_unnamed-requires-clause-marks
+give_up_unnamed-requires-clause-marks c = (run c.self.inside c.lawful-2.ensures c.self.invariant (open_of c.self.inside _ c.self.view_is c.requires.«open»)).marks
+
+pub give_up_unnamed-requires-clause-loose : goal.give_up_unnamed-requires-clause-loose
+give_up_unnamed-requires-clause-loose c =
+    subst (λ (n : ℕ). (l : ℕ) → is_unnamed n c.self.inside.command l ≡ true → parent_of c.self.inside.arena.trees l ≡ None) (sym c.first_undone-low.ensures)
+    (unnamed_loose c.self.inside c.lawful-2.ensures c.self.invariant (open_of c.self.inside _ c.self.view_is c.requires.«open»))
+
+gives : (c : goal.After-end-2) → GivesUp (unnamed c.self.inside c.lawful-2.ensures c.self.invariant (open_of c.self.inside _ c.self.view_is c.requires.«open»)) c.self.inside.arena c.give_up_unnamed.new.arena
+gives c = subst (λ (n : ℕ). GivesUp (is_unnamed n c.self.inside.command) c.self.inside.arena c.give_up_unnamed.new.arena) c.first_undone-low.ensures c.give_up_unnamed.ensures
+
 entry_ended : (c : goal.After-end-2) → IsEnded c.self.inside.arena.next c.end-2.new.self
-entry_ended c = subst (λ (n : ℕ). IsEnded n c.end-2.new.self) c.next_label-2.ensures c.end-2.ensures
+entry_ended c = subst (λ (n : ℕ). IsEnded n c.end-2.new.self) (c.next_label-2.ensures ∙ c.give_up_unnamed.ensures.next) c.end-2.ensures
 
 pub invariant_of-self-2 : goal.invariant_of-self-2
 invariant_of-self-2 c =
     rw (c.set_places.ensures, c.clear.ensures, c.keep_entry.ensures.capacity)
-    (entry_ok c.self.inside c.lawful-2.ensures c.self.invariant (open_of c.self.inside _ c.self.view_is c.requires.«open») c.resting_places-places.result c.resting_places-places.ensures c.lawful.ensures (made c)
-    _ (entry_ended c) _ c.keep_entry.ensures.entered _ c.in-Entry.ensures.log)
+    (spared_ok c.self.inside c.lawful-2.ensures c.self.invariant (open_of c.self.inside _ c.self.view_is c.requires.«open») c.resting_places-places.result c.resting_places-places.ensures c.lawful.ensures (made c)
+    _ (entry_ended c) _ c.keep_entry.ensures.entered _ c.in-Entry.ensures.log _ (gives c) c.lawful-3.ensures)
 
 pub returns-clause-state : goal.returns-clause-state
 returns-clause-state c =
     rw c.set_places.ensures
-    (entry_state c.self.inside c.lawful-2.ensures c.self.invariant (open_of c.self.inside _ c.self.view_is c.requires.«open») c.resting_places-places.result c.resting_places-places.ensures c.lawful.ensures (made c)
-    _ (entry_ended c) _ c.keep_entry.ensures.entered _ c.in-Entry.ensures.log _ c.self.view_is)
+    (spared_state c.self.inside c.lawful-2.ensures c.self.invariant (open_of c.self.inside _ c.self.view_is c.requires.«open») c.resting_places-places.result c.resting_places-places.ensures c.lawful.ensures (made c)
+    _ (entry_ended c) _ c.keep_entry.ensures.entered _ c.in-Entry.ensures.log _ (gives c) c.lawful-3.ensures _ c.self.view_is)
 
 pub returns-clause-history : goal.returns-clause-history
 returns-clause-history c =
     rw (c.set_places.ensures, c.clear.ensures)
-    (entry_history c.self.inside c.lawful-2.ensures c.self.invariant (open_of c.self.inside _ c.self.view_is c.requires.«open») c.resting_places-places.result c.resting_places-places.ensures c.lawful.ensures (made c)
-    _ (entry_ended c) _ c.keep_entry.ensures.entered _ c.in-Entry.ensures.log _ c.self.view_is)
+    (spared_history c.self.inside c.lawful-2.ensures c.self.invariant (open_of c.self.inside _ c.self.view_is c.requires.«open») c.resting_places-places.result c.resting_places-places.ensures c.lawful.ensures (made c)
+    _ (entry_ended c) _ c.keep_entry.ensures.entered _ c.in-Entry.ensures.log _ (gives c) c.lawful-3.ensures _ c.self.view_is)
+
+pub returns-clause-keeps : goal.returns-clause-keeps
+returns-clause-keeps c =
+    rw (c.set_places.ensures, c.clear.ensures)
+    (spared_keeps c.self.inside c.lawful-2.ensures c.self.invariant (open_of c.self.inside _ c.self.view_is c.requires.«open») c.resting_places-places.result c.resting_places-places.ensures c.lawful.ensures (made c)
+    _ (entry_ended c) _ c.keep_entry.ensures.entered _ c.in-Entry.ensures.log _ (gives c) c.lawful-3.ensures _ c.self.view_is)

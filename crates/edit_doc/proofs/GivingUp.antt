@@ -1,0 +1,168 @@
+-- Loose trees are given up one after another.
+use Rattle.std.proofs.Common.{◌≡◌, ◌≢◌, ℕ, zero, suc, ◌+◌, ◌<◌, ◌≤◌, Bool, true, false, cond, Option, Some, None, refl, sym, ap, subst, ◌∙◌, inl, inr, arith, eqb, nat_lt}
+use Rattle.std.specs.Prelude.{◌&&◌, ◌||◌, ◌==◌, not, nat_le}
+use Rattle.std.proofs.lemmas.Bool.Decides.{eqb_tells, nat_tests}
+use Rattle.dom_model.specs.declared.Content.{Content}
+use Rattle.dom_model.specs.Forest.{Forest, tops, times, count_of, tree_of, parent_of, without}
+use Rattle.dom_model.specs.Forest.Forest.{Nil, Tree}
+use Rattle.dom_model.specs.Shed.{shed}
+use Rattle.dom_model.specs.State.{State as Arena, IsLawful as IsArena}
+use Rattle.dom_model.proofs.Stands.{true_or_false, times-tops}
+use Rattle.dom_model.proofs.Shedding.{count_of-shed}
+use Rattle.dom_model.proofs.Totals.{total-without}
+use Rattle.forest_changes.proofs.DownChange.{shed_tree}
+use Rattle.forest_changes.proofs.Twice.{forest_of}
+use Rattle.node_arena.specs.declared.NodeRef.{NodeRef}
+use Rattle.node_arena.specs.Held.{Holds, DropsTree}
+use Rattle.edit_doc.specs.declared.command.Command.{Command}
+use Rattle.edit_doc.specs.GivingUp.{GivesUp, has_named, is_unnamed}
+use Rattle.edit_doc.specs.Sound.{RefIn}
+use Rattle.edit_doc.proofs.HiddenTrees.{shed-same, shed-none, loose_left}
+
+module _ {C : Type 0} where
+  shed-shed : (k j : ℕ → Bool) (f : Forest C) → shed j (shed k f) ≡ shed (λ l. k l || j l) f
+  shed-shed k j Nil = refl
+  shed-shed k j (Tree m c ks rest) =
+      let ih = shed-shed k j rest in
+      elim (true_or_false (k m)) [
+        | inl e ↦ rw e ih
+        | inr e ↦ elim (true_or_false (j m)) [
+          | inl t ↦ rw (e, t) ih
+          | inr t ↦ rw (e, t) (ap (Tree m c ks) ih)
+        ]
+      ]
+
+-- ---- what is given up
+
+gives_none : (a : Arena) → GivesUp (λ _. false) a a
+gives_none a = record { trees = sym (shed-none a.trees); next = refl; cap = refl; keeps = λ q h left. h }
+
+gives_join : (k j : ℕ → Bool) (a b c : Arena) → GivesUp k a b → GivesUp j b c → GivesUp (λ l. k l || j l) a c
+gives_join k j a b c x y =
+    let both : shed j b.trees ≡ shed (λ l. k l || j l) a.trees = ap (shed j) x.trees ∙ shed-shed k j a.trees in
+    record {
+      trees = y.trees ∙ both;
+      next = y.next ∙ x.next;
+      cap = y.cap ∙ x.cap;
+      keeps = λ q h left. (
+          let last : 0 < count_of (shed j b.trees) q.label = subst (λ t. 0 < count_of t q.label) (sym both) left in
+          y.keeps q (x.keeps q h (subst (λ t. 0 < count_of t q.label) x.trees (omega (arith, last, count_of-shed j b.trees q.label)))) last);
+    }
+
+-- the labels of roots alone matter
+gives_on : (k j : ℕ → Bool) (a b : Arena) → ((l : ℕ) → 0 < times (tops a.trees) l → k l ≡ j l) → GivesUp k a b → GivesUp j a b
+gives_on k j a b same x =
+    let e = shed-same k j a.trees same in
+    record { trees = x.trees ∙ e; next = x.next; cap = x.cap; keeps = λ q h left. x.keeps q h (subst (λ t. 0 < count_of t q.label) (sym e) left) }
+
+pub gives_tree : (a b : Arena) (r : NodeRef) (l : ℕ) → IsArena a → r.label ≡ l → Holds a r → parent_of a.trees l ≡ None → DropsTree a b r → GivesUp (λ j. j == l) a b
+gives_tree a b r l law is held loose drops =
+    let here : 0 < count_of a.trees l = subst (λ j. 0 < count_of a.trees j) is (law.here r.slot r.label held) in
+    let e : shed (λ j. j == l) a.trees ≡ without a.trees l = shed_tree l a.trees (forest_of a law) here loose in
+    record {
+      trees = drops.trees ∙ (ap (without a.trees) is ∙ sym e);
+      next = drops.next;
+      cap = drops.cap;
+      keeps = λ q h left. drops.keeps q h (
+          let left' : 0 < count_of (without a.trees l) q.label = subst (λ t. 0 < count_of t q.label) e left in
+          let out : count_of (tree_of a.trees l) q.label ≡ 0 = omega (arith, left', law.distinct q.label, total-without (λ m _. cond (eqb m q.label) 1 0) a.trees l) in
+          subst (λ j. count_of (tree_of a.trees j) q.label ≡ 0) (sym is) out);
+    }
+
+pub gives_absent : (a : Arena) (l : ℕ) → count_of a.trees l ≡ 0 → GivesUp (λ j. j == l) a a
+gives_absent a l none = gives_on (λ _. false) (λ j. j == l) a a (λ j top. off j top) (gives_none a)
+  where
+    off : (j : ℕ) → 0 < times (tops a.trees) j → false ≡ (j == l)
+    off j top = elim (eqb_tells j l) [
+      | inl (_, is) ↦ absurd (let t = subst (λ i. 0 < times (tops a.trees) i) is top in omega (arith, t, none, times-tops a.trees l))
+      | inr (e, _) ↦ sym e
+    ]
+
+-- ---- label by label
+
+module _ (u : ℕ → Bool) where
+  abbrev pub up_to : ℕ → ℕ → Bool
+  up_to n l = u l && nat_lt l n
+
+  pub gives_first : (a : Arena) (low : ℕ) → ((l : ℕ) → l < low → u l ≡ false) → GivesUp (up_to low) a a
+  gives_first a low none = gives_on (λ _. false) (up_to low) a a (λ l top. off l) (gives_none a)
+    where
+      off : (l : ℕ) → false ≡ (u l && nat_lt l low)
+      off l = elim (true_or_false (nat_lt l low)) [
+        | inl t ↦ (let e = none l (lower l t) in rw e refl)
+        | inr t ↦ rw t (sym (and_false (u l)))
+      ]
+        where
+          lower : (j : ℕ) → nat_lt j low ≡ true → j < low
+          lower j t = grind (arith, nat_tests)
+
+          and_false : (b : Bool) → (b && false) ≡ false
+          and_false true = refl
+          and_false false = refl
+
+  pub gives_past : (a b : Arena) (n : ℕ) → u n ≡ false → GivesUp (up_to n) a b → GivesUp (up_to (n + 1)) a b
+  gives_past a b n named x = gives_on (up_to n) (up_to (n + 1)) a b (λ l top. same l) x
+    where
+      same : (l : ℕ) → (u l && nat_lt l n) ≡ (u l && nat_lt l (n + 1))
+      same l = elim (eqb_tells l n) [
+        | inl (_, is) ↦ (let e : u l ≡ false = ap u is ∙ named in rw e refl)
+        | inr (_, off) ↦ ap (λ b. u l && b) (apart l n off)
+      ]
+        where
+          apart : (l n : ℕ) → l ≢ n → nat_lt l n ≡ nat_lt l (n + 1)
+          apart l n off = grind (arith, nat_tests)
+
+  pub gives_next : (a b c : Arena) (n : ℕ) → u n ≡ true → GivesUp (up_to n) a b → GivesUp (λ j. j == n) b c → GivesUp (up_to (n + 1)) a c
+  gives_next a b c n unnamed x y = gives_on (λ l. up_to n l || (l == n)) (up_to (n + 1)) a c (λ l top. same l) (gives_join (up_to n) (λ j. j == n) a b c x y)
+    where
+      same : (l : ℕ) → ((u l && nat_lt l n) || (l == n)) ≡ (u l && nat_lt l (n + 1))
+      same l = elim (eqb_tells l n) [
+        | inl (t, is) ↦ (let e : u l ≡ true = ap u is ∙ unnamed in rw (e, t) (own l n is))
+        | inr (t, off) ↦ rw t (or_false (u l && nat_lt l n) ∙ ap (λ b. u l && b) (apart l n off))
+      ]
+        where
+          own : (l n : ℕ) → l ≡ n → (nat_lt l n || true) ≡ nat_lt l (n + 1)
+          own l n is = grind (arith, nat_tests)
+
+          or_false : (b : Bool) → (b || false) ≡ b
+          or_false true = refl
+          or_false false = refl
+
+          apart : (l n : ℕ) → l ≢ n → nat_lt l n ≡ nat_lt l (n + 1)
+          apart l n off = grind (arith, nat_tests)
+
+  pub gives_all : (a b : Arena) (n : ℕ) → IsArena a → a.next ≤ n → GivesUp (up_to n) a b → GivesUp u a b
+  gives_all a b n law all x = gives_on (up_to n) u a b same x
+    where
+      same : (l : ℕ) → 0 < times (tops a.trees) l → (u l && nat_lt l n) ≡ u l
+      same l top = (let t = below l n (let lt = law.below l (omega (arith, top, times-tops a.trees l)) in omega (arith, lt, all)) in rw t (and_true (u l)))
+        where
+          below : (i j : ℕ) → i < j → nat_lt i j ≡ true
+          below i j lt = grind (arith, nat_tests)
+
+          and_true : (b : Bool) → (b && true) ≡ b
+          and_true true = refl
+          and_true false = refl
+
+  -- what was loose and is left is loose
+  pub still_loose : (a b : Arena) (n l : ℕ) → IsArena a → parent_of a.trees l ≡ None → GivesUp (up_to n) a b → parent_of b.trees l ≡ None
+  still_loose a b n l law loose x = ap (λ t. parent_of t l) x.trees ∙ loose_left (up_to n) a.trees l law.distinct loose
+
+pub lower_named : (low : ℕ) (c : Command) (l : ℕ) → l < low → is_unnamed low c l ≡ false
+lower_named low c l lt = (let t = out low l lt in rw t refl)
+  where
+    out : (a b : ℕ) → b < a → nat_le a b ≡ false
+    out a b lt = grind (arith, nat_tests)
+
+pub named_out : (low : ℕ) (c : Command) (l : ℕ) → has_named c l ≡ true → is_unnamed low c l ≡ false
+named_out low c l e = rw e (and_false (nat_le low l))
+  where
+    and_false : (b : Bool) → (b && false) ≡ false
+    and_false true = refl
+    and_false false = refl
+
+pub unnamed_in : (low : ℕ) (c : Command) (l : ℕ) → low ≤ l → has_named c l ≡ false → is_unnamed low c l ≡ true
+unnamed_in low c l le e = (let t = inner low l le in rw (t, e) refl)
+  where
+    inner : (a b : ℕ) → a ≤ b → nat_le a b ≡ true
+    inner a b le = grind (arith, nat_tests)

@@ -1,0 +1,55 @@
+//! Trees that no kept entry names are given up.
+
+ghost use Rattle.std.specs.Prelude.{◌≡◌, ℕ, ◌+◌, ◌<◌, ◌==◌, None, length, true};
+ghost use Rattle.dom_model.specs.Forest.{parent_of};
+ghost use Rattle.edit_doc.specs.GivingUp.{GivesUp, has_named, is_unnamed};
+ghost use Rattle.edit_doc.specs.Sound.{next_first};
+
+use crate::command::{Beside, Command};
+use circular_buffer::HeapCircularBuffer;
+use node_arena::Arena;
+
+// The first label of the entries that redo would take; without any, that of the command.
+pub(crate) fn first_undone(redo_sides: &HeapCircularBuffer<Beside>, start: u32) -> u32
+    ensures { result ≡ next_first start redo_sides.now.items }
+{
+    match redo_sides.front() {
+        Some(beside) => beside.sides.first_label,
+        None => start,
+    }
+}
+
+// Whether an edit names a node that the command made.
+fn has_named(command: &Command, label: u32) -> bool
+    requires { label < command.now.start + length command.now.named.items }
+    ensures { result ≡ has_named command.now label }
+{
+    label >= command.start && command.named[(label - command.start) as usize]
+}
+
+// Gives up the loose tree with the root of a label, if there is one.
+fn give_up_root(arena: &mut Arena, label: u32)
+    requires inner { 0 < label }
+    requires loose { parent_of arena.old.trees label ≡ None }
+    ensures { GivesUp (λ l. l == label) arena.old arena.new }
+{
+    arena.lawful();
+    if let Some(node) = arena.find(label) {
+        arena.drop_tree(node);
+    }
+}
+
+// Gives up the loose trees with a root from a label on that no edit of the command names.
+pub(crate) fn give_up_unnamed(arena: &mut Arena, low: u32, command: &Command)
+    requires inner { 0 < low }
+    requires marks { length command.now.named.items + command.now.start ≡ arena.old.next }
+    requires loose { (l : ℕ) → is_unnamed low command.now l ≡ true → parent_of arena.old.trees l ≡ None }
+    ensures { GivesUp (is_unnamed low command.now) arena.old arena.new }
+{
+    arena.lawful();
+    for label in low..arena.next_label() {
+        if !has_named(command, label) {
+            give_up_root(arena, label);
+        }
+    }
+}
