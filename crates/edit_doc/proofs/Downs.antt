@@ -85,7 +85,7 @@ seen_left k before f first l once a b =
     (λ m e. (let h = hidden_is (shed k before) first m e in is_hidden_from before first m (record { inner = h.inner; old = h.old; root = (tops_left k before m h.root).0 }))) in
     omega arith
 
-each_both : {A : Type 0} (P Q R : A → Type 0) (ls : List A) → ((l : A) → P l → Q l → R l) → Each P ls → Each Q ls → Each R ls
+pub each_both : {A : Type 0} (P Q R : A → Type 0) (ls : List A) → ((l : A) → P l → Q l → R l) → Each P ls → Each Q ls → Each R ls
 each_both P Q R [] f a b = tt
 each_both P Q R (l ∷ ls) f a b = (f l a.0 b.0, each_both P Q R ls f a.1 b.1)
 

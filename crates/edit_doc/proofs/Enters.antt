@@ -21,8 +21,10 @@ use Rattle.edit_doc.specs.declared.Doc.TheInside.{Inside}
 use Rattle.edit_doc.specs.declared.command.Beside.{Beside}
 use Rattle.edit_doc.specs.declared.command.Command.{Command}
 use Rattle.edit_doc.specs.Fields.{AreResting, made_sides}
+use Rattle.edit_doc.specs.GivingUp.{loose_roots}
 use Rattle.edit_doc.specs.History.{forest_before, is_hidden, view_at, undo_entries}
 use Rattle.edit_doc.specs.Sound.{IsBeside, UndoSound}
+use Rattle.edit_doc.proofs.GivingUp.{filtered_loose}
 use Rattle.edit_doc.proofs.Inner.{Ok}
 use Rattle.edit_doc.proofs.Turnings.{sheds_after}
 use Rattle.edit_doc.proofs.Rolls.{run, g, xs, below_g, beside_of}
@@ -53,7 +55,7 @@ module _ (d : Inside) (law : IsArena d.arena) (ok : Ok d) (opened : IsTrue (is_o
   below_next ls h = each_of (IsLeft (is_hidden before d.command.start) d.arena.trees) (λ l. l < d.arena.next) ls (λ l t. law.below l (let le = count_of-shed (is_hidden before d.command.start) d.arena.trees l in omega (arith, le, t))) h
 
   -- an entry that the command began
-  pub made_beside : (b : Beside) (left : List NodeRef) → left ≡ [] → b.sides ≡ made_sides d.command p d.counts →
+  pub made_beside : (b : Beside) (left : List NodeRef) → left ≡ loose_roots d.arena.trees d.command.left.items → b.sides ≡ made_sides d.command p d.counts →
       IsBeside d.points.names before d.arena.trees steps (inverses_back applied turned (changes_of steps) d.arena.trees) b left d.arena.next d.arena.next
   made_beside b left none same =
       let f = d.arena.trees in
@@ -62,7 +64,8 @@ module _ (d : Inside) (law : IsArena d.arena) (ok : Ok d) (opened : IsTrue (is_o
       let ts = inverses_back applied turned (changes_of steps) f in
       let gd : GoBackDown k (changes_of steps) f = back_down k (changes_of steps) f (sheds_after before f d.command.start (forest_of d.arena law) ok.hidden) r.can.0 r.names_there in
       let b1 : Beside = record b { sides = made_sides d.command p d.counts } in
-      let own : IsBeside d.points.names before f steps ts b1 [] d.arena.next d.arena.next = record {
+      let roots = loose_roots f d.command.left.items in
+      let own : IsBeside d.points.names before f steps ts b1 roots d.arena.next d.arena.next = record {
         was = r.kept;
         is = record {
           over = resting.over;
@@ -83,6 +86,6 @@ module _ (d : Inside) (law : IsArena d.arena) (ok : Ok d) (opened : IsTrue (is_o
         names_there = r.names_there;
         names_old = below_next (named_in (changes_of steps)) r.names_there;
         turns_old = below_next (named_in ts) gd.names;
-        left_loose = tt;
+        left_loose = filtered_loose f d.arena.next law.distinct law.below d.command.left.items;
       } in
-      subst (λ ls. IsBeside d.points.names before f steps ts b ls d.arena.next d.arena.next) (sym none) (beside_of d.points.names before f steps ts b1 b [] d.arena.next d.arena.next (sym same) own)
+      subst (λ ls. IsBeside d.points.names before f steps ts b ls d.arena.next d.arena.next) (sym none) (beside_of d.points.names before f steps ts b1 b roots d.arena.next d.arena.next (sym same) own)

@@ -1,26 +1,32 @@
 -- Loose trees are given up one after another.
-use Rattle.std.proofs.Common.{◌≡◌, ◌≢◌, ℕ, zero, suc, ◌+◌, ◌<◌, ◌≤◌, Bool, true, false, cond, Option, Some, None, refl, sym, ap, subst, ◌∙◌, inl, inr, arith, eqb, nat_lt}
-use Rattle.std.specs.Prelude.{◌&&◌, ◌||◌, ◌==◌, not, nat_le}
+use Rattle.std.proofs.Common.{◌≡◌, ◌≢◌, ℕ, zero, suc, ◌+◌, ◌<◌, ◌≤◌, Bool, true, false, cond, List, [], ◌∷◌, ◌++◌, length, take, get_or, Option, Some, None, refl, sym, ap, subst, ◌∙◌, inl, inr, arith, eqb, nat_lt}
+use Rattle.std.specs.Prelude.{◌&&◌, ◌||◌, ◌==◌, not, nat_le, is_some}
 use Rattle.std.proofs.lemmas.Bool.Decides.{eqb_tells, nat_tests}
+use Rattle.std.proofs.lemmas.List.Folds.{list_any-append}
 use Rattle.dom_model.specs.declared.Content.{Content}
-use Rattle.dom_model.specs.Forest.{Forest, tops, times, count_of, tree_of, parent_of, without}
+use Rattle.dom_model.specs.Forest.{Forest, tops, times, count_of, tree_of, parent_of, without, IsDistinct}
 use Rattle.dom_model.specs.Forest.Forest.{Nil, Tree}
 use Rattle.dom_model.specs.Shed.{shed}
 use Rattle.dom_model.specs.State.{State as Arena, IsLawful as IsArena}
 use Rattle.dom_model.proofs.Stands.{true_or_false, times-tops}
 use Rattle.dom_model.proofs.Shedding.{count_of-shed}
 use Rattle.dom_model.proofs.Totals.{total-without}
+use Rattle.forest_changes.specs.Named.{Each}
+use Rattle.live_range.specs.Edit.{has_label}
+use Rattle.edit_model.specs.Gives.{labels_of}
+use Rattle.edit_model.proofs.Steps.{labels_of-append}
 use Rattle.forest_changes.proofs.DownChange.{shed_tree}
 use Rattle.forest_changes.proofs.Twice.{forest_of}
 use Rattle.node_arena.specs.declared.NodeRef.{NodeRef}
-use Rattle.node_arena.specs.Held.{Holds, DropsTree}
+use Rattle.node_arena.specs.Held.{Holds, DropsTree, label}
 use Rattle.edit_doc.specs.declared.command.Command.{Command}
-use Rattle.edit_doc.specs.GivingUp.{GivesUp, has_named, is_unnamed}
+use Rattle.edit_doc.specs.GivingUp.{GivesUp, has_named, is_unnamed, is_loose, loose_roots}
 use Rattle.edit_doc.specs.Sound.{RefIn}
-use Rattle.edit_doc.proofs.HiddenTrees.{shed-same, shed-none, loose_left}
+use Rattle.edit_doc.proofs.Found.{root_is_top}
+use Rattle.edit_doc.proofs.HiddenTrees.{shed-same, shed-none, loose_left, top_loose, and_true, both_true, lt_true, true_lt}
 
 module _ {C : Type 0} where
-  shed-shed : (k j : ℕ → Bool) (f : Forest C) → shed j (shed k f) ≡ shed (λ l. k l || j l) f
+  pub shed-shed : (k j : ℕ → Bool) (f : Forest C) → shed j (shed k f) ≡ shed (λ l. k l || j l) f
   shed-shed k j Nil = refl
   shed-shed k j (Tree m c ks rest) =
       let ih = shed-shed k j rest in
@@ -34,10 +40,10 @@ module _ {C : Type 0} where
 
 -- ---- what is given up
 
-gives_none : (a : Arena) → GivesUp (λ _. false) a a
+pub gives_none : (a : Arena) → GivesUp (λ _. false) a a
 gives_none a = record { trees = sym (shed-none a.trees); next = refl; cap = refl; keeps = λ q h left. h }
 
-gives_join : (k j : ℕ → Bool) (a b c : Arena) → GivesUp k a b → GivesUp j b c → GivesUp (λ l. k l || j l) a c
+pub gives_join : (k j : ℕ → Bool) (a b c : Arena) → GivesUp k a b → GivesUp j b c → GivesUp (λ l. k l || j l) a c
 gives_join k j a b c x y =
     let both : shed j b.trees ≡ shed (λ l. k l || j l) a.trees = ap (shed j) x.trees ∙ shed-shed k j a.trees in
     record {
@@ -166,3 +172,95 @@ unnamed_in low c l le e = (let t = inner low l le in rw (t, e) refl)
   where
     inner : (a b : ℕ) → a ≤ b → nat_le a b ≡ true
     inner a b le = grind (arith, nat_tests)
+
+-- ---- root by root
+
+pub is_loose_root : (f : Forest Content) (l : ℕ) → is_loose f l ≡ true → (0 < l) × (0 < times (tops f) l)
+is_loose_root f l e = (let t = and_true (nat_lt 0 l) (nat_lt 0 (times (tops f) l)) e in (lt_true 0 l t.0, lt_true 0 (times (tops f) l) t.1))
+
+pub loose_is : (f : Forest Content) (l : ℕ) → 0 < l → 0 < times (tops f) l → is_loose f l ≡ true
+loose_is f l inner top = both_true (nat_lt 0 l) (nat_lt 0 (times (tops f) l)) (true_lt 0 l inner) (true_lt 0 (times (tops f) l) top)
+
+-- a node of an arena without a parent is a root
+pub loose_found : (a : Arena) → IsArena a → (r : NodeRef) (l : ℕ) → r.label ≡ l → Holds a r → 0 < l → (o : Option NodeRef) (b : Bool) → label o ≡ parent_of a.trees r.label → is_some o ≡ not b → b ≡ is_loose a.trees l
+loose_found a law r l is held inner o b up answer = by_parent o up answer
+  where
+    here : 0 < count_of a.trees l
+    here = subst (λ j. 0 < count_of a.trees j) is (law.here r.slot r.label held)
+
+    by_parent : (o : Option NodeRef) → label o ≡ parent_of a.trees r.label → is_some o ≡ not b → b ≡ is_loose a.trees l
+    by_parent None up answer =
+        let loose : parent_of a.trees l ≡ None = ap (parent_of a.trees) (sym is) ∙ sym up in
+        is_true b answer ∙ sym (loose_is a.trees l inner (root_is_top a.trees l law.distinct here loose))
+      where
+        is_true : (t : Bool) → false ≡ not t → t ≡ true
+        is_true true e = refl
+        is_true false e = absurd (cc)
+    by_parent (Some q) up answer = is_false b answer ∙ by_case (is_loose a.trees l) refl
+      where
+        is_false : (t : Bool) → true ≡ not t → t ≡ false
+        is_false false e = refl
+        is_false true e = absurd (cc)
+
+        by_case : (t : Bool) → is_loose a.trees l ≡ t → false ≡ t
+        by_case false e = refl
+        by_case true e = absurd (
+            let none : parent_of a.trees l ≡ None = top_loose a.trees l law.distinct (is_loose_root a.trees l e).1 in
+            let some : Some q.label ≡ None = up ∙ (ap (parent_of a.trees) is ∙ none) in
+            cc)
+
+pub none_loose : (a : Arena) (l : ℕ) → count_of a.trees l ≡ 0 → false ≡ is_loose a.trees l
+none_loose a l none = by_case (is_loose a.trees l) refl
+  where
+    by_case : (t : Bool) → is_loose a.trees l ≡ t → false ≡ t
+    by_case false e = refl
+    by_case true e = absurd (let top = (is_loose_root a.trees l e).1 in omega (arith, top, none, times-tops a.trees l))
+
+swapped_same : (i j : ℕ) → (i == j) ≡ (j == i)
+swapped_same i j = grind (arith, nat_tests)
+
+pub gives_one_more : (a b c : Arena) (rs : List NodeRef) (i : ℕ) (z : NodeRef) → i < length rs → GivesUp (has_label (labels_of (take i rs))) a b → GivesUp (λ j. j == (get_or rs i z).label) b c → GivesUp (has_label (labels_of (take (i + 1) rs))) a c
+gives_one_more a b c rs i z lt x y =
+    let r = get_or rs i z in
+    gives_on (λ l. has_label (labels_of (take i rs)) l || (l == r.label)) (has_label (labels_of (take (i + 1) rs))) a c (λ l top. same l) (gives_join (has_label (labels_of (take i rs))) (λ j. j == r.label) a b c x y)
+  where
+    same : (l : ℕ) → (has_label (labels_of (take i rs)) l || (l == (get_or rs i z).label)) ≡ has_label (labels_of (take (i + 1) rs)) l
+    same l =
+        let r = get_or rs i z in
+        let more : labels_of (take (i + 1) rs) ≡ labels_of (take i rs) ++ r.label ∷ [] = ap labels_of (take_more rs i z lt) ∙ labels_of-append (take i rs) (r ∷ []) in
+        sym (ap (λ ls. has_label ls l) more ∙ (list_any-append (λ x. x == l) (labels_of (take i rs)) (r.label ∷ []) ∙ ap (λ t. has_label (labels_of (take i rs)) l || t) (or_false (r.label == l) ∙ swapped_same r.label l)))
+      where
+        or_false : (t : Bool) → (t || false) ≡ t
+        or_false true = refl
+        or_false false = refl
+
+        take_more : (ns : List NodeRef) (j : ℕ) (z : NodeRef) → j < length ns → take (j + 1) ns ≡ take j ns ++ get_or ns j z ∷ []
+        take_more [] j z h = absurd (omega arith)
+        take_more (n ∷ ns) zero z h = refl
+        take_more (n ∷ ns) (suc j) z h = (let e : suc j + 1 ≡ suc (j + 1) = omega arith in ap (λ i. take i (n ∷ ns)) e ∙ ap (λ ms. n ∷ ms) (take_more ns j z (omega arith)))
+
+pub gives_roots : (a b : Arena) (rs : List NodeRef) (n : ℕ) → length rs ≤ n → GivesUp (has_label (labels_of (take n rs))) a b → GivesUp (has_label (labels_of rs)) a b
+gives_roots a b rs n all x = subst (λ ns. GivesUp (has_label (labels_of ns)) a b) (take_rest n rs all) x
+  where
+    take_rest : (n : ℕ) (ns : List NodeRef) → length ns ≤ n → take n ns ≡ ns
+    take_rest zero [] h = refl
+    take_rest (suc n) [] h = refl
+    take_rest zero (m ∷ ms) h = absurd (omega arith)
+    take_rest (suc n) (m ∷ ms) h = ap (λ ks. m ∷ ks) (take_rest n ms (omega arith))
+
+pub listed_at : (rs : List NodeRef) (i : ℕ) (z : NodeRef) → i < length rs → has_label (labels_of rs) (get_or rs i z).label ≡ true
+listed_at [] i z h = absurd (omega arith)
+listed_at (r ∷ rs) zero z h = elim (eqb_tells r.label r.label) [ inl (e, _) ↦ rw e refl | inr (_, off) ↦ absurd (off refl) ]
+listed_at (r ∷ rs) (suc i) z h = (let ih = listed_at rs i z (omega arith) in elim (true_or_false (r.label == (get_or rs i z).label)) [ inl t ↦ rw t refl | inr t ↦ rw (t, ih) refl ])
+
+pub roots_loose : (a b : Arena) (rs : List NodeRef) (i l : ℕ) → IsArena a → parent_of a.trees l ≡ None → GivesUp (has_label (labels_of (take i rs))) a b → parent_of b.trees l ≡ None
+roots_loose a b rs i l law loose x = ap (λ t. parent_of t l) x.trees ∙ loose_left (has_label (labels_of (take i rs))) a.trees l law.distinct loose
+
+-- ---- what is listed
+
+pub filtered_loose : (f : Forest Content) (next : ℕ) → IsDistinct f → ((l : ℕ) → 0 < count_of f l → l < next) → (rs : List NodeRef) → Each (λ l. (0 < l) × ((l < next) × (parent_of f l ≡ None))) (labels_of (loose_roots f rs))
+filtered_loose f next once below [] = tt
+filtered_loose f next once below (r ∷ rs) = elim (true_or_false (is_loose f r.label)) [
+  | inl t ↦ (let u = is_loose_root f r.label t in let top = u.1 in rw t ((u.0, (below r.label (omega (arith, top, times-tops f r.label)), top_loose f r.label once top)), filtered_loose f next once below rs))
+  | inr t ↦ rw t (filtered_loose f next once below rs)
+]

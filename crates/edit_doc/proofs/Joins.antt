@@ -27,9 +27,11 @@ use Rattle.edit_doc.specs.declared.command.Beside.{Beside}
 use Rattle.edit_doc.specs.declared.command.Sides.{Sides}
 use Rattle.edit_doc.specs.declared.command.Command.{Command}
 use Rattle.edit_doc.specs.Fields.{IsEnded, AreResting, EntersIn, Enters, made_sides, joined_sides}
+use Rattle.edit_doc.specs.GivingUp.{loose_roots}
 use Rattle.edit_doc.specs.Whole.{Whole, history_committed, committed_history}
 use Rattle.edit_doc.specs.History.{forest_before, is_hidden, begun_forest, state_of, began_with, history_of, undo_entries, redo_entries, view_at}
 use Rattle.edit_doc.specs.Sound.{RefIn, CanGoBack, IsBeside, UndoSound, IsSound}
+use Rattle.edit_doc.proofs.GivingUp.{filtered_loose}
 use Rattle.edit_doc.proofs.Inner.{seen, Ok}
 use Rattle.edit_doc.proofs.HiddenTrees.{hidden_is, is_hidden_from, shed_more}
 use Rattle.edit_doc.proofs.Laid.{undo_later}
@@ -89,10 +91,13 @@ module _ (d : Inside) (law : IsArena d.arena) (ok : Ok d) (opened : IsTrue (is_o
   abbrev now : Forest Content
   now = d.arena.trees
 
+  abbrev left_now : List NodeRef
+  left_now = loose_roots d.arena.trees d.command.left.items
+
   -- the entry that the command resumed, with its steps
   module _ (e : List Step) (b b' : Beside) (left : List NodeRef) (up : ℕ) (le : up ≤ d.command.start) (can : CanGoBack d.arena.held e begun)
       (was : IsBeside d.points.names (forest_before e begun) begun e (inverses_back applied turned (changes_of e) begun) b left up d.command.start)
-      (same : b'.sides ≡ joined_sides b.sides p d.counts) (none : b'.left.items ≡ []) where
+      (same : b'.sides ≡ joined_sides b.sides p d.counts) (left_is : b'.left.items ≡ left_now) where
     abbrev both : List Step
     both = e ++ steps
 
@@ -135,7 +140,7 @@ module _ (d : Inside) (law : IsArena d.arena) (ok : Ok d) (opened : IsTrue (is_o
     abbrev turns : List Change
     turns = inverses_back applied turned (changes_of both) now
 
-    own : IsBeside d.points.names first now both turns (record b { sides = joined_sides b.sides p d.counts }) [] d.arena.next d.arena.next
+    own : IsBeside d.points.names first now both turns (record b { sides = joined_sides b.sides p d.counts }) left_now d.arena.next d.arena.next
     own = record {
       was = was.was;
       is = record {
@@ -154,45 +159,45 @@ module _ (d : Inside) (law : IsArena d.arena) (ok : Ok d) (opened : IsTrue (is_o
       names_there = there;
       names_old = below (named_in (changes_of both)) there;
       turns_old = below (named_in turns) down.names;
-      left_loose = tt;
+      left_loose = filtered_loose now d.arena.next law.distinct law.below d.command.left.items;
     }
 
     pub joined_beside : IsBeside d.points.names (forest_before both now) now both turns b' b'.left.items d.arena.next c.start
     joined_beside =
         subst (λ n. IsBeside d.points.names (forest_before both now) now both turns b' b'.left.items d.arena.next n) (sym ended.start)
         (subst (λ h. IsBeside d.points.names h now both turns b' b'.left.items d.arena.next d.arena.next) (sym (before_join e steps now))
-        (subst (λ ls. IsBeside d.points.names first now both turns b' ls d.arena.next d.arena.next) (sym none)
-        (beside_of d.points.names first now both turns (record b { sides = joined_sides b.sides p d.counts }) b' [] d.arena.next d.arena.next (sym same) own)))
+        (subst (λ ls. IsBeside d.points.names first now both turns b' ls d.arena.next d.arena.next) (sym left_is)
+        (beside_of d.points.names first now both turns (record b { sides = joined_sides b.sides p d.counts }) b' left_now d.arena.next d.arena.next (sym same) own)))
 
   start_le : d.command.start ≤ c.start
   start_le = (let s = ended.start in let t = ok.lawful.started in omega (arith, s, t))
 
-  joined_undo : (up room : ℕ) (s : Sides) (es : List (List Step)) (bs new : List Beside) → up ≤ d.command.start → EntersIn true s p d.counts room bs new →
+  joined_undo : (up room : ℕ) (s : Sides) (es : List (List Step)) (bs new : List Beside) (out : Option Beside) → up ≤ d.command.start → EntersIn true s left_now p d.counts room bs new out →
       UndoSound d.arena.held d.points.names true d.command up begun es bs → UndoSound d.arena.held d.points.names false c d.arena.next now (joined es steps) new
-  joined_undo up room s es [] new le enters h = absurd enters
-  joined_undo up room s es (b ∷ bs) [] le enters h = absurd enters
-  joined_undo up room s [] (b ∷ bs) (b' ∷ bs') le enters h = absurd h
-  joined_undo up room s (e ∷ es) (b ∷ bs) (b' ∷ bs') le enters h =
+  joined_undo up room s es [] new out le enters h = absurd enters
+  joined_undo up room s es (b ∷ bs) [] out le enters h = absurd enters
+  joined_undo up room s [] (b ∷ bs) (b' ∷ bs') out le enters h = absurd h
+  joined_undo up room s (e ∷ es) (b ∷ bs) (b' ∷ bs') out le enters h =
       let same = enters.1.0 in
       let first : Forest Content = forest_before e begun in
       let low : b.sides.first_label ≤ d.command.start = (let t = h.1.0.drawn in omega arith) in
       let rest : UndoSound d.arena.held d.points.names false c b.sides.first_label first es bs = undo_later d.arena.held d.points.names d.command c start_le b.sides.first_label b.sides.first_label first es bs (omega arith) (let t = start_le in omega arith) h.1.1 in
       let left = take d.command.left_before d.command.left.items in (
-        can_both e b b' left up le h.0 h.1.0 same enters.1.1,
+        can_both e b b' left up le h.0 h.1.0 same enters.1.1.0,
         (
-          joined_beside e b b' left up le h.0 h.1.0 same enters.1.1,
+          joined_beside e b b' left up le h.0 h.1.0 same enters.1.1.0,
           subst (λ (t : Sides). UndoSound d.arena.held d.points.names false c t.first_label (forest_before (e ++ steps) now) es bs') (sym same)
               (subst (λ t. UndoSound d.arena.held d.points.names false c b.sides.first_label t es bs') (sym (before_join e steps now))
               (subst (λ cs. UndoSound d.arena.held d.points.names false c b.sides.first_label first es cs) (sym enters.0) rest)),
         ),
       )
 
-  joined_entries : (room : ℕ) (s : Sides) (es : List (List Step)) (bs new : List Beside) → EntersIn true s p d.counts room bs new →
+  joined_entries : (room : ℕ) (s : Sides) (es : List (List Step)) (bs new : List Beside) (out : Option Beside) → EntersIn true s left_now p d.counts room bs new out →
       undo_entries d.points.names now (joined es steps) new ≡ joined_in (state_now d law ok opened p resting) (undo_entries d.points.names begun es bs)
-  joined_entries room s es [] new enters = absurd enters
-  joined_entries room s es (b ∷ bs) [] enters = absurd enters
-  joined_entries room s [] (b ∷ bs) (b' ∷ bs') enters = refl
-  joined_entries room s (e ∷ es) (b ∷ bs) (b' ∷ bs') enters =
+  joined_entries room s es [] new out enters = absurd enters
+  joined_entries room s es (b ∷ bs) [] out enters = absurd enters
+  joined_entries room s [] (b ∷ bs) (b' ∷ bs') out enters = refl
+  joined_entries room s (e ∷ es) (b ∷ bs) (b' ∷ bs') out enters =
       let join = before_join e steps now in
       let after = ap (λ (t : Sides). view_at d.points.names now t.after) enters.1.0 ∙ view_now d law ok opened p resting in
       λ i. record {
@@ -201,14 +206,14 @@ module _ (d : Inside) (law : IsArena d.arena) (ok : Ok d) (opened : IsTrue (is_o
         edits = length-append e steps i;
       } ∷ undo_entries d.points.names (join i) es (enters.0 i)
 
-  module _ (resumed : is_resumed d.log.open_entry ≡ true) (us : List Beside) (enters : Enters d.command p d.counts d.undo_sides.capacity d.undo_sides.items us) where
-    entering : EntersIn true (made_sides d.command p d.counts) p d.counts d.undo_sides.capacity d.undo_sides.items us
-    entering = subst (λ r. EntersIn r (made_sides d.command p d.counts) p d.counts d.undo_sides.capacity d.undo_sides.items us) (ok.resumed ∙ resumed) enters
+  module _ (resumed : is_resumed d.log.open_entry ≡ true) (us : List Beside) (out : Option Beside) (enters : Enters d.command (loose_roots d.arena.trees d.command.left.items) p d.counts d.undo_sides.capacity d.undo_sides.items us out) where
+    pub entering : EntersIn true (made_sides d.command p d.counts) left_now p d.counts d.undo_sides.capacity d.undo_sides.items us out
+    entering = subst (λ r. EntersIn r (made_sides d.command p d.counts) left_now p d.counts d.undo_sides.capacity d.undo_sides.items us out) (ok.resumed ∙ resumed) enters
 
     pub joined_sound : UndoSound d.arena.held d.points.names false c d.arena.next now (joined d.log.undo steps) us
     joined_sound =
         let up = high d law ok opened p resting in
-        joined_undo up d.undo_sides.capacity (made_sides d.command p d.counts) d.log.undo d.undo_sides.items us (high_le d law ok opened p resting) entering
+        joined_undo up d.undo_sides.capacity (made_sides d.command p d.counts) d.log.undo d.undo_sides.items us out (high_le d law ok opened p resting) entering
         (subst (λ r. UndoSound d.arena.held d.points.names r d.command up begun d.log.undo d.undo_sides.items) (ok.resumed ∙ resumed) ok.undo)
 
     pub joined_history_is : d.log.redo ≡ [] → 0 < length steps → (v : Whole) → seen d ≡ v →
@@ -216,7 +221,7 @@ module _ (d : Inside) (law : IsArena d.arena) (ok : Ok d) (opened : IsTrue (is_o
     unfolding history_committed
     joined_history_is nothing some v sees =
         (λ i. record {
-          undo = joined_entries d.undo_sides.capacity (made_sides d.command p d.counts) d.log.undo d.undo_sides.items us entering i;
+          undo = joined_entries d.undo_sides.capacity (made_sides d.command p d.counts) d.log.undo d.undo_sides.items us out entering i;
           redo = (ap (λ es. redo_entries d.points.names now es []) nothing ∙ sym (ap (λ es. redo_entries d.points.names begun es d.redo_sides.items) nothing)) i;
           depth = d.log.depth;
         })
@@ -228,7 +233,7 @@ true_is : (b : Bool) → b ≡ true → IsTrue b
 true_is true e = refl
 true_is false e = absurd (cc)
 
-module _ (d : Inside) (law : IsArena d.arena) (ok : Ok d) (opened : IsTrue (is_open d.log.open_entry)) (p : Places) (resting : AreResting d.points p) (logged : IsLog d.log) (some : 0 < length (noted d.log.open_entry)) (c : Command) (ended : IsEnded d.arena.next c) (us : List Beside) (enters : Enters d.command p d.counts d.undo_sides.capacity d.undo_sides.items us) where
+module _ (d : Inside) (law : IsArena d.arena) (ok : Ok d) (opened : IsTrue (is_open d.log.open_entry)) (p : Places) (resting : AreResting d.points p) (logged : IsLog d.log) (some : 0 < length (noted d.log.open_entry)) (c : Command) (ended : IsEnded d.arena.next c) (us : List Beside) (out : Option Beside) (enters : Enters d.command (loose_roots d.arena.trees d.command.left.items) p d.counts d.undo_sides.capacity d.undo_sides.items us out) where
   record Recorded (log : Log Step) : Type 0 where
     closed : log.open_entry ≡ Closed
     redo : log.redo ≡ []
@@ -243,15 +248,15 @@ module _ (d : Inside) (law : IsArena d.arena) (ok : Ok d) (opened : IsTrue (is_o
           closed = refl;
           redo = nothing;
           depth = refl;
-          undo = joined_sound d law ok opened p resting c ended r us enters;
-          history = λ v sees. joined_history_is d law ok opened p resting c ended r us enters nothing some v sees;
+          undo = joined_sound d law ok opened p resting c ended r us out enters;
+          history = λ v sees. joined_history_is d law ok opened p resting c ended r us out enters nothing some v sees;
         }))
     | inr r ↦ subst Recorded (sym (committed_made d.log d.log.open_entry opened r some)) (record {
       closed = refl;
       redo = refl;
       depth = refl;
-      undo = begun_sound d law ok opened p resting r c ended us enters;
-      history = λ v sees. begun_history d law ok opened p resting r c ended us enters some v sees;
+      undo = begun_sound d law ok opened p resting r c ended.start us out enters;
+      history = λ v sees. begun_history d law ok opened p resting r c ended.start us out enters some v sees;
     })
   ]
 

@@ -48,3 +48,4 @@ pub mod GivingUp
 pub mod Unnamed
 pub mod Freed
 pub mod Spared
+pub mod Outgone

@@ -33,12 +33,12 @@ or_false : (a b : Bool) → (a || b) ≡ false → (a ≡ false) × (b ≡ false
 or_false true b e = absurd (cc)
 or_false false b e = (refl, e)
 
-or_true : (a b : Bool) → (a || b) ≡ true → (a ≡ true) ⊎ (b ≡ true)
+pub or_true : (a b : Bool) → (a || b) ≡ true → (a ≡ true) ⊎ (b ≡ true)
 or_true true b e = inl refl
 or_true false b e = inr e
 
 -- a label that is listed has the property of all that are listed
-listed_has : (P : ℕ → Type 0) (ls : List ℕ) (l : ℕ) → Each P ls → has_label ls l ≡ true → P l
+pub listed_has : (P : ℕ → Type 0) (ls : List ℕ) (l : ℕ) → Each P ls → has_label ls l ≡ true → P l
 listed_has P [] l h e = absurd (cc)
 listed_has P (x ∷ xs) l h e = elim (eqb_tells' x l) [
   | inl same ↦ subst P same h.0

@@ -1,5 +1,5 @@
 -- A command with an edit is recorded in the history.
-use Rattle.std.proofs.Common.{◌≡◌, ℕ, ◌<◌, ◌≤◌, false, List, [], ◌∷◌, length, take, None, refl, sym, ap, subst, ◌∙◌, arith}
+use Rattle.std.proofs.Common.{◌≡◌, ℕ, ◌<◌, ◌≤◌, false, List, [], ◌∷◌, length, take, Option, None, refl, sym, ap, subst, ◌∙◌, arith}
 use Rattle.std.specs.Prelude.{IsTrue, ◌==◌}
 use Rattle.std.proofs.lemmas.Bool.Decides.{nat_tests}
 use Rattle.dom_model.specs.declared.Content.{Content}
@@ -23,6 +23,8 @@ use Rattle.edit_doc.specs.declared.command.Beside.{Beside}
 use Rattle.edit_doc.specs.declared.command.Sides.{Sides}
 use Rattle.edit_doc.specs.declared.command.Command.{Command}
 use Rattle.edit_doc.specs.Fields.{IsEnded, AreResting, EntersIn, Enters, made_sides}
+use Rattle.edit_doc.specs.GivingUp.{loose_roots}
+use Rattle.node_arena.specs.declared.NodeRef.{NodeRef}
 use Rattle.edit_doc.specs.Whole.{Whole, history_committed, committed_history}
 use Rattle.edit_doc.specs.History.{state_of, begun_state, began_with, history_of, undo_entries, view_at}
 use Rattle.edit_doc.specs.Sound.{IsBeside, UndoSound, RedoSound, next_first, IsSound}
@@ -150,14 +152,17 @@ module _ (d : Inside) (law : IsArena d.arena) (ok : Ok d) (opened : IsTrue (is_o
 
   -- ---- an entry that the command began
 
-  module _ (begun : is_resumed d.log.open_entry ≡ false) (c : Command) (ended : IsEnded d.arena.next c) (us : List Beside) where
+  module _ (begun : is_resumed d.log.open_entry ≡ false) (c : Command) (starts : c.start ≡ d.arena.next) (us : List Beside) (out : Option Beside) where
+    abbrev roots : List NodeRef
+    roots = loose_roots d.arena.trees d.command.left.items
+
     begun_undo : UndoSound d.arena.held d.points.names false d.command high before d.log.undo d.undo_sides.items
     begun_undo = subst (λ r. UndoSound d.arena.held d.points.names r d.command high before d.log.undo d.undo_sides.items) (ok.resumed ∙ begun) ok.undo
 
     start_le : d.command.start ≤ c.start
-    start_le = (let s = ended.start in let t = ok.lawful.started in omega (arith, s, t))
+    start_le = (let s = starts in let t = ok.lawful.started in omega (arith, s, t))
 
-    with_first : (b : Beside) → b.sides ≡ made_sides d.command p d.counts → b.left.items ≡ [] →
+    pub with_first : (b : Beside) → b.sides ≡ made_sides d.command p d.counts → b.left.items ≡ roots →
         UndoSound d.arena.held d.points.names false c d.arena.next d.arena.trees (steps ∷ d.log.undo) (b ∷ d.undo_sides.items)
     with_first b same none =
         let f = d.arena.trees in
@@ -165,15 +170,15 @@ module _ (d : Inside) (law : IsArena d.arena) (ok : Ok d) (opened : IsTrue (is_o
         let rest = undo_later d.arena.held d.points.names d.command c start_le high d.command.start before d.log.undo d.undo_sides.items high_le start_le begun_undo in (
           (run d law ok opened).can,
           (
-            subst (λ n. IsBeside d.points.names before f steps ts b b.left.items d.arena.next n) (sym ended.start) (made_beside d law ok opened p resting b b.left.items none same),
+            subst (λ n. IsBeside d.points.names before f steps ts b b.left.items d.arena.next n) (sym starts) (made_beside d law ok opened p resting b b.left.items none same),
             subst (λ (s : Sides). UndoSound d.arena.held d.points.names false c s.first_label before d.log.undo d.undo_sides.items) (sym same) rest,
           ),
         )
 
-    entering : Enters d.command p d.counts d.undo_sides.capacity d.undo_sides.items us → EntersIn false (made_sides d.command p d.counts) p d.counts d.undo_sides.capacity d.undo_sides.items us
-    entering h = subst (λ r. EntersIn r (made_sides d.command p d.counts) p d.counts d.undo_sides.capacity d.undo_sides.items us) (ok.resumed ∙ begun) h
+    pub entering : Enters d.command roots p d.counts d.undo_sides.capacity d.undo_sides.items us out → EntersIn false (made_sides d.command p d.counts) roots p d.counts d.undo_sides.capacity d.undo_sides.items us out
+    entering h = subst (λ r. EntersIn r (made_sides d.command p d.counts) roots p d.counts d.undo_sides.capacity d.undo_sides.items us out) (ok.resumed ∙ begun) h
 
-    module _ (enters : Enters d.command p d.counts d.undo_sides.capacity d.undo_sides.items us) where
+    module _ (enters : Enters d.command roots p d.counts d.undo_sides.capacity d.undo_sides.items us out) where
       pub begun_sound : UndoSound d.arena.held d.points.names false c d.arena.next d.arena.trees (take d.log.depth (steps ∷ d.log.undo)) us
       begun_sound =
           let h = entering enters in

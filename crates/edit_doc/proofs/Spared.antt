@@ -11,13 +11,14 @@ use Rattle.live_range.specs.LivePoints.{LivePoints}
 use Rattle.live_range.specs.Names.{shown}
 use Rattle.undo_log.specs.Log.{Log, IsLog, Open, noted, is_open, committed}
 use Rattle.undo_log.specs.Log.Open.{Closed}
+use Rattle.forest_changes.specs.Down.{Sheds}
 use Rattle.edit_steps.specs.declared.step.Step.{Step}
 use Rattle.edit_model.specs.History.{rested}
 use Rattle.edit_doc.specs.declared.Doc.TheInside.{Inside}
 use Rattle.edit_doc.specs.declared.command.Beside.{Beside}
 use Rattle.edit_doc.specs.declared.command.Command.{Command}
 use Rattle.edit_doc.specs.Fields.{IsEnded, AreResting, Enters}
-use Rattle.edit_doc.specs.GivingUp.{GivesUp, is_unnamed}
+use Rattle.edit_doc.specs.GivingUp.{GivesUp, loose_roots}
 use Rattle.edit_doc.specs.Held.{Holds, KeepsThere}
 use Rattle.edit_doc.specs.History.{begun_forest, is_hidden, state_of, history_of, whole_of}
 use Rattle.edit_doc.specs.Sound.{IsSound}
@@ -27,45 +28,38 @@ use Rattle.edit_doc.proofs.Freed.{freed, freed_state, freed_history}
 use Rattle.edit_doc.proofs.Inner.{seen, Ok}
 use Rattle.edit_doc.proofs.Joins.{entry_closed, entry_redo, entry_ok, entry_state, entry_history}
 use Rattle.edit_doc.proofs.Rests.{AtRest, rest_of, rest_sound, none_noted}
-use Rattle.edit_doc.proofs.Unnamed.{unnamed, sheds_now, kept_left}
 
-module _ (d : Inside) (law : IsArena d.arena) (ok : Ok d) (opened : IsTrue (is_open d.log.open_entry)) (p : Places) (resting : AreResting d.points p) (logged : IsLog d.log) (some : 0 < length (noted d.log.open_entry)) (c : Command) (ended : IsEnded d.arena.next c) (us : List Beside) (enters : Enters d.command p d.counts d.undo_sides.capacity d.undo_sides.items us) (log : Log Step) (is : log ≡ committed d.log)
-    (a : Arena) (gives : GivesUp (unnamed d law ok opened) d.arena a) (law' : IsArena a) where
+module _ (d : Inside) (law : IsArena d.arena) (ok : Ok d) (opened : IsTrue (is_open d.log.open_entry)) (p : Places) (resting : AreResting d.points p) (logged : IsLog d.log) (some : 0 < length (noted d.log.open_entry)) (c : Command) (ended : IsEnded d.arena.next c) (us : List Beside) (out : Option Beside) (enters : Enters d.command (loose_roots d.arena.trees d.command.left.items) p d.counts d.undo_sides.capacity d.undo_sides.items us out) (log : Log Step) (is : log ≡ committed d.log)
+    (a : Arena) (k : ℕ → Bool) (gives : GivesUp k d.arena a) (sheds : Sheds k d.arena.trees) (undo_left : EntriesLeft k d.arena.trees log.undo) (law' : IsArena a) where
   abbrev points : LivePoints
   points = shown d.points.names p
 
-  abbrev k : ℕ → Bool
-  k = unnamed d law ok opened
-
   closed : log.open_entry ≡ Closed
-  closed = entry_closed d law ok opened p resting logged some c ended us enters log is
+  closed = entry_closed d law ok opened p resting logged some c ended us out enters log is
 
   rests : AtRest d.arena points d.overrides.items d.flags d.counts c log us [] d.undo_sides.capacity d.redo_sides.capacity
-  rests = rest_of d.arena points d.overrides.items d.flags d.counts c log us [] d.undo_sides.capacity d.redo_sides.capacity law closed (entry_ok d law ok opened p resting logged some c ended us enters log is)
-
-  undo_left : EntriesLeft k d.arena.trees log.undo
-  undo_left = subst (λ (l : Log Step). EntriesLeft k d.arena.trees l.undo) (sym is) (kept_left d law ok opened some)
+  rests = rest_of d.arena points d.overrides.items d.flags d.counts c log us [] d.undo_sides.capacity d.redo_sides.capacity law closed (entry_ok d law ok opened p resting logged some c ended us out enters log is)
 
   redo_left : EntriesLeft k d.arena.trees log.redo
-  redo_left = subst (EntriesLeft k d.arena.trees) (sym (entry_redo d law ok opened p resting logged some c ended us enters log is)) tt
+  redo_left = subst (EntriesLeft k d.arena.trees) (sym (entry_redo d law ok opened p resting logged some c ended us out enters log is)) tt
 
   pub spared_ok : IsSound a points d.overrides.items d.flags d.counts c log us [] d.undo_sides.capacity d.redo_sides.capacity
   spared_ok =
       rest_sound a points d.overrides.items d.flags d.counts c log us [] d.undo_sides.capacity d.redo_sides.capacity
-      (freed d.arena a k gives (sheds_now d law ok opened k (λ l t. t)) law' points d.overrides.items d.flags d.counts c log us [] d.undo_sides.capacity d.redo_sides.capacity rests undo_left redo_left)
+      (freed d.arena a k gives sheds law' points d.overrides.items d.flags d.counts c log us [] d.undo_sides.capacity d.redo_sides.capacity rests undo_left redo_left)
 
   pub spared_state : (v : Whole) → seen d ≡ v → state_of a points d.overrides.items d.flags c log ≡ rested v.state
   spared_state v sees =
-      freed_state d.arena a k gives (sheds_now d law ok opened k (λ l t. t)) law' points d.overrides.items d.flags d.counts c log us [] d.undo_sides.capacity d.redo_sides.capacity rests undo_left redo_left
-      ∙ entry_state d law ok opened p resting logged some c ended us enters log is v sees
+      freed_state d.arena a k gives sheds law' points d.overrides.items d.flags d.counts c log us [] d.undo_sides.capacity d.redo_sides.capacity rests undo_left redo_left
+      ∙ entry_state d law ok opened p resting logged some c ended us out enters log is v sees
 
   pub spared_history : (v : Whole) → seen d ≡ v → history_of d.points.names (begun_forest log a.trees) log us [] ≡ history_committed v
   spared_history v sees =
       let none = ap noted closed in
       ap (λ t. history_of d.points.names t log us []) (none_noted log a.trees none)
-      ∙ (freed_history d.arena a k gives (sheds_now d law ok opened k (λ l t. t)) law' points d.overrides.items d.flags d.counts c log us [] d.undo_sides.capacity d.redo_sides.capacity rests undo_left redo_left
+      ∙ (freed_history d.arena a k gives sheds law' points d.overrides.items d.flags d.counts c log us [] d.undo_sides.capacity d.redo_sides.capacity rests undo_left redo_left
       ∙ (ap (λ t. history_of d.points.names t log us []) (sym (none_noted log d.arena.trees none))
-      ∙ entry_history d law ok opened p resting logged some c ended us enters log is v sees))
+      ∙ entry_history d law ok opened p resting logged some c ended us out enters log is v sees))
 
   abbrev spared_whole : Whole
   spared_whole = whole_of a points d.overrides.items d.flags c log us []

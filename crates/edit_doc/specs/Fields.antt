@@ -1,5 +1,5 @@
 -- What calls do to the fields of a running command and of what stands beside entries. No public clause cites this module.
-use Rattle.std.specs.Prelude.{◌≡◌, ℕ, ◌+◌, ◌≤◌, if◌then◌else◌, Bool, true, false, ◌||◌, nat_le, List, [], ◌∷◌, length, take, drop, Option, None}
+use Rattle.std.specs.Prelude.{◌≡◌, ℕ, ◌+◌, ◌≤◌, if◌then◌else◌, Bool, true, false, ◌||◌, nat_le, List, [], ◌∷◌, length, take, drop, slice_get, Option, None}
 use Rattle.live_range.specs.declared.places.Places.{Places}
 use Rattle.live_range.specs.LivePoints.{LivePoints}
 use Rattle.live_range.specs.Edit.{has_label}
@@ -72,15 +72,16 @@ made_sides c p counts = record {
 abbrev pub joined_sides : Sides → Places → Counts → Sides
 joined_sides s p counts = record s { after = p; nodes_after = counts.nodes; chars_after = counts.chars }
 
--- the command's entry is the first, in place of the one that it resumed
-abbrev pub EntersIn : Bool → Sides → Places → Counts → ℕ → List Beside → List Beside → Type 0
-EntersIn false s p counts room us new = (b : Beside) × (b.sides ≡ s) × (b.left.items ≡ []) × (new ≡ take room (b ∷ us))
-EntersIn true s p counts room [] new = ⊥
-EntersIn true s p counts room (b ∷ bs) [] = ⊥
-EntersIn true s p counts room (b ∷ bs) (b' ∷ bs') = (bs' ≡ bs) × ((b'.sides ≡ joined_sides b.sides p counts) × (b'.left.items ≡ []))
+-- The command's entry is the first, in place of the one that it resumed, with these left trees. Where there are too many
+-- the oldest goes out.
+abbrev pub EntersIn : Bool → Sides → List NodeRef → Places → Counts → ℕ → List Beside → List Beside → Option Beside → Type 0
+EntersIn false s left p counts room us new out = (b : Beside) × (b.sides ≡ s) × (b.left.items ≡ left) × (new ≡ take room (b ∷ us)) × (out ≡ slice_get (b ∷ us) room)
+EntersIn true s left p counts room [] new out = ⊥
+EntersIn true s left p counts room (b ∷ bs) [] out = ⊥
+EntersIn true s left p counts room (b ∷ bs) (b' ∷ bs') out = (bs' ≡ bs) × ((b'.sides ≡ joined_sides b.sides p counts) × ((b'.left.items ≡ left) × (out ≡ None)))
 
-abbrev pub Enters : Command → Places → Counts → ℕ → List Beside → List Beside → Type 0
-Enters c p counts room us new = EntersIn c.resumed (made_sides c p counts) p counts room us new
+abbrev pub Enters : Command → List NodeRef → Places → Counts → ℕ → List Beside → List Beside → Option Beside → Type 0
+Enters c left p counts room us new out = EntersIn c.resumed (made_sides c p counts) left p counts room us new out
 
 -- a number of the document, with that of a tree if that comes into it
 abbrev pub with_more : Bool → ℕ → ℕ → ℕ

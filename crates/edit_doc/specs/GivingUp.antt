@@ -1,10 +1,13 @@
 -- Trees that a document under edits gives up. No public clause cites this module.
-use Rattle.std.specs.Prelude.{◌≡◌, ℕ, ◌-◌, ◌<◌, Bool, false, not, ◌&&◌, nat_le, slice_index_or}
+use Rattle.std.specs.Prelude.{◌≡◌, ℕ, ◌-◌, ◌<◌, Bool, false, not, ◌&&◌, nat_lt, nat_le, slice_index_or, List, filter, Option, Some, None}
 use Rattle.dom_model.specs.declared.Content.{Content}
-use Rattle.dom_model.specs.Forest.{Forest, count_of}
+use Rattle.dom_model.specs.Forest.{Forest, tops, times, count_of}
 use Rattle.dom_model.specs.Shed.{shed}
 use Rattle.dom_model.specs.State.{State as Arena}
 use Rattle.node_arena.specs.declared.NodeRef.{NodeRef}
+use Rattle.live_range.specs.Edit.{has_label}
+use Rattle.edit_model.specs.Gives.{labels_of}
+use Rattle.edit_doc.specs.declared.command.Beside.{Beside}
 use Rattle.edit_doc.specs.declared.command.Command.{Command}
 use Rattle.edit_doc.specs.Sound.{RefIn}
 
@@ -15,6 +18,19 @@ has_named c l = nat_le c.start l && slice_index_or c.named.items (l - c.start) f
 -- the labels from `low` on but those that the command's edits name
 abbrev pub is_unnamed : ℕ → Command → ℕ → Bool
 is_unnamed low c l = nat_le low l && not (has_named c l)
+
+-- the label is the root of a loose tree
+abbrev pub is_loose : Forest Content → ℕ → Bool
+is_loose f l = nat_lt 0 l && nat_lt 0 (times (tops f) l)
+
+-- those of the nodes that are roots of loose trees
+abbrev pub loose_roots : Forest Content → List NodeRef → List NodeRef
+loose_roots f rs = filter (λ r. is_loose f r.label) rs
+
+-- the entry that goes out, if there is one, left a tree with this root
+abbrev pub has_left : Option Beside → ℕ → Bool
+has_left None l = false
+has_left (Some b) l = has_label (labels_of b.left.items) l
 
 -- the trees with these roots are given up, and no other node stops being held
 pub record GivesUp (k : ℕ → Bool) (old new : Arena) : Type 0 where

@@ -24,7 +24,7 @@ pub struct Sides {
     pub chars_after: u64,
 }
 
-// An entry's sides, and the roots of trees that its commands left loose: none so far, since no tree is given up.
+// An entry's sides, and the roots of the loose trees that its commands left, which go when the entry does.
 #[derive(Drop)]
 pub(crate) struct Beside {
     pub(crate) sides: Sides,

@@ -8,7 +8,7 @@ ghost use Rattle.edit_doc.specs.Fields.{SwapsLeft, Forgets, Enters};
 ghost use Rattle.edit_doc.specs.Held.{IfHeld, KeepsThere};
 
 use crate::command::{Beside, Command, Kept, resting_places};
-use crate::giving_up::{first_undone, give_up_unnamed};
+use crate::giving_up::{first_undone, give_up_left, give_up_unnamed, keep_loose};
 use crate::{Committed, Counts, Doc, NodeRef};
 use circular_buffer::HeapCircularBuffer;
 use edit_parts::unset_overrides;
@@ -92,16 +92,18 @@ impl Doc {
             }
             Committed::Entry => {}
         }
+        keep_loose(&self.arena, &mut self.command.left);
         let low = first_undone(&self.redo_sides, self.command.start);
         give_up_unnamed(&mut self.arena, low, &self.command);
-        self.arena.lawful();
-        keep_entry(
+        let oldest = keep_entry(
             self.alloc,
             &mut self.undo_sides,
-            &self.command,
+            &mut self.command,
             places,
             self.counts,
         );
+        give_up_left(&mut self.arena, oldest);
+        self.arena.lawful();
         self.redo_sides.clear();
         self.command.end(self.arena.next_label());
         Committed::Entry
@@ -224,24 +226,31 @@ fn forget_left(undo_sides: &mut HeapCircularBuffer<Beside>, command: &mut Comman
     }
 }
 
-// The command makes an entry, or joins the one that it resumed.
+// The command makes an entry, or joins the one that it resumed, with what it left. Answers the oldest entry's sides where
+// there were too many.
 fn keep_entry(
     alloc: Global,
     undo_sides: &mut HeapCircularBuffer<Beside>,
-    command: &Command,
+    command: &mut Command,
     after: Places,
     counts: Counts,
-)
-    requires { command.now.resumed ≡ true → 0 < length undo_sides.old.items }
-    ensures entered { Enters command.now after counts undo_sides.old.capacity undo_sides.old.items undo_sides.new.items }
+) -> Option<Beside>
+    requires { command.old.resumed ≡ true → 0 < length undo_sides.old.items }
+    ensures entered { Enters command.old command.old.left.items after counts undo_sides.old.capacity undo_sides.old.items undo_sides.new.items result }
     ensures capacity { undo_sides.new.capacity ≡ undo_sides.old.capacity }
 {
     if command.resumed {
         match undo_sides.get_mut(0) {
-            Some(beside) => beside.join(after, counts),
+            Some(beside) => {
+                beside.join(after, counts);
+                swap(&mut beside.left, &mut command.left);
+            }
             None => unreachable!(),
         }
+        None
     } else {
-        let _ = undo_sides.push_front(command.beside(alloc, after, counts));
+        let mut beside = command.beside(alloc, after, counts);
+        swap(&mut beside.left, &mut command.left);
+        undo_sides.push_front(beside)
     }
 }

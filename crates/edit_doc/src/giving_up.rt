@@ -2,12 +2,14 @@
 
 ghost use Rattle.std.specs.Prelude.{◌≡◌, ℕ, ◌+◌, ◌<◌, ◌==◌, None, length, true};
 ghost use Rattle.dom_model.specs.Forest.{parent_of};
-ghost use Rattle.edit_doc.specs.GivingUp.{GivesUp, has_named, is_unnamed};
+ghost use Rattle.live_range.specs.Edit.{has_label};
+ghost use Rattle.edit_model.specs.Gives.{labels_of};
+ghost use Rattle.edit_doc.specs.GivingUp.{GivesUp, has_named, is_unnamed, is_loose, loose_roots, has_left};
 ghost use Rattle.edit_doc.specs.Sound.{next_first};
 
 use crate::command::{Beside, Command};
 use circular_buffer::HeapCircularBuffer;
-use node_arena::Arena;
+use node_arena::{Arena, NodeRef};
 
 // The first label of the entries that redo would take; without any, that of the command.
 pub(crate) fn first_undone(redo_sides: &HeapCircularBuffer<Beside>, start: u32) -> u32
@@ -51,5 +53,47 @@ pub(crate) fn give_up_unnamed(arena: &mut Arena, low: u32, command: &Command)
         if !has_named(command, label) {
             give_up_root(arena, label);
         }
+    }
+}
+
+// Whether a label is the root of a loose tree.
+fn is_loose(arena: &Arena, label: u32) -> bool
+    ensures { result ≡ is_loose arena.now.trees label }
+{
+    arena.lawful();
+    match arena.find(label) {
+        Some(node) => label > 0 && arena.parent(node).is_none(),
+        None => false,
+    }
+}
+
+// Keeps those of the nodes that are roots of loose trees.
+pub(crate) fn keep_loose(arena: &Arena, left: &mut Vec<NodeRef>)
+    ensures { left.new.items ≡ loose_roots arena.now.trees left.old.items }
+{
+    left.retain(|node| is_loose(arena, node.label));
+}
+
+// Gives up the loose trees with these roots, where they are there.
+fn give_up_roots(arena: &mut Arena, roots: &[NodeRef])
+    requires inner { (l : ℕ) → has_label (labels_of roots.now) l ≡ true → 0 < l }
+    requires loose { (l : ℕ) → has_label (labels_of roots.now) l ≡ true → parent_of arena.old.trees l ≡ None }
+    ensures { GivesUp (has_label (labels_of roots.now)) arena.old arena.new }
+{
+    arena.lawful();
+    for i in 0..roots.len() {
+        give_up_root(arena, roots[i].label);
+    }
+}
+
+// Gives up the loose trees that an entry left.
+pub(crate) fn give_up_left(arena: &mut Arena, entry: Option<Beside>)
+    requires inner { (l : ℕ) → has_left entry l ≡ true → 0 < l }
+    requires loose { (l : ℕ) → has_left entry l ≡ true → parent_of arena.old.trees l ≡ None }
+    ensures { GivesUp (has_left entry) arena.old arena.new }
+{
+    match entry {
+        Some(beside) => give_up_roots(arena, beside.left.as_slice()),
+        None => {}
     }
 }

@@ -1,14 +1,16 @@
-use Rattle.std.proofs.Common.{◌≡◌, ℕ, ◌<◌, true, None, refl, sym, subst, ◌∙◌, length}
+use Rattle.std.proofs.Common.{◌≡◌, ℕ, List, ◌<◌, true, None, refl, sym, subst, ◌∙◌, length}
 use Rattle.undo_log.specs.Log.{noted}
 use Rattle.undo_log.specs.Log.Open.{Closed}
-use Rattle.edit_doc.specs.Fields.{IsEnded}
+use Rattle.node_arena.specs.declared.NodeRef.{NodeRef}
+use Rattle.edit_doc.specs.Fields.{IsEnded, Enters}
 use Rattle.edit_doc.proofs.Commits.{none_made, committed_none, nothing_whole, nothing_ok, nothing_state, nothing_history, nothing_keeps}
 use Rattle.edit_doc.proofs.Inner.{open_of}
 use Rattle.edit_doc.proofs.Rolls.{run}
+use Rattle.edit_doc.proofs.Outgone.{left_inner, left_still_loose, gives_both, sheds_both, kept_both}
 use Rattle.edit_doc.proofs.Spared.{spared_ok, spared_state, spared_history, spared_keeps}
 use Rattle.edit_doc.proofs.Unnamed.{unnamed, some_low, unnamed_loose}
 use Rattle.dom_model.specs.Forest.{parent_of}
-use Rattle.edit_doc.specs.GivingUp.{GivesUp, is_unnamed}
+use Rattle.edit_doc.specs.GivingUp.{GivesUp, is_unnamed, loose_roots}
 use Rattle.edit_doc.proofs.Doc.commit.Goals as goal
 
 pub drop_made-requires-clause-whole : goal.drop_made-requires-clause-whole
@@ -46,7 +48,7 @@ returns-in-Nothing-clause-keeps c =
 
 -- ---- with an edit
 
-made : (c : goal.After-end-2) → 0 < length (noted c.self.inside.log.open_entry)
+made : (c : goal.After-give_up_left-arg-1) → 0 < length (noted c.self.inside.log.open_entry)
 made c = c.in-Entry.ensures.answer.0 refl
 
 pub give_up_unnamed-requires-clause-inner : goal.give_up_unnamed-requires-clause-inner
@@ -60,32 +62,54 @@ give_up_unnamed-requires-clause-loose c =
     subst (λ (n : ℕ). (l : ℕ) → is_unnamed n c.self.inside.command l ≡ true → parent_of c.self.inside.arena.trees l ≡ None) (sym c.first_undone-low.ensures)
     (unnamed_loose c.self.inside c.lawful-2.ensures c.self.invariant (open_of c.self.inside _ c.self.view_is c.requires.«open»))
 
-gives : (c : goal.After-end-2) → GivesUp (unnamed c.self.inside c.lawful-2.ensures c.self.invariant (open_of c.self.inside _ c.self.view_is c.requires.«open»)) c.self.inside.arena c.give_up_unnamed.new.arena
+gives : (c : goal.After-give_up_left-arg-1) → GivesUp (unnamed c.self.inside c.lawful-2.ensures c.self.invariant (open_of c.self.inside _ c.self.view_is c.requires.«open»)) c.self.inside.arena c.give_up_unnamed.new.arena
 gives c = subst (λ (n : ℕ). GivesUp (is_unnamed n c.self.inside.command) c.self.inside.arena c.give_up_unnamed.new.arena) c.first_undone-low.ensures c.give_up_unnamed.ensures
 
+enters : (c : goal.After-give_up_left-arg-1) → Enters c.self.inside.command (loose_roots c.self.inside.arena.trees c.self.inside.command.left.items) c.resting_places-places.result c.self.inside.counts c.self.inside.undo_sides.capacity c.self.inside.undo_sides.items c.keep_entry-oldest.new.undo_sides.items c.keep_entry-oldest.result
+enters c = subst (λ (ls : List NodeRef). Enters c.self.inside.command ls c.resting_places-places.result c.self.inside.counts c.self.inside.undo_sides.capacity c.self.inside.undo_sides.items c.keep_entry-oldest.new.undo_sides.items c.keep_entry-oldest.result) c.keep_loose.ensures c.keep_entry-oldest.ensures.entered
+
+pub give_up_left-requires-clause-inner : goal.give_up_left-requires-clause-inner
+give_up_left-requires-clause-inner c = left_inner c.self.inside c.lawful-2.ensures c.self.invariant (open_of c.self.inside _ c.self.view_is c.requires.«open») c.resting_places-places.result c.resting_places-places.ensures (made c) _ _ (enters c)
+
+pub give_up_left-requires-clause-loose : goal.give_up_left-requires-clause-loose
+give_up_left-requires-clause-loose c = left_still_loose c.self.inside c.lawful-2.ensures c.self.invariant (open_of c.self.inside _ c.self.view_is c.requires.«open») c.resting_places-places.result c.resting_places-places.ensures (made c) _ _ (enters c) _ (gives c)
+
+made2 : (c : goal.After-end-2) → 0 < length (noted c.self.inside.log.open_entry)
+made2 c = c.in-Entry.ensures.answer.0 refl
+
+gives2 : (c : goal.After-end-2) → GivesUp (unnamed c.self.inside c.lawful-2.ensures c.self.invariant (open_of c.self.inside _ c.self.view_is c.requires.«open»)) c.self.inside.arena c.give_up_unnamed.new.arena
+gives2 c = subst (λ (n : ℕ). GivesUp (is_unnamed n c.self.inside.command) c.self.inside.arena c.give_up_unnamed.new.arena) c.first_undone-low.ensures c.give_up_unnamed.ensures
+
+enters2 : (c : goal.After-end-2) → Enters c.self.inside.command (loose_roots c.self.inside.arena.trees c.self.inside.command.left.items) c.resting_places-places.result c.self.inside.counts c.self.inside.undo_sides.capacity c.self.inside.undo_sides.items c.keep_entry-oldest.new.undo_sides.items c.keep_entry-oldest.result
+enters2 c = subst (λ (ls : List NodeRef). Enters c.self.inside.command ls c.resting_places-places.result c.self.inside.counts c.self.inside.undo_sides.capacity c.self.inside.undo_sides.items c.keep_entry-oldest.new.undo_sides.items c.keep_entry-oldest.result) c.keep_loose.ensures c.keep_entry-oldest.ensures.entered
+
 entry_ended : (c : goal.After-end-2) → IsEnded c.self.inside.arena.next c.end-2.new.self
-entry_ended c = subst (λ (n : ℕ). IsEnded n c.end-2.new.self) (c.next_label-2.ensures ∙ c.give_up_unnamed.ensures.next) c.end-2.ensures
+entry_ended c = subst (λ (n : ℕ). IsEnded n c.end-2.new.self) (c.next_label-2.ensures ∙ (c.give_up_left.ensures.next ∙ c.give_up_unnamed.ensures.next)) c.end-2.ensures
 
 pub invariant_of-self-2 : goal.invariant_of-self-2
 invariant_of-self-2 c =
-    rw (c.set_places.ensures, c.clear.ensures, c.keep_entry.ensures.capacity)
-    (spared_ok c.self.inside c.lawful-2.ensures c.self.invariant (open_of c.self.inside _ c.self.view_is c.requires.«open») c.resting_places-places.result c.resting_places-places.ensures c.lawful.ensures (made c)
-    _ (entry_ended c) _ c.keep_entry.ensures.entered _ c.in-Entry.ensures.log _ (gives c) c.lawful-3.ensures)
+    rw (c.set_places.ensures, c.clear.ensures, c.keep_entry-oldest.ensures.capacity)
+    (spared_ok c.self.inside c.lawful-2.ensures c.self.invariant (open_of c.self.inside _ c.self.view_is c.requires.«open») c.resting_places-places.result c.resting_places-places.ensures c.lawful.ensures (made2 c)
+    _ (entry_ended c) _ _ (enters2 c) _ c.in-Entry.ensures.log _ _ (gives_both c.self.inside c.lawful-2.ensures c.self.invariant (open_of c.self.inside _ c.self.view_is c.requires.«open») c.resting_places-places.result c.resting_places-places.ensures (made2 c) _ _ (enters2 c) _ _ (gives2 c) c.give_up_left.ensures)
+    (sheds_both c.self.inside c.lawful-2.ensures c.self.invariant (open_of c.self.inside _ c.self.view_is c.requires.«open») c.resting_places-places.result c.resting_places-places.ensures (made2 c) _ _ (enters2 c)) (kept_both c.self.inside c.lawful-2.ensures c.self.invariant (open_of c.self.inside _ c.self.view_is c.requires.«open») c.resting_places-places.result c.resting_places-places.ensures (made2 c) _ _ (enters2 c) _ c.in-Entry.ensures.log) c.lawful-3.ensures)
 
 pub returns-clause-state : goal.returns-clause-state
 returns-clause-state c =
     rw c.set_places.ensures
-    (spared_state c.self.inside c.lawful-2.ensures c.self.invariant (open_of c.self.inside _ c.self.view_is c.requires.«open») c.resting_places-places.result c.resting_places-places.ensures c.lawful.ensures (made c)
-    _ (entry_ended c) _ c.keep_entry.ensures.entered _ c.in-Entry.ensures.log _ (gives c) c.lawful-3.ensures _ c.self.view_is)
+    (spared_state c.self.inside c.lawful-2.ensures c.self.invariant (open_of c.self.inside _ c.self.view_is c.requires.«open») c.resting_places-places.result c.resting_places-places.ensures c.lawful.ensures (made2 c)
+    _ (entry_ended c) _ _ (enters2 c) _ c.in-Entry.ensures.log _ _ (gives_both c.self.inside c.lawful-2.ensures c.self.invariant (open_of c.self.inside _ c.self.view_is c.requires.«open») c.resting_places-places.result c.resting_places-places.ensures (made2 c) _ _ (enters2 c) _ _ (gives2 c) c.give_up_left.ensures)
+    (sheds_both c.self.inside c.lawful-2.ensures c.self.invariant (open_of c.self.inside _ c.self.view_is c.requires.«open») c.resting_places-places.result c.resting_places-places.ensures (made2 c) _ _ (enters2 c)) (kept_both c.self.inside c.lawful-2.ensures c.self.invariant (open_of c.self.inside _ c.self.view_is c.requires.«open») c.resting_places-places.result c.resting_places-places.ensures (made2 c) _ _ (enters2 c) _ c.in-Entry.ensures.log) c.lawful-3.ensures _ c.self.view_is)
 
 pub returns-clause-history : goal.returns-clause-history
 returns-clause-history c =
     rw (c.set_places.ensures, c.clear.ensures)
-    (spared_history c.self.inside c.lawful-2.ensures c.self.invariant (open_of c.self.inside _ c.self.view_is c.requires.«open») c.resting_places-places.result c.resting_places-places.ensures c.lawful.ensures (made c)
-    _ (entry_ended c) _ c.keep_entry.ensures.entered _ c.in-Entry.ensures.log _ (gives c) c.lawful-3.ensures _ c.self.view_is)
+    (spared_history c.self.inside c.lawful-2.ensures c.self.invariant (open_of c.self.inside _ c.self.view_is c.requires.«open») c.resting_places-places.result c.resting_places-places.ensures c.lawful.ensures (made2 c)
+    _ (entry_ended c) _ _ (enters2 c) _ c.in-Entry.ensures.log _ _ (gives_both c.self.inside c.lawful-2.ensures c.self.invariant (open_of c.self.inside _ c.self.view_is c.requires.«open») c.resting_places-places.result c.resting_places-places.ensures (made2 c) _ _ (enters2 c) _ _ (gives2 c) c.give_up_left.ensures)
+    (sheds_both c.self.inside c.lawful-2.ensures c.self.invariant (open_of c.self.inside _ c.self.view_is c.requires.«open») c.resting_places-places.result c.resting_places-places.ensures (made2 c) _ _ (enters2 c)) (kept_both c.self.inside c.lawful-2.ensures c.self.invariant (open_of c.self.inside _ c.self.view_is c.requires.«open») c.resting_places-places.result c.resting_places-places.ensures (made2 c) _ _ (enters2 c) _ c.in-Entry.ensures.log) c.lawful-3.ensures _ c.self.view_is)
 
 pub returns-clause-keeps : goal.returns-clause-keeps
 returns-clause-keeps c =
     rw (c.set_places.ensures, c.clear.ensures)
-    (spared_keeps c.self.inside c.lawful-2.ensures c.self.invariant (open_of c.self.inside _ c.self.view_is c.requires.«open») c.resting_places-places.result c.resting_places-places.ensures c.lawful.ensures (made c)
-    _ (entry_ended c) _ c.keep_entry.ensures.entered _ c.in-Entry.ensures.log _ (gives c) c.lawful-3.ensures _ c.self.view_is)
+    (spared_keeps c.self.inside c.lawful-2.ensures c.self.invariant (open_of c.self.inside _ c.self.view_is c.requires.«open») c.resting_places-places.result c.resting_places-places.ensures c.lawful.ensures (made2 c)
+    _ (entry_ended c) _ _ (enters2 c) _ c.in-Entry.ensures.log _ _ (gives_both c.self.inside c.lawful-2.ensures c.self.invariant (open_of c.self.inside _ c.self.view_is c.requires.«open») c.resting_places-places.result c.resting_places-places.ensures (made2 c) _ _ (enters2 c) _ _ (gives2 c) c.give_up_left.ensures)
+    (sheds_both c.self.inside c.lawful-2.ensures c.self.invariant (open_of c.self.inside _ c.self.view_is c.requires.«open») c.resting_places-places.result c.resting_places-places.ensures (made2 c) _ _ (enters2 c)) (kept_both c.self.inside c.lawful-2.ensures c.self.invariant (open_of c.self.inside _ c.self.view_is c.requires.«open») c.resting_places-places.result c.resting_places-places.ensures (made2 c) _ _ (enters2 c) _ c.in-Entry.ensures.log) c.lawful-3.ensures _ c.self.view_is)

@@ -1,9 +1,15 @@
 use Rattle.std.proofs.Common.{◌≡◌, sym, ap, refl}
 use Rattle.edit_doc.specs.declared.command.Beside.{Beside}
+use Rattle.node_arena.specs.declared.NodeRef.{NodeRef}
 use Rattle.edit_doc.specs.Fields.{EntersIn, made_sides}
 use Rattle.edit_doc.proofs.commands.keep_entry.Goals as goal
 
 pub returns-else-command-clause-entered : goal.returns-else-command-clause-entered
 returns-else-command-clause-entered c =
-    let a = c.args in
-    rw (c.push_front.ensures.items, c.if-command.false) (c.beside.result, c.beside.ensures.sides, c.beside.ensures.left, refl)
+    rw (c.push_front.ensures.items, c.if-command.false) (
+      record { sides = c.beside-beside.result.sides; left = c.swap-else-command.new.x },
+      c.beside-beside.ensures.sides,
+      (λ i. (c.swap-else-command.ensures.x_after i).items),
+      refl,
+      c.push_front.ensures.value,
+    )
