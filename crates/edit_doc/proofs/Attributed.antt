@@ -1,6 +1,6 @@
 -- An edit that sets or unsets an attribute: the attribute list of an element is rewritten, and nothing else.
-use Rattle.std.proofs.Common.{◌≡◌, ◌⊎◌, ℕ, ◌+◌, ◌<◌, ◌≤◌, Bool, true, false, true≢false, not, cond, eqb, List, [], ◌∷◌, ◌++◌, length, Option, Some, None, refl, sym, ap, subst, ◌∙◌, inl, inr, arith}
-use Rattle.std.specs.Prelude.{IfSome, ◌&&◌, ◌==◌, if◌then◌else◌}
+use Rattle.std.proofs.Common.{◌≡◌, ℕ, Bool, true, false, eqb, List, [], ◌∷◌, Option, Some, None, refl, sym, ap, subst, ◌∙◌, inl, inr, arith}
+use Rattle.std.specs.Prelude.{◌&&◌}
 use Rattle.std.specs.Option.{option_map_or, option_map, option_and_then, option_copied, is_some}
 use Rattle.std.proofs.Common.{Bor}
 use Rattle.std.proofs.lemmas.Bool.Decides.{eqb_tells}
@@ -9,9 +9,9 @@ use Rattle.dom_model.specs.declared.Content.{Content}
 use Rattle.dom_model.specs.declared.Content.TheVariants.{Document, Element, Words, Remark}
 use Rattle.dom_model.specs.declared.attributes.Attribute.{Attribute}
 use Rattle.dom_model.specs.AttributeList.{set_in, unset_in, value_of}
-use Rattle.dom_model.specs.Contents.{is_element, is_element_at, attributes_in, attributes_of, with_attributes, words_length}
+use Rattle.dom_model.specs.Contents.{is_element, attributes_in, attributes_of, with_attributes, words_length}
 use Rattle.dom_model.specs.Document.{node_count, char_count}
-use Rattle.dom_model.specs.Forest.{Forest, Seen, tops, total, seek, count_of, content_of, tree_of, IsDistinct}
+use Rattle.dom_model.specs.Forest.{Forest, Seen, tops, total, content_of, tree_of, IsDistinct}
 use Rattle.dom_model.specs.Forest.Forest.{Nil, Tree}
 use Rattle.dom_model.specs.Revised.{revised}
 use Rattle.dom_model.specs.Shed.{shed}
@@ -22,7 +22,6 @@ use Rattle.dom_model.proofs.Shedding.{IsDistinct-shed}
 use Rattle.node_arena.specs.declared.NodeRef.{NodeRef}
 use Rattle.live_range.specs.declared.places.Point.{Point}
 use Rattle.live_range.specs.declared.places.Pair.{Pair}
-use Rattle.live_range.specs.LivePoints.{LivePoints}
 use Rattle.live_range.specs.ActiveRange.{range_changed, same_point, range_start, range_end}
 use Rattle.point_order.specs.PointOrder.{is_before}
 use Rattle.forest_changes.specs.Change.{Redress, applied, turned}
@@ -34,7 +33,6 @@ use Rattle.edit_steps.specs.Step.{StepFits, step_applied, step_turned}
 use Rattle.undo_log.specs.Log.{Log, with_step}
 use Rattle.edit_model.specs.State.{State}
 use Rattle.edit_model.specs.Edit.{Edit, Set, Unset, is_made_edit, trees_after, points_after, overrides_after, with_set, with_unset}
-use Rattle.edit_model.specs.Overrides.{no_overrides}
 use Rattle.edit_model.specs.Confined.{is_own, may_set, may_unset, has_value}
 use Rattle.edit_doc.specs.declared.Doc.TheInside.{Inside}
 use Rattle.edit_doc.specs.declared.command.Command.{Command}
@@ -130,6 +128,7 @@ follows c d n list f m = record {
   stay = m.stay;
   marked = (m.marked.0, tt);
   marked_turned = (m.marked.0, tt);
+  only = λ l h. elim (m.only l h) [ inl t ↦ inl t | inr t ↦ inr (inl t) ];
   more = [];
   left = ap (λ (k : Command). k.left.items) m.rest ∙ sym (append-nil c.left.items);
   loosed_is = refl;

@@ -1,20 +1,17 @@
 -- Which of two points of the document comes first is told by the document, whatever trees are hidden.
-use Rattle.std.proofs.Common.{◌≡◌, ◌≢◌, ℕ, zero, suc, ◌+◌, ◌<◌, ◌≤◌, Bool, true, false, cond, not, ◌&&◌, if◌then◌else◌, List, [], ◌∷◌, Option, Some, None, IfSome, refl, sym, ap, subst, ◌∙◌, inl, inr, arith, eqb}
+use Rattle.std.proofs.Common.{◌≡◌, ℕ, zero, suc, ◌+◌, ◌<◌, ◌≤◌, Bool, true, false, if◌then◌else◌, List, [], ◌∷◌, Option, Some, None, refl, sym, ap, subst, ◌∙◌, inl, inr, arith, eqb}
 use Rattle.std.specs.Prelude.{nat_lt, nat_le, find}
 use Rattle.std.proofs.lemmas.Bool.{ltb-true}
 use Rattle.std.proofs.lemmas.Bool.Decides.{eqb_tells, nat_tests}
 use Rattle.dom_model.specs.declared.Content.{Content}
 use Rattle.dom_model.specs.Forest.{Forest, join, is_label, count_of, tree_of, children_of, IsDistinct, IsWithin}
 use Rattle.dom_model.specs.Forest.Forest.{Nil, Tree}
-use Rattle.dom_model.specs.Places.{index_of, first_of_two}
 use Rattle.dom_model.specs.Shed.{shed}
 use Rattle.dom_model.proofs.Links.{tree_of_absent}
 use Rattle.dom_model.proofs.Shedding.{count_of-shed, children_of-shed}
 use Rattle.dom_model.proofs.Stands.{true_or_false}
 use Rattle.live_range.specs.declared.places.Point.{Point}
-use Rattle.live_range.specs.declared.places.Pair.{Pair}
-use Rattle.live_range.specs.ActiveRange.{range_changed, same_point}
-use Rattle.point_order.specs.PointOrder.{is_within, child_toward, is_earlier, is_before_below, is_before_apart, is_before}
+use Rattle.point_order.specs.PointOrder.{is_within, child_toward, is_before_below, is_before_apart, is_before}
 use Rattle.edit_doc.proofs.Found.{tree_of-fewer}
 use Rattle.edit_doc.proofs.SeenLookUps.{within_left, index_left, first_of_two-shed}
 

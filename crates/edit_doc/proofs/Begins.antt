@@ -1,39 +1,33 @@
 -- A command begins, or the last entry is resumed.
-use Rattle.std.proofs.Common.{◌≡◌, ℕ, zero, suc, ◌+◌, ◌<◌, ◌≤◌, Bool, true, false, List, [], ◌∷◌, length, take, drop, Option, Some, None, IfSome, refl, sym, ap, subst, ◌∙◌, inl, inr, arith, eqb}
+use Rattle.std.proofs.Common.{◌≡◌, ℕ, zero, suc, ◌+◌, ◌<◌, Bool, true, false, true≢false, ◌-◌, List, [], ◌∷◌, length, take, drop, Option, Some, None, IfSome, refl, sym, ap, subst, ◌∙◌, inl, inr, arith}
+use Rattle.std.specs.Prelude.{◌&&◌, nat_le, slice_index_or}
 use Rattle.std.proofs.lemmas.Bool.Decides.{eqb_tells}
 use Rattle.dom_model.specs.declared.Content.{Content}
-use Rattle.dom_model.specs.Document.{node_count, char_count}
-use Rattle.dom_model.specs.Forest.{Forest, tops, times, count_of, parent_of, first_of}
+use Rattle.dom_model.specs.Forest.{Forest, tops, times, count_of}
 use Rattle.dom_model.specs.Shed.{shed}
-use Rattle.dom_model.specs.State.{State as Arena, IsLawful as IsArena}
-use Rattle.live_range.specs.declared.places.Places.{Places}
+use Rattle.dom_model.specs.State.{IsLawful as IsArena}
 use Rattle.live_range.specs.LivePoints.{LivePoints}
-use Rattle.live_range.specs.Edit.{has_label}
-use Rattle.live_range.specs.Names.{shown, IsOver}
 use Rattle.node_arena.specs.declared.NodeRef.{NodeRef}
 use Rattle.undo_log.specs.Turning.{back, inverses_back, FitsBack}
-use Rattle.undo_log.specs.Log.{Log, Open, noted, is_resumed, begun as begun_log, resumed as resumed_log}
-use Rattle.undo_log.specs.Log.Open.{Closed, Begun, Resumed}
-use Rattle.forest_changes.specs.Change.{Fits, applied}
+use Rattle.undo_log.specs.Log.{Log, noted, is_resumed, begun as begun_log}
+use Rattle.undo_log.specs.Log.Open.{Closed}
 use Rattle.forest_changes.specs.Named.{Each}
 use Rattle.edit_steps.specs.declared.step.Step.{Step}
-use Rattle.edit_model.specs.declared.settings.Setting.{Setting}
-use Rattle.edit_model.specs.declared.settings.Flags.{Flags}
 use Rattle.edit_model.specs.State.{State}
-use Rattle.edit_model.specs.Lawful.{IsLawful, IsPlaced, IsForest}
+use Rattle.edit_model.specs.Lawful.{IsPlaced, IsForest}
 use Rattle.edit_model.specs.History.{begun, document_of}
 use Rattle.edit_model.specs.Gives.{label_of, labels_of}
 use Rattle.edit_parts.specs.declared.Counts.{Counts}
 use Rattle.edit_doc.specs.declared.Doc.TheInside.{Inside}
 use Rattle.edit_doc.specs.declared.command.Beside.{Beside}
-use Rattle.edit_doc.specs.declared.command.Sides.{Sides}
 use Rattle.edit_doc.specs.declared.command.Kept.{Kept}
 use Rattle.edit_doc.specs.declared.command.Command.{Command}
-use Rattle.edit_doc.specs.Fields.{IsKept, SwapsLeft}
-use Rattle.edit_doc.specs.Whole.{Whole, Began, opened}
-use Rattle.edit_doc.specs.Held.{IfHeld, Holds}
-use Rattle.edit_doc.specs.History.{forest_before, begun_forest, is_hidden, seen_trees, state_of, begun_state, began_with, history_of, undo_entries, whole_of}
-use Rattle.edit_doc.specs.Sound.{RefIn, IsSide, IsBeside, IsIdle, IsRunning, OpenSound, UndoSound, RedoSound, left_of, next_first, IsSound}
+use Rattle.edit_doc.specs.Fields.{IsKept}
+use Rattle.edit_doc.specs.Whole.{Began, opened}
+use Rattle.edit_doc.specs.Held.{IfHeld}
+use Rattle.edit_doc.specs.History.{begun_forest, is_hidden, seen_trees, state_of, begun_state, began_with, history_of, whole_of}
+use Rattle.edit_doc.specs.Marks.{has_named}
+use Rattle.edit_doc.specs.Sound.{RefIn, IsRunning, OpenSound, UndoSound, RedoSound, AreNeeded, next_first, IsSound}
 use Rattle.edit_doc.proofs.Inner.{seen, Ok}
 use Rattle.edit_doc.proofs.Laid.{undo_later, redo_later, next_first_low}
 use Rattle.edit_doc.proofs.Rests.{AtRest, rest_of, trees_are, none_noted, arena_forest}
@@ -96,6 +90,13 @@ module _ (d : Inside) (law : IsArena d.arena) (closed : d.log.open_entry ≡ Clo
     start_is : c.start ≡ d.arena.next
     start_is = o.start ∙ rest.idle.start
 
+    unnamed : (l : ℕ) → has_named c l ≡ false
+    unnamed l = ap (λ (ms : List Bool). nat_le c.start l && slice_index_or ms (l - c.start) false) o.named ∙ and_false (nat_le c.start l)
+      where
+        and_false : (b : Bool) → (b && false) ≡ false
+        and_false true = refl
+        and_false false = refl
+
     runs : IsRunning d.arena d.points.names c [] d.arena.trees
     unfolding back inverses_back FitsBack
     runs = record {
@@ -116,6 +117,7 @@ module _ (d : Inside) (law : IsArena d.arena) (closed : d.log.open_entry ≡ Clo
       marks = ap (λ xs. length xs + c.start) o.named ∙ zero_more start_is;
       marked = tt;
       marked_turned = tt;
+      named_all = λ l e. absurd (true≢false (sym e ∙ unnamed l));
       left_before = (let e = o.left_before in omega (arith, e));
       left_seen = subst (λ rs. Each (λ l. 0 < count_of (shed (is_hidden d.arena.trees c.start) d.arena.trees) l) (labels_of rs)) (sym (drop_all c.left_before c.left.items o.left_before)) tt;
       loosened = λ l inner top. absurd (document_tops d.arena.trees d.arena.next l (arena_forest d.arena law) inner
@@ -131,8 +133,9 @@ module _ (d : Inside) (law : IsArena d.arena) (closed : d.log.open_entry ≡ Clo
         IfSome c.host (λ h. RefIn d.arena.held h × (0 < count_of (seen_trees d.log d.command.start d.arena.trees) h.label)) →
         UndoSound d.arena.held d.points.names c.resumed c (next_first c.start d.redo_sides.items) d.arena.trees log.undo us →
         RedoSound d.arena.held d.points.names c d.arena.trees log.redo d.redo_sides.items →
+        AreNeeded d.command.start d.arena.trees log.undo log.redo →
         IsSound d.arena d.points d.overrides.items d.flags d.counts c log us d.redo_sides.items d.undo_sides.capacity d.redo_sides.capacity
-    opened_ok us running resumed host undo redo = record {
+    opened_ok us running resumed host undo redo needed = record {
       lawful = record {
         forest = subst (λ t. IsForest t d.arena.next) (sym same_trees) ok.lawful.forest;
         placed = subst (λ t. IsPlaced t d.points) (sym same_trees) ok.lawful.placed;
@@ -148,6 +151,7 @@ module _ (d : Inside) (law : IsArena d.arena) (closed : d.log.open_entry ≡ Clo
       host = subst (λ t. IfSome c.host (λ h. RefIn d.arena.held h × (0 < count_of t h.label))) (sym same_trees) host;
       undo = subst (λ g. UndoSound d.arena.held d.points.names c.resumed c (next_first c.start d.redo_sides.items) g log.undo us) (sym now) undo;
       redo = subst (λ g. RedoSound d.arena.held d.points.names c g log.redo d.redo_sides.items) (sym now) redo;
+      needed = subst (λ g. AreNeeded c.start g log.undo log.redo) (sym now) (subst (λ n. AreNeeded n d.arena.trees log.undo log.redo) (sym o.start) needed);
       us_room_is = ok.us_room_is ∙ sym o.depth;
       rs_room_is = ok.rs_room_is ∙ sym o.depth;
     }
@@ -192,6 +196,9 @@ module _ (d : Inside) (law : IsArena d.arena) (closed : d.log.open_entry ≡ Clo
         began_at : State → Bool → Began
         began_at s r = record { state = s; resumed = r }
 
+  pub needed_now : AreNeeded d.command.start d.arena.trees d.log.undo d.log.redo
+  needed_now = subst (λ g. AreNeeded d.command.start g d.log.undo d.log.redo) (none_noted d.log d.arena.trees (ap noted closed)) ok.needed
+
   -- ---- begin
 
   pub held_host : (o : Option NodeRef) → IfHeld (seen d) o → IfSome o (λ h. RefIn d.arena.held h × (0 < count_of (seen_trees d.log d.command.start d.arena.trees) h.label))
@@ -220,6 +227,7 @@ module _ (d : Inside) (law : IsArena d.arena) (closed : d.log.open_entry ≡ Clo
         (subst (λ b. UndoSound d.arena.held d.points.names b c (next_first c.start d.redo_sides.items) d.arena.trees d.log.undo d.undo_sides.items) (sym rest.resumed)
         (undo_later d.arena.held d.points.names d.command c (omega arith) (next_first d.command.start d.redo_sides.items) (next_first d.command.start d.redo_sides.items) d.arena.trees d.log.undo d.undo_sides.items (omega arith) first rest.undo))
         (redo_later d.arena.held d.points.names d.command c (omega arith) d.arena.trees d.log.redo d.redo_sides.items rest.redo)
+        needed_now
 
     pub begin_is : whole_of d.arena d.points d.overrides.items d.flags begun_command (begun_log d.log) d.undo_sides.items d.redo_sides.items ≡ opened (label_of host) keeping false (seen d)
     begin_is = opened_is begun_command (begun_log d.log) begun_opens d.undo_sides.items false (λ s. refl) refl

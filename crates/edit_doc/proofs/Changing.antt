@@ -1,9 +1,8 @@
 -- A change of what is seen, with the note of the step that takes it back: the fields stay sound, the history stays, and
 -- what is seen changes the same way.
-use Rattle.std.proofs.Common.{◌≡◌, ◌≢◌, ◌⊎◌, ℕ, zero, suc, ◌+◌, ◌-◌, ◌<◌, ◌≤◌, Bool, true, false, true≢false, ◌||◌, List, [], ◌∷◌, ◌++◌, length, take, drop, Option, Some, None, IfSome, refl, sym, ap, subst, ◌∙◌, inl, inr, arith, length-append}
-use Rattle.std.specs.Prelude.{IsTrue, slice_index_or, ◌==◌}
-use Rattle.std.specs.List.{list_any}
-use Rattle.std.proofs.lemmas.List.{take-append-le, drop-append-le, append-nil}
+use Rattle.std.proofs.Common.{◌≡◌, ◌≢◌, ◌⊎◌, ℕ, ◌+◌, ◌<◌, ◌≤◌, Bool, true, false, true≢false, ◌||◌, List, [], ◌∷◌, ◌++◌, length, take, drop, Option, Some, None, IfSome, refl, sym, ap, subst, ◌∙◌, inl, inr, arith, length-append}
+use Rattle.std.specs.Prelude.{IsTrue, ◌==◌}
+use Rattle.std.proofs.lemmas.List.{take-append-le, drop-append-le}
 use Rattle.std.proofs.lemmas.List.Folds.{list_any-append}
 use Rattle.std.proofs.lemmas.Bool.Decides.{eqb_tells}
 use Rattle.dom_model.specs.declared.Content.{Content}
@@ -12,37 +11,36 @@ use Rattle.dom_model.specs.Forest.{Forest, tops, times, count_of}
 use Rattle.dom_model.specs.Shed.{shed}
 use Rattle.dom_model.specs.State.{State as Arena, IsLawful as IsArena}
 use Rattle.node_arena.specs.declared.NodeRef.{NodeRef}
-use Rattle.node_arena.specs.Held.{Holds as ArenaHolds}
 use Rattle.live_range.specs.LivePoints.{LivePoints}
 use Rattle.live_range.specs.Edit.{has_label}
 use Rattle.live_range.specs.Names.{shown}
-use Rattle.undo_log.specs.Turning.{back, inverses_back, inverses_forth, FitsBack}
+use Rattle.undo_log.specs.Turning.{back, inverses_back, FitsBack}
 use Rattle.undo_log.specs.Log.{Log, Open, noted, is_open, is_resumed, with_noted, with_step}
 use Rattle.undo_log.specs.Log.Open.{Closed, Begun, Resumed}
 use Rattle.undo_log.proofs.Turns.{back-append, inverses_back-append, FitsBack-more}
-use Rattle.forest_changes.specs.Change.{Change, IsForest, Fits, Turns, applied, turned}
+use Rattle.forest_changes.specs.Change.{Change, Fits, Turns, applied, turned}
 use Rattle.forest_changes.specs.Named.{Each, named, named_in}
 use Rattle.forest_changes.specs.Down.{Sheds, IsLeft, GoesDown}
 use Rattle.forest_changes.proofs.ChangeLists.{each_of, each_join, each_first, each_rest}
 use Rattle.forest_changes.proofs.DownChange.{down, sheds_roots}
-use Rattle.forest_changes.proofs.Twice.{turns, IsForest-applied, count_of-applied, forest_of}
+use Rattle.forest_changes.proofs.Twice.{turns, forest_of}
 use Rattle.edit_steps.specs.declared.step.Step.{Step}
-use Rattle.edit_steps.specs.Step.{change_of, changes_of, nodes_of, nodes_in, step_applied, step_turned, StepFits}
+use Rattle.edit_steps.specs.Step.{change_of, changes_of, nodes_of, nodes_in, step_turned, StepFits}
 use Rattle.edit_steps.specs.StepLaws.{change_of-turned, held-turned}
 use Rattle.edit_model.specs.declared.settings.Setting.{Setting}
 use Rattle.edit_model.specs.declared.settings.Flags.{Flags}
 use Rattle.edit_model.specs.State.{State}
 use Rattle.edit_model.specs.Lawful.{IsLawful}
-use Rattle.edit_model.specs.History.{History, document_of}
+use Rattle.edit_model.specs.History.{document_of}
 use Rattle.edit_model.specs.Gives.{label_of, labels_of}
 use Rattle.edit_model.proofs.Steps.{labels_of-append}
 use Rattle.edit_parts.specs.declared.Counts.{Counts}
 use Rattle.edit_doc.specs.declared.command.Beside.{Beside}
 use Rattle.edit_doc.specs.declared.command.Command.{Command}
-use Rattle.edit_doc.specs.Whole.{Whole, Began, with_state}
-use Rattle.edit_doc.specs.Marks.{IsMarked}
+use Rattle.edit_doc.specs.Whole.{with_state}
+use Rattle.edit_doc.specs.Marks.{IsMarked, has_named}
 use Rattle.edit_doc.specs.History.{forest_before, begun_forest, is_hidden, seen_trees, state_of, begun_state, began_with, history_of, whole_of}
-use Rattle.edit_doc.specs.Sound.{RefIn, EachHeldIn, CanGoBack, IsSide, AreAlone, IsBeside, IsRunning, OpenSound, UndoSound, RedoSound, left_of, next_first, IsSound}
+use Rattle.edit_doc.specs.Sound.{RefIn, EachHeldIn, CanGoBack, IsSide, AreAlone, IsBeside, IsRunning, OpenSound, UndoSound, RedoSound, left_of, next_first, IsSound, AreNeeded}
 use Rattle.edit_doc.proofs.Laid.{redo_later}
 use Rattle.edit_doc.proofs.HiddenTrees.{top_loose}
 use Rattle.edit_doc.proofs.Places.{node_of, loosed, named_node, each_loosed, root_stays, root_was}
@@ -103,6 +101,24 @@ has_last xs l = list_any-append (λ x. x == l) xs (l ∷ []) ∙ (rw own (either
     own : has_label (l ∷ []) l ≡ true
     own = elim (eqb_tells l l) [ inl (e, _) ↦ rw e refl | inr (_, off) ↦ absurd (off refl) ]
 
+has_later : (xs ys : List ℕ) (l : ℕ) → has_label ys l ≡ true → has_label (xs ++ ys) l ≡ true
+has_later xs ys l h = list_any-append (λ x. x == l) xs ys ∙ (rw h (either_true (has_label xs l)))
+
+either_of : (a b : Bool) → (a || b) ≡ true → (a ≡ true) ⊎ (b ≡ true)
+either_of true b e = inl refl
+either_of false b e = inr e
+
+named_first : (xs ys : List Change) (l : ℕ) → has_label (named_in xs) l ≡ true → has_label (named_in (xs ++ ys)) l ≡ true
+named_first [] ys l h = absurd (cc)
+named_first (x ∷ xs) ys l h = elim (either_of (has_label (named x) l) (has_label (named_in xs) l) (sym (list_any-append (λ m. m == l) (named x) (named_in xs)) ∙ h)) [
+  | inl t ↦ has_first (named x) (named_in (xs ++ ys)) l t
+  | inr t ↦ has_later (named x) (named_in (xs ++ ys)) l (named_first xs ys l t)
+]
+
+named_last : (xs : List Change) (y : Change) (l : ℕ) → has_label (named y) l ≡ true → has_label (named_in (xs ++ y ∷ [])) l ≡ true
+named_last [] y l h = has_first (named y) [] l h
+named_last (x ∷ xs) y l h = has_later (named x) (named_in (xs ++ y ∷ [])) l (named_last xs y l h)
+
 -- ---- the history beside a command whose marks and left trees change
 
 module _ (held : List (Option ℕ)) (names : List (List ℕ)) (c d : Command) (start : c.start ≡ d.start) where
@@ -128,6 +144,7 @@ pub record Follows (c d : Command) (x y : Change) : Type 0 where
   pub stay : (l : ℕ) → IsMarked c l → IsMarked d l
   pub marked : Each (IsMarked d) (named x)
   pub marked_turned : Each (IsMarked d) (named y)
+  pub only : (l : ℕ) → has_named d l ≡ true → (has_named c l ≡ true) ⊎ ((has_label (named x) l ≡ true) ⊎ (has_label (named y) l ≡ true))
   pub more : List NodeRef
   pub left : d.left.items ≡ c.left.items ++ more
   pub loosed_is : labels_of more ≡ loosed x
@@ -226,6 +243,16 @@ module _ (a : Arena) (points : LivePoints) (overrides : List Setting) (flags : F
         marked = subst (λ ls. Each (IsMarked d) (named_in ls)) (sym steps_are) (each_named (IsMarked d) (changes_of xs) (turned (change_of x) a.trees) (marked_still (changes_of xs) run.marked) now.marked_turned);
         marked_turned = subst (λ ls. Each (IsMarked d) (named_in (inverses_back applied turned ls f))) (sym steps_are)
             (subst (λ ls. Each (IsMarked d) (named_in ls)) (sym turned_same) (each_named (IsMarked d) (inverses_back applied turned (changes_of xs) a.trees) (change_of x) (marked_still (inverses_back applied turned (changes_of xs) a.trees) run.marked_turned) now.marked));
+        named_all = λ l h. (
+            let R : List Change → List Change → Type 0 = λ bs ts. (has_label (named_in bs) l ≡ true) ⊎ (has_label (named_in ts) l ≡ true) in
+            let steps = changes_of xs in
+            let turns = inverses_back applied turned steps a.trees in
+            let z = turned (change_of x) a.trees in
+            let own : R (steps ++ z ∷ []) (turns ++ change_of x ∷ []) = elim (now.only l h) [
+              | inl was ↦ elim (run.named_all l was) [ inl t ↦ inl (named_first steps (z ∷ []) l t) | inr t ↦ inr (named_first turns (change_of x ∷ []) l t) ]
+              | inr more ↦ elim more [ inl t ↦ inr (named_last turns (change_of x) l t) | inr t ↦ inl (named_last steps z l t) ]
+            ] in
+            subst (λ bs. R bs (inverses_back applied turned bs f)) (sym steps_are) (subst (λ ts. R (steps ++ z ∷ []) ts) (sym turned_same) own));
         left_before = (let b = run.left_before in let e = now.left_before in let n = ap length now.left in let m = length-append c.left.items now.more in omega (arith, b, e, n, m));
         left_seen = subst (λ n. Each (λ l. 0 < count_of (shed (is_hidden g n) f) l) (labels_of (drop d.left_before d.left.items))) (sym now.start)
             (subst (Each (IsLeft hides f)) (sym left_labels)
@@ -316,6 +343,7 @@ module _ (a : Arena) (points : LivePoints) (overrides : List Setting) (flags : F
                   (subst (λ r. UndoSound a.held points.names r d (next_first d.start rs) g log.undo us) (sym now.resumed)
                   (subst (λ n. UndoSound a.held points.names c.resumed d (next_first n rs) g log.undo us) start undo)));
               redo = subst (λ t. RedoSound a.held points'.names d t log.redo rs) (sym begun_same) (subst (λ ns. RedoSound a.held ns d g log.redo rs) (sym names) redo);
+              needed = subst (λ n. AreNeeded n (begun_forest (with_step log y) f) log.undo log.redo) start (subst (λ t. AreNeeded c.start t log.undo log.redo) (sym begun_same) ok.needed);
               us_room_is = ok.us_room_is;
               rs_room_is = ok.rs_room_is;
             }

@@ -1,5 +1,5 @@
 -- Other points, overrides or flags of a document under edits.
-use Rattle.std.proofs.Common.{◌≡◌, ℕ, zero, suc, ◌<◌, Bool, true, false, if◌then◌else◌, get_or, arith, List, [], ◌∷◌, length, Option, Some, None, IfSome, refl, sym, ap, subst, ◌∙◌}
+use Rattle.std.proofs.Common.{◌≡◌, ℕ, zero, suc, ◌<◌, Bool, true, false, if◌then◌else◌, get_or, arith, List, [], ◌∷◌, length, Option, None, refl, sym, ap, subst, ◌∙◌}
 use Rattle.dom_model.specs.declared.Content.{Content}
 use Rattle.dom_model.specs.Forest.{Forest, count_of}
 use Rattle.dom_model.specs.State.{State as Arena}
@@ -20,9 +20,9 @@ use Rattle.edit_model.specs.State.{State}
 use Rattle.edit_doc.specs.declared.Doc.TheInside.{Inside}
 use Rattle.edit_doc.specs.declared.command.Command.{Command}
 use Rattle.edit_doc.specs.Whole.{Whole, with_state}
-use Rattle.edit_doc.specs.Held.{Holds, Keeps}
+use Rattle.edit_doc.specs.Held.{Keeps}
 use Rattle.edit_doc.specs.History.{begun_forest, seen_trees, whole_of}
-use Rattle.edit_doc.specs.Sound.{IsIdle, IsRunning, OpenSound, IsSound}
+use Rattle.edit_doc.specs.Sound.{IsIdle, OpenSound, IsSound}
 use Rattle.edit_doc.proofs.Inner.{seen, Ok}
 
 -- points with the same names
@@ -63,6 +63,7 @@ module _ (d : Inside) (ok : Ok d) (selection scratch : Option Pair) (marks : Lis
     host = ok.host;
     undo = ok.undo;
     redo = ok.redo;
+    needed = ok.needed;
     us_room_is = ok.us_room_is;
     rs_room_is = ok.rs_room_is;
   }

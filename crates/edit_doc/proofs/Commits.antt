@@ -1,38 +1,35 @@
 -- A command ends.
-use Rattle.std.proofs.Common.{◌≡◌, ℕ, zero, suc, ◌+◌, ◌<◌, ◌≤◌, Bool, true, false, List, [], ◌∷◌, ◌++◌, length, take, map, Option, Some, None, refl, sym, ap, subst, ◌∙◌, inl, inr, arith}
+use Rattle.std.proofs.Common.{◌≡◌, ℕ, ◌<◌, Bool, false, List, [], ◌∷◌, length, None, refl, sym, ap, subst, ◌∙◌, arith}
 use Rattle.std.specs.Prelude.{IsTrue, nat_le}
 use Rattle.undo_log.specs.declared.Committed.TheVariants.{Nothing, Entry as Made}
-use Rattle.dom_model.specs.declared.Content.{Content}
 use Rattle.dom_model.specs.Document.{node_count, char_count}
-use Rattle.dom_model.specs.Forest.{Forest, tops, times, count_of}
+use Rattle.dom_model.specs.Forest.{count_of}
 use Rattle.dom_model.specs.Shed.{shed, IsWhole}
 use Rattle.dom_model.specs.State.{State as Arena, IsLawful as IsArena}
 use Rattle.dom_model.proofs.Shedding.{count_of-shed}
-use Rattle.node_arena.specs.declared.NodeRef.{NodeRef}
 use Rattle.node_arena.specs.Held.{DropsMade}
 use Rattle.live_range.specs.declared.places.Places.{Places}
 use Rattle.live_range.specs.LivePoints.{LivePoints}
 use Rattle.live_range.specs.Names.{shown}
-use Rattle.undo_log.specs.Log.{Log, IsLog, Open, noted, is_open, joined, committed, committed_with}
+use Rattle.undo_log.specs.Log.{Log, Open, noted, is_open, joined, committed_with}
 use Rattle.undo_log.specs.Log.Open.{Closed, Begun, Resumed}
 use Rattle.undo_log.proofs.Lists.{append-nil}
-use Rattle.forest_changes.proofs.Twice.{forest_of}
 use Rattle.edit_steps.specs.declared.step.Step.{Step}
 use Rattle.edit_model.specs.State.{State}
 use Rattle.edit_model.specs.Lawful.{IsPlaced}
-use Rattle.edit_model.specs.History.{document_of, History, rested, recorded}
+use Rattle.edit_model.specs.History.{document_of, rested, recorded}
 use Rattle.edit_doc.specs.declared.Doc.TheInside.{Inside}
 use Rattle.edit_doc.specs.declared.command.Beside.{Beside}
 use Rattle.edit_doc.specs.declared.command.Command.{Command}
 use Rattle.edit_doc.specs.Fields.{IsEnded, Forgets, AreResting}
-use Rattle.edit_doc.specs.Whole.{Whole, Began, history_committed, committed_history}
-use Rattle.edit_doc.specs.Held.{Holds, KeepsThere}
+use Rattle.edit_doc.specs.Whole.{Whole, history_committed, committed_history}
+use Rattle.edit_doc.specs.Held.{KeepsThere}
 use Rattle.edit_doc.specs.History.{begun_forest, is_hidden, seen_trees, state_of, begun_state, began_with, history_of, whole_of}
-use Rattle.edit_doc.specs.Sound.{RefIn, IsSound}
-use Rattle.edit_doc.proofs.HiddenTrees.{false_le, document-shed, placed-shed, placed-whole, node_count-shed, char_count-shed, model_forest}
+use Rattle.edit_doc.specs.Sound.{IsSound}
+use Rattle.edit_doc.proofs.HiddenTrees.{false_le, document-shed, placed-shed, placed-whole, node_count-shed, char_count-shed}
 use Rattle.edit_doc.proofs.Inner.{seen, Ok}
 use Rattle.edit_doc.proofs.Rests.{AtRest, rest_sound, rest_state, none_noted, arena_forest}
-use Rattle.edit_doc.proofs.Rolls.{whole_g, sheds_g, Without, without_rest, without_history}
+use Rattle.edit_doc.proofs.Rolls.{whole_g, sheds_g, Without, without_rest, without_needed, without_history}
 
 -- ---- whether a step was noted
 
@@ -110,6 +107,7 @@ module _ (d : Inside) (law : IsArena d.arena) (ok : Ok d) (opened : IsTrue (is_o
 
       pub nothing_ok : IsSound a rested_points d.overrides.items d.flags d.counts c log' us d.redo_sides.items d.undo_sides.capacity d.redo_sides.capacity
       nothing_ok = rest_sound a rested_points d.overrides.items d.flags d.counts c log' us d.redo_sides.items d.undo_sides.capacity d.redo_sides.capacity ends
+          (without_needed d law ok opened a left_out us forgets c ended log' refl refl refl refl)
 
       document_is : document_of a.trees ≡ document_of (seen_trees d.log d.command.start d.arena.trees)
       document_is = ap document_of drops.trees ∙ (document-shed d.arena.trees d.arena.next (arena_forest d.arena law) k sheds ∙ sym document_now)

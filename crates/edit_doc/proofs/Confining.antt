@@ -1,11 +1,10 @@
 -- The tests on edits, as the fields of a document give them.
-use Rattle.std.proofs.Common.{◌≡◌, ◌≢◌, ◌⊎◌, ℕ, Bool, true, false, cond, Option, Some, None, IfSome, refl, sym, ap, subst, ◌∙◌, inl, inr, arith, eqb}
-use Rattle.std.specs.Prelude.{◌||◌, ◌&&◌, not, nat_le}
+use Rattle.std.proofs.Common.{◌≡◌, ℕ, Bool, true, false, Option, Some, None, refl, sym, ap, ◌∙◌, inl, inr, eqb}
+use Rattle.std.specs.Prelude.{◌||◌, nat_le}
 use Rattle.std.proofs.lemmas.Bool.Decides.{eqb_tells}
 use Rattle.std.specs.Option.{option_map_or}
-use Rattle.dom_model.specs.declared.Content.{Content}
 use Rattle.dom_model.specs.Editing.{is_editable}
-use Rattle.dom_model.specs.Forest.{Forest, is_label}
+use Rattle.dom_model.specs.Forest.{is_label}
 use Rattle.dom_model.specs.State.{IsLawful as IsArena}
 use Rattle.node_arena.specs.declared.NodeRef.{NodeRef}
 use Rattle.edit_model.specs.Confined.{is_editable_for, is_inside, is_made, is_open, is_own}

@@ -1,8 +1,8 @@
 -- The numbers of the document after a tree is linked or made loose.
-use Rattle.std.proofs.Common.{◌≡◌, ℕ, ◌+◌, ◌-◌, ◌<◌, ◌≤◌, Bool, true, false, cond, eqb, List, Option, Some, None, refl, sym, ap, subst, ◌∙◌, inl, inr, arith}
+use Rattle.std.proofs.Common.{◌≡◌, ℕ, ◌+◌, cond, eqb, Option, Some, refl, ap, ◌∙◌, inl, inr, arith}
 use Rattle.std.proofs.lemmas.Bool.Decides.{eqb_tells}
 use Rattle.dom_model.specs.declared.Content.{Content}
-use Rattle.dom_model.specs.Forest.{Forest, total, count_of, tree_of, parent_of, without, put_under, put_before, link, unlink, CanPut, IsWithin, IsDistinct}
+use Rattle.dom_model.specs.Forest.{Forest, total, count_of, tree_of, parent_of, put_under, link, unlink, CanPut, IsWithin}
 use Rattle.dom_model.specs.Forest.Forest.{Nil, Tree}
 use Rattle.dom_model.proofs.DropTree.{without_absent}
 use Rattle.dom_model.proofs.Totals.{total-without, total-put_under}

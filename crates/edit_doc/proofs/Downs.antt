@@ -1,17 +1,15 @@
 -- The history over what is left of a forest, where its steps name only that.
-use Rattle.std.proofs.Common.{◌≡◌, ℕ, zero, suc, ◌+◌, ◌<◌, ◌≤◌, Bool, true, false, true≢false, List, [], ◌∷◌, length, map, Option, Some, None, refl, sym, ap, subst, ◌∙◌, inl, inr, arith}
-use Rattle.std.specs.Prelude.{nat_le}
+use Rattle.std.proofs.Common.{◌≡◌, ℕ, ◌<◌, Bool, false, List, [], ◌∷◌, length, map, Option, None, refl, sym, ap, subst, ◌∙◌, arith}
 use Rattle.dom_model.specs.declared.Content.{Content}
-use Rattle.dom_model.specs.Document.{node_count, char_count}
-use Rattle.dom_model.specs.Forest.{Forest, tops, times, count_of, tree_of, parent_of, first_in, IsDistinct}
+use Rattle.dom_model.specs.Forest.{Forest, count_of, tree_of, parent_of, first_in, IsDistinct}
 use Rattle.dom_model.specs.Shed.{shed}
-use Rattle.dom_model.proofs.Shedding.{count_of-shed, parent_of-shed, children_of-shed}
+use Rattle.dom_model.proofs.Shedding.{count_of-shed, tree_of-shed, parent_of-shed, children_of-shed}
+use Rattle.dom_model.proofs.Stands.{times-tops}
 use Rattle.undo_log.specs.Turning.{back, forth, inverses_back, inverses_forth, FitsBack, FitsForth}
 use Rattle.forest_changes.specs.Change.{Change, IsForest, Fits, applied, turned}
 use Rattle.forest_changes.specs.Named.{Each, named_in}
 use Rattle.forest_changes.specs.Down.{Sheds, IsLeft, GoBackDown, GoForthDown}
 use Rattle.forest_changes.proofs.ChangeLists.{each_of, each_first, each_rest, each_join, back_down, forth_down}
-use Rattle.forest_changes.proofs.DownChange.{sheds_roots}
 use Rattle.forest_changes.proofs.Twice.{count_of-applied, IsForest-applied}
 use Rattle.edit_steps.specs.declared.step.Step.{Step}
 use Rattle.edit_steps.specs.Step.{changes_of, nodes_of, nodes_in}
@@ -19,13 +17,12 @@ use Rattle.edit_steps.proofs.StepLists.{named_labels}
 use Rattle.node_arena.specs.declared.NodeRef.{NodeRef}
 use Rattle.live_range.specs.declared.places.Places.{Places}
 use Rattle.live_range.specs.Names.{shown, named, marks_of}
-use Rattle.edit_model.specs.History.{View, Entry, document_of}
 use Rattle.edit_model.specs.Gives.{labels_of}
 use Rattle.edit_doc.specs.declared.command.Beside.{Beside}
 use Rattle.edit_doc.specs.declared.command.Command.{Command}
 use Rattle.edit_doc.specs.History.{forest_before, forest_after, is_hidden, view_at, undo_entries, redo_entries}
-use Rattle.edit_doc.specs.Sound.{RefIn, EachHeldIn, CanGoBack, CanGoForth, IsSide, AreFresh, IsBeside, left_of, next_first, UndoSound, RedoSound}
-use Rattle.edit_doc.proofs.HiddenTrees.{Hidden, hidden_is, is_hidden_from, shed_more, both_left, tops_left, tops_stay, top_loose, loose_left, model_forest, document-shed, placed-shed, node_count-shed, char_count-shed}
+use Rattle.edit_doc.specs.Sound.{RefIn, EachHeldIn, IsSide, AreFresh, IsOff, IsBeside, left_of, next_first, UndoSound, RedoSound}
+use Rattle.edit_doc.proofs.HiddenTrees.{hidden_is, is_hidden_from, shed_more, both_left, tops_left, tops_stay, loose_left, model_forest, document-shed, placed-shed, node_count-shed, char_count-shed}
 
 -- ---- steps keep a forest and its labels
 
@@ -117,6 +114,11 @@ beside-shed k keeps names before after e ts b left high start is bound is' bound
   names_old = h.names_old;
   turns_old = h.turns_old;
   left_loose = each_of (λ l. (0 < l) × ((l < high) × (parent_of after l ≡ None))) (λ l. (0 < l) × ((l < high) × (parent_of (shed k after) l ≡ None))) (labels_of left) (λ l t. (t.0, (t.1.0, loose_left k after l is'.distinct t.1.1))) h.left_loose;
+  left_all = λ l inner top out. (
+      let was = tops_left k after l top in
+      let same : tree_of (shed k after) l ≡ tree_of after l = tree_of-shed k after l is'.distinct (omega (arith, top, times-tops (shed k after) l)) in
+      let off : (ls : List ℕ) → Each (IsOff after l) ls → Each (IsOff (shed k after) l) ls = λ ls t. subst (λ g. Each (λ m. count_of g m ≡ 0) ls) (sym same) t in
+      h.left_all l inner was.0 (λ a b. out (off (named_in (changes_of e)) a) (off (named_in ts) b)));
 }
 
 -- ---- nodes that stay held

@@ -1,12 +1,11 @@
 -- An edit that is made: what a call that makes it owes.
-use Rattle.std.proofs.Common.{◌≡◌, ℕ, ◌+◌, ◌<◌, ◌≤◌, Bool, true, false, List, [], ◌∷◌, ◌++◌, length, take, Option, Some, None, Ok, refl, sym, ap, subst, ◌∙◌, arith}
-use Rattle.std.specs.Prelude.{IsTrue, IfSome}
+use Rattle.std.proofs.Common.{◌≡◌, ◌+◌, true, List, length, Ok, refl, sym, ap, subst, ◌∙◌, arith}
+use Rattle.std.specs.Prelude.{IsTrue}
 use Rattle.dom_model.specs.declared.Content.{Content}
 use Rattle.dom_model.specs.Document.{node_count, char_count}
-use Rattle.dom_model.specs.Forest.{Forest, count_of}
+use Rattle.dom_model.specs.Forest.{Forest}
 use Rattle.dom_model.specs.Shed.{shed}
 use Rattle.dom_model.specs.State.{State as Arena, IsLawful as IsArena}
-use Rattle.node_arena.specs.declared.NodeRef.{NodeRef}
 use Rattle.live_range.specs.LivePoints.{LivePoints}
 use Rattle.undo_log.specs.Log.{Log, noted, is_open, with_step}
 use Rattle.forest_changes.specs.Change.{applied, turned}
@@ -27,7 +26,7 @@ use Rattle.edit_parts.specs.declared.Counts.{Counts}
 use Rattle.edit_doc.specs.declared.Doc.TheInside.{Inside}
 use Rattle.edit_doc.specs.declared.command.Command.{Command}
 use Rattle.edit_doc.specs.Whole.{Whole, IsOpen, with_state}
-use Rattle.edit_doc.specs.Held.{Holds, Keeps}
+use Rattle.edit_doc.specs.Held.{Keeps}
 use Rattle.edit_doc.specs.History.{state_of, whole_of}
 use Rattle.edit_doc.specs.Sound.{IsSound}
 use Rattle.edit_doc.proofs.Inner.{seen, seen as seen_of, Ok as OkInside, open_of}

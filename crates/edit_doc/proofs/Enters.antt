@@ -1,9 +1,9 @@
 -- A command that made edits leaves an entry.
-use Rattle.std.proofs.Common.{◌≡◌, ℕ, zero, suc, ◌<◌, ◌≤◌, false, Option, List, [], ◌∷◌, length, take, refl, sym, ap, subst, ◌∙◌, arith}
+use Rattle.std.proofs.Common.{◌≡◌, ℕ, zero, suc, ◌<◌, false, Option, List, [], ◌∷◌, length, take, refl, sym, ap, subst, arith, inl, inr}
 use Rattle.std.specs.Prelude.{IsTrue}
 use Rattle.dom_model.specs.declared.Content.{Content}
-use Rattle.dom_model.specs.Forest.{Forest, count_of}
-use Rattle.dom_model.specs.State.{State as Arena, IsLawful as IsArena}
+use Rattle.dom_model.specs.Forest.{Forest}
+use Rattle.dom_model.specs.State.{IsLawful as IsArena}
 use Rattle.dom_model.proofs.Shedding.{count_of-shed}
 use Rattle.live_range.specs.declared.places.Places.{Places}
 use Rattle.undo_log.specs.Turning.{inverses_back}
@@ -16,7 +16,6 @@ use Rattle.forest_changes.proofs.Twice.{forest_of}
 use Rattle.edit_steps.specs.declared.step.Step.{Step}
 use Rattle.edit_steps.specs.Step.{changes_of}
 use Rattle.node_arena.specs.declared.NodeRef.{NodeRef}
-use Rattle.edit_model.specs.Gives.{labels_of}
 use Rattle.edit_doc.specs.declared.Doc.TheInside.{Inside}
 use Rattle.edit_doc.specs.declared.command.Beside.{Beside}
 use Rattle.edit_doc.specs.declared.command.Command.{Command}
@@ -24,7 +23,10 @@ use Rattle.edit_doc.specs.Fields.{AreResting, made_sides}
 use Rattle.edit_doc.specs.GivingUp.{loose_roots}
 use Rattle.edit_doc.specs.History.{forest_before, is_hidden, view_at, undo_entries}
 use Rattle.edit_doc.specs.Sound.{IsBeside, UndoSound}
-use Rattle.edit_doc.proofs.GivingUp.{filtered_loose}
+use Rattle.edit_doc.proofs.GivingUp.{filtered_loose, loose_is, listed_loose, listed_after}
+use Rattle.edit_doc.proofs.HiddenTrees.{tops_stay}
+use Rattle.edit_doc.proofs.Off.{each_off}
+use Rattle.dom_model.proofs.Stands.{true_or_false}
 use Rattle.edit_doc.proofs.Inner.{Ok}
 use Rattle.edit_doc.proofs.Turnings.{sheds_after}
 use Rattle.edit_doc.proofs.Rolls.{run, g, xs, below_g, beside_of}
@@ -87,5 +89,9 @@ module _ (d : Inside) (law : IsArena d.arena) (ok : Ok d) (opened : IsTrue (is_o
         names_old = below_next (named_in (changes_of steps)) r.names_there;
         turns_old = below_next (named_in ts) gd.names;
         left_loose = filtered_loose f d.arena.next law.distinct law.below d.command.left.items;
+        left_all = λ l inner top out. elim (true_or_false (k l)) [
+          | inl t ↦ absurd (out (each_off k f l law.distinct top t (named_in (changes_of steps)) r.names_there) (each_off k f l law.distinct top t (named_in ts) gd.names))
+          | inr t ↦ (let seen = r.loosened l inner (subst (λ n. 0 < n) (sym (tops_stay k f l t)) top) in listed_loose f d.command.left.items l (loose_is f l inner top) (listed_after d.command.left_before d.command.left.items l seen))
+        ];
       } in
       subst (λ ls. IsBeside d.points.names before f steps ts b ls d.arena.next d.arena.next) (sym none) (beside_of d.points.names before f steps ts b1 b roots d.arena.next d.arena.next (sym same) own)

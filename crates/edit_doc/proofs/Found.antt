@@ -1,8 +1,7 @@
 -- The document of a forest, and which nodes are left of it with the root of their tree.
-use Rattle.std.proofs.Common.{◌≡◌, ◌≢◌, ℕ, zero, suc, ◌+◌, ◌<◌, ◌≤◌, Bool, true, false, true≢false, cond, Option, Some, None, refl, sym, ap, subst, ◌∙◌, inl, inr, arith, eqb}
+use Rattle.std.proofs.Common.{◌≡◌, ℕ, ◌+◌, ◌<◌, ◌≤◌, Bool, false, Some, None, sym, ap, ◌∙◌, inl, inr, arith}
 use Rattle.std.proofs.lemmas.Bool.Decides.{eqb_tells}
-use Rattle.dom_model.specs.declared.Content.{Content}
-use Rattle.dom_model.specs.Forest.{Forest, Seen, join, seek, tops, times, count_of, tree_of, parent_of, total, IsDistinct, IsWithin}
+use Rattle.dom_model.specs.Forest.{Forest, join, tops, times, count_of, tree_of, parent_of, IsDistinct, IsWithin}
 use Rattle.dom_model.specs.Forest.Forest.{Nil, Tree}
 use Rattle.dom_model.specs.Shed.{shed}
 use Rattle.dom_model.proofs.Links.{seen, tree_of_absent}
@@ -11,7 +10,7 @@ use Rattle.dom_model.proofs.Stands.{true_or_false, times-tops, parent_stands}
 use Rattle.edit_doc.proofs.HiddenTrees.{tops_stay}
 
 module _ {C : Type 0} where
-  count_of-join : (f g : Forest C) (l : ℕ) → count_of (join f g) l ≡ count_of f l + count_of g l
+  pub count_of-join : (f g : Forest C) (l : ℕ) → count_of (join f g) l ≡ count_of f l + count_of g l
   count_of-join Nil g l = omega arith
   count_of-join (Tree m c ks rest) g l = omega (arith, count_of-join rest g l)
 

@@ -1,9 +1,6 @@
 -- A document outside commands without trees that its history doesn't name.
-use Rattle.std.proofs.Common.{◌≡◌, ℕ, ◌<◌, Bool, false, List, Option, refl, sym, ap, subst, ◌∙◌, None}
-use Rattle.dom_model.specs.declared.Content.{Content}
+use Rattle.std.proofs.Common.{◌≡◌, ℕ, Bool, false, List, sym, ap, subst, ◌∙◌, None}
 use Rattle.dom_model.specs.Document.{node_count, char_count}
-use Rattle.dom_model.specs.Forest.{Forest, count_of}
-use Rattle.dom_model.specs.Shed.{shed}
 use Rattle.dom_model.specs.State.{State as Arena, IsLawful as IsArena}
 use Rattle.live_range.specs.LivePoints.{LivePoints}
 use Rattle.undo_log.specs.Log.{Log}
@@ -19,7 +16,7 @@ use Rattle.edit_parts.specs.declared.Counts.{Counts}
 use Rattle.edit_doc.specs.declared.command.Beside.{Beside}
 use Rattle.edit_doc.specs.declared.command.Command.{Command}
 use Rattle.edit_doc.specs.GivingUp.{GivesUp}
-use Rattle.edit_doc.specs.History.{state_of, history_of, undo_entries, redo_entries}
+use Rattle.edit_doc.specs.History.{state_of, history_of}
 use Rattle.edit_doc.specs.Sound.{UndoSound, RedoSound, next_first}
 use Rattle.edit_doc.proofs.Downs.{Bounded, EntriesLeft, undo-shed, redo-shed, undo_entries-shed, redo_entries-shed}
 use Rattle.edit_doc.proofs.HiddenTrees.{document-shed, placed-shed, node_count-shed, char_count-shed}

@@ -1,5 +1,5 @@
 -- Loose trees are given up one after another.
-use Rattle.std.proofs.Common.{◌≡◌, ◌≢◌, ℕ, zero, suc, ◌+◌, ◌<◌, ◌≤◌, Bool, true, false, cond, List, [], ◌∷◌, ◌++◌, length, take, get_or, Option, Some, None, refl, sym, ap, subst, ◌∙◌, inl, inr, arith, eqb, nat_lt}
+use Rattle.std.proofs.Common.{◌≡◌, ◌≢◌, ℕ, zero, suc, ◌+◌, ◌<◌, ◌≤◌, Bool, true, false, cond, List, [], ◌∷◌, ◌++◌, length, take, drop, get_or, Option, Some, None, refl, sym, ap, subst, ◌∙◌, inl, inr, arith, eqb, nat_lt}
 use Rattle.std.specs.Prelude.{◌&&◌, ◌||◌, ◌==◌, not, nat_le, is_some}
 use Rattle.std.proofs.lemmas.Bool.Decides.{eqb_tells, nat_tests}
 use Rattle.std.proofs.lemmas.List.Folds.{list_any-append}
@@ -20,8 +20,8 @@ use Rattle.forest_changes.proofs.Twice.{forest_of}
 use Rattle.node_arena.specs.declared.NodeRef.{NodeRef}
 use Rattle.node_arena.specs.Held.{Holds, DropsTree, label}
 use Rattle.edit_doc.specs.declared.command.Command.{Command}
-use Rattle.edit_doc.specs.GivingUp.{GivesUp, has_named, is_unnamed, is_loose, loose_roots}
-use Rattle.edit_doc.specs.Sound.{RefIn}
+use Rattle.edit_doc.specs.GivingUp.{GivesUp, is_unnamed, is_loose, loose_roots}
+use Rattle.edit_doc.specs.Marks.{has_named}
 use Rattle.edit_doc.proofs.Found.{root_is_top}
 use Rattle.edit_doc.proofs.HiddenTrees.{shed-same, shed-none, loose_left, top_loose, and_true, both_true, lt_true, true_lt}
 
@@ -263,4 +263,34 @@ filtered_loose f next once below [] = tt
 filtered_loose f next once below (r ∷ rs) = elim (true_or_false (is_loose f r.label)) [
   | inl t ↦ (let u = is_loose_root f r.label t in let top = u.1 in rw t ((u.0, (below r.label (omega (arith, top, times-tops f r.label)), top_loose f r.label once top)), filtered_loose f next once below rs))
   | inr t ↦ rw t (filtered_loose f next once below rs)
+]
+
+or_more : (b : Bool) → (b || true) ≡ true
+or_more true = refl
+or_more false = refl
+
+-- a root of a loose tree that was listed is listed
+pub listed_loose : (f : Forest Content) (rs : List NodeRef) (l : ℕ) → is_loose f l ≡ true → has_label (labels_of rs) l ≡ true → has_label (labels_of (loose_roots f rs)) l ≡ true
+listed_loose f [] l loose h = h
+listed_loose f (r ∷ rs) l loose h = elim (eqb_tells r.label l) [
+  | inl (e, same) ↦ (let t : is_loose f r.label ≡ true = ap (is_loose f) same ∙ loose in rw (t, e) refl)
+  | inr (e, _) ↦ (
+      let ih = listed_loose f rs l loose (rw e at h) in
+      elim (true_or_false (is_loose f r.label)) [
+        | inl t ↦ rw (t, e) ih
+        | inr t ↦ rw t ih
+      ])
+]
+
+pub listed_after : (n : ℕ) (rs : List NodeRef) (l : ℕ) → has_label (labels_of (drop n rs)) l ≡ true → has_label (labels_of rs) l ≡ true
+listed_after zero rs l h = h
+listed_after (suc n) [] l h = h
+listed_after (suc n) (r ∷ rs) l h = (let ih = listed_after n rs l h in rw ih (or_more (r.label == l)))
+
+pub listed_before : (n : ℕ) (rs : List NodeRef) (l : ℕ) → has_label (labels_of (take n rs)) l ≡ true → has_label (labels_of rs) l ≡ true
+listed_before zero rs l h = absurd (cc)
+listed_before (suc n) [] l h = h
+listed_before (suc n) (r ∷ rs) l h = elim (eqb_tells r.label l) [
+  | inl (e, _) ↦ rw e refl
+  | inr (e, _) ↦ (let h' = rw e at h in rw e (listed_before n rs l h'))
 ]

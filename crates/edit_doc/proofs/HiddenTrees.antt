@@ -1,23 +1,20 @@
 -- Forests without some of their trees: what is seen, and the document alone.
-use Rattle.std.proofs.Common.{◌≡◌, ◌⊎◌, ℕ, zero, suc, ◌+◌, ◌<◌, ◌≤◌, Bool, true, false, true≢false, cond, List, Option, Some, None, refl, sym, ap, subst, ◌∙◌, inl, inr, arith, eqb, nat_lt}
+use Rattle.std.proofs.Common.{◌≡◌, ℕ, zero, suc, ◌+◌, ◌<◌, ◌≤◌, Bool, true, false, true≢false, cond, List, Option, None, refl, sym, ap, subst, ◌∙◌, inl, inr, arith, eqb, nat_lt}
 use Rattle.std.specs.Prelude.{◌&&◌, nat_le}
 use Rattle.std.specs.Option.{option_map, option_map_or, option_and_then}
 use Rattle.std.proofs.lemmas.Bool.Decides.{eqb_tells, nat_tests}
 use Rattle.dom_model.specs.declared.Content.{Content}
 use Rattle.dom_model.specs.Contents.{length_of, length_in}
 use Rattle.dom_model.specs.Document.{node_count, char_count}
-use Rattle.dom_model.specs.Forest.{Forest, Seen, seek, tops, times, count_of, tree_of, parent_of, first_of, children_of, content_of, IsDistinct, IsWithin, RisesFrom}
+use Rattle.dom_model.specs.Forest.{Forest, Seen, tops, times, count_of, tree_of, parent_of, IsDistinct, IsWithin, RisesFrom}
 use Rattle.dom_model.specs.Forest.Forest.{Nil, Tree}
 use Rattle.dom_model.specs.Shed.{shed}
-use Rattle.dom_model.specs.State.{State as Arena}
-use Rattle.dom_model.proofs.Shedding.{count_of-shed, IsDistinct-shed, tree_of-shed, seek-shed, parent_of-shed, children_of-shed}
+use Rattle.dom_model.proofs.Shedding.{count_of-shed, seek-shed, parent_of-shed}
 use Rattle.dom_model.proofs.Stands.{true_or_false, times-tops, top_stands, seek_Stands, seek_absent}
-use Rattle.dom_model.proofs.Within.{within_self}
 use Rattle.live_range.specs.LivePoints.{LivePoints}
 use Rattle.forest_changes.specs.Change.{IsForest}
-use Rattle.forest_changes.specs.Down.{Sheds, IsLeft}
 use Rattle.edit_model.specs.Lawful.{IsPlaced, IsForest as IsModelForest}
-use Rattle.edit_model.proofs.Points.{Leaves, Placed, points_left}
+use Rattle.edit_model.proofs.Points.{Leaves, points_left}
 use Rattle.edit_model.proofs.Documents.{document_shape}
 use Rattle.edit_doc.specs.History.{is_hidden}
 

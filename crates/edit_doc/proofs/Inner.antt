@@ -1,12 +1,12 @@
 -- The fields of a document under edits, and whether a command is open.
-use Rattle.std.proofs.Common.{◌≡◌, List, Option, Some, None, refl, sym, ap, subst, ◌∙◌}
+use Rattle.std.proofs.Common.{◌≡◌, None, refl, sym, ap, subst, ◌∙◌}
 use Rattle.std.specs.Prelude.{IsTrue, IsSome}
 use Rattle.undo_log.specs.Log.{Open, is_open}
 use Rattle.undo_log.specs.Log.Open.{Closed, Begun, Resumed}
 use Rattle.edit_steps.specs.declared.step.Step.{Step}
 use Rattle.edit_model.specs.State.{State}
 use Rattle.edit_doc.specs.declared.Doc.TheInside.{Inside}
-use Rattle.edit_doc.specs.Whole.{Whole, Began, IsOpen, IsClosed}
+use Rattle.edit_doc.specs.Whole.{Whole, IsOpen, IsClosed}
 use Rattle.edit_doc.specs.History.{whole_of, began_with}
 use Rattle.edit_doc.specs.Sound.{IsSound}
 

@@ -1,13 +1,12 @@
 -- Where a tree stands after a link, and what the numbers of the document become.
-use Rattle.std.proofs.Common.{◌≡◌, ◌≢◌, ℕ, zero, suc, ◌+◌, ◌<◌, ◌≤◌, ◌^◌, Bool, true, false, true≢false, not, cond, eqb, List, [], ◌∷◌, length, Option, Some, None, refl, sym, ap, subst, ◌∙◌, inl, inr, arith}
-use Rattle.std.specs.Prelude.{◌&&◌, nat_lt, ◌*◌}
+use Rattle.std.proofs.Common.{◌≡◌, ℕ, zero, suc, ◌+◌, ◌<◌, ◌≤◌, ◌^◌, true, false, true≢false, cond, eqb, List, [], ◌∷◌, length, Option, Some, None, refl, sym, ap, subst, ◌∙◌, inl, inr, arith}
+use Rattle.std.specs.Prelude.{nat_lt}
 use Rattle.std.specs.Option.{option_map_or}
 use Rattle.std.proofs.lemmas.Bool.Decides.{eqb_tells}
 use Rattle.dom_model.specs.declared.Content.{Content}
 use Rattle.dom_model.specs.declared.Content.TheVariants.{Document, Element, Words, Remark}
 use Rattle.dom_model.specs.Contents.{words_length, char_length}
-use Rattle.dom_model.specs.Document.{node_count, char_count}
-use Rattle.dom_model.specs.Forest.{Forest, total, times, put_in, count_of, tree_of, parent_of, children_of, link, unlink, CanPut, IsDistinct}
+use Rattle.dom_model.specs.Forest.{Forest, total, times, put_in, count_of, tree_of, parent_of, children_of, link, CanPut, IsDistinct}
 use Rattle.dom_model.specs.Places.{place_in, index_of}
 use Rattle.dom_model.specs.State.{State as Arena, IsLawful as IsArena}
 use Rattle.dom_model.proofs.Deepest.{total-bound}

@@ -1,9 +1,9 @@
 -- An insert that is made.
-use Rattle.std.proofs.Common.{◌≡◌, ℕ, ◌+◌, ◌<◌, ◌^◌, Bool, true, false, List, length, Option, Some, None, refl, sym, ap, subst, ◌∙◌, arith}
+use Rattle.std.proofs.Common.{◌≡◌, ℕ, ◌<◌, ◌^◌, Bool, true, false, List, length, Option, Some, None, refl, sym, ap, subst, ◌∙◌, arith}
 use Rattle.dom_model.specs.declared.Content.{Content}
 use Rattle.dom_model.specs.Contents.{is_parent_at, words_length}
 use Rattle.dom_model.specs.Document.{node_count, char_count}
-use Rattle.dom_model.specs.Forest.{Forest, total, count_of, tree_of, children_of, link, CanPut, IsDistinct}
+use Rattle.dom_model.specs.Forest.{Forest, total, count_of, tree_of, link, CanPut, IsDistinct}
 use Rattle.dom_model.specs.Places.{place_in, index_of}
 use Rattle.dom_model.specs.Shed.{shed}
 use Rattle.dom_model.specs.State.{State as Arena, IsLawful as IsArena, IsSlotted}
@@ -24,7 +24,7 @@ use Rattle.edit_steps.specs.declared.step.Step.TheVariants.{Link}
 use Rattle.edit_steps.specs.Step.{StepFits, change_of, step_applied, step_turned}
 use Rattle.edit_model.specs.declared.settings.Setting.{Setting}
 use Rattle.edit_model.specs.State.{State}
-use Rattle.edit_model.specs.Edit.{Edit, Insert, is_made_edit, trees_after, points_after, index_before}
+use Rattle.edit_model.specs.Edit.{Insert, is_made_edit, trees_after, points_after, index_before}
 use Rattle.edit_model.specs.Confined.{may_insert}
 use Rattle.edit_model.specs.Gives.{label_of}
 use Rattle.edit_model.specs.Lawful.{IsPlaced}

@@ -30,17 +30,20 @@ use Rattle.edit_doc.specs.Fields.{IsEnded, AreResting, EntersIn, Enters, made_si
 use Rattle.edit_doc.specs.GivingUp.{loose_roots}
 use Rattle.edit_doc.specs.Whole.{Whole, history_committed, committed_history}
 use Rattle.edit_doc.specs.History.{forest_before, is_hidden, begun_forest, state_of, began_with, history_of, undo_entries, redo_entries, view_at}
-use Rattle.edit_doc.specs.Sound.{RefIn, CanGoBack, IsBeside, UndoSound, IsSound}
-use Rattle.edit_doc.proofs.GivingUp.{filtered_loose}
+use Rattle.edit_doc.specs.Sound.{RefIn, CanGoBack, IsOff, IsBeside, UndoSound}
+use Rattle.edit_doc.proofs.GivingUp.{filtered_loose, loose_is, listed_loose, listed_after, listed_before}
+use Rattle.edit_doc.proofs.Off.{Passes, passes_back, off_moved, each_here, each_off}
+use Rattle.live_range.specs.Edit.{has_label}
+use Rattle.edit_model.specs.Gives.{labels_of}
 use Rattle.edit_doc.proofs.Inner.{seen, Ok}
-use Rattle.edit_doc.proofs.HiddenTrees.{hidden_is, is_hidden_from, shed_more}
+use Rattle.edit_doc.proofs.HiddenTrees.{hidden_is, is_hidden_from, shed_more, tops_stay}
 use Rattle.edit_doc.proofs.Laid.{undo_later}
 use Rattle.dom_model.proofs.Stands.{true_or_false}
-use Rattle.edit_doc.proofs.Rests.{none_noted}
+use Rattle.edit_doc.proofs.Rests.{AtRest, none_noted}
 use Rattle.edit_doc.proofs.Rolls.{run, g, xs, beside_of}
 use Rattle.edit_doc.proofs.Turnings.{sheds_after}
 use Rattle.edit_doc.proofs.Commits.{placed_now}
-use Rattle.edit_doc.proofs.Records.{high, high_le, some_edits, state_before, state_now, view_now, committed_made, begun_sound, begun_history, recorded_ok, recorded_state}
+use Rattle.edit_doc.proofs.Records.{high, high_le, some_edits, state_before, state_now, view_now, committed_made, begun_sound, begun_history, ends, recorded_state}
 
 -- ---- lists of steps joined
 
@@ -97,7 +100,7 @@ module _ (d : Inside) (law : IsArena d.arena) (ok : Ok d) (opened : IsTrue (is_o
   -- the entry that the command resumed, with its steps
   module _ (e : List Step) (b b' : Beside) (left : List NodeRef) (up : ℕ) (le : up ≤ d.command.start) (can : CanGoBack d.arena.held e begun)
       (was : IsBeside d.points.names (forest_before e begun) begun e (inverses_back applied turned (changes_of e) begun) b left up d.command.start)
-      (same : b'.sides ≡ joined_sides b.sides p d.counts) (left_is : b'.left.items ≡ left_now) where
+      (same : b'.sides ≡ joined_sides b.sides p d.counts) (left_is : b'.left.items ≡ left_now) (taken : left ≡ take d.command.left_before d.command.left.items) where
     abbrev both : List Step
     both = e ++ steps
 
@@ -109,6 +112,9 @@ module _ (d : Inside) (law : IsArena d.arena) (ok : Ok d) (opened : IsTrue (is_o
 
     abbrev k : ℕ → Bool
     k = is_hidden first b.sides.first_label
+
+    abbrev hid : ℕ → Bool
+    hid = is_hidden begun d.command.start
 
     first_low : b.sides.first_label ≤ d.command.start
     first_low = (let t = was.drawn in omega arith)
@@ -160,6 +166,19 @@ module _ (d : Inside) (law : IsArena d.arena) (ok : Ok d) (opened : IsTrue (is_o
       names_old = below (named_in (changes_of both)) there;
       turns_old = below (named_in turns) down.names;
       left_loose = filtered_loose now d.arena.next law.distinct law.below d.command.left.items;
+      left_all = λ l inner top out. listed_loose now d.command.left.items l (loose_is now l inner top) (elim (true_or_false (hid l)) [
+        | inl t ↦ (
+            let last_off : Each (IsOff now l) (named_in (changes_of steps)) = each_off hid now l law.distinct top t (named_in (changes_of steps)) (run d law ok opened).names_there in
+            let ps : Passes l now begun (inverses_back applied turned (changes_of steps) now) =
+            passes_back l (changes_of steps) now (forest_of d.arena law) inner top (run d law ok opened).can.0 (each_here hid now (named_in (changes_of steps)) (run d law ok opened).names_there) last_off in
+            let listed = was.left_all l inner ps.top (λ a x. (
+            let first_off = off_moved l begun now (λ m. sym (ps.same m)) (named_in (changes_of e)) a in
+            let both_off = each_named (IsOff now l) e steps first_off last_off in
+            let pb : Passes l now (forest_before both now) turns = passes_back l (changes_of both) now (forest_of d.arena law) inner top can_both.0 (each_here k now (named_in (changes_of both)) there) both_off in
+            out both_off pb.turns)) in
+            listed_before d.command.left_before d.command.left.items l (subst (λ ls. has_label (labels_of ls) l ≡ true) taken listed))
+        | inr t ↦ listed_after d.command.left_before d.command.left.items l ((run d law ok opened).loosened l inner (subst (λ n. 0 < n) (sym (tops_stay hid now l t)) top))
+      ]);
     }
 
     pub joined_beside : IsBeside d.points.names (forest_before both now) now both turns b' b'.left.items d.arena.next c.start
@@ -183,9 +202,9 @@ module _ (d : Inside) (law : IsArena d.arena) (ok : Ok d) (opened : IsTrue (is_o
       let low : b.sides.first_label ≤ d.command.start = (let t = h.1.0.drawn in omega arith) in
       let rest : UndoSound d.arena.held d.points.names false c b.sides.first_label first es bs = undo_later d.arena.held d.points.names d.command c start_le b.sides.first_label b.sides.first_label first es bs (omega arith) (let t = start_le in omega arith) h.1.1 in
       let left = take d.command.left_before d.command.left.items in (
-        can_both e b b' left up le h.0 h.1.0 same enters.1.1.0,
+        can_both e b b' left up le h.0 h.1.0 same enters.1.1.0 refl,
         (
-          joined_beside e b b' left up le h.0 h.1.0 same enters.1.1.0,
+          joined_beside e b b' left up le h.0 h.1.0 same enters.1.1.0 refl,
           subst (λ (t : Sides). UndoSound d.arena.held d.points.names false c t.first_label (forest_before (e ++ steps) now) es bs') (sym same)
               (subst (λ t. UndoSound d.arena.held d.points.names false c b.sides.first_label t es bs') (sym (before_join e steps now))
               (subst (λ cs. UndoSound d.arena.held d.points.names false c b.sides.first_label first es cs) (sym enters.0) rest)),
@@ -229,7 +248,7 @@ module _ (d : Inside) (law : IsArena d.arena) (ok : Ok d) (opened : IsTrue (is_o
 
 -- ---- either way
 
-true_is : (b : Bool) → b ≡ true → IsTrue b
+pub true_is : (b : Bool) → b ≡ true → IsTrue b
 true_is true e = refl
 true_is false e = absurd (cc)
 
@@ -264,14 +283,11 @@ module _ (d : Inside) (law : IsArena d.arena) (ok : Ok d) (opened : IsTrue (is_o
     here : Recorded log
     here = subst Recorded (sym is) recorded_is
 
-    pub entry_closed : log.open_entry ≡ Closed
-    entry_closed = here.closed
-
     pub entry_redo : log.redo ≡ []
     entry_redo = here.redo
 
-    pub entry_ok : IsSound d.arena (shown d.points.names p) d.overrides.items d.flags d.counts c log us [] d.undo_sides.capacity d.redo_sides.capacity
-    entry_ok = recorded_ok d law ok opened p resting log here.closed here.redo here.depth us c ended here.undo
+    pub entry_rests : AtRest d.arena (shown d.points.names p) d.overrides.items d.flags d.counts c log us [] d.undo_sides.capacity d.redo_sides.capacity
+    entry_rests = ends d law ok opened p resting log here.closed here.redo here.depth us c ended here.undo
 
     pub entry_state : (v : Whole) → seen d ≡ v → state_of d.arena (shown d.points.names p) d.overrides.items d.flags c log ≡ rested v.state
     entry_state v sees = recorded_state d law ok opened p resting log here.closed here.redo here.depth us c ended here.undo v sees

@@ -1,24 +1,23 @@
 -- The history as it lies over a forest: its lengths, and what it becomes as its parts change.
-use Rattle.std.proofs.Common.{◌≡◌, ℕ, zero, suc, ◌<◌, ◌≤◌, ◌+◌, Bool, true, false, List, [], ◌∷◌, length, take, Option, Some, None, refl, sym, ap, subst, ◌∙◌, arith}
+use Rattle.std.proofs.Common.{◌≡◌, ℕ, suc, ◌<◌, ◌≤◌, Bool, false, List, [], ◌∷◌, length, Option, None, refl, sym, ap, ◌∙◌, arith}
 use Rattle.std.specs.Prelude.{IsTrue, ◌↔◌}
 use Rattle.dom_model.specs.declared.Content.{Content}
 use Rattle.dom_model.specs.Forest.{Forest, parent_of}
 use Rattle.undo_log.specs.Log.{first_length}
 use Rattle.undo_log.specs.Turning.{inverses_back, inverses_forth}
 use Rattle.forest_changes.specs.Change.{Change, applied, turned}
-use Rattle.forest_changes.specs.Named.{Each, named_in}
+use Rattle.forest_changes.specs.Named.{named_in}
 use Rattle.forest_changes.proofs.ChangeLists.{each_of}
 use Rattle.edit_steps.specs.declared.step.Step.{Step}
-use Rattle.edit_steps.specs.Step.{changes_of, nodes_in}
+use Rattle.edit_steps.specs.Step.{changes_of}
 use Rattle.node_arena.specs.declared.NodeRef.{NodeRef}
-use Rattle.edit_model.specs.History.{Entry}
 use Rattle.edit_model.specs.Gives.{labels_of}
 use Rattle.edit_doc.specs.declared.command.Beside.{Beside}
 use Rattle.edit_doc.specs.declared.command.Command.{Command}
 use Rattle.edit_doc.specs.declared.Doc.TheInside.{Inside}
 use Rattle.edit_doc.specs.Whole.{Whole, first_edits}
 use Rattle.edit_doc.specs.History.{forest_before, forest_after, begun_forest, undo_entries, redo_entries}
-use Rattle.edit_doc.specs.Sound.{RefIn, EachHeldIn, CanGoBack, CanGoForth, IsBeside, left_of, next_first, UndoSound, RedoSound}
+use Rattle.edit_doc.specs.Sound.{IsBeside, next_first, UndoSound, RedoSound}
 use Rattle.edit_doc.proofs.Inner.{seen, Ok}
 
 -- ---- lengths
@@ -107,6 +106,7 @@ beside_later names before after e ts b left high start up later h le known = rec
   names_old = each_of (λ l. l < high) (λ l. l < up) (named_in (changes_of e)) (λ l lt. omega arith) h.names_old;
   turns_old = each_of (λ l. l < high) (λ l. l < up) (named_in ts) (λ l lt. omega arith) h.turns_old;
   left_loose = each_of (λ l. (0 < l) × ((l < high) × (parent_of after l ≡ None))) (λ l. (0 < l) × ((l < up) × (parent_of after l ≡ None))) (labels_of left) (λ l t. (t.0, ((let lt = t.1.0 in omega arith), t.1.1))) h.left_loose;
+  left_all = h.left_all;
 }
 
 module _ (held : List (Option ℕ)) (names : List (List ℕ)) (c d : Command) (le : c.start ≤ d.start) where

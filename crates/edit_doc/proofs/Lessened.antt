@@ -1,5 +1,5 @@
 -- The numbers of the document after a tree leaves it, or a text of it changes.
-use Rattle.std.proofs.Common.{◌≡◌, ℕ, ◌+◌, ◌-◌, ◌*◌, ◌<◌, ◌≤◌, ◌^◌, Bool, true, false, true≢false, cond, eqb, not, List, [], ◌∷◌, ◌++◌, length, take, drop, Option, Some, None, refl, sym, ap, subst, ◌∙◌, inl, inr, arith, length-append}
+use Rattle.std.proofs.Common.{◌≡◌, ℕ, ◌+◌, ◌-◌, ◌*◌, ◌<◌, ◌≤◌, ◌^◌, true, false, true≢false, eqb, not, List, [], ◌++◌, length, take, drop, Option, Some, None, refl, sym, ap, subst, ◌∙◌, inl, inr, arith, length-append}
 use Rattle.std.specs.Prelude.{nat_lt, nat_le}
 use Rattle.std.specs.Option.{option_map}
 use Rattle.std.proofs.lemmas.Bool.{and_parts, ltb-true, leb-true}
@@ -8,7 +8,7 @@ use Rattle.std.proofs.lemmas.List.{length-take, length-drop}
 use Rattle.dom_model.specs.declared.Content.{Content}
 use Rattle.dom_model.specs.declared.Content.TheVariants.{Document, Element, Words, Remark}
 use Rattle.dom_model.specs.Contents.{words_length, char_length}
-use Rattle.dom_model.specs.Document.{node_count, char_count}
+use Rattle.dom_model.specs.Document.{char_count}
 use Rattle.dom_model.specs.Forest.{Forest, Seen, tops, total, seek, count_of, content_of, tree_of, parent_of, unlink, IsDistinct}
 use Rattle.dom_model.specs.Forest.Forest.{Nil, Tree}
 use Rattle.dom_model.specs.Revised.{revised}
@@ -24,7 +24,6 @@ use Rattle.forest_changes.proofs.ShedChanges.{content_of-shed}
 use Rattle.forest_changes.proofs.Twice.{forest_of}
 use Rattle.edit_model.specs.Confined.{spliced, may_change}
 use Rattle.edit_model.specs.Edit.{with_replaced}
-use Rattle.edit_model.specs.Lawful.{IsForest}
 use Rattle.edit_model.proofs.Documents.{document-revised}
 use Rattle.edit_model.proofs.Forests.{few_nodes}
 use Rattle.edit_model.proofs.Tests.{not_within}

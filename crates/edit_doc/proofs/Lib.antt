@@ -49,3 +49,6 @@ pub mod Unnamed
 pub mod Freed
 pub mod Spared
 pub mod Outgone
+pub mod Off
+pub mod Needs
+pub mod KeptNodes

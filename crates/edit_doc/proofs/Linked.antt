@@ -1,24 +1,21 @@
 -- What an insert of a loose tree is to the arena and to the fields of the command.
-use Rattle.std.proofs.Common.{◌≡◌, ℕ, ◌+◌, ◌<◌, ◌≤◌, Bool, true, false, List, [], ◌∷◌, ◌++◌, length, Option, Some, None, refl, sym, ap, subst, ◌∙◌, arith}
-use Rattle.std.specs.Prelude.{IfSome}
+use Rattle.live_range.specs.Edit.{has_label}
+use Rattle.std.proofs.Common.{◌≡◌, true, [], ◌∷◌, Option, Some, None, refl, sym, ap, subst, ◌∙◌, inl, inr}
 use Rattle.std.proofs.lemmas.List.{append-nil}
 use Rattle.dom_model.specs.declared.Content.{Content}
 use Rattle.dom_model.specs.Contents.{is_parent_at}
-use Rattle.dom_model.specs.Forest.{Forest, count_of, CanPut}
+use Rattle.dom_model.specs.Forest.{Forest, CanPut}
 use Rattle.dom_model.specs.Shed.{shed}
-use Rattle.dom_model.specs.State.{State as Arena, IsLawful as IsArena, IsSlotted, CanLink}
+use Rattle.dom_model.specs.State.{IsLawful as IsArena, IsSlotted}
 use Rattle.node_arena.specs.declared.NodeRef.{NodeRef}
 use Rattle.node_arena.specs.Held.{label}
 use Rattle.forest_changes.specs.Change.{Attach, turned}
 use Rattle.forest_changes.specs.Named.{Each, listed}
 use Rattle.forest_changes.specs.Down.{IsLeft}
-use Rattle.forest_changes.proofs.DownChange.{listed_each}
 use Rattle.forest_changes.proofs.ShedChanges.{CanPut-shed}
 use Rattle.forest_changes.proofs.Twice.{forest_of}
-use Rattle.edit_steps.specs.declared.step.Step.{Step}
 use Rattle.edit_steps.specs.declared.step.Step.TheVariants.{Link}
-use Rattle.edit_steps.specs.Step.{StepFits, change_of}
-use Rattle.forest_changes.specs.Named.{named}
+use Rattle.edit_steps.specs.Step.{StepFits}
 use Rattle.edit_model.specs.Gives.{label_of}
 use Rattle.edit_doc.specs.declared.Doc.TheInside.{Inside}
 use Rattle.edit_doc.specs.declared.command.Command.{Command}
@@ -27,7 +24,7 @@ use Rattle.edit_doc.specs.Held.{Holds, IfHeld}
 use Rattle.edit_doc.specs.Marks.{Marks, IsMarked, place_labels}
 use Rattle.edit_doc.specs.Sound.{RefIn}
 use Rattle.edit_doc.proofs.Inner.{seen}
-use Rattle.edit_doc.proofs.SeenNodes.{out_of, IsSeen, held_seen}
+use Rattle.edit_doc.proofs.SeenNodes.{out_of, held_seen}
 use Rattle.edit_doc.proofs.Changing.{Follows}
 
 pub labels_same : (o : Option NodeRef) → label o ≡ label_of o
@@ -47,6 +44,7 @@ inserts_follow c d node parent before f m = record {
   stay = m.stay;
   marked = subst (λ o. Each (IsMarked d) (node.label ∷ parent.label ∷ listed o)) (sym (labels_same before)) m.marked;
   marked_turned = (m.marked.0, tt);
+  only = λ l h. elim (m.only l h) [ inl t ↦ inl t | inr t ↦ inr (inl (subst (λ o. has_label (node.label ∷ parent.label ∷ listed o) l ≡ true) (sym (labels_same before)) t)) ];
   more = [];
   left = ap (λ (k : Command). k.left.items) m.rest ∙ sym (append-nil c.left.items);
   loosed_is = refl;

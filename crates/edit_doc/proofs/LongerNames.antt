@@ -97,6 +97,7 @@ module _ (old new : List (List ℕ)) (h : AreLonger old new) where
     names_old = s.names_old;
     turns_old = s.turns_old;
     left_loose = s.left_loose;
+    left_all = s.left_all;
   }
 
   view_same : (f : Forest Content) (p : Places) → IsOver old p → view_at new f p ≡ view_at old f p
@@ -196,6 +197,7 @@ module _ (d : Inside) (ok : Ok d) (closed : d.log.open_entry ≡ Closed) (name :
     host = ok.host;
     undo = undo_longer d.points.names points.names longer d.arena.held d.command d.command.resumed (next_first d.command.start d.redo_sides.items) (begun_forest d.log d.arena.trees) d.log.undo d.undo_sides.items ok.undo;
     redo = redo_longer d.points.names points.names longer d.arena.held d.command (begun_forest d.log d.arena.trees) d.log.redo d.redo_sides.items ok.redo;
+    needed = ok.needed;
     us_room_is = ok.us_room_is;
     rs_room_is = ok.rs_room_is;
   }

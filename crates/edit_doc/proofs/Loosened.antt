@@ -1,16 +1,15 @@
 -- Which nodes the running command made or loosened, and which a label finds.
-use Rattle.std.proofs.Common.{◌≡◌, ◌≢◌, ◌⊎◌, ℕ, zero, suc, ◌+◌, ◌<◌, ◌≤◌, Bool, true, false, true≢false, List, [], ◌∷◌, length, drop, Option, Some, None, IfSome, refl, sym, ap, subst, ◌∙◌, inl, inr, arith, eqb, nat_lt}
-use Rattle.std.specs.Prelude.{◌||◌, nat_le, slice_index_or}
+use Rattle.std.proofs.Common.{◌≡◌, ◌≢◌, ◌⊎◌, ℕ, zero, suc, ◌<◌, ◌≤◌, Bool, true, false, true≢false, List, [], ◌∷◌, drop, None, refl, sym, ap, subst, ◌∙◌, inl, inr, arith, eqb}
+use Rattle.std.specs.Prelude.{◌||◌, nat_le}
 use Rattle.std.proofs.lemmas.Bool.Decides.{nat_tests}
-use Rattle.dom_model.specs.declared.Content.{Content}
-use Rattle.dom_model.specs.Forest.{Forest, tops, times, count_of, tree_of, parent_of, IsDistinct, IsWithin}
+use Rattle.dom_model.specs.Forest.{tops, times, count_of, parent_of, IsWithin}
 use Rattle.dom_model.specs.Shed.{shed}
 use Rattle.dom_model.specs.State.{IsLawful as IsArena}
-use Rattle.dom_model.proofs.Shedding.{count_of-shed, IsDistinct-shed}
-use Rattle.dom_model.proofs.Stands.{true_or_false, times-tops}
+use Rattle.dom_model.proofs.Shedding.{count_of-shed}
+use Rattle.dom_model.proofs.Stands.{true_or_false}
 use Rattle.forest_changes.specs.Named.{Each}
 use Rattle.live_range.specs.Edit.{has_label}
-use Rattle.undo_log.specs.Log.{Open, noted}
+use Rattle.undo_log.specs.Log.{Open}
 use Rattle.undo_log.specs.Log.Open.{Closed, Begun, Resumed}
 use Rattle.edit_steps.specs.declared.step.Step.{Step}
 use Rattle.node_arena.specs.declared.NodeRef.{NodeRef}
@@ -20,16 +19,16 @@ use Rattle.edit_doc.specs.declared.Doc.TheInside.{Inside}
 use Rattle.edit_doc.specs.Whole.{Whole}
 use Rattle.edit_doc.specs.Held.{Holds}
 use Rattle.edit_doc.specs.Fields.{has_loosened}
-use Rattle.edit_doc.specs.History.{begun_forest, is_hidden, seen_trees}
-use Rattle.edit_doc.specs.Sound.{IsIdle, IsRunning, OpenSound}
+use Rattle.edit_doc.specs.History.{begun_forest}
+use Rattle.edit_doc.specs.Sound.{OpenSound}
 use Rattle.edit_doc.proofs.Begins.{document_tops}
 use Rattle.edit_doc.proofs.Found.{tree_left, root_stays, root_left, root_is_top}
-use Rattle.edit_doc.proofs.HiddenTrees.{Hidden, hidden_is, inside_left, tops_left}
+use Rattle.edit_doc.proofs.HiddenTrees.{hidden_is, inside_left}
 use Rattle.edit_doc.proofs.Inner.{seen, Ok}
 use Rattle.edit_doc.proofs.Rests.{arena_forest, trees_are}
 use Rattle.edit_doc.proofs.SeenNodes.{out_of, IsSeen}
 
-or_false : (a b : Bool) → (a || b) ≡ false → (a ≡ false) × (b ≡ false)
+pub or_false : (a b : Bool) → (a || b) ≡ false → (a ≡ false) × (b ≡ false)
 or_false true b e = absurd (cc)
 or_false false b e = (refl, e)
 

@@ -1,28 +1,28 @@
 -- A move that is made.
-use Rattle.std.proofs.Common.{◌≡◌, ◌≢◌, ℕ, ◌+◌, ◌<◌, ◌≤◌, ◌^◌, Bool, true, false, true≢false, not, cond, eqb, List, [], ◌∷◌, ◌++◌, length, Option, Some, None, IfSome, refl, sym, ap, subst, ◌∙◌, inl, inr, arith}
-use Rattle.std.specs.Prelude.{◌&&◌, nat_lt, IsTrue, IsNone, IsSome, unwrap_or, slice_index_or}
+use Rattle.std.proofs.Common.{◌≡◌, ℕ, ◌+◌, ◌<◌, ◌≤◌, ◌^◌, Bool, true, false, true≢false, not, cond, eqb, List, [], ◌∷◌, length, Option, Some, None, IfSome, refl, sym, ap, subst, ◌∙◌, inl, inr, arith}
+use Rattle.std.specs.Prelude.{◌&&◌, nat_lt, IsNone, IsSome, unwrap_or}
 use Rattle.std.proofs.lemmas.Bool.Decides.{eqb_tells}
 use Rattle.std.proofs.lemmas.List.{append-nil}
 use Rattle.dom_model.specs.declared.Content.{Content}
-use Rattle.dom_model.specs.Contents.{is_parent_at, words_length}
+use Rattle.dom_model.specs.Contents.{words_length}
 use Rattle.dom_model.specs.Document.{node_count, char_count}
 use Rattle.dom_model.specs.Forest.{Forest, total, taken_from, count_of, tree_of, parent_of, next_of, children_of, link, unlink, CanPut, IsDistinct}
 use Rattle.dom_model.specs.Places.{place_in, index_of}
 use Rattle.dom_model.specs.Shed.{shed}
 use Rattle.dom_model.specs.State.{State as Arena, IsLawful as IsArena, IsSlotted}
-use Rattle.dom_model.proofs.Links.{children_of-unlink, total-link}
+use Rattle.dom_model.proofs.Links.{children_of-unlink}
 use Rattle.dom_model.proofs.Move.{tree_of-unlink}
 use Rattle.dom_model.proofs.Shedding.{children_of-shed, IsDistinct-shed}
 use Rattle.dom_model.proofs.Stands.{true_or_false}
-use Rattle.dom_model.proofs.Totals.{total-without, total-unlink}
+use Rattle.dom_model.proofs.Totals.{total-unlink}
 use Rattle.node_arena.specs.declared.NodeRef.{NodeRef}
-use Rattle.node_arena.specs.Held.{label, Names}
+use Rattle.node_arena.specs.Held.{label}
 use Rattle.live_range.specs.declared.places.Point.{Point}
 use Rattle.live_range.specs.Edit as range
 use Rattle.live_range.specs.Edit.{Moved, has_label}
 use Rattle.live_range.specs.LivePoints.{LivePoints, Fits, mapped, labels_of}
 use Rattle.point_order.specs.PointOrder.{is_in_document}
-use Rattle.undo_log.specs.Log.{Log, with_step, is_open}
+use Rattle.undo_log.specs.Log.{Log, with_step}
 use Rattle.forest_changes.specs.Change.{Shift, applied, turned, Fits as ChangeFits}
 use Rattle.forest_changes.specs.Named.{Each, listed, named}
 use Rattle.forest_changes.specs.Down.{IsLeft}
@@ -33,14 +33,13 @@ use Rattle.edit_steps.specs.declared.step.Step.TheVariants.{Place}
 use Rattle.edit_steps.specs.Step.{StepFits, change_of, step_applied, step_turned}
 use Rattle.edit_model.specs.declared.settings.Setting.{Setting}
 use Rattle.edit_model.specs.State.{State}
-use Rattle.edit_model.specs.Edit.{Edit, Move, is_made_edit, trees_after, points_after, index_before, parent_or_0}
+use Rattle.edit_model.specs.Edit.{Move, is_made_edit, trees_after, points_after, index_before, parent_or_0}
 use Rattle.edit_model.specs.Confined.{may_move, may_go}
 use Rattle.edit_model.specs.Gives.{label_of}
 use Rattle.edit_model.specs.Lawful.{IsForest, IsPlaced}
-use Rattle.edit_model.proofs.Documents.{within_inside}
 use Rattle.edit_model.proofs.Fitting.{fits-move}
 use Rattle.edit_model.proofs.Forests.{can_go, forest-unlink, parent_at-unlink}
-use Rattle.edit_model.proofs.Made.{parent_is, inside_goes}
+use Rattle.edit_model.proofs.Made.{parent_is}
 use Rattle.edit_model.proofs.Tests.{Goes, goes, parent_there}
 use Rattle.edit_parts.proofs.Points.{mapped_same}
 use Rattle.edit_parts.specs.Following.{settled, IsFrom}
@@ -51,11 +50,10 @@ use Rattle.edit_doc.specs.Fields.{with_more}
 use Rattle.edit_doc.specs.Whole.{Whole, IsOpen}
 use Rattle.edit_doc.specs.Held.{Holds, IfHeld}
 use Rattle.edit_doc.specs.Marks.{Marks, IsMarked, AreMarkable, place_labels}
-use Rattle.edit_doc.specs.Sound.{RefIn}
 use Rattle.edit_doc.proofs.Inner.{seen, Ok, open_of}
-use Rattle.edit_doc.proofs.SeenNodes.{out_of, held_seen, is_parent_seen, parent_seen, index_seen, tree_seen}
+use Rattle.edit_doc.proofs.SeenNodes.{out_of, held_seen, parent_seen, index_seen, tree_seen}
 use Rattle.edit_doc.proofs.Rests.{arena_forest}
-use Rattle.edit_doc.proofs.HiddenTrees.{lt_true, true_lt, document-shed}
+use Rattle.edit_doc.proofs.HiddenTrees.{lt_true}
 use Rattle.edit_doc.proofs.Placing.{document_seen}
 use Rattle.edit_doc.proofs.Linked.{labels_same, place_held, place_seen}
 use Rattle.edit_doc.proofs.Counted.{unlinked_inside, unlinked_outside}
@@ -161,6 +159,13 @@ moves_follow c c' d node parent from before next f up after m k = record {
   marked_turned = subst (λ o. Each (IsMarked d) (node.label ∷ o ∷ listed (next_of f node.label))) (sym (ap (λ q. unwrap_or q 0) up))
       (subst (λ o. Each (IsMarked d) (node.label ∷ from.label ∷ listed o)) (sym (labels_same next) ∙ after)
       (k.stay node.label m.marked.0, (k.stay from.label m.marked.1.0, stays (label_of next) m.marked.1.1)));
+  only = λ l h. elim (k.only l h) [
+    | inl t ↦ elim (m.only l t) [
+      | inl u ↦ inl u
+      | inr u ↦ inr (inr (subst (λ o. has_label (node.label ∷ o ∷ listed (next_of f node.label)) l ≡ true) (sym (ap (λ q. unwrap_or q 0) up)) (subst (λ o. has_label (node.label ∷ from.label ∷ listed o) l ≡ true) (sym (labels_same next) ∙ after) u)))
+    ]
+    | inr t ↦ inr (inl (subst (λ o. has_label (node.label ∷ parent.label ∷ listed o) l ≡ true) (sym (labels_same before)) t))
+  ];
   more = [];
   left = ap (λ (k : Command). k.left.items) k.rest ∙ (ap (λ (k : Command). k.left.items) m.rest ∙ sym (append-nil c.left.items));
   loosed_is = refl;

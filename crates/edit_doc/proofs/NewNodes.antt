@@ -1,5 +1,5 @@
 -- A new node leaves the fields sound and the history as it was, and what is seen has one more node.
-use Rattle.std.proofs.Common.{◌≡◌, ◌≢◌, ◌^◌, ◌||◌, ◌&&◌, true≢false, ℕ, zero, suc, ◌+◌, ◌-◌, ◌<◌, ◌≤◌, Bool, true, false, cond, List, [], ◌∷◌, ◌++◌, length, take, drop, map, Option, Some, None, IfSome, refl, sym, ap, subst, ◌∙◌, inl, inr, arith, eqb, nat_lt, nat_le, length-append}
+use Rattle.std.proofs.Common.{◌≡◌, ◌⊎◌, ◌^◌, ◌||◌, ◌&&◌, true≢false, ℕ, zero, suc, ◌+◌, ◌-◌, ◌<◌, ◌≤◌, Bool, true, false, cond, List, [], ◌∷◌, ◌++◌, length, take, drop, map, Option, Some, None, IfSome, refl, sym, ap, subst, ◌∙◌, inl, inr, arith, eqb, nat_lt, nat_le, length-append}
 use Rattle.std.specs.Prelude.{IsTrue, slice_index_or, ◌==◌}
 use Rattle.std.proofs.lemmas.List.Folds.{list_any-append}
 use Rattle.std.proofs.lemmas.List.{take-append-le, drop-append-le}
@@ -8,13 +8,13 @@ use Rattle.dom_model.specs.declared.Content.{Content}
 use Rattle.dom_model.specs.declared.attributes.Attribute.{Attribute}
 use Rattle.dom_model.specs.declared.Content.TheVariants.{Element, Words}
 use Rattle.dom_model.specs.Document.{node_count, char_count}
-use Rattle.dom_model.specs.Forest.{Forest, Seen, total, tops, times, count_of, parent_of, first_of, first_in, with_leaf}
+use Rattle.dom_model.specs.Forest.{Forest, Seen, total, tops, times, count_of, tree_of, parent_of, first_of, first_in, with_leaf}
 use Rattle.dom_model.specs.Forest.Forest.{Nil, Tree}
 use Rattle.dom_model.specs.Shed.{shed}
 use Rattle.dom_model.specs.State.{State as Arena, IsLawful as IsArena}
 use Rattle.dom_model.proofs.Totals.{total-join}
-use Rattle.dom_model.proofs.Links.{parent_of-with_leaf, children_of-with_leaf, eqb_refl_true}
-use Rattle.dom_model.proofs.Stands.{seek_absent}
+use Rattle.dom_model.proofs.Links.{parent_of-with_leaf, children_of-with_leaf, eqb_refl_true, tree_of_absent}
+use Rattle.dom_model.proofs.Stands.{seek_absent, times-tops}
 use Rattle.std.specs.Option.{option_and_then, option_map_or}
 use Rattle.node_arena.specs.declared.NodeRef.{NodeRef}
 use Rattle.node_arena.specs.declared.MakeFault.{MakeFault}
@@ -31,7 +31,7 @@ use Rattle.forest_changes.specs.Change.{Change, IsForest, Fits, applied, turned}
 use Rattle.forest_changes.specs.Named.{Each, named_in}
 use Rattle.forest_changes.specs.Down.{Sheds, IsLeft}
 use Rattle.forest_changes.specs.Leaves.{IsBelow, IsMade, BackBeside, ForthBeside}
-use Rattle.forest_changes.proofs.BesideLeaf.{fresh}
+use Rattle.forest_changes.proofs.BesideLeaf.{fresh, tree_of-with_leaf}
 use Rattle.forest_changes.proofs.ManyLeaves.{back_beside, forth_beside, has_made, shed-with_leaf}
 use Rattle.forest_changes.proofs.ChangeLists.{each_of, each_join, back_down, forth_down, back_fits_up, forth_fits_up}
 use Rattle.forest_changes.proofs.DownChange.{sheds_whole}
@@ -57,14 +57,24 @@ use Rattle.edit_doc.specs.declared.command.Beside.{Beside}
 use Rattle.edit_doc.specs.declared.command.Command.{Command}
 use Rattle.edit_doc.specs.Whole.{Whole, IsOpen}
 use Rattle.edit_doc.specs.Held.{Holds, Keeps}
-use Rattle.edit_doc.specs.Marks.{IsMarked, NotesMade}
+use Rattle.edit_doc.specs.Marks.{IsMarked, has_named, NotesMade}
 use Rattle.edit_doc.specs.History.{forest_before, forest_after, begun_forest, is_hidden, seen_trees, state_of, begun_state, began_with, view_at, undo_entries, redo_entries, history_of, whole_of}
-use Rattle.edit_doc.specs.Sound.{RefIn, EachHeldIn, IsSide, AreFresh, AreAlone, IsBeside, IsRunning, OpenSound, UndoSound, RedoSound, left_of, next_first, IsSound}
+use Rattle.edit_doc.specs.Sound.{RefIn, EachHeldIn, IsSide, AreFresh, IsOff, AreNeeded, AreAlone, IsBeside, IsRunning, OpenSound, UndoSound, RedoSound, left_of, next_first, IsSound}
 use Rattle.edit_doc.proofs.Laid.{redo_later}
 use Rattle.edit_doc.proofs.Downs.{back_forest, forth_forest}
 use Rattle.edit_doc.proofs.HiddenTrees.{model_forest, true_lt}
 use Rattle.edit_doc.proofs.Inner.{seen, Ok, open_of}
+use Rattle.edit_doc.proofs.Off.{entries_moved}
 use Rattle.edit_doc.proofs.Changing.{undo_carried}
+
+not_own : (a b : ℕ) → b < a → eqb a b ≡ false
+not_own a b h = grind (arith, nat_tests)
+
+more_false : (ms : List Bool) (i : ℕ) → slice_index_or (ms ++ false ∷ []) i false ≡ slice_index_or ms i false
+more_false [] zero = refl
+more_false [] (suc i) = refl
+more_false (m ∷ ms) zero = refl
+more_false (m ∷ ms) (suc i) = more_false ms i
 
 -- ---- one more leaf
 
@@ -129,6 +139,30 @@ module _ (l : ℕ) (c : Content) where
       chars_are = h.chars_are ∙ sym chars_leaf;
     }
 
+  -- the leaf is all of its tree
+  own_leaf : (f : Forest Content) → count_of f l ≡ 0 → tree_of (with_leaf f l c) l ≡ Tree l c Nil Nil
+  own_leaf Nil none = rw (eqb_refl_true l) refl
+  own_leaf (Tree m d ks rest) none = elim (eqb_tells m l) [
+    | inl (e, _) ↦ absurd (let none' = rw e at none in omega (arith, none'))
+    | inr (e, _) ↦ (
+        let none' = rw e at none in
+        let under : tree_of ks l ≡ Nil = tree_of_absent ks l (omega (arith, none')) in
+        rw (e, under) (own_leaf rest (omega (arith, none'))))
+  ]
+
+  off_own : (f : Forest Content) (j high : ℕ) → IsBelow f l → l ≡ j → high ≤ l → (ls : List ℕ) → Each (λ m. m < high) ls → Each (IsOff (with_leaf f l c) j) ls
+  off_own f j high low same le ls h = each_of (λ m. m < high) (IsOff (with_leaf f l c) j) ls (λ m lt. subst (λ i. count_of (tree_of (with_leaf f l c) i) m ≡ 0) same (ap (λ t. count_of t m) (own_leaf f (absent (count_of f l) refl)) ∙ alone m (omega (arith, lt, le)))) h
+    where
+      absent : (n : ℕ) → count_of f l ≡ n → count_of f l ≡ 0
+      absent zero e = e
+      absent (suc n) e = absurd (let lt = low.below l (omega (arith, e)) in omega (arith, lt))
+
+      alone : (m : ℕ) → m < l → count_of (Tree l c Nil Nil) m ≡ 0
+      alone m lt = (let e : eqb l m ≡ false = apart l m lt in rw e (omega arith))
+        where
+          apart : (a b : ℕ) → b < a → eqb a b ≡ false
+          apart a b h = grind (arith, nat_tests)
+
   fresh_leaf : (f : Forest Content) (first : ℕ) → IsBelow f l → AreFresh f first → AreFresh (with_leaf f l c) first
   fresh_leaf f first low h = record {
     loose = λ j from here. parent_of-with_leaf f l c (fresh l c f low) j ∙ loose j from (count_of f j) refl;
@@ -162,6 +196,16 @@ module _ (l : ℕ) (c : Content) where
         turns_old = h.turns_old;
         left_loose = each_of (λ j. (0 < j) × ((j < high) × (parent_of after j ≡ None))) (λ j. (0 < j) × ((j < high) × (parent_of (with_leaf after l c) j ≡ None))) (labels_of left)
             (λ j t. (t.0, (t.1.0, parent_of-with_leaf after l c (fresh l c after low') j ∙ t.1.1))) h.left_loose;
+        left_all = λ j inner top out. elim (eqb_tells l j) [
+          | inl (_, same) ↦ absurd (let high_le = h.known in let old = off_own after j high low' same (omega arith) in out (old (named_in (changes_of e)) h.names_old) (old (named_in ts) h.turns_old))
+          | inr (t, _) ↦ (
+              let u = times-with_leaf after j in
+              let u' = rw t at u in
+              let top' : 0 < times (tops after) j = omega (arith, u', top) in
+              let tree : tree_of (with_leaf after l c) j ≡ tree_of after j = tree_of-with_leaf l c after j (low'.below j (omega (arith, top', times-tops after j))) in
+              let off : (ls : List ℕ) → Each (IsOff after j) ls → Each (IsOff (with_leaf after l c) j) ls = λ ls a. subst (λ g. Each (λ m. count_of g m ≡ 0) ls) (sym tree) a in
+              h.left_all j inner top' (λ a b. out (off (named_in (changes_of e)) a) (off (named_in ts) b)))
+        ];
       }
 
   module _ (ok : IsMade c) (some : 0 < l) where
@@ -321,6 +365,7 @@ module _ (a : Arena) (points : LivePoints) (overrides : List Setting) (flags : F
       marks = ap (λ ms. length ms + d.start) named ∙ run.marks;
       marked = each_of (IsMarked e) (IsMarked d) (named_in (changes_of xs)) mark run.marked;
       marked_turned = each_of (IsMarked e) (IsMarked d) (named_in (inverses_back applied turned (changes_of xs) a.trees)) mark run.marked_turned;
+      named_all = λ l h. run.named_all l (subst (λ ms. (nat_le d.start l && slice_index_or ms (l - d.start) false) ≡ true) named h);
       left_before = subst (λ ls. d.left_before ≤ length ls) (sym left) run.left_before;
       left_seen = subst (λ ls. Each (λ l. 0 < count_of (shed (is_hidden g d.start) a.trees) l) (labels_of (drop d.left_before ls))) (sym left) run.left_seen;
       loosened = λ l inner top. subst (λ ls. has_label (labels_of (drop d.left_before ls)) l ≡ true) (sym left) (run.loosened l inner top);
@@ -329,6 +374,7 @@ module _ (a : Arena) (points : LivePoints) (overrides : List Setting) (flags : F
     host = ok.host;
     undo = undo_carried a.held points.names e d refl d.resumed (next_first d.start rs) g log.undo us (left_same d.resumed) ok.undo;
     redo = redo_later a.held points.names e d (omega arith) g log.redo rs ok.redo;
+    needed = ok.needed;
     us_room_is = ok.us_room_is;
     rs_room_is = ok.rs_room_is;
   }
@@ -456,6 +502,9 @@ module _ (a : Arena) (points : LivePoints) (overrides : List Setting) (flags : F
       marked = each_of (IsMarked e) (IsMarked d) (named_in (changes_of xs)) mark run.marked;
       marked_turned = subst (λ ys. Each (IsMarked d) (named_in ys)) (sym (back_turned l x made_of some (changes_of xs) f is low run.can.0))
           (each_of (IsMarked e) (IsMarked d) (named_in (inverses_back applied turned (changes_of xs) f)) mark run.marked_turned);
+      named_all = λ j h. (
+          let was : has_named e j ≡ true = ap (λ b. nat_le d.start j && b) (sym (more_false c.named.items (j - d.start))) ∙ subst (λ ms. (nat_le d.start j && slice_index_or ms (j - d.start) false) ≡ true) named h in
+          subst (λ ys. (has_label (named_in (changes_of xs)) j ≡ true) ⊎ (has_label (named_in ys) j ≡ true)) (sym (back_turned l x made_of some (changes_of xs) f is low run.can.0)) (run.named_all j was));
       left_before = (let b = run.left_before in let n = ap length left in let k = length-append c.left.items (node ∷ []) in omega (arith, b, n, k));
       left_seen = subst (λ (t : Forest Content). Each (λ j. 0 < count_of t j) (labels_of (drop d.left_before d.left.items))) (sym seen_leaf)
           (subst (Each (λ j. 0 < count_of (with_leaf (shed hides f) l x) j)) (sym left_labels)
@@ -502,6 +551,13 @@ module _ (a : Arena) (points : LivePoints) (overrides : List Setting) (flags : F
           (undo_leaf l x made_of some a.held held keeps points.names d started d.resumed (next_first d.start rs) g log.undo us begun_is_forest bb.below undo_now);
       redo = subst (λ t. RedoSound held points.names d t log.redo rs) (sym begun_is)
           (redo_leaf l x made_of some a.held held keeps points.names d started g log.redo rs begun_is_forest bb.below redo_now);
+      needed = subst (λ t. AreNeeded d.start t log.undo log.redo) (sym begun_is) (λ j inner old top u r. (
+          let lt : j < l = (let s = started in omega (arith, old, s)) in
+          let t = times-with_leaf l x g j in
+          let apart : eqb l j ≡ false = not_own l j lt in
+          let t' = rw apart at t in
+          let same : (m : ℕ) → count_of (tree_of g j) m ≡ count_of (tree_of (with_leaf g l x) j) m = λ m. ap (λ z. count_of z m) (sym (tree_of-with_leaf l x g j lt)) in
+          ok.needed j inner old (omega (arith, t', top)) (entries_moved j (with_leaf g l x) g same log.undo u) (entries_moved j (with_leaf g l x) g same log.redo r)));
       us_room_is = ok.us_room_is;
       rs_room_is = ok.rs_room_is;
     }

@@ -1,10 +1,10 @@
 -- Which of two points comes first stays where contents change, and where other trees go.
-use Rattle.std.proofs.Common.{◌≡◌, ◌⊎◌, ℕ, zero, suc, ◌+◌, ◌<◌, ◌≤◌, Bool, true, false, cond, eqb, List, [], ◌∷◌, Option, Some, None, refl, sym, ap, subst, ◌∙◌, inl, inr, arith}
+use Rattle.std.proofs.Common.{◌≡◌, ℕ, ◌<◌, Bool, true, false, cond, eqb, List, [], ◌∷◌, Option, Some, None, refl, sym, ap, subst, ◌∙◌, inl, inr, arith}
 use Rattle.std.specs.Prelude.{nat_lt, nat_le, ◌&&◌, ◌==◌, find, if◌then◌else◌}
 use Rattle.std.specs.Option.{option_map_or}
 use Rattle.std.proofs.lemmas.Bool.Decides.{eqb_tells}
 use Rattle.dom_model.specs.declared.Content.{Content}
-use Rattle.dom_model.specs.Forest.{Forest, join, tops, times, count_of, is_label, tree_of, parent_of, children_of, preorder, preorder_onto, IsDistinct}
+use Rattle.dom_model.specs.Forest.{Forest, join, times, count_of, is_label, tree_of, children_of, preorder_onto, IsDistinct}
 use Rattle.dom_model.specs.Forest.Forest.{Nil, Tree}
 use Rattle.dom_model.specs.Places.{place_in, index_of, first_of_two, first_among}
 use Rattle.dom_model.specs.Revised.{revised}
@@ -13,8 +13,6 @@ use Rattle.dom_model.proofs.Links.{times-children_of_le}
 use Rattle.dom_model.proofs.Revising.{parent_of-revised, children_of-revised, total-revised}
 use Rattle.dom_model.proofs.Shedding.{IsDistinct-shed, children_of-shed}
 use Rattle.live_range.specs.declared.places.Point.{Point}
-use Rattle.live_range.specs.declared.places.Pair.{Pair}
-use Rattle.live_range.specs.ActiveRange.{range_start, range_end, range_changed}
 use Rattle.point_order.specs.PointOrder.{is_within, is_before, is_before_apart, is_before_below, child_toward}
 use Rattle.edit_doc.proofs.SeenLookUps.{index_left, within_left, first_of_two-shed}
 

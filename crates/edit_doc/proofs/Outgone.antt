@@ -1,5 +1,5 @@
 -- The trees that the oldest entry left, when it goes out: no kept entry saw them.
-use Rattle.std.proofs.Common.{◌≡◌, ℕ, zero, suc, ◌+◌, ◌<◌, ◌≤◌, Bool, true, false, true≢false, cond, eqb, List, [], ◌∷◌, length, take, Option, Some, None, refl, sym, ap, subst, ◌∙◌, inl, inr, arith}
+use Rattle.std.proofs.Common.{◌≡◌, ℕ, zero, suc, ◌+◌, ◌<◌, ◌≤◌, Bool, true, false, true≢false, cond, eqb, List, [], ◌∷◌, length, take, Option, None, refl, sym, ap, subst, ◌∙◌, inl, inr, arith}
 use Rattle.std.specs.Prelude.{IsTrue, ◌||◌, slice_get}
 use Rattle.std.specs.Option.{option_and_then}
 use Rattle.std.proofs.lemmas.Bool.Decides.{nat_tests}
@@ -11,8 +11,7 @@ use Rattle.dom_model.specs.State.{State as Arena, IsLawful as IsArena}
 use Rattle.dom_model.proofs.Shedding.{count_of-shed}
 use Rattle.dom_model.proofs.Stands.{true_or_false, seek_absent, times-tops}
 use Rattle.live_range.specs.declared.places.Places.{Places}
-use Rattle.live_range.specs.Edit.{has_label}
-use Rattle.undo_log.specs.Log.{Log, IsLog, noted, is_open, is_resumed, committed}
+use Rattle.undo_log.specs.Log.{Log, noted, is_open, is_resumed, committed}
 use Rattle.forest_changes.specs.Change.{IsForest}
 use Rattle.forest_changes.specs.Named.{Each, named_in}
 use Rattle.forest_changes.specs.Down.{Sheds, IsLeft, GoBackDown}
@@ -34,7 +33,7 @@ use Rattle.edit_doc.specs.Sound.{UndoSound}
 use Rattle.edit_doc.proofs.Downs.{EntriesLeft, each_both, entries_moved, back_forest, back_labels}
 use Rattle.edit_doc.proofs.Found.{root_is_top}
 use Rattle.edit_doc.proofs.GivingUp.{shed-shed, gives_join}
-use Rattle.edit_doc.proofs.HiddenTrees.{hidden_is, is_hidden_from, shed-none, both_left, top_loose, loose_left}
+use Rattle.edit_doc.proofs.HiddenTrees.{is_hidden_from, shed-none, both_left, top_loose, loose_left}
 use Rattle.edit_doc.proofs.Inner.{Ok}
 use Rattle.edit_doc.proofs.Loosened.{listed_has, or_true}
 use Rattle.edit_doc.proofs.Records.{committed_made, with_first, entering}

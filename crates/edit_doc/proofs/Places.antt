@@ -1,5 +1,5 @@
 -- Where nodes stand after a change: only the node that it moves has another parent.
-use Rattle.std.proofs.Common.{◌≡◌, ◌≢◌, ◌⊎◌, ℕ, ◌+◌, ◌<◌, ◌≤◌, Bool, true, false, true≢false, cond, eqb, List, [], ◌∷◌, Option, Some, None, unwrap_or, refl, sym, ap, subst, ◌∙◌, inl, inr, arith}
+use Rattle.std.proofs.Common.{◌≡◌, ◌≢◌, ◌⊎◌, ℕ, ◌<◌, cond, eqb, List, [], ◌∷◌, Option, Some, None, unwrap_or, refl, sym, ap, subst, ◌∙◌, inl, inr, arith}
 use Rattle.std.specs.Option.{option_and_then}
 use Rattle.std.proofs.lemmas.Bool.Decides.{eqb_tells}
 use Rattle.dom_model.specs.declared.Content.{Content}
@@ -10,7 +10,7 @@ use Rattle.dom_model.proofs.Links.{seen as seen_at, parent_of-link, parent_of-un
 use Rattle.dom_model.proofs.Revising.{parent_of-revised}
 use Rattle.dom_model.proofs.Stands.{times-tops, parent_stands}
 use Rattle.dom_model.proofs.Totals.{total-unlink}
-use Rattle.forest_changes.specs.Change.{Change, Loosen, Attach, Shift, Rewrite, Redress, IsForest, Fits, applied, turned}
+use Rattle.forest_changes.specs.Change.{Change, Loosen, Attach, Shift, Rewrite, Redress, IsForest, Fits, applied}
 use Rattle.forest_changes.specs.Named.{named, Each}
 use Rattle.forest_changes.proofs.Twice.{given_parent, IsForest-unlink, IsForest-applied, count_of-applied}
 use Rattle.edit_doc.proofs.HiddenTrees.{top_loose}

@@ -1,5 +1,5 @@
 -- The tests on places in the trees of a document.
-use Rattle.std.proofs.Common.{◌≡◌, ◌≢◌, ◌⊎◌, ℕ, ◌+◌, ◌<◌, Bool, true, false, true≢false, List, Option, Some, None, IfSome, refl, sym, ap, subst, ◌∙◌, inl, inr, arith, eqb, nat_lt}
+use Rattle.std.proofs.Common.{◌≡◌, ◌⊎◌, ℕ, ◌+◌, ◌<◌, Bool, true, false, true≢false, List, Option, Some, None, refl, sym, ap, subst, ◌∙◌, inl, inr, arith, eqb, nat_lt}
 use Rattle.std.specs.Prelude.{◌&&◌, not, nat_le, bytes_eq, IsTrue, ◌↔◌}
 use Rattle.std.specs.Option.{option_map_or, option_and_then}
 use Rattle.std.proofs.lemmas.Bool.Decides.{nat_tests}
@@ -18,7 +18,6 @@ use Rattle.node_arena.specs.Kinds.{is_parent_kind, is_element_kind}
 use Rattle.point_order.specs.PointOrder.{is_within, is_in_document, is_placed}
 use Rattle.edit_model.specs.Confined.{has_name, is_place, is_own, is_open, may_grow, may_select, may_send}
 use Rattle.edit_model.specs.Gives.{label_of}
-use Rattle.edit_model.specs.Lawful.{IsForest}
 use Rattle.edit_doc.specs.declared.Doc.TheInside.{Inside}
 use Rattle.edit_doc.specs.Whole.{Whole}
 use Rattle.edit_doc.specs.Held.{Holds}

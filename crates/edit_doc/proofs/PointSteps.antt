@@ -1,5 +1,5 @@
 -- A step that only moves points of a document under edits.
-use Rattle.std.proofs.Common.{◌≡◌, ℕ, ◌+◌, ◌<◌, ◌≤◌, Bool, true, false, not, ◌&&◌, if◌then◌else◌, List, length, Option, Some, None, IfSome, refl, sym, ap, subst, ◌∙◌, arith}
+use Rattle.std.proofs.Common.{◌≡◌, ℕ, ◌<◌, Bool, true, false, not, ◌&&◌, if◌then◌else◌, List, length, Option, Some, None, IfSome, refl, sym, ap, subst, ◌∙◌, arith}
 use Rattle.std.specs.Prelude.{nat_le}
 use Rattle.std.proofs.lemmas.Bool.{and_parts, ltb-true}
 use Rattle.dom_model.specs.declared.Content.{Content}
@@ -17,7 +17,6 @@ use Rattle.edit_model.specs.declared.settings.Setting.{Setting}
 use Rattle.edit_model.specs.Edit.{changed, overrides_after}
 use Rattle.edit_model.specs.Lawful.{IsPlacedPair, IsPlaced}
 use Rattle.edit_model.specs.Overrides.{no_overrides}
-use Rattle.edit_model.specs.State.{State}
 use Rattle.edit_doc.specs.declared.Doc.TheInside.{Inside}
 use Rattle.edit_parts.specs.declared.overrides.Watch.{Watch}
 use Rattle.edit_parts.specs.Following.{Watches, settled}
@@ -25,7 +24,7 @@ use Rattle.edit_doc.specs.Whole.{Whole, with_state}
 use Rattle.edit_doc.specs.History.{seen_trees, whole_of}
 use Rattle.edit_doc.specs.Sound.{IsSound}
 use Rattle.edit_doc.proofs.Before.{before_left}
-use Rattle.edit_doc.proofs.Chosen.{moved_to, other_ok, other_is}
+use Rattle.edit_doc.proofs.Chosen.{moved_to, other_ok}
 use Rattle.edit_doc.proofs.Found.{tree_of-fewer}
 use Rattle.edit_doc.proofs.HiddenTrees.{placed-whole}
 use Rattle.edit_doc.proofs.Inner.{seen, Ok}

@@ -27,11 +27,11 @@ use Rattle.edit_doc.specs.GivingUp.{loose_roots}
 use Rattle.node_arena.specs.declared.NodeRef.{NodeRef}
 use Rattle.edit_doc.specs.Whole.{Whole, history_committed, committed_history}
 use Rattle.edit_doc.specs.History.{state_of, begun_state, began_with, history_of, undo_entries, view_at}
-use Rattle.edit_doc.specs.Sound.{IsBeside, UndoSound, RedoSound, next_first, IsSound}
+use Rattle.edit_doc.specs.Sound.{IsBeside, UndoSound, RedoSound, next_first}
 use Rattle.edit_doc.proofs.Inner.{seen, Ok}
 use Rattle.edit_doc.proofs.Laid.{undo_later, next_first_low}
 use Rattle.edit_doc.proofs.HiddenTrees.{model_forest}
-use Rattle.edit_doc.proofs.Rests.{AtRest, rest_sound, rest_state}
+use Rattle.edit_doc.proofs.Rests.{AtRest, rest_state}
 use Rattle.edit_doc.proofs.Rolls.{run, g, xs, forest_g, bound_g}
 use Rattle.edit_doc.proofs.Commits.{placed_now, document_now}
 use Rattle.edit_doc.proofs.Enters.{undo-take, undo_entries-take, made_beside}
@@ -81,7 +81,7 @@ module _ (d : Inside) (law : IsArena d.arena) (ok : Ok d) (opened : IsTrue (is_o
 
   module _ (log : Log Step) (closed : log.open_entry ≡ Closed) (redo : log.redo ≡ []) (depth : log.depth ≡ d.log.depth) (us : List Beside) (c : Command) (ended : IsEnded d.arena.next c) where
     module _ (undo : UndoSound d.arena.held d.points.names false c d.arena.next d.arena.trees log.undo us) where
-      ends : AtRest d.arena rested_points d.overrides.items d.flags d.counts c log us [] d.undo_sides.capacity d.redo_sides.capacity
+      pub ends : AtRest d.arena rested_points d.overrides.items d.flags d.counts c log us [] d.undo_sides.capacity d.redo_sides.capacity
       ends = record {
         law = law;
         closed = closed;
@@ -104,9 +104,6 @@ module _ (d : Inside) (law : IsArena d.arena) (ok : Ok d) (opened : IsTrue (is_o
         us_room_is = ok.us_room_is ∙ sym depth;
         rs_room_is = ok.rs_room_is ∙ sym depth;
       }
-
-      pub recorded_ok : IsSound d.arena rested_points d.overrides.items d.flags d.counts c log us [] d.undo_sides.capacity d.redo_sides.capacity
-      recorded_ok = rest_sound d.arena rested_points d.overrides.items d.flags d.counts c log us [] d.undo_sides.capacity d.redo_sides.capacity ends
 
       pub recorded_state : (v : Whole) → seen d ≡ v → state_of d.arena rested_points d.overrides.items d.flags c log ≡ rested v.state
       unfolding rested

@@ -1,15 +1,15 @@
 -- An edit that removes a tree, which becomes loose.
-use Rattle.std.proofs.Common.{◌≡◌, ℕ, ◌+◌, ◌<◌, ◌≤◌, Bool, true, false, List, [], ◌∷◌, ◌++◌, length, take, drop, Option, Some, None, IfSome, refl, sym, ap, subst, ◌∙◌, arith}
-use Rattle.std.specs.Prelude.{IsTrue, IsSome, unwrap_or}
+use Rattle.live_range.specs.Edit.{has_label}
+use Rattle.std.proofs.Common.{◌≡◌, ◌+◌, ◌<◌, true, false, List, [], ◌∷◌, ◌++◌, length, Option, Some, None, refl, sym, ap, subst, ◌∙◌, arith, inl, inr}
+use Rattle.std.specs.Prelude.{IsSome, unwrap_or}
 use Rattle.dom_model.specs.declared.Content.{Content}
 use Rattle.dom_model.specs.Document.{node_count, char_count}
-use Rattle.dom_model.specs.Forest.{Forest, count_of, preorder, tree_of, parent_of, next_of, unlink}
+use Rattle.dom_model.specs.Forest.{Forest, preorder, tree_of, parent_of, next_of, unlink}
 use Rattle.dom_model.specs.Places.{index_of}
 use Rattle.dom_model.specs.Shed.{shed}
 use Rattle.dom_model.specs.State.{State as Arena, IsLawful as IsArena, IsSlotted}
 use Rattle.dom_model.proofs.Shedding.{count_of-shed, parent_of-shed, tree_of-shed}
 use Rattle.node_arena.specs.declared.NodeRef.{NodeRef}
-use Rattle.node_arena.specs.Held.{Names}
 use Rattle.live_range.specs.Edit as range
 use Rattle.live_range.specs.LivePoints.{LivePoints, mapped}
 use Rattle.forest_changes.specs.Change.{Loosen, applied, turned}
@@ -21,21 +21,20 @@ use Rattle.edit_steps.specs.declared.step.Step.TheVariants.{Unlink}
 use Rattle.edit_steps.specs.Step.{StepFits, change_of, step_applied, step_turned}
 use Rattle.undo_log.specs.Log.{Log, with_step}
 use Rattle.edit_model.specs.declared.settings.Setting.{Setting}
-use Rattle.edit_model.specs.State.{State}
-use Rattle.edit_model.specs.Edit.{Remove, is_made_edit, trees_after, points_after, parent_or_0}
+use Rattle.edit_model.specs.Edit.{Remove, is_made_edit, trees_after, points_after}
 use Rattle.edit_model.specs.Confined.{may_leave, may_remove}
 use Rattle.edit_model.specs.Gives.{label_of}
 use Rattle.edit_parts.specs.declared.Counts.{Counts}
 use Rattle.edit_doc.specs.declared.Doc.TheInside.{Inside}
 use Rattle.edit_doc.specs.declared.command.Command.{Command}
 use Rattle.edit_doc.specs.Whole.{Whole, IsOpen}
-use Rattle.edit_doc.specs.Held.{Holds, IfHeld, Finds}
-use Rattle.edit_doc.specs.Marks.{Marks, IsMarked, AreMarkable, place_labels}
+use Rattle.edit_doc.specs.Held.{Holds, IfHeld}
+use Rattle.edit_doc.specs.Marks.{Marks, IsMarked, AreMarkable, place_labels, has_named}
 use Rattle.edit_doc.proofs.Changing.{Follows, run}
 use Rattle.edit_doc.proofs.Edited.{Makes, Done, edit_called}
 use Rattle.edit_doc.proofs.Inner.{seen, Ok, open_of}
 use Rattle.edit_doc.proofs.SeenLookUps.{index_left}
-use Rattle.edit_doc.proofs.SeenNodes.{out_of, held_seen, parent_seen, finds_parent, finds_next}
+use Rattle.edit_doc.proofs.SeenNodes.{out_of, held_seen, parent_seen}
 use Rattle.edit_doc.proofs.Settling.{overrides_next, overrides_are}
 
 -- the tree of n was left loose, which stood under p before o
@@ -53,6 +52,10 @@ follows c b d node parent o f same left up next m = record {
   stay = λ l h. m.stay l (subst (λ k. IsMarked k l) (sym same) h);
   marked = (m.marked.0, tt);
   marked_turned = subst (λ q. Each (IsMarked d) (node.label ∷ unwrap_or q 0 ∷ listed (next_of f node.label))) (sym up) (subst (λ q. Each (IsMarked d) (node.label ∷ parent.label ∷ listed q)) next m.marked);
+  only = λ l h. elim (m.only l h) [
+    | inl t ↦ inl (subst (λ k. has_named k l ≡ true) same t)
+    | inr t ↦ inr (inr (subst (λ q. has_label (node.label ∷ unwrap_or q 0 ∷ listed (next_of f node.label)) l ≡ true) (sym up) (subst (λ q. has_label (node.label ∷ parent.label ∷ listed q) l ≡ true) next t)))
+  ];
   more = node ∷ [];
   left = ap (λ (k : Command). k.left.items) m.rest ∙ left;
   loosed_is = refl;

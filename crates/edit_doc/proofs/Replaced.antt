@@ -1,11 +1,12 @@
 -- An edit that replaces characters of a text.
-use Rattle.std.proofs.Common.{◌≡◌, ℕ, ◌+◌, ◌<◌, ◌≤◌, ◌^◌, Bool, true, false, List, [], ◌∷◌, ◌++◌, length, Option, Some, None, refl, sym, ap, subst, ◌∙◌, arith}
+use Rattle.live_range.specs.Edit.{has_label}
+use Rattle.std.proofs.Common.{◌≡◌, ℕ, ◌<◌, ◌^◌, Bool, true, false, List, [], ◌∷◌, length, Some, refl, sym, ap, subst, ◌∙◌, arith, inl, inr}
 use Rattle.std.specs.Prelude.{◌&&◌}
 use Rattle.std.specs.Option.{option_map_or}
 use Rattle.std.proofs.lemmas.List.{append-nil}
 use Rattle.dom_model.specs.declared.Content.{Content}
 use Rattle.dom_model.specs.declared.Content.TheVariants.{Words}
-use Rattle.dom_model.specs.Contents.{has_chars, has_chars_at, with_chars}
+use Rattle.dom_model.specs.Contents.{has_chars, with_chars}
 use Rattle.dom_model.specs.Document.{node_count, char_count}
 use Rattle.dom_model.specs.Forest.{Forest, total, content_of, tree_of}
 use Rattle.dom_model.specs.Revised.{revised}
@@ -62,6 +63,7 @@ follows c d n words f m = record {
   stay = m.stay;
   marked = (m.marked.0, tt);
   marked_turned = (m.marked.0, tt);
+  only = λ l h. elim (m.only l h) [ inl t ↦ inl t | inr t ↦ inr (inl t) ];
   more = [];
   left = ap (λ (k : Command). k.left.items) m.rest ∙ sym (append-nil c.left.items);
   loosed_is = refl;

@@ -1,12 +1,12 @@
 -- A document outside commands.
-use Rattle.std.proofs.Common.{◌≡◌, ℕ, ◌<◌, ◌≤◌, true, false, List, [], length, Option, Some, None, IfSome, refl, sym, ap, subst, ◌∙◌, arith}
+use Rattle.std.proofs.Common.{◌≡◌, ℕ, ◌<◌, false, List, [], length, Option, Some, None, IfSome, refl, sym, ap, subst, ◌∙◌, arith}
 use Rattle.dom_model.specs.declared.Content.{Content}
 use Rattle.dom_model.specs.Document.{node_count, char_count}
 use Rattle.dom_model.specs.Forest.{Forest, tops, times, count_of}
 use Rattle.dom_model.specs.Shed.{shed}
 use Rattle.dom_model.specs.State.{State as Arena, IsLawful as IsArena}
 use Rattle.live_range.specs.LivePoints.{LivePoints}
-use Rattle.undo_log.specs.Log.{Log, Open, noted, is_resumed}
+use Rattle.undo_log.specs.Log.{Log, noted, is_resumed}
 use Rattle.undo_log.specs.Log.Open.{Closed}
 use Rattle.undo_log.proofs.Turns.{back-nil}
 use Rattle.forest_changes.specs.Change.{applied}
@@ -17,17 +17,16 @@ use Rattle.edit_model.specs.declared.settings.Flags.{Flags}
 use Rattle.edit_model.specs.Gives.{label_of}
 use Rattle.edit_model.specs.Lawful.{IsLawful, IsForest, IsPlaced}
 use Rattle.edit_model.specs.State.{State}
-use Rattle.edit_model.specs.History.{History, document_of}
+use Rattle.edit_model.specs.History.{document_of}
 use Rattle.edit_model.proofs.Resting.{forest-document, leaves-document}
 use Rattle.edit_model.proofs.Points.{points_left}
 use Rattle.edit_parts.specs.declared.Counts.{Counts}
 use Rattle.edit_doc.specs.declared.command.Beside.{Beside}
 use Rattle.edit_doc.specs.declared.command.Command.{Command}
-use Rattle.edit_doc.specs.Whole.{Whole}
 use Rattle.edit_doc.specs.History.{begun_forest, forest_before, is_hidden, seen_trees, state_of, begun_state, began_with, history_of, whole_of}
 use Rattle.node_arena.specs.declared.NodeRef.{NodeRef}
-use Rattle.edit_doc.specs.Sound.{RefIn, IsIdle, OpenSound, UndoSound, RedoSound, next_first, IsSound}
-use Rattle.edit_doc.proofs.HiddenTrees.{Hidden, hidden_is, seen_at_rest, model_forest, placed-whole}
+use Rattle.edit_doc.specs.Sound.{RefIn, IsIdle, OpenSound, UndoSound, RedoSound, AreNeeded, next_first, IsSound}
+use Rattle.edit_doc.proofs.HiddenTrees.{hidden_is, seen_at_rest, model_forest, placed-whole}
 
 pub arena_forest : (a : Arena) → IsArena a → IsForest a.trees a.next
 arena_forest a law = model_forest a.trees (forest_of a law) a.next law.below
@@ -115,8 +114,8 @@ module _ (a : Arena) (points : LivePoints) (overrides : List Setting) (flags : F
         settings = r.settings;
       }
 
-  pub rest_sound : AtRest → IsSound a points overrides flags counts c log us rs us_room rs_room
-  rest_sound r =
+  pub rest_sound : AtRest → AreNeeded c.start a.trees log.undo log.redo → IsSound a points overrides flags counts c log us rs us_room rs_room
+  rest_sound r needed =
       let e = forest_is r.closed in
       record {
         lawful = subst IsLawful (sym (rest_state r)) (lawful_rest r);
@@ -129,6 +128,7 @@ module _ (a : Arena) (points : LivePoints) (overrides : List Setting) (flags : F
         host = no_host c.host (λ h. RefIn a.held h × (0 < count_of (seen_trees log c.start a.trees) h.label)) r.idle.host;
         undo = subst (λ b. UndoSound a.held points.names b c (next_first c.start rs) (begun_forest log a.trees) log.undo us) (sym r.resumed) (subst (λ g. UndoSound a.held points.names false c (next_first c.start rs) g log.undo us) (sym e) r.undo);
         redo = subst (λ g. RedoSound a.held points.names c g log.redo rs) (sym e) r.redo;
+        needed = subst (λ g. AreNeeded c.start g log.undo log.redo) (sym e) needed;
         us_room_is = r.us_room_is;
         rs_room_is = r.rs_room_is;
       }

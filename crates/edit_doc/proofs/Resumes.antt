@@ -1,11 +1,11 @@
 -- The last entry is resumed.
-use Rattle.std.proofs.Common.{◌≡◌, ℕ, ◌<◌, ◌≤◌, Bool, true, false, List, [], ◌∷◌, length, take, Option, Some, None, IfSome, refl, sym, ap, subst, ◌∙◌, arith}
+use Rattle.std.proofs.Common.{◌≡◌, ℕ, ◌<◌, ◌≤◌, true, false, List, [], ◌∷◌, length, take, Option, refl, sym, ap, subst, ◌∙◌, arith}
 use Rattle.dom_model.specs.declared.Content.{Content}
 use Rattle.dom_model.specs.Forest.{Forest}
-use Rattle.dom_model.specs.State.{State as Arena, IsLawful as IsArena}
+use Rattle.dom_model.specs.State.{IsLawful as IsArena}
 use Rattle.node_arena.specs.declared.NodeRef.{NodeRef}
 use Rattle.undo_log.specs.Turning.{inverses_back}
-use Rattle.undo_log.specs.Log.{Log, resumed as resumed_log}
+use Rattle.undo_log.specs.Log.{resumed as resumed_log}
 use Rattle.undo_log.specs.Log.Open.{Closed}
 use Rattle.forest_changes.specs.Change.{applied, turned}
 use Rattle.edit_steps.specs.declared.step.Step.{Step}
@@ -16,14 +16,14 @@ use Rattle.edit_doc.specs.declared.command.Beside.{Beside}
 use Rattle.edit_doc.specs.declared.command.Kept.{Kept}
 use Rattle.edit_doc.specs.declared.command.Command.{Command}
 use Rattle.edit_doc.specs.Fields.{IsKept, SwapsLeft}
-use Rattle.edit_doc.specs.Whole.{Whole, opened}
+use Rattle.edit_doc.specs.Whole.{opened}
 use Rattle.edit_doc.specs.Held.{IfHeld}
 use Rattle.edit_doc.specs.History.{forest_before, undo_entries, redo_entries, whole_of}
 use Rattle.edit_doc.specs.Sound.{IsBeside, UndoSound, next_first, IsSound}
 use Rattle.edit_doc.proofs.Inner.{seen, Ok}
 use Rattle.edit_doc.proofs.Laid.{beside_later, undo_later, redo_later, next_first_low, undo_sides_length}
 use Rattle.edit_doc.proofs.Rolls.{beside_of}
-use Rattle.edit_doc.proofs.Begins.{Opens, rest, take_all, held_host, opened_ok, opened_is}
+use Rattle.edit_doc.proofs.Begins.{Opens, rest, take_all, held_host, needed_now, opened_ok, opened_is}
 
 -- the command but for its left trees
 record Swapped (c m : Command) : Type 0 where
@@ -94,6 +94,7 @@ module _ (d : Inside) (law : IsArena d.arena) (closed : d.log.open_entry ≡ Clo
         opened_ok d law closed ok command (resumed_log d.log) opens us (λ g h. h) refl (held_host d law closed ok host held)
         (subst (λ (x : ℕ). UndoSound d.arena.held d.points.names true command (next_first x d.redo_sides.items) d.arena.trees d.log.undo us) (sym opens.start) undo)
         (redo_later d.arena.held d.points.names d.command command start_le d.arena.trees d.log.redo d.redo_sides.items r.redo)
+        (needed_now d law closed ok)
 
     pub resume_is : whole_of d.arena d.points d.overrides.items d.flags command (resumed_log d.log) us d.redo_sides.items ≡ opened (label_of host) false true (seen d)
     resume_is =

@@ -1,9 +1,9 @@
 -- A command is taken back.
-use Rattle.std.proofs.Common.{◌≡◌, ℕ, zero, suc, ◌+◌, ◌<◌, ◌≤◌, Bool, true, false, List, [], ◌∷◌, length, take, Option, Some, None, refl, sym, ap, subst, ◌∙◌, inl, inr, arith}
+use Rattle.std.proofs.Common.{◌≡◌, ℕ, ◌<◌, ◌≤◌, Bool, true, false, List, [], ◌∷◌, length, take, Option, Some, None, refl, sym, ap, subst, ◌∙◌, inl, inr, arith}
 use Rattle.std.specs.Prelude.{IsTrue, nat_le}
 use Rattle.dom_model.specs.declared.Content.{Content}
 use Rattle.dom_model.specs.Document.{node_count, char_count}
-use Rattle.dom_model.specs.Forest.{Forest, tops, times, count_of, tree_of, parent_of, first_of, IsDistinct, IsWithin}
+use Rattle.dom_model.specs.Forest.{Forest, tops, times, count_of, tree_of, parent_of, first_of, IsDistinct}
 use Rattle.dom_model.specs.Shed.{shed, IsWhole}
 use Rattle.dom_model.specs.State.{State as Arena, IsLawful as IsArena, IsSlotted}
 use Rattle.dom_model.proofs.Shedding.{count_of-shed, whole_stays}
@@ -14,39 +14,39 @@ use Rattle.dom_model.proofs.Within.{within_self, within_child}
 use Rattle.node_arena.specs.declared.NodeRef.{NodeRef}
 use Rattle.node_arena.specs.Held.{DropsMade}
 use Rattle.live_range.specs.LivePoints.{LivePoints}
-use Rattle.live_range.specs.Names.{shown, IsOver}
+use Rattle.live_range.specs.Names.{shown}
 use Rattle.undo_log.specs.Turning.{back, inverses_back, FitsBack}
 use Rattle.undo_log.specs.Log.{Log, IsLog, Open, noted, is_open, is_resumed, abandoned}
 use Rattle.undo_log.specs.Log.Open.{Closed, Begun, Resumed}
 use Rattle.undo_log.specs.States.{start, start_with}
-use Rattle.forest_changes.specs.Change.{Change, IsForest, Fits, applied, turned}
+use Rattle.forest_changes.specs.Change.{Change, IsForest, applied, turned}
 use Rattle.forest_changes.specs.Named.{Each, named_in}
 use Rattle.forest_changes.specs.Down.{Sheds, IsLeft}
-use Rattle.forest_changes.proofs.ChangeLists.{each_of}
 use Rattle.forest_changes.proofs.DownChange.{sheds_whole}
 use Rattle.forest_changes.proofs.Twice.{forest_of}
 use Rattle.edit_steps.specs.declared.step.Step.{Step}
-use Rattle.edit_steps.specs.Step.{changes_of, step_applied, step_turned, StepFits}
+use Rattle.edit_steps.specs.Step.{changes_of, step_applied, StepFits}
 use Rattle.edit_steps.proofs.StepLists.{go_back, back_fits}
 use Rattle.edit_model.specs.declared.settings.Setting.{Setting}
 use Rattle.edit_model.specs.declared.settings.Flags.{Flags}
 use Rattle.edit_model.specs.State.{State}
 use Rattle.edit_model.specs.Lawful.{IsPlaced}
-use Rattle.edit_model.specs.History.{document_of, History}
+use Rattle.edit_model.specs.History.{document_of}
 use Rattle.edit_parts.specs.declared.Counts.{Counts}
 use Rattle.edit_doc.specs.declared.Doc.TheInside.{Inside}
 use Rattle.edit_doc.specs.declared.command.Beside.{Beside}
 use Rattle.edit_doc.specs.declared.command.Sides.{Sides}
 use Rattle.edit_doc.specs.declared.command.Command.{Command}
 use Rattle.edit_doc.specs.Fields.{IsEnded, ForgetsIn, Forgets}
-use Rattle.edit_doc.specs.Whole.{Whole, Began, state_rolled_back, rolled_to}
-use Rattle.edit_doc.specs.Held.{Holds, KeepsThere}
+use Rattle.edit_doc.specs.Whole.{Whole, state_rolled_back, rolled_to}
+use Rattle.edit_doc.specs.Held.{KeepsThere}
 use Rattle.edit_doc.specs.History.{forest_before, forest_after, is_hidden, view_at, begun_forest, state_of, begun_state, began_with, history_of, undo_entries, redo_entries, whole_of}
-use Rattle.edit_doc.specs.Sound.{RefIn, AreFresh, AreAlone, IsSide, IsBeside, IsIdle, IsRunning, OpenSound, UndoSound, RedoSound, left_of, next_first, IsSound}
-use Rattle.edit_doc.proofs.HiddenTrees.{le_false, le_true, true_le, false_le, document-shed, model_forest}
+use Rattle.edit_doc.specs.Sound.{RefIn, AreFresh, AreAlone, IsSide, IsBeside, IsRunning, OpenSound, UndoSound, RedoSound, EntriesOff, AreNeeded, next_first, IsSound}
+use Rattle.edit_doc.proofs.HiddenTrees.{tops_left, le_false, true_le, false_le, document-shed, model_forest}
 use Rattle.edit_doc.proofs.Downs.{back_forest, back_bounded, forth_labels, back_labels, Bounded, KeepsLeft, EntriesLeft, side-shed, undo-shed, redo-shed, undo_entries-shed, redo_entries-shed}
 use Rattle.edit_doc.proofs.Inner.{seen, Ok}
 use Rattle.edit_doc.proofs.Laid.{undo_later, redo_later, next_first_low, undo_sides_length}
+use Rattle.edit_doc.proofs.Off.{tree_shed, entries_moved as entries_off}
 use Rattle.edit_doc.proofs.Rests.{AtRest, rest_sound, rest_state, none_noted}
 
 -- ---- an entry's left trees
@@ -67,6 +67,7 @@ beside_of names before after e ts b c left high start same h = record {
   names_old = h.names_old;
   turns_old = h.turns_old;
   left_loose = h.left_loose;
+  left_all = h.left_all;
 }
 
 module _ (held : List (Option ℕ)) (names : List (List ℕ)) (c : Command) where
@@ -272,6 +273,14 @@ module _ (d : Inside) (law : IsArena d.arena) (ok : Ok d) (opened : IsTrue (is_o
       rs_room_is = ok.rs_room_is ∙ sym depth;
     }
 
+    pub without_needed : AreNeeded c.start a.trees log.undo log.redo
+    without_needed l inner old top off_undo off_redo =
+        let top' : 0 < times (tops (shed k g)) l = subst (λ t. 0 < times (tops t) l) w.trees top in
+        let was = tops_left k g l top' in
+        let same : (m : ℕ) → count_of (tree_of g l) m ≡ count_of (tree_of a.trees l) m = λ m. sym (ap (λ t. count_of (tree_of t l) m) w.trees ∙ tree_shed l k g forest_g.distinct top' m) in
+        ok.needed l inner (false_le d.command.start l was.1) was.0
+        (subst (EntriesOff l g) undo_is (entries_off l a.trees g same log.undo off_undo)) (subst (EntriesOff l g) redo_is (entries_off l a.trees g same log.redo off_redo))
+
     pub without_history : (names : List (List ℕ)) → names ≡ d.points.names → history_of names a.trees log us d.redo_sides.items ≡ history_of d.points.names g d.log d.undo_sides.items d.redo_sides.items
     without_history names same =
         (λ i. record {
@@ -334,6 +343,7 @@ module _ (d : Inside) (law : IsArena d.arena) (ok : Ok d) (opened : IsTrue (is_o
 
         pub rolled_ok : IsSound a3 kept_points d.command.kept.overrides.items d.command.kept.flags d.command.kept.counts c log' us d.redo_sides.items d.undo_sides.capacity d.redo_sides.capacity
         rolled_ok = rest_sound a3 kept_points d.command.kept.overrides.items d.command.kept.flags d.command.kept.counts c log' us d.redo_sides.items d.undo_sides.capacity d.redo_sides.capacity resting
+            (without_needed a3 rolled us forgets c ended log' refl refl refl refl)
 
         begun_is : (o : Open Step) (s t : State) → IsTrue (is_open o) → t ≡ rolled_to s (began_with t o)
         begun_is Closed s t h = absurd (let h' = h in cc)

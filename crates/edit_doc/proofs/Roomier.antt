@@ -1,7 +1,7 @@
 -- Room for one more tree that is left loose changes nothing that holds.
-use Rattle.std.proofs.Common.{◌≡◌, ℕ, ◌+◌, ◌<◌, ◌≤◌, Bool, true, false, List, [], ◌∷◌, length, take, drop, Option, Some, None, refl, sym, ap, subst, ◌∙◌, arith}
+use Rattle.std.proofs.Common.{◌≡◌, ℕ, ◌<◌, ◌≤◌, Bool, true, false, List, length, take, drop, refl, sym, ap, subst, ◌∙◌, arith}
 use Rattle.dom_model.specs.declared.Content.{Content}
-use Rattle.dom_model.specs.Forest.{Forest, tops, times, count_of}
+use Rattle.dom_model.specs.Forest.{Forest, count_of}
 use Rattle.dom_model.specs.Shed.{shed}
 use Rattle.dom_model.specs.State.{State as Arena}
 use Rattle.live_range.specs.Edit.{has_label}
@@ -39,6 +39,7 @@ module _ (c : Command) (l : _) (e : (record c { left = l }).left.items ≡ c.lef
     marks = r.marks;
     marked = r.marked;
     marked_turned = r.marked_turned;
+    named_all = r.named_all;
     left_before = subst (λ ns. c.left_before ≤ length ns) (sym e) r.left_before;
     left_seen = subst (λ ns. Each (λ m. 0 < count_of (shed (is_hidden g c.start) a.trees) m) (labels_of (drop c.left_before ns))) (sym e) r.left_seen;
     loosened = λ m inner top. subst (λ ns. has_label (labels_of (drop c.left_before ns)) m ≡ true) (sym e) (r.loosened m inner top);
@@ -62,6 +63,7 @@ module _ (c : Command) (l : _) (e : (record c { left = l }).left.items ≡ c.lef
     host = ok.host;
     undo = undo_carried a.held points.names c d refl c.resumed (next_first c.start rs) (begun_forest log a.trees) log.undo us (left_same c.resumed) ok.undo;
     redo = redo_later a.held points.names c d (omega arith) (begun_forest log a.trees) log.redo rs ok.redo;
+    needed = ok.needed;
     us_room_is = ok.us_room_is;
     rs_room_is = ok.rs_room_is;
   }

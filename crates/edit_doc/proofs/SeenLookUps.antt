@@ -1,16 +1,16 @@
 -- What is looked up of a node that is left of a forest from which trees are shed.
-use Rattle.std.proofs.Common.{◌≡◌, ◌⊎◌, ℕ, zero, suc, ◌+◌, ◌<◌, ◌≤◌, Bool, true, false, cond, List, [], ◌∷◌, Option, Some, None, IfSome, refl, sym, ap, subst, ◌∙◌, inl, inr, arith, eqb, nat_lt}
-use Rattle.std.specs.Prelude.{◌&&◌, length}
+use Rattle.std.proofs.Common.{◌≡◌, ℕ, zero, suc, ◌+◌, ◌<◌, ◌≤◌, Bool, false, cond, List, [], Option, Some, None, refl, sym, ap, ◌∙◌, inl, inr, arith, nat_lt}
+use Rattle.std.specs.Prelude.{◌&&◌}
 use Rattle.std.specs.Option.{option_map, option_map_or, option_and_then}
 use Rattle.std.proofs.lemmas.Bool.Decides.{eqb_tells, nat_tests}
 use Rattle.dom_model.specs.declared.Content.{Content}
-use Rattle.dom_model.specs.Contents.{is_element, length_in, length_of, name_of, attributes_of, chars_of, name_in, attributes_in, chars_in, is_element_at, is_parent_at, has_chars_at, has_chars, may_have_children}
-use Rattle.dom_model.specs.Editing.{host_by, offered, host_from, editing_host, is_editable}
-use Rattle.dom_model.specs.Forest.{Forest, Seen, seek, either, is_label, count_of, tree_of, parent_of, first_of, last_of, prev_of, next_of, first_in, last_in, before_in, after_in, children_of, content_of, preorder, IsDistinct}
+use Rattle.dom_model.specs.Contents.{is_element, length_in, length_of}
+use Rattle.dom_model.specs.Editing.{offered, host_from, is_editable}
+use Rattle.dom_model.specs.Forest.{Forest, Seen, either, is_label, count_of, parent_of, first_of, last_of, prev_of, next_of, first_in, last_in, before_in, after_in, children_of, content_of, preorder, IsDistinct}
 use Rattle.dom_model.specs.Forest.Forest.{Nil, Tree}
 use Rattle.dom_model.specs.Places.{place_in, first_among, index_of, first_of_two}
 use Rattle.dom_model.specs.Shed.{shed}
-use Rattle.dom_model.proofs.Links.{parent_count, first_here, last_here, prev_here, next_here, parent_here}
+use Rattle.dom_model.proofs.Links.{parent_count}
 use Rattle.dom_model.proofs.Shedding.{count_of-shed, IsDistinct-shed, tree_of-shed, seek-shed, parent_of-shed, children_of-shed}
 use Rattle.dom_model.proofs.Stands.{true_or_false}
 use Rattle.point_order.specs.PointOrder.{is_within}

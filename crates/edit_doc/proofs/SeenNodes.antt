@@ -1,25 +1,22 @@
 -- What is read of the nodes of a document under edits is read of its arena.
-use Rattle.std.proofs.Common.{◌≡◌, ℕ, ◌<◌, Bool, true, false, List, Option, Some, None, IfSome, refl, sym, ap, subst, ◌∙◌, arith}
+use Rattle.std.proofs.Common.{◌≡◌, ℕ, ◌<◌, Bool, false, Option, Some, None, IfSome, sym, ap, subst, ◌∙◌}
 use Rattle.std.specs.Option.{option_map, option_map_or, option_and_then}
 use Rattle.dom_model.specs.declared.Content.{Content}
 use Rattle.dom_model.specs.Contents.{is_element, has_chars, may_have_children, name_in, attributes_in, chars_in, is_element_at, is_parent_at, has_chars_at, name_of, attributes_of, chars_of, length_of}
-use Rattle.dom_model.specs.declared.attributes.Attribute.{Attribute}
 use Rattle.dom_model.specs.Forest.{Forest, count_of, tree_of, parent_of, first_of, last_of, prev_of, next_of, content_of, IsDistinct}
 use Rattle.dom_model.specs.Editing.{is_editable}
 use Rattle.dom_model.specs.Places.{index_of}
 use Rattle.dom_model.specs.Shed.{shed}
-use Rattle.dom_model.specs.State.{State as Arena, IsLawful as IsArena}
+use Rattle.dom_model.specs.State.{IsLawful as IsArena}
 use Rattle.dom_model.proofs.Links.{parent_here, first_here, last_here, prev_here, next_here}
 use Rattle.dom_model.proofs.Shedding.{IsDistinct-shed, parent_of-shed, tree_of-shed}
 use Rattle.point_order.specs.PointOrder.{is_within}
 use Rattle.node_arena.specs.declared.NodeRef.{NodeRef}
-use Rattle.node_arena.specs.declared.Kind.{Kind}
 use Rattle.node_arena.specs.Held.{Holds as HoldsNode, Names}
 use Rattle.node_arena.specs.Kinds.{kind_in, kind_of}
-use Rattle.edit_model.specs.Gives.{label_of}
 use Rattle.edit_doc.specs.declared.Doc.TheInside.{Inside}
 use Rattle.edit_doc.specs.Whole.{Whole}
-use Rattle.edit_doc.specs.Held.{Holds, Finds, IfHeld}
+use Rattle.edit_doc.specs.Held.{Holds, Finds}
 use Rattle.edit_doc.specs.History.{begun_forest, is_hidden}
 use Rattle.edit_doc.proofs.Inner.{seen}
 use Rattle.edit_doc.proofs.SeenLookUps.{first_left, last_left, prev_left, next_left, index_left, content_left, length_left, editable_left, within_left}

@@ -1,8 +1,8 @@
 -- Whether the active range changes is told alike by the arena's forest and by what is seen of it.
-use Rattle.std.proofs.Common.{◌≡◌, ℕ, ◌+◌, ◌<◌, ◌≤◌, Bool, true, false, cond, eqb, List, Option, Some, None, refl, sym, ap, subst, ◌∙◌, arith}
+use Rattle.std.proofs.Common.{◌≡◌, ℕ, ◌<◌, Bool, true, cond, eqb, Option, Some, None, refl, sym, ap, ◌∙◌, arith}
 use Rattle.std.specs.Prelude.{IfSome, if◌then◌else◌}
 use Rattle.dom_model.specs.declared.Content.{Content}
-use Rattle.dom_model.specs.Forest.{Forest, count_of, tree_of, IsDistinct}
+use Rattle.dom_model.specs.Forest.{Forest, count_of, IsDistinct}
 use Rattle.dom_model.specs.Shed.{shed}
 use Rattle.dom_model.proofs.Totals.{total-without}
 use Rattle.live_range.specs.declared.places.Point.{Point}
@@ -10,7 +10,6 @@ use Rattle.live_range.specs.declared.places.Pair.{Pair}
 use Rattle.live_range.specs.LivePoints.{LivePoints}
 use Rattle.live_range.specs.ActiveRange.{range_changed}
 use Rattle.point_order.specs.PointOrder.{is_before, is_placed}
-use Rattle.edit_model.specs.declared.settings.Setting.{Setting}
 use Rattle.edit_model.specs.State.{State}
 use Rattle.edit_model.specs.Edit.{overrides_after}
 use Rattle.edit_model.specs.Lawful.{IsPlaced, IsPlacedPair}

@@ -1,14 +1,13 @@
 -- Where the points stand after an edit that is made, and what settling the overrides writes.
-use Rattle.std.proofs.Common.{◌≡◌, ℕ, ◌+◌, ◌<◌, ◌≤◌, Bool, true, false, List, length, Option, Some, None, refl, sym, ap, subst, ◌∙◌, arith}
-use Rattle.std.specs.Prelude.{IsTrue, if◌then◌else◌}
+use Rattle.std.proofs.Common.{◌≡◌, Bool, true, false, List, length, Option, refl, sym, ap, subst, ◌∙◌, arith}
+use Rattle.std.specs.Prelude.{if◌then◌else◌}
 use Rattle.dom_model.specs.declared.Content.{Content}
-use Rattle.dom_model.specs.Forest.{Forest, count_of}
+use Rattle.dom_model.specs.Forest.{Forest}
 use Rattle.dom_model.specs.Shed.{shed}
 use Rattle.dom_model.specs.State.{State as Arena, IsLawful as IsArena}
 use Rattle.live_range.specs.LivePoints.{LivePoints}
 use Rattle.live_range.specs.ActiveRange.{range_changed}
 use Rattle.point_order.specs.PointOrder.{is_before}
-use Rattle.undo_log.specs.Log.{is_open}
 use Rattle.forest_changes.specs.Change.{applied}
 use Rattle.forest_changes.specs.Named.{Each, named}
 use Rattle.forest_changes.specs.Down.{IsLeft, GoesDown}

@@ -1,16 +1,13 @@
 -- A commit with an edit gives up what no kept entry names.
-use Rattle.std.proofs.Common.{◌≡◌, ℕ, ◌+◌, ◌<◌, Bool, true, List, [], length, Option, None, refl, sym, ap, subst, ◌∙◌, arith}
+use Rattle.std.proofs.Common.{◌≡◌, ℕ, ◌<◌, Bool, List, [], length, Option, sym, ap, subst, ◌∙◌, arith}
 use Rattle.std.specs.Prelude.{IsTrue}
-use Rattle.dom_model.specs.declared.Content.{Content}
-use Rattle.dom_model.specs.Forest.{Forest, count_of, parent_of}
-use Rattle.dom_model.specs.Shed.{shed}
+use Rattle.dom_model.specs.Forest.{count_of}
 use Rattle.dom_model.specs.State.{State as Arena, IsLawful as IsArena}
 use Rattle.dom_model.proofs.Shedding.{count_of-shed}
 use Rattle.live_range.specs.declared.places.Places.{Places}
 use Rattle.live_range.specs.LivePoints.{LivePoints}
 use Rattle.live_range.specs.Names.{shown}
-use Rattle.undo_log.specs.Log.{Log, IsLog, Open, noted, is_open, committed}
-use Rattle.undo_log.specs.Log.Open.{Closed}
+use Rattle.undo_log.specs.Log.{Log, IsLog, noted, is_open, committed}
 use Rattle.forest_changes.specs.Down.{Sheds}
 use Rattle.edit_steps.specs.declared.step.Step.{Step}
 use Rattle.edit_model.specs.History.{rested}
@@ -19,26 +16,23 @@ use Rattle.edit_doc.specs.declared.command.Beside.{Beside}
 use Rattle.edit_doc.specs.declared.command.Command.{Command}
 use Rattle.edit_doc.specs.Fields.{IsEnded, AreResting, Enters}
 use Rattle.edit_doc.specs.GivingUp.{GivesUp, loose_roots}
-use Rattle.edit_doc.specs.Held.{Holds, KeepsThere}
+use Rattle.edit_doc.specs.Held.{KeepsThere}
 use Rattle.edit_doc.specs.History.{begun_forest, is_hidden, state_of, history_of, whole_of}
-use Rattle.edit_doc.specs.Sound.{IsSound}
+use Rattle.edit_doc.specs.Sound.{AreNeeded, IsSound}
 use Rattle.edit_doc.specs.Whole.{Whole, history_committed}
 use Rattle.edit_doc.proofs.Downs.{EntriesLeft}
 use Rattle.edit_doc.proofs.Freed.{freed, freed_state, freed_history}
 use Rattle.edit_doc.proofs.Inner.{seen, Ok}
-use Rattle.edit_doc.proofs.Joins.{entry_closed, entry_redo, entry_ok, entry_state, entry_history}
-use Rattle.edit_doc.proofs.Rests.{AtRest, rest_of, rest_sound, none_noted}
+use Rattle.edit_doc.proofs.Joins.{entry_redo, entry_rests, entry_state, entry_history}
+use Rattle.edit_doc.proofs.Rests.{AtRest, rest_sound, none_noted}
 
 module _ (d : Inside) (law : IsArena d.arena) (ok : Ok d) (opened : IsTrue (is_open d.log.open_entry)) (p : Places) (resting : AreResting d.points p) (logged : IsLog d.log) (some : 0 < length (noted d.log.open_entry)) (c : Command) (ended : IsEnded d.arena.next c) (us : List Beside) (out : Option Beside) (enters : Enters d.command (loose_roots d.arena.trees d.command.left.items) p d.counts d.undo_sides.capacity d.undo_sides.items us out) (log : Log Step) (is : log ≡ committed d.log)
-    (a : Arena) (k : ℕ → Bool) (gives : GivesUp k d.arena a) (sheds : Sheds k d.arena.trees) (undo_left : EntriesLeft k d.arena.trees log.undo) (law' : IsArena a) where
+    (a : Arena) (k : ℕ → Bool) (gives : GivesUp k d.arena a) (sheds : Sheds k d.arena.trees) (undo_left : EntriesLeft k d.arena.trees log.undo) (needed : AreNeeded c.start a.trees log.undo log.redo) (law' : IsArena a) where
   abbrev points : LivePoints
   points = shown d.points.names p
 
-  closed : log.open_entry ≡ Closed
-  closed = entry_closed d law ok opened p resting logged some c ended us out enters log is
-
   rests : AtRest d.arena points d.overrides.items d.flags d.counts c log us [] d.undo_sides.capacity d.redo_sides.capacity
-  rests = rest_of d.arena points d.overrides.items d.flags d.counts c log us [] d.undo_sides.capacity d.redo_sides.capacity law closed (entry_ok d law ok opened p resting logged some c ended us out enters log is)
+  rests = entry_rests d law ok opened p resting logged some c ended us out enters log is
 
   redo_left : EntriesLeft k d.arena.trees log.redo
   redo_left = subst (EntriesLeft k d.arena.trees) (sym (entry_redo d law ok opened p resting logged some c ended us out enters log is)) tt
@@ -46,7 +40,7 @@ module _ (d : Inside) (law : IsArena d.arena) (ok : Ok d) (opened : IsTrue (is_o
   pub spared_ok : IsSound a points d.overrides.items d.flags d.counts c log us [] d.undo_sides.capacity d.redo_sides.capacity
   spared_ok =
       rest_sound a points d.overrides.items d.flags d.counts c log us [] d.undo_sides.capacity d.redo_sides.capacity
-      (freed d.arena a k gives sheds law' points d.overrides.items d.flags d.counts c log us [] d.undo_sides.capacity d.redo_sides.capacity rests undo_left redo_left)
+      (freed d.arena a k gives sheds law' points d.overrides.items d.flags d.counts c log us [] d.undo_sides.capacity d.redo_sides.capacity rests undo_left redo_left) needed
 
   pub spared_state : (v : Whole) → seen d ≡ v → state_of a points d.overrides.items d.flags c log ≡ rested v.state
   spared_state v sees =
@@ -55,7 +49,7 @@ module _ (d : Inside) (law : IsArena d.arena) (ok : Ok d) (opened : IsTrue (is_o
 
   pub spared_history : (v : Whole) → seen d ≡ v → history_of d.points.names (begun_forest log a.trees) log us [] ≡ history_committed v
   spared_history v sees =
-      let none = ap noted closed in
+      let none = ap noted rests.closed in
       ap (λ t. history_of d.points.names t log us []) (none_noted log a.trees none)
       ∙ (freed_history d.arena a k gives sheds law' points d.overrides.items d.flags d.counts c log us [] d.undo_sides.capacity d.redo_sides.capacity rests undo_left redo_left
       ∙ (ap (λ t. history_of d.points.names t log us []) (sym (none_noted log d.arena.trees none))

@@ -1,11 +1,12 @@
 -- A new document.
-use Rattle.std.proofs.Common.{◌≡◌, ℕ, ◌<◌, false, List, [], ◌∷◌, length, Option, None, refl, sym, ap, subst, ◌∙◌, arith}
+use Rattle.std.proofs.Common.{◌≡◌, ℕ, ◌<◌, false, [], ◌∷◌, length, None, refl, sym, ap, subst, ◌∙◌, arith, zero, suc, eqb}
+use Rattle.std.proofs.lemmas.Bool.Decides.{nat_tests}
 use Rattle.dom_model.specs.declared.Content.{Content}
 use Rattle.dom_model.specs.Document.{node_count, char_count}
-use Rattle.dom_model.specs.Forest.{Forest, tops}
+use Rattle.dom_model.specs.Forest.{Forest, tops, times}
 use Rattle.dom_model.specs.Forest.Forest.{Nil, Tree}
 use Rattle.dom_model.specs.State.{State as Arena, IsLawful as IsArena}
-use Rattle.live_range.specs.LivePoints.{LivePoints, no_points}
+use Rattle.live_range.specs.LivePoints.{no_points}
 use Rattle.undo_log.specs.Log.{Log, empty}
 use Rattle.edit_steps.specs.declared.step.Step.{Step}
 use Rattle.edit_model.specs.declared.settings.Flags.{Flags}
@@ -17,9 +18,9 @@ use Rattle.edit_model.proofs.Documents.{document_shape}
 use Rattle.edit_parts.specs.declared.Counts.{Counts}
 use Rattle.edit_doc.specs.declared.command.Command.{Command}
 use Rattle.edit_doc.specs.Fields.{IsEnded}
-use Rattle.edit_doc.specs.Whole.{Whole, HasNoLoose, first_doc, first_state}
+use Rattle.edit_doc.specs.Whole.{HasNoLoose, first_doc, first_state}
 use Rattle.edit_doc.specs.History.{whole_of}
-use Rattle.edit_doc.specs.Sound.{IsSound}
+use Rattle.edit_doc.specs.Sound.{IsSound, AreNeeded}
 use Rattle.edit_doc.proofs.Rests.{AtRest, rest_sound, rest_whole, arena_forest}
 use Rattle.edit_doc.proofs.Turnings.{unset_length}
 
@@ -64,8 +65,15 @@ module _ (a : Arena) (law : IsArena a) (loose : HasNoLoose a) (depth : ℕ) (cou
     rs_room_is = refl;
   }
 
+  none_needed : AreNeeded c.start a.trees [] []
+  none_needed l inner old top u r = absurd (let top' = subst (λ ls. 0 < times ls l) loose top in alone l inner top')
+    where
+      alone : (n : ℕ) → 0 < n → 0 < times (0 ∷ []) n → ⊥
+      alone zero h t = absurd (omega (arith, h))
+      alone (suc n) h t = absurd (let e : eqb 0 (suc n) ≡ false = grind (arith, nat_tests) in let t' = rw e at t in omega (arith, t'))
+
   pub new_ok : IsSound a no_points no_overrides flags counts c log [] [] depth depth
-  new_ok = rest_sound a no_points no_overrides flags counts c log [] [] depth depth fresh
+  new_ok = rest_sound a no_points no_overrides flags counts c log [] [] depth depth fresh none_needed
 
   pub new_is : whole_of a no_points no_overrides flags c log [] [] ≡ first_doc a depth
   unfolding first_doc first_state

@@ -1,17 +1,14 @@
 -- What the fields of a document tell of it as a whole.
-use Rattle.std.proofs.Common.{◌≡◌, ℕ, ◌<◌, ◌≤◌, Bool, true, false, length, Option, Some, None, IfSome, refl, sym, ap, subst, ◌∙◌, arith}
+use Rattle.std.proofs.Common.{◌≡◌, ℕ, Option, Some, None, IfSome, refl, sym, ap, subst, ◌∙◌, arith}
 use Rattle.dom_model.specs.declared.Content.{Content}
 use Rattle.dom_model.specs.Document.{node_count, char_count}
 use Rattle.dom_model.specs.Forest.{Forest, tree_of}
-use Rattle.dom_model.specs.Forest.Forest.{Nil, Tree}
 use Rattle.dom_model.specs.State.{IsLawful as IsArena}
 use Rattle.live_range.specs.LivePoints.{LivePoints}
 use Rattle.undo_log.specs.Log.{IsLog}
 use Rattle.node_arena.specs.declared.NodeRef.{NodeRef}
 use Rattle.node_arena.specs.Held.{Holds as HoldsNode}
 use Rattle.edit_model.specs.Lawful.{IsForest}
-use Rattle.edit_model.specs.Gives.{label_of}
-use Rattle.edit_model.specs.State.{State}
 use Rattle.edit_model.specs.History.{document_of, rested}
 use Rattle.edit_model.proofs.Documents.{document_shape}
 use Rattle.edit_doc.specs.declared.Doc.TheInside.{Inside}
@@ -21,7 +18,7 @@ use Rattle.edit_doc.specs.Sound.{RefIn}
 use Rattle.edit_doc.proofs.HiddenTrees.{node_count-shed, char_count-shed, document_here}
 use Rattle.edit_doc.proofs.Inner.{seen, Ok, closed_of}
 use Rattle.edit_doc.proofs.Laid.{undo_count}
-use Rattle.edit_doc.proofs.Rests.{AtRest, arena_forest, rested_state, rest_state, rest_of}
+use Rattle.edit_doc.proofs.Rests.{arena_forest, rested_state, rest_state, rest_of}
 use Rattle.edit_doc.proofs.SeenNodes.{out_of, IsSeen}
 
 -- the document of a document

@@ -1,12 +1,9 @@
 -- What an edit that is made leaves to the arena's trees: the points stand, and the overrides settle as what is seen tells.
-use Rattle.std.proofs.Common.{◌≡◌, ℕ, ◌<◌, Bool, true, Option, Some, None, refl, sym, ap, subst, ◌∙◌, arith}
-use Rattle.std.specs.Prelude.{IsTrue}
+use Rattle.std.proofs.Common.{◌≡◌, true, refl, sym, ap, subst, ◌∙◌, arith}
 use Rattle.dom_model.specs.declared.Content.{Content}
-use Rattle.dom_model.specs.Forest.{Forest, count_of}
+use Rattle.dom_model.specs.Forest.{Forest}
 use Rattle.dom_model.specs.Shed.{shed}
 use Rattle.dom_model.specs.State.{IsLawful as IsArena}
-use Rattle.live_range.specs.LivePoints.{LivePoints}
-use Rattle.undo_log.specs.Log.{is_open}
 use Rattle.forest_changes.specs.Change.{applied}
 use Rattle.forest_changes.specs.Named.{Each, named}
 use Rattle.forest_changes.specs.Down.{IsLeft, GoesDown}

@@ -1,10 +1,8 @@
 -- An entry is taken back, or forth again.
-use Rattle.std.proofs.Common.{◌≡◌, ℕ, zero, suc, ◌+◌, ◌<◌, ◌≤◌, true, false, List, [], ◌∷◌, length, take, drop, Option, Some, None, refl, sym, ap, subst, ◌∙◌, arith}
+use Rattle.std.proofs.Common.{◌≡◌, ℕ, zero, suc, ◌<◌, ◌≤◌, true, false, List, [], ◌∷◌, length, take, drop, Some, None, refl, sym, ap, subst, ◌∙◌, arith}
 use Rattle.std.specs.Prelude.{slice_get}
 use Rattle.dom_model.specs.declared.Content.{Content}
-use Rattle.dom_model.specs.Document.{node_count, char_count}
-use Rattle.dom_model.specs.Forest.{Forest, tops, times, count_of}
-use Rattle.dom_model.specs.Shed.{shed}
+use Rattle.dom_model.specs.Forest.{Forest, tops, times, count_of, tree_of}
 use Rattle.dom_model.specs.State.{State as Arena, IsLawful as IsArena, IsSlotted}
 use Rattle.live_range.specs.LivePoints.{LivePoints}
 use Rattle.live_range.specs.Names.{shown, IsOver}
@@ -20,8 +18,6 @@ use Rattle.forest_changes.proofs.Twice.{forest_of, back_turns, forth_turns}
 use Rattle.edit_steps.specs.declared.step.Step.{Step}
 use Rattle.edit_steps.specs.Step.{changes_of, step_applied, step_turned, StepFits, GoBack, GoForth}
 use Rattle.edit_steps.proofs.StepLists.{go_back, go_forth, back_fits, forth_fits}
-use Rattle.edit_model.specs.declared.settings.Setting.{Setting}
-use Rattle.edit_model.specs.State.{State}
 use Rattle.edit_model.specs.Overrides.{no_overrides}
 use Rattle.edit_model.specs.History.{document_of, at_view, undone_state as undone_doc, undone_history, redone_state as redone_doc, redone_history, undone_state_by, undone_history_by, redone_state_by, redone_history_by}
 use Rattle.node_arena.specs.declared.NodeRef.{NodeRef}
@@ -29,13 +25,13 @@ use Rattle.edit_parts.specs.declared.Counts.{Counts}
 use Rattle.edit_doc.specs.declared.Doc.TheInside.{Inside}
 use Rattle.edit_doc.specs.declared.command.Beside.{Beside}
 use Rattle.edit_doc.specs.Whole.{Whole}
-use Rattle.edit_doc.specs.History.{forest_before, forest_after, is_hidden, history_of, undo_entries, redo_entries, whole_of, view_at}
-use Rattle.edit_doc.specs.Sound.{EachHeldIn, CanGoBack, CanGoForth, IsSide, IsBeside, UndoSound, RedoSound, next_first, IsSound}
-use Rattle.edit_doc.proofs.HiddenTrees.{Hidden, hidden_is, is_hidden_from, top_loose}
-use Rattle.edit_doc.proofs.Downs.{back_forest, forth_forest, back_labels, forth_labels}
+use Rattle.edit_doc.specs.History.{forest_before, forest_after, is_hidden, undo_entries, redo_entries, whole_of, view_at}
+use Rattle.edit_doc.specs.Sound.{CanGoBack, CanGoForth, IsOff, EntriesOff, AreNeeded, IsBeside, UndoSound, RedoSound, next_first, IsSound}
+use Rattle.edit_doc.proofs.HiddenTrees.{hidden_is, top_loose}
 use Rattle.edit_doc.proofs.Inner.{seen, Ok}
 use Rattle.edit_doc.proofs.Laid.{undo_sides_length, redo_sides_length, undo_count, redo_count}
-use Rattle.edit_doc.proofs.Rests.{AtRest, rest_of, rest_sound, rest_whole, rested_state}
+use Rattle.edit_doc.proofs.Off.{Passes, passes_back, passes_forth, off_moved, entries_moved, each_here}
+use Rattle.edit_doc.proofs.Rests.{AtRest, rest_of, rest_sound, rest_whole, none_noted, rested_state}
 
 -- ---- what an entry becomes, over the forest
 
@@ -62,6 +58,7 @@ module _ (a : Arena) (is : IsForest a.trees) (slotted : IsSlotted a) (names : Li
     pub can : CanGoForth a.held t (forest_before e a.trees)
     pub again : forest_after t (forest_before e a.trees) ≡ a.trees
     pub beside : IsBeside names (forest_before e a.trees) (forest_after t (forest_before e a.trees)) t (inverses_forth applied turned (changes_of t) (forest_before e a.trees)) b left high start
+    pub steps : inverses_forth applied turned (changes_of t) (forest_before e a.trees) ≡ changes_of e
     pub same_length : length t ≡ length e
 
   pub taken_back : CanGoBack a.held e a.trees → IsBeside names (forest_before e a.trees) a.trees e (inverses_back applied turned (changes_of e) a.trees) b left high start → TakenBack (inverses_back step_applied step_turned e a)
@@ -89,6 +86,7 @@ module _ (a : Arena) (is : IsForest a.trees) (slotted : IsSlotted a) (names : Li
         names_old = subst (λ xs. Each (λ l. l < high) (named_in xs)) (sym gb.turns) h.turns_old;
         turns_old = h.names_old;
         left_loose = h.left_loose;
+        left_all = λ l inner top out. h.left_all l inner top (λ a b. out (subst (λ xs. Each (IsOff f l) (named_in xs)) (sym gb.turns) b) a);
       } in
       let turns : inverses_forth applied turned (changes_of t) g ≡ ch = ap (λ xs. inverses_forth applied turned xs g) gb.turns ∙ tb.steps in
       record {
@@ -96,6 +94,7 @@ module _ (a : Arena) (is : IsForest a.trees) (slotted : IsSlotted a) (names : Li
         can = (subst (λ xs. FitsForth applied Fits xs g) (sym gb.turns) tb.fit, gb.held);
         again = again;
         beside = subst (λ x. IsBeside names g x t (inverses_forth applied turned (changes_of t) g) b left high start) (sym again) (subst (λ ts. IsBeside names g f t ts b left high start) (sym turns) own);
+        steps = turns;
         same_length = len_back e a;
       }
 
@@ -104,6 +103,7 @@ module _ (a : Arena) (is : IsForest a.trees) (slotted : IsSlotted a) (names : Li
     pub can : CanGoBack a.held t (forest_after e a.trees)
     pub again : forest_before t (forest_after e a.trees) ≡ a.trees
     pub beside : IsBeside names (forest_before t (forest_after e a.trees)) (forest_after e a.trees) t (inverses_back applied turned (changes_of t) (forest_after e a.trees)) b left high start
+    pub steps : inverses_back applied turned (changes_of t) (forest_after e a.trees) ≡ changes_of e
     pub same_length : length t ≡ length e
 
   pub taken_forth : CanGoForth a.held e a.trees → IsBeside names a.trees (forest_after e a.trees) e (inverses_forth applied turned (changes_of e) a.trees) b left high start → TakenForth (inverses_forth step_applied step_turned e a)
@@ -131,6 +131,7 @@ module _ (a : Arena) (is : IsForest a.trees) (slotted : IsSlotted a) (names : Li
         names_old = subst (λ xs. Each (λ l. l < high) (named_in xs)) (sym gb.turns) h.turns_old;
         turns_old = h.names_old;
         left_loose = h.left_loose;
+        left_all = λ l inner top out. h.left_all l inner top (λ a b. out (subst (λ xs. Each (IsOff g l) (named_in xs)) (sym gb.turns) b) a);
       } in
       let turns : inverses_back applied turned (changes_of t) g ≡ ch = ap (λ xs. inverses_back applied turned xs g) gb.turns ∙ tb.steps in
       record {
@@ -138,6 +139,7 @@ module _ (a : Arena) (is : IsForest a.trees) (slotted : IsSlotted a) (names : Li
         can = (subst (λ xs. FitsBack applied Fits xs g) (sym gb.turns) tb.fit, gb.held);
         again = again;
         beside = subst (λ x. IsBeside names x g t (inverses_back applied turned (changes_of t) g) b left high start) (sym again) (subst (λ ts. IsBeside names f g t ts b left high start) (sym turns) own);
+        steps = turns;
         same_length = len_forth e a;
       }
 
@@ -190,6 +192,9 @@ module _ (d : Inside) (v : Whole) (sees : seen d ≡ v) (law : IsArena d.arena) 
 
   pub redo_fits : FitsRedo step_applied StepFits d.log.redo d.arena
   redo_fits = redo_fit_of d.log.redo d.redo_sides.items at_rest.redo
+
+  needed_now : AreNeeded d.command.start d.arena.trees d.log.undo d.log.redo
+  needed_now = subst (λ g. AreNeeded d.command.start g d.log.undo d.log.redo) (none_noted d.log d.arena.trees (ap noted closed)) ok.needed
 
   pub record Turned (a : Arena) (points : LivePoints) (counts : Counts) (log : Log Step) (us rs : List Beside) (new : Whole) : Type 0 where
     pub invariant : IsSound a points no_overrides d.flags counts d.command log us rs d.undo_sides.capacity d.redo_sides.capacity
@@ -252,9 +257,16 @@ module _ (d : Inside) (v : Whole) (sees : seen d ≡ v) (law : IsArena d.arena) 
         us_room_is = at_rest.us_room_is;
         rs_room_is = at_rest.rs_room_is;
       } in
+      let needed : AreNeeded d.command.start g es (t ∷ d.log.redo) = λ l inner old top off_undo off_redo. (
+      let ch = changes_of t in
+      let ps : Passes l g (forest_after t g) (inverses_forth applied turned ch g) = passes_forth l ch g (forest_of a' law') inner top tb.can.0 (each_here (is_hidden g b.sides.first_label) g (named_in ch) tb.beside.names_seen) off_redo.0 in
+      let top' : 0 < times (tops f) l = subst (λ h. 0 < times (tops h) l) tb.again ps.top in
+      let same : (m : ℕ) → count_of (tree_of f l) m ≡ count_of (tree_of g l) m = λ m. subst (λ h. count_of (tree_of h l) m ≡ count_of (tree_of g l) m) tb.again (ps.same m) in
+      let own : Each (IsOff f l) (named_in (changes_of e)) = off_moved l g f same (named_in (changes_of e)) (subst (λ xs. Each (IsOff g l) (named_in xs)) tb.steps ps.turns) in
+      needed_now l inner old top' (subst (EntriesOff l f) (sym eu) (own, entries_moved l g f same es off_undo)) (entries_moved l g f same d.log.redo off_redo.1)) in
       let w0 : resting_with d.log.undo d.undo_sides.items d.log.redo d.redo_sides.items ≡ resting_with (e ∷ es) (b ∷ bs) d.log.redo d.redo_sides.items = (λ i. resting_with (eu i) (su i) d.log.redo d.redo_sides.items) in
       record {
-        invariant = rest_sound a' (shown d.points.names b.sides.before) no_overrides d.flags counts d.command log' bs (b ∷ d.redo_sides.items) d.undo_sides.capacity d.redo_sides.capacity r;
+        invariant = rest_sound a' (shown d.points.names b.sides.before) no_overrides d.flags counts d.command log' bs (b ∷ d.redo_sides.items) d.undo_sides.capacity d.redo_sides.capacity r needed;
         value = rest_whole a' (shown d.points.names b.sides.before) no_overrides d.flags counts d.command log' bs (b ∷ d.redo_sides.items) d.undo_sides.capacity d.redo_sides.capacity r
             ∙ ((λ i. record {
               state = record {
@@ -326,9 +338,16 @@ module _ (d : Inside) (v : Whole) (sees : seen d ≡ v) (law : IsArena d.arena) 
         us_room_is = at_rest.us_room_is;
         rs_room_is = at_rest.rs_room_is;
       } in
+      let needed : AreNeeded d.command.start g (t ∷ d.log.undo) es = λ l inner old top off_undo off_redo. (
+      let ch = changes_of t in
+      let ps : Passes l g (forest_before t g) (inverses_back applied turned ch g) = passes_back l ch g (forest_of a' law') inner top tb.can.0 (each_here (is_hidden (forest_before t g) b.sides.first_label) g (named_in ch) tb.beside.names_there) off_undo.0 in
+      let top' : 0 < times (tops f) l = subst (λ h. 0 < times (tops h) l) tb.again ps.top in
+      let same : (m : ℕ) → count_of (tree_of f l) m ≡ count_of (tree_of g l) m = λ m. subst (λ h. count_of (tree_of h l) m ≡ count_of (tree_of g l) m) tb.again (ps.same m) in
+      let own : Each (IsOff f l) (named_in (changes_of e)) = off_moved l g f same (named_in (changes_of e)) (subst (λ xs. Each (IsOff g l) (named_in xs)) tb.steps ps.turns) in
+      needed_now l inner old top' (entries_moved l g f same d.log.undo off_undo.1) (subst (EntriesOff l f) (sym eu) (own, entries_moved l g f same es off_redo))) in
       let w0 : resting_with d.log.undo d.undo_sides.items d.log.redo d.redo_sides.items ≡ resting_with d.log.undo d.undo_sides.items (e ∷ es) (b ∷ bs) = (λ i. resting_with d.log.undo d.undo_sides.items (eu i) (su i)) in
       record {
-        invariant = rest_sound a' (shown d.points.names b.sides.after) no_overrides d.flags counts d.command log' (b ∷ d.undo_sides.items) bs d.undo_sides.capacity d.redo_sides.capacity r;
+        invariant = rest_sound a' (shown d.points.names b.sides.after) no_overrides d.flags counts d.command log' (b ∷ d.undo_sides.items) bs d.undo_sides.capacity d.redo_sides.capacity r needed;
         value = rest_whole a' (shown d.points.names b.sides.after) no_overrides d.flags counts d.command log' (b ∷ d.undo_sides.items) bs d.undo_sides.capacity d.redo_sides.capacity r
             ∙ ((λ i. record {
               state = record {

@@ -1,16 +1,15 @@
 -- What no edit of the running command names, nor one of the entries before it, is alone in a loose tree.
-use Rattle.std.proofs.Common.{◌≡◌, ◌⊎◌, ℕ, zero, suc, ◌+◌, ◌-◌, ◌<◌, ◌≤◌, Bool, true, false, true≢false, List, [], ◌∷◌, length, take, Option, Some, None, refl, sym, ap, subst, ◌∙◌, inl, inr, arith, eqb}
-use Rattle.std.specs.Prelude.{IsTrue, ◌&&◌, ◌==◌, not, nat_le, slice_index_or}
+use Rattle.std.proofs.Common.{◌≡◌, ℕ, zero, suc, ◌<◌, ◌≤◌, Bool, true, false, true≢false, List, [], ◌∷◌, length, take, Option, None, refl, sym, ap, subst, ◌∙◌, inl, inr, arith}
+use Rattle.std.specs.Prelude.{IsTrue, ◌==◌, not, nat_le}
 use Rattle.std.specs.Option.{option_and_then}
 use Rattle.std.proofs.lemmas.Bool.Decides.{eqb_tells, nat_tests}
 use Rattle.dom_model.specs.declared.Content.{Content}
-use Rattle.dom_model.specs.Forest.{Forest, Seen, tops, times, count_of, parent_of, first_of}
-use Rattle.dom_model.specs.Forest.Forest.{Nil, Tree}
+use Rattle.dom_model.specs.Forest.{Forest, Seen, count_of, parent_of}
 use Rattle.dom_model.specs.Shed.{shed, IsWhole}
 use Rattle.dom_model.specs.State.{IsLawful as IsArena}
 use Rattle.dom_model.proofs.Shedding.{count_of-shed, whole_stays}
 use Rattle.dom_model.proofs.Stands.{true_or_false, seek_absent}
-use Rattle.undo_log.specs.Turning.{forth, inverses_back, TurnsBack}
+use Rattle.undo_log.specs.Turning.{inverses_back, TurnsBack}
 use Rattle.undo_log.specs.Log.{Log, noted, is_open, is_resumed, joined, committed}
 use Rattle.forest_changes.specs.Change.{Change, Fits, applied, turned}
 use Rattle.forest_changes.specs.Named.{Each, named_in}
@@ -23,31 +22,20 @@ use Rattle.edit_steps.specs.Step.{changes_of}
 use Rattle.edit_doc.specs.declared.Doc.TheInside.{Inside}
 use Rattle.edit_doc.specs.declared.command.Beside.{Beside}
 use Rattle.edit_doc.specs.declared.command.Command.{Command}
-use Rattle.edit_doc.specs.GivingUp.{has_named, is_unnamed}
+use Rattle.edit_doc.specs.GivingUp.{is_unnamed}
+use Rattle.edit_doc.specs.Marks.{has_named, IsMarked}
 use Rattle.edit_doc.specs.History.{forest_before, is_hidden}
-use Rattle.edit_doc.specs.Marks.{IsMarked}
 use Rattle.edit_doc.specs.Sound.{AreFresh, RedoSound, UndoSound, next_first}
-use Rattle.edit_doc.proofs.Downs.{EntriesLeft, entries_moved, back_labels}
+use Rattle.edit_doc.proofs.Downs.{EntriesLeft, back_labels}
 use Rattle.edit_doc.proofs.Found.{root_is_top}
-use Rattle.edit_doc.proofs.HiddenTrees.{Hidden, is_hidden_from, and_true, true_le, le_true, false_le, top_loose}
+use Rattle.edit_doc.proofs.HiddenTrees.{is_hidden_from, and_true, true_le, le_true, false_le, top_loose}
 use Rattle.edit_doc.proofs.Inner.{Ok}
 use Rattle.edit_doc.proofs.Joins.{each_named, committed_joined}
 use Rattle.edit_doc.proofs.Laid.{next_first_low}
+use Rattle.edit_doc.proofs.Off.{shed_root}
 use Rattle.edit_doc.proofs.Records.{committed_made}
 use Rattle.edit_doc.proofs.Rolls.{run, g, xs, forest_g, below_g, whole_those}
 use Rattle.edit_doc.proofs.Turnings.{sheds_after}
-
--- a node that goes when its own label is shed is a root
-shed_root : {C : Type 0} (f : Forest C) (l : ℕ) → 0 < count_of f l → count_of (shed (λ m. m == l) f) l ≡ 0 → 0 < times (tops f) l
-shed_root Nil l here none = absurd (omega (arith, here))
-shed_root (Tree m c ks rest) l here none = elim (eqb_tells m l) [
-  | inl (e, _) ↦ rw e (omega arith)
-  | inr (e, _) ↦ (
-      let here' = rw e at here in
-      let none' = rw e at none in
-      let ih = shed_root rest l (omega (arith, here', none')) (omega (arith, none')) in
-      rw e (omega (arith, ih)))
-]
 
 -- the entries that are kept after a commit
 entries_take : (k : ℕ → Bool) (f : Forest Content) (n : ℕ) (es : List (List Step)) → EntriesLeft k f es → EntriesLeft k f (take n es)

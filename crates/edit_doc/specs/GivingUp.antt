@@ -1,5 +1,5 @@
 -- Trees that a document under edits gives up. No public clause cites this module.
-use Rattle.std.specs.Prelude.{◌≡◌, ℕ, ◌-◌, ◌<◌, Bool, false, not, ◌&&◌, nat_lt, nat_le, slice_index_or, List, filter, Option, Some, None}
+use Rattle.std.specs.Prelude.{◌≡◌, ℕ, ◌<◌, Bool, false, not, ◌&&◌, nat_lt, nat_le, List, filter, Option, Some, None}
 use Rattle.dom_model.specs.declared.Content.{Content}
 use Rattle.dom_model.specs.Forest.{Forest, tops, times, count_of}
 use Rattle.dom_model.specs.Shed.{shed}
@@ -9,11 +9,8 @@ use Rattle.live_range.specs.Edit.{has_label}
 use Rattle.edit_model.specs.Gives.{labels_of}
 use Rattle.edit_doc.specs.declared.command.Beside.{Beside}
 use Rattle.edit_doc.specs.declared.command.Command.{Command}
+use Rattle.edit_doc.specs.Marks.{has_named}
 use Rattle.edit_doc.specs.Sound.{RefIn}
-
--- the command made the node of the label, and an edit of it names the node
-abbrev pub has_named : Command → ℕ → Bool
-has_named c l = nat_le c.start l && slice_index_or c.named.items (l - c.start) false
 
 -- the labels from `low` on but those that the command's edits name
 abbrev pub is_unnamed : ℕ → Command → ℕ → Bool

@@ -2,7 +2,7 @@
 --
 -- The history is computed: undoing the noted steps of the open entry gives the forest as the command began, and from there
 -- undoing, or redoing, an entry at a time gives the forest at each kept place of the history.
-use Rattle.std.specs.Prelude.{ℕ, ◌<◌, Bool, false, true, ◌&&◌, nat_lt, List, [], ◌∷◌, length, map, Option, Some, None}
+use Rattle.std.specs.Prelude.{ℕ, Bool, false, true, ◌&&◌, nat_lt, List, [], ◌∷◌, length, map, Option, Some, None}
 use Rattle.dom_model.specs.declared.Content.{Content}
 use Rattle.dom_model.specs.Forest.{Forest, tops, times}
 use Rattle.dom_model.specs.Shed.{shed}
@@ -22,7 +22,6 @@ use Rattle.edit_model.specs.State.{State}
 use Rattle.edit_model.specs.Gives.{label_of}
 use Rattle.edit_model.specs.History.{View, Entry, History, document_of}
 use Rattle.edit_doc.specs.declared.command.Beside.{Beside}
-use Rattle.edit_doc.specs.declared.command.Kept.{Kept}
 use Rattle.edit_doc.specs.declared.command.Command.{Command}
 use Rattle.edit_doc.specs.Whole.{Began, Whole}
 

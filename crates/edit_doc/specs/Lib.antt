@@ -6,3 +6,4 @@ pub mod Sound
 pub mod GivingUp
 pub mod Fields
 pub mod Marks
+pub mod Kept

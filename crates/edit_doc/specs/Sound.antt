@@ -1,8 +1,8 @@
 -- What holds of the fields of every document under edits. No public clause cites this module.
-use Rattle.std.specs.Prelude.{◌≡◌, ℕ, ◌+◌, ◌-◌, ◌<◌, ◌≤◌, Bool, false, true, List, [], ◌∷◌, length, take, drop, Option, Some, None, IfSome, slice_index_or}
+use Rattle.std.specs.Prelude.{◌≡◌, ◌⊎◌, ℕ, ◌+◌, ◌<◌, ◌≤◌, Bool, false, true, List, [], ◌∷◌, length, take, drop, Option, Some, None, IfSome, slice_index_or}
 use Rattle.dom_model.specs.declared.Content.{Content}
 use Rattle.dom_model.specs.Document.{node_count, char_count}
-use Rattle.dom_model.specs.Forest.{Forest, tops, times, count_of, parent_of, first_of}
+use Rattle.dom_model.specs.Forest.{Forest, tops, times, count_of, tree_of, parent_of, first_of}
 use Rattle.dom_model.specs.Shed.{shed}
 use Rattle.dom_model.specs.State.{State as Arena}
 use Rattle.live_range.specs.declared.places.Places.{Places}
@@ -24,9 +24,8 @@ use Rattle.edit_model.specs.Gives.{labels_of}
 use Rattle.edit_model.specs.Lawful.{IsLawful, IsPlaced}
 use Rattle.edit_parts.specs.declared.Counts.{Counts}
 use Rattle.edit_doc.specs.declared.command.Beside.{Beside}
-use Rattle.edit_doc.specs.declared.command.Kept.{Kept}
 use Rattle.edit_doc.specs.declared.command.Command.{Command}
-use Rattle.edit_doc.specs.Marks.{IsMarked}
+use Rattle.edit_doc.specs.Marks.{IsMarked, has_named}
 use Rattle.edit_doc.specs.History.{forest_before, forest_after, begun_forest, is_hidden, seen_trees, state_of}
 
 -- ---- steps over forests
@@ -67,6 +66,19 @@ pub record AreFresh (f : Forest Content) (first : ℕ) : Type 0 where
   pub loose : (l : ℕ) → first ≤ l → 0 < count_of f l → parent_of f l ≡ None
   pub leaf : (l : ℕ) → first ≤ l → 0 < count_of f l → first_of f l ≡ None
 
+-- the node stands outside the tree of l
+abbrev pub IsOff : Forest Content → ℕ → ℕ → Type 0
+IsOff f l m = count_of (tree_of f l) m ≡ 0
+
+-- the steps of entries name no node of the tree of l
+abbrev pub EntriesOff : ℕ → Forest Content → List (List Step) → Type 0
+EntriesOff l f [] = Unit {0}
+EntriesOff l f (e ∷ es) = Each (IsOff f l) (named_in (changes_of e)) × EntriesOff l f es
+
+-- each loose tree with an older root has a node that a step of an entry names
+abbrev pub AreNeeded : ℕ → Forest Content → List (List Step) → List (List Step) → Type 0
+AreNeeded start f es fs = (l : ℕ) → 0 < l → l < start → 0 < times (tops f) l → EntriesOff l f es → EntriesOff l f fs → ⊥
+
 -- An entry that leads from one forest to another. Its steps name only nodes that its commands saw, on both sides: those of
 -- the document before it, and those that they made, with labels below `high`, the first that a later entry can have; and so
 -- do those that the steps turn into. The trees that they didn't see are still loose after it, and so are those that it
@@ -84,6 +96,7 @@ pub record IsBeside (names : List (List ℕ)) (before after : Forest Content) (e
   pub names_old : Each (λ l. l < high) (named_in (changes_of e))
   pub turns_old : Each (λ l. l < high) (named_in turns)
   pub left_loose : Each (λ l. (0 < l) × ((l < high) × (parent_of after l ≡ None))) (labels_of left)
+  pub left_all : (l : ℕ) → 0 < l → 0 < times (tops after) l → (Each (IsOff after l) (named_in (changes_of e)) → Each (IsOff after l) (named_in turns) → ⊥) → has_label (labels_of left) l ≡ true
 
 -- ---- the history over a forest
 
@@ -136,6 +149,7 @@ pub record IsRunning (a : Arena) (names : List (List ℕ)) (c : Command) (xs : L
   pub marks : length c.named.items + c.start ≡ a.next
   pub marked : Each (IsMarked c) (named_in (changes_of xs))
   pub marked_turned : Each (IsMarked c) (named_in (inverses_back applied turned (changes_of xs) a.trees))
+  pub named_all : (l : ℕ) → has_named c l ≡ true → (has_label (named_in (changes_of xs)) l ≡ true) ⊎ (has_label (named_in (inverses_back applied turned (changes_of xs) a.trees)) l ≡ true)
   pub left_before : c.left_before ≤ length c.left.items
   pub left_seen : Each (λ l. 0 < count_of (shed (is_hidden g c.start) a.trees) l) (labels_of (drop c.left_before c.left.items))
   pub loosened : (l : ℕ) → 0 < l → 0 < times (tops (shed (is_hidden g c.start) a.trees)) l → has_label (labels_of (drop c.left_before c.left.items)) l ≡ true
@@ -157,5 +171,6 @@ pub record IsSound (a : Arena) (points : LivePoints) (overrides : List Setting) 
   pub host : IfSome c.host (λ h. RefIn a.held h × (0 < count_of (seen_trees log c.start a.trees) h.label))
   pub undo : UndoSound a.held points.names c.resumed c (next_first c.start rs) (begun_forest log a.trees) log.undo us
   pub redo : RedoSound a.held points.names c (begun_forest log a.trees) log.redo rs
+  pub needed : AreNeeded c.start (begun_forest log a.trees) log.undo log.redo
   pub us_room_is : us_room ≡ log.depth
   pub rs_room_is : rs_room ≡ log.depth

@@ -1,10 +1,8 @@
 -- What a contract sees of a document under edits.
 use Rattle.std.specs.Prelude.{◌≡◌, ℕ, ◌<◌, ◌≤◌, Bool, false, List, [], ◌∷◌, length, Option, Some, None, IsSome}
-use Rattle.dom_model.specs.declared.Content.{Content}
-use Rattle.dom_model.specs.Forest.{Forest, tops}
+use Rattle.dom_model.specs.Forest.{tops}
 use Rattle.dom_model.specs.State.{State as Arena}
 use Rattle.live_range.specs.LivePoints.{no_points}
-use Rattle.edit_model.specs.declared.settings.Flags.{Flags}
 use Rattle.edit_model.specs.State.{State}
 use Rattle.edit_model.specs.Overrides.{no_overrides}
 use Rattle.edit_model.specs.History.{Entry, History, rested, begun, recorded}

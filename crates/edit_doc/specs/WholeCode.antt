@@ -1,5 +1,5 @@
 -- How the value of a document under edits is stored, by which proofs tell values apart.
-use Rattle.std.specs.Prelude.{◌≡◌, ℕ, Bool, List, Option, refl}
+use Rattle.std.specs.Prelude.{ℕ, Bool, List, Option, refl}
 use Rattle.std.specs.Coded.{Coded, code_by, coded×, coded_ℕ, coded_bool, coded_list, coded_option}
 use Rattle.edit_model.specs.State.{State}
 use Rattle.edit_model.specs.History.{History}

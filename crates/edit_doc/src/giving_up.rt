@@ -4,7 +4,8 @@ ghost use Rattle.std.specs.Prelude.{◌≡◌, ℕ, ◌+◌, ◌<◌, ◌==◌, 
 ghost use Rattle.dom_model.specs.Forest.{parent_of};
 ghost use Rattle.live_range.specs.Edit.{has_label};
 ghost use Rattle.edit_model.specs.Gives.{labels_of};
-ghost use Rattle.edit_doc.specs.GivingUp.{GivesUp, has_named, is_unnamed, is_loose, loose_roots, has_left};
+ghost use Rattle.edit_doc.specs.GivingUp.{GivesUp, is_unnamed, is_loose, loose_roots, has_left};
+ghost use Rattle.edit_doc.specs.Marks.{has_named};
 ghost use Rattle.edit_doc.specs.Sound.{next_first};
 
 use crate::command::{Beside, Command};

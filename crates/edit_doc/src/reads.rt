@@ -6,7 +6,8 @@ ghost use Rattle.dom_model.specs.Document.{node_count, char_count, page_depth};
 ghost use Rattle.dom_model.specs.Forest.{content_of, count_of, tree_of, parent_of, first_of, last_of, prev_of, next_of};
 ghost use Rattle.dom_model.specs.Places.{index_of};
 ghost use Rattle.edit_model.specs.Gives.{label_of};
-ghost use Rattle.edit_doc.specs.Whole.{IsDoc};
+ghost use Rattle.edit_doc.specs.Whole.{IsDoc, IsClosed};
+ghost use Rattle.edit_doc.specs.Kept.{HoldsOnlyNeeded};
 ghost use Rattle.edit_doc.specs.Held.{Holds, Finds, IfHeld, IsPart};
 ghost use Rattle.node_arena.specs.Kinds.{kind_of};
 ghost use Rattle.point_order.specs.PointOrder.{is_before, is_placed};
@@ -23,6 +24,16 @@ impl Doc {
     {
         self.arena.lawful();
         self.log.lawful();
+    }
+
+    /// Which nodes are held outside commands, for proofs: each is in the document, or in a loose tree with a node that a
+    /// change of an entry of the history names. It does nothing.
+    pub fn kept_nodes(&self)
+        requires closed { IsClosed self.now }
+        ensures { HoldsOnlyNeeded self.now }
+    {
+        self.arena.lawful();
+        self.arena.slotted();
     }
 
     /// The nodes: those of the state, and loose trees of kept entries beside them, which no definition sees.

@@ -1,4 +1,4 @@
-use Rattle.std.proofs.Common.{◌≡◌, ◌∙◌, ap, subst, sym}
+use Rattle.std.proofs.Common.{◌∙◌, ap, subst, sym}
 use Rattle.edit_doc.specs.Fields.{IsKept}
 use Rattle.edit_doc.specs.Whole.{Whole, opened}
 use Rattle.edit_doc.specs.Held.{IfHeld}

@@ -6,6 +6,8 @@ use Rattle.edit_doc.specs.Fields.{IsEnded, Enters}
 use Rattle.edit_doc.proofs.Commits.{none_made, committed_none, nothing_whole, nothing_ok, nothing_state, nothing_history, nothing_keeps}
 use Rattle.edit_doc.proofs.Inner.{open_of}
 use Rattle.edit_doc.proofs.Rolls.{run}
+use Rattle.edit_doc.specs.Sound.{AreNeeded}
+use Rattle.edit_doc.proofs.Needs.{needed_after}
 use Rattle.edit_doc.proofs.Outgone.{left_inner, left_still_loose, gives_both, sheds_both, kept_both}
 use Rattle.edit_doc.proofs.Spared.{spared_ok, spared_state, spared_history, spared_keeps}
 use Rattle.edit_doc.proofs.Unnamed.{unnamed, some_low, unnamed_loose}
@@ -86,30 +88,35 @@ enters2 c = subst (λ (ls : List NodeRef). Enters c.self.inside.command ls c.res
 entry_ended : (c : goal.After-end-2) → IsEnded c.self.inside.arena.next c.end-2.new.self
 entry_ended c = subst (λ (n : ℕ). IsEnded n c.end-2.new.self) (c.next_label-2.ensures ∙ (c.give_up_left.ensures.next ∙ c.give_up_unnamed.ensures.next)) c.end-2.ensures
 
+needed : (c : goal.After-end-2) → AreNeeded c.end-2.new.self.start c.give_up_left.new.arena.trees c.commit.new.self.undo c.commit.new.self.redo
+needed c =
+    needed_after c.self.inside c.lawful-2.ensures c.self.invariant (open_of c.self.inside _ c.self.view_is c.requires.«open») c.resting_places-places.result c.resting_places-places.ensures c.lawful.ensures (made2 c) _ _ (enters2 c) _ c.in-Entry.ensures.log _
+    (gives_both c.self.inside c.lawful-2.ensures c.self.invariant (open_of c.self.inside _ c.self.view_is c.requires.«open») c.resting_places-places.result c.resting_places-places.ensures (made2 c) _ _ (enters2 c) _ _ (gives2 c) c.give_up_left.ensures) c.end-2.new.self.start
+
 pub invariant_of-self-2 : goal.invariant_of-self-2
 invariant_of-self-2 c =
     rw (c.set_places.ensures, c.clear.ensures, c.keep_entry-oldest.ensures.capacity)
     (spared_ok c.self.inside c.lawful-2.ensures c.self.invariant (open_of c.self.inside _ c.self.view_is c.requires.«open») c.resting_places-places.result c.resting_places-places.ensures c.lawful.ensures (made2 c)
     _ (entry_ended c) _ _ (enters2 c) _ c.in-Entry.ensures.log _ _ (gives_both c.self.inside c.lawful-2.ensures c.self.invariant (open_of c.self.inside _ c.self.view_is c.requires.«open») c.resting_places-places.result c.resting_places-places.ensures (made2 c) _ _ (enters2 c) _ _ (gives2 c) c.give_up_left.ensures)
-    (sheds_both c.self.inside c.lawful-2.ensures c.self.invariant (open_of c.self.inside _ c.self.view_is c.requires.«open») c.resting_places-places.result c.resting_places-places.ensures (made2 c) _ _ (enters2 c)) (kept_both c.self.inside c.lawful-2.ensures c.self.invariant (open_of c.self.inside _ c.self.view_is c.requires.«open») c.resting_places-places.result c.resting_places-places.ensures (made2 c) _ _ (enters2 c) _ c.in-Entry.ensures.log) c.lawful-3.ensures)
+    (sheds_both c.self.inside c.lawful-2.ensures c.self.invariant (open_of c.self.inside _ c.self.view_is c.requires.«open») c.resting_places-places.result c.resting_places-places.ensures (made2 c) _ _ (enters2 c)) (kept_both c.self.inside c.lawful-2.ensures c.self.invariant (open_of c.self.inside _ c.self.view_is c.requires.«open») c.resting_places-places.result c.resting_places-places.ensures (made2 c) _ _ (enters2 c) _ c.in-Entry.ensures.log) (needed c) c.lawful-3.ensures)
 
 pub returns-clause-state : goal.returns-clause-state
 returns-clause-state c =
     rw c.set_places.ensures
     (spared_state c.self.inside c.lawful-2.ensures c.self.invariant (open_of c.self.inside _ c.self.view_is c.requires.«open») c.resting_places-places.result c.resting_places-places.ensures c.lawful.ensures (made2 c)
     _ (entry_ended c) _ _ (enters2 c) _ c.in-Entry.ensures.log _ _ (gives_both c.self.inside c.lawful-2.ensures c.self.invariant (open_of c.self.inside _ c.self.view_is c.requires.«open») c.resting_places-places.result c.resting_places-places.ensures (made2 c) _ _ (enters2 c) _ _ (gives2 c) c.give_up_left.ensures)
-    (sheds_both c.self.inside c.lawful-2.ensures c.self.invariant (open_of c.self.inside _ c.self.view_is c.requires.«open») c.resting_places-places.result c.resting_places-places.ensures (made2 c) _ _ (enters2 c)) (kept_both c.self.inside c.lawful-2.ensures c.self.invariant (open_of c.self.inside _ c.self.view_is c.requires.«open») c.resting_places-places.result c.resting_places-places.ensures (made2 c) _ _ (enters2 c) _ c.in-Entry.ensures.log) c.lawful-3.ensures _ c.self.view_is)
+    (sheds_both c.self.inside c.lawful-2.ensures c.self.invariant (open_of c.self.inside _ c.self.view_is c.requires.«open») c.resting_places-places.result c.resting_places-places.ensures (made2 c) _ _ (enters2 c)) (kept_both c.self.inside c.lawful-2.ensures c.self.invariant (open_of c.self.inside _ c.self.view_is c.requires.«open») c.resting_places-places.result c.resting_places-places.ensures (made2 c) _ _ (enters2 c) _ c.in-Entry.ensures.log) (needed c) c.lawful-3.ensures _ c.self.view_is)
 
 pub returns-clause-history : goal.returns-clause-history
 returns-clause-history c =
     rw (c.set_places.ensures, c.clear.ensures)
     (spared_history c.self.inside c.lawful-2.ensures c.self.invariant (open_of c.self.inside _ c.self.view_is c.requires.«open») c.resting_places-places.result c.resting_places-places.ensures c.lawful.ensures (made2 c)
     _ (entry_ended c) _ _ (enters2 c) _ c.in-Entry.ensures.log _ _ (gives_both c.self.inside c.lawful-2.ensures c.self.invariant (open_of c.self.inside _ c.self.view_is c.requires.«open») c.resting_places-places.result c.resting_places-places.ensures (made2 c) _ _ (enters2 c) _ _ (gives2 c) c.give_up_left.ensures)
-    (sheds_both c.self.inside c.lawful-2.ensures c.self.invariant (open_of c.self.inside _ c.self.view_is c.requires.«open») c.resting_places-places.result c.resting_places-places.ensures (made2 c) _ _ (enters2 c)) (kept_both c.self.inside c.lawful-2.ensures c.self.invariant (open_of c.self.inside _ c.self.view_is c.requires.«open») c.resting_places-places.result c.resting_places-places.ensures (made2 c) _ _ (enters2 c) _ c.in-Entry.ensures.log) c.lawful-3.ensures _ c.self.view_is)
+    (sheds_both c.self.inside c.lawful-2.ensures c.self.invariant (open_of c.self.inside _ c.self.view_is c.requires.«open») c.resting_places-places.result c.resting_places-places.ensures (made2 c) _ _ (enters2 c)) (kept_both c.self.inside c.lawful-2.ensures c.self.invariant (open_of c.self.inside _ c.self.view_is c.requires.«open») c.resting_places-places.result c.resting_places-places.ensures (made2 c) _ _ (enters2 c) _ c.in-Entry.ensures.log) (needed c) c.lawful-3.ensures _ c.self.view_is)
 
 pub returns-clause-keeps : goal.returns-clause-keeps
 returns-clause-keeps c =
     rw (c.set_places.ensures, c.clear.ensures)
     (spared_keeps c.self.inside c.lawful-2.ensures c.self.invariant (open_of c.self.inside _ c.self.view_is c.requires.«open») c.resting_places-places.result c.resting_places-places.ensures c.lawful.ensures (made2 c)
     _ (entry_ended c) _ _ (enters2 c) _ c.in-Entry.ensures.log _ _ (gives_both c.self.inside c.lawful-2.ensures c.self.invariant (open_of c.self.inside _ c.self.view_is c.requires.«open») c.resting_places-places.result c.resting_places-places.ensures (made2 c) _ _ (enters2 c) _ _ (gives2 c) c.give_up_left.ensures)
-    (sheds_both c.self.inside c.lawful-2.ensures c.self.invariant (open_of c.self.inside _ c.self.view_is c.requires.«open») c.resting_places-places.result c.resting_places-places.ensures (made2 c) _ _ (enters2 c)) (kept_both c.self.inside c.lawful-2.ensures c.self.invariant (open_of c.self.inside _ c.self.view_is c.requires.«open») c.resting_places-places.result c.resting_places-places.ensures (made2 c) _ _ (enters2 c) _ c.in-Entry.ensures.log) c.lawful-3.ensures _ c.self.view_is)
+    (sheds_both c.self.inside c.lawful-2.ensures c.self.invariant (open_of c.self.inside _ c.self.view_is c.requires.«open») c.resting_places-places.result c.resting_places-places.ensures (made2 c) _ _ (enters2 c)) (kept_both c.self.inside c.lawful-2.ensures c.self.invariant (open_of c.self.inside _ c.self.view_is c.requires.«open») c.resting_places-places.result c.resting_places-places.ensures (made2 c) _ _ (enters2 c) _ c.in-Entry.ensures.log) (needed c) c.lawful-3.ensures _ c.self.view_is)

@@ -1,4 +1,4 @@
-use Rattle.std.proofs.Common.{◌≡◌, Bool, true, false, if◌then◌else◌, Option, Some, None, IfSome, refl, sym, ap, subst, ◌∙◌}
+use Rattle.std.proofs.Common.{◌≡◌, Bool, true, false, if◌then◌else◌, Some, None, IfSome, sym, ap, subst, ◌∙◌}
 use Rattle.live_range.specs.declared.places.Pair.{Pair}
 use Rattle.live_range.specs.declared.places.Point.{Point}
 use Rattle.edit_model.specs.Action.{Extend, acted, extended, extended_from, with_selection}

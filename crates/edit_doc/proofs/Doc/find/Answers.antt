@@ -1,4 +1,4 @@
-use Rattle.std.proofs.Common.{◌≡◌, ℕ, true, false, true≢false, eqb, sym, ap, subst, ◌∙◌, refl, ◌<◌, arith}
+use Rattle.std.proofs.Common.{◌≡◌, false, true≢false, eqb, sym, subst, ◌∙◌, refl, arith}
 use Rattle.dom_model.specs.Forest.{count_of}
 use Rattle.edit_doc.specs.Held.{Holds}
 use Rattle.edit_doc.proofs.Loosened.{loosened_held, document_node_held, none_seen, absent_seen}

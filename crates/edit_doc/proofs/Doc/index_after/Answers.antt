@@ -1,4 +1,4 @@
-use Rattle.std.proofs.Common.{◌≡◌, ℕ, ◌+◌, sym, ap, ◌∙◌, arith}
+use Rattle.std.proofs.Common.{◌+◌, sym, ap, ◌∙◌, arith}
 use Rattle.dom_model.proofs.Few.{some_nodes}
 use Rattle.dom_model.proofs.Indexes.{index_of_low}
 use Rattle.edit_doc.proofs.SeenNodes.{index_seen}

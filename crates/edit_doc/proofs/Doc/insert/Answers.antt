@@ -3,7 +3,6 @@ use Rattle.std.specs.Vec.{with_items}
 use Rattle.std.proofs.lemmas.List.{with_items_is}
 use Rattle.edit_model.specs.Edit.{Insert}
 use Rattle.edit_model.specs.Gives.{label_of}
-use Rattle.edit_model.specs.declared.settings.Setting.{Setting}
 use Rattle.edit_model.proofs.Giving.{gives_left}
 use Rattle.edit_parts.specs.Following.{settled}
 use Rattle.edit_doc.proofs.Edited.{Done}

@@ -1,4 +1,4 @@
-use Rattle.std.proofs.Common.{◌≡◌, ℕ, ◌+◌, true, false, not, List, length, Option, Some, None, refl, sym, ap, subst, ◌∙◌, arith}
+use Rattle.std.proofs.Common.{◌≡◌, length, Option, Some, None, refl, sym, ap, subst, ◌∙◌, arith}
 use Rattle.std.specs.Prelude.{slice_index_or}
 use Rattle.std.specs.Vec.{with_items}
 use Rattle.std.proofs.lemmas.List.{with_items_is}
@@ -7,7 +7,6 @@ use Rattle.node_arena.specs.declared.NodeRef.{NodeRef}
 use Rattle.node_arena.specs.Held.{label, Names}
 use Rattle.edit_model.specs.Edit.{Move}
 use Rattle.edit_model.specs.Gives.{label_of}
-use Rattle.edit_model.specs.declared.settings.Setting.{Setting}
 use Rattle.edit_model.proofs.Giving.{gives_left}
 use Rattle.edit_parts.specs.Following.{settled, Watches}
 use Rattle.edit_doc.specs.declared.Doc.TheInside.{Inside}
@@ -16,7 +15,6 @@ use Rattle.edit_doc.specs.Marks.{place_labels}
 use Rattle.edit_doc.proofs.Edited.{Done}
 use Rattle.edit_doc.proofs.Moving.{not_moved, fits, place_markable, markable_after, nodes_fit, chars_fit, held_here, points_fit, placed, move_done}
 use Rattle.edit_doc.proofs.HiddenTrees.{placed-whole}
-use Rattle.edit_doc.proofs.Linked.{labels_same}
 use Rattle.edit_doc.proofs.Rests.{arena_forest}
 use Rattle.edit_doc.proofs.SeenNodes.{out_of, held_seen, parent_seen, finds_parent, finds_next}
 use Rattle.edit_doc.proofs.Doc.move_keeping.Goals as goal

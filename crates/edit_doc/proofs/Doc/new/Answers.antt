@@ -1,6 +1,4 @@
-use Rattle.std.proofs.Common.{◌≡◌, ℕ, false, sym, ap, subst, ◌∙◌}
-use Rattle.dom_model.specs.State.{State as Arena, IsLawful as IsArena}
-use Rattle.edit_doc.specs.Whole.{first_doc, HasNoLoose}
+use Rattle.std.proofs.Common.{ℕ, false, subst, ◌∙◌}
 use Rattle.edit_doc.specs.Fields.{IsEnded}
 use Rattle.edit_doc.specs.History.{whole_of}
 use Rattle.edit_doc.proofs.Starts.{new_ok, new_is}

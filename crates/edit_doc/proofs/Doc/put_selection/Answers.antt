@@ -1,13 +1,8 @@
-use Rattle.std.proofs.Common.{◌≡◌, ℕ, ◌<◌, ◌^◌, true, List, length, ◌∙◌, Option, IfSome, refl, ap, sym, subst, arith}
+use Rattle.std.proofs.Common.{◌≡◌, length, ◌∙◌, IfSome, refl, ap, sym, subst, arith}
 use Rattle.std.specs.Vec.{with_items}
-use Rattle.std.specs.Option.{option_map}
 use Rattle.std.proofs.lemmas.List.{with_items_is}
-use Rattle.live_range.specs.Edit as range
-use Rattle.live_range.specs.Edit.{adjusted_pair}
-use Rattle.live_range.specs.LivePoints.{LivePoints, Fits, mapped}
 use Rattle.edit_model.specs.Action.{with_selection}
 use Rattle.edit_model.specs.Lawful.{IsPlacedPair, IsPlaced}
-use Rattle.edit_model.specs.State.{State}
 use Rattle.edit_parts.specs.Following.{settled}
 use Rattle.edit_doc.specs.Whole.{Whole, with_state}
 use Rattle.edit_doc.specs.History.{seen_trees}

@@ -2,7 +2,7 @@ use Rattle.std.proofs.Common.{◌≡◌, ◌<◌, length, refl, sym, ap, ◌∙�
 use Rattle.std.specs.Vec.{with_items}
 use Rattle.std.proofs.lemmas.List.{with_items_is}
 use Rattle.edit_model.specs.Overrides.{no_overrides}
-use Rattle.edit_doc.proofs.Turnings.{redo_fits, redo_placed, redo_done, redo_none, unset_length}
+use Rattle.edit_doc.proofs.Turnings.{redo_fits, redo_done, redo_none, unset_length}
 use Rattle.edit_doc.proofs.Inner.{closed_of}
 use Rattle.edit_doc.proofs.Doc.redo.Goals as goal
 

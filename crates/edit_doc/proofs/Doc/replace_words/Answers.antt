@@ -1,11 +1,9 @@
-use Rattle.std.proofs.Common.{◌≡◌, ℕ, ◌+◌, ◌<◌, ◌^◌, true, false, List, length, Option, Some, None, refl, sym, ap, subst, ◌∙◌, arith}
+use Rattle.std.proofs.Common.{◌≡◌, ℕ, ◌<◌, ◌^◌, true, false, List, length, Some, refl, sym, ap, subst, ◌∙◌, arith}
 use Rattle.std.specs.Option.{is_some}
 use Rattle.std.specs.Vec.{with_items}
 use Rattle.std.proofs.lemmas.List.{with_items_is}
 use Rattle.std.specs.Prelude.{IfSome}
 use Rattle.dom_model.specs.declared.Content.TheVariants.{Words}
-use Rattle.live_range.specs.Edit as range
-use Rattle.live_range.specs.LivePoints.{mapped}
 use Rattle.edit_steps.specs.declared.step.Step.TheVariants.{Words as Rewords}
 use Rattle.edit_model.specs.Confined.{may_change}
 use Rattle.edit_model.specs.Edit.{Replace, with_replaced}
@@ -13,7 +11,7 @@ use Rattle.edit_model.proofs.Giving.{gives_left}
 use Rattle.edit_doc.proofs.Edited.{Done}
 use Rattle.edit_doc.proofs.Lessened.{changes}
 use Rattle.edit_doc.proofs.Replaced.{not_own_replace, not_replace_here, may_replace_here, points_fit, fits, left, trees, points_are, replace_done}
-use Rattle.edit_doc.proofs.Settling.{points_now, placed_called, overrides_next, overrides_length, settled_items}
+use Rattle.edit_doc.proofs.Settling.{points_now, placed_called, overrides_length, settled_items}
 use Rattle.edit_doc.proofs.Doc.replace_words.Goals as goal
 
 pub returns-then-not-is_own-clause-gives : goal.returns-then-not-is_own-clause-gives

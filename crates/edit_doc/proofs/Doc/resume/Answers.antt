@@ -1,5 +1,4 @@
 use Rattle.std.proofs.Common.{◌≡◌, false, true, ◌∙◌, ap, subst, sym, refl, length, arith}
-use Rattle.undo_log.specs.Log.Open.{Closed}
 use Rattle.edit_doc.specs.Fields.{IsKept}
 use Rattle.edit_doc.specs.Whole.{Whole, opened}
 use Rattle.edit_doc.specs.Held.{IfHeld}

@@ -1,4 +1,4 @@
-use Rattle.std.proofs.Common.{◌≡◌, ℕ, ◌≤◌, refl, sym, ap, subst, ◌∙◌, arith}
+use Rattle.std.proofs.Common.{ℕ, ◌≤◌, ap, subst, arith}
 use Rattle.dom_model.specs.State.{State as Arena}
 use Rattle.edit_doc.specs.Fields.{IsEnded}
 use Rattle.edit_doc.proofs.Rolls.{fits_of, drop_whole, back_is, resumed_some, rolled_ok, rolled_state, rolled_history, rolled_keeps}

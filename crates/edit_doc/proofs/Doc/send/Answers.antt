@@ -1,16 +1,15 @@
-use Rattle.std.proofs.Common.{◌≡◌, ℕ, ◌<◌, ◌^◌, true, List, length, ◌∙◌, Option, IfSome, refl, ap, sym, subst, arith}
+use Rattle.std.proofs.Common.{◌≡◌, length, ◌∙◌, refl, ap, sym, arith}
 use Rattle.std.specs.Prelude.{map}
 use Rattle.std.specs.Vec.{with_items}
 use Rattle.std.specs.Option.{option_map}
 use Rattle.std.proofs.lemmas.List.{with_items_is}
 use Rattle.live_range.specs.Edit as range
 use Rattle.live_range.specs.Edit.{adjusted_pair}
-use Rattle.live_range.specs.LivePoints.{LivePoints, Fits, mapped, at_pair}
-use Rattle.edit_model.specs.Action.{Send, acted, sent}
+use Rattle.live_range.specs.LivePoints.{mapped, at_pair}
+use Rattle.edit_model.specs.Action.{acted, sent}
 use Rattle.edit_model.specs.Confined.{may_send}
 use Rattle.edit_model.specs.Edit.{changed}
 use Rattle.edit_model.specs.Lawful.{IsPlaced}
-use Rattle.edit_model.specs.State.{State}
 use Rattle.edit_model.proofs.Fitting.{places-send, fits-send}
 use Rattle.edit_model.proofs.Points.{mapped_placed}
 use Rattle.edit_parts.specs.Following.{settled}

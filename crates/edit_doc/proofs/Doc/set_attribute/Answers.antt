@@ -1,5 +1,5 @@
-use Rattle.std.proofs.Common.{◌≡◌, ℕ, true, false, not, refl, sym, ap, subst, ◌∙◌, Some}
-use Rattle.std.specs.Option.{option_map_or, option_and_then}
+use Rattle.std.proofs.Common.{◌≡◌, true, false, refl, sym, ap, ◌∙◌, Some}
+use Rattle.std.specs.Option.{option_and_then}
 use Rattle.dom_model.specs.declared.Content.TheVariants.{Element}
 use Rattle.dom_model.specs.AttributeList.{set_in}
 use Rattle.edit_model.specs.Confined.{has_value}

@@ -1,4 +1,4 @@
-use Rattle.std.proofs.Common.{◌≡◌, ap, ◌∙◌}
+use Rattle.std.proofs.Common.{ap}
 use Rattle.edit_model.specs.Action.{Override, acted}
 use Rattle.edit_model.specs.Overrides.{with_setting}
 use Rattle.edit_doc.specs.Whole.{Whole, with_state}

@@ -1,8 +1,5 @@
-use Rattle.std.proofs.Common.{◌≡◌, ℕ, ◌<◌, ap, sym, subst, ◌∙◌, get_or}
-use Rattle.std.specs.Prelude.{slice_index_or}
-use Rattle.edit_model.specs.declared.settings.Setting.{Setting}
+use Rattle.std.proofs.Common.{◌<◌, ap, sym, subst, ◌∙◌, get_or}
 use Rattle.edit_model.specs.declared.settings.Setting.TheVariants.{Absent}
-use Rattle.edit_model.specs.State.{State}
 use Rattle.edit_model.specs.Overrides.{setting_of, place_of}
 use Rattle.edit_doc.specs.Whole.{Whole}
 use Rattle.edit_doc.proofs.Chosen.{any_default}

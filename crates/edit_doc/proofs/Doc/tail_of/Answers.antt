@@ -1,10 +1,10 @@
-use Rattle.std.proofs.Common.{◌≡◌, ℕ, ◌-◌, ◌<◌, ◌^◌, List, [], length, drop, Option, Some, None, refl, sym, ap, subst, ◌∙◌, arith}
+use Rattle.std.proofs.Common.{◌≡◌, ℕ, ◌<◌, ◌^◌, List, [], length, Option, Some, None, refl, sym, ap, subst, ◌∙◌}
 use Rattle.std.specs.Prelude.{unwrap_or}
 use Rattle.std.specs.Option.{option_and_then, option_map}
 use Rattle.dom_model.specs.declared.Content.{Content}
 use Rattle.dom_model.specs.declared.Content.TheVariants.{Document, Element, Words, Remark}
 use Rattle.dom_model.specs.Contents.{chars_in, char_length}
-use Rattle.dom_model.specs.Forest.{Forest, Seen, seek, content_of}
+use Rattle.dom_model.specs.Forest.{Seen, seek, content_of}
 use Rattle.dom_model.specs.State.{State as Arena, IsLawful as IsArena}
 use Rattle.edit_model.specs.Compositions.{characters_of}
 use Rattle.edit_doc.proofs.SeenNodes.{chars_seen}

@@ -2,7 +2,7 @@ use Rattle.std.proofs.Common.{◌≡◌, ◌<◌, length, refl, sym, ap, ◌∙�
 use Rattle.std.specs.Vec.{with_items}
 use Rattle.std.proofs.lemmas.List.{with_items_is}
 use Rattle.edit_model.specs.Overrides.{no_overrides}
-use Rattle.edit_doc.proofs.Turnings.{undo_fits, undo_placed, undo_done, undo_none, unset_length}
+use Rattle.edit_doc.proofs.Turnings.{undo_fits, undo_done, undo_none, unset_length}
 use Rattle.edit_doc.proofs.Inner.{closed_of}
 use Rattle.edit_doc.proofs.Doc.undo.Goals as goal
 

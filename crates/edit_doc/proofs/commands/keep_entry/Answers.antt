@@ -1,7 +1,4 @@
-use Rattle.std.proofs.Common.{◌≡◌, sym, ap, refl}
-use Rattle.edit_doc.specs.declared.command.Beside.{Beside}
-use Rattle.node_arena.specs.declared.NodeRef.{NodeRef}
-use Rattle.edit_doc.specs.Fields.{EntersIn, made_sides}
+use Rattle.std.proofs.Common.{refl}
 use Rattle.edit_doc.proofs.commands.keep_entry.Goals as goal
 
 pub returns-else-command-clause-entered : goal.returns-else-command-clause-entered

@@ -1,4 +1,4 @@
-use Rattle.std.proofs.Common.{◌≡◌, true, refl, sym, subst}
+use Rattle.std.proofs.Common.{◌≡◌, true, sym, subst}
 use Rattle.live_range.specs.Edit.{has_label}
 use Rattle.edit_model.specs.Gives.{labels_of}
 use Rattle.edit_doc.specs.GivingUp.{GivesUp, has_left}

@@ -1,4 +1,4 @@
-use Rattle.std.proofs.Common.{◌≡◌, refl}
+use Rattle.std.proofs.Common.{refl}
 use Rattle.edit_doc.proofs.GivingUp.{gives_tree, gives_absent}
 use Rattle.edit_doc.proofs.giving_up.give_up_root.Goals as goal
 

@@ -1,4 +1,3 @@
-use Rattle.std.proofs.Common.{◌≤◌, arith, length}
 use Rattle.edit_doc.proofs.GivingUp.{gives_none, gives_one_more, gives_roots, listed_at, roots_loose}
 use Rattle.edit_doc.proofs.giving_up.give_up_roots.Goals as goal
 

@@ -1,4 +1,4 @@
-use Rattle.std.proofs.Common.{◌≡◌, ◌+◌, ◌≤◌, sym, ap, ◌∙◌, subst, arith}
+use Rattle.std.proofs.Common.{◌+◌, ◌≤◌, sym, ◌∙◌, subst, arith}
 use Rattle.edit_doc.specs.GivingUp.{GivesUp, is_unnamed}
 use Rattle.edit_doc.proofs.GivingUp.{up_to, gives_first, gives_past, gives_next, gives_all, still_loose, lower_named, named_out, unnamed_in}
 use Rattle.edit_doc.proofs.giving_up.give_up_unnamed.Goals as goal

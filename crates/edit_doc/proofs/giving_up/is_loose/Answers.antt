@@ -1,4 +1,4 @@
-use Rattle.std.proofs.Common.{◌≡◌, refl}
+use Rattle.std.proofs.Common.{refl}
 use Rattle.edit_doc.proofs.GivingUp.{loose_found, none_loose}
 use Rattle.edit_doc.proofs.giving_up.is_loose.Goals as goal
 

@@ -1,4 +1,4 @@
-use Rattle.std.proofs.Common.{◌≡◌, ◌≤◌, refl, sym, ap, subst, ◌∙◌, arith}
+use Rattle.std.proofs.Common.{sym, ◌∙◌, arith}
 use Rattle.edit_doc.proofs.Lessened.{chars_outside, count_within, chars_inside, chars_fit}
 use Rattle.edit_doc.proofs.numbers.chars_replaced.Goals as goal
 
