@@ -7,7 +7,7 @@ use Rattle.dom_model.specs.Forest.Forest.{Nil, Tree}
 use Rattle.dom_model.specs.Places.{onward, or_else}
 use Rattle.dom_model.proofs.Links.{join-Nil, tree_of_absent, parent_count}
 use Rattle.dom_model.proofs.Neighbours.{parent_of-first, parent_of-next}
-use Rattle.dom_model.proofs.Parts.{At, at_label, onward_absent}
+use Rattle.dom_model.proofs.Parts.{at_label, onward_absent}
 use Rattle.wrap_split.specs.Walks.{last_within}
 
 -- how many nodes

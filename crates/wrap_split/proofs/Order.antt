@@ -1,9 +1,8 @@
 -- Which of two nodes of a document comes first is told by its arena.
-use Rattle.std.proofs.Common.{◌≡◌, ℕ, ◌<◌, Option, Some, None, Bool, false, refl, sym, ap, subst, ◌∙◌, eqb}
+use Rattle.std.proofs.Common.{◌≡◌, ℕ, ◌<◌, Option, Some, None, refl, sym, ap, subst, ◌∙◌, eqb}
 use Rattle.dom_model.specs.declared.Content.{Content}
 use Rattle.dom_model.specs.Forest.{Forest, is_label, count_of, IsDistinct}
 use Rattle.dom_model.specs.Places.{first_of_two}
-use Rattle.dom_model.specs.Shed.{shed}
 use Rattle.dom_model.specs.State.{State as Arena}
 use Rattle.point_order.specs.PointOrder.{is_earlier}
 use Rattle.node_arena.specs.declared.NodeRef.{NodeRef}

@@ -1,5 +1,5 @@
 -- A turn of a walk, and its end.
-use Rattle.std.proofs.Common.{◌≡◌, ℕ, zero, suc, ◌-◌, ◌<◌, ◌≤◌, Option, Some, None, refl, arith}
+use Rattle.std.proofs.Common.{◌≡◌, ℕ, zero, suc, ◌-◌, ◌<◌, ◌≤◌, Option, refl, arith}
 use Rattle.wrap_split.specs.Walks.{walk, followed}
 
 suc-sub-one : (n : ℕ) → suc n - 1 ≡ n

@@ -4,7 +4,7 @@ use Rattle.dom_model.specs.Forest.{parent_of, prev_of, last_of}
 use Rattle.node_tests.specs.SolidNeighbours.{is_extraneous_break}
 use Rattle.edit_model.specs.State.{State}
 use Rattle.edit_model.specs.Confined.{is_editable_for}
-use Rattle.edit_model.specs.Run.{Run, ◌>>=◌, ◌>>◌, done, look, given, remove}
+use Rattle.edit_model.specs.Run.{Run, ◌>>◌, done, look, given, remove}
 use Rattle.wrap_split.specs.Walks.{turn_bound, walk, is_it, preceding, is_invisible}
 
 -- down from a node by last children

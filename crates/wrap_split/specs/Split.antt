@@ -1,6 +1,6 @@
 -- Splitting the parent of a list of siblings, and removing a node while its children stay (HTML Editing APIs, "split the
 -- parent", "remove preserving its descendants").
-use Rattle.std.specs.Prelude.{ℕ, Bool, false, ◌||◌, ◌&&◌, not, List, [], ◌∷◌, Option, Some, None, if◌then◌else◌, codes, reverse, is_none}
+use Rattle.std.specs.Prelude.{ℕ, Bool, false, ◌||◌, ◌&&◌, not, List, [], Some, if◌then◌else◌, codes, reverse, is_none}
 use Rattle.std.specs.Option.{option_map_or}
 use Rattle.dom_model.specs.Contents.{name_of}
 use Rattle.dom_model.specs.Forest.{parent_of, next_of, children_of, first_of, first_in, last_in}
