@@ -94,9 +94,7 @@ pub enum ViewKind {
     /// The numbers of the document and of the history.
     Stat,
     /// What the tests of nodes answer of the node at a path.
-    Probe {
-        path: Path,
-    },
+    Probe { path: Path },
 }
 
 /// Why something of an editor was not printed.

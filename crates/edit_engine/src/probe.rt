@@ -72,7 +72,11 @@ fn push_text_tests(bytes: &mut Vec<u8>, doc: &Doc, node: NodeRef) -> Result<(), 
     push_test(bytes, b" block", is_block(doc, node))?;
     push_test(bytes, b" visible", is_visible(doc, node))?;
     push_test(bytes, b" whitespace", is_whitespace(doc, node))?;
-    push_test(bytes, b" collapsed-whitespace", is_collapsed_whitespace(doc, node))?;
+    push_test(
+        bytes,
+        b" collapsed-whitespace",
+        is_collapsed_whitespace(doc, node),
+    )?;
     Ok(())
 }
 
