@@ -1,11 +1,11 @@
 -- The first children of a node go to a new node before it, and those after them to just before the node.
-use Rattle.std.proofs.Common.{◌≡◌, ℕ, ◌<◌, zero, suc, Bool, true, false, ◌&&◌, ◌||◌, List, [], ◌∷◌, ◌++◌, Option, Some, None, refl, sym, ap, subst, ◌∙◌, inl, inr, arith, true≢false}
+use Rattle.std.proofs.Common.{◌≡◌, ℕ, ◌<◌, zero, suc, Bool, true, false, ◌&&◌, ◌||◌, List, [], ◌++◌, Option, Some, None, refl, sym, ap, subst, ◌∙◌, inl, inr, arith, true≢false}
 use Rattle.std.specs.Option.{option_map, option_map_or, option_and_then}
 use Rattle.std.specs.Prelude.{nat_le}
 use Rattle.std.proofs.lemmas.Bool.{cases_Bool, lt-ltb, ltb-true}
 use Rattle.dom_model.specs.declared.Content.{Content}
 use Rattle.dom_model.specs.Contents.{is_parent_at, may_have_children}
-use Rattle.dom_model.specs.Forest.{Forest, Seen, times, tops, first_in, after_in, count_of, IsWithin, seek, parent_of, children_of, next_of, content_of, tree_of, join}
+use Rattle.dom_model.specs.Forest.{Forest, Seen, times, tops, first_in, after_in, count_of, IsWithin, seek, parent_of, children_of, next_of, tree_of, join}
 use Rattle.dom_model.specs.Forest.Forest.{Nil, Tree}
 use Rattle.dom_model.proofs.Lists.{times-append}
 use Rattle.dom_model.proofs.Neighbours.{parent_of-next}
@@ -30,11 +30,11 @@ use Rattle.edit_laws.proofs.QuietActions.{keeping_final, same_document}
 use Rattle.edit_laws.proofs.Around.{Spot, spot_as}
 use Rattle.edit_laws.proofs.Patterns.{join-assoc}
 use Rattle.edit_laws.proofs.Slides.{each_stays}
-use Rattle.edit_laws.proofs.Lifting.{node_found, node_parent, lift_open, lift_all, final_move_before, move_stays, tops-join, Ends, all_went, some_stay, Ran}
+use Rattle.edit_laws.proofs.Lifting.{node_found, node_parent, lift_open, lift_all, final_move_before, move_stays, tops-join, Ends, all_went, some_stay}
 use Rattle.edit_laws.proofs.Handing.{final_move_last, hand_all}
 use Rattle.edit_laws.proofs.Turned.{next_is}
-use Rattle.edit_laws.proofs.Seats.{Seat, seat, Parts, parts_of, Headed, headed}
-use Rattle.edit_laws.proofs.Loose.{IsLoose, none_there, loose_parent, still_each, still_last, still_before, before_root}
+use Rattle.edit_laws.proofs.Seats.{Seat, seat, parts_of}
+use Rattle.edit_laws.proofs.Loose.{IsLoose, none_there, loose_parent, still_each, still_last, still_before}
 use Rattle.edit_laws.proofs.MoveLaws.{headed_first}
 
 made_open : (s : State) (x : ℕ) → is_made s x ≡ true → is_open s x ≡ true
@@ -106,7 +106,7 @@ among_second : (a b c : List ℕ) (n : ℕ) → 0 < times b n → 0 < times (a +
 among_second a b c n h = omega (arith, h, times-append a (b ++ c) n, times-append b c n)
 
 -- what a look-up of children tells of each
-child_by : (s : State) → IsLawful s → (o n : ℕ) → 0 < times (children_of s.trees o) n → parent_of s.trees n ≡ Some o
+pub child_by : (s : State) → IsLawful s → (o n : ℕ) → 0 < times (children_of s.trees o) n → parent_of s.trees n ≡ Some o
 child_by s is o n among = by_seen (seek None s.trees o) refl
   where
     by_seen : (k : Option (Seen Content)) → seek None s.trees o ≡ k → parent_of s.trees n ≡ Some o
