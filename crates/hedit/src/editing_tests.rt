@@ -108,12 +108,24 @@ fn tells_what_tests_answer(rt: HostRuntime) -> Result<(), Fail> {
             "editable yes host 0/0 block no visible yes whitespace no collapsed-whitespace no extraneous no collapsed-break yes prop yes display inline white-space pre\n",
         ),
         // paths that name no node
-        ("<div contenteditable=\"true\"></div>", "1", "! 4 bad place\n"),
-        ("<div contenteditable=\"true\"></div>", "0/0", "! 4 bad place\n"),
+        (
+            "<div contenteditable=\"true\"></div>",
+            "1",
+            "! 4 bad place\n",
+        ),
+        (
+            "<div contenteditable=\"true\"></div>",
+            "0/0",
+            "! 4 bad place\n",
+        ),
     ] {
         let acts = format!(in rt.alloc(); "probe {path}\n")?;
         let written = answer(rt.alloc(), ["run"].as_slice(), page, acts.as_str())?;
-        assert_eq!(rt; written.as_slice(), want.as_bytes(), "on {path:?} of {page:?}");
+        assert_eq!(rt;
+            written.as_slice(),
+            want.as_bytes(),
+            "on {path:?} of {page:?}"
+        );
     }
     Ok(())
 }
