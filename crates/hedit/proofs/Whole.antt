@@ -6,7 +6,8 @@ use Rattle.std.proofs.lemmas.List.{append-nil}
 use Rattle.edit_io.specs.Faults.{Rose}
 use Rattle.edit_io.specs.Told.{with_front, with_end, IsAtEnd, TakesPrefix}
 use Rattle.edit_io.proofs.Told.{with_end-nil, with_front-some, with_front-none}
-use Rattle.hedit.specs.Words.{order_of, number_of, amount_of, greatest, usual, with_setting, IsSetting, AreSettings, IsOrder, none_given}
+use Rattle.script_read.specs.Reading.{number_of}
+use Rattle.hedit.specs.Words.{order_of, amount_of, greatest, usual, with_setting, IsSetting, AreSettings, IsOrder, none_given}
 use Rattle.hedit.specs.Transcript.{Transcript, transcript_of, transcript, read_transcript, ordered}
 use Rattle.hedit.specs.Following.{Follows, RunFollows, HasCap, Answered}
 use Rattle.hedit.specs.declared.session.Status.{Status}
