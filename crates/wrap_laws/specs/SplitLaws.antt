@@ -1,0 +1,20 @@
+-- The laws of order of splitting the parent of a list.
+use Rattle.std.specs.Prelude.{◌≡◌, ℕ, List, [], ◌∷◌, ◌++◌}
+use Rattle.dom_model.specs.Forest.{children_of}
+use Rattle.edit_model.specs.State.{State}
+use Rattle.edit_model.specs.Run.{final}
+use Rattle.edit_laws.specs.Order.{KeepsOrder, IsKeeping}
+use Rattle.edit_laws.specs.Tame.{Tame}
+use Rattle.wrap_split.specs.Split.{split_parent, remove_keeping_children}
+
+-- of consecutive children of a node, in order
+abbrev pub ParentsSplit : Type 0
+ParentsSplit =
+    (front list rest : List ℕ) (o : ℕ) (s : State) → IsKeeping s → children_of s.trees o ≡ front ++ (list ++ rest) → KeepsOrder s (final (split_parent list) s)
+
+-- of one node
+abbrev pub ParentOfOneSplits : Type 0
+ParentOfOneSplits = (n : ℕ) → Tame (split_parent (n ∷ []))
+
+abbrev pub NodesGoAndChildrenStay : Type 0
+NodesGoAndChildrenStay = (n : ℕ) → Tame (remove_keeping_children n)
