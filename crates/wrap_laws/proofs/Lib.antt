@@ -4,3 +4,10 @@ pub mod Positions
 pub mod Cleared
 pub mod Copies
 pub mod Splitting
+pub mod Criteria
+pub mod Sides
+pub mod Widening
+pub mod NewBreaks
+pub mod MovingIn
+pub mod Merging
+pub mod Wrapping

@@ -39,7 +39,7 @@ unfolding move_all_after loops.move_all_after move_after loops.move_after
 same_all_after list o = refl
 
 -- a run that is known at a state, and tame runs after it
-then_tame : {A B : Type 0} (m : Run A) (n : Run B) (s : State) → IsKeeping s → KeepsOrder s (final m s) → Tame n → KeepsOrder s (final (m >>= (λ _. n)) s)
+pub then_tame : {A B : Type 0} (m : Run A) (n : Run B) (s : State) → IsKeeping s → KeepsOrder s (final m s) → Tame n → KeepsOrder s (final (m >>= (λ _. n)) s)
 then_tame m n s is k t = rw final-bind (keeps_trans k (t.keeps (final m s) (keeping_final m s is)))
 
 -- ---- which members stand at the ends
@@ -62,7 +62,7 @@ last_times : (o : Option ℕ) (x : ℕ) (xs : List ℕ) (n : ℕ) → last_or o 
 last_times o x [] n e = let same : x ≡ n = (let e' = e in cc) in rw (eq-eqb x n same) (omega arith)
 last_times o x (y ∷ xs) n e = omega (arith, last_times (Some x) y xs n e)
 
-last_some : (o : Option ℕ) (x : ℕ) (xs : List ℕ) → (n : ℕ) × (last_or o (x ∷ xs) ≡ Some n)
+pub last_some : (o : Option ℕ) (x : ℕ) (xs : List ℕ) → (n : ℕ) × (last_or o (x ∷ xs) ≡ Some n)
 last_some o x [] = (x, refl)
 last_some o x (y ∷ xs) = last_some (Some x) y xs
 
@@ -168,7 +168,7 @@ at_keeps o a z front l rest s is kids = rw final-look (by_parent (parent_of s.tr
 
 -- ---- of a list
 
-all_members : (s : State) (o : ℕ) (list : List ℕ) → ((n : ℕ) → 0 < times list n → parent_of s.trees n ≡ Some o) → members s o list ≡ list
+pub all_members : (s : State) (o : ℕ) (list : List ℕ) → ((n : ℕ) → 0 < times list n → parent_of s.trees n ≡ Some o) → members s o list ≡ list
 unfolding members
 all_members s o [] owned = refl
 all_members s o (x ∷ list) owned =
@@ -185,7 +185,7 @@ split_keeps front (a ∷ l) rest o s is kids =
     rw (final-look, up, all_members s o (a ∷ l) owned, z.1) (at_keeps o a z.0 front l rest s is kids)
 
 -- a list with a member in it
-parted : (list : List ℕ) (n : ℕ) → 0 < times list n → (front : List ℕ) × (rest : List ℕ) × (list ≡ front ++ n ∷ rest)
+pub parted : (list : List ℕ) (n : ℕ) → 0 < times list n → (front : List ℕ) × (rest : List ℕ) × (list ≡ front ++ n ∷ rest)
 parted [] n h = absurd (omega (arith, h))
 parted (x ∷ list) n h = elim (cases_Bool (eqb x n)) [
   | inl t ↦ ([], list, ap (λ k. k ∷ list) (eqb-true x n t))
