@@ -39,16 +39,12 @@ indentation_hr : (list : List Attribute) → is_simple_indentation_content (Elem
 unfolding is_simple_indentation_content is_indentation_content is_named
 indentation_hr list = refl
 
-by_modifiable : (name : List ℕ) (list : List Attribute) → is_thing name ≡ true → is_simple_modifiable_content (Element name list) ≡ false
-by_modifiable name list t = elim (cases_Bool (bytes_eq name (codes "img"))) [
-  | inl e ↦ subst (λ n. is_simple_modifiable_content (Element n list) ≡ false) (sym (same-name name (codes "img") e)) (modifiable_img list)
-  | inr e ↦ (let t' = rw e at t in subst (λ n. is_simple_modifiable_content (Element n list) ≡ false) (sym (same-name name (codes "hr") t')) (modifiable_hr list))
-]
-
-by_indentation : (name : List ℕ) (list : List Attribute) → is_thing name ≡ true → is_simple_indentation_content (Element name list) ≡ false
-by_indentation name list t = elim (cases_Bool (bytes_eq name (codes "img"))) [
-  | inl e ↦ subst (λ n. is_simple_indentation_content (Element n list) ≡ false) (sym (same-name name (codes "img") e)) (indentation_img list)
-  | inr e ↦ (let t' = rw e at t in subst (λ n. is_simple_indentation_content (Element n list) ≡ false) (sym (same-name name (codes "hr") t')) (indentation_hr list))
+-- what the two elements fail, each of the name of one fails
+thing_fails : (test : Content → Bool) → ((list : List Attribute) → test (Element (codes "img") list) ≡ false) → ((list : List Attribute) → test (Element (codes "hr") list) ≡ false)
+    → (name : List ℕ) (list : List Attribute) → is_thing name ≡ true → test (Element name list) ≡ false
+thing_fails test img hr name list t = elim (cases_Bool (bytes_eq name (codes "img"))) [
+  | inl e ↦ subst (λ n. test (Element n list) ≡ false) (sym (same-name name (codes "img") e)) (img list)
+  | inr e ↦ (let t' = rw e at t in subst (λ n. test (Element n list) ≡ false) (sym (same-name name (codes "hr") t')) (hr list))
 ]
 
 -- ---- what meets one
@@ -90,7 +86,7 @@ pub meets_bare : (c : Criterion) (s : State) (l : ℕ) → NamesNoThing c → me
 unfolding meets meets_value is_simple_modifiable is_simple_indentation is_aligned
 meets_bare Never s l plain h = absurd (true≢false (sym h))
 meets_bare (SameValue command value) s l plain h =
-    tested_bare s l is_simple_modifiable_content by_modifiable modifiable_text (first_part (option_map_or is_simple_modifiable_content (content_of s.trees l) false) _ (first_part _ _ h))
+    tested_bare s l is_simple_modifiable_content (thing_fails is_simple_modifiable_content modifiable_img modifiable_hr) modifiable_text (first_part (option_map_or is_simple_modifiable_content (content_of s.trees l) false) _ (first_part _ _ h))
 meets_bare (Named name bare) s l plain h = named_bare s l name plain (first_part (has_name s.trees l name) _ h)
-meets_bare SimpleIndentation s l plain h = tested_bare s l is_simple_indentation_content by_indentation indentation_text h
+meets_bare SimpleIndentation s l plain h = tested_bare s l is_simple_indentation_content (thing_fails is_simple_indentation_content indentation_img indentation_hr) indentation_text h
 meets_bare (Aligned alignment) s l plain h = named_bare s l (codes "div") refl (first_part (has_name s.trees l (codes "div")) _ h)
