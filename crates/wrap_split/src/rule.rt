@@ -1,5 +1,8 @@
 //! Rules for wrapping: closures beside the data that they answer.
 
+ghost use Rattle.std.specs.Prelude.{◌≡◌};
+ghost use Rattle.wrap_split.specs.Target.{MayBeAsked, Tells, Makes};
+
 use dom_model::{Attributes, Chars, Name};
 use edit_doc::{Doc, NodeRef};
 use html_names::Command;
@@ -41,4 +44,25 @@ pub struct WrapRule<C: Fn(&Doc, NodeRef) -> bool, M: Fn() -> Result<Option<Blank
     pub make: M,
     pub criterion: Criterion,
     pub recipe: Recipe,
+}
+
+impl<C: Fn(&Doc, NodeRef) -> bool, M: Fn() -> Result<Option<Blank>, AllocError>> WrapRule<C, M> {
+    /// A rule of this data, whose closures give its answers.
+    pub fn new(criterion: Criterion, recipe: Recipe, meets: C, make: M) -> WrapRule<C, M>
+        requires may_be_asked { MayBeAsked (C.pre meets) (λ d. d.now) }
+        requires tells { Tells (C.post meets) (λ d. d.now) criterion }
+        requires makes_always { M.IsAlwaysCallable make }
+        requires makes { Makes (M.post make) recipe }
+        ensures criterion { result.criterion ≡ criterion }
+        ensures recipe { result.recipe ≡ recipe }
+        ensures meets { result.meets ≡ meets }
+        ensures make { result.make ≡ make }
+    {
+        WrapRule {
+            meets,
+            make,
+            criterion,
+            recipe,
+        }
+    }
 }

@@ -59,12 +59,12 @@ pub(super) fn wraps(alloc: Global, doc: &mut Doc, labels: (u32, u32)) -> Result<
 {
     let blank = blank_div(alloc)?;
     let list = listed(alloc, doc, labels)?;
-    let rule = WrapRule {
-        meets: |_doc: &Doc, _node: NodeRef| false,
-        make: || Ok(Some(blank_div(alloc)?)),
-        criterion: Criterion::Never,
-        recipe: Recipe::Make { blank },
-    };
+    let rule = WrapRule::new(
+        Criterion::Never,
+        Recipe::Make { blank },
+        |_doc: &Doc, _node: NodeRef| false,
+        || Ok(Some(blank_div(alloc)?)),
+    );
     Ok(wrap(alloc, doc, list, &rule).is_ok())
 }
 
@@ -143,12 +143,12 @@ pub(super) fn joins(alloc: Global, doc: &mut Doc, labels: (u32, u32)) -> Result<
     requires { IsOpen doc.old }
 {
     let list = listed(alloc, doc, labels)?;
-    let rule = WrapRule {
-        meets: |doc: &Doc, node: NodeRef| is_simple_indentation(doc, node),
-        make: || Ok(None),
-        criterion: Criterion::SimpleIndentation,
-        recipe: Recipe::Nothing,
-    };
+    let rule = WrapRule::new(
+        Criterion::SimpleIndentation,
+        Recipe::Nothing,
+        |doc: &Doc, node: NodeRef| is_simple_indentation(doc, node),
+        || Ok(None),
+    );
     Ok(wrap(alloc, doc, list, &rule).is_ok())
 }
 
