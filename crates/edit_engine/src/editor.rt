@@ -288,4 +288,13 @@ impl Editor {
             },
         }
     }
+
+    /// The document. No command is running, so its call `kept_nodes` says which nodes are held.
+    pub fn document(&self) -> &Doc
+        ensures closed { IsClosed result.now }
+        ensures state { result.now.state ≡ self.now.state }
+        ensures history { result.now.history ≡ self.now.history }
+    {
+        &self.doc
+    }
 }
