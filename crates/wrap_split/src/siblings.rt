@@ -94,7 +94,7 @@ fn count_before(list: &[NodeRef], node: NodeRef) -> usize
     count
 }
 
-// Whether // The members before the given one.
+// The members before the given one.
 pub(crate) fn front_of(list: &[NodeRef], node: NodeRef) -> &[NodeRef]
     ensures front { labels_of result.now ≡ until node.label (labels_of list.now) }
     ensures held { (d : Whole) → EachHeld d list.now → EachHeld d result.now }
