@@ -3,8 +3,8 @@
 # Usage: bench/session.sh [PROGRAM]   (valgrind is needed; PROGRAM is crates/hedit/out/hedit unless given)
 # A figure is the difference of two sessions over one page of which the second has the acts twice as often, so that reading
 # the page and beginning the session are no part of it. It ends with status 1 where an aim is missed.
-# PROBE=1 asks for the act probe on every node of a page too. RANGES=1 clears the links of wide selections too: each link
-# is compared with both ends among its siblings, which can cost more than the links.
+# RANGES=1 clears the links of wide selections too: each link is compared with both ends among its siblings, which can cost
+# more than the links.
 set -euo pipefail
 cd "$(dirname "$0")/.."
 program=$(realpath "${1:-crates/hedit/out/hedit}")
@@ -161,11 +161,9 @@ probing() { # SECTIONS
   echo $((all - none))
 }
 
-if [ "${PROBE:-0}" = 1 ]; then
-  few=$(probing 15)
-  many=$(probing 60)
-  echo "probe on each node: $few instructions on 75,766 nodes, $many on 303,061"
-  told "growth at four times the size" "$(ratio "$many" "$few")" 4.5
-fi
+few=$(probing 15)
+many=$(probing 60)
+echo "probe on each node: $few instructions on 75,766 nodes, $many on 303,061"
+told "growth at four times the size" "$(ratio "$many" "$few")" 4.5
 
 exit "$missed"
