@@ -107,6 +107,7 @@ impl Doc {
         }
     }
 
+    /// The parent of a node; the Document and the root of a loose tree have none.
     pub fn parent(&self, node: NodeRef) -> Option<NodeRef>
         requires { Holds self.now node }
         ensures { Finds self.now result (parent_of self.now.state.trees node.label) }
@@ -115,6 +116,7 @@ impl Doc {
         self.arena.parent(node)
     }
 
+    /// The first child of a node.
     pub fn first_child(&self, node: NodeRef) -> Option<NodeRef>
         requires { Holds self.now node }
         ensures { Finds self.now result (first_of self.now.state.trees node.label) }
@@ -123,6 +125,7 @@ impl Doc {
         self.arena.first_child(node)
     }
 
+    /// The last child of a node.
     pub fn last_child(&self, node: NodeRef) -> Option<NodeRef>
         requires { Holds self.now node }
         ensures { Finds self.now result (last_of self.now.state.trees node.label) }
@@ -131,6 +134,7 @@ impl Doc {
         self.arena.last_child(node)
     }
 
+    /// The sibling just before a node.
     pub fn prev(&self, node: NodeRef) -> Option<NodeRef>
         requires { Holds self.now node }
         ensures { Finds self.now result (prev_of self.now.state.trees node.label) }
@@ -139,6 +143,7 @@ impl Doc {
         self.arena.prev(node)
     }
 
+    /// The sibling just after a node.
     pub fn next(&self, node: NodeRef) -> Option<NodeRef>
         requires { Holds self.now node }
         ensures { Finds self.now result (next_of self.now.state.trees node.label) }

@@ -109,18 +109,21 @@ impl Doc {
         &self.overrides[place_of(command)]
     }
 
+    /// Sets the override of a command.
     pub fn set_setting(&mut self, command: Command, setting: Setting)
         ensures { self.new ≡ with_state self.old (acted (Override command setting) self.old.state) }
     {
         self.overrides[place_of(command)] = setting;
     }
 
+    /// The CSS styling flag, and the default single-line container name.
     pub fn flags(&self) -> Flags
         ensures { result ≡ self.now.state.flags }
     {
         self.flags
     }
 
+    /// Sets both.
     pub fn set_flags(&mut self, flags: Flags)
         ensures { self.new ≡ with_state self.old (acted (Flag flags) self.old.state) }
     {

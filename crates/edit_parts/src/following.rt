@@ -80,6 +80,7 @@ pub fn removal_of(arena: &Arena, points: &Points, node: NodeRef, parent: NodeRef
 }
 
 impl Removal {
+    /// The points follow the removal.
     pub fn adjust(&self, points: &mut Points)
         requires { self.now.count ≤ 36 }
         ensures { (f : Forest Content) (n p : ℕ) → IsRemoval f points.old n p self.now → points.new ≡ mapped (Removed (preorder (tree_of f n)) p (index_of f n)) points.old }

@@ -109,12 +109,14 @@ impl Points {
         self.names.lawful();
     }
 
+    /// The anchor and the focus of the selection, if there is one.
     pub fn selection(&self) -> Option<Pair>
         ensures { result ≡ self.now.selection }
     {
         self.places.selection
     }
 
+    /// Sets the anchor and the focus of the selection, or takes the selection out.
     pub fn set_selection(&mut self, pair: Option<Pair>)
         ensures { self.new ≡ record self.old { selection = pair } }
     {
@@ -122,12 +124,14 @@ impl Points {
         list_pair(&mut self.nodes, &self.places, 0, was);
     }
 
+    /// The pair of points that a command keeps for itself while it edits, if it has set one.
     pub fn scratch(&self) -> Option<Pair>
         ensures { result ≡ self.now.scratch }
     {
         self.places.scratch
     }
 
+    /// Sets that pair of points.
     pub fn set_scratch(&mut self, pair: Pair)
         ensures { self.new ≡ record self.old { scratch = Some pair } }
     {
