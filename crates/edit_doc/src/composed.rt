@@ -6,7 +6,8 @@ ghost use Rattle.dom_model.specs.Forest.{children_of, parent_of};
 ghost use Rattle.dom_model.specs.Places.{index_of};
 ghost use Rattle.edit_model.specs.Gives.{Gives, GivesNode, labels_of};
 ghost use Rattle.edit_model.specs.Run.{final};
-ghost use Rattle.edit_model.specs.Compositions.{characters_of, points_sent, split_under, split_words, move_each_last, renamed, set_tag_name};
+ghost use Rattle.edit_model.specs.Compositions.{characters_of, points_sent, split_under, split_words, renamed, set_tag_name};
+ghost use Rattle.edit_model.specs.Moves.{move_each_last};
 ghost use Rattle.edit_doc.specs.Whole.{IsOpen, with_state};
 ghost use Rattle.edit_doc.specs.Held.{Holds, EachHeld, Keeps};
 
@@ -129,7 +130,7 @@ impl Doc {
     }
 
     // Moves each node in order to the end of another one.
-    #[tactic(auto, using(edit_model::proofs::Steps::eachs, edit_model::proofs::Steps::exits), unfolding(edit_model::specs::Compositions::move_each_last))]
+    #[tactic(auto, using(edit_model::proofs::Steps::eachs, edit_model::proofs::Steps::exits), unfolding(edit_model::specs::Moves::move_each_last))]
     fn move_each_last(&mut self, list: &[NodeRef], to: NodeRef) -> Result<(), EditFault>
         requires open { IsOpen self.old }
         requires list_held { EachHeld self.old list.now }

@@ -10,7 +10,8 @@ use Rattle.dom_model.specs.Forest.{Seen, seek, times, parent_of, children_of, de
 use Rattle.dom_model.proofs.Links.{found_stands, parent_of_child}
 use Rattle.edit_model.specs.State.{State}
 use Rattle.edit_model.specs.Edit.{Edit, Insert, Remove, Move, Unset}
-use Rattle.edit_model.specs.Compositions.{move_last, move_each_last, attribute_list_of, renamed, set_tag_name}
+use Rattle.edit_model.specs.Compositions.{attribute_list_of, renamed, set_tag_name}
+use Rattle.edit_model.specs.Moves.{move_last, move_each_last}
 use Rattle.edit_model.specs.Confined.{is_editable_for, has_name}
 use Rattle.edit_model.specs.History.{begun, rested}
 use Rattle.edit_model.specs.Lawful.{IsLawful}

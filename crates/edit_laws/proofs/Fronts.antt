@@ -17,13 +17,12 @@ use Rattle.edit_model.specs.Edit.{Move, edited}
 use Rattle.edit_model.specs.History.{document_of}
 use Rattle.edit_model.specs.Lawful.{IsLawful}
 use Rattle.edit_model.specs.Run.{Run, final, for_each, ◌>>◌}
-use Rattle.edit_model.specs.Compositions.{move_last, move_each_last}
 use Rattle.edit_model.proofs.CommandParts.{final_command}
 use Rattle.edit_model.proofs.Documents.{within_below}
 use Rattle.edit_model.proofs.Steps.{final-bind}
 use Rattle.edit_model.proofs.Tests.{goes}
 use Rattle.edit_laws.specs.Order.{KeepsOrder, IsKeeping}
-use Rattle.edit_laws.specs.Moves.{move_before, move_all_before}
+use Rattle.edit_model.specs.Moves.{move_before, move_all_before, move_last, move_each_last}
 use Rattle.edit_laws.specs.MoveLaws.{IsBare}
 use Rattle.edit_laws.proofs.Subsequences.{keeps_refl, keeps_trans}
 use Rattle.edit_laws.proofs.QuietActions.{keeping_final, same_document}

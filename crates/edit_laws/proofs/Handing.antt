@@ -16,7 +16,7 @@ use Rattle.edit_model.specs.Edit.{Move, edited}
 use Rattle.edit_model.specs.History.{document_of}
 use Rattle.edit_model.specs.Lawful.{IsLawful}
 use Rattle.edit_model.specs.Run.{final, for_each}
-use Rattle.edit_model.specs.Compositions.{move_last}
+use Rattle.edit_model.specs.Moves.{move_last}
 use Rattle.edit_model.proofs.Resting.{seek_document}
 use Rattle.edit_model.proofs.Steps.{final-bind, final-answer, final-edit, for_each-cons, for_each-nil}
 use Rattle.edit_laws.specs.Order.{IsKeeping}

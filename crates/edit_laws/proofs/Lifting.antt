@@ -17,7 +17,7 @@ use Rattle.edit_model.specs.Run.{final, for_each}
 use Rattle.edit_model.proofs.Steps.{final-bind, final-answer, final-look, final-edit, for_each-cons, for_each-nil}
 use Rattle.edit_model.proofs.Giving.{edited-left}
 use Rattle.edit_laws.specs.Order.{KeepsOrder, IsKeeping}
-use Rattle.edit_laws.specs.Moves.{move_before}
+use Rattle.edit_model.specs.Moves.{move_before}
 use Rattle.edit_laws.proofs.Subsequences.{keeps_refl, keeps_trans}
 use Rattle.edit_laws.proofs.QuietActions.{keeping_edited}
 use Rattle.edit_laws.proofs.Around.{Spot, spot_distinct, spot_as, spot_tree, spot_without, spot_put_top, self_one, fill, count-fill}

@@ -10,13 +10,12 @@ use Rattle.edit_model.specs.Edit.{Move, is_made_edit, edited}
 use Rattle.edit_model.specs.History.{document_of}
 use Rattle.edit_model.specs.Lawful.{IsLawful}
 use Rattle.edit_model.specs.Run.{Run, final, for_each}
-use Rattle.edit_model.specs.Compositions.{move_last}
 use Rattle.edit_model.proofs.Documents.{within_above, within_below}
 use Rattle.edit_model.proofs.IslandRuns.{trees_made, trees_left}
 use Rattle.edit_model.proofs.Steps.{final-bind, final-answer, final-look, for_each-cons, for_each-nil}
 use Rattle.edit_model.proofs.Tests.{goes}
 use Rattle.edit_laws.specs.Order.{IsKeeping}
-use Rattle.edit_laws.specs.Moves.{move_before, move_after, move_first}
+use Rattle.edit_model.specs.Moves.{move_before, move_after, move_first, move_last}
 use Rattle.edit_laws.proofs.QuietActions.{keeping_final}
 use Rattle.edit_laws.proofs.Slides.{document_moved}
 use Rattle.edit_laws.proofs.Lifting.{final_move_before}

@@ -13,10 +13,9 @@ use Rattle.edit_model.specs.Kept.{borne_by, leaves}
 use Rattle.edit_model.specs.History.{document_of}
 use Rattle.edit_model.specs.Lawful.{IsLawful}
 use Rattle.edit_model.specs.Run.{final, for_each}
-use Rattle.edit_model.specs.Compositions.{move_last, move_each_last}
 use Rattle.edit_model.proofs.Trees.{tree_of-inside}
 use Rattle.edit_laws.specs.Order.{KeepsOrder, IsKeeping}
-use Rattle.edit_laws.specs.Moves.{move_before, move_after, move_first, move_all_before, move_all_after, move_all_first}
+use Rattle.edit_model.specs.Moves.{move_before, move_after, move_first, move_all_before, move_all_after, move_all_first, move_last, move_each_last}
 use Rattle.edit_laws.specs.MoveLaws.{IsBare}
 use Rattle.edit_laws.proofs.Subsequences.{keeps_refl}
 use Rattle.edit_laws.proofs.Leaves.{leaves-Nil, leaves-Tree}

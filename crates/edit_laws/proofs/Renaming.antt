@@ -17,7 +17,8 @@ use Rattle.edit_model.specs.Edit.{Insert, is_made_edit, trees_after, edited}
 use Rattle.edit_model.specs.Action.{MakeElement, made, acted}
 use Rattle.edit_model.specs.History.{document_of}
 use Rattle.edit_model.specs.Run.{here, onward, final, ◌>>=◌, answer, given, remove}
-use Rattle.edit_model.specs.Compositions.{attribute_list_of, move_each_last, renamed, set_tag_name}
+use Rattle.edit_model.specs.Compositions.{attribute_list_of, renamed, set_tag_name}
+use Rattle.edit_model.specs.Moves.{move_each_last}
 use Rattle.edit_model.proofs.Documents.{document-with_leaf}
 use Rattle.edit_model.proofs.Forests.{fresh}
 use Rattle.edit_model.proofs.IslandRuns.{trees_made, trees_left}

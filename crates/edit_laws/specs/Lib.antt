@@ -1,6 +1,5 @@
 pub mod Order
 pub mod Tame
-pub mod Moves
 pub mod Laws
 pub mod MoveLaws
 pub mod CompositionLaws

@@ -5,11 +5,10 @@ use Rattle.dom_model.specs.Contents.{is_parent_at}
 use Rattle.dom_model.specs.Forest.{IsWithin, parent_of, children_of, next_of, content_of, tree_of}
 use Rattle.edit_model.specs.State.{State}
 use Rattle.edit_model.specs.Kept.{borne_by, leaves}
-use Rattle.edit_model.specs.Compositions.{move_each_last}
 use Rattle.edit_model.specs.Confined.{is_made, is_open}
 use Rattle.edit_model.specs.Run.{final, ◌>>◌}
 use Rattle.edit_laws.specs.Order.{KeepsOrder, IsKeeping}
-use Rattle.edit_laws.specs.Moves.{move_before, move_all_before, move_all_after, move_all_first}
+use Rattle.edit_model.specs.Moves.{move_before, move_all_before, move_all_after, move_all_first, move_each_last}
 
 -- a node bears nothing itself: it is no image, no rule and no text with characters
 abbrev pub IsBare : State → ℕ → Type 0

@@ -8,7 +8,8 @@ use Rattle.edit_model.specs.Action.{Action, Send, Grow}
 use Rattle.edit_model.specs.Run.{◌>>=◌, ◌>>◌, answer, done, insert, remove, make_element, send, grow}
 use Rattle.edit_model.specs.Lawful.{IsLawful}
 use Rattle.edit_model.specs.Laws.{LeavesStates}
-use Rattle.edit_model.specs.Compositions.{attribute_list_of, points_sent, split_under, split_words, move_each_last, renamed, set_tag_name}
+use Rattle.edit_model.specs.Compositions.{attribute_list_of, points_sent, split_under, split_words, renamed, set_tag_name}
+use Rattle.edit_model.specs.Moves.{move_each_last}
 use Rattle.edit_model.proofs.Each.{Each, each_bind, each_answer, each_look, each_if, each_choice, each_given, each_for_each, each_edit, each_make_element, each_make_words, each_perform, copy_stateless}
 
 abbrev pub Leaving : Action → State → Type 0

@@ -7,7 +7,8 @@ use Rattle.dom_model.specs.Places.{index_of}
 use Rattle.dom_model.specs.declared.Content.{Content}
 use Rattle.edit_model.specs.State.{State}
 use Rattle.edit_model.specs.Confined.{is_editable_for, has_name}
-use Rattle.edit_model.specs.Run.{Run, ◌>>=◌, ◌>>◌, answer, done, look, given, for_each, insert, remove, move, replace, make_element, make_words, send, grow}
+use Rattle.edit_model.specs.Run.{Run, ◌>>=◌, ◌>>◌, answer, done, look, given, insert, remove, replace, make_element, make_words, send, grow}
+use Rattle.edit_model.specs.Moves.{move_each_last}
 
 abbrev pub characters_of : Forest Content → ℕ → List ℕ
 characters_of f n = unwrap_or (chars_of f n) []
@@ -38,13 +39,6 @@ unfoldable pub split_words : ℕ → ℕ → Run ℕ
 split_words n at = look λ s. given (parent_of s.trees n) (answer n) λ p. split_under p s n at
 
 -- ---- setting the tag name of e (HTML Editing APIs)
-
-abbrev pub move_last : ℕ → ℕ → Run (Unit {0})
-move_last p n = move n p None >> done
-
--- each node in order goes to the end of p
-unfoldable pub move_each_last : List ℕ → ℕ → Run (Unit {0})
-move_each_last ns p = for_each ns (move_last p)
 
 unfoldable pub renamed : ℕ → State → ℕ → List ℕ → Run ℕ
 renamed p s e name = do

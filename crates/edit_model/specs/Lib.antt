@@ -6,6 +6,7 @@ pub mod Edit
 pub mod Action
 pub mod Run
 pub mod Gives
+pub mod Moves
 pub mod Compositions
 pub mod History
 pub mod Codes

@@ -20,7 +20,8 @@ use Rattle.edit_model.specs.Confined.{is_made, is_open, may_insert, may_unset}
 use Rattle.edit_model.specs.Edit.{Insert, Unset, is_made_edit, trees_after, with_unset, edited}
 use Rattle.edit_model.specs.Action as action
 use Rattle.edit_model.specs.Action.{made, acted}
-use Rattle.edit_model.specs.Compositions.{tag_of, attribute_list_of, move_each_last}
+use Rattle.edit_model.specs.Compositions.{tag_of, attribute_list_of}
+use Rattle.edit_model.specs.Moves.{move_each_last, move_before, move_all_before}
 use Rattle.edit_model.specs.Run.{final, ◌>>◌}
 use Rattle.edit_model.proofs.CommandParts.{command_acted}
 use Rattle.edit_model.proofs.Giving.{edited-left}
@@ -29,7 +30,6 @@ use Rattle.edit_model.proofs.Steps.{final-bind, final-answer, final-look, final-
 use Rattle.edit_model.proofs.Tests.{inserts}
 use Rattle.edit_model.proofs.Trees.{tree_of-revised_other}
 use Rattle.edit_laws.specs.Order.{KeepsOrder, IsKeeping}
-use Rattle.edit_laws.specs.Moves as loops
 use Rattle.edit_laws.specs.MoveLaws.{IsBare}
 use Rattle.edit_laws.proofs.Subsequences.{keeps_trans}
 use Rattle.edit_laws.proofs.QuietActions.{keeping_edited, quiet_keeps, bare_insert_keeps}
@@ -40,17 +40,7 @@ use Rattle.edit_model.proofs.Documents.{document-revised}
 use Rattle.edit_laws.proofs.Slides.{parent_other}
 use Rattle.edit_laws.proofs.Fronts.{part, part_shut}
 use Rattle.wrap_split.specs.Siblings.{until}
-use Rattle.wrap_split.specs.Split.{insert_before, move_before, move_all_before, copied}
-
--- ---- loops of the same name
-
-same_before : (o n : ℕ) → move_before o n ≡ loops.move_before o n
-unfolding move_before loops.move_before
-same_before o n = refl
-
-pub same_all_before : (list : List ℕ) (o : ℕ) → move_all_before list o ≡ loops.move_all_before list o
-unfolding move_all_before loops.move_all_before move_before loops.move_before
-same_all_before list o = refl
+use Rattle.wrap_split.specs.Split.{insert_before, copied}
 
 -- ---- a name that bears nothing
 
@@ -303,7 +293,7 @@ module _ (s : State) (is : IsKeeping s) (o q : ℕ) (up : parent_of s.trees o �
       ∙ le-leb s.start s.next is.lawful.started
 
   module _ (front list rest : List ℕ) (kids : children_of s.trees o ≡ front ++ (list ++ rest)) where
-    where_made : may_insert s2 q (Some o) x ≡ true → KeepsOrder s3 (final (move_each_last front x >> loops.move_all_before list o) s3)
+    where_made : may_insert s2 q (Some o) x ≡ true → KeepsOrder s3 (final (move_each_last front x >> move_all_before list o) s3)
     unfolding s3 is_made_edit trees_after
     where_made = λ may. (
         let now : s3.trees ≡ link s2.trees q (Some o) x = trees_made (Insert q (Some o) x) s2 may in
@@ -317,17 +307,17 @@ module _ (s : State) (is : IsKeeping s) (o q : ℕ) (up : parent_of s.trees o �
         let kind : is_parent_at s3.trees x ≡ true = ap (λ (k : Option Content). option_map_or may_have_children k false) (ap (λ f. content_of f x) now ∙ (content_of-link s2.trees q (Some o) x x once can ∙ content2)) ∙ element_may in
         part s3 is3 front list rest o x next made3 kind below (λ d h. bare2 d (sym content ∙ h)))
 
-    where_left : is_open s2 q ≡ false → KeepsOrder s3 (final (move_each_last front x >> loops.move_all_before list o) s3)
+    where_left : is_open s2 q ≡ false → KeepsOrder s3 (final (move_each_last front x >> move_all_before list o) s3)
     unfolding s3 is_made_edit
     where_left = λ shut. (
         let off : may_insert s2 q (Some o) x ≡ false = not_put shut in
         let stays : s3 ≡ s2 = edited-left (Insert q (Some o) x) s2 off in
-        subst (λ t. KeepsOrder t (final (move_each_last front x >> loops.move_all_before list o) t)) (sym stays)
+        subst (λ t. KeepsOrder t (final (move_each_last front x >> move_all_before list o) t)) (sym stays)
         (part_shut s2 is2 front list rest o x q up2 shut loose2 (children2 ∙ kids)))
 
-    copy_keeps : KeepsOrder s (final (loops.move_all_before list o) (final (move_each_last front x) s3))
+    copy_keeps : KeepsOrder s (final (move_all_before list o) (final (move_each_last front x) s3))
     copy_keeps =
-        let both = elim (cases_Bool (is_open s2 q)) as (λ _. KeepsOrder s3 (final (move_each_last front x >> loops.move_all_before list o) s3)) [
+        let both = elim (cases_Bool (is_open s2 q)) as (λ _. KeepsOrder s3 (final (move_each_last front x >> move_all_before list o) s3)) [
           | inl opened ↦ where_made (may_put opened)
           | inr shut ↦ where_left shut
         ] in
@@ -339,5 +329,5 @@ module _ (s : State) (is : IsKeeping s) (o q : ℕ) (up : parent_of s.trees o �
       let count = ap (λ k. times k a) kids in
       let none : times front a ≡ 0 = omega (arith, count, times-append front (a ∷ (l ++ rest)) a, self_one a, times-children_of s.trees o a is.lawful.forest.distinct) in
       let upto : until a (children_of s.trees o) ≡ front = ap (until a) kids ∙ until_front front (l ++ rest) a none in
-      rw (same_all_before (a ∷ l) o, final-look, final-bind, final-make_element, value-make_element, final-bind, final-edit, final-bind, final_insert_before o s.next q s2 up2, upto)
+      rw (final-look, final-bind, final-make_element, value-make_element, final-bind, final-edit, final-bind, final_insert_before o s.next q s2 up2, upto)
       (copy_keeps front (a ∷ l) rest kids)

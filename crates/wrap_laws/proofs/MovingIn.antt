@@ -6,10 +6,9 @@ use Rattle.dom_model.proofs.Links.{parent_count}
 use Rattle.point_order.specs.PointOrder.{is_earlier}
 use Rattle.edit_model.specs.State.{State}
 use Rattle.edit_model.specs.Run.{final, done, for_each}
-use Rattle.edit_model.specs.Compositions.{move_last, move_each_last}
+use Rattle.edit_model.specs.Moves.{move_first, move_last, move_all_first, move_each_last}
 use Rattle.edit_model.proofs.Steps.{final-bind, final-look}
 use Rattle.edit_laws.specs.Order.{KeepsOrder, IsKeeping}
-use Rattle.edit_laws.specs.Moves as loops
 use Rattle.edit_laws.specs.MoveLaws.{IsBare}
 use Rattle.edit_laws.proofs.Around.{self_one}
 use Rattle.edit_laws.proofs.Fronts.{child_by}
@@ -18,14 +17,10 @@ use Rattle.edit_laws.proofs.MoveLaws.{go_in, go_front}
 use Rattle.edit_laws.proofs.QuietActions.{same_document}
 use Rattle.edit_laws.proofs.Slides.{parent_other}
 use Rattle.edit_laws.proofs.Subsequences.{keeps_trans}
-use Rattle.wrap_split.specs.Wrap.{append_break, prepend_break, joins_end, joins_front, first_visible, last_visible, parted_end, to_end, move_front, move_all_front, parted_front, to_front, moved_in}
+use Rattle.wrap_split.specs.Wrap.{append_break, prepend_break, joins_end, joins_front, first_visible, last_visible, parted_end, to_end, parted_front, to_front, moved_in}
 use Rattle.wrap_laws.proofs.NewBreaks.{Spared, appended, prepended}
 use Rattle.wrap_laws.proofs.Sides.{before_list, after_list}
 use Rattle.wrap_laws.proofs.Widening.{first_parted}
-
-same_all_front : (list : List ℕ) (p : ℕ) → move_all_front list p ≡ loops.move_all_first list p
-unfolding move_all_front loops.move_all_first move_front loops.move_first
-same_all_front list p = refl
 
 among_first : (list : List ℕ) (a : ℕ) → first_in list ≡ Some a → 0 < times list a
 among_first list a first = let r = first_parted list a first in let k = ap (λ l. times l a) r.1 in omega (arith, k, self_one a)
@@ -38,12 +33,12 @@ end_moves s is p list moves =
     let u = appended s is p v in
     rw (final-look, final-bind, final-look) (keeps_trans u.keeps (moves (final (if v then append_break p else done) s) u))
 
-front_moves : (s : State) (is : IsKeeping s) (p : ℕ) (list : List ℕ) → ((t : State) → Spared s t p → KeepsOrder t (final (loops.move_all_first list p) t)) → KeepsOrder s (final (to_front p list) s)
+front_moves : (s : State) (is : IsKeeping s) (p : ℕ) (list : List ℕ) → ((t : State) → Spared s t p → KeepsOrder t (final (move_all_first list p) t)) → KeepsOrder s (final (to_front p list) s)
 unfolding to_front parted_front
 front_moves s is p list moves =
     let v = joins_front s p list in
     let u = prepended s is p v in
-    rw (final-bind, final-look, same_all_front list p) (keeps_trans u.keeps (moves (final (if v then prepend_break p else done) s) u))
+    rw (final-bind, final-look) (keeps_trans u.keeps (moves (final (if v then prepend_break p else done) s) u))
 
 module _ (s : State) (is : IsKeeping s) (p a o : ℕ) (front list rest : List ℕ) (first : first_in list ≡ Some a) where
   pub into_previous : children_of s.trees o ≡ front ++ p ∷ (list ++ rest) → KeepsOrder s (final (moved_in p list a) s)
@@ -66,14 +61,14 @@ module _ (s : State) (is : IsKeeping s) (p a o : ℕ) (front list rest : List �
       rw (final-look, later) (front_moves s is p list (λ t u. go_front t u.keeping front list rest p o (u.children o off ∙ kids) (λ c h. bare c (sym (u.content p here) ∙ h))))
 
 pub into_loose : (s : State) → IsKeeping s → (p a : ℕ) (list : List ℕ) → IsLoose s p → KeepsOrder s (final (moved_in p list a) s)
-unfolding moved_in move_each_last loops.move_all_first
+unfolding moved_in move_each_last move_all_first
 into_loose s is p a list none = rw final-look (by_side (is_earlier s.trees p a))
   where
     at_end : (t : State) → Spared s t p → KeepsOrder t (final (for_each list (move_last p)) t)
     at_end t u = same_document t (final (for_each list (move_last p)) t) (still_each p (move_last p) (still_last p) list t u.keeping (u.loose none))
 
-    at_front : (t : State) → Spared s t p → KeepsOrder t (final (for_each (reverse list) (loops.move_first p)) t)
-    at_front t u = same_document t (final (for_each (reverse list) (loops.move_first p)) t) (still_each p (loops.move_first p) (still_first p) (reverse list) t u.keeping (u.loose none))
+    at_front : (t : State) → Spared s t p → KeepsOrder t (final (for_each (reverse list) (move_first p)) t)
+    at_front t u = same_document t (final (for_each (reverse list) (move_first p)) t) (still_each p (move_first p) (still_first p) (reverse list) t u.keeping (u.loose none))
 
     by_side : (v : Bool) → KeepsOrder s (final (if v then to_end p list else to_front p list) s)
     by_side true = end_moves s is p list at_end

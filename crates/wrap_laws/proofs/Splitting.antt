@@ -14,10 +14,10 @@ use Rattle.edit_model.specs.State.{State}
 use Rattle.edit_model.specs.Kept.{borne_by, is_thing}
 use Rattle.edit_model.specs.Confined.{is_editable_for}
 use Rattle.edit_model.specs.Lawful.{IsLawful}
+use Rattle.edit_model.specs.Moves.{move_all_before, move_all_after}
 use Rattle.edit_model.specs.Run.{Run, final, ◌>>=◌, ◌>>◌, done, look, remove}
 use Rattle.edit_model.proofs.Steps.{final-bind, final-answer, final-look}
 use Rattle.edit_laws.specs.Order.{KeepsOrder, IsKeeping}
-use Rattle.edit_laws.specs.Moves as loops
 use Rattle.edit_laws.specs.MoveLaws.{IsBare}
 use Rattle.edit_laws.specs.Tame.{Tame}
 use Rattle.edit_laws.proofs.Subsequences.{keeps_refl, keeps_trans}
@@ -28,15 +28,11 @@ use Rattle.edit_laws.proofs.Fronts.{child_by}
 use Rattle.edit_laws.proofs.MoveLaws.{go_before, go_after}
 use Rattle.wrap_split.specs.Siblings.{first_parent, members, is_among, has, starts_in, ends_in}
 use Rattle.wrap_split.specs.Breaks.{breaks_before, breaks_at_end}
-use Rattle.wrap_split.specs.Split.{move_after, move_all_before, move_all_after, break_before, break_after, clear_before, copied, copy_front, drop_first_break, close, tidy_after, split_end, split_rest, split_marked, is_void_thing, split_at, split_members, split_parent, remove_keeping_children}
+use Rattle.wrap_split.specs.Split.{break_before, break_after, clear_before, copied, copy_front, drop_first_break, close, tidy_after, split_end, split_rest, split_marked, is_void_thing, split_at, split_members, split_parent, remove_keeping_children}
 use Rattle.wrap_laws.proofs.Breaks.{tame_breaks_before, tame_breaks_at_end}
 use Rattle.wrap_laws.proofs.SplitParts.{tame_break_before, tame_break_after, tame_drop_first_break, tame_tidy_after, tame_close}
 use Rattle.wrap_laws.proofs.Cleared.{cleared}
-use Rattle.wrap_laws.proofs.Copies.{same_all_before, copied_keeps}
-
-same_all_after : (list : List ℕ) (o : ℕ) → move_all_after list o ≡ loops.move_all_after list o
-unfolding move_all_after loops.move_all_after move_after loops.move_after
-same_all_after list o = refl
+use Rattle.wrap_laws.proofs.Copies.{copied_keeps}
 
 -- a run that is known at a state, and tame runs after it
 pub then_tame : {A B : Type 0} (m : Run A) (n : Run B) (s : State) → IsKeeping s → KeepsOrder s (final m s) → Tame n → KeepsOrder s (final (m >>= (λ _. n)) s)
@@ -95,7 +91,7 @@ module _ (s : State) (is : IsKeeping s) (o q : ℕ) (up : parent_of s.trees o �
   moved_before true e =
       let first : front ≡ [] = no_front front (a ∷ l) rest once (sym (ap (λ k. has (a ∷ l) (first_in k)) kids) ∙ e) in
       let start : children_of s.trees o ≡ (a ∷ l) ++ rest = kids ∙ ap (λ k. k ++ (a ∷ (l ++ rest))) first in
-      rw (final-answer, same_all_before (a ∷ l) o) (go_before s is (a ∷ l) rest o start bare)
+      rw final-answer (go_before s is (a ∷ l) rest o start bare)
   moved_before false e = copied_keeps s is o q up bare front l rest a kids
 
   rest_keeps : (z : ℕ) (before after : Bool) → KeepsOrder s (final (split_rest o (a ∷ l) a z before after) s)
@@ -113,7 +109,7 @@ module _ (s : State) (is : IsKeeping s) (o q : ℕ) (up : parent_of s.trees o �
       let none : rest ≡ [] = no_rest front (a ∷ l) rest once (sym (ap (λ k. has (a ∷ l) (last_in k)) kids) ∙ e) in
       let end : children_of s.trees o ≡ front ++ (a ∷ l) = kids ∙ (ap (λ k. front ++ (a ∷ (l ++ k))) none ∙ ap (λ k. front ++ (a ∷ k)) (append-nil l)) in
       then_tame (move_all_after (a ∷ l) o) (break_after wanted z >> breaks_at_end o) s is
-      (rw (same_all_after (a ∷ l) o) (go_after s is front (a ∷ l) o end)) (end_tame o z wanted)
+      (go_after s is front (a ∷ l) o end) (end_tame o z wanted)
 
   marked_keeps : (z : ℕ) → KeepsOrder s (final (split_marked o (a ∷ l) a z) s)
   unfolding split_marked

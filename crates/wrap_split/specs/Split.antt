@@ -1,6 +1,6 @@
 -- Splitting the parent of a list of siblings, and removing a node while its children stay (HTML Editing APIs, "split the
 -- parent", "remove preserving its descendants").
-use Rattle.std.specs.Prelude.{ℕ, Bool, false, ◌||◌, ◌&&◌, not, List, [], Some, if◌then◌else◌, codes, reverse, is_none}
+use Rattle.std.specs.Prelude.{ℕ, Bool, false, ◌||◌, ◌&&◌, not, List, [], Some, if◌then◌else◌, codes, is_none}
 use Rattle.std.specs.Option.{option_map_or}
 use Rattle.dom_model.specs.Contents.{name_of}
 use Rattle.dom_model.specs.Forest.{parent_of, next_of, children_of, first_of, first_in, last_in}
@@ -9,30 +9,18 @@ use Rattle.node_tests.specs.LineBreaks.{follows_break, precedes_break}
 use Rattle.edit_model.specs.State.{State}
 use Rattle.edit_model.specs.Kept.{is_thing}
 use Rattle.edit_model.specs.Confined.{is_editable_for, is_break}
-use Rattle.edit_model.specs.Compositions.{tag_of, attribute_list_of, move_each_last}
-use Rattle.edit_model.specs.Run.{Run, ◌>>=◌, ◌>>◌, done, look, given, for_each, insert, remove, move, unset_attribute, make_element}
+use Rattle.edit_model.specs.Compositions.{tag_of, attribute_list_of}
+use Rattle.edit_model.specs.Moves.{move_all_before, move_all_after, move_each_last}
+use Rattle.edit_model.specs.Run.{Run, ◌>>=◌, ◌>>◌, done, look, given, insert, remove, unset_attribute, make_element}
 use Rattle.wrap_split.specs.Siblings.{first_parent, members, until, starts_in, ends_in}
 use Rattle.wrap_split.specs.Breaks.{breaks_before, breaks_at_end}
 
--- insert x, or move n, just before or just after o
+-- insert x just before or just after o
 unfoldable pub insert_before : ℕ → ℕ → Run (Unit {0})
 insert_before o x = look λ s. given (parent_of s.trees o) done λ p. insert p (Some o) x >> done
 
 unfoldable pub insert_after : ℕ → ℕ → Run (Unit {0})
 insert_after o x = look λ s. given (parent_of s.trees o) done λ p. insert p (next_of s.trees o) x >> done
-
-unfoldable pub move_before : ℕ → ℕ → Run (Unit {0})
-move_before o n = look λ s. given (parent_of s.trees o) done λ p. move n p (Some o) >> done
-
-unfoldable pub move_after : ℕ → ℕ → Run (Unit {0})
-move_after o n = look λ s. given (parent_of s.trees o) done λ p. move n p (next_of s.trees o) >> done
-
-unfoldable pub move_all_before : List ℕ → ℕ → Run (Unit {0})
-move_all_before list o = for_each list (move_before o)
-
--- in reverse order
-unfoldable pub move_all_after : List ℕ → ℕ → Run (Unit {0})
-move_all_after list o = for_each (reverse list) (move_after o)
 
 unfoldable pub make_break : Run ℕ
 make_break = make_element (codes "br") []

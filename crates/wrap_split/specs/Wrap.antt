@@ -1,13 +1,13 @@
 -- Wrapping a list of siblings (HTML Editing APIs, "wrap").
-use Rattle.std.specs.Prelude.{ℕ, zero, suc, Bool, true, false, ◌&&◌, not, List, [], ◌∷◌, ◌++◌, Option, Some, None, if◌then◌else◌, reverse, is_none}
+use Rattle.std.specs.Prelude.{ℕ, zero, suc, Bool, true, false, ◌&&◌, not, List, [], ◌∷◌, ◌++◌, Option, Some, None, if◌then◌else◌, is_none}
 use Rattle.dom_model.specs.Forest.{either, parent_of, prev_of, next_of, children_of, first_of, last_of, first_in, last_in}
 use Rattle.dom_model.specs.Places.{index_of}
 use Rattle.node_styles.specs.Blocks.{is_block}
 use Rattle.point_order.specs.PointOrder.{is_earlier}
 use Rattle.edit_model.specs.State.{State}
 use Rattle.edit_model.specs.Confined.{is_editable_for, is_break}
-use Rattle.edit_model.specs.Compositions.{move_each_last}
-use Rattle.edit_model.specs.Run.{Run, ◌>>=◌, ◌>>◌, answer, done, look, given, for_each, insert, remove, move, grow}
+use Rattle.edit_model.specs.Moves.{move_all_first, move_each_last}
+use Rattle.edit_model.specs.Run.{Run, ◌>>=◌, ◌>>◌, answer, done, look, given, insert, remove, grow}
 use Rattle.wrap_split.specs.declared.rule.Criterion.{Criterion}
 use Rattle.wrap_split.specs.declared.rule.Recipe.{Recipe}
 use Rattle.wrap_split.specs.Walks.{turn_bound, is_invisible}
@@ -106,18 +106,11 @@ parted_end p before after = look λ s. if joins_end s p before after then append
 unfoldable pub to_end : ℕ → List ℕ → Run (Unit {0})
 to_end p list = look λ s. parted_end p (last_visible s (children_of s.trees p)) (first_visible s list) >> move_each_last list p
 
-unfoldable pub move_front : ℕ → ℕ → Run (Unit {0})
-move_front p n = look λ s. move n p (first_of s.trees p) >> done
-
--- in reverse order
-unfoldable pub move_all_front : List ℕ → ℕ → Run (Unit {0})
-move_all_front list p = for_each (reverse list) (move_front p)
-
 unfoldable pub parted_front : ℕ → List ℕ → Run (Unit {0})
 parted_front p list = look λ s. if joins_front s p list then prepend_break p else done
 
 unfoldable pub to_front : ℕ → List ℕ → Run (Unit {0})
-to_front p list = parted_front p list >> move_all_front list p
+to_front p list = parted_front p list >> move_all_first list p
 
 -- a is the first member
 unfoldable pub moved_in : ℕ → List ℕ → ℕ → Run (Unit {0})

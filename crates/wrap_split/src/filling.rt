@@ -6,10 +6,10 @@ ghost use Rattle.edit_model.specs.Run.{final};
 ghost use Rattle.point_order.specs.PointOrder.{is_earlier};
 ghost use Rattle.edit_doc.specs.Whole.{IsOpen, with_state};
 ghost use Rattle.edit_doc.specs.Held.{Holds, IfHeld, EachHeld, Keeps};
-ghost use Rattle.wrap_split.specs.Wrap.{is_inline, is_other, append_break, prepend_break, joins_end, joins_front, parted_end, to_end, move_front, move_all_front, parted_front, to_front, moved_in, grow_at, stood, drop_parent, move_children, merged};
+ghost use Rattle.wrap_split.specs.Wrap.{is_inline, is_other, append_break, prepend_break, joins_end, joins_front, parted_end, to_end, parted_front, to_front, moved_in, grow_at, stood, drop_parent, move_children, merged};
 
 use crate::listing::{first_visible, last_visible};
-use crate::moves::{insert_before, make_break, move_each_last};
+use crate::moves::{insert_before, make_break, move_all_first, move_each_last};
 use crate::nodes::{is_break, is_editable_for};
 use crate::siblings::children_of;
 use crate::walks::is_it;
@@ -152,36 +152,6 @@ fn move_to_end(
     move_each_last(doc, list, node)
 }
 
-#[tactic(auto, using(edit_model::proofs::Steps::steps, edit_model::proofs::Steps::exits), unfolding(crate::specs::Wrap::move_front))]
-fn move_front(doc: &mut Doc, parent: NodeRef, node: NodeRef) -> Result<(), EditFault>
-    requires open { IsOpen doc.old }
-    requires parent_held { Holds doc.old parent }
-    requires node_held { Holds doc.old node }
-    ensures gives { Gives result doc.old.state doc.new.state (move_front parent.label node.label) }
-    ensures keeps { Keeps doc.old doc.new }
-{
-    let first = doc.first_child(parent);
-    doc.move_keeping(node, parent, first)?;
-    Ok(())
-}
-
-// Moves each node, the last one first, to the front of another one.
-#[tactic(auto, using(edit_model::proofs::Steps::backs, edit_model::proofs::Steps::exits), unfolding(crate::specs::Wrap::move_all_front))]
-fn move_all_front(doc: &mut Doc, list: &[NodeRef], parent: NodeRef) -> Result<(), EditFault>
-    requires open { IsOpen doc.old }
-    requires list_held { EachHeld doc.old list.now }
-    requires parent_held { Holds doc.old parent }
-    ensures gives { Gives result doc.old.state doc.new.state (move_all_front (labels_of list.now) parent.label) }
-    ensures keeps { Keeps doc.old doc.new }
-{
-    let mut left = list.len();
-    while left > 0 {
-        left -= 1;
-        move_front(doc, parent, list[left])?;
-    }
-    Ok(())
-}
-
 #[tactic(auto, using(edit_model::proofs::Steps::steps, edit_model::proofs::Steps::exits), unfolding(crate::specs::Wrap::parted_front))]
 fn part_front(
     alloc: Global,
@@ -217,7 +187,7 @@ fn move_to_front(
     ensures keeps { Keeps doc.old doc.new }
 {
     part_front(alloc, doc, node, list)?;
-    move_all_front(doc, list, node)
+    move_all_first(doc, list, node)
 }
 
 #[tactic(auto, using(edit_model::proofs::Steps::steps, edit_model::proofs::Steps::exits), unfolding(crate::specs::Wrap::moved_in))]

@@ -1,11 +1,11 @@
 //! Inserting and moving beside a node.
 
 ghost use Rattle.std.specs.Prelude.{◌≡◌, IfOk};
-ghost use Rattle.edit_model.specs.Compositions.{move_each_last};
+ghost use Rattle.edit_model.specs.Moves.{move_before, move_after, move_first, move_all_before, move_all_after, move_all_first, move_each_last};
 ghost use Rattle.edit_model.specs.Gives.{Gives, GivesNode, labels_of};
 ghost use Rattle.edit_doc.specs.Whole.{IsOpen};
 ghost use Rattle.edit_doc.specs.Held.{Holds, EachHeld, Keeps};
-ghost use Rattle.wrap_split.specs.Split.{insert_before, insert_after, move_before, move_after, move_all_before, move_all_after, make_break};
+ghost use Rattle.wrap_split.specs.Split.{insert_before, insert_after, make_break};
 
 use edit_doc::{Attributes, Doc, EditFault, Name, NodeRef};
 use std::alloc::Global;
@@ -55,7 +55,7 @@ pub(crate) fn insert_after(doc: &mut Doc, other: NodeRef, node: NodeRef) -> Resu
     Ok(())
 }
 
-#[tactic(auto, using(edit_model::proofs::Steps::steps, edit_model::proofs::Steps::exits), unfolding(crate::specs::Split::move_before))]
+#[tactic(auto, using(edit_model::proofs::Steps::steps, edit_model::proofs::Steps::exits), unfolding(edit_model::specs::Moves::move_before))]
 fn move_before(doc: &mut Doc, other: NodeRef, node: NodeRef) -> Result<(), EditFault>
     requires open { IsOpen doc.old }
     requires other_held { Holds doc.old other }
@@ -70,7 +70,7 @@ fn move_before(doc: &mut Doc, other: NodeRef, node: NodeRef) -> Result<(), EditF
     Ok(())
 }
 
-#[tactic(auto, using(edit_model::proofs::Steps::steps, edit_model::proofs::Steps::exits), unfolding(crate::specs::Split::move_after))]
+#[tactic(auto, using(edit_model::proofs::Steps::steps, edit_model::proofs::Steps::exits), unfolding(edit_model::specs::Moves::move_after))]
 fn move_after(doc: &mut Doc, other: NodeRef, node: NodeRef) -> Result<(), EditFault>
     requires open { IsOpen doc.old }
     requires other_held { Holds doc.old other }
@@ -87,7 +87,7 @@ fn move_after(doc: &mut Doc, other: NodeRef, node: NodeRef) -> Result<(), EditFa
 }
 
 // Moves each node in order to just before another one.
-#[tactic(auto, using(edit_model::proofs::Steps::eachs, edit_model::proofs::Steps::exits), unfolding(crate::specs::Split::move_all_before))]
+#[tactic(auto, using(edit_model::proofs::Steps::eachs, edit_model::proofs::Steps::exits), unfolding(edit_model::specs::Moves::move_all_before))]
 pub(crate) fn move_all_before(
     doc: &mut Doc,
     list: &[NodeRef],
@@ -106,7 +106,7 @@ pub(crate) fn move_all_before(
 }
 
 // Moves each node, the last one first, to just after another one.
-#[tactic(auto, using(edit_model::proofs::Steps::backs, edit_model::proofs::Steps::exits), unfolding(crate::specs::Split::move_all_after))]
+#[tactic(auto, using(edit_model::proofs::Steps::backs, edit_model::proofs::Steps::exits), unfolding(edit_model::specs::Moves::move_all_after))]
 pub(crate) fn move_all_after(
     doc: &mut Doc,
     list: &[NodeRef],
@@ -126,8 +126,42 @@ pub(crate) fn move_all_after(
     Ok(())
 }
 
+#[tactic(auto, using(edit_model::proofs::Steps::steps, edit_model::proofs::Steps::exits), unfolding(edit_model::specs::Moves::move_first))]
+fn move_first(doc: &mut Doc, parent: NodeRef, node: NodeRef) -> Result<(), EditFault>
+    requires open { IsOpen doc.old }
+    requires parent_held { Holds doc.old parent }
+    requires node_held { Holds doc.old node }
+    ensures gives { Gives result doc.old.state doc.new.state (move_first parent.label node.label) }
+    ensures keeps { Keeps doc.old doc.new }
+{
+    let first = doc.first_child(parent);
+    doc.move_keeping(node, parent, first)?;
+    Ok(())
+}
+
+// Moves each node, the last one first, to the front of another one.
+#[tactic(auto, using(edit_model::proofs::Steps::backs, edit_model::proofs::Steps::exits), unfolding(edit_model::specs::Moves::move_all_first))]
+pub(crate) fn move_all_first(
+    doc: &mut Doc,
+    list: &[NodeRef],
+    parent: NodeRef,
+) -> Result<(), EditFault>
+    requires open { IsOpen doc.old }
+    requires list_held { EachHeld doc.old list.now }
+    requires parent_held { Holds doc.old parent }
+    ensures gives { Gives result doc.old.state doc.new.state (move_all_first (labels_of list.now) parent.label) }
+    ensures keeps { Keeps doc.old doc.new }
+{
+    let mut left = list.len();
+    while left > 0 {
+        left -= 1;
+        move_first(doc, parent, list[left])?;
+    }
+    Ok(())
+}
+
 // Moves each node in order to the end of another one.
-#[tactic(auto, using(edit_model::proofs::Steps::eachs, edit_model::proofs::Steps::exits), unfolding(edit_model::specs::Compositions::move_each_last))]
+#[tactic(auto, using(edit_model::proofs::Steps::eachs, edit_model::proofs::Steps::exits), unfolding(edit_model::specs::Moves::move_each_last))]
 pub(crate) fn move_each_last(doc: &mut Doc, list: &[NodeRef], to: NodeRef) -> Result<(), EditFault>
     requires open { IsOpen doc.old }
     requires list_held { EachHeld doc.old list.now }

@@ -2,7 +2,7 @@ use Rattle.std.proofs.Common.{◌≡◌, ◌≤◌, length, take, reverse}
 use Rattle.edit_model.specs.Gives.{labels_of}
 use Rattle.edit_model.specs.Run.{final, for_each}
 use Rattle.edit_doc.specs.Held.{Keeps}
-use Rattle.wrap_split.specs.Split.{move_after}
+use Rattle.edit_model.specs.Moves.{move_after}
 use Rattle.wrap_split.proofs.moves.move_all_after.Given as goal
 
 -- what is left to do ends where the whole ends

@@ -2,7 +2,7 @@ use Rattle.std.proofs.Common.{◌≡◌, drop}
 use Rattle.edit_model.specs.Gives.{labels_of}
 use Rattle.edit_model.specs.Run.{final, for_each}
 use Rattle.edit_doc.specs.Held.{Keeps}
-use Rattle.wrap_split.specs.Split.{move_before}
+use Rattle.edit_model.specs.Moves.{move_before}
 use Rattle.wrap_split.proofs.moves.move_all_before.Given as goal
 
 -- what is left to do ends where the whole ends

@@ -1,7 +1,7 @@
 use Rattle.std.proofs.Common.{◌≡◌, drop}
 use Rattle.edit_model.specs.Gives.{labels_of}
 use Rattle.edit_model.specs.Run.{final}
-use Rattle.edit_model.specs.Compositions.{move_each_last}
+use Rattle.edit_model.specs.Moves.{move_each_last}
 use Rattle.edit_doc.specs.Held.{Keeps}
 use Rattle.wrap_split.proofs.moves.move_each_last.Given as goal
 

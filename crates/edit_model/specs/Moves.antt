@@ -1,5 +1,5 @@
--- Loops of moves, by name: each keeps the order where its nodes stand so that nothing is between them and where they go.
-use Rattle.std.specs.Prelude.{ℕ, List, Some, reverse}
+-- Moves by name, and loops of them: the nodes of a list come to stand in its order where they go.
+use Rattle.std.specs.Prelude.{ℕ, List, Some, None, reverse}
 use Rattle.dom_model.specs.Forest.{parent_of, next_of, first_of}
 use Rattle.edit_model.specs.Run.{Run, ◌>>◌, done, look, given, for_each, move}
 
@@ -10,11 +10,14 @@ move_before o n = look λ s. given (parent_of s.trees o) done λ p. move n p (So
 unfoldable pub move_after : ℕ → ℕ → Run (Unit {0})
 move_after o n = look λ s. given (parent_of s.trees o) done λ p. move n p (next_of s.trees o) >> done
 
--- n becomes the first child of p
+-- n becomes the first child of p, or the last one
 unfoldable pub move_first : ℕ → ℕ → Run (Unit {0})
 move_first p n = look λ s. move n p (first_of s.trees p) >> done
 
--- the nodes of a list go there and stand in the order of the list
+abbrev pub move_last : ℕ → ℕ → Run (Unit {0})
+move_last p n = move n p None >> done
+
+-- the nodes of a list go there: where each comes to stand behind the ones that went before, in order, else in reverse order
 unfoldable pub move_all_before : List ℕ → ℕ → Run (Unit {0})
 move_all_before list o = for_each list (move_before o)
 
@@ -23,3 +26,6 @@ move_all_after list o = for_each (reverse list) (move_after o)
 
 unfoldable pub move_all_first : List ℕ → ℕ → Run (Unit {0})
 move_all_first list p = for_each (reverse list) (move_first p)
+
+unfoldable pub move_each_last : List ℕ → ℕ → Run (Unit {0})
+move_each_last list p = for_each list (move_last p)
