@@ -101,7 +101,7 @@ same_itself p = rw (own p.label, own p.offset) refl
     own : (n : ℕ) → eqb n n ≡ true
     own n = elim (eqb_tells n n) [ inl (e, _) ↦ e | inr (_, off) ↦ absurd (off refl) ]
 
-range_same : (before : Point → Point → Bool) (o : Option Pair) → range_changed before before o o ≡ false
+pub range_same : (before : Point → Point → Bool) (o : Option Pair) → range_changed before before o o ≡ false
 range_same before None = refl
 range_same before (Some p) =
     rw (same_itself (range_start before p), same_itself (range_end before p)) refl

@@ -87,7 +87,10 @@ module _ (d : Whole) (law : IsDoc d) (node : NodeRef) where
         let here : size_from f (label_of o) ≡ total (λ _ _. 1) (Tree child.label at_child.content at_child.kids at_child.rest) = ap (λ q. size_from f (label_of q)) is ∙ ap (total (λ _ _. 1)) at_child.is in
         omega (arith, rest, here)
 
+    -- the children from one on are that one, and those from the next on
+    pub child_first : tops (onward_at f (label_of o)) ≡ child.label ∷ tops (onward_at f (next_of f child.label))
+    child_first = ap (λ q. tops (onward_at f (label_of q))) is ∙ (ap tops at_child.is ∙ ap (λ g. child.label ∷ tops g) (sym rest_is))
+
     pub next_made : (next : Option NodeRef) → Finds d next (next_of f child.label) → (old new : List NodeRef) (whole : List ℕ) → labels_of old ++ tops (onward_at f (label_of o)) ≡ whole → new ≡ old ++ (child ∷ []) → labels_of new ++ tops (onward_at f (label_of next)) ≡ whole
     next_made next finds old new whole before more =
-        let top : tops (onward_at f (label_of o)) ≡ child.label ∷ tops (onward_at f (next_of f child.label)) = ap (λ q. tops (onward_at f (label_of q))) is ∙ (ap tops at_child.is ∙ ap (λ g. child.label ∷ tops g) (sym rest_is)) in
-        rw (more, finds.is) (labels_of_push old child (tops (onward_at f (next_of f child.label))) ∙ (ap (λ xs. labels_of old ++ xs) (sym top) ∙ before))
+        rw (more, finds.is) (labels_of_push old child (tops (onward_at f (next_of f child.label))) ∙ (ap (λ xs. labels_of old ++ xs) (sym child_first) ∙ before))

@@ -22,6 +22,7 @@ pub mod Enters
 pub mod Records
 pub mod Joins
 pub mod Chosen
+pub mod Growing
 pub mod Confining
 pub mod Placing
 pub mod Asking

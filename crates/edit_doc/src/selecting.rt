@@ -1,6 +1,8 @@
 //! Selecting steps, marks, overrides and flags.
 
-ghost use Rattle.std.specs.Prelude.{◌≡◌, ℕ, ◌↔◌, ◌&&◌, Err, IfSome, OnOk, OnErr, length, true, false};
+ghost use Rattle.std.specs.Prelude.{◌≡◌, ℕ, ◌↔◌, ◌&&◌, Err, IsNone, IfSome, OnOk, OnErr, length, true, false};
+ghost use Rattle.dom_model.specs.Forest.{parent_of};
+ghost use Rattle.dom_model.specs.Places.{index_of};
 ghost use Rattle.live_range.specs.LivePoints.{has_mark, with_mark, without_mark};
 ghost use Rattle.edit_model.specs.Action.{Select, Extend, Unselect, Grow, Scratch, Override, Flag, acted, Send, with_selection};
 ghost use Rattle.edit_model.specs.Confined.{may_select};
@@ -8,10 +10,10 @@ ghost use Rattle.edit_model.specs.Overrides.{setting_of};
 ghost use Rattle.edit_model.specs.Lawful.{IsPlacedPair};
 ghost use Rattle.edit_model.specs.State.{State};
 ghost use Rattle.edit_doc.specs.Whole.{IsOpen, IsClosed, with_state};
-ghost use Rattle.edit_doc.specs.Held.{Holds};
+ghost use Rattle.edit_doc.specs.Held.{Holds, Keeps};
 
 use crate::{Doc, Flags, MarkFault, NodeRef, Pair, Point, Points, Setting};
-use edit_parts::{place_of, settle, watch_range};
+use edit_parts::{place_of, settle, stands_at, watch_range};
 use html_names::Command;
 
 impl Doc {
@@ -70,6 +72,26 @@ impl Doc {
             let watch = watch_range(&self.arena, &self.points, &self.overrides);
             self.points.grown(at);
             settle(&self.arena, &self.points, &mut self.overrides, watch);
+        }
+    }
+
+    /// Each kept point just before a node, at its index in its parent, grows by 1 and so stands after it, where the parent is
+    /// in the document. The index is counted only where a kept point stands at the parent.
+    pub fn grow_before(&mut self, node: NodeRef)
+        requires { Holds self.old node }
+        ensures grown { IfSome (parent_of self.old.state.trees node.label) (λ p. self.new ≡ with_state self.old (acted (Grow (record { label = p; offset = index_of self.old.state.trees node.label })) self.old.state)) }
+        ensures alone { IsNone (parent_of self.old.state.trees node.label) → self.new ≡ self.old }
+        ensures keeps { Keeps self.old self.new }
+    {
+        let Some(parent) = self.parent(node) else {
+            return;
+        };
+        if stands_at(&self.points, parent) {
+            let offset = self.index(node);
+            self.grow(Point {
+                label: parent.label,
+                offset,
+            });
         }
     }
 

@@ -5,7 +5,7 @@ use Rattle.std.specs.Option.{option_map}
 use Rattle.std.proofs.lemmas.Bool.Decides.{eqb_tells}
 use Rattle.live_range.specs.declared.places.Point.{Point}
 use Rattle.live_range.specs.declared.places.Pair.{Pair}
-use Rattle.live_range.specs.Edit.{Edit, Inserted, Removed, adjusted, adjusted_pair, has_label}
+use Rattle.live_range.specs.Edit.{Edit, Inserted, Removed, Grown, adjusted, adjusted_pair, has_label}
 use Rattle.live_range.specs.LivePoints.{LivePoints, at_pair, labels_of, mapped, option_labels, pair_labels}
 use Rattle.dom_model.specs.declared.Content.{Content}
 use Rattle.dom_model.specs.Forest.{Forest, preorder, tree_of}
@@ -71,6 +71,13 @@ module _ (e : Edit) where
 pub inserted_same : (s : LivePoints) (parent index : ℕ) → has_label (labels_of s) parent ≡ false → s ≡ mapped (Inserted parent index) s
 inserted_same s parent index off = mapped_same (Inserted parent index) s (λ p is. elim (eqb_tells p.label parent) [
   | inl (_, at) ↦ absurd (let is' = rw at at is in cc)
+  | inr (t, _) ↦ rw t refl
+])
+
+-- where no point stands at a node none grows there
+pub grown_same : (s : LivePoints) (at : Point) → has_label (labels_of s) at.label ≡ false → s ≡ mapped (Grown at) s
+grown_same s at off = mapped_same (Grown at) s (λ p is. elim (eqb_tells p.label at.label) [
+  | inl (_, same) ↦ absurd (let is' = rw same at is in cc)
   | inr (t, _) ↦ rw t refl
 ])
 
