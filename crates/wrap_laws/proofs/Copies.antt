@@ -21,7 +21,7 @@ use Rattle.edit_model.specs.Edit.{Insert, Unset, is_made_edit, trees_after, with
 use Rattle.edit_model.specs.Action as action
 use Rattle.edit_model.specs.Action.{made, acted}
 use Rattle.edit_model.specs.Compositions.{tag_of, attribute_list_of}
-use Rattle.edit_model.specs.Moves.{move_each_last, move_before, move_all_before}
+use Rattle.edit_model.specs.Moves.{move_each_last, move_all_before}
 use Rattle.edit_model.specs.Run.{final, ◌>>◌}
 use Rattle.edit_model.proofs.CommandParts.{command_acted}
 use Rattle.edit_model.proofs.Giving.{edited-left}

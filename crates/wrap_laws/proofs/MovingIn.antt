@@ -1,5 +1,5 @@
 -- A list goes into the sibling before it, or into the bare sibling after it, or nowhere where the node isn't in the document.
-use Rattle.std.proofs.Common.{◌≡◌, ◌≢◌, ℕ, ◌<◌, Bool, true, false, if◌then◌else◌, List, ◌∷◌, ◌++◌, reverse, Some, refl, sym, ap, ◌∙◌, arith}
+use Rattle.std.proofs.Common.{◌≡◌, ◌≢◌, ℕ, ◌<◌, Bool, true, false, if◌then◌else◌, List, ◌∷◌, ◌++◌, reverse, Some, sym, ap, ◌∙◌, arith}
 use Rattle.dom_model.specs.Forest.{times, first_in, children_of}
 use Rattle.dom_model.proofs.Lists.{times-append}
 use Rattle.dom_model.proofs.Links.{parent_count}

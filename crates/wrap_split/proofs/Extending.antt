@@ -1,10 +1,12 @@
--- A turn of the loops that widen a list, and their ends; and lists of held nodes with one more.
-use Rattle.std.proofs.Common.{◌≡◌, ℕ, zero, suc, ◌-◌, ◌<◌, ◌≤◌, List, [], ◌∷◌, refl, sym, subst, arith}
+-- A turn of the loops that widen a list, and their ends; and lists of held nodes in reverse order.
+use Rattle.std.proofs.Common.{◌≡◌, ℕ, zero, suc, ◌-◌, ◌<◌, ◌≤◌, List, [], ◌∷◌, ◌++◌, length, reverse, refl, ap, arith}
+use Rattle.std.proofs.lemmas.List.{reverse-append, reverse-reverse, length-reverse, get_or-reverse}
 use Rattle.dom_model.specs.Forest.{prev_of, next_of}
 use Rattle.node_arena.specs.declared.NodeRef.{NodeRef}
 use Rattle.edit_model.specs.State.{State}
+use Rattle.edit_model.specs.Gives.{labels_of}
 use Rattle.edit_doc.specs.Whole.{Whole}
-use Rattle.edit_doc.specs.Held.{Holds, EachHeld}
+use Rattle.edit_doc.specs.Held.{EachHeld}
 use Rattle.wrap_split.specs.Wrap.{extended_front, hidden_after, list_on, if_hidden}
 
 suc-sub-one : (n : ℕ) → suc n - 1 ≡ n
@@ -36,9 +38,13 @@ pub ruleset fronts = (front_turn, front_end)
 
 pub ruleset ends = (back_turn, back_end)
 
-pub headed_held : (d : Whole) (xs new : List NodeRef) (x : NodeRef) → EachHeld d xs → Holds d x → new ≡ x ∷ xs → EachHeld d new
-headed_held d xs new x h held is = subst (EachHeld d) (sym is) each
-  where
-    each : EachHeld d (x ∷ xs)
-    each zero low = held
-    each (suc k) low = h k (omega (arith, low))
+pub labels_of_front : (xs : List NodeRef) (x : NodeRef) → labels_of (reverse (xs ++ x ∷ [])) ≡ x.label ∷ labels_of (reverse xs)
+labels_of_front xs x = ap labels_of (reverse-append xs (x ∷ []))
+
+pub reversed_held : (d : Whole) (xs : List NodeRef) → EachHeld d xs → EachHeld d (reverse xs)
+reversed_held d xs held k low =
+    let size = length-reverse xs in
+    rw (get_or-reverse xs k record { slot = 0; label = 0 } (omega (arith, low, size))) (held (length xs - 1 - k) (omega (arith, low, size)))
+
+pub reversed_twice : (xs : List NodeRef) → reverse (reverse xs) ≡ xs
+reversed_twice xs = reverse-reverse xs

@@ -1,5 +1,6 @@
 pub mod Turns
 pub mod LastNodes
-pub mod Fronts
+pub mod Backward
+pub mod Children
 pub mod Extending
 pub mod Order

@@ -1,6 +1,6 @@
 //! Moving a list into the node that it is wrapped in.
 
-ghost use Rattle.std.specs.Prelude.{◌≡◌, ◌<◌, IfOk, length};
+ghost use Rattle.std.specs.Prelude.{◌≡◌, ◌<◌, length};
 ghost use Rattle.edit_model.specs.Gives.{Gives, label_of, labels_of};
 ghost use Rattle.edit_model.specs.Run.{final};
 ghost use Rattle.point_order.specs.PointOrder.{is_earlier};
@@ -11,11 +11,11 @@ ghost use Rattle.wrap_split.specs.Wrap.{is_inline, is_other, append_break, prepe
 use crate::listing::{first_visible, last_visible};
 use crate::moves::{insert_before, make_break, move_all_first, move_each_last};
 use crate::nodes::{is_break, is_editable_for};
-use crate::siblings::children_of;
+use crate::siblings::{children_of, first_visible_child, last_visible_child};
 use crate::walks::is_it;
 use doc_tests::is_block;
-use edit_doc::{Doc, EditFault, NodeRef, Point};
-use std::alloc::{AllocError, Global};
+use edit_doc::{Doc, EditFault, NodeRef};
+use std::alloc::Global;
 
 fn is_inline(doc: &Doc, node: Option<NodeRef>) -> bool
     requires { IfHeld doc.now node }
@@ -90,25 +90,16 @@ fn joins_end(doc: &Doc, node: NodeRef, before: Option<NodeRef>, after: Option<No
 
 // Whether a br has to part what the node begins with from the list that comes before it there.
 #[tactic(auto, using(edit_model::proofs::Steps::ends), unfolding(crate::specs::Wrap::joins_front))]
-fn joins_front(
-    alloc: Global,
-    doc: &Doc,
-    node: NodeRef,
-    list: &[NodeRef],
-) -> Result<bool, AllocError>
+fn joins_front(doc: &Doc, node: NodeRef, list: &[NodeRef]) -> bool
     requires some { 0 < length list.now }
     requires node_held { Holds doc.now node }
     requires list_held { EachHeld doc.now list.now }
-    ensures { IfOk result (λ b. b ≡ joins_front doc.now.state node.label (labels_of list.now)) }
+    ensures { result ≡ joins_front doc.now.state node.label (labels_of list.now) }
 {
-    let children = children_of(alloc, doc, node)?;
-    let last = list[list.len() - 1];
-    Ok(
-        is_block(doc, node)
-            && is_inline(doc, first_visible(doc, &children))
-            && is_inline(doc, last_visible(doc, list))
-            && !is_break(doc, last),
-    )
+    is_block(doc, node)
+        && is_inline(doc, first_visible_child(doc, node))
+        && is_inline(doc, last_visible(doc, list))
+        && !is_break(doc, list[list.len() - 1])
 }
 
 #[tactic(auto, using(edit_model::proofs::Steps::steps, edit_model::proofs::Steps::exits), unfolding(crate::specs::Wrap::parted_end))]
@@ -145,8 +136,7 @@ fn move_to_end(
     ensures gives { Gives result doc.old.state doc.new.state (to_end node.label (labels_of list.now)) }
     ensures keeps { Keeps doc.old doc.new }
 {
-    let children = children_of(alloc, doc, node)?;
-    let before = last_visible(doc, &children);
+    let before = last_visible_child(doc, node);
     let after = first_visible(doc, list);
     part_end(alloc, doc, node, before, after)?;
     move_each_last(doc, list, node)
@@ -166,7 +156,7 @@ fn part_front(
     ensures gives { Gives result doc.old.state doc.new.state (parted_front node.label (labels_of list.now)) }
     ensures keeps { Keeps doc.old doc.new }
 {
-    if joins_front(alloc, doc, node, list)? {
+    if joins_front(doc, node, list) {
         prepend_break(alloc, doc, node)?;
     }
     Ok(())
@@ -219,13 +209,7 @@ fn grow_at(doc: &mut Doc, node: NodeRef)
     ensures grown { doc.new ≡ with_state doc.old (final (grow_at node.label) doc.old.state) }
     ensures keeps { Keeps doc.old doc.new }
 {
-    if let Some(parent) = doc.parent(node) {
-        let offset = doc.index(node);
-        doc.grow(Point {
-            label: parent.label,
-            offset,
-        });
-    }
+    doc.grow_before(node);
 }
 
 // Puts a node that has no parent before the first member.

@@ -1,6 +1,6 @@
 //! The list that is wrapped: siblings, with a br after them and the invisible nodes on both sides.
 
-ghost use Rattle.std.specs.Prelude.{◌≡◌, ◌++◌, IfOk};
+ghost use Rattle.std.specs.Prelude.{◌≡◌, ◌++◌, IfOk, reverse};
 ghost use Rattle.edit_model.specs.Gives.{label_of, labels_of};
 ghost use Rattle.edit_doc.specs.Held.{Holds, IfHeld, EachHeld, Finds};
 ghost use Rattle.wrap_split.specs.Walks.{turn_bound};
@@ -97,8 +97,34 @@ fn with_break(doc: &Doc, list: Vec<NodeRef>, last: NodeRef) -> Result<Vec<NodeRe
     Ok(list)
 }
 
+// A list in reverse order with the invisible nodes before a node.
+#[tactic(auto, using(crate::proofs::Extending::fronts, crate::proofs::Extending::labels_of_front), unfolding(crate::specs::Wrap::extended))]
+fn with_hidden_before(
+    doc: &Doc,
+    reversed: Vec<NodeRef>,
+    first: NodeRef,
+) -> Result<Vec<NodeRef>, AllocError>
+    requires list_held { EachHeld doc.now reversed.items }
+    requires first_held { Holds doc.now first }
+    ensures gives { IfOk result (λ v. labels_of (reverse v.items) ≡ extended doc.now.state (labels_of (reverse reversed.items)) first.label) }
+    ensures held { IfOk result (λ v. EachHeld doc.now v.items) }
+{
+    let mut reversed = reversed;
+    let mut at = first;
+    let mut turns = turn_bound(doc);
+    while turns > 0 {
+        let Some(prev) = if_hidden(doc, doc.prev(at)) else {
+            return Ok(reversed);
+        };
+        reversed.push(prev)?;
+        at = prev;
+        turns -= 1;
+    }
+    Ok(reversed)
+}
+
 // The list with the invisible nodes before it.
-#[tactic(auto, using(crate::proofs::Extending::fronts, edit_model::proofs::Steps::labels_of_insert), unfolding(crate::specs::Wrap::extended))]
+#[tactic(auto, using(crate::proofs::Extending::reversed_held, crate::proofs::Extending::reversed_twice))]
 fn extended(doc: &Doc, list: Vec<NodeRef>, first: NodeRef) -> Result<Vec<NodeRef>, AllocError>
     requires list_held { EachHeld doc.now list.items }
     requires first_held { Holds doc.now first }
@@ -106,16 +132,9 @@ fn extended(doc: &Doc, list: Vec<NodeRef>, first: NodeRef) -> Result<Vec<NodeRef
     ensures held { IfOk result (λ v. EachHeld doc.now v.items) }
 {
     let mut list = list;
-    let mut at = first;
-    let mut turns = turn_bound(doc);
-    while turns > 0 {
-        let Some(prev) = if_hidden(doc, doc.prev(at)) else {
-            return Ok(list);
-        };
-        list.insert(0, prev)?;
-        at = prev;
-        turns -= 1;
-    }
+    list.reverse();
+    let mut list = with_hidden_before(doc, list, first)?;
+    list.reverse();
     Ok(list)
 }
 

@@ -1,13 +1,14 @@
 //! Lists of siblings.
 
-ghost use Rattle.std.specs.Prelude.{◌≡◌, ◌≤◌, IfOk, length, take};
+ghost use Rattle.std.specs.Prelude.{◌≡◌, IfOk};
 ghost use Rattle.edit_model.specs.Gives.{labels_of};
-ghost use Rattle.edit_doc.specs.Whole.{Whole};
 ghost use Rattle.edit_doc.specs.Held.{Holds, Finds, EachHeld};
 ghost use Rattle.dom_model.specs.Forest.{children_of};
 ghost use Rattle.wrap_split.specs.Siblings.{first_parent, members, until, is_among, starts_in, ends_in};
+ghost use Rattle.wrap_split.specs.Wrap.{first_visible, last_visible};
 
 use crate::walks::is_it;
+use doc_tests::is_visible;
 use edit_doc::{Doc, NodeRef};
 use std::alloc::{AllocError, Global};
 
@@ -29,6 +30,62 @@ pub(crate) fn children_of(
         at = doc.next(child);
     }
     Ok(list)
+}
+
+// The children of a node before one of them.
+pub(crate) fn children_before(
+    alloc: Global,
+    doc: &Doc,
+    node: NodeRef,
+    end: NodeRef,
+) -> Result<Vec<NodeRef>, AllocError>
+    requires { Holds doc.now node }
+    ensures held { IfOk result (λ list. EachHeld doc.now list.items) }
+    ensures children { IfOk result (λ list. labels_of list.items ≡ until end.label (children_of doc.now.state.trees node.label)) }
+{
+    doc.lawful();
+    let mut list = Vec::new(alloc);
+    let mut at = doc.first_child(node);
+    while let Some(child) = at {
+        if child.label == end.label {
+            return Ok(list);
+        }
+        list.push(child)?;
+        at = doc.next(child);
+    }
+    Ok(list)
+}
+
+// The first child of a node that is visible.
+pub(crate) fn first_visible_child(doc: &Doc, node: NodeRef) -> Option<NodeRef>
+    requires { Holds doc.now node }
+    ensures { Finds doc.now result (first_visible doc.now.state (children_of doc.now.state.trees node.label)) }
+{
+    doc.lawful();
+    let mut at = doc.first_child(node);
+    while let Some(child) = at {
+        if is_visible(doc, child) {
+            return Some(child);
+        }
+        at = doc.next(child);
+    }
+    None
+}
+
+// The last child of a node that is visible.
+pub(crate) fn last_visible_child(doc: &Doc, node: NodeRef) -> Option<NodeRef>
+    requires { Holds doc.now node }
+    ensures { Finds doc.now result (last_visible doc.now.state (children_of doc.now.state.trees node.label)) }
+{
+    doc.lawful();
+    let mut at = doc.last_child(node);
+    while let Some(child) = at {
+        if is_visible(doc, child) {
+            return Some(child);
+        }
+        at = doc.prev(child);
+    }
+    None
 }
 
 #[tactic(auto, using(edit_model::proofs::Steps::labels_of_drop, edit_model::proofs::Steps::labels_of_end))]
@@ -76,30 +133,6 @@ pub(crate) fn members(
         }
     }
     Ok(kept)
-}
-
-// How many members stand before the given one.
-#[tactic(auto, using(edit_model::proofs::Steps::labels_of_drop, edit_model::proofs::Steps::labels_of_end, edit_model::proofs::Steps::labels_of_take), unfolding(crate::specs::Siblings::until))]
-fn count_before(list: &[NodeRef], node: NodeRef) -> usize
-    ensures within { result ≤ length list.now }
-    ensures before { labels_of (take result list.now) ≡ until node.label (labels_of list.now) }
-{
-    let mut count = 0;
-    for member in list {
-        if member.label == node.label {
-            return count;
-        }
-        count += 1;
-    }
-    count
-}
-
-// The members before the given one.
-pub(crate) fn front_of(list: &[NodeRef], node: NodeRef) -> &[NodeRef]
-    ensures front { labels_of result.now ≡ until node.label (labels_of list.now) }
-    ensures held { (d : Whole) → EachHeld d list.now → EachHeld d result.now }
-{
-    &list[..count_before(list, node)]
 }
 
 // Whether the first child of a node is in the list.

@@ -11,7 +11,7 @@ use crate::moves::{
     insert_after, insert_before, make_break, move_all_after, move_all_before, move_each_last,
 };
 use crate::nodes::{attributes_of, has_name, is_break, is_editable_for, tag_of};
-use crate::siblings::{children_of, ends_in, first_parent, front_of, members, starts_in};
+use crate::siblings::{children_before, children_of, ends_in, first_parent, members, starts_in};
 use doc_tests::{follows_break, is_block, precedes_break};
 use edit_doc::{Doc, EditFault, Name, NodeList, NodeRef};
 use std::alloc::Global;
@@ -70,12 +70,12 @@ fn copied(alloc: Global, doc: &mut Doc, node: NodeRef, first: NodeRef) -> Result
 {
     let name = tag_of(alloc, doc, node)?;
     let attributes = attributes_of(alloc, doc, node)?;
-    let children = children_of(alloc, doc, node)?;
+    let front = children_before(alloc, doc, node, first)?;
     let id = Name::from_slice(alloc, b"id")?;
     let copy = doc.make_element(&name, &attributes)?;
     doc.unset_attribute(node, &id)?;
     insert_before(doc, node, copy)?;
-    move_each_last(doc, front_of(&children, first), copy)
+    move_each_last(doc, &front, copy)
 }
 
 #[tactic(auto, using(edit_model::proofs::Steps::steps, edit_model::proofs::Steps::exits), unfolding(crate::specs::Split::copy_front))]
