@@ -12,12 +12,9 @@ use Rattle.css_value.specs.StyleText.{Declaration}
 use Rattle.css_value.specs.DeclarationList.{declarations_in}
 use Rattle.node_styles.specs.NameClasses.{is_simple_indentation}
 use Rattle.node_tests.specs.Modifiable.{meets_value}
-use Rattle.node_arena.specs.declared.NodeRef.{NodeRef}
 use Rattle.edit_model.specs.State.{State}
 use Rattle.edit_model.specs.Confined.{is_editable_for, has_name}
 use Rattle.edit_model.specs.Run.{Run, ◌>>=◌, answer, look, given, make_element}
-use Rattle.edit_doc.specs.Whole.{Whole}
-use Rattle.edit_doc.specs.Held.{Holds}
 use Rattle.wrap_split.specs.declared.rule.Blank.{Blank}
 use Rattle.wrap_split.specs.declared.rule.Criterion.{Criterion}
 use Rattle.wrap_split.specs.declared.rule.Criterion.TheVariants.{Never, SameValue, Named, SimpleIndentation, Aligned}
@@ -83,24 +80,13 @@ made_by r = given (blank_of r) (answer None) made_of
 unfoldable pub target : Criterion → Recipe → ℕ → ℕ → Run (Option ℕ)
 target c r a z = look λ s. given (beside c a z s) (made_by r) λ p. answer (Some p)
 
--- ---- what the closures of a rule answer
-
--- a closure may be asked of each node that a document holds
-abbrev pub MayBeAsked : {D : Type 0} → (D → NodeRef → Type 0) → (D → Whole) → Type 0
-MayBeAsked {D} pre whole = (d : D) (n : NodeRef) → Holds (whole d) n → pre d n
-
--- and then it tells whether the node meets the criterion
-abbrev pub Tells : {D : Type 0} → (D → NodeRef → Bool → Type 0) → (D → Whole) → Criterion → Type 0
-Tells {D} post whole c = (d : D) (n : NodeRef) (b : Bool) → Holds (whole d) n → post d n b → b ≡ meets c (whole d).state.trees n.label
+-- ---- what a maker answers
 
 abbrev pub seen : Option Blank → Option (List ℕ × List Attribute)
 seen None = None
 seen (Some b) = Some (b.name, b.attributes)
 
+-- what the recipe makes, or want of memory
 abbrev pub IsMade : Result (Option Blank) AllocError → Recipe → Type 0
 IsMade (Ok b) r = seen b ≡ blank_of r
 IsMade (Err e) r = Unit {0}
-
--- a closure's answer is always what the recipe makes, or want of memory
-abbrev pub Makes : (Result (Option Blank) AllocError → Type 0) → Recipe → Type 0
-Makes post r = (b : Result (Option Blank) AllocError) → post b → IsMade b r

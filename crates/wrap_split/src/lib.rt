@@ -5,6 +5,7 @@
 //! need only be held; those that have no parent, or another parent than the first that has one, are left out of it.
 #![tactic(auto)]
 
+mod answers;
 mod breaks;
 mod filling;
 mod listing;
@@ -17,8 +18,9 @@ mod target;
 mod walks;
 mod wrapping;
 
+pub use answers::{CopyMade, IndentationSibling, NamedSibling, NoSibling, NothingMade};
 pub use breaks::{breaks_at_end, breaks_before, breaks_from};
 pub use edit_doc::{Doc, EditFault, NodeList, NodeRef};
-pub use rule::{Blank, Criterion, Recipe, WrapRule};
+pub use rule::{Blank, Criterion, Makes, Meets, Recipe, WrapRule};
 pub use split::{remove_keeping_children, split_parent};
 pub use wrapping::wrap;

@@ -4,6 +4,7 @@ ghost use Rattle.std.specs.Prelude.{◌≡◌, IfOk};
 ghost use Rattle.edit_model.specs.Compositions.{tag_of, attribute_list_of};
 ghost use Rattle.edit_model.specs.Confined.{is_editable_for, has_name, is_break};
 ghost use Rattle.edit_doc.specs.Held.{Holds};
+ghost use Rattle.wrap_split.specs.Target.{is_without_attributes};
 
 use doc_tests::is_editable;
 use dom_model::Content;
@@ -32,6 +33,20 @@ pub(crate) fn has_name(doc: &Doc, node: NodeRef, name: &[u8]) -> bool
             name: own,
             attributes: _,
         } => own.as_slice() == name,
+        _ => false,
+    }
+}
+
+// Whether a node is an element without attributes.
+pub(crate) fn is_bare(doc: &Doc, node: NodeRef) -> bool
+    requires { Holds doc.now node }
+    ensures { result ≡ is_without_attributes doc.now.state.trees node.label }
+{
+    match doc.content(node) {
+        Content::Element {
+            name: _,
+            attributes,
+        } => attributes.len() == 0,
         _ => false,
     }
 }

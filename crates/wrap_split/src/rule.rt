@@ -1,7 +1,13 @@
-//! Rules for wrapping: closures beside the data that they answer.
+//! Rules for wrapping: which sibling a list may go into, and what is made where none fits.
+//!
+//! A rule holds a test and a maker. Each is of a type that tells, to contracts alone, the criterion that it tests or the recipe
+//! that it follows, and whose method is proved to answer it. So a rule can't be told wrong, and wrapping asks nothing more.
 
 ghost use Rattle.std.specs.Prelude.{◌≡◌};
-ghost use Rattle.wrap_split.specs.Target.{MayBeAsked, Tells, Makes};
+ghost use Rattle.edit_doc.specs.Held.{Holds};
+ghost use Rattle.wrap_split.specs.Target.{IsMade, meets};
+ghost use Rattle.wrap_split.specs.declared.rule.Criterion.{Criterion};
+ghost use Rattle.wrap_split.specs.declared.rule.Recipe.{Recipe};
 
 use dom_model::{Attributes, Chars, Name};
 use edit_doc::{Doc, NodeRef};
@@ -37,32 +43,40 @@ pub enum Recipe {
     Make { blank: Blank },
 }
 
-/// Which sibling fits and what is made, as closures and as the data that they answer.
-#[derive(Drop)]
-pub struct WrapRule<C: Fn(&Doc, NodeRef) -> bool, M: Fn() -> Result<Option<Blank>, AllocError>> {
-    pub meets: C,
-    pub make: M,
-    pub criterion: Criterion,
-    pub recipe: Recipe,
+/// A test of siblings.
+pub trait Meets {
+    // the criterion that it tests
+    ghost criterion: { Self → Criterion };
+
+    /// Whether a node meets the criterion.
+    fn meets(&self, doc: &Doc, node: NodeRef) -> bool
+        requires { Holds doc.now node }
+        ensures { result ≡ meets (criterion self.now) doc.now.state.trees node.label };
 }
 
-impl<C: Fn(&Doc, NodeRef) -> bool, M: Fn() -> Result<Option<Blank>, AllocError>> WrapRule<C, M> {
-    /// A rule of this data, whose closures give its answers.
-    pub fn new(criterion: Criterion, recipe: Recipe, meets: C, make: M) -> WrapRule<C, M>
-        requires may_be_asked { MayBeAsked (C.pre meets) (λ d. d.now) }
-        requires tells { Tells (C.post meets) (λ d. d.now) criterion }
-        requires makes_always { M.IsAlwaysCallable make }
-        requires makes { Makes (M.post make) recipe }
-        ensures criterion { result.criterion ≡ criterion }
-        ensures recipe { result.recipe ≡ recipe }
-        ensures meets { result.meets ≡ meets }
-        ensures make { result.make ≡ make }
+/// A maker of blanks.
+pub trait Makes {
+    // the recipe that it follows
+    ghost recipe: { Self → Recipe };
+
+    /// The blank of the recipe, made anew, or None where there is none.
+    fn make(&self) -> Result<Option<Blank>, AllocError>
+        ensures { IsMade result (recipe self.now) };
+}
+
+/// Which sibling fits, and what is made where none does.
+#[derive(Drop)]
+pub struct WrapRule<C: Meets, M: Makes> {
+    pub test: C,
+    pub maker: M,
+}
+
+impl<C: Meets, M: Makes> WrapRule<C, M> {
+    /// A rule of the test's criterion and the maker's recipe.
+    pub fn new(test: C, maker: M) -> WrapRule<C, M>
+        ensures test { result.test ≡ test }
+        ensures maker { result.maker ≡ maker }
     {
-        WrapRule {
-            meets,
-            make,
-            criterion,
-            recipe,
-        }
+        WrapRule { test, maker }
     }
 }

@@ -4,26 +4,23 @@ ghost use Rattle.std.specs.Prelude.{◌≡◌, IfOk};
 ghost use Rattle.edit_model.specs.Gives.{GivesMaybe, label_of};
 ghost use Rattle.edit_doc.specs.Whole.{IsOpen};
 ghost use Rattle.edit_doc.specs.Held.{Holds, IfHeld, Finds, Keeps};
-ghost use Rattle.wrap_split.specs.Target.{MayBeAsked, Tells, Makes, if_fits, made_by, target};
+ghost use Rattle.wrap_split.specs.Target.{if_fits, made_by, target};
 
 use crate::nodes::is_editable_for;
-use crate::rule::{Blank, WrapRule};
+use crate::rule::{Makes, Meets, WrapRule};
 use edit_doc::{Doc, EditFault, NodeRef};
-use std::alloc::AllocError;
 
 // The node, where it is there, editable, and meets the rule's criterion.
-pub(crate) fn if_fits<C: Fn(&Doc, NodeRef) -> bool, M: Fn() -> Result<Option<Blank>, AllocError>>(
+pub(crate) fn if_fits<C: Meets, M: Makes>(
     doc: &Doc,
     node: Option<NodeRef>,
     rule: &WrapRule<C, M>,
 ) -> Option<NodeRef>
     requires node_held { IfHeld doc.now node }
-    requires may_be_asked { MayBeAsked (C.pre rule.now.meets) (λ d. d.now) }
-    requires tells { Tells (C.post rule.now.meets) (λ d. d.now) rule.now.criterion }
-    ensures { Finds doc.now result (if_fits rule.now.criterion doc.now.state (label_of node)) }
+    ensures { Finds doc.now result (if_fits (C.criterion rule.now.test) doc.now.state (label_of node)) }
 {
     let node = node?;
-    if is_editable_for(doc, node) && (rule.meets)(doc, node) {
+    if is_editable_for(doc, node) && rule.test.meets(doc, node) {
         Some(node)
     } else {
         None
@@ -32,18 +29,16 @@ pub(crate) fn if_fits<C: Fn(&Doc, NodeRef) -> bool, M: Fn() -> Result<Option<Bla
 
 // A new element by the rule's recipe.
 #[tactic(auto, using(edit_model::proofs::Steps::steps, edit_model::proofs::Steps::exits), unfolding(crate::specs::Target::made_by, crate::specs::Target::made_of))]
-fn made_by<C: Fn(&Doc, NodeRef) -> bool, M: Fn() -> Result<Option<Blank>, AllocError>>(
+fn made_by<C: Meets, M: Makes>(
     doc: &mut Doc,
     rule: &WrapRule<C, M>,
 ) -> Result<Option<NodeRef>, EditFault>
     requires open { IsOpen doc.old }
-    requires makes_always { M.IsAlwaysCallable rule.now.make }
-    requires makes { Makes (M.post rule.now.make) rule.now.recipe }
-    ensures gives { GivesMaybe result doc.old.state doc.new.state (made_by rule.now.recipe) }
+    ensures gives { GivesMaybe result doc.old.state doc.new.state (made_by (M.recipe rule.now.maker)) }
     ensures held { IfOk result (λ made. IfHeld doc.new made) }
     ensures keeps { Keeps doc.old doc.new }
 {
-    let Some(blank) = (rule.make)()? else {
+    let Some(blank) = rule.maker.make()? else {
         return Ok(None);
     };
     let made = doc.make_element(&blank.name, &blank.attributes)?;
@@ -52,7 +47,7 @@ fn made_by<C: Fn(&Doc, NodeRef) -> bool, M: Fn() -> Result<Option<Blank>, AllocE
 
 // The sibling beside the list that fits, or else a new element.
 #[tactic(auto, using(edit_model::proofs::Steps::steps, edit_model::proofs::Steps::exits), unfolding(crate::specs::Target::target, crate::specs::Target::beside))]
-pub(crate) fn target<C: Fn(&Doc, NodeRef) -> bool, M: Fn() -> Result<Option<Blank>, AllocError>>(
+pub(crate) fn target<C: Meets, M: Makes>(
     doc: &mut Doc,
     first: NodeRef,
     last: NodeRef,
@@ -61,11 +56,7 @@ pub(crate) fn target<C: Fn(&Doc, NodeRef) -> bool, M: Fn() -> Result<Option<Blan
     requires open { IsOpen doc.old }
     requires first_held { Holds doc.old first }
     requires last_held { Holds doc.old last }
-    requires may_be_asked { MayBeAsked (C.pre rule.now.meets) (λ d. d.now) }
-    requires tells { Tells (C.post rule.now.meets) (λ d. d.now) rule.now.criterion }
-    requires makes_always { M.IsAlwaysCallable rule.now.make }
-    requires makes { Makes (M.post rule.now.make) rule.now.recipe }
-    ensures gives { GivesMaybe result doc.old.state doc.new.state (target rule.now.criterion rule.now.recipe first.label last.label) }
+    ensures gives { GivesMaybe result doc.old.state doc.new.state (target (C.criterion rule.now.test) (M.recipe rule.now.maker) first.label last.label) }
     ensures held { IfOk result (λ found. IfHeld doc.new found) }
     ensures keeps { Keeps doc.old doc.new }
 {

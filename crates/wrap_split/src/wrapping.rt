@@ -4,20 +4,19 @@ ghost use Rattle.std.specs.Prelude.{◌≡◌, ◌<◌, IfOk, length};
 ghost use Rattle.edit_model.specs.Gives.{Gives, GivesMaybe, label_of, labels_of};
 ghost use Rattle.edit_doc.specs.Whole.{IsOpen};
 ghost use Rattle.edit_doc.specs.Held.{Holds, IfHeld, EachHeld, Keeps};
-ghost use Rattle.wrap_split.specs.Target.{MayBeAsked, Tells, Makes};
 ghost use Rattle.wrap_split.specs.Wrap.{merge_next, filled_from, filled, wrap_ends, wrap_list, wrap_members, wrap};
 
 use crate::breaks::breaks_from;
 use crate::filling::{drop_parent, merge, move_in, put_before};
 use crate::listing::{all_hidden, widened};
-use crate::rule::{Blank, WrapRule};
+use crate::rule::{Makes, Meets, WrapRule};
 use crate::siblings::{first_parent, members};
 use crate::target::{if_fits, target};
 use edit_doc::{Doc, EditFault, NodeList, NodeRef};
-use std::alloc::{AllocError, Global};
+use std::alloc::Global;
 
 #[tactic(auto, using(edit_model::proofs::Steps::steps, edit_model::proofs::Steps::exits), unfolding(crate::specs::Wrap::merge_next))]
-fn merge_next<C: Fn(&Doc, NodeRef) -> bool, M: Fn() -> Result<Option<Blank>, AllocError>>(
+fn merge_next<C: Meets, M: Makes>(
     alloc: Global,
     doc: &mut Doc,
     node: NodeRef,
@@ -25,9 +24,7 @@ fn merge_next<C: Fn(&Doc, NodeRef) -> bool, M: Fn() -> Result<Option<Blank>, All
 ) -> Result<(), EditFault>
     requires open { IsOpen doc.old }
     requires node_held { Holds doc.old node }
-    requires may_be_asked { MayBeAsked (C.pre rule.now.meets) (λ d. d.now) }
-    requires tells { Tells (C.post rule.now.meets) (λ d. d.now) rule.now.criterion }
-    ensures gives { Gives result doc.old.state doc.new.state (merge_next rule.now.criterion node.label) }
+    ensures gives { Gives result doc.old.state doc.new.state (merge_next (C.criterion rule.now.test) node.label) }
     ensures keeps { Keeps doc.old doc.new }
 {
     let next = doc.next(node);
@@ -38,7 +35,7 @@ fn merge_next<C: Fn(&Doc, NodeRef) -> bool, M: Fn() -> Result<Option<Blank>, All
 }
 
 #[tactic(auto, using(edit_model::proofs::Steps::steps, edit_model::proofs::Steps::exits), unfolding(crate::specs::Wrap::filled_from))]
-fn fill_from<C: Fn(&Doc, NodeRef) -> bool, M: Fn() -> Result<Option<Blank>, AllocError>>(
+fn fill_from<C: Meets, M: Makes>(
     alloc: Global,
     doc: &mut Doc,
     node: NodeRef,
@@ -52,9 +49,7 @@ fn fill_from<C: Fn(&Doc, NodeRef) -> bool, M: Fn() -> Result<Option<Blank>, Allo
     requires list_held { EachHeld doc.old list.now }
     requires first_held { Holds doc.old from.0 }
     requires parent_held { IfHeld doc.old from.1 }
-    requires may_be_asked { MayBeAsked (C.pre rule.now.meets) (λ d. d.now) }
-    requires tells { Tells (C.post rule.now.meets) (λ d. d.now) rule.now.criterion }
-    ensures gives { GivesMaybe result doc.old.state doc.new.state (filled_from rule.now.criterion node.label (labels_of list.now) from.0.label (label_of from.1)) }
+    ensures gives { GivesMaybe result doc.old.state doc.new.state (filled_from (C.criterion rule.now.test) node.label (labels_of list.now) from.0.label (label_of from.1)) }
     ensures held { IfOk result (λ found. IfHeld doc.new found) }
     ensures keeps { Keeps doc.old doc.new }
 {
@@ -66,7 +61,7 @@ fn fill_from<C: Fn(&Doc, NodeRef) -> bool, M: Fn() -> Result<Option<Blank>, Allo
 }
 
 #[tactic(auto, using(edit_model::proofs::Steps::steps, edit_model::proofs::Steps::exits), unfolding(crate::specs::Wrap::filled))]
-fn fill<C: Fn(&Doc, NodeRef) -> bool, M: Fn() -> Result<Option<Blank>, AllocError>>(
+fn fill<C: Meets, M: Makes>(
     alloc: Global,
     doc: &mut Doc,
     node: NodeRef,
@@ -79,9 +74,7 @@ fn fill<C: Fn(&Doc, NodeRef) -> bool, M: Fn() -> Result<Option<Blank>, AllocErro
     requires node_held { Holds doc.old node }
     requires list_held { EachHeld doc.old list.now }
     requires first_held { Holds doc.old first }
-    requires may_be_asked { MayBeAsked (C.pre rule.now.meets) (λ d. d.now) }
-    requires tells { Tells (C.post rule.now.meets) (λ d. d.now) rule.now.criterion }
-    ensures gives { GivesMaybe result doc.old.state doc.new.state (filled rule.now.criterion node.label (labels_of list.now) first.label) }
+    ensures gives { GivesMaybe result doc.old.state doc.new.state (filled (C.criterion rule.now.test) node.label (labels_of list.now) first.label) }
     ensures held { IfOk result (λ found. IfHeld doc.new found) }
     ensures keeps { Keeps doc.old doc.new }
 {
@@ -91,7 +84,7 @@ fn fill<C: Fn(&Doc, NodeRef) -> bool, M: Fn() -> Result<Option<Blank>, AllocErro
 }
 
 #[tactic(auto, using(edit_model::proofs::Steps::steps, edit_model::proofs::Steps::exits), unfolding(crate::specs::Wrap::into_target, crate::specs::Wrap::wrap_ends))]
-fn wrap_ends<C: Fn(&Doc, NodeRef) -> bool, M: Fn() -> Result<Option<Blank>, AllocError>>(
+fn wrap_ends<C: Meets, M: Makes>(
     alloc: Global,
     doc: &mut Doc,
     list: &[NodeRef],
@@ -104,11 +97,7 @@ fn wrap_ends<C: Fn(&Doc, NodeRef) -> bool, M: Fn() -> Result<Option<Blank>, Allo
     requires list_held { EachHeld doc.old list.now }
     requires first_held { Holds doc.old first }
     requires last_held { Holds doc.old last }
-    requires may_be_asked { MayBeAsked (C.pre rule.now.meets) (λ d. d.now) }
-    requires tells { Tells (C.post rule.now.meets) (λ d. d.now) rule.now.criterion }
-    requires makes_always { M.IsAlwaysCallable rule.now.make }
-    requires makes { Makes (M.post rule.now.make) rule.now.recipe }
-    ensures gives { GivesMaybe result doc.old.state doc.new.state (wrap_ends rule.now.criterion rule.now.recipe (labels_of list.now) first.label last.label) }
+    ensures gives { GivesMaybe result doc.old.state doc.new.state (wrap_ends (C.criterion rule.now.test) (M.recipe rule.now.maker) (labels_of list.now) first.label last.label) }
     ensures held { IfOk result (λ found. IfHeld doc.new found) }
     ensures keeps { Keeps doc.old doc.new }
 {
@@ -119,7 +108,7 @@ fn wrap_ends<C: Fn(&Doc, NodeRef) -> bool, M: Fn() -> Result<Option<Blank>, Allo
 }
 
 #[tactic(auto, using(edit_model::proofs::Steps::steps, edit_model::proofs::Steps::exits, edit_model::proofs::Steps::ends), unfolding(crate::specs::Wrap::wrap_list))]
-fn wrap_list<C: Fn(&Doc, NodeRef) -> bool, M: Fn() -> Result<Option<Blank>, AllocError>>(
+fn wrap_list<C: Meets, M: Makes>(
     alloc: Global,
     doc: &mut Doc,
     list: &[NodeRef],
@@ -127,11 +116,7 @@ fn wrap_list<C: Fn(&Doc, NodeRef) -> bool, M: Fn() -> Result<Option<Blank>, Allo
 ) -> Result<Option<NodeRef>, EditFault>
     requires open { IsOpen doc.old }
     requires list_held { EachHeld doc.old list.now }
-    requires may_be_asked { MayBeAsked (C.pre rule.now.meets) (λ d. d.now) }
-    requires tells { Tells (C.post rule.now.meets) (λ d. d.now) rule.now.criterion }
-    requires makes_always { M.IsAlwaysCallable rule.now.make }
-    requires makes { Makes (M.post rule.now.make) rule.now.recipe }
-    ensures gives { GivesMaybe result doc.old.state doc.new.state (wrap_list rule.now.criterion rule.now.recipe (labels_of list.now)) }
+    ensures gives { GivesMaybe result doc.old.state doc.new.state (wrap_list (C.criterion rule.now.test) (M.recipe rule.now.maker) (labels_of list.now)) }
     ensures held { IfOk result (λ found. IfHeld doc.new found) }
     ensures keeps { Keeps doc.old doc.new }
 {
@@ -142,7 +127,7 @@ fn wrap_list<C: Fn(&Doc, NodeRef) -> bool, M: Fn() -> Result<Option<Blank>, Allo
 }
 
 #[tactic(auto, using(edit_model::proofs::Steps::steps, edit_model::proofs::Steps::exits, edit_model::proofs::Steps::ends), unfolding(crate::specs::Wrap::wrap_members))]
-fn wrap_members<C: Fn(&Doc, NodeRef) -> bool, M: Fn() -> Result<Option<Blank>, AllocError>>(
+fn wrap_members<C: Meets, M: Makes>(
     alloc: Global,
     doc: &mut Doc,
     list: Vec<NodeRef>,
@@ -150,11 +135,7 @@ fn wrap_members<C: Fn(&Doc, NodeRef) -> bool, M: Fn() -> Result<Option<Blank>, A
 ) -> Result<Option<NodeRef>, EditFault>
     requires open { IsOpen doc.old }
     requires list_held { EachHeld doc.old list.items }
-    requires may_be_asked { MayBeAsked (C.pre rule.now.meets) (λ d. d.now) }
-    requires tells { Tells (C.post rule.now.meets) (λ d. d.now) rule.now.criterion }
-    requires makes_always { M.IsAlwaysCallable rule.now.make }
-    requires makes { Makes (M.post rule.now.make) rule.now.recipe }
-    ensures gives { GivesMaybe result doc.old.state doc.new.state (wrap_members rule.now.criterion rule.now.recipe (labels_of list.items)) }
+    ensures gives { GivesMaybe result doc.old.state doc.new.state (wrap_members (C.criterion rule.now.test) (M.recipe rule.now.maker) (labels_of list.items)) }
     ensures held { IfOk result (λ found. IfHeld doc.new found) }
     ensures keeps { Keeps doc.old doc.new }
 {
@@ -174,7 +155,7 @@ fn wrap_members<C: Fn(&Doc, NodeRef) -> bool, M: Fn() -> Result<Option<Blank>, A
 /// Answers that node; None where nothing of the list shows and none is a br, or where there is no such node. Of the list,
 /// the members that have a parent, and the same one as the first of them, are taken.
 #[tactic(auto, using(edit_model::proofs::Steps::steps, edit_model::proofs::Steps::exits), unfolding(crate::specs::Wrap::wrap))]
-pub fn wrap<C: Fn(&Doc, NodeRef) -> bool, M: Fn() -> Result<Option<Blank>, AllocError>>(
+pub fn wrap<C: Meets, M: Makes>(
     alloc: Global,
     doc: &mut Doc,
     list: NodeList,
@@ -182,11 +163,7 @@ pub fn wrap<C: Fn(&Doc, NodeRef) -> bool, M: Fn() -> Result<Option<Blank>, Alloc
 ) -> Result<Option<NodeRef>, EditFault>
     requires open { IsOpen doc.old }
     requires list_held { EachHeld doc.old list }
-    requires may_be_asked { MayBeAsked (C.pre rule.now.meets) (λ d. d.now) }
-    requires tells { Tells (C.post rule.now.meets) (λ d. d.now) rule.now.criterion }
-    requires makes_always { M.IsAlwaysCallable rule.now.make }
-    requires makes { Makes (M.post rule.now.make) rule.now.recipe }
-    ensures gives { GivesMaybe result doc.old.state doc.new.state (wrap rule.now.criterion rule.now.recipe (labels_of list)) }
+    ensures gives { GivesMaybe result doc.old.state doc.new.state (wrap (C.criterion rule.now.test) (M.recipe rule.now.maker) (labels_of list)) }
     ensures held { IfOk result (λ found. IfHeld doc.new found) }
     ensures keeps { Keeps doc.old doc.new }
 {

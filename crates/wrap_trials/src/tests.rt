@@ -13,7 +13,7 @@ use page_write::write_html;
 use splits::{splits, splits_by, unwraps};
 use std::alloc::{AllocError, Global};
 use std::test::Fail;
-use wraps::{joins, wraps};
+use wraps::{joins, joins_bold, wraps};
 
 // What is done to a node of the host, or to a list.
 #[derive(Clone, Copy)]
@@ -26,6 +26,7 @@ enum Act {
     Unwrap,
     Wrap,
     Join,
+    JoinBold,
 }
 
 // The page of an editing host that holds this.
@@ -101,6 +102,7 @@ fn acts(alloc: Global, doc: &mut Doc, act: Act, labels: (u32, u32)) -> Result<bo
         Act::SplitBy { edits, next } => splits_by(alloc, doc, labels, (edits, next)),
         Act::Wrap => wraps(alloc, doc, labels),
         Act::Join => joins(alloc, doc, labels),
+        Act::JoinBold => joins_bold(alloc, doc, labels),
     }
 }
 

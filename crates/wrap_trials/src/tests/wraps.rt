@@ -1,14 +1,14 @@
 //! Lists that are wrapped.
 
-ghost use Rattle.std.specs.Prelude.{◌≡◌, [], IfOk, codes};
 ghost use Rattle.edit_doc.specs.Whole.{IsOpen};
 
 use super::{Act, gives, listed};
-use doc_tests::is_simple_indentation;
 use dom_model::{Attributes, Name};
 use std::alloc::{AllocError, Global};
 use std::test::Fail;
-use wrap_split::*;
+use wrap_split::{
+    Blank, CopyMade, Doc, IndentationSibling, NamedSibling, NoSibling, NothingMade, WrapRule, wrap,
+};
 
 // What the host holds, the labels of a list, and what the host holds once the list is wrapped in a new div.
 static WRAPS: [(&str, u32, u32, &str); 11] = [
@@ -44,26 +44,22 @@ static WRAPS: [(&str, u32, u32, &str); 11] = [
     ("a", 1, 1, "a"),
 ];
 
-fn blank_div(alloc: Global) -> Result<Blank, AllocError>
-    ensures { IfOk result (λ b. (b.name ≡ codes "div") × (b.attributes ≡ [])) }
-{
+fn blank_div(alloc: Global) -> Result<Blank, AllocError> {
     Ok(Blank {
         name: Name::from_slice(alloc, b"div")?,
         attributes: Attributes::new(alloc),
     })
 }
 
-#[tactic(auto, unfolding(wrap_split::specs::Target::meets, wrap_split::specs::Target::blank_of))]
 pub(super) fn wraps(alloc: Global, doc: &mut Doc, labels: (u32, u32)) -> Result<bool, AllocError>
     requires { IsOpen doc.old }
 {
-    let blank = blank_div(alloc)?;
     let list = listed(alloc, doc, labels)?;
     let rule = WrapRule::new(
-        Criterion::Never,
-        Recipe::Make { blank },
-        |_doc: &Doc, _node: NodeRef| false,
-        || Ok(Some(blank_div(alloc)?)),
+        NoSibling,
+        CopyMade {
+            blank: blank_div(alloc)?,
+        },
     );
     Ok(wrap(alloc, doc, list, &rule).is_ok())
 }
@@ -138,17 +134,11 @@ static JOINS: [(&str, u32, &str); 10] = [
     ),
 ];
 
-#[tactic(auto, unfolding(wrap_split::specs::Target::meets, wrap_split::specs::Target::blank_of))]
 pub(super) fn joins(alloc: Global, doc: &mut Doc, labels: (u32, u32)) -> Result<bool, AllocError>
     requires { IsOpen doc.old }
 {
     let list = listed(alloc, doc, labels)?;
-    let rule = WrapRule::new(
-        Criterion::SimpleIndentation,
-        Recipe::Nothing,
-        |doc: &Doc, node: NodeRef| is_simple_indentation(doc, node),
-        || Ok(None),
-    );
+    let rule = WrapRule::new(IndentationSibling, NothingMade);
     Ok(wrap(alloc, doc, list, &rule).is_ok())
 }
 
@@ -157,6 +147,38 @@ fn lists_go_into_a_sibling(rt: HostRuntime) -> Result<(), Fail> {
     for (inner, label, wanted) in &JOINS {
         assert!(rt;
             gives(rt.alloc(), Act::Join, inner, (*label, *label), wanted)?,
+            "{inner}"
+        );
+    }
+    Ok(())
+}
+
+// The same with a bold element that has no attributes.
+static NAMED: [(&str, u32, &str); 4] = [
+    ("<b>a</b>c", 4, "<b>ac</b>"),
+    ("c<b>a</b>", 2, "<b>ca</b>"),
+    ("<b id=\"x\">a</b>c", 4, "<b id=\"x\">a</b>c"),
+    ("<i>a</i>c", 4, "<i>a</i>c"),
+];
+
+pub(super) fn joins_bold(
+    alloc: Global,
+    doc: &mut Doc,
+    labels: (u32, u32),
+) -> Result<bool, AllocError>
+    requires { IsOpen doc.old }
+{
+    let list = listed(alloc, doc, labels)?;
+    let name = Name::from_slice(alloc, b"b")?;
+    let rule = WrapRule::new(NamedSibling { name, bare: true }, NothingMade);
+    Ok(wrap(alloc, doc, list, &rule).is_ok())
+}
+
+#[test]
+fn lists_go_into_a_sibling_of_a_name(rt: HostRuntime) -> Result<(), Fail> {
+    for (inner, label, wanted) in &NAMED {
+        assert!(rt;
+            gives(rt.alloc(), Act::JoinBold, inner, (*label, *label), wanted)?,
             "{inner}"
         );
     }

@@ -1,0 +1,83 @@
+//! Tests and makers that many rules have.
+
+ghost use Rattle.wrap_split.specs.declared.rule.Criterion.TheVariants.{Never, Named, SimpleIndentation};
+ghost use Rattle.wrap_split.specs.declared.rule.Recipe.TheVariants.{Nothing, Make};
+
+use crate::nodes::{has_name, is_bare};
+use crate::rule::{Blank, Makes, Meets};
+use doc_tests::is_simple_indentation;
+use edit_doc::{Doc, Name, NodeRef};
+use std::alloc::AllocError;
+
+/// No sibling fits.
+#[derive(Clone, Copy)]
+pub struct NoSibling;
+
+impl Meets for NoSibling {
+    ghost criterion = { λ s. Never };
+
+    #[tactic(auto, unfolding(crate::specs::Target::meets))]
+    fn meets(&self, _doc: &Doc, _node: NodeRef) -> bool {
+        false
+    }
+}
+
+/// An element of a name fits, where `bare` is set only without attributes.
+#[derive(Drop)]
+pub struct NamedSibling {
+    pub name: Name,
+    pub bare: bool,
+}
+
+impl Meets for NamedSibling {
+    ghost criterion = { λ s. Named s.name s.bare };
+
+    #[tactic(auto, unfolding(crate::specs::Target::meets))]
+    fn meets(&self, doc: &Doc, node: NodeRef) -> bool {
+        has_name(doc, node, self.name.as_slice()) && (!self.bare || is_bare(doc, node))
+    }
+}
+
+/// A simple indentation element fits.
+#[derive(Clone, Copy)]
+pub struct IndentationSibling;
+
+impl Meets for IndentationSibling {
+    ghost criterion = { λ s. SimpleIndentation };
+
+    #[tactic(auto, unfolding(crate::specs::Target::meets))]
+    fn meets(&self, doc: &Doc, node: NodeRef) -> bool {
+        is_simple_indentation(doc, node)
+    }
+}
+
+/// Nothing is made.
+#[derive(Clone, Copy)]
+pub struct NothingMade;
+
+impl Makes for NothingMade {
+    ghost recipe = { λ s. Nothing };
+
+    #[tactic(auto, unfolding(crate::specs::Target::blank_of))]
+    fn make(&self) -> Result<Option<Blank>, AllocError> {
+        Ok(None)
+    }
+}
+
+/// A copy of a blank is made.
+#[derive(Drop)]
+pub struct CopyMade {
+    pub blank: Blank,
+}
+
+impl Makes for CopyMade {
+    ghost recipe = { λ s. Make s.blank };
+
+    #[tactic(auto, unfolding(crate::specs::Target::blank_of))]
+    fn make(&self) -> Result<Option<Blank>, AllocError> {
+        Ok(Some(Blank {
+            name: self.blank.name.clone()?,
+            attributes: self.blank.attributes.copy()?,
+        }))
+    }
+}
