@@ -6,6 +6,7 @@ cd "$(dirname "$0")/.."
 program=$(realpath "${1:-crates/hedit/out/hedit}")
 work=$(mktemp -d)
 trap 'rm -rf "$work"' EXIT
+source bench/measure.sh
 
 # A page of so many paragraphs, two nodes each: 150,000 make 3.75 MB and 300,002 nodes.
 page() {
@@ -19,7 +20,7 @@ session() {
 }
 
 instructions() { # WORD INPUT
-  valgrind --tool=callgrind --callgrind-out-file=/dev/null "$program" "$1" < "$2" 2>&1 > "$work/out" | awk '/Collected/ { print $NF }'
+  counted "$work/out" "$program" "$1" < "$2"
 }
 
 peak_kilobytes() { /usr/bin/time -f %M "$program" check < "$1" 2>&1 > /dev/null; }

@@ -11,6 +11,7 @@ program=$(realpath "${1:-crates/hedit/out/hedit}")
 work=$(mktemp -d)
 trap 'rm -rf "$work"' EXIT
 missed=0
+source bench/measure.sh
 
 # A page of so many paragraphs of two nodes each, with one more in their middle that stands in so many elements. In that one
 # a link, with further attributes, stands between so many elements on either side.
@@ -36,8 +37,7 @@ caret() { # PARAGRAPHS DEPTH BESIDE
 # The instructions of a session on a page, of the acts in a file. An act that is refused ends the bench.
 instructions() { # PAGE ACTS
   { echo 'page <<END'; cat "$1"; printf '\nEND\n'; cat "$2"; } > "$work/session"
-  valgrind --tool=callgrind --callgrind-out-file=/dev/null "$program" run < "$work/session" 2>&1 > "$work/replies" |
-    awk '/Collected/ { print $NF }'
+  counted "$work/replies" "$program" run < "$work/session"
   if grep -m 1 -q '^!' "$work/replies"; then
     echo "bench/session.sh: refused: $(grep -m 1 '^!' "$work/replies")" >&2
     exit 2
@@ -54,13 +54,6 @@ round() { # PAGE FIRST ROUNDS ACT..
   many=$(instructions "$page" "$work/acts")
   echo $(((many - few) / rounds))
 }
-
-# A figure, and the most that it should be.
-told() { # WORDS FIGURE MOST
-  awk -v w="$1" -v f="$2" -v m="$3" 'BEGIN { printf "  %-62s %9.2f  (at most %s)\n", w, f, m; exit !(f <= m) }' || missed=1
-}
-
-ratio() { awk -v a="$1" -v b="$2" 'BEGIN { print a / b }'; }
 
 # What a round costs on a page of some 1,000 nodes and on one of some 300,000, and the ratio.
 growth() { # WORDS ATTRIBUTES FIRST ROUNDS ACT..
