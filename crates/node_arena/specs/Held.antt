@@ -1,6 +1,5 @@
 -- Which nodes an arena holds.
 use Rattle.std.specs.Prelude.{◌≡◌, ◌≢◌, ℕ, ◌+◌, ◌<◌, ◌↔◌, nat_le, Option, Some, None, IfSome}
-use Rattle.std.specs.Option.{option_map}
 use Rattle.dom_model.specs.State.{State, HoldsAt}
 use Rattle.dom_model.specs.declared.Content.{Content}
 use Rattle.dom_model.specs.Forest.{without, tree_of, with_leaf, parent_of, first_of, last_of, prev_of, next_of, content_of, count_of}
@@ -9,23 +8,20 @@ use Rattle.dom_model.specs.declared.Content.TheVariants.{Document}
 use Rattle.dom_model.specs.Forest.Forest.{Nil, Tree}
 use Rattle.node_arena.specs.declared.Node.{Node}
 use Rattle.node_arena.specs.declared.NodeRef.{NodeRef}
+use Rattle.node_arena.specs.Reads as reads
+pub use Rattle.node_arena.specs.Reads.{label}
 
 -- the slot has the node of that label
 abbrev pub Holds : State → NodeRef → Type 0
 Holds s r = HoldsAt s r.slot r.label
-
--- the label of a node, if there is one
-abbrev pub label : Option NodeRef → Option ℕ
-label o = option_map (λ r. r.label) o
 
 -- each node that was held is held
 abbrev pub KeepsHeld : State → State → Type 0
 KeepsHeld old new = (r : NodeRef) → Holds old r → Holds new r
 
 -- the link names the node that has this label, if there is one
-pub record Names (s : State) (link : Option NodeRef) (named : Option ℕ) : Type 0 where
-  pub is : label link ≡ named
-  pub held : IfSome link (λ r. Holds s r)
+abbrev pub Names : State → Option NodeRef → Option ℕ → Type 0
+Names s link named = reads.Names (λ r. Holds s r) link named
 
 -- a stored node has the content and the links of the node of a label
 pub record Shows (s : State) (l : ℕ) (n : Node) : Type 0 where

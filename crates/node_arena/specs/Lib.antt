@@ -5,3 +5,4 @@ pub mod Change
 pub mod Kinds
 pub mod Walk
 pub mod Made
+pub mod Reads

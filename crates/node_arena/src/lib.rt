@@ -17,14 +17,18 @@ ghost use Rattle.node_arena.specs.Held.{Holds, Makes, IsNew, leaf_node};
 
 mod counts;
 mod edits;
+mod elements;
 mod hosts;
 mod links;
 mod node_list;
+mod nodes;
 mod places;
 mod reads;
 
 pub use dom_model::{Attribute, Attributes, Chars, Content, Name};
+pub use elements::{has_name, is_break, is_image};
 pub use node_list::NodeList;
+pub use nodes::Nodes;
 use slab::Slab;
 use std::alloc::{AllocError, Global};
 use std::marker::Model;

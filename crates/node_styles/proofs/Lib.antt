@@ -1,4 +1,4 @@
 pub mod Defaults
 pub mod Elements
 pub mod Lineages
-pub mod Nearest
+pub mod Finding

@@ -13,7 +13,7 @@ use Rattle.node_styles.specs.Lineage.{Kin, lineage_from, lineage, nearest, has_i
 abbrev pub kin : ℕ → Content → Kin
 kin l c = record { label = l; content = c }
 
-lineage_absent : (above : List Kin) (f : Forest Content) (l : ℕ) → count_of f l ≡ 0 → lineage_from above f l ≡ None
+pub lineage_absent : (above : List Kin) (f : Forest Content) (l : ℕ) → count_of f l ≡ 0 → lineage_from above f l ≡ None
 lineage_absent above Nil l none = refl
 lineage_absent above (Tree m c ks rest) l none =
     elim (eqb_tells m l) [

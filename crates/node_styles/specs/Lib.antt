@@ -8,3 +8,4 @@ pub mod Allowed
 pub mod Families
 pub mod TableTexts
 pub mod Traits
+pub mod TurnBound

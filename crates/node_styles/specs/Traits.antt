@@ -1,14 +1,12 @@
 -- What a walk from a node to the Document looks for. No public clause cites this module.
 use Rattle.std.specs.Prelude.{◌≡◌, ℕ, Bool, Some, is_some, codes}
 use Rattle.dom_model.specs.declared.Content.{Content}
-use Rattle.dom_model.specs.Forest.{content_of}
-use Rattle.dom_model.specs.State.{State}
+use Rattle.dom_model.specs.Forest.{Forest, content_of}
 use Rattle.html_names.specs.ElementNames.{has_inline_contents, is_heading}
 use Rattle.style_table.specs.declared.Property.{Property}
 use Rattle.style_table.specs.declared.Property.TheVariants as property
 use Rattle.node_styles.specs.declared.lineage.Trait.{Trait}
 use Rattle.node_styles.specs.declared.lineage.Trait.TheVariants.{Own, NoBox, Block, Link, InlineContents, Heading}
-use Rattle.node_arena.specs.Held.{Holds}
 use Rattle.node_arena.specs.declared.NodeRef.{NodeRef}
 use Rattle.node_styles.specs.Lineage.{nearest}
 use Rattle.node_styles.specs.Allowed.{has_name}
@@ -37,8 +35,8 @@ has_trait InlineContents c = has_name has_inline_contents c
 has_trait Heading c = has_name is_heading c
 
 -- r names the nearest of a label's lineage that passes a test
-pub record IsNearest (test : Content → Bool) (s : State) (l : ℕ) (r : NodeRef) : Type 0 where
-  pub held : Holds s r
+pub record IsNearest (test : Content → Bool) (holds : NodeRef → Type 0) (f : Forest Content) (l : ℕ) (r : NodeRef) : Type 0 where
+  pub held : holds r
   pub content : Content
-  pub at : content_of s.trees r.label ≡ Some content
-  pub is : nearest test s.trees l ≡ Some (record { label = r.label; content = content })
+  pub at : content_of f r.label ≡ Some content
+  pub is : nearest test f l ≡ Some (record { label = r.label; content = content })

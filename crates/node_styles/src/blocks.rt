@@ -2,18 +2,19 @@
 
 ghost use Rattle.std.specs.Prelude.{◌≡◌, IfSome};
 ghost use Rattle.std.specs.List.{list_all};
-ghost use Rattle.node_arena.specs.Held.{Holds, Names, label};
+ghost use Rattle.node_arena.specs.Held.{label};
+ghost use Rattle.node_arena.specs.Reads.{Names};
 ghost use Rattle.node_styles.specs.Blocks as blocks;
 
-use crate::lineage::{Trait, nearest};
+use crate::lineage::{Trait, has_in_lineage, nearest};
 use crate::own::own_display;
 use crate::values::white_space;
 use css_value::{Display, WhiteSpace};
-use node_arena::{Arena, Content, NodeRef};
+use node_arena::{Content, NodeRef, Nodes};
 
-// The element's display.
+/// The `display` of an element, which no ancestor changes; that of all else is `inline`.
 #[tactic(auto, unfolding(crate::specs::Blocks::own_or_inline))]
-fn own_or_inline(content: &Content) -> Display
+pub fn own_or_inline(content: &Content) -> Display
     ensures { result ≡ blocks.own_or_inline content.now }
 {
     match own_display(content) {
@@ -32,8 +33,9 @@ fn is_block_display(display: Display) -> bool
     }
 }
 
+/// Whether a content is that of a block node.
 #[tactic(auto, unfolding(crate::specs::Blocks::is_block_content))]
-pub(crate) fn is_block_content(content: &Content) -> bool
+pub fn is_block_content(content: &Content) -> bool
     ensures { result ≡ blocks.is_block_content content.now }
 {
     match content {
@@ -43,8 +45,9 @@ pub(crate) fn is_block_content(content: &Content) -> bool
     }
 }
 
+/// Whether a content is that of an element with `display: none`.
 #[tactic(auto, unfolding(crate::specs::Blocks::has_no_box))]
-pub(crate) fn has_no_box(content: &Content) -> bool
+pub fn has_no_box(content: &Content) -> bool
     ensures { result ≡ blocks.has_no_box content.now }
 {
     match own_or_inline(content) {
@@ -56,30 +59,30 @@ pub(crate) fn has_no_box(content: &Content) -> bool
 /// Whether a node is a block node: the Document, or an element whose `display` isn't `inline`, `inline-block`,
 /// `inline-table` or `none`.
 #[tactic(auto, unfolding(crate::specs::Blocks::is_block))]
-pub fn is_block(arena: &Arena, node: NodeRef) -> bool
-    requires { Holds arena.now node }
-    ensures { result ≡ blocks.is_block arena.now.trees node.label }
+pub fn is_block<N: Nodes>(nodes: &N, node: NodeRef) -> bool
+    requires { N.holds nodes.now node }
+    ensures { result ≡ blocks.is_block (N.trees nodes.now) node.label }
 {
-    is_block_content(arena.content(node))
+    is_block_content(nodes.content(node))
 }
 
 /// The nearest proper ancestor of a node that is a block node.
 #[tactic(auto, unfolding(crate::specs::Blocks::nearest_block))]
-pub fn nearest_block(arena: &Arena, node: NodeRef) -> Option<NodeRef>
-    requires { Holds arena.now node }
-    ensures { Names arena.now result (blocks.nearest_block arena.now.trees node.label) }
+pub fn nearest_block<N: Nodes>(nodes: &N, node: NodeRef) -> Option<NodeRef>
+    requires { N.holds nodes.now node }
+    ensures { Names (N.holds nodes.now) result (blocks.nearest_block (N.trees nodes.now) node.label) }
 {
-    let parent = arena.parent(node)?;
-    nearest(arena, parent, Trait::Block)
+    let parent = nodes.parent(node)?;
+    nearest(nodes, parent, &Trait::Block)
 }
 
 /// Whether a node or an ancestor of it has `display: none`.
-#[tactic(auto, using(crate::proofs::Nearest::found_any), unfolding(crate::specs::Blocks::is_hidden))]
-pub fn is_hidden(arena: &Arena, node: NodeRef) -> bool
-    requires { Holds arena.now node }
-    ensures { result ≡ blocks.is_hidden arena.now.trees node.label }
+#[tactic(auto, unfolding(crate::specs::Blocks::is_hidden))]
+pub fn is_hidden<N: Nodes>(nodes: &N, node: NodeRef) -> bool
+    requires { N.holds nodes.now node }
+    ensures { result ≡ blocks.is_hidden (N.trees nodes.now) node.label }
 {
-    nearest(arena, node, Trait::NoBox).is_some()
+    has_in_lineage(nodes, node, &Trait::NoBox)
 }
 
 // Whether the character collapses under this white-space.
@@ -101,28 +104,28 @@ fn all_collapse(white_space: WhiteSpace, chars: &[char]) -> bool
 }
 
 // Whether Words under this parent is whitespace.
-fn is_whitespace_under(arena: &Arena, parent: Option<NodeRef>, chars: &[char]) -> bool
-    requires { IfSome parent (λ p. Holds arena.now p) }
-    ensures { result ≡ blocks.is_whitespace_under (label parent) arena.now.trees chars.now }
+fn is_whitespace_under<N: Nodes>(nodes: &N, parent: Option<NodeRef>, chars: &[char]) -> bool
+    requires { IfSome parent (λ p. N.holds nodes.now p) }
+    ensures { result ≡ blocks.is_whitespace_under (label parent) (N.trees nodes.now) chars.now }
 {
     if chars.is_empty() {
         return true;
     }
     match parent {
         None => false,
-        Some(parent) => all_collapse(white_space(arena, parent), chars),
+        Some(parent) => all_collapse(white_space(nodes, parent), chars),
     }
 }
 
 /// Whether a node is a whitespace node: Words that is empty, or that has only tabs, LF, CR and spaces where its parent's
 /// `white-space` is `normal` or `nowrap`, or only tabs, CR and spaces where it is `pre-line`.
 #[tactic(auto, unfolding(crate::specs::Blocks::is_whitespace))]
-pub fn is_whitespace(arena: &Arena, node: NodeRef) -> bool
-    requires { Holds arena.now node }
-    ensures { result ≡ blocks.is_whitespace arena.now.trees node.label }
+pub fn is_whitespace<N: Nodes>(nodes: &N, node: NodeRef) -> bool
+    requires { N.holds nodes.now node }
+    ensures { result ≡ blocks.is_whitespace (N.trees nodes.now) node.label }
 {
-    match arena.content(node) {
-        Content::Words(chars) => is_whitespace_under(arena, arena.parent(node), chars.as_slice()),
+    match nodes.content(node) {
+        Content::Words(chars) => is_whitespace_under(nodes, nodes.parent(node), chars.as_slice()),
         _ => false,
     }
 }

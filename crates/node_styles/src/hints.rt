@@ -67,8 +67,8 @@ pub fn pixels_of(size: u8) -> u16
     }
 }
 
-// What a font's attribute gives.
-fn font_attribute<'a>(content: &'a Content, name: &[u8]) -> Option<&'a [char]>
+/// The value of an attribute of a font.
+pub fn font_attribute<'a>(content: &'a Content, name: &[u8]) -> Option<&'a [char]>
     ensures { option_copied result ≡ own.font_attribute content.now name.now }
 {
     if is_element_named(content, b"font") {
@@ -85,8 +85,9 @@ pub(crate) fn color_hint(content: &Content) -> Option<Colour>
     Colour::read(font_attribute(content, b"color")?)
 }
 
+/// The family that the attribute `face` of a font gives.
 #[tactic(auto, unfolding(crate::specs::OwnStyles::family_hint))]
-pub(crate) fn family_hint(content: &Content) -> Option<&[char]>
+pub fn family_hint(content: &Content) -> Option<&[char]>
     ensures { option_copied result ≡ own.family_hint content.now }
 {
     let face = font_attribute(content, b"face")?;

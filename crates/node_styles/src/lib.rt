@@ -14,16 +14,21 @@ mod own;
 mod values;
 
 pub use allowed::{allowed_in, allowed_in_name, name_allowed_in};
-pub use blocks::{is_block, is_hidden, is_whitespace, nearest_block};
-pub use hints::{pixels_of, read_legacy_size};
-pub use lineage::{is_editable, is_host, is_named};
+pub use blocks::{
+    has_no_box, is_block, is_block_content, is_hidden, is_whitespace, nearest_block, own_or_inline,
+};
+pub use hints::{family_hint, font_attribute, pixels_of, read_legacy_size};
+pub use lineage::{Test, has_in_lineage, is_editable, is_host, is_named, nearest};
 pub use names::{
     is_format_candidate, is_formattable_block, is_indentation, is_non_list_single_line,
     is_simple_indentation, is_single_line,
 };
+pub use own::{
+    Family, attribute, declared, is_element_named, own_background_color, own_text_decoration,
+};
 pub use values::{
-    background_color, color, display, font_size, font_style, font_weight, resolved, text_align,
-    text_decoration, white_space,
+    background_color, color, display, font_family, font_size, font_style, font_weight, resolved,
+    text_align, text_decoration, white_space,
 };
 
 #[cfg(test)]

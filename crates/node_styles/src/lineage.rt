@@ -1,10 +1,9 @@
-//! Walks from a node to the Document, and the editing hosts on them.
+//! Walks from a node up through its ancestors, and the editing hosts on them.
 
 ghost use Rattle.std.specs.Prelude.{◌≡◌, Bool, Some, None, IfSome, IfNone};
 ghost use Rattle.dom_model.specs.Editing as editing;
 ghost use Rattle.dom_model.specs.Forest.{content_of};
 ghost use Rattle.std.specs.Option.{option_map_or};
-ghost use Rattle.node_arena.specs.Held.{Holds};
 ghost use Rattle.node_styles.specs.Lineage as line;
 ghost use Rattle.html_names.specs.ElementNames as names;
 ghost use Rattle.node_styles.specs.Allowed.{has_name};
@@ -14,8 +13,21 @@ ghost use Rattle.node_styles.specs.Traits.{has_trait, IsNearest};
 use crate::blocks::{has_no_box, is_block_content};
 use crate::own::{has_own, is_element_named};
 use html_names::{has_inline_contents, is_heading};
-use node_arena::{Arena, Content, NodeRef};
+use node_arena::{Content, NodeRef, Nodes};
 use style_table::Property;
+
+/// A test of the content of nodes.
+pub trait Test {
+    ghost use Rattle.std.specs.Prelude.{Bool};
+    ghost use Rattle.dom_model.specs.declared.Content.{Content};
+
+    // which contents pass
+    ghost test: { Self → Content → Bool };
+
+    /// Whether a content passes.
+    fn passes(&self, content: &Content) -> bool
+        ensures { result ≡ test self.now content.now };
+}
 
 /// What is looked for among a node and its ancestors.
 #[derive(Clone, Copy)]
@@ -32,17 +44,18 @@ pub(crate) enum Trait {
     Heading,
 }
 
-// Whether a node has what is looked for.
-fn has_trait(content: &Content, wanted: Trait) -> bool
-    ensures { result ≡ has_trait wanted content.now }
-{
-    match wanted {
-        Trait::Own(property) => has_own(content, property),
-        Trait::NoBox => has_no_box(content),
-        Trait::Block => is_block_content(content),
-        Trait::Link => is_element_named(content, b"a"),
-        Trait::InlineContents => has_inline_name(content),
-        Trait::Heading => has_heading_name(content),
+impl Test for Trait {
+    ghost test = { λ wanted. has_trait wanted };
+
+    fn passes(&self, content: &Content) -> bool {
+        match *self {
+            Trait::Own(property) => has_own(content, property),
+            Trait::NoBox => has_no_box(content),
+            Trait::Block => is_block_content(content),
+            Trait::Link => is_element_named(content, b"a"),
+            Trait::InlineContents => has_inline_name(content),
+            Trait::Heading => has_heading_name(content),
+        }
     }
 }
 
@@ -64,16 +77,16 @@ fn has_heading_name(content: &Content) -> bool
     }
 }
 
-// The innermost of a node and its ancestors that has what is looked for.
-pub(crate) fn nearest(arena: &Arena, node: NodeRef, wanted: Trait) -> Option<NodeRef>
-    requires { Holds arena.now node }
-    ensures found { IfSome result (λ r. IsNearest (has_trait wanted) arena.now node.label r) }
-    ensures none { IfNone result (line.nearest (has_trait wanted) arena.now.trees node.label ≡ None) }
+/// The innermost of a node and its ancestors that passes a test.
+pub fn nearest<N: Nodes, T: Test>(nodes: &N, node: NodeRef, wanted: &T) -> Option<NodeRef>
+    requires { N.holds nodes.now node }
+    ensures found { IfSome result (λ r. IsNearest (T.test wanted.now) (N.holds nodes.now) (N.trees nodes.now) node.label r) }
+    ensures none { IfNone result (line.nearest (T.test wanted.now) (N.trees nodes.now) node.label ≡ None) }
 {
-    arena.lawful();
+    nodes.lawful();
     let mut at = node;
-    while !has_trait(arena.content(at), wanted) {
-        match arena.parent(at) {
+    while !wanted.passes(nodes.content(at)) {
+        match nodes.parent(at) {
             Some(parent) => at = parent,
             None => return None,
         }
@@ -81,27 +94,36 @@ pub(crate) fn nearest(arena: &Arena, node: NodeRef, wanted: Trait) -> Option<Nod
     Some(at)
 }
 
-/// Whether a node is an element of this name.
-pub fn is_named(arena: &Arena, node: NodeRef, name: &[u8]) -> bool
-    requires { Holds arena.now node }
-    ensures { result ≡ option_map_or (own.is_named name.now) (content_of arena.now.trees node.label) Bool.false }
+/// Whether a node or an ancestor of it passes a test.
+#[tactic(auto, using(crate::proofs::Finding::found_any))]
+pub fn has_in_lineage<N: Nodes, T: Test>(nodes: &N, node: NodeRef, wanted: &T) -> bool
+    requires { N.holds nodes.now node }
+    ensures { result ≡ line.has_in_lineage (T.test wanted.now) (N.trees nodes.now) node.label }
 {
-    is_element_named(arena.content(node), name)
+    nearest(nodes, node, wanted).is_some()
+}
+
+/// Whether a node is an element of this name.
+pub fn is_named<N: Nodes>(nodes: &N, node: NodeRef, name: &[u8]) -> bool
+    requires { N.holds nodes.now node }
+    ensures { result ≡ option_map_or (own.is_named name.now) (content_of (N.trees nodes.now) node.label) Bool.false }
+{
+    is_element_named(nodes.content(node), name)
 }
 
 /// Whether a node is an editing host.
-pub fn is_host(arena: &Arena, node: NodeRef) -> bool
-    requires { Holds arena.now node }
-    ensures { result ≡ editing.is_host arena.now.trees node.label }
+pub fn is_host<N: Nodes>(nodes: &N, node: NodeRef) -> bool
+    requires { N.holds nodes.now node }
+    ensures { result ≡ editing.is_host (N.trees nodes.now) node.label }
 {
-    arena.is_host(node)
+    nodes.is_host(node)
 }
 
 /// Whether a node is editable with `host` as its editing host.
-pub fn is_editable(arena: &Arena, host: NodeRef, node: NodeRef) -> bool
-    requires host_held { Holds arena.now host }
-    requires node_held { Holds arena.now node }
-    ensures { result ≡ editing.is_editable arena.now.trees host.label node.label }
+pub fn is_editable<N: Nodes>(nodes: &N, host: NodeRef, node: NodeRef) -> bool
+    requires host_held { N.holds nodes.now host }
+    requires node_held { N.holds nodes.now node }
+    ensures { result ≡ editing.is_editable (N.trees nodes.now) host.label node.label }
 {
-    arena.is_editable(host, node)
+    nodes.is_editable(host, node)
 }

@@ -4,7 +4,6 @@ ghost use Rattle.std.specs.Prelude.{◌≡◌, Bool};
 ghost use Rattle.std.specs.List.{list_all};
 ghost use Rattle.std.specs.Option.{option_map_or};
 ghost use Rattle.dom_model.specs.Contents.{attributes_in};
-ghost use Rattle.node_arena.specs.Held.{Holds};
 ghost use Rattle.node_styles.specs.NameClasses as classes;
 
 use crate::own::{declared, is_element_named};
@@ -13,15 +12,15 @@ use html_names::{
     is_formattable_block as is_formattable_block_name, is_non_list_single_line_container,
     is_remove_format_candidate, is_single_line_container,
 };
-use node_arena::{Arena, Attributes, Content, NodeRef};
+use node_arena::{Attributes, Content, NodeRef, Nodes};
 
 /// Whether a node is a non-list single-line container.
 #[tactic(auto, unfolding(crate::specs::NameClasses::is_non_list_single_line))]
-pub fn is_non_list_single_line(arena: &Arena, node: NodeRef) -> bool
-    requires { Holds arena.now node }
-    ensures { result ≡ classes.is_non_list_single_line arena.now.trees node.label }
+pub fn is_non_list_single_line<N: Nodes>(nodes: &N, node: NodeRef) -> bool
+    requires { N.holds nodes.now node }
+    ensures { result ≡ classes.is_non_list_single_line (N.trees nodes.now) node.label }
 {
-    match arena.content(node) {
+    match nodes.content(node) {
         Content::Element { name, .. } => is_non_list_single_line_container(name.as_slice()),
         _ => false,
     }
@@ -29,11 +28,11 @@ pub fn is_non_list_single_line(arena: &Arena, node: NodeRef) -> bool
 
 /// Whether a node is a single-line container: a non-list one, or an li, dt or dd.
 #[tactic(auto, unfolding(crate::specs::NameClasses::is_single_line))]
-pub fn is_single_line(arena: &Arena, node: NodeRef) -> bool
-    requires { Holds arena.now node }
-    ensures { result ≡ classes.is_single_line arena.now.trees node.label }
+pub fn is_single_line<N: Nodes>(nodes: &N, node: NodeRef) -> bool
+    requires { N.holds nodes.now node }
+    ensures { result ≡ classes.is_single_line (N.trees nodes.now) node.label }
 {
-    match arena.content(node) {
+    match nodes.content(node) {
         Content::Element { name, .. } => is_single_line_container(name.as_slice()),
         _ => false,
     }
@@ -41,11 +40,11 @@ pub fn is_single_line(arena: &Arena, node: NodeRef) -> bool
 
 /// Whether a node is an element with a formattable block name.
 #[tactic(auto, unfolding(crate::specs::NameClasses::is_formattable_block))]
-pub fn is_formattable_block(arena: &Arena, node: NodeRef) -> bool
-    requires { Holds arena.now node }
-    ensures { result ≡ classes.is_formattable_block arena.now.trees node.label }
+pub fn is_formattable_block<N: Nodes>(nodes: &N, node: NodeRef) -> bool
+    requires { N.holds nodes.now node }
+    ensures { result ≡ classes.is_formattable_block (N.trees nodes.now) node.label }
 {
-    match arena.content(node) {
+    match nodes.content(node) {
         Content::Element { name, .. } => is_formattable_block_name(name.as_slice()),
         _ => false,
     }
@@ -73,11 +72,11 @@ fn is_indentation_content(content: &Content) -> bool
 
 /// Whether a node is an indentation element: a blockquote, or a div whose style sets a margin.
 #[tactic(auto, unfolding(crate::specs::NameClasses::is_indentation))]
-pub fn is_indentation(arena: &Arena, node: NodeRef) -> bool
-    requires { Holds arena.now node }
-    ensures { result ≡ classes.is_indentation arena.now.trees node.label }
+pub fn is_indentation<N: Nodes>(nodes: &N, node: NodeRef) -> bool
+    requires { N.holds nodes.now node }
+    ensures { result ≡ classes.is_indentation (N.trees nodes.now) node.label }
 {
-    is_indentation_content(arena.content(node))
+    is_indentation_content(nodes.content(node))
 }
 
 // Whether an attribute is dir, or a style that sets nothing but margins, paddings and borders.
@@ -113,25 +112,25 @@ fn has_plain_attributes(content: &Content) -> bool
 /// Whether a node is a simple indentation element: an indentation element whose attributes are only `dir` and a style that
 /// sets nothing but margins, paddings and borders.
 #[tactic(auto, unfolding(crate::specs::NameClasses::is_simple_indentation, crate::specs::NameClasses::is_simple_indentation_content))]
-pub fn is_simple_indentation(arena: &Arena, node: NodeRef) -> bool
-    requires { Holds arena.now node }
-    ensures { result ≡ classes.is_simple_indentation arena.now.trees node.label }
+pub fn is_simple_indentation<N: Nodes>(nodes: &N, node: NodeRef) -> bool
+    requires { N.holds nodes.now node }
+    ensures { result ≡ classes.is_simple_indentation (N.trees nodes.now) node.label }
 {
-    let content = arena.content(node);
+    let content = nodes.content(node);
     is_indentation_content(content) && has_plain_attributes(content)
 }
 
 /// Whether a node is a removeFormat candidate: editable with `host` as its editing host, and of a name that the command
 /// takes out.
 #[tactic(auto, unfolding(crate::specs::NameClasses::is_format_candidate))]
-pub fn is_format_candidate(arena: &Arena, host: NodeRef, node: NodeRef) -> bool
-    requires host_held { Holds arena.now host }
-    requires node_held { Holds arena.now node }
-    ensures { result ≡ classes.is_format_candidate arena.now.trees host.label node.label }
+pub fn is_format_candidate<N: Nodes>(nodes: &N, host: NodeRef, node: NodeRef) -> bool
+    requires host_held { N.holds nodes.now host }
+    requires node_held { N.holds nodes.now node }
+    ensures { result ≡ classes.is_format_candidate (N.trees nodes.now) host.label node.label }
 {
-    match arena.content(node) {
+    match nodes.content(node) {
         Content::Element { name, .. } => {
-            is_remove_format_candidate(name.as_slice()) && arena.is_editable(host, node)
+            is_remove_format_candidate(name.as_slice()) && nodes.is_editable(host, node)
         }
         _ => false,
     }

@@ -20,9 +20,9 @@ use css_value::{
 use node_arena::Content;
 use style_table::{Property, default_of};
 
-#[tactic(auto, unfolding(crate::specs::OwnStyles::attribute))]
 /// The value of an attribute of an element.
-pub(crate) fn attribute<'a>(content: &'a Content, name: &[u8]) -> Option<&'a [char]>
+#[tactic(auto, unfolding(crate::specs::OwnStyles::attribute))]
+pub fn attribute<'a>(content: &'a Content, name: &[u8]) -> Option<&'a [char]>
     ensures { option_copied result ≡ own.attribute content.now name.now }
 {
     match content {
@@ -34,9 +34,9 @@ pub(crate) fn attribute<'a>(content: &'a Content, name: &[u8]) -> Option<&'a [ch
     }
 }
 
+/// Whether a content is that of an element of this name.
 #[tactic(auto, unfolding(crate::specs::OwnStyles::is_named))]
-/// Whether a node is an element of this name.
-pub(crate) fn is_element_named(content: &Content, name: &[u8]) -> bool
+pub fn is_element_named(content: &Content, name: &[u8]) -> bool
     ensures { result ≡ own.is_named name.now content.now }
 {
     match content {
@@ -45,9 +45,9 @@ pub(crate) fn is_element_named(content: &Content, name: &[u8]) -> bool
     }
 }
 
+/// What the attribute `style` of an element declares of a property, valid or not.
 #[tactic(auto, unfolding(crate::specs::OwnStyles::declared))]
-// What the style attribute declares of a property, valid or not.
-pub(crate) fn declared<'a>(content: &'a Content, name: &[u8]) -> Option<&'a [char]>
+pub fn declared<'a>(content: &'a Content, name: &[u8]) -> Option<&'a [char]>
     ensures { option_copied result ≡ own.declared content.now name.now }
 {
     find(attribute(content, b"style")?, name)
@@ -192,7 +192,7 @@ pub(crate) fn own_font_style(content: &Content) -> Option<FontStyle>
 
 /// A family's name as the page has it, the one that the table gives, or the initial one.
 #[derive(Clone, Copy)]
-pub(crate) enum Family<'a> {
+pub enum Family<'a> {
     Written(&'a [char]),
     Monospace,
     Serif,
@@ -338,8 +338,9 @@ fn default_background_color(content: &Content) -> Option<Colour>
     }
 }
 
+/// The `background-color` that an element gives itself, by its style or by its name.
 #[tactic(auto, unfolding(crate::specs::OwnStyles::own_background_color))]
-pub(crate) fn own_background_color(content: &Content) -> Option<Colour>
+pub fn own_background_color(content: &Content) -> Option<Colour>
     ensures { result ≡ own.own_background_color content.now }
 {
     let stated = match declared(content, b"background-color") {
@@ -378,8 +379,9 @@ fn default_text_decoration(content: &Content) -> Option<TextDecoration>
     lines_named(defaulted(content, Property::TextDecoration)?)
 }
 
+/// The `text-decoration` that an element gives itself, by its style or by its name.
 #[tactic(auto, unfolding(crate::specs::OwnStyles::own_text_decoration))]
-pub(crate) fn own_text_decoration(content: &Content) -> Option<TextDecoration>
+pub fn own_text_decoration(content: &Content) -> Option<TextDecoration>
     ensures { result ≡ own.own_text_decoration content.now }
 {
     let stated = match declared(content, b"text-decoration") {

@@ -1,7 +1,6 @@
 //! The resolved values of the properties of a node.
 
 ghost use Rattle.std.specs.Prelude.{◌≡◌, IfOk};
-ghost use Rattle.node_arena.specs.Held.{Holds};
 ghost use Rattle.node_styles.specs.Families.{family_text};
 ghost use Rattle.node_styles.specs.Resolved as resolved;
 
@@ -14,17 +13,17 @@ use css_value::{
     Colour, Display, FontStyle, TextAlign, TextDecoration, WhiteSpace, print_font_size,
     print_font_weight,
 };
-use node_arena::{Arena, Chars, NodeRef};
+use node_arena::{Chars, NodeRef, Nodes};
 use std::alloc::{AllocError, Global};
 use style_table::Property;
 
 /// The resolved `display`.
 #[tactic(auto, unfolding(crate::specs::Resolved::display))]
-pub fn display(arena: &Arena, node: NodeRef) -> Display
-    requires { Holds arena.now node }
-    ensures { result ≡ resolved.display arena.now.trees node.label }
+pub fn display<N: Nodes>(nodes: &N, node: NodeRef) -> Display
+    requires { N.holds nodes.now node }
+    ensures { result ≡ resolved.display (N.trees nodes.now) node.label }
 {
-    match own_display(arena.content(node)) {
+    match own_display(nodes.content(node)) {
         Some(value) => value,
         None => Display::Inline,
     }
@@ -32,11 +31,11 @@ pub fn display(arena: &Arena, node: NodeRef) -> Display
 
 /// The resolved `background-color`. It isn't inherited.
 #[tactic(auto, unfolding(crate::specs::Resolved::background_color))]
-pub fn background_color(arena: &Arena, node: NodeRef) -> Colour
-    requires { Holds arena.now node }
-    ensures { result ≡ resolved.background_color arena.now.trees node.label }
+pub fn background_color<N: Nodes>(nodes: &N, node: NodeRef) -> Colour
+    requires { N.holds nodes.now node }
+    ensures { result ≡ resolved.background_color (N.trees nodes.now) node.label }
 {
-    match own_background_color(arena.content(node)) {
+    match own_background_color(nodes.content(node)) {
         Some(value) => value,
         None => Colour {
             red: 0,
@@ -49,11 +48,11 @@ pub fn background_color(arena: &Arena, node: NodeRef) -> Colour
 
 /// The resolved `text-decoration`. It isn't inherited.
 #[tactic(auto, unfolding(crate::specs::Resolved::text_decoration))]
-pub fn text_decoration(arena: &Arena, node: NodeRef) -> TextDecoration
-    requires { Holds arena.now node }
-    ensures { result ≡ resolved.text_decoration arena.now.trees node.label }
+pub fn text_decoration<N: Nodes>(nodes: &N, node: NodeRef) -> TextDecoration
+    requires { N.holds nodes.now node }
+    ensures { result ≡ resolved.text_decoration (N.trees nodes.now) node.label }
 {
-    match own_text_decoration(arena.content(node)) {
+    match own_text_decoration(nodes.content(node)) {
         Some(value) => value,
         None => TextDecoration {
             underline: false,
@@ -65,12 +64,12 @@ pub fn text_decoration(arena: &Arena, node: NodeRef) -> TextDecoration
 
 /// The resolved `white-space`.
 #[tactic(auto, unfolding(crate::specs::Resolved::white_space))]
-pub fn white_space(arena: &Arena, node: NodeRef) -> WhiteSpace
-    requires { Holds arena.now node }
-    ensures { result ≡ resolved.white_space arena.now.trees node.label }
+pub fn white_space<N: Nodes>(nodes: &N, node: NodeRef) -> WhiteSpace
+    requires { N.holds nodes.now node }
+    ensures { result ≡ resolved.white_space (N.trees nodes.now) node.label }
 {
-    let own = match nearest(arena, node, Trait::Own(Property::WhiteSpace)) {
-        Some(owner) => own_white_space(arena.content(owner)),
+    let own = match nearest(nodes, node, &Trait::Own(Property::WhiteSpace)) {
+        Some(owner) => own_white_space(nodes.content(owner)),
         None => None,
     };
     match own {
@@ -81,12 +80,12 @@ pub fn white_space(arena: &Arena, node: NodeRef) -> WhiteSpace
 
 /// The resolved `font-weight`, 100 to 900.
 #[tactic(auto, unfolding(crate::specs::Resolved::font_weight))]
-pub fn font_weight(arena: &Arena, node: NodeRef) -> u16
-    requires { Holds arena.now node }
-    ensures { result ≡ resolved.font_weight arena.now.trees node.label }
+pub fn font_weight<N: Nodes>(nodes: &N, node: NodeRef) -> u16
+    requires { N.holds nodes.now node }
+    ensures { result ≡ resolved.font_weight (N.trees nodes.now) node.label }
 {
-    let own = match nearest(arena, node, Trait::Own(Property::FontWeight)) {
-        Some(owner) => own_font_weight(arena.content(owner)),
+    let own = match nearest(nodes, node, &Trait::Own(Property::FontWeight)) {
+        Some(owner) => own_font_weight(nodes.content(owner)),
         None => None,
     };
     match own {
@@ -97,12 +96,12 @@ pub fn font_weight(arena: &Arena, node: NodeRef) -> u16
 
 /// The resolved `font-style`.
 #[tactic(auto, unfolding(crate::specs::Resolved::font_style))]
-pub fn font_style(arena: &Arena, node: NodeRef) -> FontStyle
-    requires { Holds arena.now node }
-    ensures { result ≡ resolved.font_style arena.now.trees node.label }
+pub fn font_style<N: Nodes>(nodes: &N, node: NodeRef) -> FontStyle
+    requires { N.holds nodes.now node }
+    ensures { result ≡ resolved.font_style (N.trees nodes.now) node.label }
 {
-    let own = match nearest(arena, node, Trait::Own(Property::FontStyle)) {
-        Some(owner) => own_font_style(arena.content(owner)),
+    let own = match nearest(nodes, node, &Trait::Own(Property::FontStyle)) {
+        Some(owner) => own_font_style(nodes.content(owner)),
         None => None,
     };
     match own {
@@ -113,12 +112,12 @@ pub fn font_style(arena: &Arena, node: NodeRef) -> FontStyle
 
 /// The resolved `font-size` in pixels.
 #[tactic(auto, unfolding(crate::specs::Resolved::font_size))]
-pub fn font_size(arena: &Arena, node: NodeRef) -> u16
-    requires { Holds arena.now node }
-    ensures { result ≡ resolved.font_size arena.now.trees node.label }
+pub fn font_size<N: Nodes>(nodes: &N, node: NodeRef) -> u16
+    requires { N.holds nodes.now node }
+    ensures { result ≡ resolved.font_size (N.trees nodes.now) node.label }
 {
-    let own = match nearest(arena, node, Trait::Own(Property::FontSize)) {
-        Some(owner) => own_font_size(arena.content(owner)),
+    let own = match nearest(nodes, node, &Trait::Own(Property::FontSize)) {
+        Some(owner) => own_font_size(nodes.content(owner)),
         None => None,
     };
     match own {
@@ -129,12 +128,12 @@ pub fn font_size(arena: &Arena, node: NodeRef) -> u16
 
 /// The resolved `color`.
 #[tactic(auto, unfolding(crate::specs::Resolved::color))]
-pub fn color(arena: &Arena, node: NodeRef) -> Colour
-    requires { Holds arena.now node }
-    ensures { result ≡ resolved.color arena.now.trees node.label }
+pub fn color<N: Nodes>(nodes: &N, node: NodeRef) -> Colour
+    requires { N.holds nodes.now node }
+    ensures { result ≡ resolved.color (N.trees nodes.now) node.label }
 {
-    let own = match nearest(arena, node, Trait::Own(Property::Color)) {
-        Some(owner) => own_color(arena.content(owner)),
+    let own = match nearest(nodes, node, &Trait::Own(Property::Color)) {
+        Some(owner) => own_color(nodes.content(owner)),
         None => None,
     };
     match own {
@@ -150,12 +149,12 @@ pub fn color(arena: &Arena, node: NodeRef) -> Colour
 
 /// The resolved `text-align`.
 #[tactic(auto, unfolding(crate::specs::Resolved::text_align))]
-pub fn text_align(arena: &Arena, node: NodeRef) -> TextAlign
-    requires { Holds arena.now node }
-    ensures { result ≡ resolved.text_align arena.now.trees node.label }
+pub fn text_align<N: Nodes>(nodes: &N, node: NodeRef) -> TextAlign
+    requires { N.holds nodes.now node }
+    ensures { result ≡ resolved.text_align (N.trees nodes.now) node.label }
 {
-    let own = match nearest(arena, node, Trait::Own(Property::TextAlign)) {
-        Some(owner) => own_text_align(arena.content(owner)),
+    let own = match nearest(nodes, node, &Trait::Own(Property::TextAlign)) {
+        Some(owner) => own_text_align(nodes.content(owner)),
         None => None,
     };
     match own {
@@ -164,14 +163,14 @@ pub fn text_align(arena: &Arena, node: NodeRef) -> TextAlign
     }
 }
 
-// The resolved family.
+/// The resolved `font-family`.
 #[tactic(auto, unfolding(crate::specs::Resolved::font_family))]
-fn font_family(arena: &Arena, node: NodeRef) -> Family<'_>
-    requires { Holds arena.now node }
-    ensures { family_text result ≡ resolved.font_family arena.now.trees node.label }
+pub fn font_family<N: Nodes>(nodes: &N, node: NodeRef) -> Family<'_>
+    requires { N.holds nodes.now node }
+    ensures { family_text result ≡ resolved.font_family (N.trees nodes.now) node.label }
 {
-    let own = match nearest(arena, node, Trait::Own(Property::FontFamily)) {
-        Some(owner) => own_font_family(arena.content(owner)),
+    let own = match nearest(nodes, node, &Trait::Own(Property::FontFamily)) {
+        Some(owner) => own_font_family(nodes.content(owner)),
         None => None,
     };
     match own {
@@ -200,26 +199,26 @@ fn print_font_family(alloc: Global, family: Family) -> Result<Vec<char>, AllocEr
 /// The resolved value of a property as a text: a weight as a number, a size as `Npx`, a colour as `rgb(r, g, b)` or, for
 /// `transparent`, as `rgba(0, 0, 0, 0)`.
 #[tactic(auto, unfolding(crate::specs::Resolved::resolved))]
-pub fn resolved(
+pub fn resolved<N: Nodes>(
     alloc: Global,
-    arena: &Arena,
+    nodes: &N,
     node: NodeRef,
     property: Property,
 ) -> Result<Chars, AllocError>
-    requires { Holds arena.now node }
-    ensures { IfOk result (λ text. text ≡ resolved.resolved arena.now.trees node.label property) }
+    requires { N.holds nodes.now node }
+    ensures { IfOk result (λ text. text ≡ resolved.resolved (N.trees nodes.now) node.label property) }
 {
     let text = match property {
-        Property::Display => display(arena, node).print(alloc),
-        Property::WhiteSpace => white_space(arena, node).print(alloc),
-        Property::FontWeight => print_font_weight(alloc, font_weight(arena, node)),
-        Property::FontStyle => font_style(arena, node).print(alloc),
-        Property::FontFamily => print_font_family(alloc, font_family(arena, node)),
-        Property::FontSize => print_font_size(alloc, font_size(arena, node)),
-        Property::Color => color(arena, node).print(alloc),
-        Property::BackgroundColor => background_color(arena, node).print(alloc),
-        Property::TextDecoration => text_decoration(arena, node).print(alloc),
-        Property::TextAlign => text_align(arena, node).print(alloc),
+        Property::Display => display(nodes, node).print(alloc),
+        Property::WhiteSpace => white_space(nodes, node).print(alloc),
+        Property::FontWeight => print_font_weight(alloc, font_weight(nodes, node)),
+        Property::FontStyle => font_style(nodes, node).print(alloc),
+        Property::FontFamily => print_font_family(alloc, font_family(nodes, node)),
+        Property::FontSize => print_font_size(alloc, font_size(nodes, node)),
+        Property::Color => color(nodes, node).print(alloc),
+        Property::BackgroundColor => background_color(nodes, node).print(alloc),
+        Property::TextDecoration => text_decoration(nodes, node).print(alloc),
+        Property::TextAlign => text_align(nodes, node).print(alloc),
     };
     Ok(Chars::from_vec(text?))
 }

@@ -4,9 +4,9 @@ use Rattle.std.specs.Prelude.{codes}
 use Rattle.std.specs.Option.{option_map_or}
 use Rattle.std.proofs.lemmas.Bool.Decides.{eqb_tells}
 use Rattle.dom_model.specs.declared.Content.{Content}
-use Rattle.dom_model.specs.Forest.{Forest, IsDistinct, times, parent_of, content_of, children_of, prev_of, next_of, before_in, before_from, after_in}
+use Rattle.dom_model.specs.Forest.{Forest, IsDistinct, times, parent_of, children_of, prev_of, next_of, before_in, before_from, after_in}
 use Rattle.dom_model.proofs.Lists.{before_from_some}
-use Rattle.node_styles.specs.OwnStyles.{is_named}
+use Rattle.dom_model.specs.Contents.{has_name}
 use Rattle.node_tests.specs.SolidNeighbours.{is_sole, is_sole_in_item}
 use Rattle.node_tests.proofs.Around.{family, next_in, prev_in}
 
@@ -34,20 +34,20 @@ module _ (f : Forest Content) (once : IsDistinct f) (l p : ℕ) (child : parent_
       ∙ ap (λ o. is_none o && is_none (after_in (children_of f p) l)) (sym (prev_in f once l p child))
       ∙ ap (λ o. is_none (prev_of f l) && is_none o) (sym (next_in f once l p child))
 
-  pub sole_item : (a b : Bool) → a ≡ option_map_or (is_named (codes "li")) (content_of f p) false → b ≡ (is_none (prev_of f l) && is_none (next_of f l)) → (a && b) ≡ is_sole_in_item f l
+  pub sole_item : (a b : Bool) → a ≡ has_name f p (codes "li") → b ≡ (is_none (prev_of f l) && is_none (next_of f l)) → (a && b) ≡ is_sole_in_item f l
   unfolding is_sole_in_item
   sole_item a b named alone =
       ap (λ x. x && b) named
-      ∙ ap (λ x. option_map_or (is_named (codes "li")) (content_of f p) false && x) (alone ∙ sym sole_is)
-      ∙ sym (ap (λ o. option_map_or (λ q. option_map_or (is_named (codes "li")) (content_of f q) false && is_sole (children_of f q)) o false) child)
+      ∙ ap (λ x. has_name f p (codes "li") && x) (alone ∙ sym sole_is)
+      ∙ sym (ap (λ o. option_map_or (λ q. has_name f q (codes "li") && is_sole (children_of f q)) o false) child)
 
-  pub not_item : (a : Bool) → a ≡ option_map_or (is_named (codes "li")) (content_of f p) false → a ≡ false → a ≡ is_sole_in_item f l
+  pub not_item : (a : Bool) → a ≡ has_name f p (codes "li") → a ≡ false → a ≡ is_sole_in_item f l
   unfolding is_sole_in_item
   not_item a named off =
       off
       ∙ sym (ap (λ x. x && is_sole (children_of f p)) (sym named ∙ off))
-      ∙ sym (ap (λ o. option_map_or (λ q. option_map_or (is_named (codes "li")) (content_of f q) false && is_sole (children_of f q)) o false) child)
+      ∙ sym (ap (λ o. option_map_or (λ q. has_name f q (codes "li") && is_sole (children_of f q)) o false) child)
 
 pub root_item : (f : Forest Content) (l : ℕ) → parent_of f l ≡ None → false ≡ is_sole_in_item f l
 unfolding is_sole_in_item
-root_item f l root = sym (ap (λ o. option_map_or (λ q. option_map_or (is_named (codes "li")) (content_of f q) false && is_sole (children_of f q)) o false) root)
+root_item f l root = sym (ap (λ o. option_map_or (λ q. has_name f q (codes "li") && is_sole (children_of f q)) o false) root)

@@ -4,16 +4,17 @@ use Rattle.std.specs.Option.{option_or, option_map, option_map_or, unwrap_or}
 use Rattle.std.proofs.lemmas.Bool.Decides.{eqb_tells}
 use Rattle.dom_model.specs.declared.Content.{Content}
 use Rattle.dom_model.specs.declared.Content.TheVariants.{Document, Element, Words, Remark}
-use Rattle.dom_model.specs.State.{State, IsLawful}
-use Rattle.dom_model.specs.Contents.{may_have_children}
+use Rattle.node_arena.specs.Reads.{IsLawful}
+use Rattle.dom_model.specs.Contents.{may_have_children, is_break}
 use Rattle.dom_model.specs.Forest.{Forest, Seen, join, count_of, IsDistinct, tree_of, preorder, preorder_onto, parent_of, first_of, first_in, prev_of}
 use Rattle.dom_model.specs.Forest.Forest.{Nil, Tree}
 use Rattle.dom_model.proofs.Links.{seen, eqb_refl_true}
 use Rattle.node_styles.specs.Blocks.{is_block, is_whitespace, is_whitespace_in}
+use Rattle.node_arena.specs.declared.NodeRef.{NodeRef}
 use Rattle.node_tests.specs.declared.neighbours.Neighbour.{Neighbour}
 use Rattle.node_tests.specs.declared.neighbours.Neighbour.TheVariants.{BlockEdge, LineBreak, Solid}
 use Rattle.node_tests.specs.Surroundings.{later, labels_after, in_block, trees_after, nodes_before, nodes_after}
-use Rattle.node_tests.specs.CollapsedWhitespace.{decides, collapses_at, is_break, is_solid}
+use Rattle.node_tests.specs.CollapsedWhitespace.{decides, collapses_at, is_solid}
 use Rattle.node_tests.specs.SolidNeighbours.{met, first_met, last_in_order, neighbour_after, is_solid_neighbour}
 use Rattle.node_tests.proofs.Pieces.{count_in_tree, find_where, once_kids, once_rest, tree-below, tree-after, has, hasnt, back}
 use Rattle.node_tests.proofs.Pieces.Where.{Here, Below, After}
@@ -177,15 +178,15 @@ module _ (f : Forest Content) (once : IsDistinct f) where
   top_collapses l here root = sym (ap (collapses_at f) (labels-root f once l here root) ∙ none_left f)
 
 -- whitespace has no children
-pub whitespace_leaf : (s : State) → IsLawful s → (l : ℕ) → 0 < count_of s.trees l → is_whitespace s.trees l ≡ true → first_of s.trees l ≡ None
+pub whitespace_leaf : {holds : NodeRef → Type 0} {f : Forest Content} {upper : ℕ} → IsLawful holds f upper → (l : ℕ) → 0 < count_of f l → is_whitespace f l ≡ true → first_of f l ≡ None
 unfolding is_whitespace
-whitespace_leaf s law l here white =
-    let t = seen s.trees l law.distinct here in
+whitespace_leaf {f = f} law l here white =
+    let t = seen f l law.distinct here in
     let node = law.nodes l t.0 t.2 in
-    let own = ap (λ o. option_map_or (is_whitespace_in s.trees (parent_of s.trees l)) (option_map (λ (x : Seen Content). x.content) o) false) (sym t.2) ∙ white in
+    let own = ap (λ o. option_map_or (is_whitespace_in f (parent_of f l)) (option_map (λ (x : Seen Content). x.content) o) false) (sym t.2) ∙ white in
     ap (λ o. first_in (option_map_or (λ (x : Seen Content). x.children) o [])) t.2 ∙ ap first_in (by_content t.0.content t.0.children own node.leaf)
   where
-    by_content : (c : Content) (xs : List ℕ) → is_whitespace_in s.trees (parent_of s.trees l) c ≡ true → (may_have_children c ≡ false → xs ≡ []) → xs ≡ []
+    by_content : (c : Content) (xs : List ℕ) → is_whitespace_in f (parent_of f l) c ≡ true → (may_have_children c ≡ false → xs ≡ []) → xs ≡ []
     by_content (Words chars) xs e leaf = leaf refl
     by_content Document xs e leaf = absurd (let t = e in cc)
     by_content (Element name attributes) xs e leaf = absurd (let t = e in cc)

@@ -1,21 +1,22 @@
 -- The indexes of the children that a walk passes.
 use Rattle.std.proofs.Common.{◌≡◌, ℕ, ◌+◌, Option, Some, None, IfSome, sym, ap, ◌∙◌}
-use Rattle.dom_model.specs.State.{State, IsLawful}
-use Rattle.dom_model.specs.Forest.{first_of, next_of}
+use Rattle.dom_model.specs.declared.Content.{Content}
+use Rattle.dom_model.specs.Forest.{Forest, first_of, next_of}
 use Rattle.dom_model.specs.Places.{index_of}
 use Rattle.dom_model.proofs.Neighbours.{parent_of-first, parent_of-next}
 use Rattle.node_arena.specs.declared.NodeRef.{NodeRef}
 use Rattle.node_arena.specs.Held.{label}
+use Rattle.node_arena.specs.Reads.{IsLawful}
 use Rattle.node_tests.proofs.Kids.{Kid}
 use Rattle.node_tests.proofs.Turning.{index_first, next_index}
 
-module _ (s : State) (law : IsLawful s) where
-  pub first_place : (l : ℕ) (o : Option NodeRef) → label o ≡ first_of s.trees l → IfSome o (λ k. 0 ≡ index_of s.trees k.label)
+module _ {holds : NodeRef → Type 0} {f : Forest Content} {upper : ℕ} (law : IsLawful holds f upper) where
+  pub first_place : (l : ℕ) (o : Option NodeRef) → label o ≡ first_of f l → IfSome o (λ k. 0 ≡ index_of f k.label)
   first_place l None e = tt
-  first_place l (Some k) e = sym (index_first s law k.label l (parent_of-first s.trees law.distinct l k.label (sym e)) (sym e))
+  first_place l (Some k) e = sym (index_first law k.label l (parent_of-first f law.distinct l k.label (sym e)) (sym e))
 
-  pub next_place : (p : ℕ) (r : NodeRef) → Kid s p (Some r) → (i : ℕ) → i ≡ index_of s.trees r.label → (o : Option NodeRef) → label o ≡ next_of s.trees r.label → IfSome o (λ k. i + 1 ≡ index_of s.trees k.label)
+  pub next_place : (p : ℕ) (r : NodeRef) → Kid holds f p (Some r) → (i : ℕ) → i ≡ index_of f r.label → (o : Option NodeRef) → label o ≡ next_of f r.label → IfSome o (λ k. i + 1 ≡ index_of f k.label)
   next_place p r kid i is None e = tt
   next_place p r kid i is (Some k) e =
       ap (λ n. n + 1) is
-      ∙ sym (next_index s law r.label p kid.under k.label (parent_of-next s.trees law.distinct r.label k.label p kid.under (sym e)) (sym e))
+      ∙ sym (next_index law r.label p kid.under k.label (parent_of-next f law.distinct r.label k.label p kid.under (sym e)) (sym e))

@@ -22,3 +22,4 @@ mod Turning
 mod Turns
 mod Tags
 mod Endings
+mod OwnHost

@@ -1,19 +1,18 @@
 -- The places beside the children of a node.
 use Rattle.std.proofs.Common.{◌≡◌, ◌≢◌, ℕ, zero, suc, ◌+◌, ◌<◌, ◌≤◌, Bool, true, false, ◌||◌, List, [], ◌∷◌, length, Option, Some, None, refl, sym, ap, ◌∙◌, inl, inr, arith, eqb, is_none, add-one, add-zero}
 use Rattle.std.specs.Prelude.{slice_get}
-use Rattle.std.specs.Option.{option_map_or}
+use Rattle.std.specs.Option.{option_map, option_map_or}
 use Rattle.std.proofs.lemmas.Bool.Decides.{eqb_tells}
 use Rattle.dom_model.specs.declared.Content.{Content}
 use Rattle.dom_model.specs.declared.Content.TheVariants.{Document, Element, Words, Remark}
 use Rattle.dom_model.specs.Contents.{may_have_children, length_in, length_of}
-use Rattle.dom_model.specs.Forest.{Forest, times, count_of, first_in, last_or, last_in, before_from, before_in, after_in, parent_of, children_of, first_of, last_of, prev_of, next_of}
+use Rattle.dom_model.specs.Forest.{Forest, Seen, seek, content_of, times, count_of, first_in, last_or, last_in, before_from, before_in, after_in, parent_of, children_of, first_of, last_of, prev_of, next_of}
 use Rattle.dom_model.specs.Places.{place_in, index_of}
-use Rattle.dom_model.specs.State.{State, IsLawful}
-use Rattle.dom_model.proofs.Laws.{leaf_children}
 use Rattle.dom_model.proofs.Lists.{before_from_some}
 use Rattle.dom_model.proofs.Links.{parent_count, times-children_of}
 use Rattle.node_arena.specs.declared.NodeRef.{NodeRef}
-use Rattle.node_arena.specs.Held.{Holds, label}
+use Rattle.node_arena.specs.Held.{label}
+use Rattle.node_arena.specs.Reads.{IsLawful}
 use Rattle.node_tests.specs.BlockPoints.{child_before, child_at}
 use Rattle.node_tests.specs.Gaps.{StandsAt}
 use Rattle.node_tests.proofs.Around.{content_at, family, next_in, prev_in}
@@ -166,104 +165,114 @@ or_true : (a : Bool) → (a || true) ≡ true
 or_true true = refl
 or_true false = refl
 
-module _ (s : State) (law : IsLawful s) where
-  pub stands_start : (r : NodeRef) (o : Option NodeRef) → label o ≡ first_of s.trees r.label → StandsAt s.trees (record { node = r; before = None; after = o }) (record { node = r.label; offset = 0 })
+module _ {holds : NodeRef → Type 0} {f : Forest Content} {upper : ℕ} (law : IsLawful holds f upper) where
+  -- Words and Remarks have no children
+  leaf_children : (l : ℕ) (c : Content) → content_of f l ≡ Some c → may_have_children c ≡ false → children_of f l ≡ []
+  leaf_children l c is = by_seen (seek None f l) refl is
+    where
+      by_seen : (o : Option (Seen Content)) → seek None f l ≡ o → option_map (λ (x : Seen Content). x.content) o ≡ Some c → may_have_children c ≡ false → children_of f l ≡ []
+      by_seen None t e h = absurd (let e' = e in cc)
+      by_seen (Some o) t e h =
+          let same : o.content ≡ c = (let e' = e in cc) in
+          ap (λ s. option_map_or (λ (x : Seen Content). x.children) s []) t ∙ (law.nodes l o t).leaf (ap may_have_children same ∙ h)
+
+  pub stands_start : (r : NodeRef) (o : Option NodeRef) → label o ≡ first_of f r.label → StandsAt f (record { node = r; before = None; after = o }) (record { node = r.label; offset = 0 })
   stands_start r o first = record {
     node = refl;
     before = refl;
-    after = first ∙ sym (first_get (children_of s.trees r.label));
+    after = first ∙ sym (first_get (children_of f r.label));
     ends = refl;
   }
 
   -- the children beside the end of a node
-  module _ (l : ℕ) (here : 0 < count_of s.trees l) where
-    at_length : (preceding None (children_of s.trees l) (length_of s.trees l) ≡ last_of s.trees l) × (child_at s.trees l (length_of s.trees l) ≡ None)
+  module _ (l : ℕ) (here : 0 < count_of f l) where
+    at_length : (preceding None (children_of f l) (length_of f l) ≡ last_of f l) × (child_at f l (length_of f l) ≡ None)
     at_length =
-        let c = content_at s.trees law.distinct l here in
-        let length : length_of s.trees l ≡ length_in c.0 (children_of s.trees l) = ap (λ o. option_map_or (λ c. length_in c (children_of s.trees l)) o 0) c.1 in
-        let e = at_end c.0 (children_of s.trees l) (leaf_children s law l c.0 c.1) in
-        (ap (preceding None (children_of s.trees l)) length ∙ e.0, ap (slice_get (children_of s.trees l)) length ∙ e.1)
+        let c = content_at f law.distinct l here in
+        let length : length_of f l ≡ length_in c.0 (children_of f l) = ap (λ o. option_map_or (λ c. length_in c (children_of f l)) o 0) c.1 in
+        let e = at_end c.0 (children_of f l) (leaf_children l c.0 c.1) in
+        (ap (preceding None (children_of f l)) length ∙ e.0, ap (slice_get (children_of f l)) length ∙ e.1)
 
-    pub before_end : child_before s.trees l (length_of s.trees l) ≡ last_of s.trees l
-    before_end = before_is s.trees l (length_of s.trees l) ∙ at_length.0
+    pub before_end : child_before f l (length_of f l) ≡ last_of f l
+    before_end = before_is f l (length_of f l) ∙ at_length.0
 
-    pub after_end : child_at s.trees l (length_of s.trees l) ≡ None
+    pub after_end : child_at f l (length_of f l) ≡ None
     after_end = at_length.1
 
-  pub stands_end : (r : NodeRef) → Holds s r → (o : Option NodeRef) → label o ≡ last_of s.trees r.label → StandsAt s.trees (record { node = r; before = o; after = None }) (record { node = r.label; offset = length_of s.trees r.label })
+  pub stands_end : (r : NodeRef) → holds r → (o : Option NodeRef) → label o ≡ last_of f r.label → StandsAt f (record { node = r; before = o; after = None }) (record { node = r.label; offset = length_of f r.label })
   stands_end r held o last =
       let l = r.label in
-      let here = law.here r.slot l held in
-      let same : eqb (length_of s.trees l) (length_of s.trees l) ≡ true = (elim (eqb_tells (length_of s.trees l) (length_of s.trees l)) [ inl (t, _) ↦ t | inr (_, off) ↦ absurd (off refl) ]) in
+      let here = law.here r held in
+      let same : eqb (length_of f l) (length_of f l) ≡ true = (elim (eqb_tells (length_of f l) (length_of f l)) [ inl (t, _) ↦ t | inr (_, off) ↦ absurd (off refl) ]) in
       record {
         node = refl;
         before = last ∙ sym (before_end l here);
         after = sym (after_end l here);
-        ends = or_true (is_none (label o)) ∙ sym (ap (λ b. eqb (length_of s.trees l) 0 || b) same ∙ or_true (eqb (length_of s.trees l) 0));
+        ends = or_true (is_none (label o)) ∙ sym (ap (λ b. eqb (length_of f l) 0 || b) same ∙ or_true (eqb (length_of f l) 0));
       }
 
   -- the children beside a child
-  module _ (l p : ℕ) (child : parent_of s.trees l ≡ Some p) where
-    among : 0 < times (children_of s.trees p) l
-    among = let n = family s.trees law.distinct l p child in rw n.children n.among
+  module _ (l p : ℕ) (child : parent_of f l ≡ Some p) where
+    among : 0 < times (children_of f p) l
+    among = let n = family f law.distinct l p child in rw n.children n.among
 
-    long : length_of s.trees p ≡ length (children_of s.trees p)
+    long : length_of f p ≡ length (children_of f p)
     long =
-        let c = content_at s.trees law.distinct p (parent_count s.trees l p law.distinct child).1 in
-        ap (λ o. option_map_or (λ c. length_in c (children_of s.trees p)) o 0) c.1
-        ∙ parent_length c.0 (children_of s.trees p) l (leaf_children s law p c.0 c.1) among
+        let c = content_at f law.distinct p (parent_count f l p law.distinct child).1 in
+        ap (λ o. option_map_or (λ c. length_in c (children_of f p)) o 0) c.1
+        ∙ parent_length c.0 (children_of f p) l (leaf_children p c.0 c.1) among
 
-    index : index_of s.trees l ≡ place_in (children_of s.trees p) l
-    index = ap (λ o. option_map_or (λ q. place_in (children_of s.trees q) l) o 0) child
+    index : index_of f l ≡ place_in (children_of f p) l
+    index = ap (λ o. option_map_or (λ q. place_in (children_of f q) l) o 0) child
 
-    before_at : index_of s.trees l + 0 ≡ place_in (children_of s.trees p) l
+    before_at : index_of f l + 0 ≡ place_in (children_of f p) l
     before_at = rw add-zero index
 
-    after_at : index_of s.trees l + 1 ≡ suc (place_in (children_of s.trees p) l)
+    after_at : index_of f l + 1 ≡ suc (place_in (children_of f p) l)
     after_at = rw add-one (ap suc index)
 
-    pub before_index : child_before s.trees p (index_of s.trees l + 0) ≡ prev_of s.trees l
+    pub before_index : child_before f p (index_of f l + 0) ≡ prev_of f l
     before_index =
-        before_is s.trees p (index_of s.trees l + 0)
-        ∙ ap (preceding None (children_of s.trees p)) before_at
-        ∙ before_place None (children_of s.trees p) l among
-        ∙ sym (prev_in s.trees law.distinct l p child)
+        before_is f p (index_of f l + 0)
+        ∙ ap (preceding None (children_of f p)) before_at
+        ∙ before_place None (children_of f p) l among
+        ∙ sym (prev_in f law.distinct l p child)
 
-    pub after_index : child_at s.trees p (index_of s.trees l + 1) ≡ next_of s.trees l
+    pub after_index : child_at f p (index_of f l + 1) ≡ next_of f l
     after_index =
-        ap (slice_get (children_of s.trees p)) after_at
-        ∙ after_place (children_of s.trees p) l among
-        ∙ sym (next_in s.trees law.distinct l p child)
+        ap (slice_get (children_of f p)) after_at
+        ∙ after_place (children_of f p) l among
+        ∙ sym (next_in f law.distinct l p child)
 
-    pub index_low : index_of s.trees l < length_of s.trees p
-    index_low = omega (arith, index, long, place_low (children_of s.trees p) l among)
+    pub index_low : index_of f l < length_of f p
+    index_low = omega (arith, index, long, place_low (children_of f p) l among)
 
-    pub next_index : (k : ℕ) → parent_of s.trees k ≡ Some p → next_of s.trees l ≡ Some k → index_of s.trees k ≡ index_of s.trees l + 1
+    pub next_index : (k : ℕ) → parent_of f k ≡ Some p → next_of f l ≡ Some k → index_of f k ≡ index_of f l + 1
     next_index k child_k next =
-        ap (λ o. option_map_or (λ q. place_in (children_of s.trees q) k) o 0) child_k
-        ∙ place_is (children_of s.trees p) (index_of s.trees l + 1) k (λ j. times-children_of s.trees p j law.distinct) (after_index ∙ next)
+        ap (λ o. option_map_or (λ q. place_in (children_of f q) k) o 0) child_k
+        ∙ place_is (children_of f p) (index_of f l + 1) k (λ j. times-children_of f p j law.distinct) (after_index ∙ next)
 
-    pub index_first : first_of s.trees p ≡ Some l → index_of s.trees l ≡ 0
+    pub index_first : first_of f p ≡ Some l → index_of f l ≡ 0
     index_first first =
-        index ∙ place_is (children_of s.trees p) 0 l (λ j. times-children_of s.trees p j law.distinct) (first_get (children_of s.trees p) ∙ first)
+        index ∙ place_is (children_of f p) 0 l (λ j. times-children_of f p j law.distinct) (first_get (children_of f p) ∙ first)
 
-    pub first_index : index_of s.trees l ≡ 0 → first_of s.trees p ≡ Some l
+    pub first_index : index_of f l ≡ 0 → first_of f p ≡ Some l
     first_index none =
-        sym (first_get (children_of s.trees p))
-        ∙ ap (slice_get (children_of s.trees p)) (sym none ∙ index)
-        ∙ at_place (children_of s.trees p) l among
+        sym (first_get (children_of f p))
+        ∙ ap (slice_get (children_of f p)) (sym none ∙ index)
+        ∙ at_place (children_of f p) l among
 
-    pub last_index : length (children_of s.trees p) ≡ index_of s.trees l + 1 → next_of s.trees l ≡ None
-    last_index whole = sym after_index ∙ past_get (children_of s.trees p) (index_of s.trees l + 1) (omega (arith, whole))
+    pub last_index : length (children_of f p) ≡ index_of f l + 1 → next_of f l ≡ None
+    last_index whole = sym after_index ∙ past_get (children_of f p) (index_of f l + 1) (omega (arith, whole))
 
-  module _ (r p : NodeRef) (child : parent_of s.trees r.label ≡ Some p.label) where
-    pub stands_before : (o : Option NodeRef) → label o ≡ prev_of s.trees r.label → StandsAt s.trees (record { node = p; before = o; after = Some r }) (record { node = p.label; offset = index_of s.trees r.label + 0 })
+  module _ (r p : NodeRef) (child : parent_of f r.label ≡ Some p.label) where
+    pub stands_before : (o : Option NodeRef) → label o ≡ prev_of f r.label → StandsAt f (record { node = p; before = o; after = Some r }) (record { node = p.label; offset = index_of f r.label + 0 })
     stands_before o prev =
-        let xs = children_of s.trees p.label in
+        let xs = children_of f p.label in
         let some = among r.label p.label child in
         let at = before_at r.label p.label child in
-        let before : label o ≡ before_in xs r.label = prev ∙ prev_in s.trees law.distinct r.label p.label child in
-        let short : eqb (place_in xs r.label) (length_of s.trees p.label) ≡ false = differ (place_in xs r.label) (length_of s.trees p.label) (λ e. omega (arith, e, long r.label p.label child, place_low xs r.label some)) in
+        let before : label o ≡ before_in xs r.label = prev ∙ prev_in f law.distinct r.label p.label child in
+        let short : eqb (place_in xs r.label) (length_of f p.label) ≡ false = differ (place_in xs r.label) (length_of f p.label) (λ e. omega (arith, e, long r.label p.label child, place_low xs r.label some)) in
         record {
           node = refl;
           before = prev ∙ sym (before_index r.label p.label child);
@@ -271,24 +280,24 @@ module _ (s : State) (law : IsLawful s) where
           ends =
               ap (λ b. b || false) (ap is_none before ∙ none_before xs r.label some)
               ∙ ap (λ b. eqb (place_in xs r.label) 0 || b) (sym short)
-              ∙ ap (λ n. eqb n 0 || eqb n (length_of s.trees p.label)) (sym at);
+              ∙ ap (λ n. eqb n 0 || eqb n (length_of f p.label)) (sym at);
         }
 
-    pub stands_after : (o : Option NodeRef) → label o ≡ next_of s.trees r.label → StandsAt s.trees (record { node = p; before = Some r; after = o }) (record { node = p.label; offset = index_of s.trees r.label + 1 })
+    pub stands_after : (o : Option NodeRef) → label o ≡ next_of f r.label → StandsAt f (record { node = p; before = Some r; after = o }) (record { node = p.label; offset = index_of f r.label + 1 })
     stands_after o next =
-        let xs = children_of s.trees p.label in
+        let xs = children_of f p.label in
         let some = among r.label p.label child in
         let at = after_at r.label p.label child in
-        let after : label o ≡ after_in xs r.label = next ∙ next_in s.trees law.distinct r.label p.label child in
+        let after : label o ≡ after_in xs r.label = next ∙ next_in f law.distinct r.label p.label child in
         let later : eqb (place_in xs r.label + 1) 0 ≡ false = differ (place_in xs r.label + 1) 0 (λ e. omega (arith, e)) in
         record {
           node = refl;
-          before = sym (ap (child_before s.trees p.label) at ∙ at_place xs r.label some);
+          before = sym (ap (child_before f p.label) at ∙ at_place xs r.label some);
           after = next ∙ sym (after_index r.label p.label child);
           ends =
               ap is_none after
               ∙ none_after xs r.label some
               ∙ ap (eqb (place_in xs r.label + 1)) (sym (long r.label p.label child))
-              ∙ ap (λ b. b || eqb (place_in xs r.label + 1) (length_of s.trees p.label)) (sym later)
-              ∙ ap (λ n. eqb (n + 1) 0 || eqb (n + 1) (length_of s.trees p.label)) (sym (index r.label p.label child));
+              ∙ ap (λ b. b || eqb (place_in xs r.label + 1) (length_of f p.label)) (sym later)
+              ∙ ap (λ n. eqb (n + 1) 0 || eqb (n + 1) (length_of f p.label)) (sym (index r.label p.label child));
         }

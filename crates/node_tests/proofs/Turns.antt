@@ -3,7 +3,6 @@ use Rattle.std.proofs.Common.{◌≡◌, ℕ, suc, ◌-◌, ◌<◌, Bool, true,
 use Rattle.dom_model.specs.declared.Content.{Content}
 use Rattle.dom_model.specs.Contents.{length_of}
 use Rattle.dom_model.specs.Forest.{Forest, parent_of}
-use Rattle.dom_model.specs.State.{State}
 use Rattle.node_arena.specs.declared.NodeRef.{NodeRef}
 use Rattle.node_arena.specs.Held.{label}
 use Rattle.node_tests.specs.declared.breaks.Gap.{Gap}
@@ -86,26 +85,26 @@ pub walk_goes : (turn : Place → Turn) (n : ℕ) (at next : Place) → turn at 
 walk_goes turn n at next e = ap (λ t. elim t [ Answer b ↦ b | GoOn next ↦ walk turn n next ]) e
 
 -- a walk that has come to a gap with so many turns left
-pub record Reached (s : State) (turn : Place → Turn) (left : ℕ) (at : Gap) (answer : Bool) : Type 0 where
-  pub held : HoldsGap s at
+pub record Reached (holds : NodeRef → Type 0) (f : Forest Content) (turn : Place → Turn) (left : ℕ) (at : Gap) (answer : Bool) : Type 0 where
+  pub held : HoldsGap holds at
   pub place : Place
-  pub stands : StandsAt s.trees at place
+  pub stands : StandsAt f at place
   pub same : walk turn left place ≡ answer
 
 less_one : (n : ℕ) → 0 < n → n ≡ suc (n - 1)
 less_one n h = omega (arith, h)
 
-pub answered : (s : State) (turn : Place → Turn) (left : ℕ) (at : Gap) (answer b : Bool) → 0 < left → (reached : Reached s turn left at answer) → turn reached.place ≡ Answer b → b ≡ answer
-answered s turn left at answer b some reached e =
+pub answered : {holds : NodeRef → Type 0} {f : Forest Content} (turn : Place → Turn) (left : ℕ) (at : Gap) (answer b : Bool) → 0 < left → (reached : Reached holds f turn left at answer) → turn reached.place ≡ Answer b → b ≡ answer
+answered turn left at answer b some reached e =
     sym (walk_answers turn (left - 1) reached.place b e) ∙ ap (λ n. walk turn n reached.place) (sym (less_one left some)) ∙ reached.same
 
-pub gone_on : (s : State) (turn : Place → Turn) (left : ℕ) (at next : Gap) (answer : Bool) → 0 < left → (reached : Reached s turn left at answer) → (place : Place) × (turn reached.place ≡ GoOn place) × HoldsGap s next × StandsAt s.trees next place → Reached s turn (left - 1) next answer
-gone_on s turn left at next answer some reached (place, e, held, stands) = record {
+pub gone_on : {holds : NodeRef → Type 0} {f : Forest Content} (turn : Place → Turn) (left : ℕ) (at next : Gap) (answer : Bool) → 0 < left → (reached : Reached holds f turn left at answer) → (place : Place) × (turn reached.place ≡ GoOn place) × HoldsGap holds next × StandsAt f next place → Reached holds f turn (left - 1) next answer
+gone_on turn left at next answer some reached (place, e, held, stands) = record {
   held = held;
   place = place;
   stands = stands;
   same = sym (walk_goes turn (left - 1) reached.place place e) ∙ ap (λ n. walk turn n reached.place) (sym (less_one left some)) ∙ reached.same;
 }
 
-pub run_out : (s : State) (turn : Place → Turn) (left : ℕ) (at : Gap) (answer : Bool) → left ≡ 0 → Reached s turn left at answer → true ≡ answer
-run_out s turn left at answer none reached = sym (ap (λ n. walk turn n reached.place) none) ∙ reached.same
+pub run_out : {holds : NodeRef → Type 0} {f : Forest Content} (turn : Place → Turn) (left : ℕ) (at : Gap) (answer : Bool) → left ≡ 0 → Reached holds f turn left at answer → true ≡ answer
+run_out turn left at answer none reached = sym (ap (λ n. walk turn n reached.place) none) ∙ reached.same

@@ -1,12 +1,11 @@
 -- The editing host that a command on a range works in.
-use Rattle.std.specs.Prelude.{ℕ, Bool, false, not, ◌&&◌, ◌||◌, Option, Some, None, if◌then◌else◌, is_some, ◌==◌}
+use Rattle.std.specs.Prelude.{ℕ, Bool, ◌&&◌, ◌||◌, Option, Some, None, if◌then◌else◌, is_some, ◌==◌}
 use Rattle.std.specs.List.{find, list_any}
-use Rattle.std.specs.Option.{option_map, option_map_or}
+use Rattle.std.specs.Option.{option_map}
 use Rattle.dom_model.specs.declared.Content.{Content}
-use Rattle.dom_model.specs.Editing.{is_host, is_true_state, editing_host, is_editable}
-use Rattle.dom_model.specs.Forest.{Forest, parent_of}
+use Rattle.dom_model.specs.Editing.{is_host, is_true_state, editing_host}
+use Rattle.dom_model.specs.Forest.{Forest}
 use Rattle.node_styles.specs.Lineage.{Kin, lineage}
-use Rattle.node_tests.specs.CollapsedWhitespace.{is_break}
 
 -- editable, whatever its host, or a host
 unfoldable pub takes_commands : Forest Content → ℕ → Bool
@@ -27,11 +26,3 @@ common_host f a b = option_map (λ k. k.label) (find (is_host_of f b) (lineage f
 -- none where a node is neither editable nor a host
 unfoldable pub affected_host : Forest Content → ℕ → ℕ → Option ℕ
 affected_host f start end = if takes_commands f start && takes_commands f end then common_host f start end else None
-
--- the host, or editable with it
-unfoldable pub is_inside : Forest Content → ℕ → ℕ → Bool
-is_inside f host l = (l == host) || is_editable f host l
-
--- neither editable with the host nor a br, with a parent inside
-unfoldable pub is_island : Forest Content → ℕ → ℕ → Bool
-is_island f host l = not (is_editable f host l || is_break f l) && option_map_or (is_inside f host) (parent_of f l) false

@@ -2,10 +2,9 @@
 use Rattle.std.specs.Prelude.{ℕ, zero, suc, ◌==◌, Bool, false, ◌&&◌, ◌||◌, Option, None, is_none, slice_get}
 use Rattle.std.specs.Option.{option_map_or}
 use Rattle.dom_model.specs.declared.Content.{Content}
-use Rattle.dom_model.specs.Contents.{length_of}
+use Rattle.dom_model.specs.Contents.{length_of, is_break}
 use Rattle.dom_model.specs.Forest.{Forest, parent_of, children_of}
 use Rattle.node_styles.specs.Blocks.{is_block}
-use Rattle.node_tests.specs.CollapsedWhitespace.{is_break}
 use Rattle.node_tests.specs.Visible.{is_visible}
 
 -- the child before an offset, and the child at it

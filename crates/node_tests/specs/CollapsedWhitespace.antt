@@ -1,11 +1,11 @@
 -- Collapsed whitespace (HTML Editing APIs, "collapsed whitespace node").
-use Rattle.std.specs.Prelude.{ℕ, Bool, true, false, not, ◌&&◌, ◌||◌, List, [], ◌∷◌, Option, Some, None, if◌then◌else◌, codes}
+use Rattle.std.specs.Prelude.{ℕ, Bool, true, false, not, ◌&&◌, ◌||◌, List, [], ◌∷◌, Option, Some, None, if◌then◌else◌}
 use Rattle.std.specs.Option.{option_map_or, unwrap_or}
 use Rattle.dom_model.specs.declared.Content.{Content}
 use Rattle.dom_model.specs.declared.Content.TheVariants.{Words}
+use Rattle.dom_model.specs.Contents.{is_break, is_image}
 use Rattle.dom_model.specs.Forest.{Forest, content_of}
 use Rattle.css_value.specs.StyleText.{is_empty}
-use Rattle.node_styles.specs.OwnStyles.{is_named}
 use Rattle.node_styles.specs.Blocks.{is_block, is_hidden, is_whitespace}
 use Rattle.node_tests.specs.Surroundings.{nodes_before, nodes_after}
 
@@ -15,12 +15,6 @@ is_words_content _ = false
 
 unfoldable pub is_words : Forest Content → ℕ → Bool
 is_words f l = option_map_or is_words_content (content_of f l) false
-
-unfoldable pub is_image : Forest Content → ℕ → Bool
-is_image f l = option_map_or (is_named (codes "img")) (content_of f l) false
-
-unfoldable pub is_break : Forest Content → ℕ → Bool
-is_break f l = option_map_or (is_named (codes "br")) (content_of f l) false
 
 -- Words that isn't whitespace, or an image
 unfoldable pub is_solid : Forest Content → ℕ → Bool

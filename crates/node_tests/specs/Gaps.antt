@@ -3,19 +3,19 @@ use Rattle.std.specs.Prelude.{◌≡◌, ◌==◌, ◌||◌, ◌&&◌, Bool, is_
 use Rattle.dom_model.specs.declared.Content.{Content}
 use Rattle.dom_model.specs.Contents.{length_of}
 use Rattle.dom_model.specs.Forest.{Forest, parent_of}
-use Rattle.dom_model.specs.State.{State}
-use Rattle.node_arena.specs.Held.{Holds, label}
+use Rattle.node_arena.specs.Held.{label}
+use Rattle.node_arena.specs.declared.NodeRef.{NodeRef}
 use Rattle.node_tests.specs.BlockPoints.{child_before, child_at, starts_after, ends_before}
 use Rattle.node_tests.specs.LineBreaks as line_breaks
 use Rattle.node_tests.specs.declared.breaks.Gap.{Gap}
 use Rattle.node_tests.specs.declared.breaks.Turn.{Turn}
 use Rattle.node_tests.specs.declared.breaks.Turn.TheVariants.{Answer, GoOn}
 
--- the arena holds the nodes
-pub record HoldsGap (s : State) (at : Gap) : Type 0 where
-  pub node : Holds s at.node
-  pub before : IfSome at.before (λ r. Holds s r)
-  pub after : IfSome at.after (λ r. Holds s r)
+-- the nodes are held
+pub record HoldsGap (holds : NodeRef → Type 0) (at : Gap) : Type 0 where
+  pub node : holds at.node
+  pub before : IfSome at.before holds
+  pub after : IfSome at.after holds
 
 -- the children beside a place of a node, and whether it is the first place or the last
 pub record StandsAt (f : Forest Content) (at : Gap) (place : line_breaks.Place) : Type 0 where
@@ -25,9 +25,9 @@ pub record StandsAt (f : Forest Content) (at : Gap) (place : line_breaks.Place) 
   pub ends : (is_none (label at.before) || is_none (label at.after)) ≡ ((place.offset == 0) || (place.offset == length_of f at.node.label))
 
 -- a turn comes to this
-abbrev pub Comes : State → Turn → line_breaks.Turn → Type 0
-Comes s (Answer b) turn = turn ≡ line_breaks.Turn.Answer b
-Comes s (GoOn at) turn = (place : line_breaks.Place) × (turn ≡ line_breaks.Turn.GoOn place) × HoldsGap s at × StandsAt s.trees at place
+abbrev pub Comes : (NodeRef → Type 0) → Forest Content → Turn → line_breaks.Turn → Type 0
+Comes holds f (Answer b) turn = turn ≡ line_breaks.Turn.Answer b
+Comes holds f (GoOn at) turn = (place : line_breaks.Place) × (turn ≡ line_breaks.Turn.GoOn place) × HoldsGap holds at × StandsAt f at place
 
 -- a place is at an end of a tree, or beside a visible block or after a visible br
 abbrev pub meets_boundary : Forest Content → Gap → Bool

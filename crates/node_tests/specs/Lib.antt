@@ -7,8 +7,5 @@ pub mod BlockPoints
 pub mod Ranges
 pub mod Listing
 pub mod AffectedHost
-pub mod CommandValues
-pub mod WorkedPages
-pub mod Modifiable
 pub mod LineBreaks
 pub mod Gaps

@@ -3,14 +3,14 @@
 use Rattle.std.specs.Prelude.{ℕ, Bool, true, false, not, ◌&&◌, List, [], ◌∷◌, Option, Some, None, if◌then◌else◌, codes}
 use Rattle.std.specs.Option.{option_map_or, option_or, unwrap_or}
 use Rattle.dom_model.specs.declared.Content.{Content}
-use Rattle.dom_model.specs.Forest.{Forest, parent_of, children_of, content_of}
+use Rattle.dom_model.specs.Forest.{Forest, parent_of, children_of}
 use Rattle.dom_model.specs.Forest.Forest.{Nil, Tree}
-use Rattle.node_styles.specs.OwnStyles.{is_named}
 use Rattle.node_styles.specs.Blocks.{is_block}
 use Rattle.node_tests.specs.declared.neighbours.Neighbour.{Neighbour}
 use Rattle.node_tests.specs.declared.neighbours.Neighbour.TheVariants.{BlockEdge, LineBreak, Solid}
 use Rattle.node_tests.specs.Surroundings.{trees_before, trees_after}
-use Rattle.node_tests.specs.CollapsedWhitespace.{is_solid, is_break}
+use Rattle.node_tests.specs.CollapsedWhitespace.{is_solid}
+use Rattle.dom_model.specs.Contents.{has_name, is_break}
 
 -- what is met at a node: a block, a br, or Words that isn't whitespace or an image
 unfoldable pub met : Forest Content → ℕ → Option Neighbour
@@ -57,7 +57,7 @@ is_sole _ = false
 -- its parent is an li that has no other child
 unfoldable pub is_sole_in_item : Forest Content → ℕ → Bool
 is_sole_in_item f l =
-    option_map_or (λ p. option_map_or (is_named (codes "li")) (content_of f p) false && is_sole (children_of f p)) (parent_of f l) false
+    option_map_or (λ p. has_name f p (codes "li") && is_sole (children_of f p)) (parent_of f l) false
 
 -- a br after text or an image and before a block edge, which shows no line of its own
 unfoldable pub is_extraneous_break : Forest Content → ℕ → Bool

@@ -6,7 +6,8 @@ use Rattle.dom_model.specs.Forest.{Forest, tree_of}
 use Rattle.dom_model.specs.Forest.Forest.{Nil, Tree}
 use Rattle.node_styles.specs.Blocks.{is_block, is_no_box, is_hidden}
 use Rattle.node_styles.specs.Resolved.{display}
-use Rattle.node_tests.specs.CollapsedWhitespace.{is_words, is_image, is_break, is_collapsed_whitespace}
+use Rattle.node_tests.specs.CollapsedWhitespace.{is_words, is_collapsed_whitespace}
+use Rattle.dom_model.specs.Contents.{is_image, is_break}
 use Rattle.node_tests.specs.SolidNeighbours.{is_extraneous_break}
 
 -- a block, Words that is no collapsed whitespace, an image, or a br that isn't extraneous

@@ -2,26 +2,27 @@
 
 ghost use Rattle.std.specs.Prelude.{◌≡◌, ◌<◌, IfSome, is_none};
 ghost use Rattle.dom_model.specs.Forest.{count_of, parent_of};
-ghost use Rattle.node_arena.specs.Held.{Holds, Names, label};
+ghost use Rattle.node_arena.specs.Held.{label};
+ghost use Rattle.node_arena.specs.Reads.{Names};
 ghost use Rattle.node_tests.specs.BlockPoints as points;
 
-use crate::neighbours::{is_break, is_nothing};
+use crate::neighbours::is_nothing;
 use crate::visible::is_visible;
 use live_range::Point;
-use node_arena::{Arena, NodeRef};
+use node_arena::{NodeRef, Nodes, is_break};
 use node_styles::is_block;
 
 /// The child at an offset.
-pub(crate) fn child_at(arena: &Arena, node: NodeRef, offset: u32) -> Option<NodeRef>
-    requires { Holds arena.now node }
-    ensures { Names arena.now result (points.child_at arena.now.trees node.label offset) }
+pub(crate) fn child_at<N: Nodes>(nodes: &N, node: NodeRef, offset: u32) -> Option<NodeRef>
+    requires { N.holds nodes.now node }
+    ensures { Names (N.holds nodes.now) result (points.child_at (N.trees nodes.now) node.label offset) }
 {
-    arena.lawful();
-    let mut child = arena.first_child(node);
+    nodes.lawful();
+    let mut child = nodes.first_child(node);
     let mut left = offset;
     while left > 0 {
         match child {
-            Some(at) => child = arena.next(at),
+            Some(at) => child = nodes.next(at),
             None => return None,
         }
         left -= 1;
@@ -30,26 +31,26 @@ pub(crate) fn child_at(arena: &Arena, node: NodeRef, offset: u32) -> Option<Node
 }
 
 // The child before an offset.
-fn child_before(arena: &Arena, node: NodeRef, offset: u32) -> Option<NodeRef>
-    requires { Holds arena.now node }
-    ensures { Names arena.now result (points.child_before arena.now.trees node.label offset) }
+fn child_before<N: Nodes>(nodes: &N, node: NodeRef, offset: u32) -> Option<NodeRef>
+    requires { N.holds nodes.now node }
+    ensures { Names (N.holds nodes.now) result (points.child_before (N.trees nodes.now) node.label offset) }
 {
     if offset == 0 {
         None
     } else {
-        child_at(arena, node, offset - 1)
+        child_at(nodes, node, offset - 1)
     }
 }
 
 #[tactic(auto, unfolding(crate::specs::BlockPoints::starts_after))]
 /// Whether a block or a line starts after this node, if there is one.
-pub(crate) fn starts_after(arena: &Arena, node: Option<NodeRef>) -> bool
-    requires { IfSome node (λ r. Holds arena.now r) }
-    ensures { result ≡ points.starts_after arena.now.trees (label node) }
+pub(crate) fn starts_after<N: Nodes>(nodes: &N, node: Option<NodeRef>) -> bool
+    requires { IfSome node (N.holds nodes.now) }
+    ensures { result ≡ points.starts_after (N.trees nodes.now) (label node) }
 {
     match node {
         Some(node) => {
-            is_visible(arena, node) && (is_block(arena, node) || is_break(arena, node))
+            is_visible(nodes, node) && (is_block(nodes, node) || is_break(nodes, node))
         }
         None => false,
     }
@@ -57,74 +58,74 @@ pub(crate) fn starts_after(arena: &Arena, node: Option<NodeRef>) -> bool
 
 #[tactic(auto, unfolding(crate::specs::BlockPoints::ends_before))]
 /// Whether a block ends before this node, if there is one.
-pub(crate) fn ends_before(arena: &Arena, node: Option<NodeRef>) -> bool
-    requires { IfSome node (λ r. Holds arena.now r) }
-    ensures { result ≡ points.ends_before arena.now.trees (label node) }
+pub(crate) fn ends_before<N: Nodes>(nodes: &N, node: Option<NodeRef>) -> bool
+    requires { IfSome node (N.holds nodes.now) }
+    ensures { result ≡ points.ends_before (N.trees nodes.now) (label node) }
 {
     match node {
-        Some(node) => is_visible(arena, node) && is_block(arena, node),
+        Some(node) => is_visible(nodes, node) && is_block(nodes, node),
         None => false,
     }
 }
 
 /// Whether a node has no parent.
-pub(crate) fn is_root(arena: &Arena, node: NodeRef) -> bool
-    requires { Holds arena.now node }
-    ensures { result ≡ is_none (parent_of arena.now.trees node.label) }
+pub(crate) fn is_root<N: Nodes>(nodes: &N, node: NodeRef) -> bool
+    requires { N.holds nodes.now node }
+    ensures { result ≡ is_none (parent_of (N.trees nodes.now) node.label) }
 {
-    is_nothing(arena.parent(node))
+    is_nothing(nodes.parent(node))
 }
 
 // The same of a place in a node.
 #[tactic(auto, unfolding(crate::specs::BlockPoints::is_block_start))]
-fn starts_at(arena: &Arena, node: NodeRef, offset: u32) -> bool
-    requires { Holds arena.now node }
-    ensures { result ≡ points.is_block_start arena.now.trees node.label offset }
+fn starts_at<N: Nodes>(nodes: &N, node: NodeRef, offset: u32) -> bool
+    requires { N.holds nodes.now node }
+    ensures { result ≡ points.is_block_start (N.trees nodes.now) node.label offset }
 {
-    if is_root(arena, node) && offset == 0 {
+    if is_root(nodes, node) && offset == 0 {
         return true;
     }
-    starts_after(arena, child_before(arena, node, offset))
+    starts_after(nodes, child_before(nodes, node, offset))
 }
 
 #[tactic(auto, unfolding(crate::specs::BlockPoints::is_block_end))]
-fn ends_at(arena: &Arena, node: NodeRef, offset: u32) -> bool
-    requires { Holds arena.now node }
-    ensures { result ≡ points.is_block_end arena.now.trees node.label offset }
+fn ends_at<N: Nodes>(nodes: &N, node: NodeRef, offset: u32) -> bool
+    requires { N.holds nodes.now node }
+    ensures { result ≡ points.is_block_end (N.trees nodes.now) node.label offset }
 {
-    if is_root(arena, node) && offset == arena.length(node) {
+    if is_root(nodes, node) && offset == nodes.length(node) {
         return true;
     }
-    ends_before(arena, child_at(arena, node, offset))
+    ends_before(nodes, child_at(nodes, node, offset))
 }
 
 /// Whether a point is a block start point: the start of a tree, or after a visible block node or a visible br.
-pub fn is_block_start(arena: &Arena, at: Point) -> bool
-    requires { 0 < count_of arena.now.trees at.label }
-    ensures { result ≡ points.is_block_start arena.now.trees at.label at.offset }
+pub fn is_block_start<N: Nodes>(nodes: &N, at: Point) -> bool
+    requires { 0 < count_of (N.trees nodes.now) at.label }
+    ensures { result ≡ points.is_block_start (N.trees nodes.now) at.label at.offset }
 {
-    match arena.find(at.label) {
-        Some(node) => starts_at(arena, node, at.offset),
+    match nodes.find(at.label) {
+        Some(node) => starts_at(nodes, node, at.offset),
         None => unreachable!(),
     }
 }
 
 /// Whether a point is a block end point: the end of a tree, or before a visible block node.
-pub fn is_block_end(arena: &Arena, at: Point) -> bool
-    requires { 0 < count_of arena.now.trees at.label }
-    ensures { result ≡ points.is_block_end arena.now.trees at.label at.offset }
+pub fn is_block_end<N: Nodes>(nodes: &N, at: Point) -> bool
+    requires { 0 < count_of (N.trees nodes.now) at.label }
+    ensures { result ≡ points.is_block_end (N.trees nodes.now) at.label at.offset }
 {
-    match arena.find(at.label) {
-        Some(node) => ends_at(arena, node, at.offset),
+    match nodes.find(at.label) {
+        Some(node) => ends_at(nodes, node, at.offset),
         None => unreachable!(),
     }
 }
 
 #[tactic(auto, unfolding(crate::specs::BlockPoints::is_block_boundary))]
 /// Whether a point is a block start point or a block end point.
-pub fn is_block_boundary(arena: &Arena, at: Point) -> bool
-    requires { 0 < count_of arena.now.trees at.label }
-    ensures { result ≡ points.is_block_boundary arena.now.trees at.label at.offset }
+pub fn is_block_boundary<N: Nodes>(nodes: &N, at: Point) -> bool
+    requires { 0 < count_of (N.trees nodes.now) at.label }
+    ensures { result ≡ points.is_block_boundary (N.trees nodes.now) at.label at.offset }
 {
-    is_block_start(arena, at) || is_block_end(arena, at)
+    is_block_start(nodes, at) || is_block_end(nodes, at)
 }

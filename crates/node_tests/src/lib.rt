@@ -2,7 +2,8 @@
 //! where blocks start and end, and what a range contains. The terms are those of the W3C's *HTML Editing APIs* and of the
 //! DOM Standard. A test takes no memory; it walks from node to node by links.
 //!
-//! The crate hands on the calls of `node_styles`, so that a caller has all tests of nodes in one place.
+//! The crate hands on the tests of `node_arena`, `node_styles` and `point_order`, so that a caller has all tests of nodes in
+//! one place.
 #![tactic(auto)]
 
 mod affected;
@@ -14,20 +15,20 @@ mod props;
 mod ranges;
 mod visible;
 mod whitespace;
-mod worked_values;
 
-pub use affected::affected_host;
+pub use affected::{affected_host, editing_host};
 pub use block_points::{is_block_boundary, is_block_end, is_block_start};
 pub use breaks::{follows_break, precedes_break};
 pub use listing::{contained_nodes, effective_nodes};
 pub use neighbours::{is_collapsed_break, is_extraneous_break};
+pub use node_arena::{has_name, is_break, is_image};
 pub use node_styles::{
     allowed_in, allowed_in_name, is_block, is_editable, is_format_candidate, is_formattable_block,
     is_host, is_indentation, is_non_list_single_line, is_simple_indentation, is_single_line,
     is_whitespace, name_allowed_in, resolved,
 };
+pub use point_order::{is_ancestor, is_within};
 pub use props::is_block_prop;
 pub use ranges::{is_contained, is_effectively_contained};
 pub use visible::{is_formattable, is_visible};
 pub use whitespace::is_collapsed_whitespace;
-pub use worked_values::{bold_values, script_values, size_values};

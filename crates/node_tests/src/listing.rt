@@ -3,14 +3,13 @@
 ghost use Rattle.std.specs.Prelude.{◌≡◌, ◌<◌, ◌≤◌, ◌⊎◌, ◌++◌, Bool, None, OnOk, IfOk, map};
 ghost use Rattle.std.specs.List.{All, filter};
 ghost use Rattle.dom_model.specs.Forest.{count_of, parent_of, preorder, tree_of, IsWithin};
-ghost use Rattle.node_arena.specs.Held.{Holds};
 ghost use Rattle.node_tests.specs.Listing.{is_wanted, only_if, IsOpen, Lies, Parts};
 ghost use Rattle.node_tests.specs.Ranges as ranges;
 
-use crate::ranges::{held, is_contained, is_effectively_contained};
+use crate::ranges::{is_contained, is_effectively_contained};
 use live_range::Point;
-use node_arena::{Arena, NodeList, NodeRef};
-use point_order::{child_toward, comes_before};
+use node_arena::{NodeList, NodeRef, Nodes};
+use point_order::{child_toward, comes_before, node_of};
 use std::alloc::{AllocError, Global};
 
 /// Which nodes of a range are listed.
@@ -35,80 +34,80 @@ struct Sides {
 }
 
 #[tactic(auto, unfolding(crate::specs::Listing::is_wanted))]
-fn is_wanted(arena: &Arena, node: NodeRef, range: (Point, Point), wanted: Wanted) -> bool
-    requires node_held { Holds arena.now node }
-    requires start_held { 0 < count_of arena.now.trees range.0.label }
-    requires end_held { 0 < count_of arena.now.trees range.1.label }
-    ensures { result ≡ is_wanted wanted arena.now.trees range.0 range.1 node.label }
+fn is_wanted<N: Nodes>(nodes: &N, node: NodeRef, range: (Point, Point), wanted: Wanted) -> bool
+    requires node_held { N.holds nodes.now node }
+    requires start_held { 0 < count_of (N.trees nodes.now) range.0.label }
+    requires end_held { 0 < count_of (N.trees nodes.now) range.1.label }
+    ensures { result ≡ is_wanted wanted (N.trees nodes.now) range.0 range.1 node.label }
 {
     match wanted {
-        Wanted::Contained => is_contained(arena, node, range),
-        Wanted::Effective => is_effectively_contained(arena, node, range),
+        Wanted::Contained => is_contained(nodes, node, range),
+        Wanted::Effective => is_effectively_contained(nodes, node, range),
     }
 }
 
 // The same by what is known of the node's tree, where that is enough.
-fn is_wanted_there(
-    arena: &Arena,
+fn is_wanted_there<N: Nodes>(
+    nodes: &N,
     node: NodeRef,
     range: (Point, Point),
     sides: Sides,
     wanted: Wanted,
 ) -> bool
-    requires node_held { Holds arena.now node }
-    requires start_held { 0 < count_of arena.now.trees range.0.label }
-    requires end_held { 0 < count_of arena.now.trees range.1.label }
-    requires sides { Lies arena.now.trees range.0 range.1 sides node.label }
-    requires open { IsOpen wanted arena.now.trees range.0 range.1 }
-    ensures { result ≡ is_wanted wanted arena.now.trees range.0 range.1 node.label }
+    requires node_held { N.holds nodes.now node }
+    requires start_held { 0 < count_of (N.trees nodes.now) range.0.label }
+    requires end_held { 0 < count_of (N.trees nodes.now) range.1.label }
+    requires sides { Lies (N.trees nodes.now) range.0 range.1 sides node.label }
+    requires open { IsOpen wanted (N.trees nodes.now) range.0 range.1 }
+    ensures { result ≡ is_wanted wanted (N.trees nodes.now) range.0 range.1 node.label }
 {
-    arena.lawful();
+    nodes.lawful();
     if sides.after && sides.before {
         return true;
     }
-    is_wanted(arena, node, range, wanted)
+    is_wanted(nodes, node, range, wanted)
 }
 
 // Puts a node behind those found before, where it is wanted.
-fn push_wanted(
-    arena: &Arena,
+fn push_wanted<N: Nodes>(
+    nodes: &N,
     node: NodeRef,
     range: (Point, Point),
     sides: Sides,
     wanted: Wanted,
     found: &mut Vec<NodeRef>,
 ) -> Result<(), AllocError>
-    requires node_held { Holds arena.now node }
-    requires start_held { 0 < count_of arena.now.trees range.0.label }
-    requires end_held { 0 < count_of arena.now.trees range.1.label }
-    requires sides { Lies arena.now.trees range.0 range.1 sides node.label }
-    requires open { IsOpen wanted arena.now.trees range.0 range.1 }
-    requires found_held { All (λ r. Holds arena.now r) found.old.items }
-    ensures nodes { OnOk result (map (λ r. r.label) found.new.items ≡ map (λ r. r.label) found.old.items ++ only_if (is_wanted wanted arena.now.trees range.0 range.1) node.label) }
-    ensures held { OnOk result (All (λ r. Holds arena.now r) found.new.items) }
+    requires node_held { N.holds nodes.now node }
+    requires start_held { 0 < count_of (N.trees nodes.now) range.0.label }
+    requires end_held { 0 < count_of (N.trees nodes.now) range.1.label }
+    requires sides { Lies (N.trees nodes.now) range.0 range.1 sides node.label }
+    requires open { IsOpen wanted (N.trees nodes.now) range.0 range.1 }
+    requires found_held { All (N.holds nodes.now) found.old.items }
+    ensures nodes { OnOk result (map (λ r. r.label) found.new.items ≡ map (λ r. r.label) found.old.items ++ only_if (is_wanted wanted (N.trees nodes.now) range.0 range.1) node.label) }
+    ensures held { OnOk result (All (N.holds nodes.now) found.new.items) }
 {
-    if is_wanted_there(arena, node, range, sides, wanted) {
+    if is_wanted_there(nodes, node, range, sides, wanted) {
         found.push(node)?;
     }
     Ok(())
 }
 
 // Where a point parts the children of a node. If it stands below none of them, nothing is known.
-fn parts_at(arena: &Arena, node: NodeRef, point: Point) -> Parting
-    requires node_held { Holds arena.now node }
-    requires point_held { 0 < count_of arena.now.trees point.label }
-    ensures { Parts arena.now.trees point node.label result }
+fn parts_at<N: Nodes>(nodes: &N, node: NodeRef, point: Point) -> Parting
+    requires node_held { N.holds nodes.now node }
+    requires point_held { 0 < count_of (N.trees nodes.now) point.label }
+    ensures { Parts (N.trees nodes.now) point node.label result }
 {
-    arena.lawful();
+    nodes.lawful();
     if point.label == node.label {
         return Parting {
             ended: point.offset,
             begun: point.offset,
         };
     }
-    match child_toward(arena, node, held(arena, point.label)) {
+    match child_toward(nodes, node, node_of(nodes, point)) {
         Some(child) => {
-            let index = arena.index(child);
+            let index = nodes.index(child);
             Parting {
                 ended: index,
                 begun: index + 1,
@@ -116,7 +115,7 @@ fn parts_at(arena: &Arena, node: NodeRef, point: Point) -> Parting
         }
         None => Parting {
             ended: 0,
-            begun: arena.length(node),
+            begun: nodes.length(node),
         },
     }
 }
@@ -141,36 +140,36 @@ fn inner_sides(sides: Sides, start: Parting, end: Parting, index: u32) -> Sides
 
 // Puts the wanted nodes of the tree of a node behind those found before. It looks into no child that lies before the range or
 // after it, and tests no node of a child that lies between its ends.
-fn push_tree(
-    arena: &Arena,
+fn push_tree<N: Nodes>(
+    nodes: &N,
     node: NodeRef,
     range: (Point, Point),
     sides: Sides,
     wanted: Wanted,
     found: &mut Vec<NodeRef>,
 ) -> Result<(), AllocError>
-    requires node_held { Holds arena.now node }
-    requires start_held { 0 < count_of arena.now.trees range.0.label }
-    requires end_held { 0 < count_of arena.now.trees range.1.label }
-    requires sides { Lies arena.now.trees range.0 range.1 sides node.label }
-    requires open { IsOpen wanted arena.now.trees range.0 range.1 }
-    requires found_held { All (λ r. Holds arena.now r) found.old.items }
-    ensures nodes { OnOk result (map (λ r. r.label) found.new.items ≡ map (λ r. r.label) found.old.items ++ filter (is_wanted wanted arena.now.trees range.0 range.1) (preorder (tree_of arena.now.trees node.label))) }
-    ensures held { OnOk result (All (λ r. Holds arena.now r) found.new.items) }
+    requires node_held { N.holds nodes.now node }
+    requires start_held { 0 < count_of (N.trees nodes.now) range.0.label }
+    requires end_held { 0 < count_of (N.trees nodes.now) range.1.label }
+    requires sides { Lies (N.trees nodes.now) range.0 range.1 sides node.label }
+    requires open { IsOpen wanted (N.trees nodes.now) range.0 range.1 }
+    requires found_held { All (N.holds nodes.now) found.old.items }
+    ensures nodes { OnOk result (map (λ r. r.label) found.new.items ≡ map (λ r. r.label) found.old.items ++ filter (is_wanted wanted (N.trees nodes.now) range.0 range.1) (preorder (tree_of (N.trees nodes.now) node.label))) }
+    ensures held { OnOk result (All (N.holds nodes.now) found.new.items) }
 {
-    arena.lawful();
-    push_wanted(arena, node, range, sides, wanted, found)?;
-    let start = parts_at(arena, node, range.0);
-    let end = parts_at(arena, node, range.1);
+    nodes.lawful();
+    push_wanted(nodes, node, range, sides, wanted, found)?;
+    let start = parts_at(nodes, node, range.0);
+    let end = parts_at(nodes, node, range.1);
     let mut index: u32 = 0;
-    let mut child = arena.first_child(node);
+    let mut child = nodes.first_child(node);
     while let Some(at) = child {
         if !is_outside(start, end, index) {
             let inner = inner_sides(sides, start, end, index);
-            push_tree(arena, at, range, inner, wanted, found)?;
+            push_tree(nodes, at, range, inner, wanted, found)?;
         }
         index += 1;
-        child = arena.next(at);
+        child = nodes.next(at);
     }
     Ok(())
 }
@@ -187,15 +186,15 @@ fn no_side() -> Sides
 }
 
 // The root of the tree of a node.
-fn root_of(arena: &Arena, node: NodeRef) -> NodeRef
-    requires { Holds arena.now node }
-    ensures held { Holds arena.now result }
-    ensures root { parent_of arena.now.trees result.label ≡ None }
-    ensures within { IsWithin arena.now.trees result.label node.label }
+fn root_of<N: Nodes>(nodes: &N, node: NodeRef) -> NodeRef
+    requires { N.holds nodes.now node }
+    ensures held { N.holds nodes.now result }
+    ensures root { parent_of (N.trees nodes.now) result.label ≡ None }
+    ensures within { IsWithin (N.trees nodes.now) result.label node.label }
 {
-    arena.lawful();
+    nodes.lawful();
     let mut at = node;
-    while let Some(parent) = arena.parent(at) {
+    while let Some(parent) = nodes.parent(at) {
         at = parent;
     }
     at
@@ -203,43 +202,43 @@ fn root_of(arena: &Arena, node: NodeRef) -> NodeRef
 
 /// The nodes that a range contains, in tree order. It looks at the nodes from the start to the end of the range, those above
 /// them, and the children of these.
-pub fn contained_nodes(
+pub fn contained_nodes<N: Nodes>(
     alloc: Global,
-    arena: &Arena,
+    nodes: &N,
     range: (Point, Point),
 ) -> Result<NodeList, AllocError>
-    requires start_held { 0 < count_of arena.now.trees range.0.label }
-    requires end_held { 0 < count_of arena.now.trees range.1.label }
-    ensures nodes { IfOk result (λ list. map (λ r. r.label) list ≡ ranges.contained_nodes arena.now.trees range.0 range.1) }
-    ensures held { IfOk result (λ list. All (λ r. Holds arena.now r) list) }
+    requires start_held { 0 < count_of (N.trees nodes.now) range.0.label }
+    requires end_held { 0 < count_of (N.trees nodes.now) range.1.label }
+    ensures nodes { IfOk result (λ list. map (λ r. r.label) list ≡ ranges.contained_nodes (N.trees nodes.now) range.0 range.1) }
+    ensures held { IfOk result (λ list. All (N.holds nodes.now) list) }
 {
-    arena.lawful();
-    let start = held(arena, range.0.label);
-    let root = root_of(arena, start);
+    nodes.lawful();
+    let start = node_of(nodes, range.0);
+    let root = root_of(nodes, start);
     let mut found = Vec::new(alloc);
-    push_tree(arena, root, range, no_side(), Wanted::Contained, &mut found)?;
+    push_tree(nodes, root, range, no_side(), Wanted::Contained, &mut found)?;
     NodeList::from_slice(alloc, &found)
 }
 
 /// The nodes that a range effectively contains, in tree order. It looks at the nodes from the start to the end of the range, those above
 /// them, and the children of these.
-pub fn effective_nodes(
+pub fn effective_nodes<N: Nodes>(
     alloc: Global,
-    arena: &Arena,
+    nodes: &N,
     range: (Point, Point),
 ) -> Result<NodeList, AllocError>
-    requires start_held { 0 < count_of arena.now.trees range.0.label }
-    requires end_held { 0 < count_of arena.now.trees range.1.label }
-    ensures nodes { IfOk result (λ list. map (λ r. r.label) list ≡ ranges.effective_nodes arena.now.trees range.0 range.1) }
-    ensures held { IfOk result (λ list. All (λ r. Holds arena.now r) list) }
+    requires start_held { 0 < count_of (N.trees nodes.now) range.0.label }
+    requires end_held { 0 < count_of (N.trees nodes.now) range.1.label }
+    ensures nodes { IfOk result (λ list. map (λ r. r.label) list ≡ ranges.effective_nodes (N.trees nodes.now) range.0 range.1) }
+    ensures held { IfOk result (λ list. All (N.holds nodes.now) list) }
 {
-    arena.lawful();
+    nodes.lawful();
     let mut found = Vec::new(alloc);
-    if !comes_before(arena, range.0, range.1) {
+    if !comes_before(nodes, range.0, range.1) {
         return NodeList::from_slice(alloc, &found);
     }
-    let start = held(arena, range.0.label);
-    let root = root_of(arena, start);
-    push_tree(arena, root, range, no_side(), Wanted::Effective, &mut found)?;
+    let start = node_of(nodes, range.0);
+    let root = root_of(nodes, start);
+    push_tree(nodes, root, range, no_side(), Wanted::Effective, &mut found)?;
     NodeList::from_slice(alloc, &found)
 }

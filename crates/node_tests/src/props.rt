@@ -2,19 +2,18 @@
 
 ghost use Rattle.std.specs.Prelude.{◌≡◌, ◌||◌};
 ghost use Rattle.dom_model.specs.Contents.{is_element_at};
-ghost use Rattle.node_arena.specs.Held.{Holds};
 ghost use Rattle.node_tests.specs.BlockProps as props;
 
 use crate::neighbours::{is_collapsed_break, is_extraneous_break};
 use crate::visible::is_visible;
-use node_arena::{Arena, Kind, NodeRef};
+use node_arena::{Kind, NodeRef, Nodes};
 use node_styles::is_block;
 
-fn is_element(arena: &Arena, node: NodeRef) -> bool
-    requires { Holds arena.now node }
-    ensures { result ≡ is_element_at arena.now.trees node.label }
+fn is_element<N: Nodes>(nodes: &N, node: NodeRef) -> bool
+    requires { N.holds nodes.now node }
+    ensures { result ≡ is_element_at (N.trees nodes.now) node.label }
 {
-    match arena.kind(node) {
+    match nodes.kind(node) {
         Kind::Element => true,
         _ => false,
     }
@@ -22,19 +21,19 @@ fn is_element(arena: &Arena, node: NodeRef) -> bool
 
 // Whether a node is a collapsed line break that isn't extraneous.
 #[tactic(auto, unfolding(crate::specs::BlockProps::is_break_prop))]
-fn is_break_prop(arena: &Arena, node: NodeRef) -> bool
-    requires { Holds arena.now node }
-    ensures { result ≡ props.is_break_prop arena.now.trees node.label }
+fn is_break_prop<N: Nodes>(nodes: &N, node: NodeRef) -> bool
+    requires { N.holds nodes.now node }
+    ensures { result ≡ props.is_break_prop (N.trees nodes.now) node.label }
 {
-    is_collapsed_break(arena, node) && !is_extraneous_break(arena, node)
+    is_collapsed_break(nodes, node) && !is_extraneous_break(nodes, node)
 }
 
 #[tactic(auto, unfolding(crate::specs::BlockProps::is_inline_element))]
-fn is_inline_element(arena: &Arena, node: NodeRef) -> bool
-    requires { Holds arena.now node }
-    ensures { result ≡ props.is_inline_element arena.now.trees node.label }
+fn is_inline_element<N: Nodes>(nodes: &N, node: NodeRef) -> bool
+    requires { N.holds nodes.now node }
+    ensures { result ≡ props.is_inline_element (N.trees nodes.now) node.label }
 {
-    is_element(arena, node) && !is_block(arena, node)
+    is_element(nodes, node) && !is_block(nodes, node)
 }
 
 fn either(a: bool, b: bool) -> bool
@@ -45,28 +44,28 @@ fn either(a: bool, b: bool) -> bool
 
 /// Whether a node is a collapsed block prop: a collapsed line break that isn't extraneous, or an inline element whose
 /// children are all invisible or collapsed block props, with at least one such prop.
-pub fn is_block_prop(arena: &Arena, node: NodeRef) -> bool
-    requires { Holds arena.now node }
-    ensures { result ≡ props.is_block_prop arena.now.trees node.label }
+pub fn is_block_prop<N: Nodes>(nodes: &N, node: NodeRef) -> bool
+    requires { N.holds nodes.now node }
+    ensures { result ≡ props.is_block_prop (N.trees nodes.now) node.label }
 {
-    arena.lawful();
-    if is_break_prop(arena, node) {
+    nodes.lawful();
+    if is_break_prop(nodes, node) {
         return true;
     }
-    if !is_inline_element(arena, node) {
+    if !is_inline_element(nodes, node) {
         return false;
     }
     let mut found = false;
-    let mut child = arena.first_child(node);
+    let mut child = nodes.first_child(node);
     while let Some(at) = child {
-        let prop = is_block_prop(arena, at);
+        let prop = is_block_prop(nodes, at);
         if !prop {
-            if is_visible(arena, at) {
+            if is_visible(nodes, at) {
                 return false;
             }
         }
         found = either(found, prop);
-        child = arena.next(at);
+        child = nodes.next(at);
     }
     found
 }

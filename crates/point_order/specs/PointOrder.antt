@@ -1,5 +1,5 @@
 -- Which of two points comes first (DOM Standard, "boundary point position"), and whether a point stands in the document.
-use Rattle.std.specs.Prelude.{ℕ, Bool, ◌&&◌, ◌==◌, nat_lt, nat_le, Option, Some, None, if◌then◌else◌, find}
+use Rattle.std.specs.Prelude.{ℕ, Bool, not, ◌&&◌, ◌==◌, nat_lt, nat_le, Option, Some, None, if◌then◌else◌, find}
 use Rattle.dom_model.specs.declared.Content.{Content}
 use Rattle.dom_model.specs.Forest.{Forest, is_label, count_of, tree_of, children_of}
 use Rattle.dom_model.specs.Contents.{length_of}
@@ -9,6 +9,9 @@ use Rattle.live_range.specs.declared.places.Point.{Point}
 -- a node is another, or stands below it
 abbrev pub is_within : Forest Content → ℕ → ℕ → Bool
 is_within f top l = nat_lt 0 (count_of (tree_of f top) l)
+
+abbrev pub is_ancestor : Forest Content → ℕ → ℕ → Bool
+is_ancestor f top l = not (top == l) && is_within f top l
 
 -- the child of a node that another node is, or stands below
 abbrev pub child_toward : Forest Content → ℕ → ℕ → Option ℕ

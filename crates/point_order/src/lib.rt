@@ -6,21 +6,21 @@
 
 ghost use Rattle.std.specs.Prelude.{◌≡◌, ◌<◌};
 ghost use Rattle.dom_model.specs.Forest.{count_of};
-ghost use Rattle.node_arena.specs.Held.{Holds, Names};
-ghost use Rattle.point_order.specs.PointOrder.{child_toward, is_before, is_in_document, is_placed};
+ghost use Rattle.node_arena.specs.Reads.{Names};
+ghost use Rattle.point_order.specs.PointOrder.{child_toward, is_ancestor, is_before, is_earlier, is_in_document, is_placed, is_within};
 
 use live_range::Point;
-use node_arena::{Arena, NodeRef};
+use node_arena::{NodeRef, Nodes};
 
 /// The child of `top` that the node is, or stands below; `None` where the node is `top` or isn't in its tree.
-pub fn child_toward(arena: &Arena, top: NodeRef, node: NodeRef) -> Option<NodeRef>
-    requires top_held { Holds arena.now top }
-    requires node_held { Holds arena.now node }
-    ensures { Names arena.now result (child_toward arena.now.trees top.label node.label) }
+pub fn child_toward<N: Nodes>(nodes: &N, top: NodeRef, node: NodeRef) -> Option<NodeRef>
+    requires top_held { N.holds nodes.now top }
+    requires node_held { N.holds nodes.now node }
+    ensures { Names (N.holds nodes.now) result (child_toward (N.trees nodes.now) top.label node.label) }
 {
-    arena.lawful();
+    nodes.lawful();
     let mut at = node;
-    while let Some(parent) = arena.parent(at) {
+    while let Some(parent) = nodes.parent(at) {
         if parent.label == top.label {
             return Some(at);
         }
@@ -29,60 +29,87 @@ pub fn child_toward(arena: &Arena, top: NodeRef, node: NodeRef) -> Option<NodeRe
     None
 }
 
-// The node of a label that is there.
-fn node_at(arena: &Arena, label: u32) -> NodeRef
-    requires { 0 < count_of arena.now.trees label }
-    ensures held { Holds arena.now result }
-    ensures label { result.label ≡ label }
+/// Whether a node is `top` or stands below it.
+pub fn is_within<N: Nodes>(nodes: &N, top: NodeRef, node: NodeRef) -> bool
+    requires top_held { N.holds nodes.now top }
+    requires node_held { N.holds nodes.now node }
+    ensures { result ≡ is_within (N.trees nodes.now) top.label node.label }
 {
-    match arena.find(label) {
+    nodes.is_within(top, node)
+}
+
+/// Whether a node stands below `top`.
+pub fn is_ancestor<N: Nodes>(nodes: &N, top: NodeRef, node: NodeRef) -> bool
+    requires top_held { N.holds nodes.now top }
+    requires node_held { N.holds nodes.now node }
+    ensures { result ≡ is_ancestor (N.trees nodes.now) top.label node.label }
+{
+    top.label != node.label && is_within(nodes, top, node)
+}
+
+/// Whether a node comes before another one in tree order. `false` where they are in different trees.
+pub fn is_earlier<N: Nodes>(nodes: &N, node: NodeRef, other: NodeRef) -> bool
+    requires node_held { N.holds nodes.now node }
+    requires other_held { N.holds nodes.now other }
+    ensures { result ≡ is_earlier (N.trees nodes.now) node.label other.label }
+{
+    match nodes.before(node, other) {
+        Some(first) => first.label == node.label,
+        None => false,
+    }
+}
+
+/// The node of a point, which is there.
+pub fn node_of<N: Nodes>(nodes: &N, point: Point) -> NodeRef
+    requires { 0 < count_of (N.trees nodes.now) point.label }
+    ensures held { N.holds nodes.now result }
+    ensures label { result.label ≡ point.label }
+{
+    match nodes.find(point.label) {
         Some(node) => node,
         None => unreachable!(),
     }
 }
 
 /// Whether a point comes before another one. Their nodes are there.
-pub fn comes_before(arena: &Arena, point: Point, other: Point) -> bool
-    requires point_there { 0 < count_of arena.now.trees point.label }
-    requires other_there { 0 < count_of arena.now.trees other.label }
-    ensures { result ≡ is_before arena.now.trees point other }
+pub fn comes_before<N: Nodes>(nodes: &N, point: Point, other: Point) -> bool
+    requires point_there { 0 < count_of (N.trees nodes.now) point.label }
+    requires other_there { 0 < count_of (N.trees nodes.now) other.label }
+    ensures { result ≡ is_before (N.trees nodes.now) point other }
 {
     if point.label == other.label {
         return point.offset < other.offset;
     }
-    let node = node_at(arena, point.label);
-    let other_node = node_at(arena, other.label);
-    if let Some(child) = child_toward(arena, node, other_node) {
-        return point.offset <= arena.index(child);
+    let node = node_of(nodes, point);
+    let other_node = node_of(nodes, other);
+    if let Some(child) = child_toward(nodes, node, other_node) {
+        return point.offset <= nodes.index(child);
     }
-    if let Some(child) = child_toward(arena, other_node, node) {
-        return arena.index(child) < other.offset;
+    if let Some(child) = child_toward(nodes, other_node, node) {
+        return nodes.index(child) < other.offset;
     }
-    match arena.before(node, other_node) {
-        Some(first) => first.label == point.label,
-        None => false,
-    }
+    is_earlier(nodes, node, other_node)
 }
 
 /// Whether the node of a label is in the document.
-pub fn is_in_document(arena: &Arena, label: u32) -> bool
-    ensures { result ≡ is_in_document arena.now.trees label }
+pub fn is_in_document<N: Nodes>(nodes: &N, label: u32) -> bool
+    ensures { result ≡ is_in_document (N.trees nodes.now) label }
 {
-    arena.lawful();
-    match arena.find(label) {
-        Some(node) => arena.is_within(arena.document(), node),
+    nodes.lawful();
+    match nodes.find(label) {
+        Some(node) => nodes.is_within(nodes.document(), node),
         None => false,
     }
 }
 
 /// Whether a point stands in the document, at an offset of its node.
-pub fn is_placed(arena: &Arena, point: Point) -> bool
-    ensures { result ≡ is_placed arena.now.trees point }
+pub fn is_placed<N: Nodes>(nodes: &N, point: Point) -> bool
+    ensures { result ≡ is_placed (N.trees nodes.now) point }
 {
-    arena.lawful();
-    match arena.find(point.label) {
+    nodes.lawful();
+    match nodes.find(point.label) {
         Some(node) => {
-            arena.is_within(arena.document(), node) && point.offset <= arena.length(node)
+            nodes.is_within(nodes.document(), node) && point.offset <= nodes.length(node)
         }
         None => false,
     }
@@ -91,7 +118,7 @@ pub fn is_placed(arena: &Arena, point: Point) -> bool
 #[cfg(test)]
 mod tests {
     use super::*;
-    use node_arena::Chars;
+    use node_arena::{Arena, Chars};
     use std::test::Fail;
 
     #[test]

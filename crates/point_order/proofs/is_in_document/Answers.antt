@@ -3,4 +3,4 @@ use Rattle.point_order.proofs.Document.{absent}
 use Rattle.point_order.proofs.is_in_document.Goals as goal
 
 pub returns-in-None : goal.returns-in-None
-returns-in-None c = absent c.args.arena.now.trees c.args.label (c.in-None.ensures.absent.0 refl)
+returns-in-None g c = absent (g.N.Nodes.trees c.args.nodes.now) c.args.label (c.in-None.ensures.absent.0 refl)

@@ -1,32 +1,31 @@
 use Rattle.std.proofs.Common.{sym, ◌∙◌, arith}
 use Rattle.dom_model.proofs.Within.{depth_of-parent}
-use Rattle.node_styles.specs.Traits.{has_trait}
 use Rattle.node_styles.proofs.Lineages.{nearest-here, nearest-root, nearest-parent}
 use Rattle.node_styles.proofs.lineage.nearest.Goals as goal
 
-pub loop-wanted-smaller : goal.loop-wanted-smaller
-loop-wanted-smaller c =
-    omega (arith, depth_of-parent c.args.arena.now.trees c.loop-wanted.at.label c.in-Some.parent.label c.lawful.ensures.distinct (sym c.in-Some.ensures.is))
+pub loop-at-smaller : goal.loop-at-smaller
+loop-at-smaller g c =
+    omega (arith, depth_of-parent (g.N.Nodes.trees c.args.nodes.now) c.loop-at.at.label c.in-Some.parent.label c.lawful.ensures.distinct (sym c.in-Some.ensures.is))
 
-pub loop-wanted-preserved : goal.loop-wanted-preserved
-loop-wanted-preserved c = record {
+pub loop-at-preserved : goal.loop-at-preserved
+loop-at-preserved g c = record {
   held = c.in-Some.ensures.held;
   same =
-      sym (nearest-parent (has_trait c.args.wanted) c.args.arena.now.trees c.lawful.ensures.distinct c.loop-wanted.at.label c.content.result.now (c.lawful.ensures.here c.loop-wanted.at.slot c.loop-wanted.at.label c.loop-wanted.invariant.held) c.content.ensures c.in-Some.parent.label (sym c.in-Some.ensures.is) (sym c.has_trait.ensures ∙ c.loop-wanted-test.true))
-      ∙ c.loop-wanted.invariant.same;
+      sym (nearest-parent (g.T.Test.test c.args.wanted.now) (g.N.Nodes.trees c.args.nodes.now) c.lawful.ensures.distinct c.loop-at.at.label c.content.result.now (c.lawful.ensures.here c.loop-at.at c.loop-at.invariant.held) c.content.ensures c.in-Some.parent.label (sym c.in-Some.ensures.is) (sym c.passes.ensures ∙ c.loop-at-test.true))
+      ∙ c.loop-at.invariant.same;
 }
 
 pub returns-in-None-clause-none : goal.returns-in-None-clause-none
-returns-in-None-clause-none c =
-    sym c.loop-wanted.invariant.same
-    ∙ nearest-root (has_trait c.args.wanted) c.args.arena.now.trees c.lawful.ensures.distinct c.loop-wanted.at.label c.content.result.now (c.lawful.ensures.here c.loop-wanted.at.slot c.loop-wanted.at.label c.loop-wanted.invariant.held) c.content.ensures (sym c.in-None.ensures.is) (sym c.has_trait.ensures ∙ c.loop-wanted-test.true)
+returns-in-None-clause-none g c =
+    sym c.loop-at.invariant.same
+    ∙ nearest-root (g.T.Test.test c.args.wanted.now) (g.N.Nodes.trees c.args.nodes.now) c.lawful.ensures.distinct c.loop-at.at.label c.content.result.now (c.lawful.ensures.here c.loop-at.at c.loop-at.invariant.held) c.content.ensures (sym c.in-None.ensures.is) (sym c.passes.ensures ∙ c.loop-at-test.true)
 
 pub returns-clause-found : goal.returns-clause-found
-returns-clause-found c = record {
-  held = c.loop-wanted.invariant.held;
+returns-clause-found g c = record {
+  held = c.loop-at.invariant.held;
   content = c.content.result.now;
   at = c.content.ensures;
   is =
-      sym c.loop-wanted.invariant.same
-      ∙ nearest-here (has_trait c.args.wanted) c.args.arena.now.trees c.lawful.ensures.distinct c.loop-wanted.at.label c.content.result.now (c.lawful.ensures.here c.loop-wanted.at.slot c.loop-wanted.at.label c.loop-wanted.invariant.held) c.content.ensures (sym c.has_trait.ensures ∙ c.loop-wanted-test.false);
+      sym c.loop-at.invariant.same
+      ∙ nearest-here (g.T.Test.test c.args.wanted.now) (g.N.Nodes.trees c.args.nodes.now) c.lawful.ensures.distinct c.loop-at.at.label c.content.result.now (c.lawful.ensures.here c.loop-at.at c.loop-at.invariant.held) c.content.ensures (sym c.passes.ensures ∙ c.loop-at-test.false);
 }

@@ -9,24 +9,24 @@ use Rattle.node_tests.proofs.affected.common_host.Goals.{else-is_host-via-then-i
 
 pub returns-then-is_within : goal.returns-then-is_within
 unfolding common_host
-returns-then-is_within c =
-    let f = c.args.arena.now.trees in
+returns-then-is_within g c =
+    let f = (g.N.Nodes.trees c.args.nodes.now) in
     let law = c.lawful.ensures in
     let within : IsWithin f c.loop-b.at.label c.args.b.label = c.is_within.ensures.0 c.if-is_within.true in
     record {
       is =
-          sym (found_here f law.distinct c.args.b.label c.loop-b.at.label (law.here c.args.b.slot c.args.b.label c.requires.second_held) (law.here c.loop-b.at.slot c.loop-b.at.label c.loop-b.invariant.held) (sym c.is_host.ensures ∙ c.if-is_host.true) within)
+          sym (found_here f law.distinct c.args.b.label c.loop-b.at.label (law.here c.args.b c.requires.second_held) (law.here c.loop-b.at c.loop-b.invariant.held) (sym c.is_host.ensures ∙ c.if-is_host.true) within)
           ∙ c.loop-b.invariant.same;
       held = c.loop-b.invariant.held;
     }
 
 pub loop-b-smaller : goal.loop-b-smaller
-loop-b-smaller c =
-    omega (arith, depth_of-parent c.args.arena.now.trees c.loop-b.at.label c.in-Some.parent.label c.lawful.ensures.distinct (sym c.in-Some.ensures.is))
+loop-b-smaller g c =
+    omega (arith, depth_of-parent (g.N.Nodes.trees c.args.nodes.now) c.loop-b.at.label c.in-Some.parent.label c.lawful.ensures.distinct (sym c.in-Some.ensures.is))
 
 pub loop-b-preserved : goal.loop-b-preserved
-loop-b-preserved c =
-    let f = c.args.arena.now.trees in
+loop-b-preserved g c =
+    let f = (g.N.Nodes.trees c.args.nodes.now) in
     let law = c.lawful.ensures in
     let off : (is_host f c.loop-b.at.label ≡ false) ⊎ (IsWithin f c.loop-b.at.label c.args.b.label → ⊥) =
     elim c.else-is_host.branch [
@@ -36,14 +36,14 @@ loop-b-preserved c =
     record {
       held = c.in-Some.ensures.held;
       same =
-          sym (found_above f law.distinct c.args.b.label c.loop-b.at.label (law.here c.args.b.slot c.args.b.label c.requires.second_held) (law.here c.loop-b.at.slot c.loop-b.at.label c.loop-b.invariant.held) off _ (sym c.in-Some.ensures.is))
+          sym (found_above f law.distinct c.args.b.label c.loop-b.at.label (law.here c.args.b c.requires.second_held) (law.here c.loop-b.at c.loop-b.invariant.held) off _ (sym c.in-Some.ensures.is))
           ∙ c.loop-b.invariant.same;
     }
 
 pub returns-in-None : goal.returns-in-None
 unfolding common_host
-returns-in-None c =
-    let f = c.args.arena.now.trees in
+returns-in-None g c =
+    let f = (g.N.Nodes.trees c.args.nodes.now) in
     let law = c.lawful.ensures in
     let off : (is_host f c.loop-b.at.label ≡ false) ⊎ (IsWithin f c.loop-b.at.label c.args.b.label → ⊥) =
     elim c.else-is_host.branch [
@@ -52,7 +52,7 @@ returns-in-None c =
     ] in
     record {
       is =
-          sym (found_above f law.distinct c.args.b.label c.loop-b.at.label (law.here c.args.b.slot c.args.b.label c.requires.second_held) (law.here c.loop-b.at.slot c.loop-b.at.label c.loop-b.invariant.held) off _ (sym c.in-None.ensures.is))
+          sym (found_above f law.distinct c.args.b.label c.loop-b.at.label (law.here c.args.b c.requires.second_held) (law.here c.loop-b.at c.loop-b.invariant.held) off _ (sym c.in-None.ensures.is))
           ∙ c.loop-b.invariant.same;
       held = tt;
     }

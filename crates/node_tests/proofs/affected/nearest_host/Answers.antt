@@ -4,18 +4,18 @@ use Rattle.node_tests.proofs.Hosting.{own_at_host, own_at_root, own_up, own_on, 
 use Rattle.node_tests.proofs.affected.nearest_host.Goals as goal
 
 pub returns-in-None-clause-none : goal.returns-in-None-clause-none
-returns-in-None-clause-none c =
-    let f = c.args.arena.now.trees in
+returns-in-None-clause-none g c =
+    let f = (g.N.Nodes.trees c.args.nodes.now) in
     own_none f c.lawful.ensures.distinct c.args.node.label c.loop-at.at.label c.loop-at.invariant.own
     (own_at_root f c.lawful.ensures.distinct c.loop-at.at.label (sym c.is_host.ensures ∙ c.loop-at-test.true) (sym c.in-None.ensures.is))
 
 pub loop-at-smaller : goal.loop-at-smaller
-loop-at-smaller c =
-    omega (arith, depth_of-parent c.args.arena.now.trees c.loop-at.at.label c.in-Some.parent.label c.lawful.ensures.distinct (sym c.in-Some.ensures.is))
+loop-at-smaller g c =
+    omega (arith, depth_of-parent (g.N.Nodes.trees c.args.nodes.now) c.loop-at.at.label c.in-Some.parent.label c.lawful.ensures.distinct (sym c.in-Some.ensures.is))
 
 pub loop-at-preserved : goal.loop-at-preserved
-loop-at-preserved c =
-    let f = c.args.arena.now.trees in
+loop-at-preserved g c =
+    let f = (g.N.Nodes.trees c.args.nodes.now) in
     let law = c.lawful.ensures in
     record {
       held = c.in-Some.ensures.held;
@@ -24,8 +24,8 @@ loop-at-preserved c =
     }
 
 pub returns-clause-own : goal.returns-clause-own
-returns-clause-own c =
-    let f = c.args.arena.now.trees in
+returns-clause-own g c =
+    let f = (g.N.Nodes.trees c.args.nodes.now) in
     let law = c.lawful.ensures in
     own_ends f law.distinct c.args.node.label c.loop-at.at.label _ c.loop-at.invariant.own
     (own_at_host f law.distinct c.loop-at.at.label (sym c.is_host.ensures ∙ c.loop-at-test.false))

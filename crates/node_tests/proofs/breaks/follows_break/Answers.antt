@@ -3,7 +3,7 @@ use Rattle.node_tests.proofs.breaks.follows_break.Goals as goal
 
 pub walk-init : goal.walk-init
 unfolding follows_break
-walk-init c =
+walk-init g c =
     let place : Place = record { node = c.args.node.label; offset = 0 } in
     record {
       held = c.start_of-at.ensures.held;

@@ -4,8 +4,8 @@ use Rattle.node_tests.proofs.breaks.precedes_break.Goals as goal
 
 pub walk-init : goal.walk-init
 unfolding precedes_break
-walk-init c =
-    let place : Place = record { node = c.args.node.label; offset = length_of c.args.arena.now.trees c.args.node.label } in
+walk-init g c =
+    let place : Place = record { node = c.args.node.label; offset = length_of (g.N.Nodes.trees c.args.nodes.now) c.args.node.label } in
     record {
       held = c.end_of-at.ensures.held;
       place = place;

@@ -3,7 +3,7 @@ use Rattle.node_tests.proofs.Turns.{Reached}
 use Rattle.node_tests.proofs.breaks.precedes_break.Given as goal
 
 abbrev pub invariant-walk : goal.invariant-walk
-invariant-walk l = Reached l.arena (turn_forth l.arena.trees) l.left l.at (precedes_break l.arena.trees l.fn.node.label)
+invariant-walk g l = Reached (g.N.Nodes.holds l.nodes) (g.N.Nodes.trees l.nodes) (turn_forth (g.N.Nodes.trees l.nodes)) l.left l.at (precedes_break (g.N.Nodes.trees l.nodes) l.fn.node.label)
 
 abbrev pub decreases-walk : goal.decreases-walk
-decreases-walk l = l.left
+decreases-walk g l = l.left

@@ -7,29 +7,29 @@ use Rattle.node_tests.proofs.Endings.{back_free, forth_free}
 use Rattle.node_tests.proofs.breaks.turns.Goals as goal
 
 pub returns-then-is_within-clause-back : goal.returns-then-is_within-clause-back
-returns-then-is_within-clause-back c =
-    let s = c.args.arena.now in
+returns-then-is_within-clause-back g c =
+    let f = g.N.Nodes.trees c.args.nodes.now in
     let l = c.args.node.label in
-    let inside : IsWithin s.trees 0 l = subst (λ k. IsWithin s.trees k l) c.document.ensures.label (c.is_within.ensures.0 c.if-is_within.true) in
-    back_free s c.lawful.ensures l (c.lawful.ensures.here c.args.node.slot l c.requires) inside _ (ap (λ n. 2 * n + 2) c.next_label.ensures)
+    let inside : IsWithin f 0 l = subst (λ k. IsWithin f k l) c.document.ensures.label (c.is_within.ensures.0 c.if-is_within.true) in
+    back_free c.lawful.ensures l (c.lawful.ensures.here c.args.node c.requires) inside _ (ap (λ n. 2 * n + 2) c.next_label.ensures)
 
 pub returns-then-is_within-clause-forth : goal.returns-then-is_within-clause-forth
-returns-then-is_within-clause-forth c =
-    let s = c.args.arena.now in
+returns-then-is_within-clause-forth g c =
+    let f = g.N.Nodes.trees c.args.nodes.now in
     let l = c.args.node.label in
-    let inside : IsWithin s.trees 0 l = subst (λ k. IsWithin s.trees k l) c.document.ensures.label (c.is_within.ensures.0 c.if-is_within.true) in
-    forth_free s c.lawful.ensures l (c.lawful.ensures.here c.args.node.slot l c.requires) inside _ (ap (λ n. 2 * n + 2) c.next_label.ensures)
+    let inside : IsWithin f 0 l = subst (λ k. IsWithin f k l) c.document.ensures.label (c.is_within.ensures.0 c.if-is_within.true) in
+    forth_free c.lawful.ensures l (c.lawful.ensures.here c.args.node c.requires) inside _ (ap (λ n. 2 * n + 2) c.next_label.ensures)
 
 pub returns-else-is_within-clause-back : goal.returns-else-is_within-clause-back
 unfolding follows_break
-returns-else-is_within-clause-back c =
-    let f = c.args.arena.now.trees in
+returns-else-is_within-clause-back g c =
+    let f = (g.N.Nodes.trees c.args.nodes.now) in
     ap (λ n. walk (turn_back f) n (record { node = c.args.node.label; offset = 0 }))
     (ap (λ n. 2 * n + c.char_count.result + 2) c.node_count.ensures ∙ ap (λ n. 2 * node_count f + n + 2) c.char_count.ensures)
 
 pub returns-else-is_within-clause-forth : goal.returns-else-is_within-clause-forth
 unfolding precedes_break
-returns-else-is_within-clause-forth c =
-    let f = c.args.arena.now.trees in
+returns-else-is_within-clause-forth g c =
+    let f = (g.N.Nodes.trees c.args.nodes.now) in
     ap (λ n. walk (turn_forth f) n (record { node = c.args.node.label; offset = length_of f c.args.node.label }))
     (ap (λ n. 2 * n + c.char_count.result + 2) c.node_count.ensures ∙ ap (λ n. 2 * node_count f + n + 2) c.char_count.ensures)

@@ -8,13 +8,13 @@ use Rattle.node_tests.proofs.Elsewhere.{all_contained, copied}
 use Rattle.node_tests.proofs.listing.contained_nodes.Goals as goal
 
 pub returns-clause-nodes : goal.returns-clause-nodes
-returns-clause-nodes c =
-    let f = c.args.arena.now.trees in
+returns-clause-nodes g c =
+    let f = (g.N.Nodes.trees c.args.nodes.now) in
     let law = c.lawful.ensures in
     let root = c.root_of-root.result in
-    let inside : IsWithin f root.label c.args.range.0.label = subst (λ k. IsWithin f root.label k) c.held-start.ensures.label c.root_of-root.ensures.within in
+    let inside : IsWithin f root.label c.args.range.0.label = subst (λ k. IsWithin f root.label k) c.node_of-start.ensures.label c.root_of-root.ensures.within in
     copied c.from_slice.result _ _ c.from_slice.ensures
     (ap (map (λ r. r.label)) c.deref.ensures.value
     ∙ (c.in_ok-push_tree.ensures.nodes
     ∙ (ap (λ xs. map (λ r. r.label) xs ++ passed (is_wanted Contained f c.args.range.0 c.args.range.1) (tree_of f root.label)) c.new-found.ensures.items
-    ∙ all_contained f law.distinct root.label (law.here root.slot root.label c.root_of-root.ensures.held) c.root_of-root.ensures.root c.args.range.0 c.args.range.1 inside)))
+    ∙ all_contained f law.distinct root.label (law.here root c.root_of-root.ensures.held) c.root_of-root.ensures.root c.args.range.0 c.args.range.1 inside)))

@@ -9,20 +9,20 @@ use Rattle.node_tests.proofs.Elsewhere.{all_listed, copied}
 use Rattle.node_tests.proofs.listing.effective_nodes.Goals as goal
 
 pub returns-clause-nodes : goal.returns-clause-nodes
-returns-clause-nodes c =
-    let f = c.args.arena.now.trees in
+returns-clause-nodes g c =
+    let f = (g.N.Nodes.trees c.args.nodes.now) in
     let law = c.lawful.ensures in
     let root = c.root_of-root.result in
-    let inside : IsWithin f root.label c.args.range.0.label = subst (λ k. IsWithin f root.label k) c.held-start.ensures.label c.root_of-root.ensures.within in
+    let inside : IsWithin f root.label c.args.range.0.label = subst (λ k. IsWithin f root.label k) c.node_of-start.ensures.label c.root_of-root.ensures.within in
     copied c.from_slice-2.result _ _ c.from_slice-2.ensures
     (ap (map (λ r. r.label)) c.deref-2.ensures.value
     ∙ (c.in_ok-push_tree.ensures.nodes
     ∙ (ap (λ xs. map (λ r. r.label) xs ++ passed (is_wanted Effective f c.args.range.0 c.args.range.1) (tree_of f root.label)) c.new-found.ensures.items
-    ∙ all_listed f law.distinct root.label (law.here root.slot root.label c.root_of-root.ensures.held) c.root_of-root.ensures.root c.args.range.0 c.args.range.1 inside c.requires.end_held)))
+    ∙ all_listed f law.distinct root.label (law.here root c.root_of-root.ensures.held) c.root_of-root.ensures.root c.args.range.0 c.args.range.1 inside c.requires.end_held)))
 
 pub returns-then-not-comes_before-clause-nodes : goal.returns-then-not-comes_before-clause-nodes
-returns-then-not-comes_before-clause-nodes c =
+returns-then-not-comes_before-clause-nodes g c =
     copied c.from_slice.result _ _ c.from_slice.ensures
     (ap (map (λ r. r.label)) c.deref.ensures.value
     ∙ (ap (map (λ r. r.label)) c.new-found.ensures.items
-    ∙ none_effective c.args.arena.now.trees c.lawful.ensures.distinct c.args.range.0 c.args.range.1 (sym c.comes_before.ensures ∙ c.if-not-comes_before.true)))
+    ∙ none_effective (g.N.Nodes.trees c.args.nodes.now) c.lawful.ensures.distinct c.args.range.0 c.args.range.1 (sym c.comes_before.ensures ∙ c.if-not-comes_before.true)))

@@ -3,21 +3,21 @@ use Rattle.dom_model.proofs.Within.{within_self, within_up, depth_of-parent}
 use Rattle.node_tests.proofs.listing.root_of.Goals as goal
 
 pub loop-parent-init : goal.loop-parent-init
-loop-parent-init c =
+loop-parent-init g c =
     let law = c.lawful.ensures in
     record {
       held = c.requires;
-      within = within_self c.args.arena.now.trees c.args.node.label law.distinct (law.here c.args.node.slot c.args.node.label c.requires);
+      within = within_self (g.N.Nodes.trees c.args.nodes.now) c.args.node.label law.distinct (law.here c.args.node c.requires);
     }
 
 pub loop-parent-smaller : goal.loop-parent-smaller
-loop-parent-smaller c =
-    omega (arith, depth_of-parent c.args.arena.now.trees c.loop-parent.at.label c.in-Some.parent.label c.lawful.ensures.distinct (sym c.in-Some.ensures.is))
+loop-parent-smaller g c =
+    omega (arith, depth_of-parent (g.N.Nodes.trees c.args.nodes.now) c.loop-parent.at.label c.in-Some.parent.label c.lawful.ensures.distinct (sym c.in-Some.ensures.is))
 
 pub loop-parent-preserved : goal.loop-parent-preserved
-loop-parent-preserved c =
+loop-parent-preserved g c =
     let law = c.lawful.ensures in
     record {
       held = c.in-Some.ensures.held;
-      within = within_up c.args.arena.now.trees law.distinct c.loop-parent.at.label c.in-Some.parent.label c.args.node.label (sym c.in-Some.ensures.is) c.loop-parent.invariant.within;
+      within = within_up (g.N.Nodes.trees c.args.nodes.now) law.distinct c.loop-parent.at.label c.in-Some.parent.label c.args.node.label (sym c.in-Some.ensures.is) c.loop-parent.invariant.within;
     }

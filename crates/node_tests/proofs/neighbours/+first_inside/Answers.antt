@@ -9,26 +9,26 @@ use Rattle.node_tests.proofs.Meeting.{first_at, first_kids, first_next}
 use Rattle.node_tests.proofs.neighbours.+first_inside.Goals as goal
 
 pub returns-in-Some : goal.returns-in-Some
-returns-in-Some t c =
+returns-in-Some g t c =
     let law = c.lawful.ensures in
-    first_at c.args.arena.now.trees law.distinct c.args.node.label (law.here c.args.node.slot c.args.node.label c.requires) c.met_at.result c.met_at.ensures c.in-Some.met c.in-Some.is
+    first_at (g.N.Nodes.trees c.args.nodes.now) law.distinct c.args.node.label (law.here c.args.node c.requires) c.met_at.result c.met_at.ensures c.in-Some.met c.in-Some.is
 
 pub loop-child-init : goal.loop-child-init
-loop-child-init t c =
+loop-child-init g t c =
     let law = c.lawful.ensures in
     record {
-      kid = first_kid c.args.arena.now law c.args.node c.first_child-child.result c.requires c.first_child-child.ensures;
-      same = first_kids c.args.arena.now.trees law.distinct c.args.node.label (law.here c.args.node.slot c.args.node.label c.requires) c.met_at.result c.met_at.ensures (label c.first_child-child.result) c.in_default.is c.first_child-child.ensures.is;
+      kid = first_kid law c.args.node c.first_child-child.result c.requires c.first_child-child.ensures;
+      same = first_kids (g.N.Nodes.trees c.args.nodes.now) law.distinct c.args.node.label (law.here c.args.node c.requires) c.met_at.result c.met_at.ensures (label c.first_child-child.result) c.in_default.is c.first_child-child.ensures.is;
     }
 
 pub first_inside-requires : goal.first_inside-requires
-first_inside-requires t c =
+first_inside-requires g t c κs within =
     let kid = rw c.in-Some-child.is at c.loop-child.invariant.kid in
-    (omega (arith, c.decreases, tree_smaller c.args.arena.now c.lawful.ensures c.args.node.label c.in-Some-child.at kid), kid.held)
+    (omega (arith, c.decreases, tree_smaller c.lawful.ensures c.args.node.label c.in-Some-child.at kid), (within, kid.held))
 
 pub returns-in-Some-first_inside : goal.returns-in-Some-first_inside
-returns-in-Some-first_inside t c =
-    let f = c.args.arena.now.trees in
+returns-in-Some-first_inside g t c =
+    let f = (g.N.Nodes.trees c.args.nodes.now) in
     let law = c.lawful.ensures in
     let kid = rw c.in-Some-child.is at c.loop-child.invariant.kid in
     let same = rw c.in-Some-child.is at c.loop-child.invariant.same in
@@ -36,22 +36,22 @@ returns-in-Some-first_inside t c =
     sym (same ∙ first_next f law.distinct k c.args.node.label kid.under (next_of f k) refl ∙ ap (λ o. option_or o (first_met f (siblings f (next_of f k)))) (sym c.in-Some-first_inside.ensures))
 
 pub next-child-requires : goal.next-child-requires
-next-child-requires t c = let kid = rw c.in-Some-child.is at c.loop-child.invariant.kid in kid.held
+next-child-requires g t c = let kid = rw c.in-Some-child.is at c.loop-child.invariant.kid in kid.held
 
 pub loop-child-smaller : goal.loop-child-smaller
-loop-child-smaller t c =
+loop-child-smaller g t c =
     let kid = rw c.in-Some-child.is at c.loop-child.invariant.kid in
-    rw c.in-Some-child.is (next_smaller c.args.arena.now c.lawful.ensures c.args.node.label c.in-Some-child.at kid c.next-child.result c.next-child.ensures)
+    rw c.in-Some-child.is (next_smaller c.lawful.ensures c.args.node.label c.in-Some-child.at kid c.next-child.result c.next-child.ensures)
 
 pub loop-child-preserved : goal.loop-child-preserved
-loop-child-preserved t c =
-    let f = c.args.arena.now.trees in
+loop-child-preserved g t c =
+    let f = (g.N.Nodes.trees c.args.nodes.now) in
     let law = c.lawful.ensures in
     let kid = rw c.in-Some-child.is at c.loop-child.invariant.kid in
     let same = rw c.in-Some-child.is at c.loop-child.invariant.same in
     let k = c.in-Some-child.at.label in
     record {
-      kid = next_kid c.args.arena.now law c.args.node.label c.in-Some-child.at kid c.next-child.result c.next-child.ensures;
+      kid = next_kid law c.args.node.label c.in-Some-child.at kid c.next-child.result c.next-child.ensures;
       same =
           same
           ∙ first_next f law.distinct k c.args.node.label kid.under (label c.next-child.result) c.next-child.ensures.is
@@ -59,4 +59,4 @@ loop-child-preserved t c =
     }
 
 pub returns : goal.returns
-returns t c = sym (rw c.in_default-child.is at c.loop-child.invariant.same)
+returns g t c = sym (rw c.in_default-child.is at c.loop-child.invariant.same)

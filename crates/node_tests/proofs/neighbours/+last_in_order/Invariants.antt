@@ -8,13 +8,13 @@ use Rattle.node_tests.proofs.Kids.{Kid}
 use Rattle.node_tests.proofs.neighbours.+last_in_order.Given as goal
 
 abbrev pub decreases-last_in_order : goal.decreases-last_in_order
-decreases-last_in_order l = nodes (tree_of l.arena.now.trees l.node.label)
+decreases-last_in_order g l = nodes (tree_of (g.N.Nodes.trees l.nodes.now) l.node.label)
 
 abbrev pub invariant-loop-child : goal.invariant-loop-child
-invariant-loop-child l = record {
-  kid : Kid l.arena l.fn.node.label l.child;
-  same : last_in_order l.arena.trees (tree_of l.arena.trees l.fn.node.label) ≡ option_or (last_in_order l.arena.trees (siblings l.arena.trees (label l.child))) l.last;
+invariant-loop-child g l = record {
+  kid : Kid (g.N.Nodes.holds l.nodes) (g.N.Nodes.trees l.nodes) l.fn.node.label l.child;
+  same : last_in_order (g.N.Nodes.trees l.nodes) (tree_of (g.N.Nodes.trees l.nodes) l.fn.node.label) ≡ option_or (last_in_order (g.N.Nodes.trees l.nodes) (siblings (g.N.Nodes.trees l.nodes) (label l.child))) l.last;
 }
 
 abbrev pub decreases-loop-child : goal.decreases-loop-child
-decreases-loop-child l = nodes (siblings l.arena.trees (label l.child))
+decreases-loop-child g l = nodes (siblings (g.N.Nodes.trees l.nodes) (label l.child))

@@ -1,14 +1,13 @@
 use Rattle.std.proofs.Common.{◌≡◌}
-use Rattle.node_arena.specs.Held.{Holds}
 use Rattle.node_tests.specs.SolidNeighbours.{neighbour_before}
 use Rattle.node_tests.proofs.Walking.{behind}
 use Rattle.node_tests.proofs.neighbours.neighbour_before.Given as goal
 
 abbrev pub invariant-walk : goal.invariant-walk
-invariant-walk l = record {
-  held : Holds l.arena l.at;
-  same : neighbour_before l.arena.trees l.at.label ≡ neighbour_before l.arena.trees l.fn.node.label;
+invariant-walk g l = record {
+  held : g.N.Nodes.holds l.nodes l.at;
+  same : neighbour_before (g.N.Nodes.trees l.nodes) l.at.label ≡ neighbour_before (g.N.Nodes.trees l.nodes) l.fn.node.label;
 }
 
 abbrev pub decreases-walk : goal.decreases-walk
-decreases-walk l = behind l.arena.trees l.at.label
+decreases-walk g l = behind (g.N.Nodes.trees l.nodes) l.at.label

@@ -10,34 +10,34 @@ use Rattle.node_tests.proofs.props.+is_block_prop.Goals as goal
 use Rattle.node_tests.proofs.props.+is_block_prop.Goals.{then-not-prop+else-is_visible, else-not-prop}
 
 pub returns-then-is_break_prop : goal.returns-then-is_break_prop
-returns-then-is_break_prop t c =
+returns-then-is_break_prop g t c =
     let law = c.lawful.ensures in
-    break_is c.args.arena.now.trees law.distinct c.args.node.label (law.here c.args.node.slot c.args.node.label c.requires) c.is_break_prop.result c.is_break_prop.ensures c.if-is_break_prop.true
+    break_is (g.N.Nodes.trees c.args.nodes.now) law.distinct c.args.node.label (law.here c.args.node c.requires) c.is_break_prop.result c.is_break_prop.ensures c.if-is_break_prop.true
 
 pub returns-then-not-is_inline_element : goal.returns-then-not-is_inline_element
-returns-then-not-is_inline_element t c =
+returns-then-not-is_inline_element g t c =
     let law = c.lawful.ensures in
-    not_inline c.args.arena.now.trees law.distinct c.args.node.label (law.here c.args.node.slot c.args.node.label c.requires) c.is_break_prop.result c.is_break_prop.ensures c.is_inline_element.result c.is_inline_element.ensures c.if-is_break_prop.false c.if-not-is_inline_element.true
+    not_inline (g.N.Nodes.trees c.args.nodes.now) law.distinct c.args.node.label (law.here c.args.node c.requires) c.is_break_prop.result c.is_break_prop.ensures c.is_inline_element.result c.is_inline_element.ensures c.if-is_break_prop.false c.if-not-is_inline_element.true
 
 pub loop-child-init : goal.loop-child-init
-loop-child-init t c =
+loop-child-init g t c =
     let law = c.lawful.ensures in
     record {
-      kid = first_kid c.args.arena.now law c.args.node c.first_child-child.result c.requires c.first_child-child.ensures;
-      same = kids_are c.args.arena.now.trees law.distinct c.args.node.label (law.here c.args.node.slot c.args.node.label c.requires) c.is_break_prop.result c.is_break_prop.ensures c.is_inline_element.result c.is_inline_element.ensures c.if-is_break_prop.false (label c.first_child-child.result) c.if-not-is_inline_element.false c.first_child-child.ensures.is;
+      kid = first_kid law c.args.node c.first_child-child.result c.requires c.first_child-child.ensures;
+      same = kids_are (g.N.Nodes.trees c.args.nodes.now) law.distinct c.args.node.label (law.here c.args.node c.requires) c.is_break_prop.result c.is_break_prop.ensures c.is_inline_element.result c.is_inline_element.ensures c.if-is_break_prop.false (label c.first_child-child.result) c.if-not-is_inline_element.false c.first_child-child.ensures.is;
     }
 
 pub is_block_prop-prop-requires : goal.is_block_prop-prop-requires
-is_block_prop-prop-requires t c =
+is_block_prop-prop-requires g t c κs within =
     let kid = rw c.in-Some.is at c.loop-child.invariant.kid in
-    (omega (arith, c.decreases, tree_smaller c.args.arena.now c.lawful.ensures c.args.node.label c.in-Some.at kid), kid.held)
+    (omega (arith, c.decreases, tree_smaller c.lawful.ensures c.args.node.label c.in-Some.at kid), (within, kid.held))
 
 pub returns : goal.returns
-returns t c = let same = rw c.in_default.is at c.loop-child.invariant.same in sym (same ∙ at_end c.args.arena.now.trees c.loop-child.found)
+returns g t c = let same = rw c.in_default.is at c.loop-child.invariant.same in sym (same ∙ at_end (g.N.Nodes.trees c.args.nodes.now) c.loop-child.found)
 
 pub returns-then-is_visible : goal.returns-then-is_visible
-returns-then-is_visible t c =
-    let f = c.args.arena.now.trees in
+returns-then-is_visible g t c =
+    let f = (g.N.Nodes.trees c.args.nodes.now) in
     let law = c.lawful.ensures in
     let kid = rw c.in-Some.is at c.loop-child.invariant.kid in
     let same = rw c.in-Some.is at c.loop-child.invariant.same in
@@ -46,16 +46,16 @@ returns-then-is_visible t c =
     ∙ sym same
 
 pub next-child-requires : goal.next-child-requires
-next-child-requires t c = let kid = rw c.in-Some.is at c.loop-child.invariant.kid in kid.held
+next-child-requires g t c = let kid = rw c.in-Some.is at c.loop-child.invariant.kid in kid.held
 
 pub loop-child-smaller : goal.loop-child-smaller
-loop-child-smaller t c =
+loop-child-smaller g t c =
     let kid = rw c.in-Some.is at c.loop-child.invariant.kid in
-    rw c.in-Some.is (next_smaller c.args.arena.now c.lawful.ensures c.args.node.label c.in-Some.at kid c.next-child.result c.next-child.ensures)
+    rw c.in-Some.is (next_smaller c.lawful.ensures c.args.node.label c.in-Some.at kid c.next-child.result c.next-child.ensures)
 
 pub loop-child-preserved : goal.loop-child-preserved
-loop-child-preserved t c =
-    let f = c.args.arena.now.trees in
+loop-child-preserved g t c =
+    let f = (g.N.Nodes.trees c.args.nodes.now) in
     let law = c.lawful.ensures in
     let kid = rw c.in-Some.is at c.loop-child.invariant.kid in
     let same = rw c.in-Some.is at c.loop-child.invariant.same in
@@ -71,7 +71,7 @@ loop-child-preserved t c =
       | else-not-prop w ↦ fine_prop f law.distinct k p kid.under o is c.loop-child.found b own w.if-not-prop.false
     ] in
     record {
-      kid = next_kid c.args.arena.now law c.args.node.label c.in-Some.at kid c.next-child.result c.next-child.ensures;
+      kid = next_kid law c.args.node.label c.in-Some.at kid c.next-child.result c.next-child.ensures;
       same =
           same
           ∙ goes_on f law.distinct k p kid.under o is c.loop-child.found b own fine

@@ -7,13 +7,13 @@ use Rattle.node_tests.proofs.Kids.{Kid}
 use Rattle.node_tests.proofs.props.+is_block_prop.Given as goal
 
 abbrev pub decreases-is_block_prop : goal.decreases-is_block_prop
-decreases-is_block_prop l = nodes (tree_of l.arena.now.trees l.node.label)
+decreases-is_block_prop g l = nodes (tree_of (g.N.Nodes.trees l.nodes.now) l.node.label)
 
 abbrev pub invariant-loop-child : goal.invariant-loop-child
-invariant-loop-child l = record {
-  kid : Kid l.arena l.fn.node.label l.child;
-  same : is_block_prop l.arena.trees l.fn.node.label ≡ ((props_in l.arena.trees (siblings l.arena.trees (label l.child))).every && (l.found || (props_in l.arena.trees (siblings l.arena.trees (label l.child))).some));
+invariant-loop-child g l = record {
+  kid : Kid (g.N.Nodes.holds l.nodes) (g.N.Nodes.trees l.nodes) l.fn.node.label l.child;
+  same : is_block_prop (g.N.Nodes.trees l.nodes) l.fn.node.label ≡ ((props_in (g.N.Nodes.trees l.nodes) (siblings (g.N.Nodes.trees l.nodes) (label l.child))).every && (l.found || (props_in (g.N.Nodes.trees l.nodes) (siblings (g.N.Nodes.trees l.nodes) (label l.child))).some));
 }
 
 abbrev pub decreases-loop-child : goal.decreases-loop-child
-decreases-loop-child l = nodes (siblings l.arena.trees (label l.child))
+decreases-loop-child g l = nodes (siblings (g.N.Nodes.trees l.nodes) (label l.child))

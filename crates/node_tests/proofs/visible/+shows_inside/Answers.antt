@@ -8,31 +8,31 @@ use Rattle.node_tests.proofs.Showing.{boxless_hides, node_shows, kids_show, next
 use Rattle.node_tests.proofs.visible.+shows_inside.Goals as goal
 
 pub returns-then-has_no_box : goal.returns-then-has_no_box
-returns-then-has_no_box t c =
+returns-then-has_no_box g t c =
     let law = c.lawful.ensures in
-    boxless_hides c.args.arena.now.trees law.distinct c.args.node.label (law.here c.args.node.slot c.args.node.label c.requires) c.has_no_box.result c.has_no_box.ensures c.if-has_no_box.true
+    boxless_hides (g.N.Nodes.trees c.args.nodes.now) law.distinct c.args.node.label (law.here c.args.node c.requires) c.has_no_box.result c.has_no_box.ensures c.if-has_no_box.true
 
 pub returns-then-shows : goal.returns-then-shows
-returns-then-shows t c =
+returns-then-shows g t c =
     let law = c.lawful.ensures in
-    node_shows c.args.arena.now.trees law.distinct c.args.node.label (law.here c.args.node.slot c.args.node.label c.requires) c.has_no_box.result c.has_no_box.ensures c.shows.result c.shows.ensures c.if-has_no_box.false c.if-shows.true
+    node_shows (g.N.Nodes.trees c.args.nodes.now) law.distinct c.args.node.label (law.here c.args.node c.requires) c.has_no_box.result c.has_no_box.ensures c.shows.result c.shows.ensures c.if-has_no_box.false c.if-shows.true
 
 pub loop-child-init : goal.loop-child-init
-loop-child-init t c =
+loop-child-init g t c =
     let law = c.lawful.ensures in
     record {
-      kid = first_kid c.args.arena.now law c.args.node c.first_child-child.result c.requires c.first_child-child.ensures;
-      same = kids_show c.args.arena.now.trees law.distinct c.args.node.label (law.here c.args.node.slot c.args.node.label c.requires) c.has_no_box.result c.has_no_box.ensures c.shows.result c.shows.ensures c.if-has_no_box.false (label c.first_child-child.result) c.if-shows.false c.first_child-child.ensures.is;
+      kid = first_kid law c.args.node c.first_child-child.result c.requires c.first_child-child.ensures;
+      same = kids_show (g.N.Nodes.trees c.args.nodes.now) law.distinct c.args.node.label (law.here c.args.node c.requires) c.has_no_box.result c.has_no_box.ensures c.shows.result c.shows.ensures c.if-has_no_box.false (label c.first_child-child.result) c.if-shows.false c.first_child-child.ensures.is;
     }
 
 pub shows_inside-requires : goal.shows_inside-requires
-shows_inside-requires t c =
+shows_inside-requires g t c κs within =
     let kid = rw c.in-Some.is at c.loop-child.invariant.kid in
-    (omega (arith, c.decreases, tree_smaller c.args.arena.now c.lawful.ensures c.args.node.label c.in-Some.at kid), kid.held)
+    (omega (arith, c.decreases, tree_smaller c.lawful.ensures c.args.node.label c.in-Some.at kid), (within, kid.held))
 
 pub returns-then-shows_inside : goal.returns-then-shows_inside
-returns-then-shows_inside t c =
-    let f = c.args.arena.now.trees in
+returns-then-shows_inside g t c =
+    let f = (g.N.Nodes.trees c.args.nodes.now) in
     let law = c.lawful.ensures in
     let kid = rw c.in-Some.is at c.loop-child.invariant.kid in
     let same = rw c.in-Some.is at c.loop-child.invariant.same in
@@ -40,22 +40,22 @@ returns-then-shows_inside t c =
     sym (same ∙ next_shows f law.distinct k c.args.node.label kid.under (next_of f k) refl c.shows_inside.result c.shows_inside.ensures ∙ ap (λ b. b || shows_in f (siblings f (next_of f k))) c.if-shows_inside.true)
 
 pub next-child-requires : goal.next-child-requires
-next-child-requires t c = let kid = rw c.in-Some.is at c.loop-child.invariant.kid in kid.held
+next-child-requires g t c = let kid = rw c.in-Some.is at c.loop-child.invariant.kid in kid.held
 
 pub loop-child-smaller : goal.loop-child-smaller
-loop-child-smaller t c =
+loop-child-smaller g t c =
     let kid = rw c.in-Some.is at c.loop-child.invariant.kid in
-    rw c.in-Some.is (next_smaller c.args.arena.now c.lawful.ensures c.args.node.label c.in-Some.at kid c.next-child.result c.next-child.ensures)
+    rw c.in-Some.is (next_smaller c.lawful.ensures c.args.node.label c.in-Some.at kid c.next-child.result c.next-child.ensures)
 
 pub loop-child-preserved : goal.loop-child-preserved
-loop-child-preserved t c =
-    let f = c.args.arena.now.trees in
+loop-child-preserved g t c =
+    let f = (g.N.Nodes.trees c.args.nodes.now) in
     let law = c.lawful.ensures in
     let kid = rw c.in-Some.is at c.loop-child.invariant.kid in
     let same = rw c.in-Some.is at c.loop-child.invariant.same in
     let k = c.in-Some.at.label in
     record {
-      kid = next_kid c.args.arena.now law c.args.node.label c.in-Some.at kid c.next-child.result c.next-child.ensures;
+      kid = next_kid law c.args.node.label c.in-Some.at kid c.next-child.result c.next-child.ensures;
       same =
           same
           ∙ next_shows f law.distinct k c.args.node.label kid.under (label c.next-child.result) c.next-child.ensures.is c.shows_inside.result c.shows_inside.ensures
@@ -63,4 +63,4 @@ loop-child-preserved t c =
     }
 
 pub returns : goal.returns
-returns t c = sym (rw c.in_default.is at c.loop-child.invariant.same)
+returns g t c = sym (rw c.in_default.is at c.loop-child.invariant.same)

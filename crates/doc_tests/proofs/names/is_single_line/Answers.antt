@@ -1,7 +1,0 @@
-use Rattle.std.proofs.Common.{sym, ◌∙◌}
-use Rattle.doc_tests.proofs.Alike.{alike}
-use Rattle.doc_tests.proofs.Named.{single_line_same}
-use Rattle.doc_tests.proofs.names.is_single_line.Goals as goal
-
-pub returns : goal.returns
-returns c = c.is_single_line.ensures ∙ sym (single_line_same _ _ (alike _ _ c.nodes.ensures.part c.nodes.ensures.distinct) c.args.node.label c.requires.here)

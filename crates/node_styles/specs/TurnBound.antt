@@ -1,0 +1,9 @@
+-- How many turns a loop of an algorithm or a test takes at most.
+use Rattle.std.specs.Prelude.{ℕ, ◌+◌, ◌*◌}
+use Rattle.dom_model.specs.declared.Content.{Content}
+use Rattle.dom_model.specs.Document.{node_count, char_count}
+use Rattle.dom_model.specs.Forest.{Forest}
+
+-- as many as the document has places, and some
+abbrev pub turn_bound : Forest Content → ℕ
+turn_bound f = 2 * node_count f + char_count f + 2
