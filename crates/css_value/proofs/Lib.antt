@@ -11,3 +11,4 @@ pub mod Words
 pub mod Joining
 pub mod PrintedNumbers
 pub mod PrintedColours
+pub mod Numerals

@@ -6,3 +6,4 @@ pub mod Numbers
 pub mod Colours
 pub mod Values
 pub mod TextDecoration
+pub mod SizeKeywords

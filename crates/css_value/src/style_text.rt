@@ -124,8 +124,8 @@ pub(crate) fn is_same_name(left: &[char], right: &[char]) -> bool
     true
 }
 
-// Whether a text has these codes.
-pub(crate) fn has_codes(text: &[char], codes: &[u8]) -> bool
+/// Whether a text is these characters of ASCII.
+pub fn has_codes(text: &[char], codes: &[u8]) -> bool
     ensures { result ≡ bytes_eq codes.now text.now }
 {
     if text.len() != codes.len() {

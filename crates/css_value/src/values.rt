@@ -254,8 +254,8 @@ pub fn read_font_weight(text: &[char]) -> Option<u16>
     }
 }
 
-// The size of a keyword of `font-size`.
-fn keyword_size(text: &[char]) -> Option<u16>
+/// The size in pixels of a keyword of `font-size`.
+pub fn keyword_size(text: &[char]) -> Option<u16>
     ensures { result ≡ spec.keyword_size text.now }
 {
     if has_codes(text, b"x-small") {

@@ -1,3 +1,4 @@
+pub mod ActivatedValues
 pub mod AllowedChildren
 pub mod BoxNames
 pub mod Commands

@@ -2,12 +2,14 @@
 //! lower case.
 #![tactic(auto)]
 
+mod activated;
 mod boxes;
 mod children;
 mod commands;
 mod elements;
 mod query;
 
+pub use activated::activated_values;
 pub use boxes::{box_names, is_box_name, is_margin_name};
 pub use children::allowed_child;
 pub use commands::Command;

@@ -1,0 +1,5 @@
+mod Ancestors
+mod Finds
+mod Grounds
+mod Boxes
+mod Shown

@@ -1,0 +1,9 @@
+pub mod Subjects
+pub mod EffectiveValues
+pub mod SpecifiedValues
+pub mod Equivalence
+pub mod Alignment
+pub mod Modifiable
+pub mod ValueTexts
+pub mod WorkedPages
+pub mod Lines
