@@ -1,8 +1,8 @@
--- Bounds on sums over a forest, and its deepest node.
+-- Bounds on sums over a forest, its deepest node, and the height of a tree.
 use Rattle.std.proofs.Common.{◌≡◌, ◌⊎◌, ℕ, zero, suc, ◌+◌, ◌*◌, ◌<◌, ◌≤◌, max, Option, Some, None, refl, sym, ap, subst, inl, inr, arith, mul-add, mul-one}
 use Rattle.std.proofs.lemmas.Bool.Decides.{eqb_tells}
 use Rattle.std.specs.Option.{option_map_or}
-use Rattle.dom_model.specs.Forest.{Forest, Seen, tops, total, count_of, IsDistinct, seek, depth_of, tree_of}
+use Rattle.dom_model.specs.Forest.{Forest, Seen, tops, total, count_of, IsDistinct, seek, depth_of, tree_of, join}
 use Rattle.dom_model.specs.Forest.Forest.{Nil, Tree}
 use Rattle.dom_model.specs.Places.{levels, kids_in}
 use Rattle.dom_model.proofs.Stands.{Stands, seek_Stands}
@@ -85,3 +85,50 @@ module _ {C : Type 0} where
 
       bounds : IsDistinct (Tree 0 c ks rest) → ((l : ℕ) → 0 < count_of (Tree 0 c ks Nil) l → depth_of (Tree 0 c ks rest) l ≤ d) → 0 < count_of (Tree 0 c ks Nil) x → depth_of (Tree 0 c ks rest) x ≡ d → levels ks ≡ d
       bounds once high here at = omega (arith, upper once here at, by_levels (levels ks) refl once high)
+
+  -- ---- the height of a tree
+
+  Sits-join : (d : ℕ) (f g : Forest C) (l e : ℕ) → Sits d (join f g) l e → Sits d f l e ⊎ Sits d g l e
+  Sits-join d Nil g l e h = inr h
+  Sits-join d (Tree m c ks rest) g l e (inl h) = inl (inl h)
+  Sits-join d (Tree m c ks rest) g l e (inr (inl h)) = inl (inr (inl h))
+  Sits-join d (Tree m c ks rest) g l e (inr (inr h)) = elim (Sits-join d rest g l e h) [ inl k ↦ inl (inr (inr k)) | inr k ↦ inr k ]
+
+  -- where n stands k deep, the nodes of its tree stand so deep below k as they do in the tree
+  Sits-tree_of : (d k : ℕ) (f : Forest C) (n : ℕ) → ((e : ℕ) → Sits d f n e → k ≡ e) → (l e : ℕ) → Sits k (tree_of f n) l e → Sits d f l e
+  Sits-tree_of d k Nil n deep l e h = h
+  Sits-tree_of d k (Tree m c ks rest) n deep l e h =
+      elim (eqb_tells m n) [
+        | inl (t, is) ↦ own (subst (λ i. Sits i (Tree m c ks Nil) l e) (deep d (inl (is, refl))) (rw t at h))
+        | inr (t, _) ↦ by_part (Sits-tree_of (d + 1) k ks n (λ i s. deep i (inr (inl s))) l e) (Sits-tree_of d k rest n (λ i s. deep i (inr (inr s))) l e)
+            (Sits-join k (tree_of ks n) (tree_of rest n) l e (rw t at h))
+      ]
+    where
+      own : Sits d (Tree m c ks Nil) l e → Sits d (Tree m c ks rest) l e
+      own (inl s) = inl s
+      own (inr (inl s)) = inr (inl s)
+      own (inr (inr s)) = absurd s
+
+      by_part : (Sits k (tree_of ks n) l e → Sits (d + 1) ks l e) → (Sits k (tree_of rest n) l e → Sits d rest l e) → Sits k (tree_of ks n) l e ⊎ Sits k (tree_of rest n) l e → Sits d (Tree m c ks rest) l e
+      by_part below after (inl s) = inr (inl (below s))
+      by_part below after (inr s) = inr (inr (after s))
+
+  -- what no node of a tree passes below its root and one of them has is its height
+  pub height_is : (f : Forest C) (n d x : ℕ) → IsDistinct f → ((l : ℕ) → 0 < count_of (tree_of f n) l → depth_of f l ≤ d + depth_of f n) → 0 < count_of (tree_of f n) x → depth_of f x ≡ d + depth_of f n → levels (tree_of f n) ≡ d + 1
+  height_is f n d x once high here at = omega (arith, lower, upper)
+    where
+      lies : (l e : ℕ) → Sits (depth_of f n) (tree_of f n) l e → depth_of f l ≡ e
+      lies l e h = ap (λ o. option_map_or (λ (i : ℕ). i) o 0) (depth_Sits 0 f l e (once l)
+          (Sits-tree_of 0 (depth_of f n) f n (λ i s. ap (λ o. option_map_or (λ (j : ℕ). j) o 0) (depth_Sits 0 f n i (once n) s)) l e h))
+
+      lower : d < levels (tree_of f n)
+      lower =
+          let s = sits_somewhere (depth_of f n) (tree_of f n) x here in
+          let low = Sits_high (depth_of f n) (tree_of f n) x s.0 s.1 in
+          omega (arith, low, lies x s.0 s.1, at)
+
+      upper : levels (tree_of f n) ≤ d + 1
+      upper =
+          let r = Sits_deepest (depth_of f n) (tree_of f n) (omega (arith, lower)) in
+          let h = high r.0 (count_of-Sits (depth_of f n) (tree_of f n) r.0 r.1 r.2) in
+          omega (arith, h, lies r.0 r.1 r.2, r.3)

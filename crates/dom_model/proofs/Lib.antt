@@ -21,3 +21,4 @@ pub mod Earlier
 pub mod Kept
 pub mod Shedding
 pub mod NodesKept
+pub mod Heights

@@ -1,5 +1,5 @@
 -- What the content of a node tells.
-use Rattle.std.specs.Prelude.{◌≡◌, ◌↔◌, ◌^◌, ℕ, ◌<◌, List, [], length, Bool, true, false, Option, Some, None}
+use Rattle.std.specs.Prelude.{◌≡◌, ◌↔◌, ◌^◌, ℕ, ◌<◌, List, [], length, Bool, true, false, Option, Some, None, bytes_eq, codes}
 use Rattle.std.specs.Option.{option_map_or, option_and_then}
 use Rattle.dom_model.specs.declared.attributes.Attribute.{Attribute}
 use Rattle.dom_model.specs.declared.Content.{Content}
@@ -67,6 +67,16 @@ attributes_of f l = option_and_then attributes_in (content_of f l)
 
 abbrev pub chars_of : Forest Content → ℕ → Option (List ℕ)
 chars_of f l = option_and_then chars_in (content_of f l)
+
+-- a node is an element of this name
+abbrev pub has_name : Forest Content → ℕ → List ℕ → Bool
+has_name f l name = option_map_or (λ own. bytes_eq own name) (name_of f l) false
+
+abbrev pub is_break : Forest Content → ℕ → Bool
+is_break f l = has_name f l (codes "br")
+
+abbrev pub is_image : Forest Content → ℕ → Bool
+is_image f l = has_name f l (codes "img")
 
 abbrev pub is_element_at : Forest Content → ℕ → Bool
 is_element_at f l = option_map_or is_element (content_of f l) false

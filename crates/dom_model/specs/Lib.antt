@@ -11,3 +11,5 @@ pub mod Editing
 pub mod TreeOrder
 pub mod Revised
 pub mod Shed
+pub mod Change
+pub mod ChangeCode

@@ -13,12 +13,12 @@ use Rattle.live_range.specs.Edit.{adjusted, adjusted_pair, has_label}
 use Rattle.live_range.specs.LivePoints.{LivePoints, mapped, at_pair}
 use Rattle.edit_model.specs.State.{State}
 use Rattle.edit_model.specs.Confined.{is_open, is_own, may_select, may_grow, may_send}
-use Rattle.edit_model.specs.Edit.{Edit, Insert, Remove, Move, Replace, Set, Unset, is_made_edit, index_before, points_after, changed, counted, edited}
+use Rattle.edit_model.specs.Edit.{Edit, Insert, Remove, Move, Replace, Set, Unset, is_made_edit, index_before, points_after, changed, with_change, edited}
 use Rattle.edit_model.specs.Action as action
-use Rattle.edit_model.specs.Action.{Action, made, with_selection, selected, extended_from, extended, grown, sent, scratched, acted}
+use Rattle.edit_model.specs.Action.{Action, made, applied, tail_of, extracted, with_selection, selected, extended_from, extended, grown, sent, scratched, acted}
 use Rattle.edit_model.specs.Run.{Reaches, here, onward}
 use Rattle.edit_model.specs.Lawful.{IsLawful}
-use Rattle.edit_model.specs.Outside.{hollowed, outside, IsConfined, IsApart}
+use Rattle.edit_model.specs.Outside.{hollowed, outside_by, outside, IsConfined, IsApart}
 use Rattle.edit_model.specs.Laws.{KeepsMark}
 use Rattle.edit_model.proofs.Steps.{either_way}
 use Rattle.edit_model.proofs.CommandParts.{command_along}
@@ -29,20 +29,29 @@ use Rattle.edit_model.proofs.Made.{removed_event, moved_event, parent_is}
 use Rattle.edit_model.proofs.LawfulRuns.{chosen}
 use Rattle.edit_model.proofs.Hollow.{hollowed_le, hollowed-without, child_left_out, inside_whole}
 use Rattle.edit_model.proofs.OutsideRuns.{rim, rest_of, outside_is, open_out, own_out, outside_along}
+use Rattle.edit_model.proofs.TailPossible.{tail_possible}
+use Rattle.edit_model.proofs.TailPlan.{IsCopy}
+use Rattle.edit_model.proofs.TailSteps.{either_extracted}
+use Rattle.edit_model.proofs.TailRuns.{fit_steps}
+use Rattle.edit_model.proofs.TailOutside.{Base, Moves, Takes, base_made, base_removed, base_inserted, tail_host, tail_out}
+use Rattle.edit_model.proofs.TailMarks.{StandsApart, still_inserted, still_removed}
+
+abbrev Apart : State → ℕ → Type 0
+Apart s l = IsApart s.host s.trees l
 
 -- an adjustment that moves no point that stands apart
 abbrev Rests : State → range.Edit → Type 0
-Rests s e = (x : Point) → IsApart s x.label → adjusted e x ≡ x
+Rests s e = (x : Point) → Apart s x.label → adjusted e x ≡ x
 
 module _ (s : State) (is : IsLawful s) (confined : IsConfined s) where
-  apart_rest : (l : ℕ) → IsApart s l → 0 < count_of (rest_of s s.trees) l
+  apart_rest : (l : ℕ) → Apart s l → 0 < count_of (rest_of s s.trees) l
   unfolding outside
   apart_rest l h = subst (λ g. 0 < count_of g l) (outside_is s.host s.trees s.next is.forest) h.outside
 
-  apart_document : (l : ℕ) → IsApart s l → IsWithin s.trees 0 l
+  apart_document : (l : ℕ) → Apart s l → IsWithin s.trees 0 l
   apart_document l h = omega (arith, apart_rest l h, hollowed_le (tree_of s.trees 0) (rim s) l)
 
-  apart_rim : (l : ℕ) → IsApart s l → l ≢ rim s
+  apart_rim : (l : ℕ) → Apart s l → l ≢ rim s
   apart_rim l h = by_host s.host h.other
     where
       below : l < s.next
@@ -53,19 +62,19 @@ module _ (s : State) (is : IsLawful s) (confined : IsConfined s) where
       by_host (Some k) off e = eqb-false k l off (sym e)
 
   -- it doesn't stand at an open node, nor at an own one, nor in a tree that leaves an open node
-  not_open : (p l : ℕ) → is_open s p ≡ true → IsApart s l → eqb l p ≡ false
+  not_open : (p l : ℕ) → is_open s p ≡ true → Apart s l → eqb l p ≡ false
   not_open p l allowed h = ne_eqb l p (λ e. (
       let none = open_out s is confined p allowed (λ q. apart_rim l h (e ∙ q)) in
       let some : 0 < count_of (rest_of s s.trees) p = subst (λ k. 0 < count_of (rest_of s s.trees) k) e (apart_rest l h) in
       omega (arith, none, some)))
 
-  not_own : (n l : ℕ) → is_own s n ≡ true → IsApart s l → eqb l n ≡ false
+  not_own : (n l : ℕ) → is_own s n ≡ true → Apart s l → eqb l n ≡ false
   not_own n l own h = ne_eqb l n (λ e. (
       let none = own_out s is confined n own in
       let some : 0 < count_of (rest_of s s.trees) n = subst (λ k. 0 < count_of (rest_of s s.trees) k) e (apart_rest l h) in
       omega (arith, none, some)))
 
-  not_leaving : (o n l : ℕ) → parent_of s.trees n ≡ Some o → is_open s o ≡ true → IsApart s l → count_of (tree_of s.trees n) l ≡ 0
+  not_leaving : (o n l : ℕ) → parent_of s.trees n ≡ Some o → is_open s o ≡ true → Apart s l → count_of (tree_of s.trees n) l ≡ 0
   not_leaving o n l child allowed h = by_count (count_of (tree_of s.trees n) l) refl
     where
       by_count : (k : ℕ) → count_of (tree_of s.trees n) l ≡ k → k ≡ 0
@@ -123,13 +132,13 @@ Marks = List (List ℕ × Pair)
 
 -- the marks of t against those of s
 abbrev KeepsMarks : State → Marks → Type 0
-KeepsMarks s ms = AllZip (KeepsMark s) s.points.marks ms
+KeepsMarks s ms = AllZip (KeepsMark s.host s.trees) s.points.marks ms
 
-keep_each : (s : State) (ms : Marks) → AllZip (KeepsMark s) ms ms
+keep_each : (s : State) (ms : Marks) → AllZip (KeepsMark s.host s.trees) ms ms
 keep_each s [] = tt
 keep_each s (m ∷ ms) = ((refl, λ _ _. refl), keep_each s ms)
 
-keep_mapped : (s : State) (f : Pair → Pair) → ((p : Pair) → IsApart s p.anchor.label → IsApart s p.focus.label → f p ≡ p) → (ms ns : Marks) → AllZip (KeepsMark s) ms ns → AllZip (KeepsMark s) ms (map (at_pair f) ns)
+keep_mapped : (s : State) (f : Pair → Pair) → ((p : Pair) → Apart s p.anchor.label → Apart s p.focus.label → f p ≡ p) → (ms ns : Marks) → AllZip (KeepsMark s.host s.trees) ms ns → AllZip (KeepsMark s.host s.trees) ms (map (at_pair f) ns)
 keep_mapped s f rests [] [] h = tt
 keep_mapped s f rests [] (n ∷ ns) h = absurd h
 keep_mapped s f rests (m ∷ ms) [] h = absurd h
@@ -137,7 +146,8 @@ keep_mapped s f rests (m ∷ ms) (n ∷ ns) h =
     ((h.0.0, λ a b. ap f (h.0.1 a b) ∙ rests m.1 a b), keep_mapped s f rests ms ns h.1)
 
 -- what stood apart stands apart
-apart_later : (s t : State) → outside t ≡ outside s → t.host ≡ s.host → (l : ℕ) → IsApart s l → IsApart t l
+apart_later : (s t : State) → outside t ≡ outside s → t.host ≡ s.host → (l : ℕ) → Apart s l → Apart t l
+unfolding outside
 apart_later s t same host l h = record {
   outside = subst (λ g. 0 < count_of g l) (sym same) h.outside;
   other = subst (λ o. is_label o l ≡ false) (sym host) h.other;
@@ -171,7 +181,7 @@ module _ (s t : State) (same : outside t ≡ outside s) (host : t.host ≡ s.hos
   marks_after is confined (Unset n name) may h = h
 
   marks-edited : IsLawful t → IsConfined t → (e : Edit) → KeepsHere t → KeepsHere (edited e t)
-  unfolding edited changed counted
+  unfolding edited changed with_change
   marks-edited is confined e h = chosen KeepsHere (is_made_edit e t) (λ may. marks_after is confined e may h) h
 
   marks-extended : (o : Option Pair) (at : Point) → KeepsHere t → KeepsHere (extended_from o at t)
@@ -195,6 +205,41 @@ module _ (s t : State) (same : outside t ≡ outside s) (host : t.host ≡ s.hos
   unfolding scratched
   marks-scratched pair h = either_way KeepsHere (may_select t pair.anchor && may_select t pair.focus) h h
 
+  -- what stands apart from the host, by label
+  stands_apart : (h : ℕ) → t.host ≡ Some h → (l : ℕ) → Apart s l → StandsApart h (hollowed (tree_of t.trees 0) h) l
+  unfolding outside
+  stands_apart h is_h l a =
+      let k = apart_later s t same host l a in (
+        subst (λ o. 0 < count_of (outside_by o t.trees) l) is_h k.outside,
+        λ e. eqb-false h l (subst (λ o. is_label o l ≡ false) is_h k.other) (sym e),
+      )
+
+  marks-extracted : IsLawful t → IsConfined t → (from : Point) (end target : ℕ) → KeepsHere t → KeepsHere (extracted from end target t)
+  unfolding made applied with_change changed points_after
+  marks-extracted is confined from end target h =
+      either_extracted KeepsHere from end target t
+      (λ may. (
+      let k = tail_host t is confined from end target may in
+      let base = hollowed (tree_of t.trees 0) k.0 in
+      let apart = stands_apart k.0 k.1 in
+      (fit_steps IsCopy (Moves k.0 base) (Takes k.0 base) (λ c q. q) (λ u. KeepsHere u × Base k.0 base u)
+      (λ c u is' _ q. (q.0, base_made k.0 base c u is' q.1))
+      (λ n o u is' moves child q. (
+        subst (λ p. KeepsMarks s (mapped (removed_event u.trees p n) u.points).marks) (sym (parent_is u.trees o n child))
+            (keep_mapped s (adjusted_pair (removed_event u.trees o n))
+            (λ p a b. (λ i. record { anchor = (still_removed k.0 base u is' q.1 n o moves child p.anchor (apart p.anchor.label a)) i; focus = (still_removed k.0 base u is' q.1 n o moves child p.focus (apart p.focus.label b)) i }))
+            s.points.marks u.points.marks q.0),
+        base_removed k.0 base n o u is' moves child q.1,
+      ))
+      (λ p before n u is' takes _ can q. (
+        keep_mapped s (adjusted_pair (range.Inserted p (index_before u.trees p before)))
+            (λ m a b. (λ i. record { anchor = (still_inserted k.0 base p (index_before u.trees p before) m.anchor takes (apart m.anchor.label a)) i; focus = (still_inserted k.0 base p (index_before u.trees p before) m.focus takes (apart m.focus.label b)) i }))
+            s.points.marks u.points.marks q.0,
+        base_inserted k.0 base p before n u is' takes can q.1,
+      ))
+      (tail_of t from end target) t (tail_out t is confined from end target may k.0 k.1 k.2) (tail_possible t is from end target may) is (h, refl)).0))
+      h
+
   marks-acted : IsLawful t → IsConfined t → (a : Action) → KeepsHere t → KeepsHere (acted a t)
   unfolding acted made extended changed
   marks-acted is confined (action.Change e) h = marks-edited is confined e h
@@ -208,8 +253,9 @@ module _ (s t : State) (same : outside t ≡ outside s) (host : t.host ≡ s.hos
   marks-acted is confined (action.Scratch pair) h = marks-scratched pair h
   marks-acted is confined (action.Override command setting) h = h
   marks-acted is confined (action.Flag flags) h = h
+  marks-acted is confined (action.Extract from end target) h = marks-extracted is confined from end target h
 
-pub marks_along : {s t : State} (r : Reaches s t) → IsLawful s → IsConfined s → AllZip (KeepsMark s) s.points.marks t.points.marks
+pub marks_along : {s t : State} (r : Reaches s t) → IsLawful s → IsConfined s → AllZip (KeepsMark s.host s.trees) s.points.marks t.points.marks
 marks_along {s = s} here is confined = keep_each s s.points.marks
 marks_along {s = s} (onward {t = t} q a) is confined =
     let k = outside_along q is confined in

@@ -65,6 +65,7 @@ takes_nothing (action.Send node at tail) s keeps = tt
 takes_nothing (action.Scratch pair) s keeps = tt
 takes_nothing (action.Override command setting) s keeps = tt
 takes_nothing (action.Flag flags) s keeps = tt
+takes_nothing (action.Extract from end target) s keeps = tt
 
 pub takes_nothing_on : {s t : State} (r : Reaches s t) → s.keeping ≡ true → TakesNothingOn r
 takes_nothing_on here keeps = tt

@@ -3,7 +3,8 @@ use Rattle.std.proofs.Common.{◌≡◌, ℕ, ◌+◌, Bool, true, ◌||◌, not
 use Rattle.std.proofs.lemmas.Bool.{or_parts, not-false}
 use Rattle.dom_model.specs.Forest.{parent_of, children_of}
 use Rattle.edit_model.specs.State.{State}
-use Rattle.edit_model.specs.Confined.{is_editable_for, has_name}
+use Rattle.edit_model.specs.Confined.{is_editable_for}
+use Rattle.dom_model.specs.Contents.{has_name}
 use Rattle.edit_model.specs.Action.{Action, Send, Grow}
 use Rattle.edit_model.specs.Run.{◌>>=◌, ◌>>◌, answer, done, insert, remove, make_element, send, grow}
 use Rattle.edit_model.specs.Lawful.{IsLawful}

@@ -1,15 +1,18 @@
 -- The edits that a run makes, in order, and their count.
 use Rattle.std.proofs.Common.{◌≡◌, ℕ, ◌+◌, Bool, true, false, ◌&&◌, if◌then◌else◌, List, [], ◌∷◌, ◌++◌, length, Option, Some, None, refl, sym, ap, ◌∙◌, arith, append_assoc, length-append}
 use Rattle.dom_model.specs.declared.Content.{Content}
+use Rattle.dom_model.specs.declared.Content.TheVariants.{Element}
+use Rattle.dom_model.specs.Change.{Change}
 use Rattle.dom_model.specs.declared.attributes.Attribute.{Attribute}
 use Rattle.live_range.specs.declared.places.Point.{Point}
 use Rattle.live_range.specs.declared.places.Pair.{Pair}
 use Rattle.edit_model.specs.State.{State}
 use Rattle.edit_model.specs.Confined.{may_select, may_grow, may_send}
-use Rattle.edit_model.specs.Edit.{Edit, is_made_edit, trees_after, points_after, changed, counted, edited}
+use Rattle.edit_model.specs.Edit.{Edit, is_made_edit, trees_after, points_after, changed, change_of, with_change, edited}
 use Rattle.edit_model.specs.Action as action
-use Rattle.edit_model.specs.Action.{Action, made, with_selection, selected, extended_from, extended, grown, sent, scratched, acted}
-use Rattle.edit_model.specs.Run.{Reaches, here, onward, reaches_trans, edits_of, edits_on, Run, final, value, edit_list, ◌>>=◌, act, answer, look, edit, make_element, make_words, perform}
+use Rattle.edit_model.specs.Tail.{Step, Copy, Do}
+use Rattle.edit_model.specs.Action.{Action, made, applied, stepped, stepped_all, tail_of, may_extract, extracted, with_selection, selected, extended_from, extended, grown, sent, scratched, words_content, acted}
+use Rattle.edit_model.specs.Run.{Reaches, here, onward, reaches_trans, edits_in, edits_of, edits_on, changes_in, changes_of, changes_on, nodes_in, nodes_of, nodes_on, Run, final, value, edit_list, ◌>>=◌, act, answer, look, edit, make_element, make_words, perform}
 use Rattle.edit_model.proofs.Steps.{either_way}
 
 append_none : {A : Type 0} (xs : List A) → xs ++ [] ≡ xs
@@ -59,67 +62,139 @@ edit_list-perform a s = refl
 
 pub ruleset edit_lists = (edit_list-bind, edit_list-answer, edit_list-look, edit_list-edit, edit_list-make_element, edit_list-make_words, edit_list-perform)
 
--- ---- their count
+-- ---- what a state keeps of them
 
-counts_edit : (e : Edit) (s : State) → (edited e s).edits ≡ s.edits + length (if is_made_edit e s then e ∷ [] else [])
-unfolding edited counted changed
-counts_edit e s = by (is_made_edit e s)
+-- a state with more changes and nodes
+abbrev Adds : State → List Change → List (ℕ × Content) → State → Type 0
+Adds s xs ns t = (t.edits ≡ s.edits ++ xs) × (t.made ≡ s.made ++ ns)
+
+abbrev AddsNone : State → State → Type 0
+AddsNone s t = Adds s [] [] t
+
+none_added : (s t : State) → t.edits ≡ s.edits → t.made ≡ s.made → AddsNone s t
+none_added s t e m = (e ∙ sym (append_none s.edits), m ∙ sym (append_none s.made))
+
+adds_edit : (e : Edit) (s : State) → Adds s (if is_made_edit e s then change_of e s.trees ∷ [] else []) [] (edited e s)
+unfolding edited with_change changed
+adds_edit e s = by (is_made_edit e s)
   where
-    by : (b : Bool) → (if b then counted (changed s (trees_after e s.trees) (points_after e s.trees s.points)) else s).edits ≡ s.edits + length (if b then e ∷ [] else [])
-    by true = refl
-    by false = omega arith
+    by : (b : Bool) → Adds s (if b then change_of e s.trees ∷ [] else []) [] (if b then with_change (change_of e s.trees) (changed s (trees_after e s.trees) (points_after e s.trees s.points)) else s)
+    by true = (refl, sym (append_none s.made))
+    by false = none_added s s refl refl
 
-same_count : (s t : State) → t.edits ≡ s.edits → t.edits ≡ s.edits + length (let none : List Edit = [] in none)
-same_count s t e = omega (arith, e)
+abbrev SameLists : State → State → Type 0
+SameLists s t = (t.edits ≡ s.edits) × (t.made ≡ s.made)
 
-abbrev SameCount : State → State → Type 0
-SameCount s t = t.edits ≡ s.edits
+same_added : (s t : State) → SameLists s t → AddsNone s t
+same_added s t h = none_added s t h.0 h.1
 
-count-extended : (o : Option Pair) (at : Point) (s : State) → (extended_from o at s).edits ≡ s.edits
+adds-extended : (o : Option Pair) (at : Point) (s : State) → AddsNone s (extended_from o at s)
 unfolding changed
-count-extended None at s = refl
-count-extended (Some pair) at s = either_way (SameCount s) (may_select s at) refl refl
+adds-extended None at s = none_added s s refl refl
+adds-extended (Some pair) at s = same_added s (extended_from (Some pair) at s) (either_way (SameLists s) (may_select s at) (refl, refl) (refl, refl))
 
-count-selected : (anchor focus : Point) (s : State) → (selected anchor focus s).edits ≡ s.edits
+adds-selected : (anchor focus : Point) (s : State) → AddsNone s (selected anchor focus s)
 unfolding selected changed
-count-selected anchor focus s = either_way (SameCount s) (may_select s anchor && may_select s focus) refl refl
+adds-selected anchor focus s = same_added s (selected anchor focus s) (either_way (SameLists s) (may_select s anchor && may_select s focus) (refl, refl) (refl, refl))
 
-count-grown : (at : Point) (s : State) → (grown at s).edits ≡ s.edits
+adds-grown : (at : Point) (s : State) → AddsNone s (grown at s)
 unfolding grown changed
-count-grown at s = either_way (SameCount s) (may_grow s at) refl refl
+adds-grown at s = same_added s (grown at s) (either_way (SameLists s) (may_grow s at) (refl, refl) (refl, refl))
 
-count-sent : (n at tail : ℕ) (s : State) → (sent n at tail s).edits ≡ s.edits
+adds-sent : (n at tail : ℕ) (s : State) → AddsNone s (sent n at tail s)
 unfolding sent changed
-count-sent n at tail s = either_way (SameCount s) (may_send s n at tail) refl refl
+adds-sent n at tail s = same_added s (sent n at tail s) (either_way (SameLists s) (may_send s n at tail) (refl, refl) (refl, refl))
 
-count-scratched : (pair : Pair) (s : State) → (scratched pair s).edits ≡ s.edits
+adds-scratched : (pair : Pair) (s : State) → AddsNone s (scratched pair s)
 unfolding scratched
-count-scratched pair s = either_way (SameCount s) (may_select s pair.anchor && may_select s pair.focus) refl refl
+adds-scratched pair s = same_added s (scratched pair s) (either_way (SameLists s) (may_select s pair.anchor && may_select s pair.focus) (refl, refl) (refl, refl))
 
-count-made : (c : Content) (s : State) → (made c s).edits ≡ s.edits
+adds-made : (c : Content) (s : State) → Adds s [] ((s.next, c) ∷ []) (made c s)
 unfolding made
-count-made c s = refl
+adds-made c s = (sym (append_none s.edits), refl)
 
-pub edits-acted : (a : Action) (s : State) → (acted a s).edits ≡ s.edits + length (edits_of a s)
+adds_steps : (xs : List Step) (s : State) → Adds s (changes_in xs s) (nodes_in xs s) (stepped_all xs s)
+unfolding stepped_all stepped made applied with_change changed
+adds_steps [] s = none_added s s refl refl
+adds_steps (Copy c ∷ xs) s = let h = adds_steps xs (made c s) in (h.0, h.1 ∙ append_assoc s.made ((s.next, c) ∷ []) (nodes_in xs (made c s)))
+adds_steps (Do e ∷ xs) s = let h = adds_steps xs (applied e s) in (h.0 ∙ append_assoc s.edits (change_of e s.trees ∷ []) (changes_in xs (applied e s)), h.1)
+
+adds-extracted : (from : Point) (end target : ℕ) (s : State) → Adds s (changes_of (action.Extract from end target) s) (nodes_of (action.Extract from end target) s) (extracted from end target s)
+unfolding extracted
+adds-extracted from end target s = by (may_extract s from end target)
+  where
+    xs : List Step
+    xs = tail_of s from end target
+
+    by : (b : Bool) → Adds s (if b then changes_in xs s else []) (if b then nodes_in xs s else []) (if b then stepped_all xs s else s)
+    by true = adds_steps xs s
+    by false = none_added s s refl refl
+
+pub adds_acted : (a : Action) (s : State) → Adds s (changes_of a s) (nodes_of a s) (acted a s)
 unfolding acted extended changed
-edits-acted (action.Change e) s = counts_edit e s
-edits-acted (action.MakeElement name attributes) s = same_count s (acted (action.MakeElement name attributes) s) (count-made _ s)
-edits-acted (action.MakeWords chars) s = same_count s (acted (action.MakeWords chars) s) (count-made _ s)
-edits-acted (action.Select anchor focus) s = same_count s (selected anchor focus s) (count-selected anchor focus s)
-edits-acted (action.Extend focus) s = same_count s (extended focus s) (count-extended s.points.selection focus s)
-edits-acted action.Unselect s = same_count s (with_selection None s) refl
-edits-acted (action.Grow at) s = same_count s (grown at s) (count-grown at s)
-edits-acted (action.Send node at tail) s = same_count s (sent node at tail s) (count-sent node at tail s)
-edits-acted (action.Scratch pair) s = same_count s (scratched pair s) (count-scratched pair s)
-edits-acted (action.Override command setting) s = omega arith
-edits-acted (action.Flag flags) s = omega arith
+adds_acted (action.Change e) s = adds_edit e s
+adds_acted (action.MakeElement name attributes) s = adds-made (Element name attributes) s
+adds_acted (action.MakeWords chars) s = adds-made (words_content chars) s
+adds_acted (action.Select anchor focus) s = adds-selected anchor focus s
+adds_acted (action.Extend focus) s = adds-extended s.points.selection focus s
+adds_acted action.Unselect s = none_added s (with_selection None s) refl refl
+adds_acted (action.Grow at) s = adds-grown at s
+adds_acted (action.Send node at tail) s = adds-sent node at tail s
+adds_acted (action.Scratch pair) s = adds-scratched pair s
+adds_acted (action.Override command setting) s = none_added s (acted (action.Override command setting) s) refl refl
+adds_acted (action.Flag flags) s = none_added s (acted (action.Flag flags) s) refl refl
+adds_acted (action.Extract from end target) s = adds-extracted from end target s
 
-pub edits_along : {s t : State} (r : Reaches s t) → t.edits ≡ s.edits + length (edits_on r)
-unfolding edits_on
-edits_along here = omega arith
-edits_along {s = s} (onward {t = t} q a) = omega (arith, edits_along q, edits-acted a t, length-append (edits_on q) (edits_of a t))
+pub adds_along : {s t : State} (r : Reaches s t) → Adds s (changes_on r) (nodes_on r) t
+unfolding changes_on nodes_on
+adds_along {s = s} here = none_added s s refl refl
+adds_along {s = s} (onward {t = t} q a) =
+    let h = adds_along q in
+    let k = adds_acted a t in (
+      k.0 ∙ (ap (λ xs. xs ++ changes_of a t) h.0 ∙ append_assoc s.edits (changes_on q) (changes_of a t)),
+      k.1 ∙ (ap (λ ns. ns ++ nodes_of a t) h.1 ∙ append_assoc s.made (nodes_on q) (nodes_of a t)),
+    )
 
--- the count of edits rises by the length of the list
-pub final_edits : {T : Type 0} (m : Run T) (s : State) → (final m s).edits ≡ s.edits + length (edit_list m s)
+-- one change for each edit
+one_each_in : (xs : List Step) (s : State) → length (changes_in xs s) ≡ length (edits_in xs)
+one_each_in [] s = refl
+one_each_in (Copy c ∷ xs) s = one_each_in xs (stepped (Copy c) s)
+one_each_in (Do e ∷ xs) s = omega (arith, one_each_in xs (stepped (Do e) s))
+
+one_each : (a : Action) (s : State) → length (changes_of a s) ≡ length (edits_of a s)
+one_each (action.Change e) s = by (is_made_edit e s)
+  where
+    by : (b : Bool) → length (if b then change_of e s.trees ∷ [] else []) ≡ length (if b then e ∷ [] else [])
+    by true = refl
+    by false = refl
+one_each (action.MakeElement name attributes) s = refl
+one_each (action.MakeWords chars) s = refl
+one_each (action.Select anchor focus) s = refl
+one_each (action.Extend focus) s = refl
+one_each action.Unselect s = refl
+one_each (action.Grow at) s = refl
+one_each (action.Send node at tail) s = refl
+one_each (action.Scratch pair) s = refl
+one_each (action.Override command setting) s = refl
+one_each (action.Flag flags) s = refl
+one_each (action.Extract from end target) s = by (may_extract s from end target)
+  where
+    xs : List Step
+    xs = tail_of s from end target
+
+    by : (b : Bool) → length (if b then changes_in xs s else []) ≡ length (if b then edits_in xs else [])
+    by true = one_each_in xs s
+    by false = refl
+
+pub one_each_along : {s t : State} (r : Reaches s t) → length (changes_on r) ≡ length (edits_on r)
+unfolding changes_on edits_on
+one_each_along here = refl
+one_each_along (onward {t = t} q a) =
+    omega (arith, one_each_along q, one_each a t, length-append (changes_on q) (changes_of a t), length-append (edits_on q) (edits_of a t))
+
+-- the number of edits rises by the length of the list
+pub final_edits : {T : Type 0} (m : Run T) (s : State) → length (final m s).edits ≡ length s.edits + length (edit_list m s)
 unfolding final edit_list
-final_edits m s = edits_along (m.by_actions s)
+final_edits m s =
+    let r = m.by_actions s in
+    omega (arith, ap length (adds_along r).0, length-append s.edits (changes_on r), one_each_along r)

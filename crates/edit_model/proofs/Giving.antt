@@ -6,7 +6,7 @@ use Rattle.dom_model.specs.declared.attributes.Attribute.{Attribute}
 use Rattle.node_arena.specs.declared.NodeRef.{NodeRef}
 use Rattle.edit_model.specs.declared.settings.EditFault.TheVariants.{Full}
 use Rattle.edit_model.specs.State.{State, IsOver}
-use Rattle.edit_model.specs.Edit.{Edit, is_made_edit, trees_after, points_after, changed, counted, edited}
+use Rattle.edit_model.specs.Edit.{Edit, is_made_edit, trees_after, points_after, changed, change_of, with_change, edited}
 use Rattle.edit_model.specs.Action.{made, words_content}
 use Rattle.edit_model.specs.Run.{edit, make_element, make_words}
 use Rattle.edit_model.specs.Gives.{Gives, GivesNode}
@@ -16,7 +16,7 @@ use Rattle.edit_model.proofs.Steps.{final-edit, value-edit, final-make_element, 
 
 -- the state after an edit that is made
 abbrev pub after_edit : Edit → State → State
-after_edit e s = counted (changed s (trees_after e s.trees) (points_after e s.trees s.points))
+after_edit e s = with_change (change_of e s.trees) (changed s (trees_after e s.trees) (points_after e s.trees s.points))
 
 pub edited-made : (e : Edit) (s : State) → is_made_edit e s ≡ true → edited e s ≡ after_edit e s
 unfolding edited

@@ -5,7 +5,7 @@ use Rattle.std.specs.Option.{option_map, option_map_or, option_and_then}
 use Rattle.std.proofs.lemmas.Bool.{and_parts, or_cases, cases_Bool, eq-eqb, leb-true, not-true, eqb-true}
 use Rattle.dom_model.specs.declared.Content.{Content}
 use Rattle.dom_model.specs.declared.Content.TheVariants.{Document, Element, Words, Remark}
-use Rattle.dom_model.specs.Contents.{is_element, name_in, may_have_children}
+use Rattle.dom_model.specs.Contents.{is_element, name_in, may_have_children, is_break}
 use Rattle.dom_model.specs.Editing.{is_true_state, is_false_state, editing_host, is_host, is_editable}
 use Rattle.dom_model.specs.Forest.{Forest, Seen, is_label, tops, count_of, tree_of, parent_of, content_of, unlink, IsDistinct, IsWithin}
 use Rattle.dom_model.specs.Forest.Forest.{Nil, Tree}
@@ -16,15 +16,15 @@ use Rattle.dom_model.proofs.Move.{parent_apart}
 use Rattle.dom_model.proofs.Within.{within_self}
 use Rattle.dom_model.proofs.Hosts.{editing_host-child, editing_host-root}
 use Rattle.edit_model.specs.State.{State}
-use Rattle.edit_model.specs.Confined.{is_editable_for, is_inside, is_made, is_open, is_own, is_break}
-use Rattle.edit_model.specs.Edit.{Edit, Insert, Remove, Move, Replace, Set, Unset, is_made_edit, trees_after, changed, counted, edited, with_replaced, with_set, with_unset}
+use Rattle.edit_model.specs.Confined.{is_editable_for, is_inside, is_made, is_open, is_own}
+use Rattle.edit_model.specs.Edit.{Edit, Insert, Remove, Move, Replace, Set, Unset, is_made_edit, trees_after, changed, with_change, edited, with_replaced, with_set, with_unset}
 use Rattle.edit_model.specs.Action as action
 use Rattle.edit_model.specs.Action.{Action, made, words_content, with_selection, selected, extended_from, extended, grown, sent, scratched, acted}
 use Rattle.edit_model.specs.Run.{Reaches, here, onward}
 use Rattle.edit_model.specs.History.{begun}
 use Rattle.edit_model.specs.Lawful.{IsForest, IsLawful}
 use Rattle.edit_model.specs.Laws.{TakesOut, TakesOutOn}
-use Rattle.edit_model.specs.Outside.{hollowed, is_island}
+use Rattle.edit_model.specs.Outside.{hollowed, is_within_host, is_island}
 use Rattle.edit_model.proofs.CommandParts.{command_along}
 use Rattle.edit_model.proofs.Tests.{label_is, inserts, removes, goes, replaces, set_own, unset_own, parent_there}
 use Rattle.edit_model.proofs.Forests.{forest-unlink, can_go, inner_child}
@@ -36,6 +36,9 @@ use Rattle.edit_model.proofs.Hollow.{editable_below, child_below, below_left_out
 use Rattle.edit_model.proofs.Islands.{link_elsewhere, unlink_elsewhere, host_within}
 use Rattle.edit_model.proofs.OutsideRuns.{trees-extended, trees-selected, trees-grown, trees-sent, trees-scratched}
 use Rattle.edit_model.proofs.Commands.{lawful_begun, command_confined}
+use Rattle.edit_model.proofs.TailSteps.{extract_tests, either_extracted}
+use Rattle.edit_model.proofs.TailIslands.{tree_extracted}
+use Rattle.edit_model.proofs.TailDocument.{document_extracted}
 
 -- a tree whose root has the true or the false state, made before the command began, without the host
 pub record Locked (T : Forest Content) (l start h : ℕ) : Type 0 where
@@ -126,7 +129,7 @@ module _ (T : Forest Content) (l h : ℕ) (s : State) (is : IsLawful s) (host : 
       tree_of-revised_other s.trees n l (with_unset name) (own_closed n (unset_own s n name may)) ∙ same
 
   tree_edited : (e : Edit) → tree_of (edited e s).trees l ≡ T
-  unfolding edited changed counted
+  unfolding edited changed with_change
   tree_edited e = let P : State → Type 0 = λ t. tree_of t.trees l ≡ T in chosen P (is_made_edit e s) (λ may. tree_after e may) same
 
   tree_made : (c : Content) → tree_of (made c s).trees l ≡ T
@@ -146,6 +149,12 @@ module _ (T : Forest Content) (l h : ℕ) (s : State) (is : IsLawful s) (host : 
   tree_acted (action.Scratch pair) = ap (λ f. tree_of f l) (trees-scratched pair s) ∙ same
   tree_acted (action.Override command setting) = same
   tree_acted (action.Flag flags) = same
+  tree_acted (action.Extract from end target) =
+      either_extracted (λ u. tree_of u.trees l ≡ T) from end target s
+      (λ may. (
+      let t = extract_tests s from end target may in
+      tree_extracted T l s is from end target may same there (ap (λ g. count_of g from.label) (sym same) ∙ editable_closed from.label t.from_editable) (ap (λ g. count_of g target) (sym same) ∙ made_closed target t.made)))
+      same
 
 pub locked_along : (l h : ℕ) {s t : State} → IsLawful s → s.host ≡ Some h → Locked (tree_of s.trees l) l s.start h → (r : Reaches s t) → tree_of t.trees l ≡ tree_of s.trees l
 locked_along l h is host locked here = refl
@@ -254,14 +263,14 @@ locked_under f next h l p is child uneditable offers =
       child_below f is.distinct h p l child offers.below,
     )
 
-pub island_locked : (s : State) (h l : ℕ) (keeping : Bool) → IsLawful s → is_host s.trees h ≡ true → is_island (begun (Some h) keeping s) l ≡ true → Locked (tree_of s.trees l) l s.next h × (IsWithin s.trees h l × (l ≢ h))
-unfolding is_island begun is_inside is_editable_for
+pub island_locked : (s : State) (h l : ℕ) (keeping : Bool) → IsLawful s → is_host s.trees h ≡ true → is_island s.trees h l ≡ true → Locked (tree_of s.trees l) l s.next h × (IsWithin s.trees h l × (l ≢ h))
+unfolding is_island is_within_host
 island_locked s h l keeping is hosted island = by_parent (parent_of s.trees l) refl ((and_parts (not (is_break s.trees l)) _ (and_parts (not (is_editable s.trees h l)) _ island).1).1)
   where
     uneditable : is_editable s.trees h l ≡ false
     uneditable = not-true (is_editable s.trees h l) (and_parts (not (is_editable s.trees h l)) _ island).0
 
-    by_parent : (o : Option ℕ) → parent_of s.trees l ≡ o → option_map_or (is_inside (begun (Some h) keeping s)) o false ≡ true → Locked (tree_of s.trees l) l s.next h × (IsWithin s.trees h l × (l ≢ h))
+    by_parent : (o : Option ℕ) → parent_of s.trees l ≡ o → option_map_or (is_within_host s.trees h) o false ≡ true → Locked (tree_of s.trees l) l s.next h × (IsWithin s.trees h l × (l ≢ h))
     by_parent None e inside = absurd (true≢false (sym inside))
     by_parent (Some p) e inside = elim (or_cases (eqb h p) (is_editable s.trees h p) inside) [
       | inl at ↦ (
@@ -288,11 +297,11 @@ root_closed T l h s is host locked same f once was no_break e = elim (or_cases (
 ]
 
 pub trees_made : (e : Edit) (s : State) → is_made_edit e s ≡ true → (edited e s).trees ≡ trees_after e s.trees
-unfolding edited changed counted
+unfolding edited changed with_change
 trees_made e s may = rw may refl
 
 pub trees_left : (e : Edit) (s : State) → is_made_edit e s ≡ false → (edited e s).trees ≡ s.trees
-unfolding edited changed counted
+unfolding edited changed with_change
 trees_left e s off = rw off refl
 
 edit_out : (e : Edit) (s : State) (l : ℕ) → IsLawful s → ((is_own s l || is_break s.trees l) ≡ true → ⊥) → IsWithin s.trees 0 l → is_made_edit e s ≡ true → IsWithin (trees_after e s.trees) 0 l ⊎ TakesOut (action.Change e) s l
@@ -333,6 +342,7 @@ goes_out (action.Send node at tail) s l is never inside = inl (subst (λ f. IsWi
 goes_out (action.Scratch pair) s l is never inside = inl (subst (λ f. IsWithin f 0 l) (sym (trees-scratched pair s)) inside)
 goes_out (action.Override command setting) s l is never inside = inl inside
 goes_out (action.Flag flags) s l is never inside = inl inside
+goes_out (action.Extract from end target) s l is never inside = inl (document_extracted from end target s l is inside)
 
 goes_out_on : (l h : ℕ) {s t : State} → IsLawful s → s.host ≡ Some h → Locked (tree_of s.trees l) l s.start h → is_break s.trees l ≡ false → (r : Reaches s t) → IsWithin s.trees 0 l → IsWithin t.trees 0 l ⊎ TakesOutOn r l
 goes_out_on l h is host locked no_break here inside = inl inside
@@ -347,7 +357,7 @@ goes_out_on l h {s = s} is host locked no_break (onward {t = t} q a) inside =
           ]
     ]
 
-pub islands_stay : (s t : State) (h : ℕ) (keeping : Bool) → IsLawful s → is_host s.trees h ≡ true → (r : Reaches (begun (Some h) keeping s) t) → (l : ℕ) → is_island (begun (Some h) keeping s) l ≡ true → (tree_of t.trees l ≡ tree_of s.trees l) × ((IsWithin t.trees 0 l → IsWithin t.trees h l) × (IsWithin s.trees 0 l → IsWithin t.trees 0 l ⊎ TakesOutOn r l))
+pub islands_stay : (s t : State) (h : ℕ) (keeping : Bool) → IsLawful s → is_host s.trees h ≡ true → (r : Reaches (begun (Some h) keeping s) t) → (l : ℕ) → is_island s.trees h l ≡ true → (tree_of t.trees l ≡ tree_of s.trees l) × ((IsWithin t.trees 0 l → IsWithin t.trees h l) × (IsWithin s.trees 0 l → IsWithin t.trees 0 l ⊎ TakesOutOn r l))
 unfolding begun is_island
 islands_stay s t h keeping is hosted r l island =
     let k = island_locked s h l keeping is hosted island in
@@ -355,7 +365,7 @@ islands_stay s t h keeping is hosted r l island =
     let outside_same = command_confined (Some h) keeping s t is r in
     let out : count_of (hollowed (tree_of t.trees 0) h) l ≡ 0 = ap (λ g. count_of g l) outside_same ∙ below_left_out s.trees s.next is.forest h l k.1.0 k.1.1 in
     let once : IsDistinct (tree_of t.trees 0) = λ m. omega (arith, lawful.forest.distinct m, total-without (λ j _. cond (eqb j m) 1 0) t.trees 0) in
-    let tests = and_parts (not (is_editable_for (begun (Some h) keeping s) l)) _ island in
+    let tests = and_parts (not (is_editable s.trees h l)) _ island in
     let no_break : is_break s.trees l ≡ false = not-true (is_break s.trees l) (and_parts (not (is_break s.trees l)) _ tests.1).0 in (
       locked_along l h (lawful_begun (Some h) keeping s is) refl k.0 r,
       (

@@ -3,80 +3,45 @@ use Rattle.std.proofs.Common.{◌≡◌, ◌≢◌, ℕ, ◌<◌, ◌^◌, Bool,
 use Rattle.std.specs.Prelude.{nat_lt}
 use Rattle.std.proofs.lemmas.Bool.{and_parts, ltb-true}
 use Rattle.std.proofs.lemmas.List.{length-set}
-use Rattle.dom_model.specs.declared.Content.{Content}
 use Rattle.dom_model.specs.declared.Content.TheVariants.{Document, Element, Words}
 use Rattle.dom_model.specs.Contents.{char_length}
-use Rattle.dom_model.specs.Forest.{Forest, with_leaf}
 use Rattle.html_names.specs.declared.commands.Command.{Command}
 use Rattle.live_range.specs.declared.places.Point.{Point}
 use Rattle.live_range.specs.declared.places.Pair.{Pair}
 use Rattle.live_range.specs.Edit as range
-use Rattle.live_range.specs.LivePoints.{LivePoints, mapped}
-use Rattle.live_range.specs.ActiveRange.{range_changed}
-use Rattle.point_order.specs.PointOrder.{is_before}
+use Rattle.live_range.specs.LivePoints.{mapped}
 use Rattle.edit_model.specs.declared.settings.Setting.{Setting}
 use Rattle.edit_model.specs.State.{State}
-use Rattle.edit_model.specs.Overrides.{no_overrides, with_setting, place_of}
+use Rattle.edit_model.specs.Overrides.{with_setting, place_of}
 use Rattle.edit_model.specs.Confined.{may_select, may_grow, may_send}
-use Rattle.edit_model.specs.Edit.{Edit, is_made_edit, trees_after, points_after, overrides_after, changed, counted, edited}
+use Rattle.edit_model.specs.Edit.{Edit, is_made_edit, trees_after, points_after, changed, change_of, edited}
 use Rattle.edit_model.specs.Action as action
-use Rattle.edit_model.specs.Action.{Action, made, words_content, with_selection, with_scratch, selected, extended_from, extended, grown, sent, scratched, acted}
+use Rattle.edit_model.specs.Action.{Action, made, applied, stepped, stepped_all, tail_of, may_extract, extracted, words_content, with_selection, with_scratch, selected, extended_from, extended, grown, sent, scratched, acted}
 use Rattle.edit_model.specs.Run.{Reaches, Run, final}
-use Rattle.edit_model.specs.Lawful.{IsForest, IsPlacedPair, IsPlaced, IsLawful}
+use Rattle.edit_model.specs.Lawful.{IsPlacedPair, IsLawful}
 use Rattle.edit_model.proofs.Steps.{along, final_keeps}
-use Rattle.edit_model.proofs.Forests.{forest-with_leaf}
-use Rattle.edit_model.proofs.Points.{mapped_placed, points_left, leaves-with_leaf}
+use Rattle.edit_model.proofs.LawfulParts.{lawful_changed, lawful_with_change, lawful_made, lawful_steps, plain_tail}
+use Rattle.edit_model.proofs.TailPossible.{tail_possible}
+use Rattle.edit_model.proofs.Points.{mapped_placed}
 use Rattle.edit_model.proofs.Made.{made_forest, made_placed}
 use Rattle.edit_model.proofs.Fitting.{places-grow, places-send}
+use Rattle.edit_model.proofs.TailSteps.{either_extracted}
 
 -- what holds after a choice
 pub chosen : (P : State → Type 0) (b : Bool) {s t : State} → (b ≡ true → P s) → P t → P (if b then s else t)
 chosen P true p q = p refl
 chosen P false p q = q
 
--- ---- overrides
-
-none_length : length no_overrides ≡ 32
-unfolding no_overrides
-none_length = refl
-
-after_length : (b : Bool) (list : List Setting) → length list ≡ 32 → length (if b then no_overrides else list) ≡ 32
-after_length true list h = none_length
-after_length false list h = h
-
-overrides_length : (s : State) (trees : Forest Content) (points : LivePoints) → length s.overrides ≡ 32 → length (overrides_after s trees points) ≡ 32
-unfolding overrides_after
-overrides_length s trees points h = after_length (range_changed (is_before s.trees) (is_before trees) s.points.selection points.selection) s.overrides h
-
-setting_length : (list : List Setting) (c : Command) (setting : Setting) → length (with_setting list c setting) ≡ length list
-unfolding with_setting
-setting_length list c setting = length-set list (place_of c) setting
-
--- ---- the parts of actions
-
-pub lawful_changed : (s : State) (trees : Forest Content) (points : LivePoints) → IsLawful s → IsForest trees s.next → IsPlaced trees points → IsLawful (changed s trees points)
-unfolding changed
-lawful_changed s trees points is forest placed = record { forest = forest; placed = placed; started = is.started; settings = overrides_length s trees points is.settings }
-
-lawful_counted : (s : State) → IsLawful s → IsLawful (counted s)
-unfolding counted
-lawful_counted s is = record { forest = is.forest; placed = is.placed; started = is.started; settings = is.settings }
-
 pub lawful_edited : (e : Edit) (s : State) → IsLawful s → IsLawful (edited e s)
 unfolding edited
 lawful_edited e s is =
     chosen IsLawful (is_made_edit e s)
-    (λ may. lawful_counted (changed s (trees_after e s.trees) (points_after e s.trees s.points)) (lawful_changed s (trees_after e s.trees) (points_after e s.trees s.points) is (made_forest e s is may) (made_placed e s is may)))
+    (λ may. lawful_with_change (change_of e s.trees) (changed s (trees_after e s.trees) (points_after e s.trees s.points)) (lawful_changed s (trees_after e s.trees) (points_after e s.trees s.points) is (made_forest e s is may) (made_placed e s is may)))
     is
 
-lawful_made : (c : Content) (s : State) → c ≢ Document → char_length c < 2 ^ 32 → IsLawful s → IsLawful (made c s)
-unfolding made
-lawful_made c s other short is = record {
-  forest = forest-with_leaf s.trees s.next is.forest c other short;
-  placed = points_left s.trees (with_leaf s.trees s.next c) (leaves-with_leaf s.trees s.next is.forest c) s.points is.placed;
-  started = (let h = is.started in omega (arith, h));
-  settings = is.settings;
-}
+setting_length : (list : List Setting) (c : Command) (setting : Setting) → length (with_setting list c setting) ≡ length list
+unfolding with_setting
+setting_length list c setting = length-set list (place_of c) setting
 
 words_other : (b : Bool) (chars : List ℕ) → (if b then Words chars else Words []) ≢ Document
 words_other true chars e = cc
@@ -138,6 +103,12 @@ lawful_scratched pair s is =
     }))
     is
 
+-- ---- the steps of a tail
+
+lawful_extracted : (from : Point) (end target : ℕ) (s : State) → IsLawful s → IsLawful (extracted from end target s)
+lawful_extracted from end target s is =
+    either_extracted IsLawful from end target s (λ may. lawful_steps (tail_of s from end target) s (plain_tail s is from end target) (tail_possible s is from end target may) is) is
+
 -- ---- every action, and every run
 
 pub lawful_acted : (a : Action) (s : State) → IsLawful s → IsLawful (acted a s)
@@ -155,6 +126,7 @@ lawful_acted (action.Send node at tail) s is = lawful_sent node at tail s is
 lawful_acted (action.Scratch pair) s is = lawful_scratched pair s is
 lawful_acted (action.Override command setting) s is = record { forest = is.forest; placed = is.placed; started = is.started; settings = setting_length s.overrides command setting ∙ is.settings }
 lawful_acted (action.Flag flags) s is = record { forest = is.forest; placed = is.placed; started = is.started; settings = is.settings }
+lawful_acted (action.Extract from end target) s is = lawful_extracted from end target s is
 
 pub lawful_along : {s t : State} → Reaches s t → IsLawful s → IsLawful t
 lawful_along r is = along IsLawful lawful_acted r is

@@ -13,7 +13,7 @@ use Rattle.live_range.specs.declared.places.Point.{Point}
 use Rattle.live_range.specs.declared.places.Pair.{Pair}
 use Rattle.edit_model.specs.State.{State}
 use Rattle.edit_model.specs.Confined.{is_editable_for, is_inside, is_made, is_open, is_own, may_select, may_grow, may_send}
-use Rattle.edit_model.specs.Edit.{Edit, Insert, Remove, Move, Replace, Set, Unset, is_made_edit, trees_after, changed, counted, edited, with_replaced, with_set, with_unset}
+use Rattle.edit_model.specs.Edit.{Edit, Insert, Remove, Move, Replace, Set, Unset, is_made_edit, trees_after, changed, with_change, edited, with_replaced, with_set, with_unset}
 use Rattle.edit_model.specs.Action as action
 use Rattle.edit_model.specs.Action.{Action, made, words_content, with_selection, selected, extended_from, extended, grown, sent, scratched, acted}
 use Rattle.edit_model.specs.Run.{Reaches}
@@ -26,6 +26,7 @@ use Rattle.edit_model.proofs.Forests.{forest-unlink, fresh, can_go}
 use Rattle.edit_model.proofs.Documents.{document-link, document-unlink, document-with_leaf, document-revised}
 use Rattle.edit_model.proofs.Made.{made_forest}
 use Rattle.edit_model.proofs.LawfulRuns.{chosen, lawful_acted}
+use Rattle.edit_model.proofs.TailOutside.{outside-extracted}
 use Rattle.edit_model.proofs.Hollow.{hollowed_absent, hollowed-put_under, hollowed-without, hollowed-revised, editable_below, below_left_out, child_left_out}
 
 -- ---- the host, or a label that no node has
@@ -122,7 +123,7 @@ module _ (s : State) (is : IsLawful s) (confined : IsConfined s) where
   -- ---- each action
 
   outside_edited : (e : Edit) → outside (edited e s) ≡ outside s
-  unfolding edited changed counted outside
+  unfolding edited changed with_change outside
   outside_edited e =
       let P : State → Type 0 = λ t. outside_by t.host t.trees ≡ outside_by s.host s.trees in
       chosen P (is_made_edit e s)
@@ -182,6 +183,7 @@ outside-acted (action.Send node at tail) s is confined = outside_same s (sent no
 outside-acted (action.Scratch pair) s is confined = outside_same s (scratched pair s) (trees-scratched pair s) (command_acted (action.Scratch pair) s).host
 outside-acted (action.Override command setting) s is confined = outside_same s (record s { overrides = with_setting s.overrides command setting }) refl refl
 outside-acted (action.Flag flags) s is confined = outside_same s (record s { flags = flags }) refl refl
+outside-acted (action.Extract from end target) s is confined = outside-extracted from end target s is confined
 
 -- ---- every run
 

@@ -4,7 +4,7 @@ use Rattle.std.specs.Option.{option_map, option_map_or}
 use Rattle.std.proofs.lemmas.Bool.{and_parts, or_cases, or_parts, cases_Bool, cases_lt, eqb-true, leb-false, leb-true, not-true}
 use Rattle.std.proofs.lemmas.Bool.Decides.{eqb_tells}
 use Rattle.dom_model.specs.declared.Content.{Content}
-use Rattle.dom_model.specs.Contents.{is_element}
+use Rattle.dom_model.specs.Contents.{is_element, is_break}
 use Rattle.dom_model.specs.Editing.{contenteditable, is_true_state, is_false_state, editing_host, is_host, is_editable}
 use Rattle.dom_model.specs.Forest.{Forest, Seen, is_label, count_of, tree_of, parent_of, content_of, IsDistinct, IsWithin, depth_of}
 use Rattle.dom_model.proofs.Totals.{total-without}
@@ -14,14 +14,14 @@ use Rattle.dom_model.proofs.Move.{parent_apart}
 use Rattle.dom_model.proofs.Within.{within_self, within_parent, within_step, depth_of-parent, within_up}
 use Rattle.dom_model.proofs.Hosts.{editing_host-child}
 use Rattle.edit_model.specs.State.{State}
-use Rattle.edit_model.specs.Confined.{is_editable_for, is_inside, is_made, is_open, is_own, is_break}
+use Rattle.edit_model.specs.Confined.{is_editable_for, is_inside, is_made, is_open, is_own}
 use Rattle.edit_model.specs.Edit.{Insert, Remove, Move, Replace, Set, Unset, is_made_edit}
 use Rattle.edit_model.specs.Action as action
 use Rattle.edit_model.specs.Action.{Action, acted}
 use Rattle.edit_model.specs.Run.{Reaches, here, onward}
 use Rattle.edit_model.specs.History.{begun}
 use Rattle.edit_model.specs.Lawful.{IsForest, IsLawful}
-use Rattle.edit_model.specs.Outside.{hollowed, IsConfined, is_island}
+use Rattle.edit_model.specs.Outside.{hollowed, IsConfined, is_within_host, is_island}
 use Rattle.edit_model.specs.Laws.{TakesOut, TakesOwn, TakesOwnOn, LeavesStatesOn}
 use Rattle.edit_model.proofs.CommandParts.{command_along}
 use Rattle.edit_model.proofs.Tests.{label_is, removes}
@@ -36,7 +36,7 @@ use Rattle.edit_model.proofs.IslandRuns.{Locked, Offers, root_content, content_a
 use Rattle.edit_model.proofs.States.{editable_value, stated_value, host_value, host_is, stated_is, SameStates, states_along}
 
 -- the tree of a node that holds something of the document stands in it
-holder_inside : (f : Forest Content) (next n l : ℕ) → IsForest f next → IsWithin f n l → IsWithin f 0 l → IsWithin f 0 n
+pub holder_inside : (f : Forest Content) (next n l : ℕ) → IsForest f next → IsWithin f n l → IsWithin f 0 l → IsWithin f 0 n
 holder_inside f next n l is in_n in_0 = elim (eqb_tells n 0) [
   | inl (_, e) ↦ subst (λ k. IsWithin f 0 k) (sym e) (within_self f 0 is.distinct is.document)
   | inr (_, off) ↦ (let d = document_shape f next is in tree_inside f d.0 d.1 d.2 n l is.distinct d.3 (omega (arith, off)) in_n in_0)
@@ -240,11 +240,11 @@ module _ (s : State) (h : ℕ) (keeping : Bool) (is : IsLawful s) (hosted : is_h
 -- ---- every run
 
 -- the parent of an island offers the host
-island_offers : (s : State) (h l : ℕ) (keeping : Bool) → IsLawful s → is_host s.trees h ≡ true → is_island (begun (Some h) keeping s) l ≡ true → (p : ℕ) × (parent_of s.trees l ≡ Some p) × Offers s.trees h p
-unfolding is_island begun is_inside is_editable_for
+island_offers : (s : State) (h l : ℕ) (keeping : Bool) → IsLawful s → is_host s.trees h ≡ true → is_island s.trees h l ≡ true → (p : ℕ) × (parent_of s.trees l ≡ Some p) × Offers s.trees h p
+unfolding is_island is_within_host
 island_offers s h l keeping is hosted island = by_parent (parent_of s.trees l) refl ((and_parts (not (is_break s.trees l)) _ (and_parts (not (is_editable s.trees h l)) _ island).1).1)
   where
-    by_parent : (o : Option ℕ) → parent_of s.trees l ≡ o → option_map_or (is_inside (begun (Some h) keeping s)) o false ≡ true → (p : ℕ) × (parent_of s.trees l ≡ Some p) × Offers s.trees h p
+    by_parent : (o : Option ℕ) → parent_of s.trees l ≡ o → option_map_or (is_within_host s.trees h) o false ≡ true → (p : ℕ) × (parent_of s.trees l ≡ Some p) × Offers s.trees h p
     by_parent None e inside = absurd (true≢false (sym inside))
     by_parent (Some p) e inside = elim (or_cases (eqb h p) (is_editable s.trees h p) inside) [
       | inl at ↦ (
@@ -271,14 +271,15 @@ own_out (action.Send node at tail) u l own h = absurd h
 own_out (action.Scratch pair) u l own h = absurd h
 own_out (action.Override command setting) u l own h = absurd h
 own_out (action.Flag flags) u l own h = absurd h
+own_out (action.Extract from end target) u l own h = absurd h
 
-module _ (s : State) (h : ℕ) (keeping : Bool) (is : IsLawful s) (hosted : is_host s.trees h ≡ true) (l : ℕ) (island : is_island (begun (Some h) keeping s) l ≡ true) (inside : IsWithin s.trees 0 l) where
+module _ (s : State) (h : ℕ) (keeping : Bool) (is : IsLawful s) (hosted : is_host s.trees h ≡ true) (l : ℕ) (island : is_island s.trees h l ≡ true) (inside : IsWithin s.trees 0 l) where
   host_inside : IsWithin s.trees 0 h
   host_inside = holder_inside s.trees s.next h l is.forest (island_locked s h l keeping is hosted island).1.0 inside
 
   no_break : is_break s.trees l ≡ false
-  unfolding is_island begun
-  no_break = not-true (is_break s.trees l) (and_parts (not (is_break s.trees l)) _ (and_parts (not (is_editable_for (begun (Some h) keeping s) l)) _ island).1).0
+  unfolding is_island
+  no_break = not-true (is_break s.trees l) (and_parts (not (is_break s.trees l)) _ (and_parts (not (is_editable s.trees h l)) _ island).1).0
 
   never_own : (u : State) (q : Reaches (begun (Some h) keeping s) u) → (is_own u l || is_break u.trees l) ≡ true → ⊥
   unfolding begun

@@ -1,7 +1,7 @@
 -- The states of contenteditable along a way whose actions give none and take none away.
 use Rattle.std.proofs.Common.{◌≡◌, ◌≢◌, ℕ, ◌<◌, ◌≤◌, ◌^◌, Bool, true, false, ◌||◌, if◌then◌else◌, cond, eqb, List, [], ◌∷◌, length, map, Option, Some, None, refl, sym, ap, subst, ◌∙◌, inl, inr, arith, true≢false}
-use Rattle.std.specs.Prelude.{bytes_eq, codes, nat_lt}
-use Rattle.std.specs.Option.{option_map, option_map_or}
+use Rattle.std.specs.Prelude.{bytes_eq, codes, nat_lt, unwrap_or}
+use Rattle.std.specs.Option.{option_map, option_map_or, option_and_then}
 use Rattle.std.specs.Char.{to_ascii_lowercase}
 use Rattle.std.proofs.lemmas.Bool.{cases_Bool}
 use Rattle.std.proofs.lemmas.Bool.Decides.{eqb_tells}
@@ -10,17 +10,20 @@ use Rattle.dom_model.specs.declared.Content.{Content}
 use Rattle.dom_model.specs.declared.Content.TheVariants.{Document, Element, Words, Remark}
 use Rattle.dom_model.specs.declared.attributes.Attribute.{Attribute}
 use Rattle.dom_model.specs.AttributeList.{value_of, set_in, unset_in}
-use Rattle.dom_model.specs.Editing.{contenteditable, is_true_state, is_false_state, is_host}
+use Rattle.dom_model.specs.Contents.{name_in, attributes_in}
+use Rattle.dom_model.specs.Editing.{contenteditable, is_true_state, is_false_state, editing_host, is_host}
 use Rattle.dom_model.specs.Forest.{Forest, Seen, count_of, content_of, unlink, with_leaf}
 use Rattle.dom_model.specs.Revised.{revised}
 use Rattle.dom_model.proofs.Stands.{seek_absent}
 use Rattle.edit_model.proofs.Trees.{none_or_some}
 use Rattle.dom_model.proofs.Kept.{content_of-link, content_of-unlink, content_of-with_leaf_other, content_of-with_leaf_new}
 use Rattle.dom_model.proofs.Revising.{content_of-revised}
+use Rattle.live_range.specs.declared.places.Point.{Point}
 use Rattle.edit_model.specs.State.{State}
-use Rattle.edit_model.specs.Edit.{Edit, Insert, Remove, Move, Replace, Set, Unset, is_made_edit, trees_after, edited, changed, with_replaced, with_set, with_unset}
+use Rattle.edit_model.specs.Edit.{Edit, Insert, Remove, Move, Replace, Set, Unset, is_made_edit, trees_after, edited, changed, with_change, with_replaced, with_set, with_unset}
 use Rattle.edit_model.specs.Action as action
-use Rattle.edit_model.specs.Action.{Action, made, words_content, extended, acted}
+use Rattle.edit_model.specs.Tail.{copy_of, document_size}
+use Rattle.edit_model.specs.Action.{Action, made, applied, tail_of, extracted, words_content, extended, acted}
 use Rattle.edit_model.specs.Run.{Reaches, here, onward}
 use Rattle.edit_model.specs.Lawful.{IsLawful}
 use Rattle.edit_model.specs.Laws.{LeavesStates, LeavesStatesOn}
@@ -30,6 +33,12 @@ use Rattle.edit_model.proofs.Forests.{forest-unlink, can_go, fresh}
 use Rattle.edit_model.proofs.LawfulRuns.{lawful_along}
 use Rattle.edit_model.proofs.OutsideRuns.{trees-extended, trees-selected, trees-grown, trees-sent, trees-scratched}
 use Rattle.edit_model.proofs.IslandRuns.{trees_made, trees_left}
+use Rattle.edit_model.proofs.TailPossible.{tail_possible}
+use Rattle.edit_model.proofs.TailPlan.{IsCopy, is_copy, tail_fits}
+use Rattle.edit_model.proofs.TailSteps.{extract_tests, either_extracted}
+use Rattle.edit_model.proofs.TailRuns.{fit_steps}
+use Rattle.edit_model.proofs.TailOutside.{host_of}
+use Rattle.edit_model.proofs.TailStates.{host_between, hosted_content}
 
 -- ---- the value of another name
 
@@ -159,6 +168,48 @@ words_stateless : (b : Bool) (chars : List ℕ) → (is_true_state (if b then Wo
 words_stateless true chars = refl
 words_stateless false chars = refl
 
+-- ---- where a tail is extracted
+
+stateless_same : (c d : Content) → contenteditable d ≡ contenteditable c → (is_true_state c || is_false_state c) ≡ false → (is_true_state d || is_false_state d) ≡ false
+stateless_same c d same h = ap (λ v. true_in v || false_in v) same ∙ h
+
+-- a copy of a node without a state has none
+copy_stateless : (f : Forest Content) (k : ℕ) (c : Content) → content_of f k ≡ Some c → (is_true_state c || is_false_state c) ≡ false → (is_true_state (copy_of f k) || is_false_state (copy_of f k)) ≡ false
+unfolding copy_of
+copy_stateless f k c content h = subst (λ o. (is_true_state (copied o) || is_false_state (copied o)) ≡ false) (sym content) (by c h)
+  where
+    copied : Option Content → Content
+    copied o = Element (unwrap_or (option_and_then name_in o) []) (unset_in (unwrap_or (option_and_then attributes_in o) []) (codes "id"))
+
+    by : (c : Content) → (is_true_state c || is_false_state c) ≡ false → (is_true_state (copied (Some c)) || is_false_state (copied (Some c))) ≡ false
+    by Document h = refl
+    by (Element name list) h = stateless_same (Element name list) (copied (Some (Element name list))) (editable-unset (codes "id") refl (Element name list)) h
+    by (Words chars) h = refl
+    by (Remark chars) h = refl
+
+states_extracted : (s t : State) (from : Point) (end target : ℕ) → IsLawful t → s.next ≤ t.next → SameStates s t → SameStates s (extracted from end target t)
+unfolding tail_of made applied with_change changed trees_after
+states_extracted s t from end target is later h =
+    either_extracted (SameStates s) from end target t
+    (λ may. (
+    let tests = extract_tests t from end target may in
+    let host = host_of t end tests.end_editable in
+    let own = host_of t from.label tests.from_editable in
+    let same : Some own.0 ≡ Some host.0 = sym own.1 ∙ host.1 in
+    let f = t.trees in
+    (fit_steps (λ c. IsCopy c × ((is_true_state c || is_false_state c) ≡ false)) (λ _. Unit {0}) (λ _. Unit {0}) (λ c q. q.0) (λ u. SameStates s u × (s.next ≤ u.next))
+    (λ c u is' k q. (states_made s u c is' q.1 k.1 q.0, (let low = q.1 in omega (arith, low))))
+    (λ n o u is' _ child q. (states_kept s u (applied (Remove n) u) (λ j. ap (option_map contenteditable) (content_of-unlink u.trees o n j is'.forest.distinct child)) q.0, q.1))
+    (λ p b n u is' _ _ can q. (states_kept s u (applied (Insert p b n) u) (λ j. ap (option_map contenteditable) (content_of-link u.trees p b n j is'.forest.distinct can)) q.0, q.1))
+    (tail_of t from end target) t
+    (tail_fits (λ c. IsCopy c × ((is_true_state c || is_false_state c) ≡ false)) (λ _. Unit {0}) (λ _. Unit {0}) f is.forest.distinct t.next from (λ c. editing_host f c ≡ Some host.0)
+    (λ c k above child within. host_between f t.next is.forest host.0 c k from.label above child within (own.2 ∙ same))
+    (λ _ _ _ _. tt)
+    (λ k e. (let d = hosted_content f t.next is.forest host.0 k e in (is_copy f k, copy_stateless f k d.0 d.1 d.2)))
+    (λ _ _. tt) (λ _ _. tt) (document_size f) end target t.next host.2 tt (omega arith))
+    (tail_possible t is from end target may) is (h, later)).0))
+    h
+
 states_acted : (s t : State) (a : Action) → IsLawful t → s.next ≤ t.next → LeavesStates a → SameStates s t → SameStates s (acted a t)
 unfolding acted extended changed
 states_acted s t (action.Change e) is later leaves h = elim (cases_Bool (is_made_edit e t)) [
@@ -175,6 +226,7 @@ states_acted s t (action.Send node at tail) is later leaves h = states_kept s t 
 states_acted s t (action.Scratch pair) is later leaves h = states_kept s t (acted (action.Scratch pair) t) (λ k. ap (λ f. editable_value f k) (trees-scratched pair t)) h
 states_acted s t (action.Override command setting) is later leaves h = states_kept s t (acted (action.Override command setting) t) (λ k. refl) h
 states_acted s t (action.Flag flags) is later leaves h = states_kept s t (acted (action.Flag flags) t) (λ k. refl) h
+states_acted s t (action.Extract from end target) is later leaves h = states_extracted s t from end target is later h
 
 absent_value : (s : State) → IsLawful s → (k : ℕ) → s.next ≤ k → stated_value (editable_value s.trees k) ≡ false
 absent_value s is k high = ap (λ (o : Option (Seen Content)). stated_value (option_map contenteditable (option_map (λ x. x.content) o))) (seek_absent None s.trees k none)

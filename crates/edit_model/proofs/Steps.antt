@@ -14,11 +14,12 @@ use Rattle.node_arena.specs.declared.NodeRef.{NodeRef}
 use Rattle.edit_model.specs.declared.settings.EditFault.{EditFault}
 use Rattle.edit_model.specs.declared.settings.EditFault.TheVariants.{Full, Memory}
 use Rattle.edit_model.specs.State.{State, IsOver}
-use Rattle.edit_model.specs.Edit.{Edit, is_made_edit, edited, changed, counted}
+use Rattle.edit_model.specs.Edit.{Edit, is_made_edit, edited, changed, with_change}
 use Rattle.edit_model.specs.Action as action
-use Rattle.edit_model.specs.Action.{Action, made, words_content, with_selection, with_scratch, selected, extended_from, extended, grown, sent, scratched, acted}
+use Rattle.edit_model.specs.Action.{Action, made, applied, words_content, with_selection, with_scratch, selected, extended_from, extended, grown, sent, scratched, acted}
 use Rattle.edit_model.specs.Run.{Reaches, here, onward, Run, final, value, act, answer, look, ◌>>=◌, for_each, while_at_most, edit, make_element, make_words, perform}
 use Rattle.edit_model.specs.Gives.{labels_of, Fails, Gives, GivesNode, GivesMaybe}
+use Rattle.edit_model.proofs.TailSteps.{extracted_keeps}
 
 -- ---- the parts of a run
 
@@ -102,13 +103,17 @@ either_way P true p q = p
 either_way P false p q = q
 
 next-edited : (e : Edit) (s : State) → (edited e s).next ≡ s.next
-unfolding edited counted changed
+unfolding edited with_change changed
 next-edited e s = let P : State → Type 0 = λ t. t.next ≡ s.next in either_way P (is_made_edit e s) refl refl
 
 next-extended_from : (o : Option Pair) (at : Point) (s : State) → (extended_from o at s).next ≡ s.next
 unfolding changed
 next-extended_from None at s = refl
 next-extended_from (Some pair) at s = let P : State → Type 0 = λ t. t.next ≡ s.next in either_way P _ refl refl
+
+next-extracted : (n : ℕ) (from : Point) (end target : ℕ) (s : State) → n ≤ s.next → n ≤ (acted (action.Extract from end target) s).next
+unfolding acted made applied with_change changed
+next-extracted n from end target s h = let P : State → Type 0 = λ t. n ≤ t.next in extracted_keeps P (λ c t k. omega (arith, k)) (λ e t k. k) from end target s h
 
 -- an action never draws a label back
 pub next_acted : (n : ℕ) (a : Action) (s : State) → n ≤ s.next → n ≤ (acted a s).next
@@ -124,15 +129,20 @@ next_acted n (action.Send node at tail) s h = let P : State → Type 0 = λ t. n
 next_acted n (action.Scratch pair) s h = let P : State → Type 0 = λ t. n ≤ t.next in either_way P _ h h
 next_acted n (action.Override command setting) s h = h
 next_acted n (action.Flag flags) s h = h
+next_acted n (action.Extract from end target) s h = next-extracted n from end target s h
 
 cap-edited : (e : Edit) (s : State) → (edited e s).cap ≡ s.cap
-unfolding edited counted changed
+unfolding edited with_change changed
 cap-edited e s = let P : State → Type 0 = λ t. t.cap ≡ s.cap in either_way P (is_made_edit e s) refl refl
 
 cap-extended_from : (o : Option Pair) (at : Point) (s : State) → (extended_from o at s).cap ≡ s.cap
 unfolding changed
 cap-extended_from None at s = refl
 cap-extended_from (Some pair) at s = let P : State → Type 0 = λ t. t.cap ≡ s.cap in either_way P _ refl refl
+
+cap-extracted : (from : Point) (end target : ℕ) (s : State) → (acted (action.Extract from end target) s).cap ≡ s.cap
+unfolding acted made applied with_change changed
+cap-extracted from end target s = let P : State → Type 0 = λ t. t.cap ≡ s.cap in extracted_keeps P (λ c t k. k) (λ e t k. k) from end target s refl
 
 -- no action changes the cap
 pub cap-acted : (a : Action) (s : State) → (acted a s).cap ≡ s.cap
@@ -148,6 +158,7 @@ cap-acted (action.Send node at tail) s = let P : State → Type 0 = λ t. t.cap 
 cap-acted (action.Scratch pair) s = let P : State → Type 0 = λ t. t.cap ≡ s.cap in either_way P _ refl refl
 cap-acted (action.Override command setting) s = refl
 cap-acted (action.Flag flags) s = refl
+cap-acted (action.Extract from end target) s = cap-extracted from end target s
 
 pub next_along : {s t : State} → Reaches s t → s.next ≤ t.next
 next_along {s = s} r = let P : State → Type 0 = λ t. s.next ≤ t.next in along P (next_acted s.next) r (omega arith)

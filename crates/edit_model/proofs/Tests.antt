@@ -5,13 +5,13 @@ use Rattle.std.proofs.lemmas.Bool.{and_parts, not-true, ltb-true, leb-true, eqb-
 use Rattle.std.specs.Option.{option_map, option_map_or}
 use Rattle.dom_model.specs.declared.Content.{Content}
 use Rattle.dom_model.specs.declared.Content.TheVariants.{Document, Element, Words, Remark}
-use Rattle.dom_model.specs.Contents.{is_parent_at, may_have_children}
+use Rattle.dom_model.specs.Contents.{is_parent_at, may_have_children, is_break}
 use Rattle.dom_model.specs.Forest.{Forest, Seen, seek, is_label, count_of, tree_of, parent_of, content_of, CanPut}
 use Rattle.dom_model.proofs.Links.{found_count}
 use Rattle.point_order.specs.PointOrder.{is_within, is_in_document}
 use Rattle.edit_model.specs.State.{State}
 use Rattle.edit_model.specs.Kept.{bears_nothing}
-use Rattle.edit_model.specs.Confined.{is_open, is_own, is_break, is_there, is_place, stands_so, may_insert, may_leave, may_remove, may_go, may_move, spliced, may_change, may_replace, may_set, may_unset}
+use Rattle.edit_model.specs.Confined.{is_open, is_own, is_there, is_place, stands_so, may_insert, may_leave, may_remove, may_go, may_move, spliced, may_change, may_replace, may_set, may_unset}
 
 -- ---- small tests
 

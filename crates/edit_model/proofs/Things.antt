@@ -30,6 +30,7 @@ use Rattle.edit_model.proofs.Commands.{nothing_kept}
 use Rattle.edit_model.proofs.OutsideRuns.{trees-extended, trees-selected, trees-grown, trees-sent, trees-scratched}
 use Rattle.edit_model.proofs.IslandRuns.{trees_made, trees_left}
 use Rattle.edit_model.proofs.Bearing.{bears_each}
+use Rattle.edit_model.proofs.TailSteps.{extracted_off}
 
 -- ---- names
 
@@ -131,6 +132,7 @@ module _ (l : ℕ) (name : List ℕ) (thing : is_thing name ≡ true) where
   there_acted (action.Scratch pair) s is keeps h = subst IsThere (sym (trees-scratched pair s)) h
   there_acted (action.Override command setting) s is keeps h = h
   there_acted (action.Flag flags) s is keeps h = h
+  there_acted (action.Extract from end target) s is keeps h = subst (λ t. IsThere t.trees) (sym (extracted_off from end target s keeps)) h
 
   pub things_stay : {s t : State} → Reaches s t → IsLawful s → s.keeping ≡ true → IsWithin s.trees 0 l → name_of s.trees l ≡ Some name → IsWithin t.trees 0 l × (name_of t.trees l ≡ Some name)
   things_stay here is keeps inside named = (inside, named)

@@ -1,20 +1,23 @@
 -- What commands do to a state besides edits: making nodes, selecting, and setting overrides and flags.
-use Rattle.std.specs.Prelude.{ℕ, ◌+◌, ◌^◌, ◌&&◌, nat_lt, List, [], length, Option, Some, None, if◌then◌else◌}
+use Rattle.std.specs.Prelude.{ℕ, ◌+◌, ◌^◌, Bool, ◌&&◌, not, nat_lt, List, [], ◌∷◌, ◌++◌, length, Option, Some, None, if◌then◌else◌}
 use Rattle.dom_model.specs.declared.Content.{Content}
 use Rattle.dom_model.specs.declared.Content.TheVariants.{Element, Words}
 use Rattle.dom_model.specs.declared.attributes.Attribute.{Attribute}
+use Rattle.dom_model.specs.Contents.{is_parent_at}
 use Rattle.dom_model.specs.Forest.{with_leaf}
 use Rattle.html_names.specs.declared.commands.Command.{Command}
 use Rattle.live_range.specs.declared.places.Point.{Point}
 use Rattle.live_range.specs.declared.places.Pair.{Pair}
 use Rattle.live_range.specs.Edit as range
 use Rattle.live_range.specs.LivePoints.{mapped}
+use Rattle.point_order.specs.PointOrder.{is_within, is_in_document}
 use Rattle.edit_model.specs.declared.settings.Setting.{Setting}
 use Rattle.edit_model.specs.declared.settings.Flags.{Flags}
 use Rattle.edit_model.specs.State.{State}
 use Rattle.edit_model.specs.Overrides.{with_setting}
-use Rattle.edit_model.specs.Confined.{may_select, may_grow, may_send}
-use Rattle.edit_model.specs.Edit.{Edit, edited, changed}
+use Rattle.edit_model.specs.Confined.{is_editable_for, is_made, may_select, may_grow, may_send}
+use Rattle.edit_model.specs.Edit.{Edit, trees_after, points_after, changed, change_of, with_change, edited}
+use Rattle.edit_model.specs.Tail.{Step, Copy, Do, tail_steps, document_size}
 
 pub data Action : Type 0 where
   Change : (edit : Edit) → Action
@@ -31,6 +34,8 @@ pub data Action : Type 0 where
   -- settings
   Override : (command : Command) (setting : Setting) → Action
   Flag : (flags : Flags) → Action
+  -- what stands in `end` from a point on goes to the end of `target`
+  Extract : (from : Point) (end target : ℕ) → Action
 
 -- ---- making
 
@@ -39,7 +44,7 @@ abbrev pub words_content : List ℕ → Content
 words_content chars = if nat_lt (length chars) (2 ^ 32) then Words chars else Words []
 
 unfoldable pub made : Content → State → State
-made c s = record s { trees = with_leaf s.trees s.next c; next = s.next + 1 }
+made c s = record s { trees = with_leaf s.trees s.next c; next = s.next + 1; made = s.made ++ (s.next, c) ∷ [] }
 
 -- ---- selecting: a step to where no point may stand is left out
 
@@ -71,6 +76,34 @@ sent node at tail s = if may_send s node at tail then changed s s.trees (mapped 
 unfoldable pub scratched : Pair → State → State
 scratched pair s = if may_select s pair.anchor && may_select s pair.focus then with_scratch (Some pair) s else s
 
+-- ---- extracting a tail
+
+-- the state after an edit that is made without its test: the trees allow each edit of a tail, and the parents are open, but
+-- what is removed need not be editable
+unfoldable pub applied : Edit → State → State
+applied e s = with_change (change_of e s.trees) (changed s (trees_after e s.trees) (points_after e s.trees s.points))
+
+unfoldable pub stepped : Step → State → State
+stepped (Copy content) s = made content s
+stepped (Do e) s = applied e s
+
+unfoldable pub stepped_all : List Step → State → State
+stepped_all [] s = s
+stepped_all (x ∷ xs) s = stepped_all xs (stepped x s)
+
+unfoldable pub tail_of : State → Point → ℕ → ℕ → List Step
+tail_of s from end target = tail_steps (document_size s.trees) s.trees from end target s.next
+
+-- The point's node can have children, and is `end` or stands below it; both are editable, in the document. The target was made
+-- by the command, stands in the document, can have children, and is neither `end` nor below it. The command isn't a keeping one.
+unfoldable pub may_extract : State → Point → ℕ → ℕ → Bool
+may_extract s from end target =
+    not s.keeping && (is_editable_for s end && (is_in_document s.trees end && (is_editable_for s from.label && (is_parent_at s.trees from.label && (is_within s.trees end from.label && (is_made s target && (is_in_document s.trees target && (is_parent_at s.trees target && not (is_within s.trees end target)))))))))
+
+-- The steps are one action, since between them nodes of the document stand in loose trees, and islands among them.
+unfoldable pub extracted : Point → ℕ → ℕ → State → State
+extracted from end target s = if may_extract s from end target then stepped_all (tail_of s from end target) s else s
+
 -- ---- the state after an action
 
 unfoldable pub acted : Action → State → State
@@ -85,3 +118,4 @@ acted (Send node at tail) s = sent node at tail s
 acted (Scratch pair) s = scratched pair s
 acted (Override command setting) s = record s { overrides = with_setting s.overrides command setting }
 acted (Flag flags) s = record s { flags = flags }
+acted (Extract from end target) s = extracted from end target s

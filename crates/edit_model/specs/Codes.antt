@@ -2,6 +2,8 @@
 use Rattle.std.specs.Prelude.{◌≡◌, ℕ, zero, suc, Bool, List, [], Option, refl}
 use Rattle.std.specs.Coded.{Coded, code_by, coded×, coded_ℕ, coded_bool, coded_list, coded_option}
 use Rattle.dom_model.specs.declared.Content.{Content}
+use Rattle.dom_model.specs.Change.{Change}
+use Rattle.dom_model.specs.ChangeCode.{change_code}
 use Rattle.dom_model.specs.ContentCode.{content_code}
 use Rattle.dom_model.specs.Code.{forest_code}
 use Rattle.dom_model.specs.Forest.{Forest}
@@ -56,12 +58,15 @@ setting_code = code_by (ℕ × List ℕ) (coded× coded_ℕ (coded_list coded_�
 abbrev pub flags_code : Coded Flags
 flags_code = code_by (Bool × Bool) (coded× coded_bool coded_bool) (λ f. (f.css_styling, f.paragraphs)) (λ c. record { css_styling = c.0; paragraphs = c.1 }) (λ _. refl)
 
+abbrev pub nodes_code : Coded (List (ℕ × Content))
+nodes_code = coded_list (coded× coded_ℕ content_code)
+
 abbrev pub state_code : Coded State
 state_code =
     code_by
-    (Forest Content × (LivePoints × (List Setting × (Flags × (ℕ × (ℕ × (ℕ × (Option ℕ × (Bool × ℕ)))))))))
-    (coded× (forest_code content_code) (coded× points_code (coded× (coded_list setting_code) (coded× flags_code (coded× coded_ℕ (coded× coded_ℕ (coded× coded_ℕ (coded× (coded_option coded_ℕ) (coded× coded_bool coded_ℕ)))))))))
-    (λ s. (s.trees, (s.points, (s.overrides, (s.flags, (s.next, (s.cap, (s.start, (s.host, (s.keeping, s.edits))))))))))
+    (Forest Content × (LivePoints × (List Setting × (Flags × (ℕ × (ℕ × (ℕ × (Option ℕ × (Bool × (List Change × List (ℕ × Content)))))))))))
+    (coded× (forest_code content_code) (coded× points_code (coded× (coded_list setting_code) (coded× flags_code (coded× coded_ℕ (coded× coded_ℕ (coded× coded_ℕ (coded× (coded_option coded_ℕ) (coded× coded_bool (coded× (coded_list change_code) nodes_code))))))))))
+    (λ s. (s.trees, (s.points, (s.overrides, (s.flags, (s.next, (s.cap, (s.start, (s.host, (s.keeping, (s.edits, s.made)))))))))))
     (λ c. record {
       trees = c.0;
       points = c.1.0;
@@ -72,7 +77,8 @@ state_code =
       start = c.1.1.1.1.1.1.0;
       host = c.1.1.1.1.1.1.1.0;
       keeping = c.1.1.1.1.1.1.1.1.0;
-      edits = c.1.1.1.1.1.1.1.1.1;
+      edits = c.1.1.1.1.1.1.1.1.1.0;
+      made = c.1.1.1.1.1.1.1.1.1.1;
     })
     (λ _. refl)
 
@@ -86,13 +92,19 @@ view_code =
     (λ _. refl)
 
 abbrev pub entry_code : Coded Entry
-entry_code = code_by (View × (View × ℕ)) (coded× view_code (coded× view_code coded_ℕ)) (λ e. (e.before, (e.after, e.edits))) (λ c. record { before = c.0; after = c.1.0; edits = c.1.1 }) (λ _. refl)
+entry_code =
+    code_by
+    (View × (View × (List Change × List (ℕ × Content))))
+    (coded× view_code (coded× view_code (coded× (coded_list change_code) nodes_code)))
+    (λ e. (e.before, (e.after, (e.edits, e.made))))
+    (λ c. record { before = c.0; after = c.1.0; edits = c.1.1.0; made = c.1.1.1 })
+    (λ _. refl)
 
 abbrev pub history_code : Coded History
 history_code =
     code_by
-    (List Entry × (List Entry × ℕ))
-    (coded× (coded_list entry_code) (coded× (coded_list entry_code) coded_ℕ))
-    (λ h. (h.undo, (h.redo, h.depth)))
-    (λ c. record { undo = c.0; redo = c.1.0; depth = c.1.1 })
+    (List Entry × (List Entry × (ℕ × Bool)))
+    (coded× (coded_list entry_code) (coded× (coded_list entry_code) (coded× coded_ℕ coded_bool)))
+    (λ h. (h.undo, (h.redo, (h.depth, h.dropped))))
+    (λ c. record { undo = c.0; redo = c.1.0; depth = c.1.1.0; dropped = c.1.1.1 })
     (λ _. refl)

@@ -1,12 +1,13 @@
 -- Compositions of edits that the DOM and editing standards name: splitting a text, and setting the tag name of an element.
+-- The steps are those of docs/ALGORITHMS.md.
 use Rattle.std.specs.Prelude.{ℕ, ◌+◌, ◌-◌, Bool, ◌||◌, not, List, [], length, drop, Some, None, if◌then◌else◌, unwrap_or}
 use Rattle.dom_model.specs.declared.attributes.Attribute.{Attribute}
-use Rattle.dom_model.specs.Contents.{chars_of, name_of, attributes_of}
+use Rattle.dom_model.specs.Contents.{chars_of, name_of, attributes_of, has_name}
 use Rattle.dom_model.specs.Forest.{Forest, parent_of, next_of, children_of}
 use Rattle.dom_model.specs.Places.{index_of}
 use Rattle.dom_model.specs.declared.Content.{Content}
 use Rattle.edit_model.specs.State.{State}
-use Rattle.edit_model.specs.Confined.{is_editable_for, has_name}
+use Rattle.edit_model.specs.Confined.{is_editable_for}
 use Rattle.edit_model.specs.Run.{Run, ◌>>=◌, ◌>>◌, answer, done, look, given, insert, remove, replace, make_element, make_words, send, grow}
 use Rattle.edit_model.specs.Moves.{move_each_last}
 
@@ -21,11 +22,13 @@ attribute_list_of f n = unwrap_or (attributes_of f n) []
 
 -- ---- splitting the text n, a child of p, at an offset (DOM Standard, "split a Text node")
 
--- points past the offset go to the new text, and those just after n grow, where the new text was inserted
+-- split a text, step 3: points past the offset go to the new text, and those just after n grow, where the new text was
+-- inserted
 unfoldable pub points_sent : ℕ → ℕ → ℕ → ℕ → ℕ → Bool → Run (Unit {0})
 points_sent p i n at tail inserted =
     if inserted then (send n at tail >> grow (record { label = p; offset = i + 1 })) else done
 
+-- split a text, steps 2 to 4, where n is a child of p
 unfoldable pub split_under : ℕ → State → ℕ → ℕ → Run ℕ
 split_under p s n at = do
   tail ← make_words (drop at (characters_of s.trees n))
@@ -34,12 +37,13 @@ split_under p s n at = do
   replace n at (length (characters_of s.trees n) - at) []
   answer tail
 
--- answers the new text with the tail; a text without a parent stays as it is
+-- split a text, step 1, and then from 2 on: answers the new text with the tail; a text without a parent stays as it is
 unfoldable pub split_words : ℕ → ℕ → Run ℕ
 split_words n at = look λ s. given (parent_of s.trees n) (answer n) λ p. split_under p s n at
 
 -- ---- setting the tag name of e (HTML Editing APIs)
 
+-- set the tag name, steps 2 to 4, where e is a child of p
 unfoldable pub renamed : ℕ → State → ℕ → List ℕ → Run ℕ
 renamed p s e name = do
   x ← make_element name (attribute_list_of s.trees e)
@@ -48,8 +52,8 @@ renamed p s e name = do
   remove e
   answer x
 
--- answers the element that has the name: a new one in the place of e, with its attributes and children; e itself where it
--- has the name, no parent, or isn't editable
+-- set the tag name, step 1, and then from 2 on: answers the element that has the name, a new one in the place of e, with
+-- its attributes and children; e itself where it has the name, no parent, or isn't editable
 unfoldable pub set_tag_name : ℕ → List ℕ → Run ℕ
 set_tag_name e name = look λ s.
     given (parent_of s.trees e) (answer e) λ p.

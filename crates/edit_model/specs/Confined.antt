@@ -1,11 +1,11 @@
 -- What a running command may change: only what lies inside its affected editing host, and what it made itself.
-use Rattle.std.specs.Prelude.{ℕ, ◌+◌, ◌^◌, Bool, true, false, ◌||◌, ◌&&◌, not, ◌==◌, nat_le, nat_lt, List, ◌++◌, length, take, drop, Option, Some, None, bytes_eq, codes, is_none}
+use Rattle.std.specs.Prelude.{ℕ, ◌+◌, ◌^◌, Bool, true, false, ◌||◌, ◌&&◌, not, ◌==◌, nat_le, nat_lt, List, ◌++◌, length, take, drop, Option, Some, None, bytes_eq, is_none}
 use Rattle.std.specs.Option.{option_map_or}
 use Rattle.dom_model.specs.declared.Content.{Content}
 use Rattle.dom_model.specs.declared.Content.TheVariants.{Words}
 use Rattle.dom_model.specs.declared.attributes.Attribute.{Attribute}
 use Rattle.dom_model.specs.AttributeList.{value_of}
-use Rattle.dom_model.specs.Contents.{is_parent_at, name_of, attributes_of, length_of}
+use Rattle.dom_model.specs.Contents.{is_parent_at, attributes_of, length_of, is_break}
 use Rattle.dom_model.specs.Editing.{is_editable}
 use Rattle.dom_model.specs.Forest.{Forest, is_label, count_of, tree_of, parent_of, next_of, content_of}
 use Rattle.live_range.specs.declared.places.Point.{Point}
@@ -34,12 +34,6 @@ is_open s l = is_inside s l || is_made s l
 -- editable, or made by the running command
 unfoldable pub is_own : State → ℕ → Bool
 is_own s l = is_editable_for s l || is_made s l
-
-abbrev pub has_name : Forest Content → ℕ → List ℕ → Bool
-has_name f l name = option_map_or (λ own. bytes_eq own name) (name_of f l) false
-
-abbrev pub is_break : Forest Content → ℕ → Bool
-is_break f l = has_name f l (codes "br")
 
 abbrev pub is_there : Forest Content → ℕ → Bool
 is_there f l = nat_lt 0 (count_of f l)

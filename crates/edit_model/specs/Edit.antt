@@ -1,8 +1,10 @@
 -- The six elementary edits, and what each makes of a state.
-use Rattle.std.specs.Prelude.{ℕ, ◌+◌, Bool, List, length, Option, Some, None, if◌then◌else◌, unwrap_or}
+use Rattle.std.specs.Prelude.{ℕ, Bool, List, [], ◌∷◌, ◌++◌, length, Option, Some, None, if◌then◌else◌, unwrap_or}
 use Rattle.dom_model.specs.declared.Content.{Content}
 use Rattle.dom_model.specs.declared.Content.TheVariants.{Element, Words}
 use Rattle.dom_model.specs.AttributeList.{set_in, unset_in}
+use Rattle.dom_model.specs.Change.{Change, Loosen, Attach, Shift, Rewrite, Redress}
+use Rattle.dom_model.specs.Contents.{chars_of, attributes_of}
 use Rattle.dom_model.specs.Forest.{Forest, parent_of, children_of, preorder, tree_of, link, unlink}
 use Rattle.dom_model.specs.Places.{place_in, index_of}
 use Rattle.dom_model.specs.Revised.{revised}
@@ -90,8 +92,17 @@ is_made_edit (Replace n at count put) s = may_replace s n at count put
 is_made_edit (Set n name value) s = may_set s n name value
 is_made_edit (Unset n name) s = may_unset s n name
 
-unfoldable pub counted : State → State
-counted s = record s { edits = s.edits + 1 }
+-- the edit as a change with the whole contents afterwards
+unfoldable pub change_of : Edit → Forest Content → Change
+change_of (Insert p b n) f = Attach n p b
+change_of (Remove n) f = Loosen n
+change_of (Move n p b) f = Shift n p b
+change_of (Replace n at count put) f = Rewrite n (spliced (unwrap_or (chars_of f n) []) at count put)
+change_of (Set n name value) f = Redress n (set_in (unwrap_or (attributes_of f n) []) name value)
+change_of (Unset n name) f = Redress n (unset_in (unwrap_or (attributes_of f n) []) name)
+
+unfoldable pub with_change : Change → State → State
+with_change x s = record s { edits = s.edits ++ x ∷ [] }
 
 unfoldable pub edited : Edit → State → State
-edited e s = if is_made_edit e s then counted (changed s (trees_after e s.trees) (points_after e s.trees s.points)) else s
+edited e s = if is_made_edit e s then with_change (change_of e s.trees) (changed s (trees_after e s.trees) (points_after e s.trees s.points)) else s

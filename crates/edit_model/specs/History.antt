@@ -1,8 +1,10 @@
 -- The history of a document, and what begins and ends a command and goes through the history.
-use Rattle.std.specs.Prelude.{ℕ, ◌+◌, Bool, false, List, [], ◌∷◌, take, Option, None, if◌then◌else◌, ◌==◌}
+use Rattle.std.specs.Prelude.{ℕ, Bool, false, ◌||◌, nat_le, List, [], ◌∷◌, ◌++◌, length, take, filter, Option, None, if◌then◌else◌, ◌==◌}
 use Rattle.dom_model.specs.declared.Content.{Content}
+use Rattle.dom_model.specs.Change.{Change, named_in}
 use Rattle.dom_model.specs.Forest.{Forest, tree_of}
 use Rattle.live_range.specs.declared.places.Pair.{Pair}
+use Rattle.live_range.specs.Edit.{has_label}
 use Rattle.edit_model.specs.State.{State}
 use Rattle.edit_model.specs.Overrides.{no_overrides}
 
@@ -12,18 +14,21 @@ pub record View : Type 0 where
   pub selection : Option Pair
   pub marks : List (List ℕ × Pair)
 
--- the views before and after a command, or several that share the entry, and how many edits were made between them
+-- the views before and after a command, or several that share the entry, the edits between them, and those of the nodes made
+-- that an edit names, each with its content as made
 pub record Entry : Type 0 where
   pub before : View
   pub after : View
-  pub edits : ℕ
+  pub edits : List Change
+  pub made : List (ℕ × Content)
 
--- the entries that undo would take, the next one first, those that redo would take, the next one first, and how many may
--- be kept
+-- the entries that undo would take, the next one first, those that redo would take, the next one first, how many may be kept,
+-- and whether one was ever dropped as the oldest
 pub record History : Type 0 where
   pub undo : List Entry
   pub redo : List Entry
   pub depth : ℕ
+  pub dropped : Bool
 
 -- ---- views
 
@@ -51,22 +56,30 @@ rested s = record s {
   start = s.next;
   host = None;
   keeping = false;
-  edits = 0;
+  edits = [];
+  made = [];
 }
 
 -- a command begins, with its affected host
 unfoldable pub begun : Option ℕ → Bool → State → State
-begun host keeping s = record s { start = s.next; host = host; keeping = keeping; edits = 0 }
+begun host keeping s = record s { start = s.next; host = host; keeping = keeping; edits = []; made = [] }
+
+-- the nodes that a change of the list names
+unfoldable pub used : List Change → List (ℕ × Content) → List (ℕ × Content)
+used xs nodes = filter (λ n. has_label (named_in xs) n.0) nodes
+
+abbrev pub entry_of : State → State → Entry
+entry_of began s = record { before = view_of began; after = view_of s; edits = s.edits; made = used s.edits s.made }
 
 -- what a commit leaves of the history: an entry for a command with an edit, in place of those after the cursor, without
 -- the oldest where there are too many
 unfoldable pub with_entry : Entry → History → History
-with_entry e h = record h { undo = take h.depth (e ∷ h.undo); redo = [] }
+with_entry e h = record h { undo = take h.depth (e ∷ h.undo); redo = []; dropped = h.dropped || nat_le h.depth (length h.undo) }
 
 -- the last entry with more edits
 abbrev pub joined_in : State → List Entry → List Entry
 joined_in s [] = []
-joined_in s (e ∷ es) = record { before = e.before; after = view_of s; edits = e.edits + s.edits } ∷ es
+joined_in s (e ∷ es) = record { before = e.before; after = view_of s; edits = e.edits ++ s.edits; made = e.made ++ used s.edits s.made } ∷ es
 
 unfoldable pub joined : State → History → History
 joined s h = record h { undo = joined_in s h.undo }
@@ -74,8 +87,7 @@ joined s h = record h { undo = joined_in s h.undo }
 -- the history after a command that began at one state, or resumed the last entry there, and ends at another
 unfoldable pub recorded : Bool → State → State → History → History
 recorded resumed began s h =
-    if s.edits == 0 then h else
-    (if resumed then joined s h else with_entry (record { before = view_of began; after = view_of s; edits = s.edits }) h)
+    if length s.edits == 0 then h else (if resumed then joined s h else with_entry (entry_of began s) h)
 
 -- ---- undo and redo
 

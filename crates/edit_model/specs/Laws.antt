@@ -1,17 +1,21 @@
 -- The laws of editing: what holds along every way that actions lead, so of every run (Run.antt).
-use Rattle.std.specs.Prelude.{◌≡◌, ◌≢◌, ◌⊎◌, ℕ, ◌+◌, ◌≤◌, Bool, ◌||◌, true, false, bytes_eq, codes, List, ◌++◌, length, Option, Some}
+use Rattle.std.specs.Prelude.{◌≡◌, ◌≢◌, ◌⊎◌, ℕ, ◌≤◌, Bool, ◌||◌, true, false, bytes_eq, codes, List, ◌++◌, length, Option, Some}
 use Rattle.std.specs.List.{AllZip}
+use Rattle.dom_model.specs.declared.Content.{Content}
 use Rattle.dom_model.specs.declared.Content.TheVariants.{Element}
 use Rattle.dom_model.specs.Editing.{is_host, is_true_state, is_false_state}
-use Rattle.dom_model.specs.Contents.{name_of}
-use Rattle.dom_model.specs.Forest.{tree_of, IsWithin}
+use Rattle.dom_model.specs.Contents.{name_of, is_break}
+use Rattle.dom_model.specs.Forest.{Forest, tree_of, IsWithin}
 use Rattle.live_range.specs.declared.places.Pair.{Pair}
+use Rattle.live_range.specs.declared.places.Point.{Point}
 use Rattle.edit_model.specs.State.{State, IsOver}
 use Rattle.edit_model.specs.Kept.{bears_nothing, is_thing}
-use Rattle.edit_model.specs.Confined.{is_own, is_break}
+use Rattle.edit_model.specs.Confined.{is_own}
 use Rattle.edit_model.specs.Edit.{Remove, Set, Unset, is_made_edit}
-use Rattle.edit_model.specs.Action.{Action, Change, MakeElement}
-use Rattle.edit_model.specs.Run.{Reaches, here, onward, reaches_trans, edits_on}
+use Rattle.edit_model.specs.Tail.{tail_steps, document_size}
+use Rattle.edit_model.specs.Action.{Action, Change, MakeElement, Extract, tail_of, may_extract, acted}
+use Rattle.edit_model.specs.Possible.{are_possible}
+use Rattle.edit_model.specs.Run.{Reaches, here, onward, reaches_trans, edits_on, changes_on, nodes_on}
 use Rattle.edit_model.specs.History.{begun}
 use Rattle.edit_model.specs.Lawful.{IsLawful}
 use Rattle.edit_model.specs.Outside.{outside_by, outside, IsConfined, IsApart, is_island}
@@ -28,9 +32,13 @@ CapStaysPassed = (s t : State) → Reaches s t → IsOver s → IsOver t
 
 -- ---- the list of edits
 
--- a command has made as many edits as its list has
-abbrev pub EditsAreCounted : Type 0
-EditsAreCounted = (s t : State) (r : Reaches s t) → t.edits ≡ s.edits + length (edits_on r)
+-- a command has the changes of the edits that were made on the way, in order, one for each
+abbrev pub EditsAreListed : Type 0
+EditsAreListed = (s t : State) (r : Reaches s t) → (t.edits ≡ s.edits ++ changes_on r) × (length (changes_on r) ≡ length (edits_on r))
+
+-- and it has the nodes that were made on the way
+abbrev pub NodesAreListed : Type 0
+NodesAreListed = (s t : State) (r : Reaches s t) → t.made ≡ s.made ++ nodes_on r
 
 -- one way after another makes the edits of both
 abbrev pub EditsFollow : Type 0
@@ -53,12 +61,12 @@ CommandsAreConfined =
     (s t : State) (host : Option ℕ) (keeping : Bool) → IsLawful s → Reaches (begun host keeping s) t → outside_by host t.trees ≡ outside_by host s.trees
 
 -- the name of a mark stays, and so do its points where both stand apart from the host
-abbrev pub KeepsMark : State → List ℕ × Pair → List ℕ × Pair → Type 0
-KeepsMark s m n = (n.0 ≡ m.0) × (IsApart s m.1.anchor.label → IsApart s m.1.focus.label → n.1 ≡ m.1)
+abbrev pub KeepsMark : Option ℕ → Forest Content → List ℕ × Pair → List ℕ × Pair → Type 0
+KeepsMark host f m n = (n.0 ≡ m.0) × (IsApart host f m.1.anchor.label → IsApart host f m.1.focus.label → n.1 ≡ m.1)
 
 -- the marks stay in their order, and one that stands apart stays where it is
 abbrev pub MarksStay : Type 0
-MarksStay = (s t : State) → Reaches s t → IsLawful s → IsConfined s → AllZip (KeepsMark s) s.points.marks t.points.marks
+MarksStay = (s t : State) → Reaches s t → IsLawful s → IsConfined s → AllZip (KeepsMark s.host s.trees) s.points.marks t.points.marks
 
 -- a removal, at the state where it is made, of a tree that holds l below its root; the root is editable, made by the command or
 -- a br
@@ -77,7 +85,7 @@ TakesOutOn (onward {t = t} q a) l = TakesOutOn q l ⊎ TakesOut a t l
 abbrev pub IslandsStay : Type 0
 IslandsStay =
     (s t : State) (h : ℕ) (keeping : Bool) → IsLawful s → is_host s.trees h ≡ true → (r : Reaches (begun (Some h) keeping s) t)
-    → (l : ℕ) → is_island (begun (Some h) keeping s) l ≡ true
+    → (l : ℕ) → is_island s.trees h l ≡ true
     → (tree_of t.trees l ≡ tree_of s.trees l) × ((IsWithin t.trees 0 l → IsWithin t.trees h l) × (IsWithin s.trees 0 l → IsWithin t.trees 0 l ⊎ TakesOutOn r l))
 
 -- an action that gives no node a state of contenteditable and takes none away
@@ -105,7 +113,24 @@ TakesOwnOn (onward {t = t} q a) l = TakesOwnOn q l ⊎ TakesOwn a t l
 abbrev pub IslandsLeave : Type 0
 IslandsLeave =
     (s t : State) (h : ℕ) (keeping : Bool) → IsLawful s → is_host s.trees h ≡ true → (r : Reaches (begun (Some h) keeping s) t) → LeavesStatesOn r
-    → (l : ℕ) → is_island (begun (Some h) keeping s) l ≡ true → IsWithin s.trees 0 l → IsWithin t.trees 0 l ⊎ TakesOwnOn r l
+    → (l : ℕ) → is_island s.trees h l ≡ true → IsWithin s.trees 0 l → IsWithin t.trees 0 l ⊎ TakesOwnOn r l
+
+-- ---- the extraction of a tail
+
+-- the trees allow each step of a tail where it is taken
+abbrev pub TailsArePossible : Type 0
+TailsArePossible =
+    (s : State) (from : Point) (end target : ℕ) → IsLawful s → may_extract s from end target ≡ true → are_possible (tail_of s from end target) s ≡ true
+
+-- its steps end by themselves: they are the same however much deeper they might nest
+abbrev pub TailsEnd : Type 0
+TailsEnd =
+    (s : State) (from : Point) (end target fuel : ℕ) → IsLawful s → may_extract s from end target ≡ true
+    → document_size s.trees ≤ fuel → tail_steps fuel s.trees from end target s.next ≡ tail_of s from end target
+
+-- and no node of the document leaves it
+abbrev pub TailsStay : Type 0
+TailsStay = (s : State) (from : Point) (end target l : ℕ) → IsLawful s → IsWithin s.trees 0 l → IsWithin (acted (Extract from end target) s).trees 0 l
 
 -- ---- keeping commands
 

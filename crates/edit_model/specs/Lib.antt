@@ -3,7 +3,9 @@ pub mod Overrides
 pub mod Kept
 pub mod Confined
 pub mod Edit
+pub mod Tail
 pub mod Action
+pub mod Possible
 pub mod Run
 pub mod Gives
 pub mod Moves
@@ -13,3 +15,4 @@ pub mod Codes
 pub mod Lawful
 pub mod Outside
 pub mod Laws
+pub mod Heights

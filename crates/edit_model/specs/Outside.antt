@@ -1,11 +1,12 @@
 -- What lies outside the affected host: the document with the host's children left out.
-use Rattle.std.specs.Prelude.{◌≡◌, ℕ, ◌<◌, Bool, false, not, ◌&&◌, Option, Some, None, if◌then◌else◌, ◌==◌}
+use Rattle.std.specs.Prelude.{◌≡◌, ℕ, ◌<◌, Bool, false, not, ◌&&◌, ◌||◌, Option, Some, None, if◌then◌else◌, ◌==◌}
 use Rattle.std.specs.Option.{option_map_or}
 use Rattle.dom_model.specs.declared.Content.{Content}
+use Rattle.dom_model.specs.Editing.{is_editable}
 use Rattle.dom_model.specs.Forest.{Forest, tree_of, count_of, is_label, parent_of}
 use Rattle.dom_model.specs.Forest.Forest.{Nil, Tree}
 use Rattle.edit_model.specs.State.{State}
-use Rattle.edit_model.specs.Confined.{is_editable_for, is_inside, is_break}
+use Rattle.dom_model.specs.Contents.{is_break}
 
 -- the forest without the children of a label
 unfoldable pub hollowed : Forest Content → ℕ → Forest Content
@@ -25,10 +26,15 @@ pub record IsConfined (s : State) : Type 0 where
   pub before : (l : ℕ) → 0 < count_of (outside s) l → l < s.start
 
 -- a node of the document that is neither the host nor below it
-pub record IsApart (s : State) (l : ℕ) : Type 0 where
-  pub outside : 0 < count_of (outside s) l
-  pub other : is_label s.host l ≡ false
+pub record IsApart (host : Option ℕ) (f : Forest Content) (l : ℕ) : Type 0 where
+  pub outside : 0 < count_of (outside_by host f) l
+  pub other : is_label host l ≡ false
 
--- an island: a node below the host that is neither editable nor a br, and whose parent is inside
-unfoldable pub is_island : State → ℕ → Bool
-is_island s l = not (is_editable_for s l) && (not (is_break s.trees l) && option_map_or (is_inside s) (parent_of s.trees l) false)
+-- the host, or editable with it as its host
+unfoldable pub is_within_host : Forest Content → ℕ → ℕ → Bool
+is_within_host f host l = host == l || is_editable f host l
+
+-- an island of a host: a node below it that is neither editable nor a br, and whose parent is the host or editable
+unfoldable pub is_island : Forest Content → ℕ → ℕ → Bool
+is_island f host l =
+    not (is_editable f host l) && (not (is_break f l) && option_map_or (is_within_host f host) (parent_of f l) false)

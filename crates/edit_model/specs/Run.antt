@@ -2,14 +2,18 @@
 -- the one state to the other. Labels are drawn in order and without a cap.
 use Rattle.std.specs.Prelude.{ℕ, zero, suc, Bool, List, [], ◌∷◌, ◌++◌, Option, Some, None, if◌then◌else◌}
 use Rattle.dom_model.specs.declared.attributes.Attribute.{Attribute}
+use Rattle.dom_model.specs.declared.Content.{Content}
+use Rattle.dom_model.specs.declared.Content.TheVariants.{Element}
+use Rattle.dom_model.specs.Change as forest
 use Rattle.html_names.specs.declared.commands.Command.{Command}
 use Rattle.live_range.specs.declared.places.Point.{Point}
 use Rattle.live_range.specs.declared.places.Pair.{Pair}
 use Rattle.edit_model.specs.declared.settings.Setting.{Setting}
 use Rattle.edit_model.specs.declared.settings.Flags.{Flags}
 use Rattle.edit_model.specs.State.{State}
-use Rattle.edit_model.specs.Edit.{Edit, Insert, Remove, Move, Replace, Set, Unset, is_made_edit}
-use Rattle.edit_model.specs.Action.{Action, Change, MakeElement, MakeWords, Select, Extend, Unselect, Grow, Send, Scratch, Override, Flag, acted}
+use Rattle.edit_model.specs.Edit.{Edit, Insert, Remove, Move, Replace, Set, Unset, is_made_edit, change_of}
+use Rattle.edit_model.specs.Action.{Action, Change, MakeElement, MakeWords, Select, Extend, Unselect, Grow, Send, Scratch, Override, Flag, Extract, words_content, stepped, tail_of, may_extract, acted}
+use Rattle.edit_model.specs.Tail.{Step, Copy, Do}
 
 -- ---- states that actions lead to
 
@@ -21,15 +25,53 @@ unfoldable pub reaches_trans : {s t u : State} → Reaches s t → Reaches t u �
 reaches_trans p here = p
 reaches_trans p (onward q a) = onward (reaches_trans p q) a
 
--- the edits that an action makes, none or one
+-- the edits of steps
+abbrev pub edits_in : List Step → List Edit
+edits_in [] = []
+edits_in (Copy content ∷ xs) = edits_in xs
+edits_in (Do e ∷ xs) = e ∷ edits_in xs
+
+-- the edits that an action makes, in order: none or one, or those of a tail
 abbrev pub edits_of : Action → State → List Edit
 edits_of (Change e) s = if is_made_edit e s then e ∷ [] else []
+edits_of (Extract from end target) s = if may_extract s from end target then edits_in (tail_of s from end target) else []
 edits_of _ s = []
 
 -- the edits made on the way, in order
 unfoldable pub edits_on : {s t : State} → Reaches s t → List Edit
 edits_on here = []
 edits_on (onward {t = t} q a) = edits_on q ++ edits_of a t
+
+-- the same as changes with whole contents
+abbrev pub changes_in : List Step → State → List forest.Change
+changes_in [] s = []
+changes_in (Copy content ∷ xs) s = changes_in xs (stepped (Copy content) s)
+changes_in (Do e ∷ xs) s = change_of e s.trees ∷ changes_in xs (stepped (Do e) s)
+
+abbrev pub changes_of : Action → State → List forest.Change
+changes_of (Change e) s = if is_made_edit e s then change_of e s.trees ∷ [] else []
+changes_of (Extract from end target) s = if may_extract s from end target then changes_in (tail_of s from end target) s else []
+changes_of _ s = []
+
+unfoldable pub changes_on : {s t : State} → Reaches s t → List forest.Change
+changes_on here = []
+changes_on (onward {t = t} q a) = changes_on q ++ changes_of a t
+
+-- the nodes made on the way, by rising label, each with its content as made
+abbrev pub nodes_in : List Step → State → List (ℕ × Content)
+nodes_in [] s = []
+nodes_in (Copy content ∷ xs) s = (s.next, content) ∷ nodes_in xs (stepped (Copy content) s)
+nodes_in (Do e ∷ xs) s = nodes_in xs (stepped (Do e) s)
+
+abbrev pub nodes_of : Action → State → List (ℕ × Content)
+nodes_of (MakeElement name attributes) s = (s.next, Element name attributes) ∷ []
+nodes_of (MakeWords chars) s = (s.next, words_content chars) ∷ []
+nodes_of (Extract from end target) s = if may_extract s from end target then nodes_in (tail_of s from end target) s else []
+nodes_of _ s = []
+
+unfoldable pub nodes_on : {s t : State} → Reaches s t → List (ℕ × Content)
+nodes_on here = []
+nodes_on (onward {t = t} q a) = nodes_on q ++ nodes_of a t
 
 -- ---- runs
 
@@ -146,3 +188,7 @@ set_setting c setting = perform (Override c setting)
 
 abbrev pub set_flags : Flags → Run (Unit {0})
 set_flags flags = perform (Flag flags)
+
+-- what stands in `end` from a point on goes to the end of the target
+abbrev pub extract_tail : Point → ℕ → ℕ → Run (Unit {0})
+extract_tail from end target = perform (Extract from end target)

@@ -1,6 +1,7 @@
 -- The state of a document under edits.
 use Rattle.std.specs.Prelude.{ℕ, ◌<◌, Bool, List, Option}
 use Rattle.dom_model.specs.declared.Content.{Content}
+use Rattle.dom_model.specs.Change.{Change}
 use Rattle.dom_model.specs.Forest.{Forest}
 use Rattle.live_range.specs.LivePoints.{LivePoints}
 use Rattle.edit_model.specs.declared.settings.Setting.{Setting}
@@ -8,8 +9,9 @@ use Rattle.edit_model.specs.declared.settings.Flags.{Flags}
 
 -- The document is the first tree, its root has the label 0, and the loose trees follow by rising label of their roots. Then
 -- come the live points, the override of each command, and the flags; the label that is drawn next, the cap, and what the
--- next label was as the running command began; the affected editing host, whether the command is a keeping one, and how
--- many edits it has made.
+-- next label was as the running command began; the affected editing host, and whether the command is a keeping one; and the
+-- edits that it has made, in order, each with the whole contents afterwards, and the nodes that it has made, by rising label,
+-- each with its content as made.
 pub record State : Type 0 where
   pub trees : Forest Content
   pub points : LivePoints
@@ -20,7 +22,8 @@ pub record State : Type 0 where
   pub start : ℕ
   pub host : Option ℕ
   pub keeping : Bool
-  pub edits : ℕ
+  pub edits : List Change
+  pub made : List (ℕ × Content)
 
 -- a label that isn't below the cap was drawn
 pub record IsOver (s : State) : Type 0 where

@@ -1,7 +1,7 @@
 //! The laws of editing. Each is the contract of a function that does nothing, over every way that actions lead from one
 //! state to another: the end of every run is reached so.
 
-ghost use Rattle.edit_model.specs.Laws.{LabelsRise, ThingsStay, CapStaysPassed, EditsAreCounted, EditsFollow, LawfulStays, OutsideStays, CommandsAreConfined, IslandsLeave, IslandsStay, MarksStay, KeptStays};
+ghost use Rattle.edit_model.specs.Laws.{LabelsRise, ThingsStay, CapStaysPassed, EditsAreListed, NodesAreListed, EditsFollow, LawfulStays, OutsideStays, CommandsAreConfined, IslandsLeave, IslandsStay, MarksStay, KeptStays, TailsArePossible, TailsEnd, TailsStay};
 
 /// The next label never falls.
 pub fn labels_rise()
@@ -13,9 +13,14 @@ pub fn cap_stays_passed()
     ensures { CapStaysPassed }
 {}
 
-/// The count of edits is the length of their list.
-pub fn edits_are_counted()
-    ensures { EditsAreCounted }
+/// A state has the changes of the edits that were made on the way to it, one for each.
+pub fn edits_are_listed()
+    ensures { EditsAreListed }
+{}
+
+/// And the nodes that were made on the way, as they were made.
+pub fn nodes_are_listed()
+    ensures { NodesAreListed }
 {}
 
 /// A run after another makes the edits of both, in order.
@@ -51,6 +56,21 @@ pub fn islands_leave()
 /// A mark whose points both stand apart from the affected host stays where it is.
 pub fn marks_stay()
     ensures { MarksStay }
+{}
+
+/// The structure of the trees allows each step of a tail that is extracted, though not all that goes is editable.
+pub fn tails_are_possible()
+    ensures { TailsArePossible }
+{}
+
+/// The steps of a tail don't depend on how far they may nest.
+pub fn tails_end()
+    ensures { TailsEnd }
+{}
+
+/// Extracting a tail takes no node out of the document.
+pub fn tails_stay()
+    ensures { TailsStay }
 {}
 
 /// A command that keeps contents removes no tree with an image, a rule or a visible character.

@@ -1,20 +1,11 @@
 -- Changes of a labelled nested list that an undo log keeps: each is taken back by the change that it turns into.
 use Rattle.std.specs.Prelude.{◌≡◌, ◌^◌, ℕ, ◌<◌, List, length, true, Option, None, Some, IsSome, unwrap_or}
-use Rattle.dom_model.specs.declared.attributes.Attribute.{Attribute}
 use Rattle.dom_model.specs.declared.Content.{Content}
 use Rattle.dom_model.specs.Contents.{IsNode, has_chars_at, is_element_at, chars_of, attributes_of, with_chars, with_attributes}
 use Rattle.dom_model.specs.Forest.{Forest, Seen, seek, count_of, IsDistinct, RisesFrom, parent_of, next_of, link, unlink}
 use Rattle.dom_model.specs.Revised.{revised}
 use Rattle.dom_model.specs.State.{CanLink}
-
--- a tree made loose; a loose tree linked; a tree moved to another place; other characters of a Text or
--- Comment node; another attribute list of an element
-pub data Change : Type 0 where
-  Loosen : (node : ℕ) → Change
-  Attach : (node parent : ℕ) (before : Option ℕ) → Change
-  Shift : (node parent : ℕ) (before : Option ℕ) → Change
-  Rewrite : (node : ℕ) (words : List ℕ) → Change
-  Redress : (node : ℕ) (list : List Attribute) → Change
+pub use Rattle.dom_model.specs.Change.{Change, Loosen, Attach, Shift, Rewrite, Redress}
 
 -- what holds of the forest of every arena
 pub record IsForest (f : Forest Content) : Type 0 where

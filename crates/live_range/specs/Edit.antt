@@ -29,8 +29,8 @@ abbrev pub after_replacement : ℕ → ℕ → ℕ → ℕ → ℕ
 after_replacement at taken put offset =
     if nat_le offset at then offset else (if nat_le offset (at + taken) then at else (offset - taken) + put)
 
--- a point of a node that lost the child at `from` to another node, where it stands at `to`: the points at both
--- sides of the child go along with it
+-- move, preserving ranges, step 2: a point of a node that lost the child at `from` to another node, where it stands at
+-- `to`. The points at both sides of the child go along with it
 abbrev pub after_loss : Point → Point → Point → Point
 after_loss from to p =
     if p.offset == from.offset then to
@@ -40,7 +40,7 @@ after_loss from to p =
 abbrev pub has_label : List ℕ → ℕ → Bool
 has_label labels l = list_any (λ x. x == l) labels
 
--- the point after the edit
+-- the point after the edit; a move preserves ranges by the steps of docs/ALGORITHMS.md
 abbrev pub adjusted : Edit → Point → Point
 adjusted (Inserted parent index) p = if p.label == parent then with_offset p (after_insert index p.offset) else p
 adjusted (Removed tree parent index) p =

@@ -1,7 +1,7 @@
 -- Undo and redo, in any order, among the states that a log keeps.
 use Rattle.std.proofs.Common.{◌≡◌, ℕ, suc, zero, ◌+◌, ◌-◌, ◌<◌, List, [], ◌∷◌, ◌++◌, length, take, reverse, refl, sym, ap, subst, ◌∙◌, arith, append_assoc, length-append}
 use Rattle.std.proofs.lemmas.Bool.Decides.{nat_tests}
-use Rattle.std.specs.Prelude.{IsTrue, nat_lt, if◌then◌else◌}
+use Rattle.std.specs.Prelude.{IsTrue, Bool, ◌||◌, nat_le, nat_lt, if◌then◌else◌}
 use Rattle.std.proofs.lemmas.List.{length-reverse}
 use Rattle.undo_log.specs.Turning.{back, forth, inverses_back, inverses_forth, FitsBack}
 use Rattle.undo_log.specs.Log.{Open, Log, IsLog, is_open, is_resumed, noted, with_noted, entries, cursor, begun, resumed, with_step, abandoned, committed, undone_with, undone, undone_state, redone_with, redone, redone_state}
@@ -16,31 +16,31 @@ module _ {T S : Type 0} (applied : T → S → S) (inverse : T → S → T) (fit
     (fits_again : (x : T) (s : S) → fits x s → fits (inverse x s) (applied x s))
     (state_again : (x : T) (s : S) → fits x s → applied (inverse x s) (applied x s) ≡ s)
     (step_again : (x : T) (s : S) → fits x s → inverse (inverse x s) (applied x s) ≡ x) where
-  closed_at : List (List T) → List (List T) → ℕ → Log T
-  closed_at us rs n = record { undo = us; redo = rs; open_entry = Closed; depth = n }
+  closed_at : List (List T) → List (List T) → ℕ → Bool → Log T
+  closed_at us rs n b = record { undo = us; redo = rs; open_entry = Closed; depth = n; dropped = b }
 
-  log_at : List (List T) → List (List T) → Open T → ℕ → Log T
-  log_at us rs o n = record { undo = us; redo = rs; open_entry = o; depth = n }
+  log_at : List (List T) → List (List T) → Open T → ℕ → Bool → Log T
+  log_at us rs o n b = record { undo = us; redo = rs; open_entry = o; depth = n; dropped = b }
 
-  undone_at : (us rs : List (List T)) (n : ℕ) (s : S) → Follows applied fits (closed_at us rs n) s → Keeps applied fits (closed_at us rs n) s (undone applied inverse (closed_at us rs n) s) (undone_state applied us s)
+  undone_at : (us rs : List (List T)) (n : ℕ) (b : Bool) (s : S) → Follows applied fits (closed_at us rs n b) s → Keeps applied fits (closed_at us rs n b) s (undone applied inverse (closed_at us rs n b) s) (undone_state applied us s)
   unfolding closed_at FitsBack
-  undone_at [] rs n s f = keeps applied fits (closed_at [] rs n) s (closed_at [] rs n) s f refl
-  undone_at (e ∷ es) rs n s f =
+  undone_at [] rs n b s f = keeps applied fits (closed_at [] rs n b) s (closed_at [] rs n b) s f refl
+  undone_at (e ∷ es) rs n b s f =
       let p = back applied e s in
       let t = turns_back applied inverse fits fits_again state_again step_again e s f.undo_fits.0 in
       let e' = inverses_back applied inverse e s in
-      keeps applied fits (closed_at (e ∷ es) rs n) s (closed_at es (e' ∷ rs) n) p
+      keeps applied fits (closed_at (e ∷ es) rs n b) s (closed_at es (e' ∷ rs) n b) p
       (record { noted_fit = tt; undo_fits = f.undo_fits.1; redo_fits = (t.fit, subst (λ u. FitsAfter applied fits rs u) (sym t.state) f.redo_fits) })
       (ap (λ u. reverse (states_before applied es p) ++ p ∷ (u ∷ states_after applied rs u)) t.state ∙ sym (reverse_cons p (states_before applied es p) (s ∷ states_after applied rs s)))
 
-  redone_at : (us rs : List (List T)) (n : ℕ) (s : S) → Follows applied fits (closed_at us rs n) s → Keeps applied fits (closed_at us rs n) s (redone applied inverse (closed_at us rs n) s) (redone_state applied rs s)
+  redone_at : (us rs : List (List T)) (n : ℕ) (b : Bool) (s : S) → Follows applied fits (closed_at us rs n b) s → Keeps applied fits (closed_at us rs n b) s (redone applied inverse (closed_at us rs n b) s) (redone_state applied rs s)
   unfolding closed_at FitsBack
-  redone_at us [] n s f = keeps applied fits (closed_at us [] n) s (closed_at us [] n) s f refl
-  redone_at us (e ∷ es) n s f =
+  redone_at us [] n b s f = keeps applied fits (closed_at us [] n b) s (closed_at us [] n b) s f refl
+  redone_at us (e ∷ es) n b s f =
       let p = forth applied e s in
       let t = turns_forth applied inverse fits fits_again state_again step_again e s f.redo_fits.0 in
       let e' = inverses_forth applied inverse e s in
-      keeps applied fits (closed_at us (e ∷ es) n) s (closed_at (e' ∷ us) es n) p
+      keeps applied fits (closed_at us (e ∷ es) n b) s (closed_at (e' ∷ us) es n b) p
       (record { noted_fit = tt; undo_fits = (t.fit, subst (λ u. FitsBefore applied fits us u) (sym t.state) f.undo_fits); redo_fits = f.redo_fits.1 })
       (ap (λ u. reverse (u ∷ states_before applied us u) ++ p ∷ states_after applied es p) t.state ∙ reverse_cons s (states_before applied us s) (p ∷ states_after applied es p))
 
@@ -50,7 +50,7 @@ module _ {T S : Type 0} (applied : T → S → S) (inverse : T → S → T) (fit
       subst
       (λ o. Follows applied fits (record l { open_entry = o }) s → Keeps applied fits (record l { open_entry = o }) s (undone applied inverse (record l { open_entry = o }) s) (undone_state applied l.undo s))
       (sym is)
-      (undone_at l.undo l.redo l.depth s)
+      (undone_at l.undo l.redo l.depth l.dropped s)
 
   pub redone_keeps : (l : Log T) (s : S) → l.open_entry ≡ Closed → Follows applied fits l s → Keeps applied fits l s (redone applied inverse l s) (redone_state applied l.redo s)
   unfolding closed_at
@@ -58,7 +58,7 @@ module _ {T S : Type 0} (applied : T → S → S) (inverse : T → S → T) (fit
       subst
       (λ o. Follows applied fits (record l { open_entry = o }) s → Keeps applied fits (record l { open_entry = o }) s (redone applied inverse (record l { open_entry = o }) s) (redone_state applied l.redo s))
       (sym is)
-      (redone_at l.undo l.redo l.depth s)
+      (redone_at l.undo l.redo l.depth l.dropped s)
 
   -- the same of what a contract gives
   pub undo_kept : (l : Log T) (s : S) (l' : Log T) (s' : S) → l.open_entry ≡ Closed → l' ≡ undone applied inverse l s → s' ≡ undone_state applied l.undo s → Follows applied fits l s → Keeps applied fits l s l' s'
@@ -129,22 +129,22 @@ module _ {T S : Type 0} (applied : T → S → S) (inverse : T → S → T) (fit
       let t = turns_back applied inverse fits fits_again state_again step_again e s h in
       record { state = t.state; log = ap (λ x. record l { undo = x ∷ es }) t.steps }
 
-  returns_at : (us rs : List (List T)) (o : Open T) (n : ℕ) (s : S) → 0 < n → (IsTrue (is_resumed o) → (0 < length us) × (rs ≡ [])) → 0 < length (noted o) → Follows applied fits (log_at us rs o n) s → Returns applied inverse fits (log_at us rs o n) s
+  returns_at : (us rs : List (List T)) (o : Open T) (n : ℕ) (b : Bool) (s : S) → 0 < n → (IsTrue (is_resumed o) → (0 < length us) × (rs ≡ [])) → 0 < length (noted o) → Follows applied fits (log_at us rs o n b) s → Returns applied inverse fits (log_at us rs o n b) s
   unfolding log_at
-  returns_at us rs Closed n s lt w some f = absurd (omega arith)
-  returns_at us rs (Begun []) n s lt w some f = absurd (omega arith)
-  returns_at us rs (Begun (x ∷ xs)) zero s lt w some f = absurd (omega arith)
-  returns_at us rs (Begun (x ∷ xs)) (suc d) s lt w some f =
-      let a = again (log_at [] [] Closed (suc d)) (x ∷ xs) (take d us) s f.noted_fit in
+  returns_at us rs Closed n b s lt w some f = absurd (omega arith)
+  returns_at us rs (Begun []) n b s lt w some f = absurd (omega arith)
+  returns_at us rs (Begun (x ∷ xs)) zero b s lt w some f = absurd (omega arith)
+  returns_at us rs (Begun (x ∷ xs)) (suc d) b s lt w some f =
+      let a = again (log_at [] [] Closed (suc d) (b || nat_le (suc d) (length us))) (x ∷ xs) (take d us) s f.noted_fit in
       record { undo_gives = refl; redo_gives = a.state; log_again = a.log }
-  returns_at [] rs (Resumed xs) n s lt w some f = absurd (let h = (w refl).0 in omega arith)
-  returns_at (e ∷ es) rs (Resumed xs) n s lt w some f =
-      let a = again (log_at [] rs Closed n) (e ++ xs) es s (FitsBack-join applied fits e xs s f.noted_fit f.undo_fits.0) in
+  returns_at [] rs (Resumed xs) n b s lt w some f = absurd (let h = (w refl).0 in omega arith)
+  returns_at (e ∷ es) rs (Resumed xs) n b s lt w some f =
+      let a = again (log_at [] rs Closed n b) (e ++ xs) es s (FitsBack-join applied fits e xs s f.noted_fit f.undo_fits.0) in
       record { undo_gives = back-join applied e xs s; redo_gives = a.state; log_again = a.log }
 
   pub returns : (l : Log T) (s : S) → IsLog l → 0 < length (noted l.open_entry) → Follows applied fits l s → Returns applied inverse fits l s
   unfolding log_at
-  returns l s is some f = returns_at l.undo l.redo l.open_entry l.depth s is.some_depth is.resumes_last some f
+  returns l s is some f = returns_at l.undo l.redo l.open_entry l.depth l.dropped s is.some_depth is.resumes_last some f
 
   -- ---- a whole command
 

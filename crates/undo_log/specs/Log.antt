@@ -1,5 +1,5 @@
 -- What a contract sees of a log: its entries around the cursor, the open entry, and the depth.
-use Rattle.std.specs.Prelude.{◌≡◌, ℕ, ◌+◌, ◌-◌, ◌<◌, ◌≤◌, List, [], ◌∷◌, ◌++◌, length, take, reverse, Bool, true, false, IsTrue, Option, Some, None, refl}
+use Rattle.std.specs.Prelude.{◌≡◌, ℕ, ◌+◌, ◌-◌, ◌<◌, ◌≤◌, List, [], ◌∷◌, ◌++◌, length, take, reverse, Bool, true, false, ◌||◌, nat_le, IsTrue, Option, Some, None, refl}
 use Rattle.std.specs.Coded.{Coded, code_by, coded×, coded_ℕ, coded_bool, coded_list, coded_option}
 use Rattle.undo_log.specs.Turning.{back, forth, inverses_back, inverses_forth, FitsBack, FitsForth}
 
@@ -12,12 +12,13 @@ pub data Open (T : Type 0) : Type 0 where
 -- An entry is the list of its steps, in the order in which they were noted. `undo` has the entries before
 -- the cursor, the one that undo would take first, so the oldest is the last of them; `redo` has those
 -- after the cursor, the one that redo would take first. An entry that is resumed stays the first of
--- `undo`, as it was, until it is committed.
+-- `undo`, as it was, until it is committed. `dropped` tells whether a commit ever dropped the oldest entry.
 pub record Log (T : Type 0) : Type 0 where
   pub undo : List (List T)
   pub redo : List (List T)
   pub open_entry : Open T
   pub depth : ℕ
+  pub dropped : Bool
 
 module _ {T : Type 0} where
   -- all entries, from the oldest to the newest, and how many of them are before the cursor
@@ -53,7 +54,7 @@ module _ {T : Type 0} where
   -- ---- the log after a call
 
   abbrev pub empty : ℕ → Log T
-  empty n = record { undo = []; redo = []; open_entry = Closed; depth = n }
+  empty n = record { undo = []; redo = []; open_entry = Closed; depth = n; dropped = false }
 
   abbrev pub begun : Log T → Log T
   begun l = record l { open_entry = Begun [] }
@@ -77,7 +78,7 @@ module _ {T : Type 0} where
   abbrev pub committed_with : Log T → Open T → Log T
   committed_with l Closed = l
   committed_with l (Begun []) = record l { open_entry = Closed }
-  committed_with l (Begun (x ∷ xs)) = record l { undo = take l.depth ((x ∷ xs) ∷ l.undo); redo = []; open_entry = Closed }
+  committed_with l (Begun (x ∷ xs)) = record l { undo = take l.depth ((x ∷ xs) ∷ l.undo); redo = []; open_entry = Closed; dropped = l.dropped || nat_le l.depth (length l.undo) }
   committed_with l (Resumed xs) = record l { undo = joined l.undo xs; open_entry = Closed }
 
   abbrev pub committed : Log T → Log T
@@ -159,8 +160,8 @@ module _ {T : Type 0} where
   abbrev pub log_code : Coded T → Coded (Log T)
   log_code c =
       code_by
-      (List (List T) × (List (List T) × (Open T × ℕ)))
-      (coded× (coded_list (coded_list c)) (coded× (coded_list (coded_list c)) (coded× (open_code c) coded_ℕ)))
-      (λ l. (l.undo, (l.redo, (l.open_entry, l.depth))))
-      (λ p. record { undo = p.0; redo = p.1.0; open_entry = p.1.1.0; depth = p.1.1.1 })
+      (List (List T) × (List (List T) × (Open T × (ℕ × Bool))))
+      (coded× (coded_list (coded_list c)) (coded× (coded_list (coded_list c)) (coded× (open_code c) (coded× coded_ℕ coded_bool))))
+      (λ l. (l.undo, (l.redo, (l.open_entry, (l.depth, l.dropped)))))
+      (λ p. record { undo = p.0; redo = p.1.0; open_entry = p.1.1.0; depth = p.1.1.1.0; dropped = p.1.1.1.1 })
       (λ _. refl)

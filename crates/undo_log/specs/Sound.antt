@@ -1,5 +1,5 @@
 -- The fields of a log, and what they show.
-use Rattle.std.specs.Prelude.{◌≡◌, ℕ, ◌≤◌, List, [], ◌∷◌, ◌++◌, length, take, drop, Option, Some, None, refl}
+use Rattle.std.specs.Prelude.{◌≡◌, ℕ, ◌≤◌, Bool, List, [], ◌∷◌, ◌++◌, length, take, drop, Option, Some, None, refl}
 use Rattle.std.specs.Coded.{Coded, code_by, coded×, coded_list, coded_option}
 use Rattle.undo_log.specs.Log.{Log, IsLog}
 use Rattle.undo_log.specs.Log.Open.{Closed, Begun, Resumed}
@@ -37,13 +37,13 @@ module _ {T : Type 0} where
   abbrev pub entry_of : Opened T → Option (List T)
   entry_of o = entry_with o.noted o.kept
 
-  abbrev pub shown_with : List (List T) → List (List T) → List T → Option (List T) → ℕ → Log T
-  shown_with us rs xs None n = record { undo = us; redo = rs; open_entry = Begun xs; depth = n }
-  shown_with us rs xs (Some e) n = record { undo = e ∷ us; redo = rs; open_entry = Resumed xs; depth = n }
+  abbrev pub shown_with : List (List T) → List (List T) → List T → Option (List T) → ℕ → Bool → Log T
+  shown_with us rs xs None n dropped = record { undo = us; redo = rs; open_entry = Begun xs; depth = n; dropped = dropped }
+  shown_with us rs xs (Some e) n dropped = record { undo = e ∷ us; redo = rs; open_entry = Resumed xs; depth = n; dropped = dropped }
 
-  abbrev pub shown : List (List T) → List (List T) → Option (Opened T) → ℕ → Log T
-  shown us rs None n = record { undo = us; redo = rs; open_entry = Closed; depth = n }
-  shown us rs (Some o) n = shown_with us rs o.noted o.kept n
+  abbrev pub shown : List (List T) → List (List T) → Option (Opened T) → ℕ → Bool → Log T
+  shown us rs None n dropped = record { undo = us; redo = rs; open_entry = Closed; depth = n; dropped = dropped }
+  shown us rs (Some o) n dropped = shown_with us rs o.noted o.kept n dropped
 
 pub record IsSound {T : Type 0} (undo_room redo_room : ℕ) (l : Log T) : Type 0 where
   pub undo_room_is : undo_room ≡ l.depth

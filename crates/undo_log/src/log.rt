@@ -30,6 +30,7 @@ pub struct UndoLog<T> {
     redo: HeapCircularBuffer<Entry<T>>,
     open_entry: Option<OpenEntry<T>>,
     depth: usize,
+    dropped: bool,
 }
 
 impl<T> Model for UndoLog<T> {
@@ -40,9 +41,9 @@ impl<T> Model for UndoLog<T> {
 
     ghost coded = { log_code T.code };
 
-    ghost view = { λ l. shown l.undo.items l.redo.items l.open_entry l.depth };
+    ghost view = { λ l. shown l.undo.items l.redo.items l.open_entry l.depth l.dropped };
 
-    ghost invariant = { λ l. IsSound l.undo.capacity l.redo.capacity (shown l.undo.items l.redo.items l.open_entry l.depth) };
+    ghost invariant = { λ l. IsSound l.undo.capacity l.redo.capacity (shown l.undo.items l.redo.items l.open_entry l.depth l.dropped) };
 }
 
 impl<T: Drop> UndoLog<T> {
@@ -59,6 +60,7 @@ impl<T: Drop> UndoLog<T> {
             redo,
             open_entry: None,
             depth,
+            dropped: false,
         })
     }
 
@@ -124,7 +126,9 @@ impl<T: Drop> UndoLog<T> {
         };
         if let Some(entry) = open.close() {
             self.redo.clear();
-            let _ = self.undo.push_front(entry);
+            if self.undo.push_front(entry).is_some() {
+                self.dropped = true;
+            }
         }
         committed
     }

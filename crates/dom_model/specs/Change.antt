@@ -1,0 +1,29 @@
+-- Changes of a labelled nested list, each with the whole contents afterwards, and the labels that they name.
+use Rattle.std.specs.Prelude.{ℕ, List, [], ◌∷◌, ◌++◌, Option, Some, None}
+use Rattle.dom_model.specs.declared.attributes.Attribute.{Attribute}
+
+-- a tree made loose; a loose tree linked; a tree moved to another place; other characters of a Text or
+-- Comment node; another attribute list of an element
+pub data Change : Type 0 where
+  Loosen : (node : ℕ) → Change
+  Attach : (node parent : ℕ) (before : Option ℕ) → Change
+  Shift : (node parent : ℕ) (before : Option ℕ) → Change
+  Rewrite : (node : ℕ) (words : List ℕ) → Change
+  Redress : (node : ℕ) (list : List Attribute) → Change
+
+abbrev pub listed : {A : Type 0} → Option A → List A
+listed None = []
+listed (Some x) = x ∷ []
+
+-- the labels that a change names
+abbrev pub named : Change → List ℕ
+named (Loosen n) = n ∷ []
+named (Attach n p b) = n ∷ p ∷ listed b
+named (Shift n p b) = n ∷ p ∷ listed b
+named (Rewrite n words) = n ∷ []
+named (Redress n list) = n ∷ []
+
+-- the labels that the changes of a list name
+abbrev pub named_in : List Change → List ℕ
+named_in [] = []
+named_in (x ∷ xs) = named x ++ named_in xs
