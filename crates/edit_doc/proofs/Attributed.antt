@@ -1,5 +1,5 @@
 -- An edit that sets or unsets an attribute: the attribute list of an element is rewritten, and nothing else.
-use Rattle.std.proofs.Common.{◌≡◌, ℕ, Bool, true, false, eqb, List, [], ◌∷◌, Option, Some, None, refl, sym, ap, subst, ◌∙◌, inl, inr, arith}
+use Rattle.std.proofs.Common.{◌≡◌, ℕ, Bool, true, false, eqb, List, [], ◌∷◌, Option, Some, None, unwrap_or, refl, sym, ap, subst, ◌∙◌, inl, inr, arith}
 use Rattle.std.specs.Prelude.{◌&&◌}
 use Rattle.std.specs.Option.{option_map_or, option_map, option_and_then, option_copied, is_some}
 use Rattle.std.proofs.Common.{Bor}
@@ -29,10 +29,10 @@ use Rattle.forest_changes.proofs.Twice.{forest_of}
 use Rattle.forest_changes.proofs.ShedChanges.{content_of-shed}
 use Rattle.edit_steps.specs.declared.step.Step.{Step}
 use Rattle.edit_steps.specs.declared.step.Step.TheVariants.{Attributes}
-use Rattle.edit_steps.specs.Step.{StepFits, step_applied, step_turned}
+use Rattle.edit_steps.specs.Step.{StepFits, change_of, step_applied, step_turned}
 use Rattle.undo_log.specs.Log.{Log, with_step}
 use Rattle.edit_model.specs.State.{State}
-use Rattle.edit_model.specs.Edit.{Edit, Set, Unset, is_made_edit, trees_after, points_after, overrides_after, with_set, with_unset}
+use Rattle.edit_model.specs.Edit.{Edit, Set, Unset, is_made_edit, change_of as edit_change, trees_after, points_after, overrides_after, with_set, with_unset}
 use Rattle.edit_model.specs.Confined.{is_own, may_set, may_unset, has_value}
 use Rattle.edit_doc.specs.declared.Doc.TheInside.{Inside}
 use Rattle.edit_doc.specs.declared.command.Command.{Command}
@@ -44,6 +44,8 @@ use Rattle.edit_doc.proofs.Inner.{seen, Ok}
 use Rattle.edit_doc.proofs.SeenNodes.{out_of, IsSeen, held_seen, attributes_seen}
 use Rattle.edit_doc.proofs.Changing.{Follows}
 use Rattle.edit_doc.proofs.Edited.{Makes, Done, edit_called}
+use Rattle.edit_doc.proofs.Raised.{revised_depth}
+use Rattle.edit_doc.proofs.Rests.{arena_forest}
 use Rattle.edit_doc.proofs.Ordered.{tree_of-revised, before-revised}
 
 and_false : (a : Bool) → (a && false) ≡ false
@@ -149,35 +151,41 @@ module _ (d : Inside) (law : IsArena d.arena) (slotted : IsSlotted d.arena) (ok 
   content_here : content_of g node.label ≡ Some (Element tag own)
   content_here = content_of-shed (out_of d) d.arena.trees node.label (forest_of d.arena law) here ∙ content
 
+  own_here : Some own ≡ attributes_of g node.label
+  own_here = sym (ap (option_and_then attributes_in) content_here)
+
   trees_same : (h : Content → Content) → with_attributes list (Element tag own) ≡ h (Element tag own) → revised g node.label (with_attributes list) ≡ revised g node.label h
   trees_same h same = revised_same g node.label (with_attributes list) h (Element tag own) (IsDistinct-shed (out_of d) d.arena.trees law.distinct) content_here same
 
   module _ (c : Command) (m : Marks (node.label ∷ []) d.command c) where
     redresses : (e : Edit) (h : Content → Content) →
+        change_of (Attributes node list) ≡ edit_change e g →
         revised g node.label (with_attributes list) ≡ trees_after e g →
         d.points ≡ points_after e g d.points →
         d.overrides.items ≡ overrides_after (seen d).state (trees_after e g) (points_after e g d.points) →
         Makes d e (Attributes node list) d.points d.overrides.items d.counts c
     unfolding applied
-    redresses e h trees points overrides = record {
+    redresses e h change trees points overrides = record {
       fits = redress_fits;
       seen = (here, tt);
       follows = follows d.command c node.label list d.arena.trees m;
       names = refl;
+      change = change;
       trees = trees;
       points_are = points;
       overrides_are = overrides;
       nodes = ok.nodes ∙ sym (nodes-redressed d.arena.trees node.label list);
       chars = ok.chars ∙ sym (chars-redressed d.arena.trees node.label list);
+      depth = (let low = ok.depth in omega (arith, revised_depth d.arena.trees d.arena.next (arena_forest d.arena law) node.label (with_attributes list), low));
     }
 
     pub sets : (name value : List ℕ) → list ≡ set_in own name value → Makes d (Set node.label name value) (Attributes node list) d.points d.overrides.items d.counts c
-    unfolding trees_after points_after
-    sets name value is = redresses (Set node.label name value) (with_set name value) (trees_same (with_set name value) (ap (Element tag) is)) refl (sym (overrides-revised (seen d).state node.label (with_set name value)))
+    unfolding trees_after points_after edit_change
+    sets name value is = redresses (Set node.label name value) (with_set name value) (ap (Redress node.label) (is ∙ ap (λ o. set_in (unwrap_or o []) name value) own_here)) (trees_same (with_set name value) (ap (Element tag) is)) refl (sym (overrides-revised (seen d).state node.label (with_set name value)))
 
     pub unsets : (name : List ℕ) → list ≡ unset_in own name → Makes d (Unset node.label name) (Attributes node list) d.points d.overrides.items d.counts c
-    unfolding trees_after points_after
-    unsets name is = redresses (Unset node.label name) (with_unset name) (trees_same (with_unset name) (ap (Element tag) is)) refl (sym (overrides-revised (seen d).state node.label (with_unset name)))
+    unfolding trees_after points_after edit_change
+    unsets name is = redresses (Unset node.label name) (with_unset name) (ap (Redress node.label) (is ∙ ap (λ o. unset_in (unwrap_or o []) name) own_here)) (trees_same (with_unset name) (ap (Element tag) is)) refl (sym (overrides-revised (seen d).state node.label (with_unset name)))
 
 -- ---- for the value that a contract sees
 

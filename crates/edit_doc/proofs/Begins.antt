@@ -1,8 +1,9 @@
 -- A command begins, or the last entry is resumed.
-use Rattle.std.proofs.Common.{◌≡◌, ℕ, zero, suc, ◌+◌, ◌<◌, Bool, true, false, true≢false, ◌-◌, List, [], ◌∷◌, length, take, drop, Option, Some, None, IfSome, refl, sym, ap, subst, ◌∙◌, inl, inr, arith}
+use Rattle.std.proofs.Common.{◌≡◌, ℕ, zero, suc, ◌+◌, ◌<◌, ◌≤◌, Bool, true, false, true≢false, ◌-◌, List, [], ◌∷◌, length, take, drop, Option, Some, None, IfSome, refl, sym, ap, subst, ◌∙◌, inl, inr, arith}
 use Rattle.std.specs.Prelude.{◌&&◌, nat_le, slice_index_or}
 use Rattle.std.proofs.lemmas.Bool.Decides.{eqb_tells}
 use Rattle.dom_model.specs.declared.Content.{Content}
+use Rattle.dom_model.specs.Document.{page_depth}
 use Rattle.dom_model.specs.Forest.{Forest, tops, times, count_of}
 use Rattle.dom_model.specs.Shed.{shed}
 use Rattle.dom_model.specs.State.{IsLawful as IsArena}
@@ -25,14 +26,15 @@ use Rattle.edit_doc.specs.declared.command.Command.{Command}
 use Rattle.edit_doc.specs.Fields.{IsKept}
 use Rattle.edit_doc.specs.Whole.{Began, opened}
 use Rattle.edit_doc.specs.Held.{IfHeld}
-use Rattle.edit_doc.specs.History.{begun_forest, is_hidden, seen_trees, state_of, begun_state, began_with, history_of, whole_of}
+use Rattle.edit_doc.specs.History.{edits_before, roots_from, begun_forest, is_hidden, seen_trees, state_of, begun_state, began_with, history_of, whole_of}
 use Rattle.edit_doc.specs.Marks.{has_named}
 use Rattle.edit_doc.specs.Sound.{RefIn, IsRunning, OpenSound, UndoSound, RedoSound, AreNeeded, next_first, IsSound}
 use Rattle.edit_doc.proofs.Inner.{seen, Ok}
 use Rattle.edit_doc.proofs.Laid.{undo_later, redo_later, next_first_low}
-use Rattle.edit_doc.proofs.Rests.{AtRest, rest_of, trees_are, none_noted, arena_forest}
+use Rattle.edit_doc.proofs.Rests.{rest_state, AtRest, rest_of, trees_are, none_noted, arena_forest}
 use Rattle.edit_doc.proofs.HiddenTrees.{seen_at_rest, hidden_is}
 use Rattle.edit_model.proofs.Documents.{document_shape}
+use Rattle.edit_doc.proofs.MadeNodes.{no_edits, roots-none}
 
 -- ---- lists
 
@@ -106,6 +108,7 @@ module _ (d : Inside) (law : IsArena d.arena) (closed : d.log.open_entry ≡ Clo
         resting = ap (λ (p : LivePoints). p.scratch) o.kept.shown ∙ rest.idle.scratch;
         nodes_are = ap (λ (n : Counts). n.nodes) o.kept.counts_are ∙ rest.nodes;
         chars_are = ap (λ (n : Counts). n.chars) o.kept.counts_are ∙ rest.chars;
+        no_deeper = subst (λ (n : Counts). page_depth d.arena.trees ≤ n.depth) (sym o.kept.counts_are) rest.depth;
       };
       settings = ap length o.kept.overrides_are ∙ rest.settings;
       made = record {
@@ -145,6 +148,7 @@ module _ (d : Inside) (law : IsArena d.arena) (closed : d.log.open_entry ≡ Clo
       some_label = subst (λ n. 0 < n) (sym o.start) ok.some_label;
       nodes = ok.nodes;
       chars = ok.chars;
+      depth = ok.depth;
       hidden = λ l h. subst (λ g. 0 < times (tops g) l) now (hidden_is (begun_forest log d.arena.trees) c.start l h).root;
       running = running (begun_forest log d.arena.trees) (subst (λ g. IsRunning d.arena d.points.names c [] g) (sym now) runs);
       resumed = resumed;
@@ -167,7 +171,8 @@ module _ (d : Inside) (law : IsArena d.arena) (closed : d.log.open_entry ≡ Clo
       start = o.start i;
       host = label_of (sym rest.idle.host i);
       keeping = sym rest.idle.keeping i;
-      edits = length (noted (sym closed i));
+      edits = sym (ap (λ o. edits_before (noted o) d.arena.trees) closed ∙ no_edits d.arena.trees) i;
+      made = sym (ap (λ (s : State). s.made) (rest_state d.arena d.points d.overrides.items d.flags d.counts d.command d.log d.undo_sides.items d.redo_sides.items d.undo_sides.capacity d.redo_sides.capacity rest)) i;
     }
 
     pub opened_is : (us : List Beside) (resumed : Bool) →
@@ -186,7 +191,8 @@ module _ (d : Inside) (law : IsArena d.arena) (closed : d.log.open_entry ≡ Clo
         start = start_is i;
         host = label_of c.host;
         keeping = c.keeping;
-        edits = length (o.none i);
+        edits = (ap (λ ys. edits_before ys d.arena.trees) o.none ∙ no_edits d.arena.trees) i;
+        made = (ap (roots_from c.start) now ∙ (ap (λ n. roots_from n d.arena.trees) start_is ∙ roots-none d.arena.next d.arena.trees law.below)) i;
       };
       history = (ap (λ g. history_of d.points.names g log us d.redo_sides.items) now ∙ (history ∙ ap (λ g. history_of d.points.names g d.log d.undo_sides.items d.redo_sides.items) (sym was))) i;
       began = (began (begun_state d.arena d.points.names c log) ∙ ap (λ s. Some (began_at s resumed)) kept_state) i;

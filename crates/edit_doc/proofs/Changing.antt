@@ -6,7 +6,7 @@ use Rattle.std.proofs.lemmas.List.{take-append-le, drop-append-le}
 use Rattle.std.proofs.lemmas.List.Folds.{list_any-append}
 use Rattle.std.proofs.lemmas.Bool.Decides.{eqb_tells}
 use Rattle.dom_model.specs.declared.Content.{Content}
-use Rattle.dom_model.specs.Document.{node_count, char_count}
+use Rattle.dom_model.specs.Document.{node_count, char_count, page_depth}
 use Rattle.dom_model.specs.Forest.{Forest, tops, times, count_of}
 use Rattle.dom_model.specs.Shed.{shed}
 use Rattle.dom_model.specs.State.{State as Arena, IsLawful as IsArena}
@@ -39,7 +39,7 @@ use Rattle.edit_doc.specs.declared.command.Beside.{Beside}
 use Rattle.edit_doc.specs.declared.command.Command.{Command}
 use Rattle.edit_doc.specs.Whole.{with_state}
 use Rattle.edit_doc.specs.Marks.{IsMarked, has_named}
-use Rattle.edit_doc.specs.History.{forest_before, begun_forest, is_hidden, seen_trees, state_of, begun_state, began_with, history_of, whole_of}
+use Rattle.edit_doc.specs.History.{edits_before, roots_from, forest_before, begun_forest, is_hidden, seen_trees, state_of, begun_state, began_with, history_of, whole_of}
 use Rattle.edit_doc.specs.Sound.{RefIn, EachHeldIn, CanGoBack, IsSide, AreAlone, IsBeside, IsRunning, OpenSound, UndoSound, RedoSound, left_of, next_first, IsSound, AreNeeded}
 use Rattle.edit_doc.proofs.Laid.{redo_later}
 use Rattle.edit_doc.proofs.HiddenTrees.{top_loose}
@@ -234,7 +234,7 @@ module _ (a : Arena) (points : LivePoints) (overrides : List Setting) (flags : F
 
       runs : IsRunning (record a { trees = f }) points.names d (xs ++ y ∷ []) g
       runs = record {
-        kept = subst (λ k. IsSide points.names g k.places k.counts.nodes k.counts.chars) (sym now.kept) run.kept;
+        kept = subst (λ k. IsSide points.names g k.places k.counts.nodes k.counts.chars k.counts.depth) (sym now.kept) run.kept;
         settings = ap (λ k. length k.overrides.items) now.kept ∙ run.settings;
         made = subst (λ n. AreAlone g n a.next) (sym now.start) run.made;
         can = can_back;
@@ -281,7 +281,7 @@ module _ (a : Arena) (points : LivePoints) (overrides : List Setting) (flags : F
         trees = applied (change_of x) (shed hides a.trees);
         points = points';
         overrides = overrides';
-        edits = length xs + 1;
+        edits = edits_before xs a.trees ++ change_of x ∷ [];
       }
 
       module _ (points' : LivePoints) (overrides' : List Setting) (names : points'.names ≡ points.names) where
@@ -296,7 +296,8 @@ module _ (a : Arena) (points : LivePoints) (overrides : List Setting) (flags : F
           start = now.start i;
           host = label_of (now.host i);
           keeping = now.keeping i;
-          edits = (ap length (noted_more log.open_entry y open_now) ∙ length-append xs (y ∷ [])) i;
+          edits = (ap (λ ls. inverses_back applied turned ls f) ys_are ∙ turned_same) i;
+          made = roots_from (now.start i) (begun_same i);
         }
 
         pub whole_next : whole_of (record a { trees = f }) points' overrides' flags d (with_step log y) us rs ≡ with_state (whole_of a points overrides flags c log us rs) (seen_next points' overrides')
@@ -318,12 +319,13 @@ module _ (a : Arena) (points : LivePoints) (overrides : List Setting) (flags : F
               start = now.start i;
               host = None;
               keeping = false;
-              edits = 0;
+              edits = [];
+              made = [];
             }
 
-        pub sound_next : (counts' : Counts) → IsLawful (seen_next points' overrides') → counts'.nodes ≡ node_count f → counts'.chars ≡ char_count f →
+        pub sound_next : (counts' : Counts) → IsLawful (seen_next points' overrides') → counts'.nodes ≡ node_count f → counts'.chars ≡ char_count f → page_depth f ≤ counts'.depth →
             IsSound (record a { trees = f }) points' overrides' flags counts' d (with_step log y) us rs us_room rs_room
-        sound_next counts' lawful nodes chars =
+        sound_next counts' lawful nodes chars depth =
             let start : c.start ≡ d.start = sym now.start in
             let undo : UndoSound a.held points.names c.resumed d (next_first c.start rs) g log.undo us = undo_carried a.held points.names c d start c.resumed (next_first c.start rs) g log.undo us (left_same c.resumed) ok.undo in
             let le : c.start ≤ d.start = omega (arith, start) in
@@ -333,6 +335,7 @@ module _ (a : Arena) (points : LivePoints) (overrides : List Setting) (flags : F
               some_label = subst (λ n. 0 < n) start ok.some_label;
               nodes = nodes;
               chars = chars;
+              depth = depth;
               hidden = λ l h. (let h' : hides l ≡ true = subst (λ k. k l ≡ true) hides_same h in root_stays (change_of x) a.trees l fits.fits (off_hidden l h') (ok.hidden l h'));
               running = of_running (record a { trees = f }) points' d (begun_forest (with_step log y) f) log.open_entry y open_now
                   (subst (λ t. IsRunning (record a { trees = f }) points'.names d (xs ++ y ∷ []) t) (sym begun_same) (subst (λ ns. IsRunning (record a { trees = f }) ns d (xs ++ y ∷ []) g) (sym names) runs));

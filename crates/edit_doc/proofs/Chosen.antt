@@ -57,6 +57,7 @@ module _ (d : Inside) (ok : Ok d) (selection scratch : Option Pair) (marks : Lis
     some_label = ok.some_label;
     nodes = ok.nodes;
     chars = ok.chars;
+    depth = ok.depth;
     hidden = ok.hidden;
     running = open_other d.arena d.points d.command _ d.log.open_entry selection scratch marks none ok.running;
     resumed = ok.resumed;

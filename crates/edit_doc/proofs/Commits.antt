@@ -1,8 +1,8 @@
 -- A command ends.
-use Rattle.std.proofs.Common.{◌≡◌, ℕ, ◌<◌, Bool, false, List, [], ◌∷◌, length, None, refl, sym, ap, subst, ◌∙◌, arith}
+use Rattle.std.proofs.Common.{◌≡◌, ℕ, ◌<◌, ◌≤◌, Bool, false, List, [], ◌∷◌, length, None, refl, sym, ap, subst, ◌∙◌, arith}
 use Rattle.std.specs.Prelude.{IsTrue, nat_le}
 use Rattle.undo_log.specs.declared.Committed.TheVariants.{Nothing, Entry as Made}
-use Rattle.dom_model.specs.Document.{node_count, char_count}
+use Rattle.dom_model.specs.Document.{node_count, char_count, page_depth}
 use Rattle.dom_model.specs.Forest.{count_of}
 use Rattle.dom_model.specs.Shed.{shed, IsWhole}
 use Rattle.dom_model.specs.State.{State as Arena, IsLawful as IsArena}
@@ -24,12 +24,13 @@ use Rattle.edit_doc.specs.declared.command.Command.{Command}
 use Rattle.edit_doc.specs.Fields.{IsEnded, Forgets, AreResting}
 use Rattle.edit_doc.specs.Whole.{Whole, history_committed, committed_history}
 use Rattle.edit_doc.specs.Held.{KeepsThere}
-use Rattle.edit_doc.specs.History.{begun_forest, is_hidden, seen_trees, state_of, begun_state, began_with, history_of, whole_of}
+use Rattle.edit_doc.specs.History.{edits_before, begun_forest, is_hidden, seen_trees, state_of, begun_state, began_with, history_of, whole_of}
 use Rattle.edit_doc.specs.Sound.{IsSound}
-use Rattle.edit_doc.proofs.HiddenTrees.{false_le, document-shed, placed-shed, placed-whole, node_count-shed, char_count-shed}
+use Rattle.edit_doc.proofs.HiddenTrees.{false_le, document-shed, placed-shed, placed-whole, node_count-shed, char_count-shed, page_depth-shed}
 use Rattle.edit_doc.proofs.Inner.{seen, Ok}
 use Rattle.edit_doc.proofs.Rests.{AtRest, rest_sound, rest_state, none_noted, arena_forest}
 use Rattle.edit_doc.proofs.Rolls.{whole_g, sheds_g, Without, without_rest, without_needed, without_history}
+use Rattle.edit_doc.proofs.MadeNodes.{no_edits, count_edits}
 
 -- ---- whether a step was noted
 
@@ -47,11 +48,15 @@ committed_none l (Begun []) e h = refl
 committed_none l (Begun (x ∷ xs)) e h = absurd (cc)
 committed_none l (Resumed xs) e h = λ i. record l { undo = (ap (joined l.undo) e ∙ join_none l.undo) i; open_entry = Closed }
 
-nothing_recorded : (s0 : State) (o : Open Step) (w : Whole) → w.state.edits ≡ 0 → w.history ≡ committed_history w (began_with s0 o)
+nothing_recorded : (s0 : State) (o : Open Step) (w : Whole) → w.state.edits ≡ [] → w.history ≡ committed_history w (began_with s0 o)
 unfolding recorded
 nothing_recorded s0 Closed w e = refl
 nothing_recorded s0 (Begun xs) w e = rw e refl
 nothing_recorded s0 (Resumed xs) w e = rw e refl
+
+-- as many edits as steps were noted
+pub edits_count : (d : Inside) (v : Whole) → seen d ≡ v → length (noted d.log.open_entry) ≡ length v.state.edits
+edits_count d v sees = sym (count_edits (noted d.log.open_entry) d.arena.trees) ∙ ap (λ (w : Whole). length w.state.edits) sees
 
 -- ---- where no step was noted
 
@@ -98,16 +103,17 @@ module _ (d : Inside) (law : IsArena d.arena) (ok : Ok d) (opened : IsTrue (is_o
       ends : AtRest a rested_points d.overrides.items d.flags d.counts c log' us d.redo_sides.items d.undo_sides.capacity d.redo_sides.capacity
       ends =
           let f = arena_forest d.arena law in
-          without_rest d law ok opened a left_out us forgets c ended log' refl refl refl refl rested_points d.overrides.items d.flags d.counts
+          without_rest d law ok opened a left_out us forgets c ended log' refl refl refl refl refl rested_points d.overrides.items d.flags d.counts
           refl resting.resting
           (subst (λ t. IsPlaced t rested_points) (sym drops.trees) (placed-shed d.arena.trees d.arena.next f k sheds rested_points placed_now))
           ok.lawful.settings
           (ok.nodes ∙ (sym (node_count-shed d.arena.trees d.arena.next f k sheds) ∙ ap node_count (sym drops.trees)))
           (ok.chars ∙ (sym (char_count-shed d.arena.trees d.arena.next f k sheds) ∙ ap char_count (sym drops.trees)))
+          (subst (λ n. n ≤ d.counts.depth) (sym (page_depth-shed d.arena.trees d.arena.next f k sheds) ∙ ap page_depth (sym drops.trees)) ok.depth)
 
       pub nothing_ok : IsSound a rested_points d.overrides.items d.flags d.counts c log' us d.redo_sides.items d.undo_sides.capacity d.redo_sides.capacity
       nothing_ok = rest_sound a rested_points d.overrides.items d.flags d.counts c log' us d.redo_sides.items d.undo_sides.capacity d.redo_sides.capacity ends
-          (without_needed d law ok opened a left_out us forgets c ended log' refl refl refl refl)
+          (without_needed d law ok opened a left_out us forgets c ended log' refl refl refl refl refl)
 
       document_is : document_of a.trees ≡ document_of (seen_trees d.log d.command.start d.arena.trees)
       document_is = ap document_of drops.trees ∙ (document-shed d.arena.trees d.arena.next (arena_forest d.arena law) k sheds ∙ sym document_now)
@@ -126,7 +132,8 @@ module _ (d : Inside) (law : IsArena d.arena) (ok : Ok d) (opened : IsTrue (is_o
             start = drops.next i;
             host = None;
             keeping = false;
-            edits = 0;
+            edits = [];
+            made = [];
           })
           ∙ ap (λ (w : Whole). rested w.state) sees)
 
@@ -134,8 +141,8 @@ module _ (d : Inside) (law : IsArena d.arena) (ok : Ok d) (opened : IsTrue (is_o
       unfolding history_committed
       nothing_history v sees =
           ap (λ f. history_of d.points.names f log' us d.redo_sides.items) (none_noted log' a.trees refl)
-          ∙ (without_history d law ok opened a left_out us forgets c ended log' refl refl refl refl d.points.names refl
-          ∙ (nothing_recorded (begun_state d.arena d.points.names d.command d.log) d.log.open_entry (seen d) (ap length nothing) ∙ ap history_committed sees))
+          ∙ (without_history d law ok opened a left_out us forgets c ended log' refl refl refl refl refl d.points.names refl
+          ∙ (nothing_recorded (begun_state d.arena d.points.names d.command d.log) d.log.open_entry (seen d) (ap (λ ys. edits_before ys d.arena.trees) nothing ∙ no_edits d.arena.trees) ∙ ap history_committed sees))
 
       abbrev nothing_doc : Whole
       nothing_doc = whole_of a rested_points d.overrides.items d.flags c log' us d.redo_sides.items

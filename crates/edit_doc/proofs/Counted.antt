@@ -10,7 +10,7 @@ use Rattle.edit_model.specs.Lawful.{IsForest}
 use Rattle.edit_model.proofs.Documents.{document-link, document-unlink}
 use Rattle.edit_model.proofs.Trees.{tree_of-inside}
 
-put_under-absent : (f : Forest Content) (p : ℕ) (b : Option ℕ) (t : Forest Content) → count_of f p ≡ 0 → put_under f p b t ≡ f
+pub put_under-absent : (f : Forest Content) (p : ℕ) (b : Option ℕ) (t : Forest Content) → count_of f p ≡ 0 → put_under f p b t ≡ f
 put_under-absent Nil p b t none = refl
 put_under-absent (Tree m c ks rest) p b t none = elim (eqb_tells m p) [
   | inl (e, _) ↦ absurd (let none' = rw e at none in omega (arith, none'))

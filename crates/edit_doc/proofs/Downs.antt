@@ -1,5 +1,5 @@
 -- The history over what is left of a forest, where its steps name only that.
-use Rattle.std.proofs.Common.{◌≡◌, ℕ, ◌<◌, Bool, false, List, [], ◌∷◌, length, map, Option, None, refl, sym, ap, subst, ◌∙◌, arith}
+use Rattle.std.proofs.Common.{◌≡◌, ℕ, ◌<◌, ◌≤◌, Bool, false, List, [], ◌∷◌, length, map, Option, None, refl, sym, ap, subst, ◌∙◌, arith}
 use Rattle.dom_model.specs.declared.Content.{Content}
 use Rattle.dom_model.specs.Forest.{Forest, count_of, tree_of, parent_of, first_in, IsDistinct}
 use Rattle.dom_model.specs.Shed.{shed}
@@ -18,11 +18,13 @@ use Rattle.node_arena.specs.declared.NodeRef.{NodeRef}
 use Rattle.live_range.specs.declared.places.Places.{Places}
 use Rattle.live_range.specs.Names.{shown, named, marks_of}
 use Rattle.edit_model.specs.Gives.{labels_of}
+use Rattle.edit_model.specs.History.{used}
 use Rattle.edit_doc.specs.declared.command.Beside.{Beside}
 use Rattle.edit_doc.specs.declared.command.Command.{Command}
-use Rattle.edit_doc.specs.History.{forest_before, forest_after, is_hidden, view_at, undo_entries, redo_entries}
+use Rattle.edit_doc.specs.History.{forest_before, forest_after, edits_before, roots_from, is_hidden, view_at, undo_entries, redo_entries}
 use Rattle.edit_doc.specs.Sound.{RefIn, EachHeldIn, IsSide, AreFresh, IsOff, IsBeside, left_of, next_first, UndoSound, RedoSound}
-use Rattle.edit_doc.proofs.HiddenTrees.{hidden_is, is_hidden_from, shed_more, both_left, tops_left, tops_stay, loose_left, model_forest, document-shed, placed-shed, node_count-shed, char_count-shed}
+use Rattle.edit_doc.proofs.HiddenTrees.{hidden_is, is_hidden_from, shed_more, both_left, tops_left, tops_stay, loose_left, model_forest, document-shed, placed-shed, node_count-shed, char_count-shed, page_depth-shed}
+use Rattle.edit_doc.proofs.MadeNodes.{listed_has, used-shed}
 
 -- ---- steps keep a forest and its labels
 
@@ -63,8 +65,8 @@ back_bounded_from e f h b = record { next = b.next; below = λ l here. b.below l
 
 -- ---- one entry
 
-pub side-shed : (k : ℕ → Bool) → k 0 ≡ false → (names : List (List ℕ)) (f : Forest Content) (p : Places) (nodes chars : ℕ) → IsForest f → Bounded f → IsSide names f p nodes chars → IsSide names (shed k f) p nodes chars
-side-shed k keeps names f p nodes chars is b h =
+pub side-shed : (k : ℕ → Bool) → k 0 ≡ false → (names : List (List ℕ)) (f : Forest Content) (p : Places) (nodes chars depth : ℕ) → IsForest f → Bounded f → IsSide names f p nodes chars depth → IsSide names (shed k f) p nodes chars depth
+side-shed k keeps names f p nodes chars depth is b h =
     let m = model_forest f is b.next b.below in
     record {
       over = h.over;
@@ -72,6 +74,7 @@ side-shed k keeps names f p nodes chars is b h =
       resting = h.resting;
       nodes_are = h.nodes_are ∙ sym (node_count-shed f b.next m k keeps);
       chars_are = h.chars_are ∙ sym (char_count-shed f b.next m k keeps);
+      no_deeper = subst (λ n. n ≤ depth) (sym (page_depth-shed f b.next m k keeps)) h.no_deeper;
     }
 
 -- what is seen beside hidden trees is seen when some trees go
@@ -97,8 +100,8 @@ beside-shed : (k : ℕ → Bool) → k 0 ≡ false → (names : List (List ℕ))
     Each (IsLeft k before) (named_in (changes_of e)) → Each (IsLeft k after) (named_in (changes_of e)) →
     IsBeside names before after e ts b left high start → IsBeside names (shed k before) (shed k after) e ts b left high start
 beside-shed k keeps names before after e ts b left high start is bound is' bound' seen there h = record {
-  was = side-shed k keeps names before b.sides.before b.sides.nodes_before b.sides.chars_before is bound h.was;
-  is = side-shed k keeps names after b.sides.after b.sides.nodes_after b.sides.chars_after is' bound' h.is;
+  was = side-shed k keeps names before b.sides.before b.sides.nodes_before b.sides.chars_before b.sides.depth_before is bound h.was;
+  is = side-shed k keeps names after b.sides.after b.sides.nodes_after b.sides.chars_after b.sides.depth_after is' bound' h.is;
   some_label = h.some_label;
   fresh = fresh-shed k before b.sides.first_label is.distinct h.fresh;
   drawn = h.drawn;
@@ -208,8 +211,10 @@ module _ (k : ℕ → Bool) where
         let bound' = back_bounded e f h.0.0 bound in
         let was = ap (λ t. view_at names t b.sides.before) (sym d.same) ∙ view-shed g b.sides.before d.sheds is' bound' in
         let now = view-shed f b.sides.after sheds is bound in
+        let used_is = (λ i. used (d.turns i) (roots_from b.sides.first_label (sym d.same i)))
+        ∙ used-shed k (edits_before e f) b.sides.first_label g (λ l t. d.sheds.out l (listed_has (IsLeft k g) (named_in (edits_before e f)) l (each_of (IsLeft k f) (IsLeft k g) (named_in (edits_before e f)) (λ m u. (let s = d.stays m in omega (arith, s, u))) d.names) t)) in
         let rest = ap (λ t. undo_entries names t es bs) (sym d.same) ∙ undo_entries-shed false b.sides.first_label g es bs d.sheds is' bound' (entries_moved f g d.stays es left.1) h.1.1 in
-        λ i. record { before = was i; after = now i; edits = length e } ∷ rest i
+        λ i. record { before = was i; after = now i; edits = d.turns i; made = used_is i } ∷ rest i
 
     pub redo_entries-shed : (f : Forest Content) (es : List (List Step)) (bs : List Beside) → Sheds k f → IsForest f → Bounded f → EntriesLeft f es → RedoSound old names c f es bs → redo_entries names (shed k f) es bs ≡ redo_entries names f es bs
     redo_entries-shed f [] bs sheds is bound left h = refl
@@ -221,5 +226,6 @@ module _ (k : ℕ → Bool) where
         let bound' = forth_bounded e f h.0.0 bound in
         let now = ap (λ t. view_at names t b.sides.after) (sym d.same) ∙ view-shed g b.sides.after d.sheds is' bound' in
         let was = view-shed f b.sides.before sheds is bound in
+        let used_is = used-shed k (changes_of e) b.sides.first_label f (λ l t. sheds.out l (listed_has (IsLeft k f) (named_in (changes_of e)) l left.0 t)) in
         let rest = ap (λ t. redo_entries names t es bs) (sym d.same) ∙ redo_entries-shed g es bs d.sheds is' bound' (entries_moved f g d.stays es left.1) h.1.1 in
-        λ i. record { before = was i; after = now i; edits = length e } ∷ rest i
+        λ i. record { before = was i; after = now i; edits = changes_of e; made = used_is i } ∷ rest i

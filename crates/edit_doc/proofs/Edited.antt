@@ -1,8 +1,8 @@
 -- An edit that is made: what a call that makes it owes.
-use Rattle.std.proofs.Common.{◌≡◌, ◌+◌, true, List, length, Ok, refl, sym, ap, subst, ◌∙◌, arith}
+use Rattle.std.proofs.Common.{◌≡◌, ◌≤◌, true, List, [], ◌∷◌, ◌++◌, Ok, refl, sym, ap, subst, ◌∙◌, arith}
 use Rattle.std.specs.Prelude.{IsTrue}
 use Rattle.dom_model.specs.declared.Content.{Content}
-use Rattle.dom_model.specs.Document.{node_count, char_count}
+use Rattle.dom_model.specs.Document.{node_count, char_count, page_depth}
 use Rattle.dom_model.specs.Forest.{Forest}
 use Rattle.dom_model.specs.Shed.{shed}
 use Rattle.dom_model.specs.State.{State as Arena, IsLawful as IsArena}
@@ -17,7 +17,7 @@ use Rattle.edit_steps.specs.Step.{change_of, step_applied, step_turned, StepFits
 use Rattle.edit_model.specs.declared.settings.Setting.{Setting}
 use Rattle.edit_model.specs.State.{State}
 use Rattle.edit_model.specs.Lawful.{IsLawful}
-use Rattle.edit_model.specs.Edit.{Edit, is_made_edit, trees_after, points_after, overrides_after, changed, counted}
+use Rattle.edit_model.specs.Edit.{Edit, is_made_edit, trees_after, points_after, overrides_after, changed, with_change, change_of as edit_change}
 use Rattle.edit_model.specs.Run.{edit}
 use Rattle.edit_model.specs.Gives.{Gives}
 use Rattle.edit_model.proofs.Giving.{after_edit, gives_made, edited-made}
@@ -27,7 +27,7 @@ use Rattle.edit_doc.specs.declared.Doc.TheInside.{Inside}
 use Rattle.edit_doc.specs.declared.command.Command.{Command}
 use Rattle.edit_doc.specs.Whole.{Whole, IsOpen, with_state}
 use Rattle.edit_doc.specs.Held.{Keeps}
-use Rattle.edit_doc.specs.History.{state_of, whole_of}
+use Rattle.edit_doc.specs.History.{edits_before, state_of, whole_of}
 use Rattle.edit_doc.specs.Sound.{IsSound}
 use Rattle.edit_doc.proofs.Inner.{seen, seen as seen_of, Ok as OkInside, open_of}
 use Rattle.edit_doc.proofs.SeenNodes.{out_of}
@@ -45,11 +45,13 @@ pub record Makes (d : Inside) (e : Edit) (x : Step) (points : LivePoints) (overr
   pub seen : Each (IsLeft (out_of d) d.arena.trees) (named (change_of x))
   pub follows : Follows d.command c (change_of x) (turned (change_of x) d.arena.trees)
   pub names : points.names ≡ d.points.names
+  pub change : change_of x ≡ edit_change e (shed (out_of d) d.arena.trees)
   pub trees : applied (change_of x) (shed (out_of d) d.arena.trees) ≡ trees_after e (shed (out_of d) d.arena.trees)
   pub points_are : points ≡ points_after e (shed (out_of d) d.arena.trees) d.points
   pub overrides_are : overrides ≡ overrides_after (seen_of d).state (trees_after e (shed (out_of d) d.arena.trees)) (points_after e (shed (out_of d) d.arena.trees) d.points)
   pub nodes : counts.nodes ≡ node_count (applied (change_of x) d.arena.trees)
   pub chars : counts.chars ≡ char_count (applied (change_of x) d.arena.trees)
+  pub depth : page_depth (applied (change_of x) d.arena.trees) ≤ counts.depth
 
 module _ (d : Inside) (v : Whole) (is : seen d ≡ v) (law : IsArena d.arena) (now_open : IsOpen v) (ok : OkInside d) where
   module _ (e : Edit) (x : Step) (points : LivePoints) (overrides : List Setting) (counts : Counts) (c : Command) (may : is_made_edit e v.state ≡ true) (m : Makes d e x points overrides counts c) where
@@ -66,12 +68,12 @@ module _ (d : Inside) (v : Whole) (is : seen d ≡ v) (law : IsArena d.arena) (n
     may_seen = subst (λ (w : Whole). is_made_edit e w.state ≡ true) (sym is) may
 
     next_is : next ≡ after_edit e (seen d).state
-    unfolding changed counted
+    unfolding changed with_change
     next_is = λ i. record (seen d).state {
       trees = m.trees i;
       points = m.points_are i;
       overrides = m.overrides_are i;
-      edits = length (noted d.log.open_entry) + 1;
+      edits = edits_before (noted d.log.open_entry) d.arena.trees ++ m.change i ∷ [];
     }
 
     lawful_next : IsLawful next
@@ -98,7 +100,7 @@ module _ (d : Inside) (v : Whole) (is : seen d ≡ v) (law : IsArena d.arena) (n
 
     pub edit_done : Done d v e (record d.arena { trees = f }) points overrides counts c (with_step d.log (step_turned x d.arena))
     edit_done = record {
-      invariant = sound_next d.arena d.points d.overrides.items d.flags d.counts d.command d.log d.undo_sides.items d.redo_sides.items d.undo_sides.capacity d.redo_sides.capacity law opened ok x m.fits m.seen c m.follows points overrides m.names counts lawful_next m.nodes m.chars;
+      invariant = sound_next d.arena d.points d.overrides.items d.flags d.counts d.command d.log d.undo_sides.items d.redo_sides.items d.undo_sides.capacity d.redo_sides.capacity law opened ok x m.fits m.seen c m.follows points overrides m.names counts lawful_next m.nodes m.chars m.depth;
       gives = gives_made e v.state (state_of (record d.arena { trees = f }) points overrides d.flags c (with_step d.log (step_turned x d.arena))) may
           (state_is ∙ (next_is ∙ ap (λ (w : Whole). after_edit e w.state) is));
       keeps = subst (λ w. Keeps w (whole_of (record d.arena { trees = f }) points overrides d.flags c (with_step d.log (step_turned x d.arena)) d.undo_sides.items d.redo_sides.items)) is (subst (Keeps (seen d)) (sym whole_is) keeps_seen);

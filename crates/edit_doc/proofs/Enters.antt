@@ -21,7 +21,8 @@ use Rattle.edit_doc.specs.declared.command.Beside.{Beside}
 use Rattle.edit_doc.specs.declared.command.Command.{Command}
 use Rattle.edit_doc.specs.Fields.{AreResting, made_sides}
 use Rattle.edit_doc.specs.GivingUp.{loose_roots}
-use Rattle.edit_doc.specs.History.{forest_before, is_hidden, view_at, undo_entries}
+use Rattle.edit_model.specs.History.{used}
+use Rattle.edit_doc.specs.History.{edits_before, roots_from, forest_before, is_hidden, view_at, undo_entries}
 use Rattle.edit_doc.specs.Sound.{IsBeside, UndoSound}
 use Rattle.edit_doc.proofs.GivingUp.{filtered_loose, loose_is, listed_loose, listed_after}
 use Rattle.edit_doc.proofs.HiddenTrees.{tops_stay}
@@ -44,7 +45,7 @@ pub undo_entries-take : (names : List (List ℕ)) (n : ℕ) (f : Forest Content)
 undo_entries-take names zero f es bs = refl
 undo_entries-take names (suc n) f [] bs = refl
 undo_entries-take names (suc n) f (e ∷ es) [] = refl
-undo_entries-take names (suc n) f (e ∷ es) (b ∷ bs) = ap (λ r. record { before = view_at names (forest_before e f) b.sides.before; after = view_at names f b.sides.after; edits = length e } ∷ r) (undo_entries-take names n (forest_before e f) es bs)
+undo_entries-take names (suc n) f (e ∷ es) (b ∷ bs) = ap (λ r. record { before = view_at names (forest_before e f) b.sides.before; after = view_at names f b.sides.after; edits = edits_before e f; made = used (edits_before e f) (roots_from b.sides.first_label (forest_before e f)) } ∷ r) (undo_entries-take names n (forest_before e f) es bs)
 
 module _ (d : Inside) (law : IsArena d.arena) (ok : Ok d) (opened : IsTrue (is_open d.log.open_entry)) (p : Places) (resting : AreResting d.points p) where
   abbrev steps : List Step
@@ -75,6 +76,7 @@ module _ (d : Inside) (law : IsArena d.arena) (ok : Ok d) (opened : IsTrue (is_o
           resting = resting.resting;
           nodes_are = ok.nodes;
           chars_are = ok.chars;
+          no_deeper = ok.depth;
         };
         some_label = ok.some_label;
         fresh = record {

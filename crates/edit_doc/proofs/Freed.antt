@@ -1,6 +1,6 @@
 -- A document outside commands without trees that its history doesn't name.
-use Rattle.std.proofs.Common.{◌≡◌, ℕ, Bool, false, List, sym, ap, subst, ◌∙◌, None}
-use Rattle.dom_model.specs.Document.{node_count, char_count}
+use Rattle.std.proofs.Common.{◌≡◌, ◌≤◌, [], ℕ, Bool, false, List, sym, ap, subst, ◌∙◌, None}
+use Rattle.dom_model.specs.Document.{node_count, char_count, page_depth}
 use Rattle.dom_model.specs.State.{State as Arena, IsLawful as IsArena}
 use Rattle.live_range.specs.LivePoints.{LivePoints}
 use Rattle.undo_log.specs.Log.{Log}
@@ -19,7 +19,7 @@ use Rattle.edit_doc.specs.GivingUp.{GivesUp}
 use Rattle.edit_doc.specs.History.{state_of, history_of}
 use Rattle.edit_doc.specs.Sound.{UndoSound, RedoSound, next_first}
 use Rattle.edit_doc.proofs.Downs.{Bounded, EntriesLeft, undo-shed, redo-shed, undo_entries-shed, redo_entries-shed}
-use Rattle.edit_doc.proofs.HiddenTrees.{document-shed, placed-shed, node_count-shed, char_count-shed}
+use Rattle.edit_doc.proofs.HiddenTrees.{document-shed, placed-shed, node_count-shed, char_count-shed, page_depth-shed}
 use Rattle.edit_doc.proofs.Rests.{AtRest, rest_state, arena_forest}
 
 module _ (a b : Arena) (k : ℕ → Bool) (gives : GivesUp k a b) (sheds : Sheds k a.trees) (law : IsArena b) (points : LivePoints) (overrides : List Setting) (flags : Flags) (counts : Counts) (c : Command) (log : Log Step) (us rs : List Beside) (us_room rs_room : ℕ)
@@ -50,6 +50,7 @@ module _ (a b : Arena) (k : ℕ → Bool) (gives : GivesUp k a b) (sheds : Sheds
         settings = rests.settings;
         nodes = rests.nodes ∙ (sym (node_count-shed a.trees a.next f k sheds.document) ∙ ap node_count (sym gives.trees));
         chars = rests.chars ∙ (sym (char_count-shed a.trees a.next f k sheds.document) ∙ ap char_count (sym gives.trees));
+        depth = subst (λ n. n ≤ counts.depth) (sym (page_depth-shed a.trees a.next f k sheds.document) ∙ ap page_depth (sym gives.trees)) rests.depth;
         undo = subst (λ t. UndoSound b.held points.names false c (next_first c.start rs) t log.undo us) (sym gives.trees)
             (undo-shed k a.held b.held points.names c false (next_first c.start rs) a.trees log.undo us sheds is bound gives.keeps undo_left rests.undo);
         redo = subst (λ t. RedoSound b.held points.names c t log.redo rs) (sym gives.trees)
@@ -74,7 +75,8 @@ module _ (a b : Arena) (k : ℕ → Bool) (gives : GivesUp k a b) (sheds : Sheds
         start = gives.next i;
         host = None;
         keeping = false;
-        edits = 0;
+        edits = [];
+        made = [];
       })
       ∙ sym (rest_state a points overrides flags counts c log us rs us_room rs_room rests))
 
@@ -85,4 +87,5 @@ module _ (a b : Arena) (k : ℕ → Bool) (gives : GivesUp k a b) (sheds : Sheds
         undo = undo_entries-shed k a.held b.held points.names c false (next_first c.start rs) a.trees log.undo us sheds is bound undo_left rests.undo i;
         redo = redo_entries-shed k a.held b.held points.names c a.trees log.redo rs sheds is bound redo_left rests.redo i;
         depth = log.depth;
+        dropped = log.dropped;
       })

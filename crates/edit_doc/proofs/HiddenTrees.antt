@@ -5,9 +5,10 @@ use Rattle.std.specs.Option.{option_map, option_map_or, option_and_then}
 use Rattle.std.proofs.lemmas.Bool.Decides.{eqb_tells, nat_tests}
 use Rattle.dom_model.specs.declared.Content.{Content}
 use Rattle.dom_model.specs.Contents.{length_of, length_in}
-use Rattle.dom_model.specs.Document.{node_count, char_count}
+use Rattle.dom_model.specs.Document.{node_count, char_count, page_depth}
 use Rattle.dom_model.specs.Forest.{Forest, Seen, tops, times, count_of, tree_of, parent_of, IsDistinct, IsWithin, RisesFrom}
 use Rattle.dom_model.specs.Forest.Forest.{Nil, Tree}
+use Rattle.dom_model.specs.Places.{levels, kids_in}
 use Rattle.dom_model.specs.Shed.{shed}
 use Rattle.dom_model.proofs.Shedding.{count_of-shed, seek-shed, parent_of-shed}
 use Rattle.dom_model.proofs.Stands.{true_or_false, times-tops, top_stands, seek_Stands, seek_absent}
@@ -215,6 +216,9 @@ module _ (f : Forest Content) (next : ℕ) (is : IsModelForest f next) (k : ℕ 
 
   pub char_count-shed : char_count (shed k f) ≡ char_count f
   char_count-shed = rw document-shed refl
+
+  pub page_depth-shed : page_depth (shed k f) ≡ page_depth f
+  page_depth-shed = ap (λ (t : Forest Content). levels (kids_in t)) document-shed
 
 -- outside commands every loose tree is hidden
 pub seen_at_rest : (f : Forest Content) (next : ℕ) → IsModelForest f next → shed (is_hidden f next) f ≡ tree_of f 0

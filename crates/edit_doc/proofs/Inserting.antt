@@ -1,8 +1,8 @@
 -- An insert that is made.
-use Rattle.std.proofs.Common.{◌≡◌, ℕ, ◌<◌, ◌^◌, Bool, true, false, List, length, Option, Some, None, refl, sym, ap, subst, ◌∙◌, arith}
+use Rattle.std.proofs.Common.{◌≡◌, ℕ, ◌<◌, ◌≤◌, ◌^◌, Bool, true, false, List, length, Option, Some, None, refl, sym, ap, subst, ◌∙◌, arith}
 use Rattle.dom_model.specs.declared.Content.{Content}
 use Rattle.dom_model.specs.Contents.{is_parent_at, words_length}
-use Rattle.dom_model.specs.Document.{node_count, char_count}
+use Rattle.dom_model.specs.Document.{node_count, char_count, page_depth}
 use Rattle.dom_model.specs.Forest.{Forest, total, count_of, tree_of, link, CanPut, IsDistinct}
 use Rattle.dom_model.specs.Places.{place_in, index_of}
 use Rattle.dom_model.specs.Shed.{shed}
@@ -24,7 +24,7 @@ use Rattle.edit_steps.specs.declared.step.Step.TheVariants.{Link}
 use Rattle.edit_steps.specs.Step.{StepFits, change_of, step_applied, step_turned}
 use Rattle.edit_model.specs.declared.settings.Setting.{Setting}
 use Rattle.edit_model.specs.State.{State}
-use Rattle.edit_model.specs.Edit.{Insert, is_made_edit, trees_after, points_after, index_before}
+use Rattle.edit_model.specs.Edit.{Insert, is_made_edit, change_of as edit_change, trees_after, points_after, index_before}
 use Rattle.edit_model.specs.Confined.{may_insert}
 use Rattle.edit_model.specs.Gives.{label_of}
 use Rattle.edit_model.specs.Lawful.{IsPlaced}
@@ -34,7 +34,7 @@ use Rattle.edit_parts.specs.Following.{settled}
 use Rattle.edit_parts.specs.declared.Counts.{Counts}
 use Rattle.edit_doc.specs.declared.Doc.TheInside.{Inside}
 use Rattle.edit_doc.specs.declared.command.Command.{Command}
-use Rattle.edit_doc.specs.Fields.{with_more}
+use Rattle.edit_doc.specs.Fields.{IsRaised, with_more}
 use Rattle.edit_doc.specs.Whole.{Whole, IsOpen}
 use Rattle.edit_doc.specs.Held.{Holds, IfHeld}
 use Rattle.edit_doc.specs.Marks.{Marks, place_labels}
@@ -43,6 +43,7 @@ use Rattle.edit_doc.proofs.SeenNodes.{out_of, held_seen, is_parent_seen}
 use Rattle.edit_doc.proofs.Rests.{arena_forest}
 use Rattle.edit_doc.proofs.Linked.{labels_same, inserts_follow, place_seen, link_fits}
 use Rattle.edit_doc.proofs.Inserted.{index-link, more_linked, linked_low, chars_bound, nodes_bound}
+use Rattle.edit_doc.proofs.Raised.{linked_depth}
 use Rattle.edit_doc.proofs.Treed.{placed_after, settled_after}
 use Rattle.edit_doc.proofs.Edited.{Makes, Done, edit_called}
 
@@ -115,6 +116,11 @@ module _ (d : Inside) (v : Whole) (is : seen d ≡ v) (law : IsArena d.arena) (s
     pub chars_fit : with_more enters d.counts.chars (total (λ _ c. words_length c) (tree_of f n)) < 2 ^ 64
     chars_fit = omega (arith, chars_is, linked_low f d.arena.next (arena_forest d.arena law) (λ _ c. words_length c) p b n can, chars_bound d.arena law)
 
+    pub depth_is : (new : ℕ) → IsRaised f p n enters d.counts.depth new → page_depth (link f p b n) ≤ new
+    depth_is new raised =
+        let few = linked_low f d.arena.next (arena_forest d.arena law) (λ _ _. 1) p b n can in
+        linked_depth f d.arena.next (arena_forest d.arena law) p b n can enters enters_is d.counts.depth new ok.depth raised (omega (arith, few, nodes_bound d.arena law))
+
   -- ---- the points
 
   trees_is : applied (change_of x) g ≡ trees_after (Insert p b n) g
@@ -156,19 +162,22 @@ module _ (d : Inside) (v : Whole) (is : seen d ≡ v) (law : IsArena d.arena) (s
 
       module _ (overrides : List Setting) (overrides_are : overrides ≡ settled f d.points arena.trees points d.overrides.items) (enters : Bool) (enters_is : enters ≡ is_in_document f p) (counts : Counts)
           (nodes_are : counts.nodes ≡ with_more enters d.counts.nodes (total (λ _ _. 1) (tree_of f n))) (chars_are : counts.chars ≡ with_more enters d.counts.chars (total (λ _ c. words_length c) (tree_of f n)))
+          (raised : IsRaised f p n enters d.counts.depth counts.depth)
           (c : Command) (m : Marks (place_labels node parent before) d.command c) (log : Log Step) (log_is : log ≡ with_step d.log (step_turned x d.arena)) where
         makes : Makes d (Insert p b n) x points overrides counts c
-        unfolding applied
+        unfolding applied edit_change
         makes = record {
           fits = fits;
           seen = seen_place;
           follows = inserts_follow d.command c node parent before f m;
           names = ap (λ (s : LivePoints). s.names) points_are;
+          change = refl;
           trees = trees_is;
           points_are = points_here;
           overrides_are = overrides_are ∙ ((λ i. settled f d.points (trees_here i) (points_here i) d.overrides.items) ∙ settled_after d v is law now_open ok (Insert p b n) x made fits seen_place trees_is);
           nodes = nodes_are ∙ nodes_is enters enters_is;
           chars = chars_are ∙ chars_is enters enters_is;
+          depth = depth_is enters enters_is counts.depth raised;
         }
 
         pub insert_done : Done d v (Insert p (label_of before) n) arena points overrides counts c log

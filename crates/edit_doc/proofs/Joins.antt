@@ -8,7 +8,7 @@ use Rattle.dom_model.specs.State.{IsLawful as IsArena}
 use Rattle.dom_model.proofs.Shedding.{count_of-shed}
 use Rattle.live_range.specs.declared.places.Places.{Places}
 use Rattle.live_range.specs.Names.{shown}
-use Rattle.undo_log.specs.Turning.{back, inverses_back, FitsBack}
+use Rattle.undo_log.specs.Turning.{back, inverses_back, FitsBack, TurnsBack}
 use Rattle.undo_log.specs.Log.{Log, IsLog, Open, noted, is_open, is_resumed, joined, committed, committed_with}
 use Rattle.undo_log.specs.Log.Open.{Closed, Begun, Resumed}
 use Rattle.undo_log.proofs.Turns.{back-join, FitsBack-join}
@@ -16,12 +16,12 @@ use Rattle.forest_changes.specs.Change.{Change, Fits, applied, turned}
 use Rattle.forest_changes.specs.Named.{Each, named, named_in}
 use Rattle.forest_changes.specs.Down.{IsLeft, GoBackDown}
 use Rattle.forest_changes.proofs.ChangeLists.{each_of, each_join, each_first, each_rest, back_down}
-use Rattle.forest_changes.proofs.Twice.{forest_of}
+use Rattle.forest_changes.proofs.Twice.{forest_of, back_turns}
 use Rattle.edit_steps.specs.declared.step.Step.{Step}
 use Rattle.edit_steps.specs.Step.{change_of, changes_of, nodes_of, nodes_in}
 use Rattle.node_arena.specs.declared.NodeRef.{NodeRef}
 use Rattle.edit_model.specs.State.{State}
-use Rattle.edit_model.specs.History.{joined_in, joined as joined_history, recorded, rested}
+use Rattle.edit_model.specs.History.{used, joined_in, joined as joined_history, recorded, rested}
 use Rattle.edit_doc.specs.declared.Doc.TheInside.{Inside}
 use Rattle.edit_doc.specs.declared.command.Beside.{Beside}
 use Rattle.edit_doc.specs.declared.command.Sides.{Sides}
@@ -29,7 +29,7 @@ use Rattle.edit_doc.specs.declared.command.Command.{Command}
 use Rattle.edit_doc.specs.Fields.{IsEnded, AreResting, EntersIn, Enters, made_sides, joined_sides}
 use Rattle.edit_doc.specs.GivingUp.{loose_roots}
 use Rattle.edit_doc.specs.Whole.{Whole, history_committed, committed_history}
-use Rattle.edit_doc.specs.History.{forest_before, is_hidden, begun_forest, state_of, began_with, history_of, undo_entries, redo_entries, view_at}
+use Rattle.edit_doc.specs.History.{forest_before, edits_before, roots_from, is_hidden, begun_forest, state_of, began_with, history_of, undo_entries, redo_entries, view_at}
 use Rattle.edit_doc.specs.Sound.{RefIn, CanGoBack, IsOff, IsBeside, UndoSound}
 use Rattle.edit_doc.proofs.GivingUp.{filtered_loose, loose_is, listed_loose, listed_after, listed_before}
 use Rattle.edit_doc.proofs.Off.{Passes, passes_back, off_moved, each_here, each_off}
@@ -40,7 +40,9 @@ use Rattle.edit_doc.proofs.HiddenTrees.{hidden_is, is_hidden_from, shed_more, to
 use Rattle.edit_doc.proofs.Laid.{undo_later}
 use Rattle.dom_model.proofs.Stands.{true_or_false}
 use Rattle.edit_doc.proofs.Rests.{AtRest, none_noted}
-use Rattle.edit_doc.proofs.Rolls.{run, g, xs, beside_of}
+use Rattle.edit_doc.proofs.Rolls.{run, g, xs, forest_g, beside_of}
+use Rattle.edit_doc.proofs.Downs.{back_forest}
+use Rattle.edit_doc.proofs.MadeNodes.{listed_has, count_edits, edits-join, roots-back, root_along, used-join}
 use Rattle.edit_doc.proofs.Turnings.{sheds_after}
 use Rattle.edit_doc.proofs.Commits.{placed_now}
 use Rattle.edit_doc.proofs.Records.{high, high_le, some_edits, state_before, state_now, view_now, committed_made, begun_sound, begun_history, ends, recorded_state}
@@ -77,12 +79,12 @@ committed_joined l Closed r = absurd (cc)
 committed_joined l (Begun ys) r = absurd (cc)
 committed_joined l (Resumed ys) r = refl
 
-pub joined_recorded : (s0 : State) (o : Open Step) (w : Whole) → is_resumed o ≡ true → 0 < w.state.edits →
+pub joined_recorded : (s0 : State) (o : Open Step) (w : Whole) → is_resumed o ≡ true → 0 < length w.state.edits →
     committed_history w (began_with s0 o) ≡ record w.history { undo = joined_in w.state w.history.undo }
 unfolding recorded joined_history
 joined_recorded s0 Closed w r some = absurd (cc)
 joined_recorded s0 (Begun ys) w r some = absurd (cc)
-joined_recorded s0 (Resumed ys) w r some = rw (some_edits w.state.edits some) refl
+joined_recorded s0 (Resumed ys) w r some = rw (some_edits (length w.state.edits) some) refl
 
 module _ (d : Inside) (law : IsArena d.arena) (ok : Ok d) (opened : IsTrue (is_open d.log.open_entry)) (p : Places) (resting : AreResting d.points p) (c : Command) (ended : IsEnded d.arena.next c) where
   abbrev steps : List Step
@@ -155,6 +157,7 @@ module _ (d : Inside) (law : IsArena d.arena) (ok : Ok d) (opened : IsTrue (is_o
         resting = resting.resting;
         nodes_are = ok.nodes;
         chars_are = ok.chars;
+        no_deeper = ok.depth;
       };
       some_label = was.some_label;
       fresh = was.fresh;
@@ -211,18 +214,72 @@ module _ (d : Inside) (law : IsArena d.arena) (ok : Ok d) (opened : IsTrue (is_o
         ),
       )
 
-  joined_entries : (room : ℕ) (s : Sides) (es : List (List Step)) (bs new : List Beside) (out : Option Beside) → EntersIn true s left_now p d.counts room bs new out →
+  -- the nodes of the entry and those of the command that joined it
+  module _ (e : List Step) (b : Beside) (left : List NodeRef) (up : ℕ) (le : up ≤ d.command.start) (can : CanGoBack d.arena.held e begun)
+      (was : IsBeside d.points.names (forest_before e begun) begun e (inverses_back applied turned (changes_of e) begun) b left up d.command.start) where
+    abbrev G : Forest Content
+    G = forest_before e begun
+
+    abbrev ts : List Change
+    ts = edits_before e begun
+
+    abbrev ys : List Change
+    ys = edits_before steps now
+
+    tb : TurnsBack applied turned Fits (changes_of e) begun
+    tb = back_turns (changes_of e) begun can.0
+
+    old_edits : Each (λ l. l < d.command.start) (named_in ts)
+    old_edits = each_of (λ l. l < up) (λ l. l < d.command.start) (named_in ts) (λ l lt. omega (arith, lt, le)) was.turns_old
+
+    old_steps : Each (λ l. l < d.command.start) (named_in (changes_of e))
+    old_steps = each_of (λ l. l < up) (λ l. l < d.command.start) (named_in (changes_of e)) (λ l lt. omega (arith, lt, le)) was.names_old
+
+    -- a root that no edit names stays one
+    stays_root : (l : ℕ) → has_label (named_in ts) l ≡ false → 0 < times (tops G) l → 0 < times (tops begun) l
+    stays_root l off top = subst (λ t. 0 < times (tops t) l) tb.state (root_along l ts G tb.fit off top)
+
+    -- what the last command names, it saw
+    seen_last : (l : ℕ) → has_label (named_in ys) l ≡ true → is_hidden begun d.command.start l ≡ false
+    seen_last l t =
+        let r = run d law ok opened in
+        let k = is_hidden begun d.command.start in
+        let sheds = sheds_after begun now d.command.start (forest_of d.arena law) ok.hidden in
+        let gd : GoBackDown k (changes_of steps) now = back_down k (changes_of steps) now sheds r.can.0 r.names_there in
+        sheds.out l (listed_has (IsLeft k now) (named_in ys) l gd.names t)
+
+    named_before : (l : ℕ) → 0 < times (tops G) l → b.sides.first_label ≤ l → l < d.command.start → has_label (named_in ys) l ≡ true → has_label (named_in ts) l ≡ true
+    named_before l top from lt t = elim (true_or_false (has_label (named_in ts) l)) [
+      | inl own ↦ own
+      | inr off ↦ absurd (
+          let some = was.some_label in
+          let hid = is_hidden_from begun d.command.start l (record { inner = omega (arith, some, from); old = lt; root = stays_root l off top }) in
+          let u : true ≡ false = sym hid ∙ seen_last l t in cc)
+    ]
+
+    pub joined_nodes : used (edits_before (e ++ steps) now) (roots_from b.sides.first_label (forest_before (e ++ steps) now)) ≡ used ts (roots_from b.sides.first_label G) ++ used ys (roots_from d.command.start begun)
+    joined_nodes =
+        let first : b.sides.first_label ≤ d.command.start = (let t = was.drawn in omega (arith, t, le)) in
+        (λ i. used (edits-join e steps now i) (roots_from b.sides.first_label (before_join e steps now i)))
+        ∙ (used-join ts ys b.sides.first_label d.command.start first old_edits 0 G (back_forest (changes_of e) begun can.0 (forest_g d law ok opened)).rising named_before
+        ∙ ap (λ r. used ts (roots_from b.sides.first_label G) ++ used ys r) (roots-back d.command.start (changes_of e) begun old_steps))
+
+  joined_entries : (up room : ℕ) (s : Sides) (es : List (List Step)) (bs new : List Beside) (out : Option Beside) → up ≤ d.command.start → EntersIn true s left_now p d.counts room bs new out →
+      UndoSound d.arena.held d.points.names true d.command up begun es bs →
       undo_entries d.points.names now (joined es steps) new ≡ joined_in (state_now d law ok opened p resting) (undo_entries d.points.names begun es bs)
-  joined_entries room s es [] new out enters = absurd enters
-  joined_entries room s es (b ∷ bs) [] out enters = absurd enters
-  joined_entries room s [] (b ∷ bs) (b' ∷ bs') out enters = refl
-  joined_entries room s (e ∷ es) (b ∷ bs) (b' ∷ bs') out enters =
+  joined_entries up room s es [] new out le enters h = absurd enters
+  joined_entries up room s es (b ∷ bs) [] out le enters h = absurd enters
+  joined_entries up room s [] (b ∷ bs) (b' ∷ bs') out le enters h = refl
+  joined_entries up room s (e ∷ es) (b ∷ bs) (b' ∷ bs') out le enters h =
+      let first_is : b'.sides.first_label ≡ b.sides.first_label = ap (λ (t : Sides). t.first_label) enters.1.0 in
+      let nodes = ap (λ n. used (edits_before (e ++ steps) now) (roots_from n (forest_before (e ++ steps) now))) first_is ∙ joined_nodes e b (take d.command.left_before d.command.left.items) up le h.0 h.1.0 in
       let join = before_join e steps now in
       let after = ap (λ (t : Sides). view_at d.points.names now t.after) enters.1.0 ∙ view_now d law ok opened p resting in
       λ i. record {
         before = view_at d.points.names (join i) (enters.1.0 i).before;
         after = after i;
-        edits = length-append e steps i;
+        edits = edits-join e steps now i;
+        made = nodes i;
       } ∷ undo_entries d.points.names (join i) es (enters.0 i)
 
   module _ (resumed : is_resumed d.log.open_entry ≡ true) (us : List Beside) (out : Option Beside) (enters : Enters d.command (loose_roots d.arena.trees d.command.left.items) p d.counts d.undo_sides.capacity d.undo_sides.items us out) where
@@ -240,11 +297,13 @@ module _ (d : Inside) (law : IsArena d.arena) (ok : Ok d) (opened : IsTrue (is_o
     unfolding history_committed
     joined_history_is nothing some v sees =
         (λ i. record {
-          undo = joined_entries d.undo_sides.capacity (made_sides d.command p d.counts) d.log.undo d.undo_sides.items us out entering i;
+          undo = joined_entries (high d law ok opened p resting) d.undo_sides.capacity (made_sides d.command p d.counts) d.log.undo d.undo_sides.items us out (high_le d law ok opened p resting) entering
+              (subst (λ r. UndoSound d.arena.held d.points.names r d.command (high d law ok opened p resting) begun d.log.undo d.undo_sides.items) (ok.resumed ∙ resumed) ok.undo) i;
           redo = (ap (λ es. redo_entries d.points.names now es []) nothing ∙ sym (ap (λ es. redo_entries d.points.names begun es d.redo_sides.items) nothing)) i;
           depth = d.log.depth;
+          dropped = d.log.dropped;
         })
-        ∙ (sym (joined_recorded (state_before d law ok opened p resting) d.log.open_entry (seen d) resumed some) ∙ ap history_committed sees)
+        ∙ (sym (joined_recorded (state_before d law ok opened p resting) d.log.open_entry (seen d) resumed (subst (λ n. 0 < n) (sym (count_edits steps d.arena.trees)) some)) ∙ ap history_committed sees)
 
 -- ---- either way
 

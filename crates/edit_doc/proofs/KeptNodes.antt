@@ -50,20 +50,16 @@ root_over (Tree m c ks rest) l once here = by_count (cond (eqb m l) 1 0 + count_
           | inr (t, _) ↦ (ih.0, omega (arith, top), rw t (subst (λ n. 0 < n) (sym (count_of-join (tree_of ks ih.0) (tree_of rest ih.0) l)) (omega (arith, within))))
         ]
 
-count_changes : (e : List Step) → length (changes_of e) ≡ length e
-count_changes [] = refl
-count_changes (x ∷ e) = ap suc (count_changes e)
-
 module _ (held : List (Option ℕ)) (names : List (List ℕ)) (c : Command) where
   lead_back : (r : Bool) (high : ℕ) (f : Forest Content) (es : List (List Step)) (bs : List Beside) → UndoSound held names r c high f es bs → LeadAllBack f (map changes_of es) (undo_entries names f es bs)
   lead_back r high f [] bs h = tt
   lead_back r high f (e ∷ es) [] h = absurd h
-  lead_back r high f (e ∷ es) (b ∷ bs) h = (record { fits = h.0.0; count = count_changes e; after = refl; before = refl }, lead_back false b.sides.first_label (forest_before e f) es bs h.1.1)
+  lead_back r high f (e ∷ es) (b ∷ bs) h = (record { fits = h.0.0; own = refl; after = refl; before = refl }, lead_back false b.sides.first_label (forest_before e f) es bs h.1.1)
 
   lead_forth : (f : Forest Content) (es : List (List Step)) (bs : List Beside) → RedoSound held names c f es bs → LeadAllForth f (map changes_of es) (redo_entries names f es bs)
   lead_forth f [] bs h = tt
   lead_forth f (e ∷ es) [] h = absurd h
-  lead_forth f (e ∷ es) (b ∷ bs) h = (record { fits = h.0.0; count = count_changes e; before = refl; after = refl }, lead_forth (forest_after e f) es bs h.1.1)
+  lead_forth f (e ∷ es) (b ∷ bs) h = (record { fits = h.0.0; own = refl; before = refl; after = refl }, lead_forth (forest_after e f) es bs h.1.1)
 
 -- ---- a node that is named, if there is one
 

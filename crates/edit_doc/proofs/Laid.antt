@@ -19,6 +19,7 @@ use Rattle.edit_doc.specs.Whole.{Whole, first_edits}
 use Rattle.edit_doc.specs.History.{forest_before, forest_after, begun_forest, undo_entries, redo_entries}
 use Rattle.edit_doc.specs.Sound.{IsBeside, next_first, UndoSound, RedoSound}
 use Rattle.edit_doc.proofs.Inner.{seen, Ok}
+use Rattle.edit_doc.proofs.MadeNodes.{count_changes, count_edits}
 
 -- ---- lengths
 
@@ -48,12 +49,12 @@ redo_entries_length names f (e ∷ es) (b ∷ bs) h = ap suc (redo_entries_lengt
 undo_first_edits : (names : List (List ℕ)) (f : Forest Content) (es : List (List Step)) (bs : List Beside) → length bs ≡ length es → first_edits (undo_entries names f es bs) ≡ first_length es
 undo_first_edits names f [] bs h = refl
 undo_first_edits names f (e ∷ es) [] h = absurd (omega arith)
-undo_first_edits names f (e ∷ es) (b ∷ bs) h = refl
+undo_first_edits names f (e ∷ es) (b ∷ bs) h = count_edits e f
 
 redo_first_edits : (names : List (List ℕ)) (f : Forest Content) (es : List (List Step)) (bs : List Beside) → length bs ≡ length es → first_edits (redo_entries names f es bs) ≡ first_length es
 redo_first_edits names f [] bs h = refl
 redo_first_edits names f (e ∷ es) [] h = absurd (omega arith)
-redo_first_edits names f (e ∷ es) (b ∷ bs) h = refl
+redo_first_edits names f (e ∷ es) (b ∷ bs) h = count_changes e
 
 module _ (d : Inside) (v : Whole) (is : seen d ≡ v) (ok : Ok d) where
   us_length : length d.undo_sides.items ≡ length d.log.undo

@@ -1,4 +1,5 @@
 pub mod HiddenTrees
+pub mod MadeNodes
 pub mod Inner
 pub mod Laid
 pub mod Downs
@@ -28,6 +29,7 @@ pub mod Placing
 pub mod Asking
 pub mod Reading
 pub mod Attributed
+pub mod Shown
 pub mod Settled
 pub mod Counted
 pub mod Linked
@@ -37,6 +39,7 @@ pub mod PointSteps
 pub mod LongerNames
 pub mod NewNodes
 pub mod Inserted
+pub mod Raised
 pub mod Treed
 pub mod Inserting
 pub mod Moving

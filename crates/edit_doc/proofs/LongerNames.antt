@@ -20,13 +20,13 @@ use Rattle.forest_changes.specs.Change.{Change, applied, turned}
 use Rattle.edit_steps.specs.declared.step.Step.{Step}
 use Rattle.edit_steps.specs.Step.{changes_of}
 use Rattle.edit_model.specs.Lawful.{IsPlacedPair}
-use Rattle.edit_model.specs.History.{document_of}
+use Rattle.edit_model.specs.History.{used, document_of}
 use Rattle.edit_model.specs.State.{State}
 use Rattle.edit_doc.specs.declared.Doc.TheInside.{Inside}
 use Rattle.edit_doc.specs.declared.command.Beside.{Beside}
 use Rattle.edit_doc.specs.declared.command.Command.{Command}
 use Rattle.edit_doc.specs.Whole.{Whole, with_state}
-use Rattle.edit_doc.specs.History.{forest_before, forest_after, begun_forest, begun_state, began_with, seen_trees, state_of, view_at, undo_entries, redo_entries, history_of, whole_of}
+use Rattle.edit_doc.specs.History.{edits_before, roots_from, forest_before, forest_after, begun_forest, begun_state, began_with, seen_trees, state_of, view_at, undo_entries, redo_entries, history_of, whole_of}
 use Rattle.edit_doc.specs.Sound.{IsSide, IsBeside, left_of, next_first, UndoSound, RedoSound, OpenSound, IsSound}
 use Rattle.edit_doc.proofs.Inner.{seen, Ok}
 
@@ -69,8 +69,8 @@ module _ (old new : List (List ℕ)) (h : AreLonger old new) where
     distinct = o.distinct;
   }
 
-  side_longer : (f : Forest Content) (p : Places) (nodes chars : ℕ) → IsSide old f p nodes chars → IsSide new f p nodes chars
-  side_longer f p nodes chars s = record {
+  side_longer : (f : Forest Content) (p : Places) (nodes chars depth : ℕ) → IsSide old f p nodes chars depth → IsSide new f p nodes chars depth
+  side_longer f p nodes chars depth s = record {
     over = over_longer p s.over;
     placed = record {
       selection = s.placed.selection;
@@ -80,13 +80,14 @@ module _ (old new : List (List ℕ)) (h : AreLonger old new) where
     resting = s.resting;
     nodes_are = s.nodes_are;
     chars_are = s.chars_are;
+    no_deeper = s.no_deeper;
   }
 
   beside_longer : (before after : Forest Content) (e : List Step) (ts : List Change) (b : Beside) (left : List NodeRef) (high start : ℕ) →
       IsBeside old before after e ts b left high start → IsBeside new before after e ts b left high start
   beside_longer before after e ts b left high start s = record {
-    was = side_longer before b.sides.before b.sides.nodes_before b.sides.chars_before s.was;
-    is = side_longer after b.sides.after b.sides.nodes_after b.sides.chars_after s.is;
+    was = side_longer before b.sides.before b.sides.nodes_before b.sides.chars_before b.sides.depth_before s.was;
+    is = side_longer after b.sides.after b.sides.nodes_after b.sides.chars_after b.sides.depth_after s.is;
     some_label = s.some_label;
     fresh = s.fresh;
     drawn = s.drawn;
@@ -127,7 +128,7 @@ module _ (old new : List (List ℕ)) (h : AreLonger old new) where
         let was = view_same (forest_before e f) b.sides.before s.1.0.was.over in
         let is = view_same f b.sides.after s.1.0.is.over in
         let rest = undo_same false b.sides.first_label (forest_before e f) es bs s.1.1 in
-        λ i. record { before = was i; after = is i; edits = length e } ∷ rest i
+        λ i. record { before = was i; after = is i; edits = edits_before e f; made = used (edits_before e f) (roots_from b.sides.first_label (forest_before e f)) } ∷ rest i
 
     redo_same : (f : Forest Content) (es : List (List Step)) (bs : List Beside) → RedoSound held old c f es bs → redo_entries new f es bs ≡ redo_entries old f es bs
     redo_same f [] bs s = refl
@@ -136,7 +137,7 @@ module _ (old new : List (List ℕ)) (h : AreLonger old new) where
         let was = view_same f b.sides.before s.1.0.was.over in
         let is = view_same (forest_after e f) b.sides.after s.1.0.is.over in
         let rest = redo_same (forest_after e f) es bs s.1.1 in
-        λ i. record { before = was i; after = is i; edits = length e } ∷ rest i
+        λ i. record { before = was i; after = is i; edits = changes_of e; made = used (changes_of e) (roots_from b.sides.first_label f) } ∷ rest i
 
 -- ---- a mark is set
 
@@ -191,6 +192,7 @@ module _ (d : Inside) (ok : Ok d) (closed : d.log.open_entry ≡ Closed) (name :
     some_label = ok.some_label;
     nodes = ok.nodes;
     chars = ok.chars;
+    depth = ok.depth;
     hidden = ok.hidden;
     running = open_marked d.arena d.points points d.command (begun_forest d.log d.arena.trees) d.log.open_entry closed refl ok.running;
     resumed = ok.resumed;
@@ -206,7 +208,7 @@ module _ (d : Inside) (ok : Ok d) (closed : d.log.open_entry ≡ Closed) (name :
   history_same =
       let u = undo_same d.points.names points.names longer d.arena.held d.command d.command.resumed (next_first d.command.start d.redo_sides.items) (begun_forest d.log d.arena.trees) d.log.undo d.undo_sides.items ok.undo in
       let r = redo_same d.points.names points.names longer d.arena.held d.command (begun_forest d.log d.arena.trees) d.log.redo d.redo_sides.items ok.redo in
-      λ i. record { undo = u i; redo = r i; depth = d.log.depth }
+      λ i. record { undo = u i; redo = r i; depth = d.log.depth; dropped = d.log.dropped }
 
   pub marked_is : (v : Whole) → seen d ≡ v →
       whole_of d.arena points d.overrides.items d.flags d.command d.log d.undo_sides.items d.redo_sides.items

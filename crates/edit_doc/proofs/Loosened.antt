@@ -24,6 +24,7 @@ use Rattle.edit_doc.specs.Sound.{OpenSound}
 use Rattle.edit_doc.proofs.Begins.{document_tops}
 use Rattle.edit_doc.proofs.Found.{tree_left, root_stays, root_left, root_is_top}
 use Rattle.edit_doc.proofs.HiddenTrees.{hidden_is, inside_left}
+pub use Rattle.edit_doc.proofs.MadeNodes.{listed_has}
 use Rattle.edit_doc.proofs.Inner.{seen, Ok}
 use Rattle.edit_doc.proofs.Rests.{arena_forest, trees_are}
 use Rattle.edit_doc.proofs.SeenNodes.{out_of, IsSeen}
@@ -35,17 +36,6 @@ or_false false b e = (refl, e)
 pub or_true : (a b : Bool) → (a || b) ≡ true → (a ≡ true) ⊎ (b ≡ true)
 or_true true b e = inl refl
 or_true false b e = inr e
-
--- a label that is listed has the property of all that are listed
-pub listed_has : (P : ℕ → Type 0) (ls : List ℕ) (l : ℕ) → Each P ls → has_label ls l ≡ true → P l
-listed_has P [] l h e = absurd (cc)
-listed_has P (x ∷ xs) l h e = elim (eqb_tells' x l) [
-  | inl same ↦ subst P same h.0
-  | inr u ↦ listed_has P xs l h.1 (sym (ap (λ b. b || has_label xs l) u) ∙ e)
-]
-  where
-    eqb_tells' : (a b : ℕ) → (a ≡ b) ⊎ (eqb a b ≡ false)
-    eqb_tells' a b = grind (arith, nat_tests)
 
 drop_none : (n : ℕ) (xs : List NodeRef) → xs ≡ [] → drop n xs ≡ []
 drop_none zero xs e = e

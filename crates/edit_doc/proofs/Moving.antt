@@ -5,9 +5,9 @@ use Rattle.std.proofs.lemmas.Bool.Decides.{eqb_tells}
 use Rattle.std.proofs.lemmas.List.{append-nil}
 use Rattle.dom_model.specs.declared.Content.{Content}
 use Rattle.dom_model.specs.Contents.{words_length}
-use Rattle.dom_model.specs.Document.{node_count, char_count}
-use Rattle.dom_model.specs.Forest.{Forest, total, taken_from, count_of, tree_of, parent_of, next_of, children_of, link, unlink, CanPut, IsDistinct}
-use Rattle.dom_model.specs.Places.{place_in, index_of}
+use Rattle.dom_model.specs.Document.{node_count, char_count, page_depth}
+use Rattle.dom_model.specs.Forest.{Forest, total, taken_from, count_of, depth_of, tree_of, parent_of, next_of, children_of, link, unlink, CanPut, IsDistinct}
+use Rattle.dom_model.specs.Places.{levels, place_in, index_of}
 use Rattle.dom_model.specs.Shed.{shed}
 use Rattle.dom_model.specs.State.{State as Arena, IsLawful as IsArena, IsSlotted}
 use Rattle.dom_model.proofs.Links.{children_of-unlink}
@@ -33,7 +33,7 @@ use Rattle.edit_steps.specs.declared.step.Step.TheVariants.{Place}
 use Rattle.edit_steps.specs.Step.{StepFits, change_of, step_applied, step_turned}
 use Rattle.edit_model.specs.declared.settings.Setting.{Setting}
 use Rattle.edit_model.specs.State.{State}
-use Rattle.edit_model.specs.Edit.{Move, is_made_edit, trees_after, points_after, index_before, parent_or_0}
+use Rattle.edit_model.specs.Edit.{Move, is_made_edit, change_of as edit_change, trees_after, points_after, index_before, parent_or_0}
 use Rattle.edit_model.specs.Confined.{may_move, may_go}
 use Rattle.edit_model.specs.Gives.{label_of}
 use Rattle.edit_model.specs.Lawful.{IsForest, IsPlaced}
@@ -46,7 +46,7 @@ use Rattle.edit_parts.specs.Following.{settled, IsFrom}
 use Rattle.edit_parts.specs.declared.Counts.{Counts}
 use Rattle.edit_doc.specs.declared.Doc.TheInside.{Inside}
 use Rattle.edit_doc.specs.declared.command.Command.{Command}
-use Rattle.edit_doc.specs.Fields.{with_more}
+use Rattle.edit_doc.specs.Fields.{IsRaised, with_more}
 use Rattle.edit_doc.specs.Whole.{Whole, IsOpen}
 use Rattle.edit_doc.specs.Held.{Holds, IfHeld}
 use Rattle.edit_doc.specs.Marks.{Marks, IsMarked, AreMarkable, place_labels}
@@ -58,6 +58,7 @@ use Rattle.edit_doc.proofs.Placing.{document_seen}
 use Rattle.edit_doc.proofs.Linked.{labels_same, place_held, place_seen}
 use Rattle.edit_doc.proofs.Counted.{unlinked_inside, unlinked_outside}
 use Rattle.edit_doc.proofs.Inserted.{index-link, none_of, more_linked, linked_low, chars_bound, nodes_bound}
+use Rattle.edit_doc.proofs.Raised.{stands_low, moved_depth}
 use Rattle.edit_doc.proofs.Treed.{placed_after, settled_after}
 use Rattle.edit_doc.proofs.Changing.{Follows, run, seen_sheds}
 use Rattle.edit_doc.proofs.Edited.{Makes, Done, edit_called}
@@ -117,7 +118,7 @@ module _ (f : Forest Content) (next : ℕ) (is : IsForest f next) (w : ℕ → C
     | inr t ↦ unlinked_outside f next is (λ m _. cond (eqb m p) 1 0) o n up (none_of (count_of (tree_of f 0) n) t)
   ]
 
-  in_same : is_in_document (unlink f n) p ≡ is_in_document f p
+  pub in_same : is_in_document (unlink f n) p ≡ is_in_document f p
   in_same = ap (nat_lt 0) same_count
 
   by_case : (i j : Bool) → is_in_document f n ≡ i → is_in_document f p ≡ j → (i ≡ true → j ≡ true) → with_more (not i && j) (total w (tree_of f 0)) (total w (tree_of f n)) ≡ total w (tree_of (link (unlink f n) p b n) 0)
@@ -280,6 +281,16 @@ module _ (d : Inside) (v : Whole) (is : seen d ≡ v) (law : IsArena d.arena) (s
     pub chars_fit : with_more enters d.counts.chars (total (λ _ c. words_length c) (tree_of f n)) < 2 ^ 64
     chars_fit = omega (arith, chars_is, moved_low f d.arena.next (arena_forest d.arena law) (λ _ c. words_length c) from.label n p b up can inside apart, chars_bound d.arena law)
 
+  -- how deep the tree is where it stands in the document
+  pub stands : is_in_document f n ≡ true → levels (tree_of f n) + depth_of f n ≤ d.counts.depth + 1
+  stands t = omega (arith, stands_low f d.arena.next (arena_forest d.arena law) n t, ok.depth)
+
+  depth_is : (new : ℕ) → IsRaised f p n (is_in_document f p) d.counts.depth new → page_depth (link (unlink f n) p b n) ≤ new
+  depth_is new raised =
+      let few = moved_low f d.arena.next (arena_forest d.arena law) (λ _ _. 1) from.label n p b up can inside apart in
+      moved_depth f d.arena.next (arena_forest d.arena law) from.label n p b up can (in_same f d.arena.next (arena_forest d.arena law) (λ _ _. 1) from.label n p b up can inside apart)
+      d.counts.depth new ok.depth raised (omega (arith, few, nodes_bound d.arena law))
+
   -- ---- the points
 
   trees_is : applied (change_of x) g ≡ trees_after (Move n p b) g
@@ -348,19 +359,22 @@ module _ (d : Inside) (v : Whole) (is : seen d ≡ v) (law : IsArena d.arena) (s
 
       module _ (overrides : List Setting) (overrides_are : overrides ≡ settled f d.points arena.trees points d.overrides.items) (enters : Bool) (enters_is : enters ≡ (not (is_in_document f n) && is_in_document f p)) (counts : Counts)
           (nodes_are : counts.nodes ≡ with_more enters d.counts.nodes (total (λ _ _. 1) (tree_of f n))) (chars_are : counts.chars ≡ with_more enters d.counts.chars (total (λ _ c. words_length c) (tree_of f n)))
+          (raised : IsRaised f p n (is_in_document f p) d.counts.depth counts.depth)
           (next : Option NodeRef) (next_is : label next ≡ next_of f n) (mid c : Command) (m : Marks (place_labels node from next) d.command mid) (k : Marks (place_labels node parent before) mid c) (log : Log Step) (log_is : log ≡ with_step d.log (step_turned x d.arena)) where
         makes : Makes d (Move n p b) x points overrides counts c
-        unfolding applied
+        unfolding applied edit_change
         makes = record {
           fits = fits;
           seen = seen_place;
           follows = moves_follow d.command mid c node parent from before next f up next_is m k;
           names = ap (λ (s : LivePoints). s.names) points_moved;
+          change = refl;
           trees = trees_is;
           points_are = points_here;
           overrides_are = overrides_are ∙ ((λ i. settled f d.points (trees_here i) (points_here i) d.overrides.items) ∙ settled_after d v is law now_open ok (Move n p b) x made fits seen_place trees_is);
           nodes = nodes_are ∙ nodes_is enters enters_is;
           chars = chars_are ∙ chars_is enters enters_is;
+          depth = depth_is counts.depth raised;
         }
 
         pub move_done : Done d v (Move n p (label_of before)) arena points overrides counts c log

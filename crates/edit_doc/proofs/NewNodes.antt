@@ -7,9 +7,10 @@ use Rattle.std.proofs.lemmas.Bool.Decides.{eqb_tells, nat_tests}
 use Rattle.dom_model.specs.declared.Content.{Content}
 use Rattle.dom_model.specs.declared.attributes.Attribute.{Attribute}
 use Rattle.dom_model.specs.declared.Content.TheVariants.{Element, Words}
-use Rattle.dom_model.specs.Document.{node_count, char_count}
+use Rattle.dom_model.specs.Document.{node_count, char_count, page_depth}
 use Rattle.dom_model.specs.Forest.{Forest, Seen, total, tops, times, count_of, tree_of, parent_of, first_of, first_in, with_leaf}
 use Rattle.dom_model.specs.Forest.Forest.{Nil, Tree}
+use Rattle.dom_model.specs.Places.{levels, kids_in}
 use Rattle.dom_model.specs.Shed.{shed}
 use Rattle.dom_model.specs.State.{State as Arena, IsLawful as IsArena}
 use Rattle.dom_model.proofs.Totals.{total-join}
@@ -45,7 +46,7 @@ use Rattle.edit_model.specs.declared.settings.EditFault.TheVariants.{Full, Memor
 use Rattle.edit_model.specs.State.{State}
 use Rattle.edit_model.specs.Action.{made, words_content}
 use Rattle.edit_model.specs.Lawful.{IsLawful}
-use Rattle.edit_model.specs.History.{document_of}
+use Rattle.edit_model.specs.History.{used, document_of}
 use Rattle.edit_model.specs.Gives.{label_of, labels_of, Fails}
 use Rattle.edit_model.proofs.Documents.{document-with_leaf}
 use Rattle.edit_model.proofs.Forests.{forest-with_leaf}
@@ -58,7 +59,7 @@ use Rattle.edit_doc.specs.declared.command.Command.{Command}
 use Rattle.edit_doc.specs.Whole.{Whole, IsOpen}
 use Rattle.edit_doc.specs.Held.{Holds, Keeps}
 use Rattle.edit_doc.specs.Marks.{IsMarked, has_named, NotesMade}
-use Rattle.edit_doc.specs.History.{forest_before, forest_after, begun_forest, is_hidden, seen_trees, state_of, begun_state, began_with, view_at, undo_entries, redo_entries, history_of, whole_of}
+use Rattle.edit_doc.specs.History.{edits_before, roots_from, forest_before, forest_after, begun_forest, is_hidden, seen_trees, state_of, begun_state, began_with, view_at, undo_entries, redo_entries, history_of, whole_of}
 use Rattle.edit_doc.specs.Sound.{RefIn, EachHeldIn, IsSide, AreFresh, IsOff, AreNeeded, AreAlone, IsBeside, IsRunning, OpenSound, UndoSound, RedoSound, left_of, next_first, IsSound}
 use Rattle.edit_doc.proofs.Laid.{redo_later}
 use Rattle.edit_doc.proofs.Downs.{back_forest, forth_forest}
@@ -66,6 +67,7 @@ use Rattle.edit_doc.proofs.HiddenTrees.{model_forest, true_lt}
 use Rattle.edit_doc.proofs.Inner.{seen, Ok, open_of}
 use Rattle.edit_doc.proofs.Off.{entries_moved}
 use Rattle.edit_doc.proofs.Changing.{undo_carried}
+use Rattle.edit_doc.proofs.MadeNodes.{roots-leaf, used-leaf, not_named}
 
 not_own : (a b : ℕ) → b < a → eqb a b ≡ false
 not_own a b h = grind (arith, nat_tests)
@@ -130,13 +132,17 @@ module _ (l : ℕ) (c : Content) where
     chars_leaf : char_count (with_leaf f l c) ≡ char_count f
     chars_leaf = rw document_leaf refl
 
-    side_leaf : (names : List (List ℕ)) (p : Places) (nodes chars : ℕ) → IsSide names f p nodes chars → IsSide names (with_leaf f l c) p nodes chars
-    side_leaf names p nodes chars h = record {
+    depth_leaf : page_depth (with_leaf f l c) ≡ page_depth f
+    depth_leaf = ap (λ (t : Forest Content). levels (kids_in t)) document_leaf
+
+    side_leaf : (names : List (List ℕ)) (p : Places) (nodes chars depth : ℕ) → IsSide names f p nodes chars depth → IsSide names (with_leaf f l c) p nodes chars depth
+    side_leaf names p nodes chars depth h = record {
       over = h.over;
       placed = points_left f (with_leaf f l c) (leaves-with_leaf f l (model_forest f is l low.below) c) (shown names p) h.placed;
       resting = h.resting;
       nodes_are = h.nodes_are ∙ sym nodes_leaf;
       chars_are = h.chars_are ∙ sym chars_leaf;
+      no_deeper = subst (λ n. n ≤ depth) (sym depth_leaf) h.no_deeper;
     }
 
   -- the leaf is all of its tree
@@ -183,8 +189,8 @@ module _ (l : ℕ) (c : Content) where
   beside_leaf names before after e ts b left high start le is low is' low' h =
       let first : b.sides.first_label ≤ l = (let x = h.drawn in let y = h.known in omega (arith, x, y, le)) in
       record {
-        was = side_leaf before is low names b.sides.before b.sides.nodes_before b.sides.chars_before h.was;
-        is = side_leaf after is' low' names b.sides.after b.sides.nodes_after b.sides.chars_after h.is;
+        was = side_leaf before is low names b.sides.before b.sides.nodes_before b.sides.chars_before b.sides.depth_before h.was;
+        is = side_leaf after is' low' names b.sides.after b.sides.nodes_after b.sides.chars_after b.sides.depth_after h.is;
         some_label = h.some_label;
         fresh = fresh_leaf before b.sides.first_label low h.fresh;
         drawn = h.drawn;
@@ -283,7 +289,10 @@ module _ (l : ℕ) (c : Content) where
           let was = ap (λ t. view_at names t b.sides.before) bb.same ∙ view_leaf g is' bb.below names b.sides.before in
           let now = view_leaf f is low names b.sides.after in
           let rest = ap (λ t. undo_entries names t es bs) bb.same ∙ undo_entries_leaf false b.sides.first_label g es bs is' bb.below h.1.1 in
-          λ i. record { before = was i; after = now i; edits = length e } ∷ rest i
+          let bt = back_turned (changes_of e) f is low h.0.0 in
+          let off = not_named high l (named_in (edits_before e f)) h.1.0.turns_old (let u = h.1.0.known in omega (arith, u, le)) in
+          let used_is = (λ i. used (bt i) (roots_from b.sides.first_label (bb.same i))) ∙ used-leaf (edits_before e f) b.sides.first_label l c g off in
+          λ i. record { before = was i; after = now i; edits = bt i; made = used_is i } ∷ rest i
 
       pub redo_entries_leaf : (f : Forest Content) (es : List (List Step)) (bs : List Beside) → IsForest f → IsBelow f l → RedoSound old names d f es bs → redo_entries names (with_leaf f l c) es bs ≡ redo_entries names f es bs
       redo_entries_leaf f [] bs is low h = refl
@@ -295,7 +304,9 @@ module _ (l : ℕ) (c : Content) where
           let now = ap (λ t. view_at names t b.sides.after) bb.same ∙ view_leaf g is' bb.below names b.sides.after in
           let was = view_leaf f is low names b.sides.before in
           let rest = ap (λ t. redo_entries names t es bs) bb.same ∙ redo_entries_leaf g es bs is' bb.below h.1.1 in
-          λ i. record { before = was i; after = now i; edits = length e } ∷ rest i
+          let off = not_named (next_first d.start bs) l (named_in (changes_of e)) h.1.0.names_old (let u = h.1.0.known in omega (arith, u, le)) in
+          let used_is = used-leaf (changes_of e) b.sides.first_label l c f off in
+          λ i. record { before = was i; after = now i; edits = changes_of e; made = used_is i } ∷ rest i
 
 -- ---- the fields of a command
 
@@ -355,6 +366,7 @@ module _ (a : Arena) (points : LivePoints) (overrides : List Setting) (flags : F
     some_label = ok.some_label;
     nodes = ok.nodes;
     chars = ok.chars;
+    depth = ok.depth;
     hidden = ok.hidden;
     running = of_running a points d g log.open_entry open_now (record {
       kept = run.kept;
@@ -444,7 +456,8 @@ module _ (a : Arena) (points : LivePoints) (overrides : List Setting) (flags : F
       start = d.start;
       host = label_of d.host;
       keeping = d.keeping;
-      edits = length xs;
+      edits = back_turned l x made_of some (changes_of xs) f is low run.can.0 i;
+      made = (ap (roots_from d.start) begun_is ∙ roots-leaf d.start l x g started) i;
     }
 
     lawful_made : IsLawful (made x s)
@@ -493,7 +506,7 @@ module _ (a : Arena) (points : LivePoints) (overrides : List Setting) (flags : F
 
     runs : IsRunning arena_made points.names d xs (with_leaf g l x)
     runs = record {
-      kept = side_leaf l x g begun_is_forest bb.below points.names d.kept.places d.kept.counts.nodes d.kept.counts.chars run.kept;
+      kept = side_leaf l x g begun_is_forest bb.below points.names d.kept.places d.kept.counts.nodes d.kept.counts.chars d.kept.counts.depth run.kept;
       settings = run.settings;
       made = alone;
       can = (bb.fits, each_of (RefIn a.held) (RefIn held) (nodes_in xs) keeps run.can.1);
@@ -543,6 +556,7 @@ module _ (a : Arena) (points : LivePoints) (overrides : List Setting) (flags : F
       some_label = ok.some_label;
       nodes = ok.nodes ∙ sym (nodes_leaf l x f is low);
       chars = ok.chars ∙ sym (chars_leaf l x f is low);
+      depth = subst (λ n. n ≤ counts.depth) (sym (depth_leaf l x f is low)) ok.depth;
       hidden = λ j h. (let h' : hides j ≡ true = subst (λ k. k j ≡ true) hides_is h in let top = ok.hidden j h' in omega (arith, top, times-with_leaf l x f j));
       running = of_running arena_made points d (begun_forest log (with_leaf f l x)) log.open_entry open_now (subst (λ t. IsRunning arena_made points.names d xs t) (sym begun_is) runs);
       resumed = ok.resumed;
@@ -567,6 +581,7 @@ module _ (a : Arena) (points : LivePoints) (overrides : List Setting) (flags : F
       undo = undo_entries_leaf l x made_of some a.held held keeps points.names d started d.resumed (next_first d.start rs) g log.undo us begun_is_forest bb.below undo_now i;
       redo = redo_entries_leaf l x made_of some a.held held keeps points.names d started g log.redo rs begun_is_forest bb.below redo_now i;
       depth = log.depth;
+      dropped = log.dropped;
     })
 
     begun_state_is : begun_state arena_made points.names d log ≡ begun_state a points.names e log
@@ -580,7 +595,8 @@ module _ (a : Arena) (points : LivePoints) (overrides : List Setting) (flags : F
       start = d.start;
       host = None;
       keeping = false;
-      edits = 0;
+      edits = [];
+      made = [];
     }
 
     pub whole_made : whole_of arena_made points overrides flags d log us rs ≡ record (whole_of a points overrides flags e log us rs) { state = made x s; held = held }

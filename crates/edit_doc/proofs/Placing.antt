@@ -1,12 +1,11 @@
 -- The tests on places in the trees of a document.
-use Rattle.std.proofs.Common.{◌≡◌, ◌⊎◌, ℕ, ◌+◌, ◌<◌, Bool, true, false, true≢false, List, Option, Some, None, refl, sym, ap, subst, ◌∙◌, inl, inr, arith, eqb, nat_lt}
-use Rattle.std.specs.Prelude.{◌&&◌, not, nat_le, bytes_eq, IsTrue, ◌↔◌}
-use Rattle.std.specs.Option.{option_map_or, option_and_then}
+use Rattle.std.proofs.Common.{◌≡◌, ◌⊎◌, ℕ, ◌+◌, ◌<◌, Bool, true, false, true≢false, Option, Some, refl, sym, ap, subst, ◌∙◌, inl, inr, arith, eqb, nat_lt}
+use Rattle.std.specs.Prelude.{◌&&◌, not, nat_le, IsTrue, ◌↔◌}
 use Rattle.std.proofs.lemmas.Bool.Decides.{nat_tests}
 use Rattle.dom_model.specs.declared.Content.{Content}
 use Rattle.dom_model.specs.declared.Content.TheVariants.{Document, Element, Words, Remark}
-use Rattle.dom_model.specs.Contents.{is_element, is_element_at, name_in, name_of, length_of}
-use Rattle.dom_model.specs.Forest.{Forest, is_label, count_of, parent_of, content_of, IsWithin}
+use Rattle.dom_model.specs.Contents.{length_of}
+use Rattle.dom_model.specs.Forest.{Forest, is_label, count_of, parent_of, IsWithin}
 use Rattle.dom_model.specs.Shed.{shed}
 use Rattle.dom_model.specs.State.{IsLawful as IsArena}
 use Rattle.dom_model.proofs.Stands.{true_or_false}
@@ -16,7 +15,7 @@ use Rattle.node_arena.specs.declared.Kind.{Kind}
 use Rattle.node_arena.specs.declared.Kind.TheVariants as kind
 use Rattle.node_arena.specs.Kinds.{is_parent_kind, is_element_kind}
 use Rattle.point_order.specs.PointOrder.{is_within, is_in_document, is_placed}
-use Rattle.edit_model.specs.Confined.{has_name, is_place, is_own, is_open, may_grow, may_select, may_send}
+use Rattle.edit_model.specs.Confined.{is_place, is_own, is_open, may_grow, may_select, may_send}
 use Rattle.edit_model.specs.Gives.{label_of}
 use Rattle.edit_doc.specs.declared.Doc.TheInside.{Inside}
 use Rattle.edit_doc.specs.Whole.{Whole}
@@ -45,19 +44,6 @@ other_kind kind.Document e = refl
 other_kind kind.Element e = absurd (e refl)
 other_kind kind.Words e = refl
 other_kind kind.Remark e = refl
-
-unnamed : (o : Option Content) → option_map_or is_element o false ≡ false → option_and_then name_in o ≡ None
-unnamed None e = refl
-unnamed (Some Document) e = refl
-unnamed (Some (Element name attributes)) e = absurd (cc)
-unnamed (Some (Words chars)) e = refl
-unnamed (Some (Remark chars)) e = refl
-
-pub nameless : (f : Forest Content) (l : ℕ) (name : List ℕ) → is_element_at f l ≡ false → has_name f l name ≡ false
-nameless f l name e = ap (λ o. option_map_or (λ own. bytes_eq own name) o false) (unnamed (content_of f l) e)
-
-pub named : (f : Forest Content) (l : ℕ) (own name : List ℕ) → name_of f l ≡ Some own → has_name f l name ≡ bytes_eq own name
-named f l own name e = ap (λ o. option_map_or (λ own. bytes_eq own name) o false) e
 
 -- ---- places among children
 

@@ -1,6 +1,6 @@
 -- A command with an edit is recorded in the history.
 use Rattle.std.proofs.Common.{◌≡◌, ℕ, ◌<◌, ◌≤◌, false, List, [], ◌∷◌, length, take, Option, None, refl, sym, ap, subst, ◌∙◌, arith}
-use Rattle.std.specs.Prelude.{IsTrue, ◌==◌}
+use Rattle.std.specs.Prelude.{IsTrue, ◌==◌, ◌||◌, nat_le}
 use Rattle.std.proofs.lemmas.Bool.Decides.{nat_tests}
 use Rattle.dom_model.specs.declared.Content.{Content}
 use Rattle.dom_model.specs.Forest.{Forest}
@@ -16,7 +16,7 @@ use Rattle.edit_steps.specs.declared.step.Step.{Step}
 use Rattle.edit_steps.specs.Step.{changes_of}
 use Rattle.edit_model.specs.State.{State}
 use Rattle.edit_model.specs.Lawful.{IsForest}
-use Rattle.edit_model.specs.History.{document_of, rested, recorded, with_entry, view_of}
+use Rattle.edit_model.specs.History.{document_of, rested, recorded, with_entry, view_of, entry_of, used}
 use Rattle.edit_model.proofs.Documents.{document_shape}
 use Rattle.edit_doc.specs.declared.Doc.TheInside.{Inside}
 use Rattle.edit_doc.specs.declared.command.Beside.{Beside}
@@ -26,20 +26,21 @@ use Rattle.edit_doc.specs.Fields.{IsEnded, AreResting, EntersIn, Enters, made_si
 use Rattle.edit_doc.specs.GivingUp.{loose_roots}
 use Rattle.node_arena.specs.declared.NodeRef.{NodeRef}
 use Rattle.edit_doc.specs.Whole.{Whole, history_committed, committed_history}
-use Rattle.edit_doc.specs.History.{state_of, begun_state, began_with, history_of, undo_entries, view_at}
+use Rattle.edit_doc.specs.History.{edits_before, roots_from, state_of, begun_state, began_with, history_of, undo_entries, view_at}
 use Rattle.edit_doc.specs.Sound.{IsBeside, UndoSound, RedoSound, next_first}
 use Rattle.edit_doc.proofs.Inner.{seen, Ok}
-use Rattle.edit_doc.proofs.Laid.{undo_later, next_first_low}
+use Rattle.edit_doc.proofs.Laid.{undo_count, undo_later, next_first_low}
 use Rattle.edit_doc.proofs.HiddenTrees.{model_forest}
 use Rattle.edit_doc.proofs.Rests.{AtRest, rest_state}
 use Rattle.edit_doc.proofs.Rolls.{run, g, xs, forest_g, bound_g}
 use Rattle.edit_doc.proofs.Commits.{placed_now, document_now}
 use Rattle.edit_doc.proofs.Enters.{undo-take, undo_entries-take, made_beside}
+use Rattle.edit_doc.proofs.MadeNodes.{count_edits}
 
 -- ---- the log
 
 pub committed_made : (l : Log Step) (o : Open Step) → IsTrue (is_open o) → is_resumed o ≡ false → 0 < length (noted o) →
-    committed_with l o ≡ record l { undo = take l.depth (noted o ∷ l.undo); redo = []; open_entry = Closed }
+    committed_with l o ≡ record l { undo = take l.depth (noted o ∷ l.undo); redo = []; open_entry = Closed; dropped = l.dropped || nat_le l.depth (length l.undo) }
 committed_made l Closed t r some = absurd (let t' = t in cc)
 committed_made l (Begun []) t r some = absurd (omega (arith, some))
 committed_made l (Begun (x ∷ ys)) t r some = refl
@@ -50,11 +51,11 @@ committed_made l (Resumed ys) t r some = absurd (cc)
 pub some_edits : (n : ℕ) → 0 < n → (n == 0) ≡ false
 some_edits n h = grind (arith, nat_tests)
 
-pub made_recorded : (s0 : State) (o : Open Step) (w : Whole) → IsTrue (is_open o) → is_resumed o ≡ false → 0 < w.state.edits →
-    committed_history w (began_with s0 o) ≡ record w.history { undo = take w.history.depth (record { before = view_of s0; after = view_of w.state; edits = w.state.edits } ∷ w.history.undo); redo = [] }
+pub made_recorded : (s0 : State) (o : Open Step) (w : Whole) → IsTrue (is_open o) → is_resumed o ≡ false → 0 < length w.state.edits →
+    committed_history w (began_with s0 o) ≡ record w.history { undo = take w.history.depth (entry_of s0 w.state ∷ w.history.undo); redo = []; dropped = w.history.dropped || nat_le w.history.depth (length w.history.undo) }
 unfolding recorded with_entry
 made_recorded s0 Closed w t r some = absurd (let t' = t in cc)
-made_recorded s0 (Begun ys) w t r some = rw (some_edits w.state.edits some) refl
+made_recorded s0 (Begun ys) w t r some = rw (some_edits (length w.state.edits) some) refl
 made_recorded s0 (Resumed ys) w t r some = absurd (cc)
 
 -- the document of the document is the document
@@ -99,6 +100,7 @@ module _ (d : Inside) (law : IsArena d.arena) (ok : Ok d) (opened : IsTrue (is_o
         settings = ok.lawful.settings;
         nodes = ok.nodes;
         chars = ok.chars;
+        depth = ok.depth;
         undo = subst (λ n. UndoSound d.arena.held d.points.names false c n d.arena.trees log.undo us) (sym ended.start) undo;
         redo = subst (λ es. RedoSound d.arena.held d.points.names c d.arena.trees es []) (sym redo) tt;
         us_room_is = ok.us_room_is ∙ sym depth;
@@ -119,7 +121,8 @@ module _ (d : Inside) (law : IsArena d.arena) (ok : Ok d) (opened : IsTrue (is_o
             start = d.arena.next;
             host = None;
             keeping = false;
-            edits = 0;
+            edits = [];
+            made = [];
           })
           ∙ ap (λ (w : Whole). rested w.state) sees)
 
@@ -184,7 +187,7 @@ module _ (d : Inside) (law : IsArena d.arena) (ok : Ok d) (opened : IsTrue (is_o
           subst (λ bs. UndoSound d.arena.held d.points.names false c d.arena.next d.arena.trees (take d.log.depth (steps ∷ d.log.undo)) bs) (sym is) all
 
       pub begun_history : 0 < length steps → (v : Whole) → seen d ≡ v →
-          history_of d.points.names d.arena.trees (record d.log { undo = take d.log.depth (steps ∷ d.log.undo); redo = []; open_entry = Closed }) us [] ≡ history_committed v
+          history_of d.points.names d.arena.trees (record d.log { undo = take d.log.depth (steps ∷ d.log.undo); redo = []; open_entry = Closed; dropped = d.log.dropped || nat_le d.log.depth (length d.log.undo) }) us [] ≡ history_committed v
       unfolding history_committed
       begun_history some v sees =
           let f = d.arena.trees in
@@ -192,9 +195,10 @@ module _ (d : Inside) (law : IsArena d.arena) (ok : Ok d) (opened : IsTrue (is_o
           let is : us ≡ take d.log.depth (h.0 ∷ d.undo_sides.items) = h.3 ∙ ap (λ n. take n (h.0 ∷ d.undo_sides.items)) ok.us_room_is in
           let was = ap (λ (s : Sides). view_at d.points.names before s.before) h.1 ∙ view_before in
           let now = ap (λ (s : Sides). view_at d.points.names f s.after) h.1 ∙ view_now in
-          let entries : undo_entries d.points.names f (take d.log.depth (steps ∷ d.log.undo)) us ≡ take d.log.depth (record { before = view_of state_before; after = view_of state_now; edits = length steps } ∷ undo_entries d.points.names before d.log.undo d.undo_sides.items) =
+          let made_is = ap (λ (s : Sides). used (edits_before steps f) (roots_from s.first_label before)) h.1 in
+          let entries : undo_entries d.points.names f (take d.log.depth (steps ∷ d.log.undo)) us ≡ take d.log.depth (entry_of state_before state_now ∷ undo_entries d.points.names before d.log.undo d.undo_sides.items) =
           ap (undo_entries d.points.names f (take d.log.depth (steps ∷ d.log.undo))) is
           ∙ (undo_entries-take d.points.names d.log.depth f (steps ∷ d.log.undo) (h.0 ∷ d.undo_sides.items)
-          ∙ (λ i. take d.log.depth (record { before = was i; after = now i; edits = length steps } ∷ undo_entries d.points.names before d.log.undo d.undo_sides.items))) in
-          (λ i. record { undo = entries i; redo = []; depth = d.log.depth })
-          ∙ (sym (made_recorded state_before d.log.open_entry (seen d) opened begun some) ∙ ap history_committed sees)
+          ∙ (λ i. take d.log.depth (record { before = was i; after = now i; edits = edits_before steps f; made = made_is i } ∷ undo_entries d.points.names before d.log.undo d.undo_sides.items))) in
+          (λ i. record { undo = entries i; redo = []; depth = d.log.depth; dropped = d.log.dropped || nat_le d.log.depth (undo_count d (seen d) refl ok i) })
+          ∙ (sym (made_recorded state_before d.log.open_entry (seen d) opened begun (subst (λ n. 0 < n) (sym (count_edits steps d.arena.trees)) some)) ∙ ap history_committed sees)

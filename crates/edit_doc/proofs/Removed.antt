@@ -1,9 +1,9 @@
 -- An edit that removes a tree, which becomes loose.
 use Rattle.live_range.specs.Edit.{has_label}
-use Rattle.std.proofs.Common.{◌≡◌, ◌+◌, ◌<◌, true, false, List, [], ◌∷◌, ◌++◌, length, Option, Some, None, refl, sym, ap, subst, ◌∙◌, arith, inl, inr}
+use Rattle.std.proofs.Common.{◌≡◌, ℕ, zero, suc, ◌+◌, ◌<◌, ◌≤◌, true, false, List, [], ◌∷◌, ◌++◌, length, Option, Some, None, refl, sym, ap, subst, ◌∙◌, arith, inl, inr}
 use Rattle.std.specs.Prelude.{IsSome, unwrap_or}
 use Rattle.dom_model.specs.declared.Content.{Content}
-use Rattle.dom_model.specs.Document.{node_count, char_count}
+use Rattle.dom_model.specs.Document.{node_count, char_count, page_depth}
 use Rattle.dom_model.specs.Forest.{Forest, preorder, tree_of, parent_of, next_of, unlink}
 use Rattle.dom_model.specs.Places.{index_of}
 use Rattle.dom_model.specs.Shed.{shed}
@@ -21,7 +21,7 @@ use Rattle.edit_steps.specs.declared.step.Step.TheVariants.{Unlink}
 use Rattle.edit_steps.specs.Step.{StepFits, change_of, step_applied, step_turned}
 use Rattle.undo_log.specs.Log.{Log, with_step}
 use Rattle.edit_model.specs.declared.settings.Setting.{Setting}
-use Rattle.edit_model.specs.Edit.{Remove, is_made_edit, trees_after, points_after}
+use Rattle.edit_model.specs.Edit.{Remove, is_made_edit, change_of as edit_change, trees_after, points_after}
 use Rattle.edit_model.specs.Confined.{may_leave, may_remove}
 use Rattle.edit_model.specs.Gives.{label_of}
 use Rattle.edit_parts.specs.declared.Counts.{Counts}
@@ -34,6 +34,8 @@ use Rattle.edit_doc.proofs.Changing.{Follows, run}
 use Rattle.edit_doc.proofs.Edited.{Makes, Done, edit_called}
 use Rattle.edit_doc.proofs.Inner.{seen, Ok, open_of}
 use Rattle.edit_doc.proofs.SeenLookUps.{index_left}
+use Rattle.edit_doc.proofs.Rests.{arena_forest}
+use Rattle.edit_doc.proofs.Raised.{unlinked_depth}
 use Rattle.edit_doc.proofs.SeenNodes.{out_of, held_seen, parent_seen}
 use Rattle.edit_doc.proofs.Settling.{overrides_next, overrides_are}
 
@@ -121,22 +123,35 @@ module _ (d : Inside) (law : IsArena d.arena) (v : Whole) (is : seen d ≡ v) (n
       unfolding applied
       unlinked = refl
 
+      depth_is : (new : ℕ) → new ≡ d.counts.depth → page_depth (applied (Loosen node.label) f) ≤ new
+      depth_is new same =
+          let low = unlinked_depth f d.arena.next (arena_forest d.arena law) node.label (inner_child node.label up) in
+          subst (λ t. page_depth t ≤ new) unlinked (omega (arith, low, ok.depth, same))
+        where
+          -- a node with a parent isn't the document
+          inner_child : (l : ℕ) → parent_of f l ≡ Some parent.label → 0 < l
+          inner_child zero child = absurd (let t : None ≡ Some parent.label = sym law.root ∙ child in cc)
+          inner_child (suc l) child = omega arith
+
       module _ (points : LivePoints) (overrides : List Setting) (counts : Counts) (b c : Command) (o : Option NodeRef) (next : label_of o ≡ next_of d.arena.trees node.label)
           (same : record b { left = d.command.left } ≡ d.command) (pushed : b.left.items ≡ d.command.left.items ++ node ∷ []) (m : Marks (place_labels node parent o) b c)
           (points_is : points ≡ mapped (range.Removed (preorder (tree_of d.arena.trees node.label)) parent.label (index_of d.arena.trees node.label)) d.points)
           (overrides_is : overrides ≡ overrides_next d v is law now_open ok (Remove node.label) (Unlink node) fits left (may_remove_here may) trees)
-          (nodes : counts.nodes ≡ node_count (unlink d.arena.trees node.label)) (chars : counts.chars ≡ char_count (unlink d.arena.trees node.label)) where
+          (nodes : counts.nodes ≡ node_count (unlink d.arena.trees node.label)) (chars : counts.chars ≡ char_count (unlink d.arena.trees node.label)) (depth : counts.depth ≡ d.counts.depth) where
         removes : Makes d (Remove node.label) (Unlink node) points overrides counts c
+        unfolding edit_change
         removes = record {
           fits = fits;
           seen = left;
           follows = follows d.command b c node parent o f same pushed up next m;
           names = ap (λ (p : LivePoints). p.names) points_is;
+          change = refl;
           trees = trees;
           points_are = points_is ∙ points_are;
           overrides_are = overrides_is ∙ overrides_are d v is law now_open ok (Remove node.label) (Unlink node) fits left (may_remove_here may) trees;
           nodes = nodes ∙ ap node_count unlinked;
           chars = chars ∙ ap char_count unlinked;
+          depth = depth_is counts.depth depth;
         }
 
         pub remove_done : (arena : Arena) (log : Log Step) → arena ≡ step_applied (Unlink node) d.arena → log ≡ with_step d.log (step_turned (Unlink node) d.arena) → Done d v (Remove node.label) arena points overrides counts c log

@@ -1,13 +1,13 @@
 -- An edit that replaces characters of a text.
 use Rattle.live_range.specs.Edit.{has_label}
-use Rattle.std.proofs.Common.{◌≡◌, ℕ, ◌<◌, ◌^◌, Bool, true, false, List, [], ◌∷◌, length, Some, refl, sym, ap, subst, ◌∙◌, arith, inl, inr}
+use Rattle.std.proofs.Common.{◌≡◌, ℕ, ◌<◌, ◌^◌, Bool, true, false, List, [], ◌∷◌, length, Some, unwrap_or, refl, sym, ap, subst, ◌∙◌, arith, inl, inr}
 use Rattle.std.specs.Prelude.{◌&&◌}
-use Rattle.std.specs.Option.{option_map_or}
+use Rattle.std.specs.Option.{option_map_or, option_and_then}
 use Rattle.std.proofs.lemmas.List.{append-nil}
 use Rattle.dom_model.specs.declared.Content.{Content}
 use Rattle.dom_model.specs.declared.Content.TheVariants.{Words}
-use Rattle.dom_model.specs.Contents.{has_chars, with_chars}
-use Rattle.dom_model.specs.Document.{node_count, char_count}
+use Rattle.dom_model.specs.Contents.{has_chars, chars_in, chars_of, with_chars}
+use Rattle.dom_model.specs.Document.{node_count, char_count, page_depth}
 use Rattle.dom_model.specs.Forest.{Forest, total, content_of, tree_of}
 use Rattle.dom_model.specs.Revised.{revised}
 use Rattle.dom_model.specs.Shed.{shed}
@@ -28,8 +28,8 @@ use Rattle.edit_steps.specs.Step.{StepFits, change_of, step_applied, step_turned
 use Rattle.undo_log.specs.Log.{Log, with_step}
 use Rattle.edit_model.specs.declared.settings.Setting.{Setting}
 use Rattle.edit_model.specs.State.{State}
-use Rattle.edit_model.specs.Edit.{Replace, is_made_edit, trees_after, points_after, with_replaced}
-use Rattle.edit_model.specs.Confined.{is_own, may_change, may_replace}
+use Rattle.edit_model.specs.Edit.{Replace, is_made_edit, change_of as edit_change, trees_after, points_after, with_replaced}
+use Rattle.edit_model.specs.Confined.{is_own, spliced, may_change, may_replace}
 use Rattle.edit_model.proofs.Fitting.{fits-replace}
 use Rattle.edit_parts.specs.declared.Counts.{Counts}
 use Rattle.edit_doc.specs.declared.Doc.TheInside.{Inside}
@@ -38,6 +38,8 @@ use Rattle.edit_doc.specs.Whole.{Whole, IsOpen}
 use Rattle.edit_doc.specs.Held.{Holds}
 use Rattle.edit_doc.specs.Marks.{Marks}
 use Rattle.edit_doc.proofs.Attributed.{revised_same}
+use Rattle.edit_doc.proofs.Rests.{arena_forest}
+use Rattle.edit_doc.proofs.Raised.{revised_depth}
 use Rattle.edit_doc.proofs.Changing.{Follows}
 use Rattle.edit_doc.proofs.Edited.{Makes, Done, edit_called}
 use Rattle.edit_doc.proofs.Inner.{seen, Ok}
@@ -118,9 +120,24 @@ module _ (d : Inside) (law : IsArena d.arena) (v : Whole) (is : seen d ≡ v) (n
     trees = revised_same g node.label (with_chars words) (with_replaced at count put) con (IsDistinct-shed (out_of d) d.arena.trees law.distinct)
         (content_of-shed (out_of d) d.arena.trees node.label (forest_of d.arena law) (held_seen d v is node holds).here ∙ content) same
 
+    words_same : words ≡ spliced (unwrap_or (chars_of g node.label) []) at count put
+    words_same =
+        let seen_here : content_of g node.label ≡ Some (Words t.chars) = content_of-shed (out_of d) d.arena.trees node.label (forest_of d.arena law) (held_seen d v is node holds).here ∙ (content ∙ ap Some con_is) in
+        let both : Words words ≡ Words (spliced t.chars at count put) = words_are ∙ ap (with_replaced at count put) con_is in
+        let own_is : words ≡ spliced t.chars at count put = cc in
+        own_is ∙ sym (ap (λ o. spliced (unwrap_or (option_and_then chars_in o) []) at count put) seen_here)
+
+    change_is : change_of (Rewords node words) ≡ edit_change (Replace node.label at count put) g
+    unfolding edit_change
+    change_is = ap (Rewrite node.label) words_same
+
     nodes_same : node_count (applied (Rewrite node.label words) d.arena.trees) ≡ node_count d.arena.trees
     unfolding applied
     nodes_same = ap (total (λ _ _. 1)) (tree_of-revised node.label (with_chars words) d.arena.trees 0) ∙ total-revised node.label (with_chars words) (λ _. 1) (tree_of d.arena.trees 0)
+
+    depth_same : page_depth (applied (Rewrite node.label words) d.arena.trees) ≡ page_depth d.arena.trees
+    unfolding applied
+    depth_same = revised_depth d.arena.trees d.arena.next (arena_forest d.arena law) node.label (with_chars words)
 
     chars_same : char_count (revised d.arena.trees node.label (with_replaced at count put)) ≡ char_count (applied (Rewrite node.label words) d.arena.trees)
     unfolding applied
@@ -133,18 +150,20 @@ module _ (d : Inside) (law : IsArena d.arena) (v : Whole) (is : seen d ≡ v) (n
     module _ (points : LivePoints) (overrides : List Setting) (counts : Counts) (c : Command) (m : Marks (node.label ∷ []) d.command c)
         (points_is : points ≡ mapped (range.Replaced node.label at count (length put)) d.points)
         (overrides_is : overrides ≡ overrides_next d v is law now_open ok (Replace node.label at count put) (Rewords node words) fits left (may_replace_here own change) trees)
-        (nodes : counts.nodes ≡ d.counts.nodes) (chars : counts.chars ≡ char_count (revised d.arena.trees node.label (with_replaced at count put))) where
+        (nodes : counts.nodes ≡ d.counts.nodes) (depth : counts.depth ≡ d.counts.depth) (chars : counts.chars ≡ char_count (revised d.arena.trees node.label (with_replaced at count put))) where
       replaces : Makes d (Replace node.label at count put) (Rewords node words) points overrides counts c
       replaces = record {
         fits = fits;
         seen = left;
         follows = follows d.command c node.label words d.arena.trees m;
         names = ap (λ (p : LivePoints). p.names) points_is;
+        change = change_is;
         trees = trees;
         points_are = points_is ∙ points_are;
         overrides_are = overrides_is ∙ overrides_are d v is law now_open ok (Replace node.label at count put) (Rewords node words) fits left (may_replace_here own change) trees;
         nodes = nodes ∙ (ok.nodes ∙ sym nodes_same);
         chars = chars ∙ chars_same;
+        depth = (let low = ok.depth in omega (arith, depth_same, low, depth));
       }
 
       pub replace_done : (arena : Arena) (log : Log Step) → arena ≡ step_applied (Rewords node words) d.arena → log ≡ with_step d.log (step_turned (Rewords node words) d.arena) → Done d v (Replace node.label at count put) arena points overrides counts c log

@@ -1,7 +1,7 @@
 -- A document outside commands.
-use Rattle.std.proofs.Common.{◌≡◌, ℕ, ◌<◌, false, List, [], length, Option, Some, None, IfSome, refl, sym, ap, subst, ◌∙◌, arith}
+use Rattle.std.proofs.Common.{◌≡◌, ℕ, ◌<◌, ◌≤◌, false, List, [], length, Option, Some, None, IfSome, refl, sym, ap, subst, ◌∙◌, arith}
 use Rattle.dom_model.specs.declared.Content.{Content}
-use Rattle.dom_model.specs.Document.{node_count, char_count}
+use Rattle.dom_model.specs.Document.{node_count, char_count, page_depth}
 use Rattle.dom_model.specs.Forest.{Forest, tops, times, count_of}
 use Rattle.dom_model.specs.Shed.{shed}
 use Rattle.dom_model.specs.State.{State as Arena, IsLawful as IsArena}
@@ -23,10 +23,11 @@ use Rattle.edit_model.proofs.Points.{points_left}
 use Rattle.edit_parts.specs.declared.Counts.{Counts}
 use Rattle.edit_doc.specs.declared.command.Beside.{Beside}
 use Rattle.edit_doc.specs.declared.command.Command.{Command}
-use Rattle.edit_doc.specs.History.{begun_forest, forest_before, is_hidden, seen_trees, state_of, begun_state, began_with, history_of, whole_of}
+use Rattle.edit_doc.specs.History.{edits_before, roots_from, begun_forest, forest_before, is_hidden, seen_trees, state_of, begun_state, began_with, history_of, whole_of}
 use Rattle.node_arena.specs.declared.NodeRef.{NodeRef}
 use Rattle.edit_doc.specs.Sound.{RefIn, IsIdle, OpenSound, UndoSound, RedoSound, AreNeeded, next_first, IsSound}
 use Rattle.edit_doc.proofs.HiddenTrees.{hidden_is, seen_at_rest, model_forest, placed-whole}
+use Rattle.edit_doc.proofs.MadeNodes.{no_edits, roots-none}
 
 pub arena_forest : (a : Arena) → IsArena a → IsForest a.trees a.next
 arena_forest a law = model_forest a.trees (forest_of a law) a.next law.below
@@ -50,7 +51,8 @@ rested_state a points overrides flags = record {
   start = a.next;
   host = None;
   keeping = false;
-  edits = 0;
+  edits = [];
+  made = [];
 }
 
 module _ (a : Arena) (points : LivePoints) (overrides : List Setting) (flags : Flags) (counts : Counts) (c : Command) (log : Log Step) (us rs : List Beside) (us_room rs_room : ℕ) where
@@ -64,6 +66,7 @@ module _ (a : Arena) (points : LivePoints) (overrides : List Setting) (flags : F
     pub settings : length overrides ≡ 32
     pub nodes : counts.nodes ≡ node_count a.trees
     pub chars : counts.chars ≡ char_count a.trees
+    pub depth : page_depth a.trees ≤ counts.depth
     pub undo : UndoSound a.held points.names false c (next_first c.start rs) a.trees log.undo us
     pub redo : RedoSound a.held points.names c a.trees log.redo rs
     pub us_room_is : us_room ≡ log.depth
@@ -88,7 +91,8 @@ module _ (a : Arena) (points : LivePoints) (overrides : List Setting) (flags : F
     start = r.idle.start i;
     host = label_of (r.idle.host i);
     keeping = r.idle.keeping i;
-    edits = length (noted (r.closed i));
+    edits = (ap (λ o. edits_before (noted o) a.trees) r.closed ∙ no_edits a.trees) i;
+    made = (ap (λ n. roots_from n (begun_forest log a.trees)) r.idle.start ∙ (ap (roots_from a.next) (forest_is r.closed) ∙ roots-none a.next a.trees r.law.below)) i;
   }
 
   pub rest_whole : AtRest → whole_of a points overrides flags c log us rs ≡ record {
@@ -122,6 +126,7 @@ module _ (a : Arena) (points : LivePoints) (overrides : List Setting) (flags : F
         some_label = (let s = r.idle.start in let t = r.law.below 0 r.law.document in omega arith);
         nodes = r.nodes;
         chars = r.chars;
+        depth = r.depth;
         hidden = λ l h. subst (λ g. 0 < times (tops g) l) e (hidden_is (begun_forest log a.trees) c.start l h).root;
         running = subst (λ o. OpenSound a points c (begun_forest log a.trees) o) (sym r.closed) r.idle;
         resumed = r.resumed ∙ ap is_resumed (sym r.closed);
@@ -148,6 +153,7 @@ module _ (a : Arena) (points : LivePoints) (overrides : List Setting) (flags : F
         settings = ok.lawful.settings;
         nodes = ok.nodes;
         chars = ok.chars;
+        depth = ok.depth;
         undo = subst (λ g. UndoSound a.held points.names false c (next_first c.start rs) g log.undo us) e (subst (λ b. UndoSound a.held points.names b c (next_first c.start rs) (begun_forest log a.trees) log.undo us) resumed ok.undo);
         redo = subst (λ g. RedoSound a.held points.names c g log.redo rs) e ok.redo;
         us_room_is = ok.us_room_is;

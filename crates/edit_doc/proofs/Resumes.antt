@@ -105,5 +105,6 @@ module _ (d : Inside) (law : IsArena d.arena) (closed : d.log.open_entry ≡ Clo
           undo = swapped_entries d.points.names d.arena.trees d.log.undo d.undo_sides.items us d.command m swaps i;
           redo = redo_entries d.points.names d.arena.trees d.log.redo d.redo_sides.items;
           depth = d.log.depth;
+          dropped = d.log.dropped;
         })
         ∙ ap (λ b. opened (label_of host) b true (seen d)) (s.keeping ∙ r.idle.keeping)

@@ -2,7 +2,7 @@
 use Rattle.std.proofs.Common.{◌≡◌, ℕ, ◌<◌, ◌≤◌, Bool, true, false, List, [], ◌∷◌, length, take, Option, Some, None, refl, sym, ap, subst, ◌∙◌, inl, inr, arith}
 use Rattle.std.specs.Prelude.{IsTrue, nat_le}
 use Rattle.dom_model.specs.declared.Content.{Content}
-use Rattle.dom_model.specs.Document.{node_count, char_count}
+use Rattle.dom_model.specs.Document.{node_count, char_count, page_depth}
 use Rattle.dom_model.specs.Forest.{Forest, tops, times, count_of, tree_of, parent_of, first_of, IsDistinct}
 use Rattle.dom_model.specs.Shed.{shed, IsWhole}
 use Rattle.dom_model.specs.State.{State as Arena, IsLawful as IsArena, IsSlotted}
@@ -31,7 +31,7 @@ use Rattle.edit_model.specs.declared.settings.Setting.{Setting}
 use Rattle.edit_model.specs.declared.settings.Flags.{Flags}
 use Rattle.edit_model.specs.State.{State}
 use Rattle.edit_model.specs.Lawful.{IsPlaced}
-use Rattle.edit_model.specs.History.{document_of}
+use Rattle.edit_model.specs.History.{used, document_of}
 use Rattle.edit_parts.specs.declared.Counts.{Counts}
 use Rattle.edit_doc.specs.declared.Doc.TheInside.{Inside}
 use Rattle.edit_doc.specs.declared.command.Beside.{Beside}
@@ -40,7 +40,7 @@ use Rattle.edit_doc.specs.declared.command.Command.{Command}
 use Rattle.edit_doc.specs.Fields.{IsEnded, ForgetsIn, Forgets}
 use Rattle.edit_doc.specs.Whole.{Whole, state_rolled_back, rolled_to}
 use Rattle.edit_doc.specs.Held.{KeepsThere}
-use Rattle.edit_doc.specs.History.{forest_before, forest_after, is_hidden, view_at, begun_forest, state_of, begun_state, began_with, history_of, undo_entries, redo_entries, whole_of}
+use Rattle.edit_doc.specs.History.{edits_before, roots_from, forest_before, forest_after, is_hidden, view_at, begun_forest, state_of, begun_state, began_with, history_of, undo_entries, redo_entries, whole_of}
 use Rattle.edit_doc.specs.Sound.{RefIn, AreFresh, AreAlone, IsSide, IsBeside, IsRunning, OpenSound, UndoSound, RedoSound, EntriesOff, AreNeeded, next_first, IsSound}
 use Rattle.edit_doc.proofs.HiddenTrees.{tops_left, le_false, true_le, false_le, document-shed, model_forest}
 use Rattle.edit_doc.proofs.Downs.{back_forest, back_bounded, forth_labels, back_labels, Bounded, KeepsLeft, EntriesLeft, side-shed, undo-shed, redo-shed, undo_entries-shed, redo_entries-shed}
@@ -55,8 +55,8 @@ use Rattle.edit_doc.proofs.Rests.{AtRest, rest_sound, rest_state, none_noted}
 pub beside_of : (names : List (List ℕ)) (before after : Forest Content) (e : List Step) (ts : List Change) (b c : Beside) (left : List NodeRef) (high start : ℕ) →
     b.sides ≡ c.sides → IsBeside names before after e ts b left high start → IsBeside names before after e ts c left high start
 beside_of names before after e ts b c left high start same h = record {
-  was = subst (λ (s : Sides). IsSide names before s.before s.nodes_before s.chars_before) same h.was;
-  is = subst (λ (s : Sides). IsSide names after s.after s.nodes_after s.chars_after) same h.is;
+  was = subst (λ (s : Sides). IsSide names before s.before s.nodes_before s.chars_before s.depth_before) same h.was;
+  is = subst (λ (s : Sides). IsSide names after s.after s.nodes_after s.chars_after s.depth_after) same h.is;
   some_label = subst (λ (s : Sides). 0 < s.first_label) same h.some_label;
   fresh = subst (λ (s : Sides). AreFresh before s.first_label) same h.fresh;
   drawn = subst (λ (s : Sides). s.first_label ≤ high) same h.drawn;
@@ -93,7 +93,8 @@ module _ (held : List (Option ℕ)) (names : List (List ℕ)) (c : Command) wher
   entries_forget true f (x ∷ es) (b ∷ bs) (b' ∷ bs') e = λ i. record {
     before = view_at names (forest_before x f) (e.1.0 i).before;
     after = view_at names f (e.1.0 i).after;
-    edits = length x;
+    edits = edits_before x f;
+    made = used (edits_before x f) (roots_from (e.1.0 i).first_label (forest_before x f));
   } ∷ undo_entries names (forest_before x f) es (e.0 i)
 
 -- ---- the running command
@@ -212,7 +213,7 @@ module _ (d : Inside) (law : IsArena d.arena) (ok : Ok d) (opened : IsTrue (is_o
     pub held : (q : NodeRef) → RefIn d.arena.held q → q.label < d.command.start → RefIn a.held q
 
   -- the fields afterwards
-  module _ (a : Arena) (w : Without a) (us : List Beside) (forgets : Forgets d.undo_sides.items us d.command) (c : Command) (ended : IsEnded a.next c) (log : Log Step) (closed : log.open_entry ≡ Closed) (depth : log.depth ≡ d.log.depth) (undo_is : log.undo ≡ d.log.undo) (redo_is : log.redo ≡ d.log.redo) where
+  module _ (a : Arena) (w : Without a) (us : List Beside) (forgets : Forgets d.undo_sides.items us d.command) (c : Command) (ended : IsEnded a.next c) (log : Log Step) (closed : log.open_entry ≡ Closed) (depth : log.depth ≡ d.log.depth) (dropped : log.dropped ≡ d.log.dropped) (undo_is : log.undo ≡ d.log.undo) (redo_is : log.redo ≡ d.log.redo) where
     keeps : KeepsLeft k g d.arena.held a.held
     keeps q h left = w.held q h (false_le d.command.start q.label (sheds_g.out q.label left))
 
@@ -244,9 +245,9 @@ module _ (d : Inside) (law : IsArena d.arena) (ok : Ok d) (opened : IsTrue (is_o
     high_known = next_first_low a.held d.points.names c a.trees d.log.redo d.redo_sides.items (redo_later a.held d.points.names d.command c start_le a.trees d.log.redo d.redo_sides.items redo_sound)
 
     pub without_rest : (points : LivePoints) (overrides : List Setting) (flags : Flags) (counts : Counts) →
-        points.names ≡ d.points.names → points.scratch ≡ None → IsPlaced a.trees points → length overrides ≡ 32 → counts.nodes ≡ node_count a.trees → counts.chars ≡ char_count a.trees →
+        points.names ≡ d.points.names → points.scratch ≡ None → IsPlaced a.trees points → length overrides ≡ 32 → counts.nodes ≡ node_count a.trees → counts.chars ≡ char_count a.trees → page_depth a.trees ≤ counts.depth →
         AtRest a points overrides flags counts c log us d.redo_sides.items d.undo_sides.capacity d.redo_sides.capacity
-    without_rest points overrides flags counts names scratch placed settings nodes chars = record {
+    without_rest points overrides flags counts names scratch placed settings nodes chars deep = record {
       law = w.lawful;
       closed = closed;
       idle = record {
@@ -263,6 +264,7 @@ module _ (d : Inside) (law : IsArena d.arena) (ok : Ok d) (opened : IsTrue (is_o
       settings = settings;
       nodes = nodes;
       chars = chars;
+      depth = deep;
       undo = subst (λ es. UndoSound a.held points.names false c (next_first c.start d.redo_sides.items) a.trees es us) (sym undo_is)
           (subst (λ ns. UndoSound a.held ns false c (next_first c.start d.redo_sides.items) a.trees d.log.undo us) (sym names)
           (undo_later a.held d.points.names d.command c start_le high (next_first c.start d.redo_sides.items) a.trees d.log.undo us high_le high_known undo_sound));
@@ -287,12 +289,14 @@ module _ (d : Inside) (law : IsArena d.arena) (ok : Ok d) (opened : IsTrue (is_o
           undo = undo_entries (same i) (w.trees i) (undo_is i) us;
           redo = redo_entries (same i) (w.trees i) (redo_is i) d.redo_sides.items;
           depth = depth i;
+          dropped = dropped i;
         })
         ∙ (λ i. record {
           undo = (entries_forget a.held d.points.names d.command d.command.resumed (shed k g) d.log.undo d.undo_sides.items us forgets
               ∙ undo_entries-shed k d.arena.held a.held d.points.names d.command d.command.resumed high g d.log.undo d.undo_sides.items sheds_g forest_g bound_g undo_left_g ok.undo) i;
           redo = redo_entries-shed k d.arena.held a.held d.points.names d.command g d.log.redo d.redo_sides.items sheds_g forest_g bound_g redo_left_g ok.redo i;
           depth = d.log.depth;
+          dropped = d.log.dropped;
         })
 
   -- ---- roll_back
@@ -333,17 +337,18 @@ module _ (d : Inside) (law : IsArena d.arena) (ok : Ok d) (opened : IsTrue (is_o
 
         resting : AtRest a3 kept_points d.command.kept.overrides.items d.command.kept.flags d.command.kept.counts c log' us d.redo_sides.items d.undo_sides.capacity d.redo_sides.capacity
         resting =
-            let side = side-shed k sheds_g.document d.points.names g d.command.kept.places d.command.kept.counts.nodes d.command.kept.counts.chars forest_g bound_g run.kept in
-            without_rest a3 rolled us forgets c ended log' refl refl refl refl kept_points d.command.kept.overrides.items d.command.kept.flags d.command.kept.counts
+            let side = side-shed k sheds_g.document d.points.names g d.command.kept.places d.command.kept.counts.nodes d.command.kept.counts.chars d.command.kept.counts.depth forest_g bound_g run.kept in
+            without_rest a3 rolled us forgets c ended log' refl refl refl refl refl kept_points d.command.kept.overrides.items d.command.kept.flags d.command.kept.counts
             refl side.resting
             (subst (λ t. IsPlaced t kept_points) (sym rolled.trees) side.placed)
             run.settings
             (side.nodes_are ∙ ap node_count (sym rolled.trees))
             (side.chars_are ∙ ap char_count (sym rolled.trees))
+            (subst (λ t. page_depth t ≤ d.command.kept.counts.depth) (sym rolled.trees) side.no_deeper)
 
         pub rolled_ok : IsSound a3 kept_points d.command.kept.overrides.items d.command.kept.flags d.command.kept.counts c log' us d.redo_sides.items d.undo_sides.capacity d.redo_sides.capacity
         rolled_ok = rest_sound a3 kept_points d.command.kept.overrides.items d.command.kept.flags d.command.kept.counts c log' us d.redo_sides.items d.undo_sides.capacity d.redo_sides.capacity resting
-            (without_needed a3 rolled us forgets c ended log' refl refl refl refl)
+            (without_needed a3 rolled us forgets c ended log' refl refl refl refl refl)
 
         begun_is : (o : Open Step) (s t : State) → IsTrue (is_open o) → t ≡ rolled_to s (began_with t o)
         begun_is Closed s t h = absurd (let h' = h in cc)
@@ -370,14 +375,15 @@ module _ (d : Inside) (law : IsArena d.arena) (ok : Ok d) (opened : IsTrue (is_o
               start = next_is i;
               host = None;
               keeping = false;
-              edits = 0;
+              edits = [];
+              made = [];
             })
             ∙ (begun_is d.log.open_entry (seen d).state (begun_state d.arena d.points.names d.command d.log) opened ∙ ap state_rolled_back sees))
 
         pub rolled_history : (v : Whole) → seen d ≡ v → history_of d.points.names (begun_forest log' a3.trees) log' us d.redo_sides.items ≡ v.history
         rolled_history v sees =
             ap (λ f. history_of d.points.names f log' us d.redo_sides.items) (none_noted log' a3.trees refl)
-            ∙ (without_history a3 rolled us forgets c ended log' refl refl refl refl d.points.names refl ∙ ap (λ (w : Whole). w.history) sees)
+            ∙ (without_history a3 rolled us forgets c ended log' refl refl refl refl refl d.points.names refl ∙ ap (λ (w : Whole). w.history) sees)
 
         by_left : (l : ℕ) → 0 < count_of a3.trees l → l < d.command.start
         by_left l here = false_le d.command.start l (sheds_g.out l (subst (λ t. 0 < count_of t l) rolled.trees here))

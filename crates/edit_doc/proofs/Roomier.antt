@@ -57,6 +57,7 @@ module _ (c : Command) (l : _) (e : (record c { left = l }).left.items ≡ c.lef
     some_label = ok.some_label;
     nodes = ok.nodes;
     chars = ok.chars;
+    depth = ok.depth;
     hidden = ok.hidden;
     running = opens a points (begun_forest log a.trees) log.open_entry ok.running;
     resumed = ok.resumed;

@@ -2,7 +2,7 @@
 use Rattle.std.proofs.Common.{◌≡◌, ℕ, ◌<◌, false, [], ◌∷◌, length, None, refl, sym, ap, subst, ◌∙◌, arith, zero, suc, eqb}
 use Rattle.std.proofs.lemmas.Bool.Decides.{nat_tests}
 use Rattle.dom_model.specs.declared.Content.{Content}
-use Rattle.dom_model.specs.Document.{node_count, char_count}
+use Rattle.dom_model.specs.Document.{node_count, char_count, page_depth}
 use Rattle.dom_model.specs.Forest.{Forest, tops, times}
 use Rattle.dom_model.specs.Forest.Forest.{Nil, Tree}
 use Rattle.dom_model.specs.State.{State as Arena, IsLawful as IsArena}
@@ -34,7 +34,7 @@ alone_is f next is h =
     none Nil e = refl
     none (Tree m c ks rest) e = absurd (omega (arith, e))
 
-module _ (a : Arena) (law : IsArena a) (loose : HasNoLoose a) (depth : ℕ) (counts : Counts) (nodes : counts.nodes ≡ node_count a.trees) (chars : counts.chars ≡ char_count a.trees) (c : Command) (ended : IsEnded a.next c) where
+module _ (a : Arena) (law : IsArena a) (loose : HasNoLoose a) (depth : ℕ) (counts : Counts) (nodes : counts.nodes ≡ node_count a.trees) (chars : counts.chars ≡ char_count a.trees) (deep : counts.depth ≡ page_depth a.trees) (c : Command) (ended : IsEnded a.next c) where
   abbrev flags : Flags
   flags = record { css_styling = false; paragraphs = false }
 
@@ -59,6 +59,7 @@ module _ (a : Arena) (law : IsArena a) (loose : HasNoLoose a) (depth : ℕ) (cou
     settings = unset_length;
     nodes = nodes;
     chars = chars;
+    depth = omega (arith, deep);
     undo = tt;
     redo = tt;
     us_room_is = refl;
@@ -89,9 +90,10 @@ module _ (a : Arena) (law : IsArena a) (loose : HasNoLoose a) (depth : ℕ) (cou
           start = a.next;
           host = None;
           keeping = false;
-          edits = 0;
+          edits = [];
+          made = [];
         };
-        history = record { undo = []; redo = []; depth = depth };
+        history = record { undo = []; redo = []; depth = depth; dropped = false };
         began = None;
         held = a.held;
       })

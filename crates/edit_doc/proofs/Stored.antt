@@ -1,7 +1,7 @@
 -- What the fields of a document tell of it as a whole.
-use Rattle.std.proofs.Common.{◌≡◌, ℕ, Option, Some, None, IfSome, refl, sym, ap, subst, ◌∙◌, arith}
+use Rattle.std.proofs.Common.{◌≡◌, ◌≤◌, ℕ, Option, Some, None, IfSome, refl, sym, ap, subst, ◌∙◌, arith}
 use Rattle.dom_model.specs.declared.Content.{Content}
-use Rattle.dom_model.specs.Document.{node_count, char_count}
+use Rattle.dom_model.specs.Document.{node_count, char_count, page_depth}
 use Rattle.dom_model.specs.Forest.{Forest, tree_of}
 use Rattle.dom_model.specs.State.{IsLawful as IsArena}
 use Rattle.live_range.specs.LivePoints.{LivePoints}
@@ -15,7 +15,7 @@ use Rattle.edit_doc.specs.declared.Doc.TheInside.{Inside}
 use Rattle.edit_doc.specs.Whole.{Whole, IsClosed, IsDoc}
 use Rattle.edit_doc.specs.Held.{Holds, Finds, IfHeld, IsPart}
 use Rattle.edit_doc.specs.Sound.{RefIn}
-use Rattle.edit_doc.proofs.HiddenTrees.{node_count-shed, char_count-shed, document_here}
+use Rattle.edit_doc.proofs.HiddenTrees.{node_count-shed, char_count-shed, page_depth-shed, document_here}
 use Rattle.edit_doc.proofs.Inner.{seen, Ok, closed_of}
 use Rattle.edit_doc.proofs.Laid.{undo_count}
 use Rattle.edit_doc.proofs.Rests.{arena_forest, rested_state, rest_state, rest_of}
@@ -56,6 +56,9 @@ module _ (d : Inside) (law : IsArena d.arena) (ok : Ok d) where
 
   pub chars_are : (v : Whole) → seen d ≡ v → d.counts.chars ≡ char_count v.state.trees
   chars_are v is = subst (λ (w : Whole). d.counts.chars ≡ char_count w.state.trees) is (ok.chars ∙ sym (char_count-shed d.arena.trees d.arena.next (arena_forest d.arena law) (out_of d) refl))
+
+  pub depth_is : (v : Whole) → seen d ≡ v → page_depth v.state.trees ≤ d.counts.depth
+  depth_is v is = subst (λ (w : Whole). page_depth w.state.trees ≤ d.counts.depth) is (subst (λ n. n ≤ d.counts.depth) (sym (page_depth-shed d.arena.trees d.arena.next (arena_forest d.arena law) (out_of d) refl)) ok.depth)
 
   pub document_held : (v : Whole) → seen d ≡ v → (r : NodeRef) → r.label ≡ 0 → HoldsNode d.arena r → Holds v r
   document_held v is r e held = subst (λ w. Holds w r) is (record {

@@ -2,6 +2,7 @@
 use Rattle.std.proofs.Common.{◌≡◌, ℕ, zero, suc, ◌<◌, ◌≤◌, true, false, List, [], ◌∷◌, length, take, drop, Some, None, refl, sym, ap, subst, ◌∙◌, arith}
 use Rattle.std.specs.Prelude.{slice_get}
 use Rattle.dom_model.specs.declared.Content.{Content}
+use Rattle.dom_model.specs.Document.{page_depth}
 use Rattle.dom_model.specs.Forest.{Forest, tops, times, count_of, tree_of}
 use Rattle.dom_model.specs.State.{State as Arena, IsLawful as IsArena, IsSlotted}
 use Rattle.live_range.specs.LivePoints.{LivePoints}
@@ -19,13 +20,13 @@ use Rattle.edit_steps.specs.declared.step.Step.{Step}
 use Rattle.edit_steps.specs.Step.{changes_of, step_applied, step_turned, StepFits, GoBack, GoForth}
 use Rattle.edit_steps.proofs.StepLists.{go_back, go_forth, back_fits, forth_fits}
 use Rattle.edit_model.specs.Overrides.{no_overrides}
-use Rattle.edit_model.specs.History.{document_of, at_view, undone_state as undone_doc, undone_history, redone_state as redone_doc, redone_history, undone_state_by, undone_history_by, redone_state_by, redone_history_by}
+use Rattle.edit_model.specs.History.{used, document_of, at_view, undone_state as undone_doc, undone_history, redone_state as redone_doc, redone_history, undone_state_by, undone_history_by, redone_state_by, redone_history_by}
 use Rattle.node_arena.specs.declared.NodeRef.{NodeRef}
 use Rattle.edit_parts.specs.declared.Counts.{Counts}
 use Rattle.edit_doc.specs.declared.Doc.TheInside.{Inside}
 use Rattle.edit_doc.specs.declared.command.Beside.{Beside}
 use Rattle.edit_doc.specs.Whole.{Whole}
-use Rattle.edit_doc.specs.History.{forest_before, forest_after, is_hidden, undo_entries, redo_entries, whole_of, view_at}
+use Rattle.edit_doc.specs.History.{edits_before, roots_from, forest_before, forest_after, is_hidden, undo_entries, redo_entries, whole_of, view_at}
 use Rattle.edit_doc.specs.Sound.{CanGoBack, CanGoForth, IsOff, EntriesOff, AreNeeded, IsBeside, UndoSound, RedoSound, next_first, IsSound}
 use Rattle.edit_doc.proofs.HiddenTrees.{hidden_is, top_loose}
 use Rattle.edit_doc.proofs.Inner.{seen, Ok}
@@ -42,16 +43,6 @@ sheds_before before first is = sheds_roots (is_hidden before first) before is re
 pub sheds_after : (before after : Forest Content) (first : ℕ) → IsForest after → ((l : ℕ) → is_hidden before first l ≡ true → 0 < times (tops after) l) → Sheds (is_hidden before first) after
 sheds_after before after first is roots = sheds_roots (is_hidden before first) after is refl (λ l h. top_loose after l is.distinct (roots l h))
 
-len_back : (xs : List Step) (a : Arena) → length (inverses_back step_applied step_turned xs a) ≡ length xs
-unfolding inverses_back
-len_back [] a = refl
-len_back (x ∷ xs) a = ap suc (len_back xs a)
-
-len_forth : (xs : List Step) (a : Arena) → length (inverses_forth step_applied step_turned xs a) ≡ length xs
-unfolding inverses_forth
-len_forth [] a = refl
-len_forth (x ∷ xs) a = ap suc (len_forth xs (step_applied x a))
-
 module _ (a : Arena) (is : IsForest a.trees) (slotted : IsSlotted a) (names : List (List ℕ)) (e : List Step) (b : Beside) (left : List NodeRef) (high start : ℕ) where
   pub record TakenBack (t : List Step) : Type 0 where
     pub arena : back step_applied e a ≡ record a { trees = forest_before e a.trees }
@@ -59,7 +50,7 @@ module _ (a : Arena) (is : IsForest a.trees) (slotted : IsSlotted a) (names : Li
     pub again : forest_after t (forest_before e a.trees) ≡ a.trees
     pub beside : IsBeside names (forest_before e a.trees) (forest_after t (forest_before e a.trees)) t (inverses_forth applied turned (changes_of t) (forest_before e a.trees)) b left high start
     pub steps : inverses_forth applied turned (changes_of t) (forest_before e a.trees) ≡ changes_of e
-    pub same_length : length t ≡ length e
+    pub own : changes_of t ≡ edits_before e a.trees
 
   pub taken_back : CanGoBack a.held e a.trees → IsBeside names (forest_before e a.trees) a.trees e (inverses_back applied turned (changes_of e) a.trees) b left high start → TakenBack (inverses_back step_applied step_turned e a)
   taken_back can h =
@@ -95,7 +86,7 @@ module _ (a : Arena) (is : IsForest a.trees) (slotted : IsSlotted a) (names : Li
         again = again;
         beside = subst (λ x. IsBeside names g x t (inverses_forth applied turned (changes_of t) g) b left high start) (sym again) (subst (λ ts. IsBeside names g f t ts b left high start) (sym turns) own);
         steps = turns;
-        same_length = len_back e a;
+        own = gb.turns;
       }
 
   pub record TakenForth (t : List Step) : Type 0 where
@@ -104,7 +95,6 @@ module _ (a : Arena) (is : IsForest a.trees) (slotted : IsSlotted a) (names : Li
     pub again : forest_before t (forest_after e a.trees) ≡ a.trees
     pub beside : IsBeside names (forest_before t (forest_after e a.trees)) (forest_after e a.trees) t (inverses_back applied turned (changes_of t) (forest_after e a.trees)) b left high start
     pub steps : inverses_back applied turned (changes_of t) (forest_after e a.trees) ≡ changes_of e
-    pub same_length : length t ≡ length e
 
   pub taken_forth : CanGoForth a.held e a.trees → IsBeside names a.trees (forest_after e a.trees) e (inverses_forth applied turned (changes_of e) a.trees) b left high start → TakenForth (inverses_forth step_applied step_turned e a)
   taken_forth can h =
@@ -140,7 +130,6 @@ module _ (a : Arena) (is : IsForest a.trees) (slotted : IsSlotted a) (names : Li
         again = again;
         beside = subst (λ x. IsBeside names x g t (inverses_back applied turned (changes_of t) g) b left high start) (sym again) (subst (λ ts. IsBeside names f g t ts b left high start) (sym turns) own);
         steps = turns;
-        same_length = len_forth e a;
       }
 
 -- ---- lists
@@ -208,6 +197,7 @@ module _ (d : Inside) (v : Whole) (sees : seen d ≡ v) (law : IsArena d.arena) 
       undo = undo_entries d.points.names d.arena.trees es bs;
       redo = redo_entries d.points.names d.arena.trees fs cs;
       depth = d.log.depth;
+      dropped = d.log.dropped;
     };
     began = None;
     held = d.arena.held;
@@ -220,12 +210,12 @@ module _ (d : Inside) (v : Whole) (sees : seen d ≡ v) (law : IsArena d.arena) 
   undo_whole w = record w { state = undone_doc w.history w.state; history = undone_history w.history }
 
   undo_go : (e : List Step) (es : List (List Step)) (b : Beside) (bs : List Beside) → d.log.undo ≡ e ∷ es → d.undo_sides.items ≡ b ∷ bs →
-      IsArena (record d.arena { trees = forest_before e d.arena.trees }) → (counts : Counts) → counts.nodes ≡ b.sides.nodes_before → counts.chars ≡ b.sides.chars_before →
+      IsArena (record d.arena { trees = forest_before e d.arena.trees }) → (counts : Counts) → counts.nodes ≡ b.sides.nodes_before → counts.chars ≡ b.sides.chars_before → counts.depth ≡ b.sides.depth_before →
       Turned (record d.arena { trees = forest_before e d.arena.trees }) (shown d.points.names b.sides.before) counts
       (record d.log { undo = es; redo = inverses_back step_applied step_turned e d.arena ∷ d.log.redo }) bs (b ∷ d.redo_sides.items)
       (undo_whole (seen d))
   unfolding undone_doc undone_history at_view
-  undo_go e es b bs eu su law' counts nodes chars =
+  undo_go e es b bs eu su law' counts nodes chars depth =
       let f = d.arena.trees in
       let g = forest_before e f in
       let high = next_first d.command.start d.redo_sides.items in
@@ -252,6 +242,7 @@ module _ (d : Inside) (v : Whole) (sees : seen d ≡ v) (law : IsArena d.arena) 
         settings = unset_length;
         nodes = nodes ∙ h.1.0.was.nodes_are;
         chars = chars ∙ h.1.0.was.chars_are;
+        depth = subst (λ n. page_depth g ≤ n) (sym depth) h.1.0.was.no_deeper;
         undo = h.1.1;
         redo = (tb.can, (tb.beside, subst (λ x. RedoSound d.arena.held d.points.names d.command x d.log.redo d.redo_sides.items) (sym tb.again) at_rest.redo));
         us_room_is = at_rest.us_room_is;
@@ -279,16 +270,19 @@ module _ (d : Inside) (v : Whole) (sees : seen d ≡ v) (law : IsArena d.arena) 
                 start = d.arena.next;
                 host = None;
                 keeping = false;
-                edits = 0;
+                edits = [];
+                made = [];
               };
               history = record {
                 undo = undo_entries d.points.names g es bs;
                 redo = record {
                   before = view_at d.points.names g b.sides.before;
                   after = view_at d.points.names (tb.again i) b.sides.after;
-                  edits = tb.same_length i;
+                  edits = tb.own i;
+                  made = used (tb.own i) (roots_from b.sides.first_label g);
                 } ∷ redo_entries d.points.names (tb.again i) d.log.redo d.redo_sides.items;
                 depth = d.log.depth;
+                dropped = d.log.dropped;
               };
               began = None;
               held = d.arena.held;
@@ -299,12 +293,12 @@ module _ (d : Inside) (v : Whole) (sees : seen d ≡ v) (law : IsArena d.arena) 
   redo_whole w = record w { state = redone_doc w.history w.state; history = redone_history w.history }
 
   redo_go : (e : List Step) (es : List (List Step)) (b : Beside) (bs : List Beside) → d.log.redo ≡ e ∷ es → d.redo_sides.items ≡ b ∷ bs →
-      IsArena (record d.arena { trees = forest_after e d.arena.trees }) → (counts : Counts) → counts.nodes ≡ b.sides.nodes_after → counts.chars ≡ b.sides.chars_after →
+      IsArena (record d.arena { trees = forest_after e d.arena.trees }) → (counts : Counts) → counts.nodes ≡ b.sides.nodes_after → counts.chars ≡ b.sides.chars_after → counts.depth ≡ b.sides.depth_after →
       Turned (record d.arena { trees = forest_after e d.arena.trees }) (shown d.points.names b.sides.after) counts
       (record d.log { undo = inverses_forth step_applied step_turned e d.arena ∷ d.log.undo; redo = es }) (b ∷ d.undo_sides.items) bs
       (redo_whole (seen d))
   unfolding redone_doc redone_history at_view
-  redo_go e es b bs eu su law' counts nodes chars =
+  redo_go e es b bs eu su law' counts nodes chars depth =
       let f = d.arena.trees in
       let g = forest_after e f in
       let high = next_first d.command.start bs in
@@ -333,6 +327,7 @@ module _ (d : Inside) (v : Whole) (sees : seen d ≡ v) (law : IsArena d.arena) 
         settings = unset_length;
         nodes = nodes ∙ h.1.0.is.nodes_are;
         chars = chars ∙ h.1.0.is.chars_are;
+        depth = subst (λ n. page_depth g ≤ n) (sym depth) h.1.0.is.no_deeper;
         undo = (tb.can, (tb.beside, subst (λ x. UndoSound d.arena.held d.points.names false d.command b.sides.first_label x d.log.undo d.undo_sides.items) (sym tb.again) under));
         redo = h.1.1;
         us_room_is = at_rest.us_room_is;
@@ -360,16 +355,19 @@ module _ (d : Inside) (v : Whole) (sees : seen d ≡ v) (law : IsArena d.arena) 
                 start = d.arena.next;
                 host = None;
                 keeping = false;
-                edits = 0;
+                edits = [];
+                made = [];
               };
               history = record {
                 undo = record {
                   before = view_at d.points.names (tb.again i) b.sides.before;
                   after = view_at d.points.names g b.sides.after;
-                  edits = tb.same_length i;
+                  edits = tb.steps i;
+                  made = used (tb.steps i) (roots_from b.sides.first_label (tb.again i));
                 } ∷ undo_entries d.points.names (tb.again i) d.log.undo d.undo_sides.items;
                 redo = redo_entries d.points.names g es bs;
                 depth = d.log.depth;
+                dropped = d.log.dropped;
               };
               began = None;
               held = d.arena.held;
@@ -395,10 +393,10 @@ module _ (d : Inside) (v : Whole) (sees : seen d ≡ v) (law : IsArena d.arena) 
 
   pub undo_done : (a : Arena) (points : LivePoints) (counts : Counts) (log : Log Step) (us rs : List Beside) (b : Beside) → 0 < length d.log.undo → IsArena a →
       a ≡ undone_state step_applied d.log.undo d.arena → log ≡ undone step_applied step_turned d.log d.arena → points ≡ shown d.points.names b.sides.before →
-      counts.nodes ≡ b.sides.nodes_before → counts.chars ≡ b.sides.chars_before →
+      counts.nodes ≡ b.sides.nodes_before → counts.chars ≡ b.sides.chars_before → counts.depth ≡ b.sides.depth_before →
       us ≡ drop 1 d.undo_sides.items → Some b ≡ slice_get d.undo_sides.items 0 → rs ≡ take d.redo_sides.capacity (b ∷ d.redo_sides.items) →
       Turned a points counts log us rs (undo_whole v)
-  undo_done a points counts log us rs b more law' ea el ep nodes chars eus es' ers =
+  undo_done a points counts log us rs b more law' ea el ep nodes chars depth eus es' ers =
       let u = uncons d.log.undo more in
       let w = uncons d.undo_sides.items (let s = us_len in omega (arith, more, s)) in
       let same : b ≡ w.0 = some_eq b w.0 (es' ∙ ap (λ xs. slice_get xs 0) w.2) in
@@ -409,7 +407,7 @@ module _ (d : Inside) (v : Whole) (sees : seen d ≡ v) (law : IsArena d.arena) 
       let eus' : us ≡ w.1 = eus ∙ ap (drop 1) w.2 in
       let ers' : rs ≡ w.0 ∷ d.redo_sides.items = ers ∙ (take_whole d.redo_sides.capacity (b ∷ d.redo_sides.items) room ∙ ap (λ x. x ∷ d.redo_sides.items) same) in
       let ep' : points ≡ shown d.points.names w.0.sides.before = ep ∙ ap (λ (o : Beside). shown d.points.names o.sides.before) same in
-      let r = undo_go u.0 u.1 w.0 w.1 u.2 w.2 (subst IsArena ea' law') counts (nodes ∙ ap (λ (o : Beside). o.sides.nodes_before) same) (chars ∙ ap (λ (o : Beside). o.sides.chars_before) same) in
+      let r = undo_go u.0 u.1 w.0 w.1 u.2 w.2 (subst IsArena ea' law') counts (nodes ∙ ap (λ (o : Beside). o.sides.nodes_before) same) (chars ∙ ap (λ (o : Beside). o.sides.chars_before) same) (depth ∙ ap (λ (o : Beside). o.sides.depth_before) same) in
       subst (λ (x : Whole). Turned a points counts log us rs (undo_whole x)) sees (rw (ea', el', eus', ers', ep') r)
     where
       undone_is : (e : List Step) (es : List (List Step)) → d.log.undo ≡ e ∷ es → undone step_applied step_turned d.log d.arena ≡ record d.log { undo = es; redo = inverses_back step_applied step_turned e d.arena ∷ d.log.redo }
@@ -417,10 +415,10 @@ module _ (d : Inside) (v : Whole) (sees : seen d ≡ v) (law : IsArena d.arena) 
 
   pub redo_done : (a : Arena) (points : LivePoints) (counts : Counts) (log : Log Step) (us rs : List Beside) (b : Beside) → 0 < length d.log.redo → IsArena a →
       a ≡ redone_state step_applied d.log.redo d.arena → log ≡ redone step_applied step_turned d.log d.arena → points ≡ shown d.points.names b.sides.after →
-      counts.nodes ≡ b.sides.nodes_after → counts.chars ≡ b.sides.chars_after →
+      counts.nodes ≡ b.sides.nodes_after → counts.chars ≡ b.sides.chars_after → counts.depth ≡ b.sides.depth_after →
       rs ≡ drop 1 d.redo_sides.items → Some b ≡ slice_get d.redo_sides.items 0 → us ≡ take d.undo_sides.capacity (b ∷ d.undo_sides.items) →
       Turned a points counts log us rs (redo_whole v)
-  redo_done a points counts log us rs b more law' ea el ep nodes chars ers es' eus =
+  redo_done a points counts log us rs b more law' ea el ep nodes chars depth ers es' eus =
       let u = uncons d.log.redo more in
       let w = uncons d.redo_sides.items (let s = rs_len in omega (arith, more, s)) in
       let same : b ≡ w.0 = some_eq b w.0 (es' ∙ ap (λ xs. slice_get xs 0) w.2) in
@@ -431,7 +429,7 @@ module _ (d : Inside) (v : Whole) (sees : seen d ≡ v) (law : IsArena d.arena) 
       let ers' : rs ≡ w.1 = ers ∙ ap (drop 1) w.2 in
       let eus' : us ≡ w.0 ∷ d.undo_sides.items = eus ∙ (take_whole d.undo_sides.capacity (b ∷ d.undo_sides.items) room ∙ ap (λ x. x ∷ d.undo_sides.items) same) in
       let ep' : points ≡ shown d.points.names w.0.sides.after = ep ∙ ap (λ (o : Beside). shown d.points.names o.sides.after) same in
-      let r = redo_go u.0 u.1 w.0 w.1 u.2 w.2 (subst IsArena ea' law') counts (nodes ∙ ap (λ (o : Beside). o.sides.nodes_after) same) (chars ∙ ap (λ (o : Beside). o.sides.chars_after) same) in
+      let r = redo_go u.0 u.1 w.0 w.1 u.2 w.2 (subst IsArena ea' law') counts (nodes ∙ ap (λ (o : Beside). o.sides.nodes_after) same) (chars ∙ ap (λ (o : Beside). o.sides.chars_after) same) (depth ∙ ap (λ (o : Beside). o.sides.depth_after) same) in
       subst (λ (x : Whole). Turned a points counts log us rs (redo_whole x)) sees (rw (ea', el', eus', ers', ep') r)
     where
       redone_is : (e : List Step) (es : List (List Step)) → d.log.redo ≡ e ∷ es → redone step_applied step_turned d.log d.arena ≡ record d.log { undo = inverses_forth step_applied step_turned e d.arena ∷ d.log.undo; redo = es }

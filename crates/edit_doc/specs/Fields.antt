@@ -1,10 +1,14 @@
 -- What calls do to the fields of a running command and of what stands beside entries. No public clause cites this module.
-use Rattle.std.specs.Prelude.{◌≡◌, ℕ, ◌+◌, if◌then◌else◌, Bool, true, false, ◌||◌, nat_le, List, [], ◌∷◌, take, drop, slice_get, Option, None}
+use Rattle.std.specs.Prelude.{◌≡◌, ℕ, ◌+◌, ◌≤◌, min, if◌then◌else◌, Bool, true, false, ◌||◌, ◌&&◌, not, nat_le, List, [], ◌∷◌, take, drop, slice_get, Option, None}
+use Rattle.dom_model.specs.declared.Content.{Content}
+use Rattle.dom_model.specs.Forest.{Forest, depth_of, tree_of}
+use Rattle.dom_model.specs.Places.{levels}
 use Rattle.live_range.specs.declared.places.Places.{Places}
 use Rattle.live_range.specs.LivePoints.{LivePoints}
 use Rattle.live_range.specs.Edit.{has_label}
 use Rattle.live_range.specs.Names.{shown, IsOver}
 use Rattle.node_arena.specs.declared.NodeRef.{NodeRef}
+use Rattle.point_order.specs.PointOrder.{is_in_document}
 use Rattle.edit_model.specs.declared.settings.Setting.{Setting}
 use Rattle.edit_model.specs.declared.settings.Flags.{Flags}
 use Rattle.edit_model.specs.Gives.{labels_of}
@@ -67,10 +71,17 @@ made_sides c p counts = record {
   nodes_after = counts.nodes;
   chars_before = c.kept.counts.chars;
   chars_after = counts.chars;
+  depth_before = c.kept.counts.depth;
+  depth_after = counts.depth;
 }
 
 abbrev pub joined_sides : Sides → Places → Counts → Sides
-joined_sides s p counts = record s { after = p; nodes_after = counts.nodes; chars_after = counts.chars }
+joined_sides s p counts = record s {
+  after = p;
+  nodes_after = counts.nodes;
+  chars_after = counts.chars;
+  depth_after = counts.depth;
+}
 
 -- The command's entry is the first, in place of the one that it resumed, with these left trees. Where there are too many
 -- the oldest goes out.
@@ -86,3 +97,13 @@ Enters c left p counts room us new out = EntersIn c.resumed (made_sides c p coun
 -- a number of the document, with that of a tree if that comes into it
 abbrev pub with_more : Bool → ℕ → ℕ → ℕ
 with_more enters n more = if enters then n + more else n
+
+-- whether a tree that moves to a parent comes into the document
+abbrev pub comes_in : Forest Content → ℕ → ℕ → Bool
+comes_in f n p = not (is_in_document f n) && is_in_document f p
+
+-- the bound on the depth is no less than before, and no less than how deep the tree of n is below p if it comes to stand
+-- there in the document
+pub record IsRaised (f : Forest Content) (p n : ℕ) (there : Bool) (old new : ℕ) : Type 0 where
+  pub stays : old ≤ new
+  pub reach : there ≡ true → min (depth_of f p + levels (tree_of f n)) 4294967295 ≤ new

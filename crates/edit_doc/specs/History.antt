@@ -2,25 +2,27 @@
 --
 -- The history is computed: undoing the noted steps of the open entry gives the forest as the command began, and from there
 -- undoing, or redoing, an entry at a time gives the forest at each kept place of the history.
-use Rattle.std.specs.Prelude.{ℕ, Bool, false, true, ◌&&◌, nat_lt, List, [], ◌∷◌, length, map, Option, Some, None}
+use Rattle.std.specs.Prelude.{ℕ, Bool, false, true, ◌&&◌, nat_lt, nat_le, if◌then◌else◌, List, [], ◌∷◌, map, Option, Some, None}
 use Rattle.dom_model.specs.declared.Content.{Content}
+use Rattle.dom_model.specs.Change.{Change}
 use Rattle.dom_model.specs.Forest.{Forest, tops, times}
+use Rattle.dom_model.specs.Forest.Forest.{Nil, Tree}
 use Rattle.dom_model.specs.Shed.{shed}
 use Rattle.dom_model.specs.State.{State as Arena}
 use Rattle.live_range.specs.declared.places.Places.{Places}
 use Rattle.live_range.specs.LivePoints.{LivePoints}
 use Rattle.live_range.specs.Names.{shown, named, marks_of}
-use Rattle.undo_log.specs.Turning.{back, forth}
+use Rattle.undo_log.specs.Turning.{back, forth, inverses_back}
 use Rattle.undo_log.specs.Log.{Log, Open, noted}
 use Rattle.undo_log.specs.Log.Open.{Closed, Begun, Resumed}
-use Rattle.forest_changes.specs.Change.{applied}
+use Rattle.forest_changes.specs.Change.{applied, turned}
 use Rattle.edit_steps.specs.declared.step.Step.{Step}
 use Rattle.edit_steps.specs.Step.{changes_of}
 use Rattle.edit_model.specs.declared.settings.Setting.{Setting}
 use Rattle.edit_model.specs.declared.settings.Flags.{Flags}
 use Rattle.edit_model.specs.State.{State}
 use Rattle.edit_model.specs.Gives.{label_of}
-use Rattle.edit_model.specs.History.{View, Entry, History, document_of}
+use Rattle.edit_model.specs.History.{View, Entry, History, document_of, used}
 use Rattle.edit_doc.specs.declared.command.Beside.{Beside}
 use Rattle.edit_doc.specs.declared.command.Command.{Command}
 use Rattle.edit_doc.specs.Whole.{Began, Whole}
@@ -31,6 +33,15 @@ forest_before xs f = back applied (changes_of xs) f
 
 abbrev pub forest_after : List Step → Forest Content → Forest Content
 forest_after xs f = forth applied (changes_of xs) f
+
+-- the edits that the steps take back from the forest
+abbrev pub edits_before : List Step → Forest Content → List Change
+edits_before xs f = inverses_back applied turned (changes_of xs) f
+
+-- the roots of the trees from a label on, each with its content
+abbrev pub roots_from : ℕ → Forest Content → List (ℕ × Content)
+roots_from n Nil = []
+roots_from n (Tree l c ks rest) = if nat_le n l then (l, c) ∷ roots_from n rest else roots_from n rest
 
 -- the forest as the running command began, with the nodes that it made since, each alone in a loose tree; without a
 -- command, the forest itself
@@ -58,7 +69,8 @@ state_of a points overrides flags c log = record {
   start = c.start;
   host = label_of c.host;
   keeping = c.keeping;
-  edits = length (noted log.open_entry);
+  edits = edits_before (noted log.open_entry) a.trees;
+  made = roots_from c.start (begun_forest log a.trees);
 }
 
 -- the state as the running command began
@@ -73,7 +85,8 @@ begun_state a names c log = record {
   start = c.start;
   host = None;
   keeping = false;
-  edits = 0;
+  edits = [];
+  made = [];
 }
 
 abbrev pub began_with : State → Open Step → Option Began
@@ -94,7 +107,8 @@ undo_entries names f (e ∷ es) (b ∷ bs) =
     record {
       before = view_at names (forest_before e f) b.sides.before;
       after = view_at names f b.sides.after;
-      edits = length e;
+      edits = edits_before e f;
+      made = used (edits_before e f) (roots_from b.sides.first_label (forest_before e f));
     } ∷ undo_entries names (forest_before e f) es bs
 
 abbrev pub redo_entries : List (List ℕ) → Forest Content → List (List Step) → List Beside → List Entry
@@ -104,7 +118,8 @@ redo_entries names f (e ∷ es) (b ∷ bs) =
     record {
       before = view_at names f b.sides.before;
       after = view_at names (forest_after e f) b.sides.after;
-      edits = length e;
+      edits = changes_of e;
+      made = used (changes_of e) (roots_from b.sides.first_label f);
     } ∷ redo_entries names (forest_after e f) es bs
 
 abbrev pub history_of : List (List ℕ) → Forest Content → Log Step → List Beside → List Beside → History
@@ -112,6 +127,7 @@ history_of names f log us rs = record {
   undo = undo_entries names f log.undo us;
   redo = redo_entries names f log.redo rs;
   depth = log.depth;
+  dropped = log.dropped;
 }
 
 -- ---- the document

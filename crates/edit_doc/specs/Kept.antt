@@ -1,27 +1,27 @@
 -- Which nodes a document holds outside commands: those of the document, and the loose trees that kept entries need.
-use Rattle.std.specs.Prelude.{◌≡◌, ◌⊎◌, ℕ, ◌<◌, true, List, [], ◌∷◌, length, Some, None, slice_index_or}
+use Rattle.std.specs.Prelude.{◌≡◌, ◌⊎◌, ℕ, ◌<◌, true, List, [], ◌∷◌, Some, None, slice_index_or}
 use Rattle.dom_model.specs.declared.Content.{Content}
 use Rattle.dom_model.specs.Forest.{Forest, count_of, parent_of, IsWithin}
 use Rattle.dom_model.specs.State.{slot_of}
 use Rattle.live_range.specs.Edit.{has_label}
-use Rattle.undo_log.specs.Turning.{back, forth, FitsBack, FitsForth}
-use Rattle.forest_changes.specs.Change.{Change, IsForest, Fits, applied}
+use Rattle.undo_log.specs.Turning.{back, forth, inverses_back, FitsBack, FitsForth}
+use Rattle.forest_changes.specs.Change.{Change, IsForest, Fits, applied, turned}
 use Rattle.forest_changes.specs.Named.{named_in}
 use Rattle.edit_model.specs.History.{Entry, document_of}
 use Rattle.edit_doc.specs.Whole.{Whole}
 
--- the changes, as many as the entry has edits, lead from the forest with the document after it to one with the document
+-- the changes, which take back the edits of the entry, lead from the forest with the document after it to one with the document
 -- before it
 pub record LeadsBack (f : Forest Content) (xs : List Change) (e : Entry) : Type 0 where
   pub fits : FitsBack applied Fits xs f
-  pub count : length xs ≡ e.edits
+  pub own : inverses_back applied turned xs f ≡ e.edits
   pub after : e.after.document ≡ document_of f
   pub before : e.before.document ≡ document_of (back applied xs f)
 
--- and from one with the document before it to one with the document after it
+-- and the edits of the entry lead from one with the document before it to one with the document after it
 pub record LeadsForth (f : Forest Content) (xs : List Change) (e : Entry) : Type 0 where
   pub fits : FitsForth applied Fits xs f
-  pub count : length xs ≡ e.edits
+  pub own : xs ≡ e.edits
   pub before : e.before.document ≡ document_of f
   pub after : e.after.document ≡ document_of (forth applied xs f)
 

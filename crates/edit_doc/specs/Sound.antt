@@ -1,7 +1,7 @@
 -- What holds of the fields of every document under edits. No public clause cites this module.
 use Rattle.std.specs.Prelude.{◌≡◌, ◌⊎◌, ℕ, ◌+◌, ◌<◌, ◌≤◌, Bool, false, true, List, [], ◌∷◌, length, take, drop, Option, Some, None, IfSome, slice_index_or}
 use Rattle.dom_model.specs.declared.Content.{Content}
-use Rattle.dom_model.specs.Document.{node_count, char_count}
+use Rattle.dom_model.specs.Document.{node_count, char_count, page_depth}
 use Rattle.dom_model.specs.Forest.{Forest, tops, times, count_of, tree_of, parent_of, first_of}
 use Rattle.dom_model.specs.Shed.{shed}
 use Rattle.dom_model.specs.State.{State as Arena}
@@ -48,13 +48,14 @@ CanGoForth held xs f = FitsForth applied Fits (changes_of xs) f × EachHeldIn he
 -- ---- the sides of an entry
 
 -- the places are those of points that stand in the document of a forest, the scratch pair isn't there, and the numbers
--- are those of the document
-pub record IsSide (names : List (List ℕ)) (f : Forest Content) (p : Places) (nodes chars : ℕ) : Type 0 where
+-- are those of the document, which is no deeper than the last
+pub record IsSide (names : List (List ℕ)) (f : Forest Content) (p : Places) (nodes chars depth : ℕ) : Type 0 where
   pub over : IsOver names p
   pub placed : IsPlaced f (shown names p)
   pub resting : p.scratch ≡ None
   pub nodes_are : nodes ≡ node_count f
   pub chars_are : chars ≡ char_count f
+  pub no_deeper : page_depth f ≤ depth
 
 -- each node of these labels is alone in a loose tree
 pub record AreAlone (f : Forest Content) (low high : ℕ) : Type 0 where
@@ -84,8 +85,8 @@ AreNeeded start f es fs = (l : ℕ) → 0 < l → l < start → 0 < times (tops 
 -- do those that the steps turn into. The trees that they didn't see are still loose after it, and so are those that it
 -- left loose.
 pub record IsBeside (names : List (List ℕ)) (before after : Forest Content) (e : List Step) (turns : List Change) (b : Beside) (left : List NodeRef) (high start : ℕ) : Type 0 where
-  pub was : IsSide names before b.sides.before b.sides.nodes_before b.sides.chars_before
-  pub is : IsSide names after b.sides.after b.sides.nodes_after b.sides.chars_after
+  pub was : IsSide names before b.sides.before b.sides.nodes_before b.sides.chars_before b.sides.depth_before
+  pub is : IsSide names after b.sides.after b.sides.nodes_after b.sides.chars_after b.sides.depth_after
   pub some_label : 0 < b.sides.first_label
   pub fresh : AreFresh before b.sides.first_label
   pub drawn : b.sides.first_label ≤ high
@@ -141,7 +142,7 @@ pub record IsIdle (c : Command) (points : LivePoints) (next : ℕ) : Type 0 wher
 
 -- what a command keeps of its begin is as it was, and what it changes is seen
 pub record IsRunning (a : Arena) (names : List (List ℕ)) (c : Command) (xs : List Step) (g : Forest Content) : Type 0 where
-  pub kept : IsSide names g c.kept.places c.kept.counts.nodes c.kept.counts.chars
+  pub kept : IsSide names g c.kept.places c.kept.counts.nodes c.kept.counts.chars c.kept.counts.depth
   pub settings : length c.kept.overrides.items ≡ 32
   pub made : AreAlone g c.start a.next
   pub can : CanGoBack a.held xs a.trees
@@ -165,6 +166,7 @@ pub record IsSound (a : Arena) (points : LivePoints) (overrides : List Setting) 
   pub some_label : 0 < c.start
   pub nodes : counts.nodes ≡ node_count a.trees
   pub chars : counts.chars ≡ char_count a.trees
+  pub depth : page_depth a.trees ≤ counts.depth
   pub hidden : (l : ℕ) → is_hidden (begun_forest log a.trees) c.start l ≡ true → 0 < times (tops a.trees) l
   pub running : OpenSound a points c (begun_forest log a.trees) log.open_entry
   pub resumed : c.resumed ≡ is_resumed log.open_entry

@@ -44,13 +44,14 @@ first_state a = record {
   start = a.next;
   host = None;
   keeping = false;
-  edits = 0;
+  edits = [];
+  made = [];
 }
 
 unfoldable pub first_doc : Arena → ℕ → Whole
 first_doc a depth = record {
   state = first_state a;
-  history = record { undo = []; redo = []; depth = depth };
+  history = record { undo = []; redo = []; depth = depth; dropped = false };
   began = None;
   held = a.held;
 }
@@ -86,7 +87,7 @@ state_rolled_back d = rolled_to d.state d.began
 -- how many edits the entry has that undo would take, and redo
 abbrev pub first_edits : List Entry → ℕ
 first_edits [] = 0
-first_edits (e ∷ es) = e.edits
+first_edits (e ∷ es) = length e.edits
 
 -- ---- what holds of every document under edits
 

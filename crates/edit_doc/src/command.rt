@@ -22,6 +22,8 @@ pub struct Sides {
     pub nodes_after: u32,
     pub chars_before: u64,
     pub chars_after: u64,
+    pub depth_before: u32,
+    pub depth_after: u32,
 }
 
 // An entry's sides, and the roots of the loose trees that its commands left, which go when the entry does.
@@ -167,6 +169,8 @@ impl Command {
                 nodes_after: counts.nodes,
                 chars_before: self.kept.counts.chars,
                 chars_after: counts.chars,
+                depth_before: self.kept.counts.depth,
+                depth_after: counts.depth,
             },
             left: Vec::new(alloc),
         }
@@ -177,20 +181,24 @@ impl Beside {
     pub(crate) fn counts_before(&self) -> Counts
         ensures nodes { result.nodes ≡ self.now.sides.nodes_before }
         ensures chars { result.chars ≡ self.now.sides.chars_before }
+        ensures depth { result.depth ≡ self.now.sides.depth_before }
     {
         Counts {
             nodes: self.sides.nodes_before,
             chars: self.sides.chars_before,
+            depth: self.sides.depth_before,
         }
     }
 
     pub(crate) fn counts_after(&self) -> Counts
         ensures nodes { result.nodes ≡ self.now.sides.nodes_after }
         ensures chars { result.chars ≡ self.now.sides.chars_after }
+        ensures depth { result.depth ≡ self.now.sides.depth_after }
     {
         Counts {
             nodes: self.sides.nodes_after,
             chars: self.sides.chars_after,
+            depth: self.sides.depth_after,
         }
     }
 
@@ -202,6 +210,7 @@ impl Beside {
         self.sides.after = after;
         self.sides.nodes_after = counts.nodes;
         self.sides.chars_after = counts.chars;
+        self.sides.depth_after = counts.depth;
         self.left.clear();
     }
 }

@@ -72,7 +72,7 @@ impl Doc {
     /// Ends the command. Loose trees and the scratch pair go; with an edit the history has an entry for it, or a longer one.
     pub fn commit(&mut self) -> Committed
         requires open { IsOpen self.old }
-        ensures answer { (result ≡ Committed.Entry) ↔ (0 < self.old.state.edits) }
+        ensures answer { (result ≡ Committed.Entry) ↔ (0 < length self.old.state.edits) }
         ensures state { self.new.state ≡ rested self.old.state }
         ensures history { self.new.history ≡ history_committed self.old }
         ensures closed { self.new.began ≡ None }

@@ -1,4 +1,5 @@
-//! What is composed of edits: splitting a text, and setting the tag name of an element.
+//! What is composed of edits: splitting a text, and setting the tag name of an element. The steps are those of
+//! docs/ALGORITHMS.md.
 
 ghost use Rattle.std.specs.Prelude.{◌≡◌, ℕ, ◌+◌, ◌-◌, ◌<◌, ◌^◌, IfOk, IsSome, Some, length, drop, true};
 ghost use Rattle.dom_model.specs.Contents.{is_element_at};
@@ -13,6 +14,7 @@ ghost use Rattle.edit_doc.specs.Held.{Holds, EachHeld, Keeps};
 
 use crate::{Chars, Doc, EditFault, Name, NodeRef, Point};
 use edit_parts::tail_of;
+use node_arena::has_name;
 use std::alloc::AllocError;
 
 impl Doc {
@@ -46,7 +48,7 @@ impl Doc {
         match self.parent(node) {
             None => Ok(node),
             Some(parent) => {
-                if self.has_name(node, name.as_slice()) || !self.is_editable_for(node) {
+                if has_name(self, node, name.as_slice()) || !self.is_editable_for(node) {
                     Ok(node)
                 } else {
                     self.rename_under(parent, node, name)
@@ -75,8 +77,8 @@ impl Doc {
         self.arena.index(node) + 1
     }
 
-    // The points of a text past an offset go to another text, and those of its parent just after it grow, where the other
-    // text was inserted.
+    // Split a text, step 3: the points of a text past an offset go to another text, and those of its parent just
+    // after it grow, where the other text was inserted.
     #[tactic(auto, using(edit_model::proofs::Steps::actions), unfolding(edit_model::specs::Compositions::points_sent))]
     fn send_points(&mut self, after: Point, node: NodeRef, at: u32, tail: NodeRef, inserted: bool)
         requires node_held { Holds self.old node }
@@ -90,7 +92,7 @@ impl Doc {
         }
     }
 
-    // Splits a text under its parent.
+    // Split a text, steps 2 to 4: splits a text under its parent.
     #[tactic(auto, using(edit_model::proofs::Steps::exits), unfolding(edit_model::specs::Compositions::split_under))]
     fn split_under(&mut self, parent: NodeRef, node: NodeRef, at: u32) -> Result<NodeRef, EditFault>
         requires open { IsOpen self.old }
@@ -113,8 +115,8 @@ impl Doc {
         Ok(tail)
     }
 
-    // The children of a node.
-    fn children_of(&self, node: NodeRef) -> Result<Vec<NodeRef>, AllocError>
+    /// The children of a node, in order. It goes from child to child by links.
+    pub fn children_of(&self, node: NodeRef) -> Result<Vec<NodeRef>, AllocError>
         requires { Holds self.now node }
         ensures held { IfOk result (λ list. EachHeld self.now list.items) }
         ensures children { IfOk result (λ list. labels_of list.items ≡ children_of self.now.state.trees node.label) }
@@ -129,9 +131,9 @@ impl Doc {
         Ok(list)
     }
 
-    // Moves each node in order to the end of another one.
+    /// Moves each node of a list, in its order, to the end of another one. A node that may not go there stays where it is.
     #[tactic(auto, using(edit_model::proofs::Steps::eachs, edit_model::proofs::Steps::exits), unfolding(edit_model::specs::Moves::move_each_last))]
-    fn move_each_last(&mut self, list: &[NodeRef], to: NodeRef) -> Result<(), EditFault>
+    pub fn move_each_last(&mut self, list: &[NodeRef], to: NodeRef) -> Result<(), EditFault>
         requires open { IsOpen self.old }
         requires list_held { EachHeld self.old list.now }
         requires to_held { Holds self.old to }
@@ -144,7 +146,7 @@ impl Doc {
         Ok(())
     }
 
-    // Puts an element of another name in the place of an element.
+    // Set the tag name, steps 2 to 4: puts an element of another name in the place of an element.
     #[tactic(auto, using(edit_model::proofs::Steps::exits), unfolding(edit_model::specs::Compositions::renamed))]
     fn rename_under(
         &mut self,

@@ -3,16 +3,18 @@
 ghost use Rattle.std.specs.Prelude.{◌≡◌, ◌&&◌, not, Some};
 ghost use Rattle.dom_model.specs.Contents.{is_parent_at};
 ghost use Rattle.edit_model.specs.Gives.{label_of};
-ghost use Rattle.edit_model.specs.Confined.{has_name, is_editable_for, is_inside, is_made, is_open, is_own, is_place, may_insert, may_leave, may_go, may_select, may_grow, may_send, stands_so};
+ghost use Rattle.edit_model.specs.Confined.{is_editable_for, is_inside, is_made, is_open, is_own, is_place, may_insert, may_leave, may_go, may_select, may_grow, may_send, stands_so};
 ghost use Rattle.edit_doc.specs.Held.{Holds, IfHeld};
 ghost use Rattle.point_order.specs.PointOrder.{is_within};
 
 use crate::{Doc, Kind, NodeRef, Point};
 use edit_parts::{bears_nothing, is_in_document};
+use node_arena::is_break;
 
 impl Doc {
-    // Editable, with the affected host as its host.
-    pub(crate) fn is_editable_for(&self, node: NodeRef) -> bool
+    /// Whether a node is editable with the affected editing host of the running command as its host. Outside commands
+    /// there is no host, and no node is.
+    pub fn is_editable_for(&self, node: NodeRef) -> bool
         requires { Holds self.now node }
         ensures { result ≡ is_editable_for self.now.state node.label }
     {
@@ -53,17 +55,6 @@ impl Doc {
         ensures { result ≡ is_own self.now.state node.label }
     {
         self.is_made(node) || self.is_editable_for(node)
-    }
-
-    pub(crate) fn has_name(&self, node: NodeRef, name: &[u8]) -> bool
-        requires { Holds self.now node }
-        ensures { result ≡ has_name self.now.state.trees node.label name.now }
-    {
-        self.arena.lawful();
-        match self.arena.kind(node) {
-            Kind::Element => self.arena.name(node).as_slice() == name,
-            _ => false,
-        }
     }
 
     fn is_parent(&self, node: NodeRef) -> bool
@@ -126,7 +117,7 @@ impl Doc {
     {
         self.arena.lawful();
         self.is_open(parent)
-            && (self.is_own(node) || self.has_name(node, b"br"))
+            && (self.is_own(node) || is_break(self, node))
             && (!self.command.keeping || bears_nothing(&self.arena, node))
     }
 

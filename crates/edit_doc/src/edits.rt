@@ -6,8 +6,8 @@ ghost use Rattle.edit_model.specs.Run.{insert, remove, move, replace, set_attrib
 ghost use Rattle.edit_doc.specs.Whole.{IsOpen};
 ghost use Rattle.edit_doc.specs.Held.{Holds, IfHeld, Keeps};
 
-use crate::change::{comes_in, counts_with, make_change};
-use crate::numbers::{chars_replaced, counts_without};
+use crate::change::make_change;
+use crate::numbers::{chars_replaced, counts_moved, counts_with, counts_without};
 use crate::{Chars, Doc, EditFault, Name, NodeRef};
 use edit_parts::{
     adjust_inserted, adjust_moved, has_value, is_in_document, moving_from, removal_of, replaced,
@@ -39,7 +39,7 @@ impl Doc {
         }
         let watch = watch_range(&self.arena, &self.points, &self.overrides);
         let enters = is_in_document(&self.arena, parent);
-        let counts = counts_with(&self.arena, self.counts, node, enters);
+        let counts = counts_with(&self.arena, self.counts, node, parent, enters);
         let link = Step::Link {
             node,
             parent,
@@ -109,8 +109,7 @@ impl Doc {
         }
         let watch = watch_range(&self.arena, &self.points, &self.overrides);
         let place = moving_from(&self.arena, &self.points, node, from, parent);
-        let enters = comes_in(&self.arena, node, parent);
-        let counts = counts_with(&self.arena, self.counts, node, enters);
+        let counts = counts_moved(&self.arena, self.counts, node, parent);
         let next = self.arena.next(node);
         let step = Step::Place {
             node,

@@ -17,6 +17,7 @@ mod confined;
 mod edits;
 mod giving_up;
 mod making;
+mod nodes;
 mod numbers;
 mod reads;
 mod selecting;
@@ -81,6 +82,7 @@ impl Doc {
         let counts = Counts {
             nodes: arena.node_count(),
             chars: arena.char_count(),
+            depth: arena.page_depth(),
         };
         let flags = Flags {
             css_styling: false,

@@ -1,6 +1,6 @@
 //! What is read of a document under edits.
 
-ghost use Rattle.std.specs.Prelude.{◌≡◌, ℕ, ◌↔◌, None, Some, IsTrue, IfSome, true};
+ghost use Rattle.std.specs.Prelude.{◌≡◌, ◌≤◌, ℕ, ◌↔◌, None, Some, IsTrue, IfSome, nat_lt, true};
 ghost use Rattle.dom_model.specs.Contents.{is_element_at, has_chars_at, name_of, attributes_of, chars_of, length_of};
 ghost use Rattle.dom_model.specs.Document.{node_count, char_count, page_depth};
 ghost use Rattle.dom_model.specs.Forest.{content_of, count_of, tree_of, parent_of, first_of, last_of, prev_of, next_of};
@@ -60,6 +60,7 @@ impl Doc {
     pub fn counts(&self) -> Counts
         ensures nodes { result.nodes ≡ node_count self.now.state.trees }
         ensures chars { result.chars ≡ char_count self.now.state.trees }
+        ensures depth { page_depth self.now.state.trees ≤ result.depth }
     {
         self.arena.lawful();
         self.counts
@@ -71,6 +72,15 @@ impl Doc {
     {
         self.arena.lawful();
         self.arena.page_depth()
+    }
+
+    /// Whether the deepest node of the document is deeper than this. It walks the document only where the kept bound on
+    /// the depth is greater.
+    pub fn is_deeper_than(&self, limit: u32) -> bool
+        ensures { result ≡ nat_lt limit (page_depth self.now.state.trees) }
+    {
+        self.arena.lawful();
+        self.counts.depth > limit && self.arena.page_depth() > limit
     }
 
     /// Whether a point of the document comes before another one.

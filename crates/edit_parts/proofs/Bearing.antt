@@ -9,6 +9,7 @@ use Rattle.dom_model.specs.TreeOrder.{total_from, total_after}
 use Rattle.edit_model.specs.Kept.{Leaf, bears_nothing, borne_by, is_empty, is_kept, kept_leaves, leaves}
 use Rattle.node_arena.specs.declared.NodeRef.{NodeRef}
 use Rattle.node_arena.specs.Held.{Holds}
+use Rattle.edit_parts.specs.declared.trees.Place.{Place}
 use Rattle.edit_parts.specs.Walk.{IsIn, Goes, Stops}
 use Rattle.edit_parts.proofs.Below.{content, own_share, tree_total, within_after, top_in}
 
@@ -64,15 +65,15 @@ some_in g h = elim (sum_tells g) [ inl (e, _) ↦ absurd (omega (arith, e, h)) |
 
 module _ (s : State) (law : IsLawful s) (top : NodeRef) (top_held : Holds s top) where
   -- a node of the tree bears something
-  pub bearing : (at : NodeRef) (c : Content) → IsIn s top at → content_of s.trees at.label ≡ Some c → weight at.label c ≡ 1 → total_from weight s.trees at.label ≡ total_from weight s.trees top.label → false ≡ bears_nothing (tree_of s.trees top.label)
+  pub bearing : (at : Place) (c : Content) → IsIn s top at → content_of s.trees at.node.label ≡ Some c → weight at.node.label c ≡ 1 → total_from weight s.trees at.node.label ≡ total_from weight s.trees top.label → false ≡ bears_nothing (tree_of s.trees top.label)
   bearing at c place e one same =
       let f = s.trees in
-      let there = law.here at.slot at.label place.held in
+      let there = law.here at.node.slot at.node.label place.held in
       let top_there = law.here top.slot top.label top_held in
-      some_in (tree_of f top.label) (omega (arith, one, same, own_share f law.distinct weight at.label c there e, within_after f law.distinct weight top.label at.label top_there place.inside, tree_total f law.distinct weight top.label top_there))
+      some_in (tree_of f top.label) (omega (arith, one, same, own_share f law.distinct weight at.node.label c there e, within_after f law.distinct weight top.label at.node.label top_there place.inside, tree_total f law.distinct weight top.label top_there))
 
   -- no node of the tree bears anything
-  pub bearing_none : (at : NodeRef) → IsIn s top at → Stops s top at → ((c : Content) → content_of s.trees at.label ≡ Some c → weight at.label c ≡ 0) → total_from weight s.trees at.label ≡ total_from weight s.trees top.label → true ≡ bears_nothing (tree_of s.trees top.label)
+  pub bearing_none : (at : Place) → IsIn s top at → Stops s top at → ((c : Content) → content_of s.trees at.node.label ≡ Some c → weight at.node.label c ≡ 0) → total_from weight s.trees at.node.label ≡ total_from weight s.trees top.label → true ≡ bears_nothing (tree_of s.trees top.label)
   bearing_none at place stop none same =
       let f = s.trees in
       let c = content s law top top_held at place in
@@ -80,7 +81,7 @@ module _ (s : State) (law : IsLawful s) (top : NodeRef) (top_held : Holds s top)
       none_in (tree_of f top.label) (omega (arith, same, none c.0 c.1, stop.weighs weight c.0 c.1, tree_total f law.distinct weight top.label top_there))
 
   -- the step from a node that bears nothing
-  pub bearing_next : (at next : NodeRef) → IsIn s top at → Goes s top at next → ((c : Content) → content_of s.trees at.label ≡ Some c → weight at.label c ≡ 0) → total_from weight s.trees at.label ≡ total_from weight s.trees top.label → total_from weight s.trees next.label ≡ total_from weight s.trees top.label
+  pub bearing_next : (at next : Place) → IsIn s top at → Goes s top at next → ((c : Content) → content_of s.trees at.node.label ≡ Some c → weight at.node.label c ≡ 0) → total_from weight s.trees at.node.label ≡ total_from weight s.trees top.label → total_from weight s.trees next.node.label ≡ total_from weight s.trees top.label
   bearing_next at next place goes none same =
       let c = content s law top top_held at place in
       omega (arith, same, none c.0 c.1, goes.weighs weight c.0 c.1)

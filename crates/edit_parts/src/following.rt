@@ -151,6 +151,7 @@ pub fn add_counts(counts: &mut Counts, more: Counts)
     requires chars { counts.old.chars + more.chars < 2 ^ 64 }
     ensures nodes { counts.new.nodes ≡ counts.old.nodes + more.nodes }
     ensures chars { counts.new.chars ≡ counts.old.chars + more.chars }
+    ensures depth { counts.new.depth ≡ counts.old.depth }
 {
     counts.nodes += more.nodes;
     counts.chars += more.chars;
@@ -162,6 +163,7 @@ pub fn take_counts(counts: &mut Counts, less: Counts)
     requires chars { less.chars ≤ counts.old.chars }
     ensures nodes { counts.new.nodes ≡ counts.old.nodes - less.nodes }
     ensures chars { counts.new.chars ≡ counts.old.chars - less.chars }
+    ensures depth { counts.new.depth ≡ counts.old.depth }
 {
     counts.nodes -= less.nodes;
     counts.chars -= less.chars;

@@ -19,11 +19,13 @@ pub use overrides::{
 pub use texts::{fault_of, has_value, replaced, tail_of};
 pub use trees::{bears_nothing, is_in_document, root_of, tree_counts};
 
-/// How many nodes and characters a tree has; only the characters of texts count.
+/// How many nodes and characters a tree has; only the characters of texts count. `depth` is its height: how deep its
+/// deepest node is below its root. Of a document under edits it is a bound on that.
 #[derive(Clone, Copy, PartialEq, Eq, Debug)]
 pub struct Counts {
     pub nodes: u32,
     pub chars: u64,
+    pub depth: u32,
 }
 
 #[cfg(test)]

@@ -227,18 +227,34 @@ fn points_right(alloc: Global, arena: &Arena, nodes: [NodeRef; 4]) -> Result<boo
 
 #[test]
 fn counts(rt: HostRuntime) {
-    let mut counts = Counts { nodes: 3, chars: 9 };
-    let tree = Counts { nodes: 2, chars: 4 };
+    let mut counts = Counts {
+        nodes: 3,
+        chars: 9,
+        depth: 2,
+    };
+    let tree = Counts {
+        nodes: 2,
+        chars: 4,
+        depth: 1,
+    };
     add_counts(&mut counts, tree);
     assert!(rt;
         counts
             == Counts {
                 nodes: 5,
-                chars: 13
+                chars: 13,
+                depth: 2,
             }
     );
     take_counts(&mut counts, tree);
-    assert!(rt; counts == Counts { nodes: 3, chars: 9 });
+    assert!(rt;
+        counts
+            == Counts {
+                nodes: 3,
+                chars: 9,
+                depth: 2
+            }
+    );
 }
 
 fn are_placed(arena: &Arena, points: &Points) -> bool

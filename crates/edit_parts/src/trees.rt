@@ -1,10 +1,11 @@
 //! The tree of a node: its numbers, and whether it bears what commands keep.
 
-ghost use Rattle.std.specs.Prelude.{◌≡◌, ℕ, not, None, filter, IfSome};
+ghost use Rattle.std.specs.Prelude.{◌≡◌, ◌+◌, ℕ, not, None, filter, IfSome};
 ghost use Rattle.std.specs.List.{list_all};
 ghost use Rattle.dom_model.specs.declared.Content.{Content};
 ghost use Rattle.dom_model.specs.Contents.{words_length};
 ghost use Rattle.dom_model.specs.Forest.{total, tree_of, parent_of, IsWithin};
+ghost use Rattle.dom_model.specs.Places.{levels};
 ghost use Rattle.dom_model.specs.TreeOrder.{total_from, total_after};
 ghost use Rattle.edit_model.specs.Kept.{bears_nothing, borne_by, is_blank, is_empty, is_kept, is_thing};
 ghost use Rattle.edit_parts.specs.Walk.{IsIn, Goes, Stops};
@@ -14,38 +15,56 @@ ghost use Rattle.point_order.specs.PointOrder.{is_in_document};
 use crate::Counts;
 use node_arena::{Arena, Content, NodeRef};
 
-// The first node in tree order after the tree of a node, in the tree of `top`.
-fn after(arena: &Arena, top: NodeRef, node: NodeRef) -> Option<NodeRef>
+// A node of the tree of another, and how deep it is below that.
+#[derive(Clone, Copy)]
+pub(crate) struct Place {
+    node: NodeRef,
+    depth: u32,
+}
+
+// The first place in tree order after the tree of a place, in the tree of `top`.
+fn after(arena: &Arena, top: NodeRef, place: Place) -> Option<Place>
     requires top_held { Holds arena.now top }
-    requires inside { IsIn arena.now top node }
-    ensures found { IfSome result (λ next. IsIn arena.now top next × ((w : ℕ → Content → ℕ) → total_after w arena.now.trees node.label ≡ total_from w arena.now.trees next.label)) }
-    ensures none { (result ≡ None) → (w : ℕ → Content → ℕ) → total_after w arena.now.trees node.label ≡ total_after w arena.now.trees top.label }
+    requires inside { IsIn arena.now top place }
+    ensures found { IfSome result (λ next. IsIn arena.now top next × ((w : ℕ → Content → ℕ) → total_after w arena.now.trees place.node.label ≡ total_from w arena.now.trees next.node.label)) }
+    ensures none { (result ≡ None) → (w : ℕ → Content → ℕ) → total_after w arena.now.trees place.node.label ≡ total_after w arena.now.trees top.label }
 {
     arena.lawful();
-    let mut at = node;
-    while at.label != top.label {
-        if let Some(next) = arena.next(at) {
-            return Some(next);
+    let mut at = place;
+    while at.node.label != top.label {
+        if let Some(next) = arena.next(at.node) {
+            return Some(Place {
+                node: next,
+                depth: at.depth,
+            });
         }
-        match arena.parent(at) {
-            Some(parent) => at = parent,
+        match arena.parent(at.node) {
+            Some(parent) => {
+                at = Place {
+                    node: parent,
+                    depth: at.depth - 1,
+                }
+            }
             None => return None,
         }
     }
     None
 }
 
-// The next node in tree order in the tree of `top`.
-fn following(arena: &Arena, top: NodeRef, node: NodeRef) -> Option<NodeRef>
+// The next place in tree order in the tree of `top`.
+fn following(arena: &Arena, top: NodeRef, place: Place) -> Option<Place>
     requires top_held { Holds arena.now top }
-    requires inside { IsIn arena.now top node }
-    ensures found { IfSome result (Goes arena.now top node) }
-    ensures none { (result ≡ None) → Stops arena.now top node }
+    requires inside { IsIn arena.now top place }
+    ensures found { IfSome result (Goes arena.now top place) }
+    ensures none { (result ≡ None) → Stops arena.now top place }
 {
     arena.lawful();
-    match arena.first_child(node) {
-        Some(child) => Some(child),
-        None => after(arena, top, node),
+    match arena.first_child(place.node) {
+        Some(child) => Some(Place {
+            node: child,
+            depth: place.depth + 1,
+        }),
+        None => after(arena, top, place),
     }
 }
 
@@ -81,22 +100,32 @@ fn char_count(content: &Content) -> u64
     }
 }
 
-/// How many nodes the tree of a node has, and how many characters its texts have.
+/// How many nodes the tree of a node has, how many characters its texts have, and how high it is.
 pub fn tree_counts(arena: &Arena, top: NodeRef) -> Counts
     requires { Holds arena.now top }
     ensures nodes { result.nodes ≡ total (λ _ _. 1) (tree_of arena.now.trees top.label) }
     ensures chars { result.chars ≡ total (λ _ c. words_length c) (tree_of arena.now.trees top.label) }
+    ensures depth { levels (tree_of arena.now.trees top.label) ≡ result.depth + 1 }
 {
     arena.lawful();
-    let mut at = top;
+    let mut at = Place {
+        node: top,
+        depth: 0,
+    };
     let mut nodes = 1;
     let mut chars = char_count(arena.content(top));
+    let mut depth: u32 = 0;
     while let Some(next) = following(arena, top, at) {
         at = next;
         nodes += 1;
-        chars += char_count(arena.content(at));
+        chars += char_count(arena.content(at.node));
+        depth = depth.max(at.depth);
     }
-    Counts { nodes, chars }
+    Counts {
+        nodes,
+        chars,
+        depth,
+    }
 }
 
 fn is_blank(c: char) -> bool
@@ -139,13 +168,16 @@ pub fn bears_nothing(arena: &Arena, top: NodeRef) -> bool
     ensures { result ≡ bears_nothing (tree_of arena.now.trees top.label) }
 {
     arena.lawful();
-    let mut at = top;
-    if bears(arena.content(at)) {
+    let mut at = Place {
+        node: top,
+        depth: 0,
+    };
+    if bears(arena.content(top)) {
         return false;
     }
     while let Some(next) = following(arena, top, at) {
         at = next;
-        if bears(arena.content(at)) {
+        if bears(arena.content(at.node)) {
             return false;
         }
     }

@@ -3,7 +3,7 @@ use Rattle.undo_log.specs.Log.{noted}
 use Rattle.undo_log.specs.Log.Open.{Closed}
 use Rattle.node_arena.specs.declared.NodeRef.{NodeRef}
 use Rattle.edit_doc.specs.Fields.{IsEnded, Enters}
-use Rattle.edit_doc.proofs.Commits.{none_made, committed_none, nothing_whole, nothing_ok, nothing_state, nothing_history, nothing_keeps}
+use Rattle.edit_doc.proofs.Commits.{edits_count, none_made, committed_none, nothing_whole, nothing_ok, nothing_state, nothing_history, nothing_keeps}
 use Rattle.edit_doc.proofs.Inner.{open_of}
 use Rattle.edit_doc.proofs.Rolls.{run}
 use Rattle.edit_doc.specs.Sound.{AreNeeded}
@@ -29,6 +29,11 @@ invariant_of-self c =
     rw (c.set_places.ensures, log_is c, c.forget_left.ensures.capacity)
     (nothing_ok c.self.inside c.lawful-2.ensures c.self.invariant (open_of c.self.inside _ c.self.view_is c.requires.«open») c.resting_places-places.result c.resting_places-places.ensures (none_made _ c.in-Nothing.ensures.answer.1)
     _ c.drop_made.ensures.drops c.lawful-in-Nothing.ensures _ c.forget_left.ensures.forgotten _ (ended c))
+
+pub returns-in-Nothing-clause-answer : goal.returns-in-Nothing-clause-answer
+returns-in-Nothing-clause-answer c =
+    let n = edits_count c.self.inside _ c.self.view_is in
+    (λ e. subst (λ (k : ℕ). 0 < k) n (c.in-Nothing.ensures.answer.0 e), λ h. c.in-Nothing.ensures.answer.1 (subst (λ (k : ℕ). 0 < k) (sym n) h))
 
 pub returns-in-Nothing-clause-state : goal.returns-in-Nothing-clause-state
 returns-in-Nothing-clause-state c =
@@ -99,6 +104,11 @@ invariant_of-self-2 c =
     (spared_ok c.self.inside c.lawful-2.ensures c.self.invariant (open_of c.self.inside _ c.self.view_is c.requires.«open») c.resting_places-places.result c.resting_places-places.ensures c.lawful.ensures (made2 c)
     _ (entry_ended c) _ _ (enters2 c) _ c.in-Entry.ensures.log _ _ (gives_both c.self.inside c.lawful-2.ensures c.self.invariant (open_of c.self.inside _ c.self.view_is c.requires.«open») c.resting_places-places.result c.resting_places-places.ensures (made2 c) _ _ (enters2 c) _ _ (gives2 c) c.give_up_left.ensures)
     (sheds_both c.self.inside c.lawful-2.ensures c.self.invariant (open_of c.self.inside _ c.self.view_is c.requires.«open») c.resting_places-places.result c.resting_places-places.ensures (made2 c) _ _ (enters2 c)) (kept_both c.self.inside c.lawful-2.ensures c.self.invariant (open_of c.self.inside _ c.self.view_is c.requires.«open») c.resting_places-places.result c.resting_places-places.ensures (made2 c) _ _ (enters2 c) _ c.in-Entry.ensures.log) (needed c) c.lawful-3.ensures)
+
+pub returns-clause-answer : goal.returns-clause-answer
+returns-clause-answer c =
+    let n = edits_count c.self.inside _ c.self.view_is in
+    (λ e. subst (λ (k : ℕ). 0 < k) n (c.in-Entry.ensures.answer.0 e), λ h. c.in-Entry.ensures.answer.1 (subst (λ (k : ℕ). 0 < k) (sym n) h))
 
 pub returns-clause-state : goal.returns-clause-state
 returns-clause-state c =

@@ -76,7 +76,7 @@ done c =
     let a = c.args in
     insert_done c.self.inside a.self.now c.self.view_is c.lawful.ensures c.slotted.ensures c.requires.open c.self.invariant a.node a.parent a.before c.requires.node_held c.requires.parent_held c.requires.before_held (sym c.may_insert.ensures ∙ c.if-not-may_insert.false)
     c.make_change.new.arena c.in_ok-make_change.ensures.arena c.adjust_inserted.new.points c.adjust_inserted.ensures (with_items c.self.inside.overrides c.settle.new.overrides).items (overrides_are c)
-    c.is_in_document-enters.result c.is_in_document-enters.ensures c.counts_with-counts.result c.counts_with-counts.ensures.nodes c.counts_with-counts.ensures.chars c.name_place.new.self c.name_place.ensures c.make_change.new.log c.in_ok-make_change.ensures.log
+    c.is_in_document-enters.result c.is_in_document-enters.ensures c.counts_with-counts.result c.counts_with-counts.ensures.nodes c.counts_with-counts.ensures.chars c.counts_with-counts.ensures.depth c.name_place.new.self c.name_place.ensures c.make_change.new.log c.in_ok-make_change.ensures.log
 
 pub invariant_of-self-2 : goal.invariant_of-self-2
 invariant_of-self-2 c = (done c).invariant

@@ -10,10 +10,11 @@ use Rattle.edit_model.specs.Gives.{label_of}
 use Rattle.edit_model.proofs.Giving.{gives_left}
 use Rattle.edit_parts.specs.Following.{settled, Watches}
 use Rattle.edit_doc.specs.declared.Doc.TheInside.{Inside}
+use Rattle.edit_doc.specs.Fields.{comes_in}
 use Rattle.edit_doc.specs.Held.{Holds, IfHeld}
 use Rattle.edit_doc.specs.Marks.{place_labels}
 use Rattle.edit_doc.proofs.Edited.{Done}
-use Rattle.edit_doc.proofs.Moving.{not_moved, fits, place_markable, markable_after, nodes_fit, chars_fit, held_here, points_fit, placed, move_done}
+use Rattle.edit_doc.proofs.Moving.{not_moved, fits, place_markable, markable_after, nodes_fit, chars_fit, held_here, points_fit, placed, stands, move_done}
 use Rattle.edit_doc.proofs.HiddenTrees.{placed-whole}
 use Rattle.edit_doc.proofs.Rests.{arena_forest}
 use Rattle.edit_doc.proofs.SeenNodes.{out_of, held_seen, parent_seen, finds_parent, finds_next}
@@ -51,11 +52,14 @@ watch_range-watch-requires-clause-placed c =
     let d = c.self.inside in
     (placed-whole d.arena.trees d.arena.next (arena_forest d.arena c.lawful.ensures) (out_of d) refl d.points c.self.invariant.lawful.placed).selection
 
-pub counts_with-counts-requires-clause-nodes : goal.counts_with-counts-requires-clause-nodes
-counts_with-counts-requires-clause-nodes c = let a = c.args in nodes_fit c.self.inside a.self.now c.self.view_is c.lawful.ensures c.slotted.ensures c.requires.open c.self.invariant a.node c.in-Some.from a.parent a.before c.requires.node_held c.requires.parent_held c.requires.before_held (up c.self.inside a.node c.in-Some.from c.parent.result c.parent.ensures c.in-Some.is) (sym c.may_go.ensures ∙ c.if-not-may_go.false) c.comes_in-enters.result c.comes_in-enters.ensures
+pub counts_moved-counts-requires-clause-nodes : goal.counts_moved-counts-requires-clause-nodes
+counts_moved-counts-requires-clause-nodes c = let a = c.args in nodes_fit c.self.inside a.self.now c.self.view_is c.lawful.ensures c.slotted.ensures c.requires.open c.self.invariant a.node c.in-Some.from a.parent a.before c.requires.node_held c.requires.parent_held c.requires.before_held (up c.self.inside a.node c.in-Some.from c.parent.result c.parent.ensures c.in-Some.is) (sym c.may_go.ensures ∙ c.if-not-may_go.false) (comes_in c.self.inside.arena.trees a.node.label a.parent.label) refl
 
-pub counts_with-counts-requires-clause-chars : goal.counts_with-counts-requires-clause-chars
-counts_with-counts-requires-clause-chars c = let a = c.args in chars_fit c.self.inside a.self.now c.self.view_is c.lawful.ensures c.slotted.ensures c.requires.open c.self.invariant a.node c.in-Some.from a.parent a.before c.requires.node_held c.requires.parent_held c.requires.before_held (up c.self.inside a.node c.in-Some.from c.parent.result c.parent.ensures c.in-Some.is) (sym c.may_go.ensures ∙ c.if-not-may_go.false) c.comes_in-enters.result c.comes_in-enters.ensures
+pub counts_moved-counts-requires-clause-chars : goal.counts_moved-counts-requires-clause-chars
+counts_moved-counts-requires-clause-chars c = let a = c.args in chars_fit c.self.inside a.self.now c.self.view_is c.lawful.ensures c.slotted.ensures c.requires.open c.self.invariant a.node c.in-Some.from a.parent a.before c.requires.node_held c.requires.parent_held c.requires.before_held (up c.self.inside a.node c.in-Some.from c.parent.result c.parent.ensures c.in-Some.is) (sym c.may_go.ensures ∙ c.if-not-may_go.false) (comes_in c.self.inside.arena.trees a.node.label a.parent.label) refl
+
+pub counts_moved-counts-requires-clause-stands : goal.counts_moved-counts-requires-clause-stands
+counts_moved-counts-requires-clause-stands c = let a = c.args in stands c.self.inside a.self.now c.self.view_is c.lawful.ensures c.slotted.ensures c.requires.open c.self.invariant a.node c.in-Some.from a.parent a.before c.requires.node_held c.requires.parent_held c.requires.before_held (up c.self.inside a.node c.in-Some.from c.parent.result c.parent.ensures c.in-Some.is) (sym c.may_go.ensures ∙ c.if-not-may_go.false)
 
 pub make_change-requires-clause-fits : goal.make_change-requires-clause-fits
 make_change-requires-clause-fits c = let a = c.args in fits c.self.inside a.self.now c.self.view_is c.lawful.ensures c.slotted.ensures c.requires.open c.self.invariant a.node c.in-Some.from a.parent a.before c.requires.node_held c.requires.parent_held c.requires.before_held (up c.self.inside a.node c.in-Some.from c.parent.result c.parent.ensures c.in-Some.is) (sym c.may_go.ensures ∙ c.if-not-may_go.false)
@@ -101,12 +105,12 @@ overrides_are c =
     let w = ap length c.deref_mut.ensures.value in
     with_items_is d.overrides c.settle.new.overrides (omega (arith, a, s, l, w)) ∙ e'
 
-done : (c : goal.After-self-1) → Done c.self.inside c.args.self.now (Move c.args.node.label c.args.parent.label (label_of c.args.before)) c.make_change.new.arena c.adjust_moved.new.points (with_items c.self.inside.overrides c.settle.new.overrides).items c.counts_with-counts.result c.name_place-2.new.self c.make_change.new.log
+done : (c : goal.After-self-1) → Done c.self.inside c.args.self.now (Move c.args.node.label c.args.parent.label (label_of c.args.before)) c.make_change.new.arena c.adjust_moved.new.points (with_items c.self.inside.overrides c.settle.new.overrides).items c.counts_moved-counts.result c.name_place-2.new.self c.make_change.new.log
 done c =
     let a = c.args in
     move_done c.self.inside a.self.now c.self.view_is c.lawful.ensures c.slotted.ensures c.requires.open c.self.invariant a.node c.in-Some.from a.parent a.before c.requires.node_held c.requires.parent_held c.requires.before_held (up c.self.inside a.node c.in-Some.from c.parent.result c.parent.ensures c.in-Some.is) (sym c.may_go.ensures ∙ c.if-not-may_go.false)
     c.make_change.new.arena c.in_ok-make_change.ensures.arena c.adjust_moved.new.points c.moving_from-place.result c.moving_from-place.ensures c.adjust_moved.ensures.moved c.adjust_moved.ensures.none (with_items c.self.inside.overrides c.settle.new.overrides).items (overrides_are c)
-    c.comes_in-enters.result c.comes_in-enters.ensures c.counts_with-counts.result c.counts_with-counts.ensures.nodes c.counts_with-counts.ensures.chars c.next-next.result c.next-next.ensures.is c.name_place.new.self c.name_place-2.new.self c.name_place.ensures c.name_place-2.ensures c.make_change.new.log c.in_ok-make_change.ensures.log
+    (comes_in c.self.inside.arena.trees a.node.label a.parent.label) refl c.counts_moved-counts.result c.counts_moved-counts.ensures.nodes c.counts_moved-counts.ensures.chars c.counts_moved-counts.ensures.depth c.next-next.result c.next-next.ensures.is c.name_place.new.self c.name_place-2.new.self c.name_place.ensures c.name_place-2.ensures c.make_change.new.log c.in_ok-make_change.ensures.log
 
 pub invariant_of-self-2 : goal.invariant_of-self-2
 invariant_of-self-2 c = (done c).invariant

@@ -4,6 +4,7 @@ use Rattle.std.proofs.lemmas.List.{with_items_is}
 use Rattle.edit_model.specs.Overrides.{no_overrides}
 use Rattle.edit_doc.proofs.Turnings.{redo_fits, redo_done, redo_none, unset_length}
 use Rattle.edit_doc.proofs.Inner.{closed_of}
+use Rattle.edit_doc.proofs.Laid.{redo_edits}
 use Rattle.edit_doc.proofs.Doc.redo.Goals as goal
 
 pub redo-requires-clause-fit : goal.redo-requires-clause-fit
@@ -30,7 +31,7 @@ invariant_of-self-2 g c =
     let more : 0 < length c.self.inside.log.redo = u.answer.0 refl in
     rw (c.pop_front.ensures.items, c.push_front.ensures.items, unset g c)
     (redo_done c.self.inside _ c.self.view_is c.lawful-2.ensures c.slotted.ensures c.lawful.ensures (closed_of c.self.inside _ c.self.view_is c.requires.closed) c.self.invariant
-    _ _ _ _ _ _ c.unwrap-beside.result more c.lawful-3.ensures u.state u.log c.set_places.ensures c.counts_after-self-inside.ensures.nodes c.counts_after-self-inside.ensures.chars refl (sym c.unwrap-beside.ensures ∙ c.pop_front.ensures.value) refl).invariant
+    _ _ _ _ _ _ c.unwrap-beside.result more c.lawful-3.ensures u.state u.log c.set_places.ensures c.counts_after-self-inside.ensures.nodes c.counts_after-self-inside.ensures.chars c.counts_after-self-inside.ensures.depth refl (sym c.unwrap-beside.ensures ∙ c.pop_front.ensures.value) refl).invariant
 
 pub returns-clause-doc : goal.returns-clause-doc
 returns-clause-doc g c =
@@ -38,4 +39,10 @@ returns-clause-doc g c =
     let more : 0 < length c.self.inside.log.redo = u.answer.0 refl in
     rw (c.pop_front.ensures.items, c.push_front.ensures.items, unset g c)
     (redo_done c.self.inside _ c.self.view_is c.lawful-2.ensures c.slotted.ensures c.lawful.ensures (closed_of c.self.inside _ c.self.view_is c.requires.closed) c.self.invariant
-    _ _ _ _ _ _ c.unwrap-beside.result more c.lawful-3.ensures u.state u.log c.set_places.ensures c.counts_after-self-inside.ensures.nodes c.counts_after-self-inside.ensures.chars refl (sym c.unwrap-beside.ensures ∙ c.pop_front.ensures.value) refl).value
+    _ _ _ _ _ _ c.unwrap-beside.result more c.lawful-3.ensures u.state u.log c.set_places.ensures c.counts_after-self-inside.ensures.nodes c.counts_after-self-inside.ensures.chars c.counts_after-self-inside.ensures.depth refl (sym c.unwrap-beside.ensures ∙ c.pop_front.ensures.value) refl).value
+
+pub returns-clause-count : goal.returns-clause-count
+returns-clause-count g c =
+    let k = c.if-not-redo.ensures.count in
+    let e = redo_edits c.self.inside _ c.self.view_is c.self.invariant in
+    omega (arith, k, e)

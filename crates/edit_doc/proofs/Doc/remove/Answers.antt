@@ -89,7 +89,7 @@ done c =
     let pushed : c.push.new.self.items ≡ d.command.left.items ++ a.node ∷ [] = c.push.ensures.items ∙ (ap (λ b. if b then (c.reserve.new.self.items ++ a.node ∷ []) else c.reserve.new.self.items) put ∙ ap (λ xs. xs ++ a.node ∷ []) c.reserve.ensures.items) in
     remove_done d c.lawful.ensures v c.self.view_is a.node c.requires.node_held c.in-Some.parent up c.slotted.ensures c.requires.open c.self.invariant leave
     c.adjust.new.points (with_items d.overrides c.settle.new.overrides).items c.counts_without-counts.result (record d.command { left = c.push.new.self }) c.name_place.new.self c.next-next.result c.next-next.ensures.is
-    refl pushed c.name_place.ensures moved (with_items_is d.overrides c.settle.new.overrides (omega (arith, n, k, s, q, w)) ∙ e) c.counts_without-counts.ensures.nodes c.counts_without-counts.ensures.chars
+    refl pushed c.name_place.ensures moved (with_items_is d.overrides c.settle.new.overrides (omega (arith, n, k, s, q, w)) ∙ e) c.counts_without-counts.ensures.nodes c.counts_without-counts.ensures.chars c.counts_without-counts.ensures.depth
     c.make_change.new.arena c.make_change.new.log c.in_ok-make_change.ensures.arena c.in_ok-make_change.ensures.log
 
 pub invariant_of-self-2 : goal.invariant_of-self-2

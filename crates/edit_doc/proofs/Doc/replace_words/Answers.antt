@@ -87,7 +87,7 @@ done c =
     let w = ap length c.deref_mut.ensures.value in
     replace_done d c.lawful.ensures v c.self.view_is a.node c.requires.node_held a.at a.count a.put.now con c.content-content.ensures c.slotted.ensures c.requires.open c.self.invariant own change words words_are short
     c.replaced-2.new.self (with_items d.overrides c.settle.new.overrides).items (record d.counts { chars = c.chars_replaced-chars.result }) c.name.new.self c.name.ensures c.replaced-2.ensures
-    (with_items_is d.overrides c.settle.new.overrides (omega (arith, n, k, s, q, w)) ∙ e) refl c.chars_replaced-chars.ensures c.make_change.new.arena c.make_change.new.log c.in_ok-make_change.ensures.arena c.in_ok-make_change.ensures.log
+    (with_items_is d.overrides c.settle.new.overrides (omega (arith, n, k, s, q, w)) ∙ e) refl refl c.chars_replaced-chars.ensures c.make_change.new.arena c.make_change.new.log c.in_ok-make_change.ensures.arena c.in_ok-make_change.ensures.log
 
 pub invariant_of-self-2 : goal.invariant_of-self-2
 invariant_of-self-2 c = (done c).invariant

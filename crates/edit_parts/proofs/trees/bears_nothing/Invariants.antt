@@ -9,9 +9,9 @@ use Rattle.edit_parts.proofs.trees.bears_nothing.Given as goal
 abbrev pub invariant-loop-next : goal.invariant-loop-next
 invariant-loop-next l = record {
   place : IsIn l.arena l.top l.at;
-  none : (c : Content) → content_of l.arena.trees l.at.label ≡ Some c → weight l.at.label c ≡ 0;
-  same : total_from weight l.arena.trees l.at.label ≡ total_from weight l.arena.trees l.top.label;
+  none : (c : Content) → content_of l.arena.trees l.at.node.label ≡ Some c → weight l.at.node.label c ≡ 0;
+  same : total_from weight l.arena.trees l.at.node.label ≡ total_from weight l.arena.trees l.top.label;
 }
 
 abbrev pub decreases-loop-next : goal.decreases-loop-next
-decreases-loop-next l = total_from (λ _ _. 1) l.arena.trees l.at.label
+decreases-loop-next l = total_from (λ _ _. 1) l.arena.trees l.at.node.label
