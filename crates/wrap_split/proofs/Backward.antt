@@ -6,7 +6,7 @@ use Rattle.std.proofs.lemmas.List.{length_push}
 use Rattle.dom_model.specs.Forest.{either, times, last_or, last_in, before_from, before_in}
 use Rattle.dom_model.proofs.Links.{eqb_refl_true}
 use Rattle.edit_model.specs.State.{State}
-use Rattle.wrap_split.specs.Siblings.{until}
+use Rattle.edit_actions.specs.Siblings.{until}
 use Rattle.wrap_split.specs.Walks.{is_invisible}
 use Rattle.wrap_split.specs.Wrap.{last_visible}
 

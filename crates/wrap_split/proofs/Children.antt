@@ -1,35 +1,26 @@
 -- Walks over the children of a node: from the first on, and from the last back.
-use Rattle.std.proofs.Common.{◌≡◌, ◌≢◌, ℕ, ◌<◌, false, true, List, [], ◌∷◌, ◌++◌, length, Option, Some, None, refl, sym, ap, ◌∙◌, subst}
-use Rattle.std.proofs.lemmas.Bool.{eq-eqb, ne_eqb}
+use Rattle.std.proofs.Common.{◌≡◌, ℕ, ◌<◌, false, true, List, [], ◌∷◌, ◌++◌, length, Option, Some, None, refl, sym, ap, ◌∙◌, subst}
 use Rattle.std.specs.Option.{option_and_then, option_map_or}
 use Rattle.dom_model.specs.declared.Content.{Content}
-use Rattle.dom_model.specs.Forest.{Forest, Seen, IsDistinct, times, tops, parent_of, children_of, first_of, last_of, next_of, prev_of, before_in}
+use Rattle.dom_model.specs.Forest.{Forest, Seen, IsDistinct, times, parent_of, children_of, last_of, next_of, prev_of, before_in}
 use Rattle.dom_model.proofs.Links.{child_of_parent, times-children_of}
 use Rattle.dom_model.proofs.Neighbours.{parent_of-last, parent_of-prev_sibling}
 use Rattle.node_arena.specs.declared.NodeRef.{NodeRef}
-use Rattle.edit_model.specs.Gives.{label_of, labels_of}
-use Rattle.edit_model.proofs.Steps.{labels_of_push}
+use Rattle.edit_model.specs.Gives.{label_of}
 use Rattle.edit_doc.specs.Whole.{Whole, IsDoc}
-use Rattle.edit_doc.specs.Held.{Holds, IfHeld, Finds}
-use Rattle.edit_doc.proofs.Children.{onward_at, IsChild, first_made, child_first, child_is}
-use Rattle.wrap_split.specs.Siblings.{until}
+use Rattle.edit_doc.specs.Held.{IfHeld, Finds}
+use Rattle.edit_doc.proofs.Children.{IsChild, child_is}
+use Rattle.edit_actions.specs.Siblings.{until}
+use Rattle.edit_actions.proofs.Children.{rest_at, rest_is}
 use Rattle.wrap_split.specs.Walks.{is_invisible}
 use Rattle.wrap_split.specs.Wrap.{first_visible, last_visible}
 use Rattle.wrap_split.proofs.Backward.{up_to, IsOnce, up_to_last, up_to_before, last_visible-push, shorter}
-
--- the children from a place on
-abbrev pub rest_at : Whole → Option NodeRef → List ℕ
-rest_at d o = tops (onward_at d.state.trees (label_of o))
 
 -- the children up to a place
 abbrev pub front_at : Whole → NodeRef → Option NodeRef → List ℕ
 front_at d node o = up_to (children_of d.state.trees node.label) (label_of o)
 
 -- ---- at the end of a walk
-
-pub until_none : (d : Whole) (end : NodeRef) (o : Option NodeRef) → o ≡ None → until end.label (rest_at d o) ≡ []
-unfolding until
-until_none d end o none = rw none refl
 
 pub first_none : (d : Whole) (o : Option NodeRef) → o ≡ None → first_visible d.state (rest_at d o) ≡ None
 unfolding first_visible
@@ -58,12 +49,6 @@ module _ (d : Whole) (law : IsDoc d) (node : NodeRef) where
   kids_once : IsOnce (children_of f node.label)
   kids_once n = times-children_of f node.label n once
 
-  pub all_rest : Holds d node → (first : Option NodeRef) → Finds d first (first_of f node.label) → rest_at d first ≡ children_of f node.label
-  all_rest held first finds = first_made d law node held first finds [] refl
-
-  pub none_until : Holds d node → (end : NodeRef) (first : Option NodeRef) → Finds d first (first_of f node.label) → (xs : List NodeRef) → xs ≡ [] → labels_of xs ++ until end.label (rest_at d first) ≡ until end.label (children_of f node.label)
-  none_until held end first finds xs none = rw none (ap (until end.label) (all_rest held first finds))
-
   pub last_child_is : (last : Option NodeRef) → Finds d last (last_of f node.label) → IsChild f node.label (label_of last)
   last_child_is last finds = rw finds.is (child_by f (last_of f node.label) node.label (λ k e. parent_of-last f once node.label k e))
 
@@ -74,31 +59,15 @@ module _ (d : Whole) (law : IsDoc d) (node : NodeRef) where
     child_parent : parent_of f child.label ≡ Some node.label
     child_parent = child_is d law node o child is held inner
 
-    rest_is : rest_at d o ≡ child.label ∷ tops (onward_at f (next_of f child.label))
-    rest_is = child_first d law node o child is held inner
-
-    -- ---- the children before one
-
-    pub until_here : (end : NodeRef) → child.label ≡ end.label → until end.label (rest_at d o) ≡ []
-    unfolding until
-    until_here end same = rw (rest_is, eq-eqb child.label end.label same) refl
-
-    pub until_next : (end : NodeRef) → child.label ≢ end.label → (next : Option NodeRef) → Finds d next (next_of f child.label) → (old new : List NodeRef) (whole : List ℕ)
-        → labels_of old ++ until end.label (rest_at d o) ≡ whole → new ≡ old ++ (child ∷ []) → labels_of new ++ until end.label (rest_at d next) ≡ whole
-    unfolding until
-    until_next end other next finds old new whole before more =
-        let here : until end.label (rest_at d o) ≡ child.label ∷ until end.label (tops (onward_at f (next_of f child.label))) = ap (until end.label) rest_is ∙ rw (ne_eqb child.label end.label other) refl in
-        rw (more, finds.is) (labels_of_push old child (until end.label (tops (onward_at f (next_of f child.label)))) ∙ (ap (λ xs. labels_of old ++ xs) (sym here) ∙ before))
-
     -- ---- the first visible child
 
     pub first_here : is_invisible d.state child.label ≡ false → first_visible d.state (rest_at d o) ≡ Some child.label
     unfolding first_visible
-    first_here shown = rw (rest_is, shown) refl
+    first_here shown = rw (rest_is d law node o child is held inner, shown) refl
 
     pub first_next : is_invisible d.state child.label ≡ true → (next : Option NodeRef) → Finds d next (next_of f child.label) → first_visible d.state (rest_at d next) ≡ first_visible d.state (rest_at d o)
     unfolding first_visible
-    first_next hidden next finds = rw (finds.is, rest_is, hidden) refl
+    first_next hidden next finds = rw (finds.is, rest_is d law node o child is held inner, hidden) refl
 
     -- ---- the last visible child
 

@@ -3,4 +3,3 @@ pub mod LastNodes
 pub mod Backward
 pub mod Children
 pub mod Extending
-pub mod Order

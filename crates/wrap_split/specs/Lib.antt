@@ -1,5 +1,4 @@
 pub mod Walks
-pub mod Siblings
 pub mod Breaks
 pub mod Split
 pub mod Target

@@ -5,15 +5,15 @@ use Rattle.std.specs.List.{list_all}
 use Rattle.std.specs.Option.{option_map_or}
 use Rattle.std.specs.declared.alloc.AllocError.{AllocError}
 use Rattle.dom_model.specs.declared.attributes.Attribute.{Attribute}
-use Rattle.dom_model.specs.Contents.{attributes_of}
+use Rattle.dom_model.specs.Contents.{attributes_of, has_name}
 use Rattle.dom_model.specs.Forest.{Forest, either, prev_of, next_of}
 use Rattle.dom_model.specs.declared.Content.{Content}
 use Rattle.css_value.specs.StyleText.{Declaration}
 use Rattle.css_value.specs.DeclarationList.{declarations_in}
 use Rattle.node_styles.specs.NameClasses.{is_simple_indentation}
-use Rattle.node_tests.specs.Modifiable.{meets_value}
+use Rattle.command_value.specs.Modifiable.{meets_value}
 use Rattle.edit_model.specs.State.{State}
-use Rattle.edit_model.specs.Confined.{is_editable_for, has_name}
+use Rattle.edit_model.specs.Confined.{is_editable_for}
 use Rattle.edit_model.specs.Run.{Run, ◌>>=◌, answer, look, given, make_element}
 use Rattle.wrap_split.specs.declared.rule.Blank.{Blank}
 use Rattle.wrap_split.specs.declared.rule.Criterion.{Criterion}
@@ -59,7 +59,7 @@ abbrev pub if_fits : Criterion → State → Option ℕ → Option ℕ
 if_fits c s None = None
 if_fits c s (Some n) = if is_editable_for s n && meets c s.trees n then Some n else None
 
--- the sibling before a, or else the one after z, that is editable and meets the criterion
+-- wrap, step 5: the sibling before a, or else the one after z, that is editable and meets the criterion
 unfoldable pub beside : Criterion → ℕ → ℕ → State → Option ℕ
 beside c a z s = either (if_fits c s (prev_of s.trees a)) (if_fits c s (next_of s.trees z))
 
@@ -76,7 +76,7 @@ made_of b = make_element b.0 b.1 >>= λ x. answer (Some x)
 unfoldable pub made_by : Recipe → Run (Option ℕ)
 made_by r = given (blank_of r) (answer None) made_of
 
--- that sibling, or else what is made
+-- wrap, step 5: that sibling, or else what is made
 unfoldable pub target : Criterion → Recipe → ℕ → ℕ → Run (Option ℕ)
 target c r a z = look λ s. given (beside c a z s) (made_by r) λ p. answer (Some p)
 

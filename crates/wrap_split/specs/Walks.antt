@@ -1,5 +1,5 @@
 -- Walks from node to node, in which nothing is edited.
-use Rattle.std.specs.Prelude.{ℕ, zero, suc, Bool, false, not, ◌==◌, Option, Some, None}
+use Rattle.std.specs.Prelude.{ℕ, zero, suc, Bool, not, Option, Some, None}
 use Rattle.std.specs.Option.{option_map_or}
 use Rattle.dom_model.specs.declared.Content.{Content}
 use Rattle.dom_model.specs.Forest.{Forest, parent_of, prev_of, last_in, preorder, tree_of}
@@ -19,11 +19,6 @@ followed (Some m) l on = on m
 unfoldable pub walk : (ℕ → Option ℕ) → ℕ → ℕ → ℕ
 walk step zero l = l
 walk step (suc n) l = followed (step l) l (walk step n)
-
--- whether the node is the one that may be there
-abbrev pub is_it : Option ℕ → ℕ → Bool
-is_it None l = false
-is_it (Some m) l = m == l
 
 -- the last node of a tree, in tree order
 abbrev pub last_within : Forest Content → ℕ → Option ℕ

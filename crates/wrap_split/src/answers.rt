@@ -1,12 +1,17 @@
 //! Tests and makers that many rules have.
 
-ghost use Rattle.wrap_split.specs.declared.rule.Criterion.TheVariants.{Never, Named, SimpleIndentation};
+ghost use Rattle.std.specs.Prelude.{◌≡◌};
+ghost use Rattle.edit_doc.specs.Held.{Holds};
+ghost use Rattle.wrap_split.specs.Target.{is_without_attributes};
+ghost use Rattle.wrap_split.specs.declared.rule.Criterion.TheVariants.{Never, SameValue, Named, SimpleIndentation};
 ghost use Rattle.wrap_split.specs.declared.rule.Recipe.TheVariants.{Nothing, Make};
 
-use crate::nodes::{has_name, is_bare};
 use crate::rule::{Blank, Makes, Meets};
-use doc_tests::is_simple_indentation;
+use command_value::meets_value;
+use dom_model::{Chars, Content};
 use edit_doc::{Doc, Name, NodeRef};
+use html_names::Command;
+use node_tests::{has_name, is_simple_indentation};
 use std::alloc::AllocError;
 
 /// No sibling fits.
@@ -19,6 +24,20 @@ impl Meets for NoSibling {
     #[tactic(auto, unfolding(crate::specs::Target::meets))]
     fn meets(&self, _doc: &Doc, _node: NodeRef) -> bool {
         false
+    }
+}
+
+// Whether a node is an element without attributes.
+fn is_bare(doc: &Doc, node: NodeRef) -> bool
+    requires { Holds doc.now node }
+    ensures { result ≡ is_without_attributes doc.now.state.trees node.label }
+{
+    match doc.content(node) {
+        Content::Element {
+            name: _,
+            attributes,
+        } => attributes.len() == 0,
+        _ => false,
     }
 }
 
@@ -35,6 +54,22 @@ impl Meets for NamedSibling {
     #[tactic(auto, unfolding(crate::specs::Target::meets))]
     fn meets(&self, doc: &Doc, node: NodeRef) -> bool {
         has_name(doc, node, self.name.as_slice()) && (!self.bare || is_bare(doc, node))
+    }
+}
+
+/// A simple modifiable element fits that gives the command the value, and has it.
+#[derive(Drop)]
+pub struct SameValueSibling {
+    pub command: Command,
+    pub value: Chars,
+}
+
+impl Meets for SameValueSibling {
+    ghost criterion = { λ s. SameValue s.command s.value };
+
+    #[tactic(auto, unfolding(crate::specs::Target::meets))]
+    fn meets(&self, doc: &Doc, node: NodeRef) -> bool {
+        meets_value(doc, node, self.command, self.value.as_slice())
     }
 }
 

@@ -1,17 +1,17 @@
-//! Removing line breaks.
+//! Removing line breaks. The steps are those of docs/ALGORITHMS.md.
 
 ghost use Rattle.std.specs.Prelude.{◌≡◌};
 ghost use Rattle.edit_model.specs.Gives.{Gives, label_of};
 ghost use Rattle.edit_doc.specs.Whole.{IsOpen};
-ghost use Rattle.edit_doc.specs.Held.{Holds, IfHeld, Finds, Keeps};
+ghost use Rattle.edit_doc.specs.Held.{Holds, Finds, Keeps};
 ghost use Rattle.wrap_split.specs.Breaks.{last_below, back_step, back, up_step, top_hidden, breaks_before, breaks_at_end, breaks_from};
 
-use crate::nodes::is_editable_for;
-use crate::walks::{is_it, preceding, turn_bound};
-use doc_tests::{is_extraneous_break, is_visible};
+use crate::walks::{preceding, turn_bound};
+use edit_actions::is_same;
 use edit_doc::{Doc, EditFault, NodeRef};
+use node_tests::{is_extraneous_break, is_visible};
 
-// Down from a node by last children.
+// Remove line breaks before, step 2, and at the end, step 1: down from a node by last children.
 #[tactic(auto, using(crate::proofs::Turns::walks), unfolding(crate::specs::Breaks::last_below))]
 fn last_below(doc: &Doc, node: NodeRef) -> NodeRef
     requires { Holds doc.now node }
@@ -30,19 +30,20 @@ fn last_below(doc: &Doc, node: NodeRef) -> NodeRef
     at
 }
 
-// Back in tree order, from a node that is invisible, no extraneous line break, and not where to stop.
+// Back in tree order, from a node that is invisible, no extraneous line break, and not where to stop: one turn.
 #[tactic(auto, unfolding(crate::specs::Breaks::back_step))]
 fn back_step(doc: &Doc, stop: Option<NodeRef>, node: NodeRef) -> Option<NodeRef>
     requires { Holds doc.now node }
     ensures { Finds doc.now result (back_step doc.now.state (label_of stop) node.label) }
 {
-    if !is_visible(doc, node) && !is_extraneous_break(doc, node) && !is_it(stop, node) {
+    if !is_visible(doc, node) && !is_extraneous_break(doc, node) && !is_same(stop, node) {
         preceding(doc, node)
     } else {
         None
     }
 }
 
+// Remove line breaks before, step 3, and at the end, step 2.
 #[tactic(auto, using(crate::proofs::Turns::walks), unfolding(crate::specs::Breaks::back))]
 fn back(doc: &Doc, stop: Option<NodeRef>, node: NodeRef) -> NodeRef
     requires { Holds doc.now node }
@@ -61,20 +62,21 @@ fn back(doc: &Doc, stop: Option<NodeRef>, node: NodeRef) -> NodeRef
     at
 }
 
-// Up from a node whose parent is editable and invisible.
+// Up from a node whose parent is editable and invisible: one turn.
 #[tactic(auto, unfolding(crate::specs::Breaks::up_step))]
 fn up_step(doc: &Doc, node: NodeRef) -> Option<NodeRef>
     requires { Holds doc.now node }
     ensures { Finds doc.now result (up_step doc.now.state node.label) }
 {
     let parent = doc.parent(node)?;
-    if is_editable_for(doc, parent) && !is_visible(doc, parent) {
+    if doc.is_editable_for(parent) && !is_visible(doc, parent) {
         Some(parent)
     } else {
         None
     }
 }
 
+// Remove line breaks at the end, step 4.
 #[tactic(auto, using(crate::proofs::Turns::walks), unfolding(crate::specs::Breaks::top_hidden))]
 fn top_hidden(doc: &Doc, node: NodeRef) -> NodeRef
     requires { Holds doc.now node }
@@ -101,11 +103,14 @@ pub fn breaks_before(doc: &mut Doc, node: NodeRef) -> Result<(), EditFault>
     ensures gives { Gives result doc.old.state doc.new.state (breaks_before node.label) }
     ensures keeps { Keeps doc.old doc.new }
 {
+    // step 1
     let Some(prev) = doc.prev(node) else {
         return Ok(());
     };
+    // steps 2 and 3
     let end = back(doc, doc.parent(node), last_below(doc, prev));
-    if is_editable_for(doc, end) && is_extraneous_break(doc, end) {
+    // step 4
+    if doc.is_editable_for(end) && is_extraneous_break(doc, end) {
         doc.remove(end)?;
     }
     Ok(())
@@ -120,8 +125,10 @@ pub fn breaks_at_end(doc: &mut Doc, node: NodeRef) -> Result<(), EditFault>
     ensures gives { Gives result doc.old.state doc.new.state (breaks_at_end node.label) }
     ensures keeps { Keeps doc.old doc.new }
 {
+    // steps 1 and 2
     let end = back(doc, Some(node), last_below(doc, node));
-    if is_editable_for(doc, end) && is_extraneous_break(doc, end) {
+    // steps 3 to 5
+    if doc.is_editable_for(end) && is_extraneous_break(doc, end) {
         let top = top_hidden(doc, end);
         doc.remove(top)?;
     }

@@ -3,18 +3,16 @@
 ghost use Rattle.std.specs.Prelude.{◌≡◌, ◌<◌, length};
 ghost use Rattle.edit_model.specs.Gives.{Gives, label_of, labels_of};
 ghost use Rattle.edit_model.specs.Run.{final};
-ghost use Rattle.point_order.specs.PointOrder.{is_earlier};
 ghost use Rattle.edit_doc.specs.Whole.{IsOpen, with_state};
 ghost use Rattle.edit_doc.specs.Held.{Holds, IfHeld, EachHeld, Keeps};
 ghost use Rattle.wrap_split.specs.Wrap.{is_inline, is_other, append_break, prepend_break, joins_end, joins_front, parted_end, to_end, parted_front, to_front, moved_in, grow_at, stood, drop_parent, move_children, merged};
 
 use crate::listing::{first_visible, last_visible};
-use crate::moves::{insert_before, make_break, move_all_first, move_each_last};
-use crate::nodes::{is_break, is_editable_for};
-use crate::siblings::{children_of, first_visible_child, last_visible_child};
-use crate::walks::is_it;
-use doc_tests::is_block;
+use crate::siblings::{first_visible_child, last_visible_child};
+use edit_actions::{insert_before, make_break, move_all_first};
 use edit_doc::{Doc, EditFault, NodeRef};
+use node_tests::{is_block, is_break};
+use point_order::is_earlier;
 use std::alloc::Global;
 
 fn is_inline(doc: &Doc, node: Option<NodeRef>) -> bool
@@ -36,17 +34,6 @@ fn is_other(doc: &Doc, node: Option<NodeRef>) -> bool
         Some(node) => !is_break(doc, node),
         None => false,
     }
-}
-
-// Whether a node comes before another one in tree order.
-fn is_earlier(doc: &Doc, node: NodeRef, other: NodeRef) -> bool
-    requires node_held { Holds doc.now node }
-    requires other_held { Holds doc.now other }
-    ensures { result ≡ is_earlier doc.now.state.trees node.label other.label }
-{
-    let arena = doc.arena();
-    arena.lawful();
-    is_it(arena.before(node, other), node)
 }
 
 #[tactic(auto, using(edit_model::proofs::Steps::steps, edit_model::proofs::Steps::exits), unfolding(crate::specs::Wrap::append_break))]
@@ -74,7 +61,7 @@ fn prepend_break(alloc: Global, doc: &mut Doc, node: NodeRef) -> Result<(), Edit
     Ok(())
 }
 
-// Whether a br has to part what the node ends with from what comes after it there.
+// Wrap, steps 8 and 11: whether a br has to part what the node ends with from what comes after it there.
 #[tactic(auto, unfolding(crate::specs::Wrap::joins_end))]
 fn joins_end(doc: &Doc, node: NodeRef, before: Option<NodeRef>, after: Option<NodeRef>) -> bool
     requires node_held { Holds doc.now node }
@@ -88,7 +75,7 @@ fn joins_end(doc: &Doc, node: NodeRef, before: Option<NodeRef>, after: Option<No
         && is_other(doc, doc.last_child(node))
 }
 
-// Whether a br has to part what the node begins with from the list that comes before it there.
+// Wrap, step 9: whether a br has to part what the node begins with from the list that comes before it there.
 #[tactic(auto, using(edit_model::proofs::Steps::ends), unfolding(crate::specs::Wrap::joins_front))]
 fn joins_front(doc: &Doc, node: NodeRef, list: &[NodeRef]) -> bool
     requires some { 0 < length list.now }
@@ -102,6 +89,7 @@ fn joins_front(doc: &Doc, node: NodeRef, list: &[NodeRef]) -> bool
         && !is_break(doc, list[list.len() - 1])
 }
 
+// Wrap, steps 8 and 11.
 #[tactic(auto, using(edit_model::proofs::Steps::steps, edit_model::proofs::Steps::exits), unfolding(crate::specs::Wrap::parted_end))]
 fn part_end(
     alloc: Global,
@@ -123,6 +111,7 @@ fn part_end(
     Ok(())
 }
 
+// Wrap, step 8.
 #[tactic(auto, using(edit_model::proofs::Steps::steps, edit_model::proofs::Steps::exits), unfolding(crate::specs::Wrap::to_end))]
 fn move_to_end(
     alloc: Global,
@@ -139,9 +128,10 @@ fn move_to_end(
     let before = last_visible_child(doc, node);
     let after = first_visible(doc, list);
     part_end(alloc, doc, node, before, after)?;
-    move_each_last(doc, list, node)
+    doc.move_each_last(list, node)
 }
 
+// Wrap, step 9.
 #[tactic(auto, using(edit_model::proofs::Steps::steps, edit_model::proofs::Steps::exits), unfolding(crate::specs::Wrap::parted_front))]
 fn part_front(
     alloc: Global,
@@ -162,6 +152,7 @@ fn part_front(
     Ok(())
 }
 
+// Wrap, step 9.
 #[tactic(auto, using(edit_model::proofs::Steps::steps, edit_model::proofs::Steps::exits), unfolding(crate::specs::Wrap::to_front))]
 fn move_to_front(
     alloc: Global,
@@ -180,6 +171,7 @@ fn move_to_front(
     move_all_first(doc, list, node)
 }
 
+// Wrap, steps 8 and 9.
 #[tactic(auto, using(edit_model::proofs::Steps::steps, edit_model::proofs::Steps::exits), unfolding(crate::specs::Wrap::moved_in))]
 pub(crate) fn move_in(
     alloc: Global,
@@ -202,7 +194,7 @@ pub(crate) fn move_in(
     move_to_front(alloc, doc, node, list)
 }
 
-// The points at the place of a node, which was inserted there, grow.
+// Wrap, step 6: the points at the place of a node, which was inserted there, grow.
 #[tactic(auto, using(edit_model::proofs::Steps::actions), unfolding(crate::specs::Wrap::grow_at))]
 fn grow_at(doc: &mut Doc, node: NodeRef)
     requires { Holds doc.old node }
@@ -212,7 +204,7 @@ fn grow_at(doc: &mut Doc, node: NodeRef)
     doc.grow_before(node);
 }
 
-// Puts a node that has no parent before the first member.
+// Wrap, step 6: puts a node that has no parent before the first member.
 #[tactic(auto, using(edit_model::proofs::Steps::steps, edit_model::proofs::Steps::exits), unfolding(crate::specs::Wrap::stood))]
 pub(crate) fn put_before(doc: &mut Doc, node: NodeRef, first: NodeRef) -> Result<(), EditFault>
     requires open { IsOpen doc.old }
@@ -228,7 +220,7 @@ pub(crate) fn put_before(doc: &mut Doc, node: NodeRef, first: NodeRef) -> Result
     Ok(())
 }
 
-// Removes an emptied parent.
+// Wrap, step 10: removes an emptied parent.
 #[tactic(auto, using(edit_model::proofs::Steps::steps, edit_model::proofs::Steps::exits), unfolding(crate::specs::Wrap::drop_empty, crate::specs::Wrap::drop_parent))]
 pub(crate) fn drop_parent(doc: &mut Doc, node: Option<NodeRef>) -> Result<(), EditFault>
     requires open { IsOpen doc.old }
@@ -239,30 +231,25 @@ pub(crate) fn drop_parent(doc: &mut Doc, node: Option<NodeRef>) -> Result<(), Ed
     let Some(node) = node else {
         return Ok(());
     };
-    if is_editable_for(doc, node) && doc.first_child(node).is_none() {
+    if doc.is_editable_for(node) && doc.first_child(node).is_none() {
         doc.remove(node)?;
     }
     Ok(())
 }
 
 #[tactic(auto, using(edit_model::proofs::Steps::steps, edit_model::proofs::Steps::exits), unfolding(crate::specs::Wrap::move_children))]
-fn move_children(
-    alloc: Global,
-    doc: &mut Doc,
-    node: NodeRef,
-    from: NodeRef,
-) -> Result<(), EditFault>
+fn move_children(doc: &mut Doc, node: NodeRef, from: NodeRef) -> Result<(), EditFault>
     requires open { IsOpen doc.old }
     requires node_held { Holds doc.old node }
     requires from_held { Holds doc.old from }
     ensures gives { Gives result doc.old.state doc.new.state (move_children node.label from.label) }
     ensures keeps { Keeps doc.old doc.new }
 {
-    let children = children_of(alloc, doc, from)?;
-    move_each_last(doc, &children, node)
+    let children = doc.children_of(from)?;
+    doc.move_each_last(&children, node)
 }
 
-// Moves the children of the sibling after a node to its end, and removes the sibling.
+// Wrap, step 11: moves the children of the sibling after a node to its end, and removes the sibling.
 #[tactic(auto, using(edit_model::proofs::Steps::steps, edit_model::proofs::Steps::exits), unfolding(crate::specs::Wrap::merged))]
 pub(crate) fn merge(
     alloc: Global,
@@ -279,7 +266,7 @@ pub(crate) fn merge(
     let last = doc.last_child(node);
     let first = doc.first_child(next);
     part_end(alloc, doc, node, last, first)?;
-    move_children(alloc, doc, node, next)?;
+    move_children(doc, node, next)?;
     doc.remove(next)?;
     Ok(())
 }

@@ -9,8 +9,6 @@ mod answers;
 mod breaks;
 mod filling;
 mod listing;
-mod moves;
-mod nodes;
 mod rule;
 mod siblings;
 mod split;
@@ -18,7 +16,9 @@ mod target;
 mod walks;
 mod wrapping;
 
-pub use answers::{CopyMade, IndentationSibling, NamedSibling, NoSibling, NothingMade};
+pub use answers::{
+    CopyMade, IndentationSibling, NamedSibling, NoSibling, NothingMade, SameValueSibling,
+};
 pub use breaks::{breaks_at_end, breaks_before, breaks_from};
 pub use edit_doc::{Doc, EditFault, NodeList, NodeRef};
 pub use rule::{Blank, Criterion, Makes, Meets, Recipe, WrapRule};

@@ -6,13 +6,12 @@ ghost use Rattle.edit_doc.specs.Held.{Holds, IfHeld, EachHeld, Finds};
 ghost use Rattle.wrap_split.specs.Walks.{turn_bound};
 ghost use Rattle.wrap_split.specs.Wrap.{all_hidden, first_visible, last_visible, break_next, if_hidden, with_break, extended, hidden_after, extended_back, widened};
 
-use crate::nodes::is_break;
 use crate::walks::turn_bound;
-use doc_tests::{is_block, is_visible};
 use edit_doc::{Doc, NodeRef};
+use node_tests::{is_block, is_break, is_visible};
 use std::alloc::AllocError;
 
-// Whether every member is invisible, and none is a br.
+// Wrap, step 2: whether every member is invisible, and none is a br.
 #[tactic(auto, using(edit_model::proofs::Steps::labels_of_drop, edit_model::proofs::Steps::labels_of_end), unfolding(crate::specs::Wrap::all_hidden))]
 pub(crate) fn all_hidden(doc: &Doc, list: &[NodeRef]) -> bool
     requires { EachHeld doc.now list.now }
@@ -53,7 +52,7 @@ pub(crate) fn last_visible(doc: &Doc, list: &[NodeRef]) -> Option<NodeRef>
     found
 }
 
-// The br after an inline node that is no br.
+// Wrap, step 3: the br after an inline node that is no br.
 #[tactic(auto, unfolding(crate::specs::Wrap::break_next))]
 fn break_next(doc: &Doc, node: NodeRef) -> Option<NodeRef>
     requires { Holds doc.now node }
@@ -82,7 +81,7 @@ fn if_hidden(doc: &Doc, node: Option<NodeRef>) -> Option<NodeRef>
     }
 }
 
-// The list with the br after its last member.
+// Wrap, step 3: the list with the br after its last member.
 #[tactic(auto, using(edit_model::proofs::Steps::labels_of_push_end, edit_model::proofs::Steps::append_none), unfolding(crate::specs::Wrap::with_break))]
 fn with_break(doc: &Doc, list: Vec<NodeRef>, last: NodeRef) -> Result<Vec<NodeRef>, AllocError>
     requires list_held { EachHeld doc.now list.items }
@@ -123,7 +122,7 @@ fn with_hidden_before(
     Ok(reversed)
 }
 
-// The list with the invisible nodes before it.
+// Wrap, step 4: the list with the invisible nodes before it.
 #[tactic(auto, using(crate::proofs::Extending::reversed_held, crate::proofs::Extending::reversed_twice))]
 fn extended(doc: &Doc, list: Vec<NodeRef>, first: NodeRef) -> Result<Vec<NodeRef>, AllocError>
     requires list_held { EachHeld doc.now list.items }
@@ -138,7 +137,7 @@ fn extended(doc: &Doc, list: Vec<NodeRef>, first: NodeRef) -> Result<Vec<NodeRef
     Ok(list)
 }
 
-// The list with the invisible nodes after a node.
+// Wrap, step 4: the list with the invisible nodes after a node.
 #[tactic(auto, using(crate::proofs::Extending::ends, edit_model::proofs::Steps::labels_of_push, edit_model::proofs::Steps::append_none))]
 fn with_hidden_after(
     doc: &Doc,
@@ -177,7 +176,7 @@ fn extended_back(doc: &Doc, list: Vec<NodeRef>) -> Result<Vec<NodeRef>, AllocErr
     with_hidden_after(doc, list, last)
 }
 
-// The list with the br after it, and the invisible nodes on both sides.
+// Wrap, steps 3 and 4: the list with the br after it, and the invisible nodes on both sides.
 #[tactic(auto, unfolding(crate::specs::Wrap::widened))]
 pub(crate) fn widened(
     doc: &Doc,

@@ -1,4 +1,5 @@
-//! Splitting the parent of a list of siblings, and removing a node while its children stay.
+//! Splitting the parent of a list of siblings, and removing a node while its children stay. The steps are those of
+//! docs/ALGORITHMS.md.
 
 ghost use Rattle.std.specs.Prelude.{◌≡◌};
 ghost use Rattle.edit_model.specs.Gives.{Gives, labels_of};
@@ -7,16 +8,15 @@ ghost use Rattle.edit_doc.specs.Held.{Holds, EachHeld, Keeps};
 ghost use Rattle.wrap_split.specs.Split.{break_before, break_after, clear_before, copied, copy_front, drop_first_break, close, tidy_after, split_end, split_rest, split_marked, is_void_thing, split_at, split_members, split_parent, remove_keeping_children};
 
 use crate::breaks::{breaks_at_end, breaks_before};
-use crate::moves::{
-    insert_after, insert_before, make_break, move_all_after, move_all_before, move_each_last,
+use edit_actions::{
+    attributes_of, children_before, ends_in, first_parent, insert_after, insert_before, make_break,
+    members, move_all_after, move_all_before, starts_in, tag_of,
 };
-use crate::nodes::{attributes_of, has_name, is_break, is_editable_for, tag_of};
-use crate::siblings::{children_before, children_of, ends_in, first_parent, members, starts_in};
-use doc_tests::{follows_break, is_block, precedes_break};
 use edit_doc::{Doc, EditFault, Name, NodeList, NodeRef};
+use node_tests::{follows_break, has_name, is_block, is_break, is_image, precedes_break};
 use std::alloc::Global;
 
-// Puts a new br before a node, if it is wanted and the node doesn't follow a line break.
+// Split the parent, step 8: puts a new br before a node, if it is wanted and the node doesn't follow a line break.
 #[tactic(auto, using(edit_model::proofs::Steps::steps, edit_model::proofs::Steps::exits), unfolding(crate::specs::Split::break_before))]
 fn break_before(alloc: Global, doc: &mut Doc, wanted: bool, node: NodeRef) -> Result<(), EditFault>
     requires open { IsOpen doc.old }
@@ -31,7 +31,8 @@ fn break_before(alloc: Global, doc: &mut Doc, wanted: bool, node: NodeRef) -> Re
     Ok(())
 }
 
-// Puts a new br after a node, if it is wanted and the node doesn't precede a line break.
+// Split the parent, steps 5 and 10: puts a new br after a node, if it is wanted and the node doesn't precede a line
+// break.
 #[tactic(auto, using(edit_model::proofs::Steps::steps, edit_model::proofs::Steps::exits), unfolding(crate::specs::Split::break_after))]
 fn break_after(alloc: Global, doc: &mut Doc, wanted: bool, node: NodeRef) -> Result<(), EditFault>
     requires open { IsOpen doc.old }
@@ -46,7 +47,7 @@ fn break_after(alloc: Global, doc: &mut Doc, wanted: bool, node: NodeRef) -> Res
     Ok(())
 }
 
-// Removes the line breaks before a node whose first child is a member.
+// Split the parent, step 3: removes the line breaks before a node whose first child is a member.
 #[tactic(auto, using(edit_model::proofs::Steps::steps, edit_model::proofs::Steps::exits), unfolding(crate::specs::Split::clear_before))]
 fn clear_before(doc: &mut Doc, node: NodeRef, list: &[NodeRef]) -> Result<(), EditFault>
     requires open { IsOpen doc.old }
@@ -60,7 +61,8 @@ fn clear_before(doc: &mut Doc, node: NodeRef, list: &[NodeRef]) -> Result<(), Ed
     Ok(())
 }
 
-// Moves the children before the first member to a copy of the node before it. The node loses its id.
+// Split the parent, step 6: moves the children before the first member to a copy of the node before it. The node loses
+// its id.
 #[tactic(auto, using(edit_model::proofs::Steps::steps, edit_model::proofs::Steps::exits), unfolding(crate::specs::Split::copied))]
 fn copied(alloc: Global, doc: &mut Doc, node: NodeRef, first: NodeRef) -> Result<(), EditFault>
     requires open { IsOpen doc.old }
@@ -75,9 +77,10 @@ fn copied(alloc: Global, doc: &mut Doc, node: NodeRef, first: NodeRef) -> Result
     let copy = doc.make_element(&name, &attributes)?;
     doc.unset_attribute(node, &id)?;
     insert_before(doc, node, copy)?;
-    move_each_last(doc, &front, copy)
+    doc.move_each_last(&front, copy)
 }
 
+// The same, where the first child is no member.
 #[tactic(auto, using(edit_model::proofs::Steps::steps, edit_model::proofs::Steps::exits), unfolding(crate::specs::Split::copy_front))]
 fn copy_front(
     alloc: Global,
@@ -97,7 +100,7 @@ fn copy_front(
     copied(alloc, doc, node, first)
 }
 
-// Removes a br that a block begins with, where the last member is inline and no br.
+// Split the parent, step 9: removes a br that a block begins with, where the last member is inline and no br.
 #[tactic(auto, using(edit_model::proofs::Steps::steps, edit_model::proofs::Steps::exits), unfolding(crate::specs::Split::drop_first_break))]
 fn drop_first_break(doc: &mut Doc, node: NodeRef, last: NodeRef) -> Result<(), EditFault>
     requires open { IsOpen doc.old }
@@ -115,7 +118,7 @@ fn drop_first_break(doc: &mut Doc, node: NodeRef, last: NodeRef) -> Result<(), E
     Ok(())
 }
 
-// Removes an emptied node, and puts a br where one is wanted after the last member.
+// Split the parent, step 10: removes an emptied node, and puts a br where one is wanted after the last member.
 #[tactic(auto, using(edit_model::proofs::Steps::steps, edit_model::proofs::Steps::exits), unfolding(crate::specs::Split::close))]
 fn close(
     alloc: Global,
@@ -137,7 +140,7 @@ fn close(
     break_after(alloc, doc, wanted, last)
 }
 
-// Removes the line breaks at the end of the parent, where the last member is its last child.
+// Split the parent, step 11: removes the line breaks at the end of the parent, where the last member is its last child.
 #[tactic(auto, using(edit_model::proofs::Steps::steps, edit_model::proofs::Steps::exits), unfolding(crate::specs::Split::tidy_after))]
 fn tidy_after(doc: &mut Doc, last: NodeRef) -> Result<(), EditFault>
     requires open { IsOpen doc.old }
@@ -154,7 +157,7 @@ fn tidy_after(doc: &mut Doc, last: NodeRef) -> Result<(), EditFault>
     breaks_at_end(doc, parent)
 }
 
-// The members stand at the end of the node, and not at its start.
+// Split the parent, step 5: the members stand at the end of the node, and not at its start.
 #[tactic(auto, using(edit_model::proofs::Steps::steps, edit_model::proofs::Steps::exits), unfolding(crate::specs::Split::split_end))]
 fn split_end(
     alloc: Global,
@@ -176,6 +179,7 @@ fn split_end(
     breaks_at_end(doc, node)
 }
 
+// Split the parent, steps 6 to 11.
 #[tactic(auto, using(edit_model::proofs::Steps::steps, edit_model::proofs::Steps::exits), unfolding(crate::specs::Split::split_rest))]
 fn split_rest(
     alloc: Global,
@@ -193,14 +197,15 @@ fn split_rest(
     ensures gives { Gives result doc.old.state doc.new.state (split_rest node.label (labels_of list.now) ends.0.label ends.1.label wanted.0 wanted.1) }
     ensures keeps { Keeps doc.old doc.new }
 {
-    copy_front(alloc, doc, node, list, ends.0)?;
-    move_all_before(doc, list, node)?;
-    break_before(alloc, doc, wanted.0, ends.0)?;
-    drop_first_break(doc, node, ends.1)?;
-    close(alloc, doc, node, ends.1, wanted.1)?;
-    tidy_after(doc, ends.1)
+    copy_front(alloc, doc, node, list, ends.0)?; // step 6
+    move_all_before(doc, list, node)?; // step 7
+    break_before(alloc, doc, wanted.0, ends.0)?; // step 8
+    drop_first_break(doc, node, ends.1)?; // step 9
+    close(alloc, doc, node, ends.1, wanted.1)?; // step 10
+    tidy_after(doc, ends.1) // step 11
 }
 
+// Split the parent, step 4, and then 5 or 6 to 11.
 #[tactic(auto, using(edit_model::proofs::Steps::steps, edit_model::proofs::Steps::exits), unfolding(crate::specs::Split::split_marked))]
 fn split_marked(
     alloc: Global,
@@ -218,6 +223,7 @@ fn split_marked(
     ensures gives { Gives result doc.old.state doc.new.state (split_marked node.label (labels_of list.now) first.label last.label) }
     ensures keeps { Keeps doc.old doc.new }
 {
+    // step 4
     let starts = starts_in(doc, node, list);
     let ends = ends_in(doc, node, list);
     let before = starts && follows_break(doc, node);
@@ -233,9 +239,10 @@ fn is_void_thing(doc: &Doc, node: NodeRef) -> bool
     requires { Holds doc.now node }
     ensures { result ≡ is_void_thing doc.now.state node.label }
 {
-    has_name(doc, node, b"img") || has_name(doc, node, b"hr")
+    is_image(doc, node) || has_name(doc, node, b"hr")
 }
 
+// Split the parent, steps 2 and 3, and then from 4 on.
 #[tactic(auto, using(edit_model::proofs::Steps::steps, edit_model::proofs::Steps::exits), unfolding(crate::specs::Split::split_at))]
 fn split_at(
     alloc: Global,
@@ -253,13 +260,14 @@ fn split_at(
     ensures gives { Gives result doc.old.state doc.new.state (split_at node.label (labels_of list.now) first.label last.label) }
     ensures keeps { Keeps doc.old doc.new }
 {
-    if !is_editable_for(doc, node) || doc.parent(node).is_none() || is_void_thing(doc, node) {
+    if !doc.is_editable_for(node) || doc.parent(node).is_none() || is_void_thing(doc, node) {
         return Ok(());
     }
     clear_before(doc, node, list)?;
     split_marked(alloc, doc, node, list, first, last)
 }
 
+// The same, of all members.
 #[tactic(auto, using(edit_model::proofs::Steps::steps, edit_model::proofs::Steps::exits, edit_model::proofs::Steps::ends), unfolding(crate::specs::Split::split_members))]
 fn split_members(
     alloc: Global,
@@ -279,6 +287,7 @@ fn split_members(
     split_at(alloc, doc, node, list, list[0], list[list.len() - 1])
 }
 
+// Split the parent, step 1.
 #[tactic(auto, using(edit_model::proofs::Steps::steps, edit_model::proofs::Steps::exits), unfolding(crate::specs::Split::split_parent))]
 fn split_parent_of(alloc: Global, doc: &mut Doc, list: &[NodeRef]) -> Result<(), EditFault>
     requires open { IsOpen doc.old }
@@ -316,6 +325,6 @@ pub fn remove_keeping_children(alloc: Global, doc: &mut Doc, node: NodeRef) -> R
         doc.remove(node)?;
         return Ok(());
     }
-    let children = children_of(alloc, doc, node)?;
+    let children = doc.children_of(node)?;
     split_parent_of(alloc, doc, &children)
 }

@@ -6,7 +6,6 @@ ghost use Rattle.edit_doc.specs.Whole.{IsOpen};
 ghost use Rattle.edit_doc.specs.Held.{Holds, IfHeld, Finds, Keeps};
 ghost use Rattle.wrap_split.specs.Target.{if_fits, made_by, target};
 
-use crate::nodes::is_editable_for;
 use crate::rule::{Makes, Meets, WrapRule};
 use edit_doc::{Doc, EditFault, NodeRef};
 
@@ -20,7 +19,7 @@ pub(crate) fn if_fits<C: Meets, M: Makes>(
     ensures { Finds doc.now result (if_fits (C.criterion rule.now.test) doc.now.state (label_of node)) }
 {
     let node = node?;
-    if is_editable_for(doc, node) && rule.test.meets(doc, node) {
+    if doc.is_editable_for(node) && rule.test.meets(doc, node) {
         Some(node)
     } else {
         None
@@ -45,7 +44,7 @@ fn made_by<C: Meets, M: Makes>(
     Ok(Some(made))
 }
 
-// The sibling beside the list that fits, or else a new element.
+// Wrap, step 5: the sibling beside the list that fits, or else a new element.
 #[tactic(auto, using(edit_model::proofs::Steps::steps, edit_model::proofs::Steps::exits), unfolding(crate::specs::Target::target, crate::specs::Target::beside))]
 pub(crate) fn target<C: Meets, M: Makes>(
     doc: &mut Doc,

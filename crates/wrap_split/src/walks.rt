@@ -1,9 +1,8 @@
 //! Walks from node to node, in which nothing is edited.
 
 ghost use Rattle.std.specs.Prelude.{◌≡◌, Some};
-ghost use Rattle.edit_model.specs.Gives.{label_of};
 ghost use Rattle.edit_doc.specs.Held.{Holds, Finds};
-ghost use Rattle.wrap_split.specs.Walks.{turn_bound, is_it, last_within, preceding};
+ghost use Rattle.wrap_split.specs.Walks.{turn_bound, last_within, preceding};
 
 use edit_doc::{Doc, NodeRef};
 
@@ -13,16 +12,6 @@ pub(crate) fn turn_bound(doc: &Doc) -> u128
 {
     let counts = doc.counts();
     2 * counts.nodes as u128 + counts.chars as u128 + 2
-}
-
-// Whether the node is the one that may be there.
-pub(crate) fn is_it(at: Option<NodeRef>, node: NodeRef) -> bool
-    ensures { result ≡ is_it (label_of at) node.label }
-{
-    match at {
-        Some(other) => other.label == node.label,
-        None => false,
-    }
 }
 
 // The last node of a tree, in tree order.

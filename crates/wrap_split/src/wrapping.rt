@@ -1,4 +1,4 @@
-//! Wrapping a list of siblings.
+//! Wrapping a list of siblings. The steps are those of docs/ALGORITHMS.md.
 
 ghost use Rattle.std.specs.Prelude.{◌≡◌, ◌<◌, IfOk, length};
 ghost use Rattle.edit_model.specs.Gives.{Gives, GivesMaybe, label_of, labels_of};
@@ -10,11 +10,12 @@ use crate::breaks::breaks_from;
 use crate::filling::{drop_parent, merge, move_in, put_before};
 use crate::listing::{all_hidden, widened};
 use crate::rule::{Makes, Meets, WrapRule};
-use crate::siblings::{first_parent, members};
 use crate::target::{if_fits, target};
+use edit_actions::{first_parent, members};
 use edit_doc::{Doc, EditFault, NodeList, NodeRef};
 use std::alloc::Global;
 
+// Wrap, step 11.
 #[tactic(auto, using(edit_model::proofs::Steps::steps, edit_model::proofs::Steps::exits), unfolding(crate::specs::Wrap::merge_next))]
 fn merge_next<C: Meets, M: Makes>(
     alloc: Global,
@@ -34,6 +35,7 @@ fn merge_next<C: Meets, M: Makes>(
     merge(alloc, doc, node, next)
 }
 
+// Wrap, steps 8 to 12.
 #[tactic(auto, using(edit_model::proofs::Steps::steps, edit_model::proofs::Steps::exits), unfolding(crate::specs::Wrap::filled_from))]
 fn fill_from<C: Meets, M: Makes>(
     alloc: Global,
@@ -53,13 +55,14 @@ fn fill_from<C: Meets, M: Makes>(
     ensures held { IfOk result (λ found. IfHeld doc.new found) }
     ensures keeps { Keeps doc.old doc.new }
 {
-    move_in(alloc, doc, node, list, from.0)?;
-    drop_parent(doc, from.1)?;
-    merge_next(alloc, doc, node, rule)?;
-    breaks_from(doc, node)?;
+    move_in(alloc, doc, node, list, from.0)?; // steps 8 and 9
+    drop_parent(doc, from.1)?; // step 10
+    merge_next(alloc, doc, node, rule)?; // step 11
+    breaks_from(doc, node)?; // step 12
     Ok(Some(node))
 }
 
+// Wrap, steps 6 and 7, and then from 8 on.
 #[tactic(auto, using(edit_model::proofs::Steps::steps, edit_model::proofs::Steps::exits), unfolding(crate::specs::Wrap::filled))]
 fn fill<C: Meets, M: Makes>(
     alloc: Global,
@@ -83,6 +86,7 @@ fn fill<C: Meets, M: Makes>(
     fill_from(alloc, doc, node, list, (first, parent), rule)
 }
 
+// Wrap, step 5, and then from 6 on.
 #[tactic(auto, using(edit_model::proofs::Steps::steps, edit_model::proofs::Steps::exits), unfolding(crate::specs::Wrap::into_target, crate::specs::Wrap::wrap_ends))]
 fn wrap_ends<C: Meets, M: Makes>(
     alloc: Global,
@@ -126,6 +130,7 @@ fn wrap_list<C: Meets, M: Makes>(
     wrap_ends(alloc, doc, list, list[0], list[list.len() - 1], rule)
 }
 
+// Wrap, steps 2 to 4, and then from 5 on.
 #[tactic(auto, using(edit_model::proofs::Steps::steps, edit_model::proofs::Steps::exits, edit_model::proofs::Steps::ends), unfolding(crate::specs::Wrap::wrap_members))]
 fn wrap_members<C: Meets, M: Makes>(
     alloc: Global,
@@ -142,9 +147,11 @@ fn wrap_members<C: Meets, M: Makes>(
     if list.len() == 0 {
         return Ok(None);
     }
+    // step 2
     if all_hidden(doc, &list) {
         return Ok(None);
     }
+    // steps 3 and 4
     let first = list[0];
     let last = list[list.len() - 1];
     let list = widened(doc, list, first, last)?;
@@ -167,6 +174,7 @@ pub fn wrap<C: Meets, M: Makes>(
     ensures held { IfOk result (λ found. IfHeld doc.new found) }
     ensures keeps { Keeps doc.old doc.new }
 {
+    // step 1
     let Some(parent) = first_parent(doc, list.as_slice()) else {
         return Ok(None);
     };

@@ -4,7 +4,7 @@ use Rattle.edit_model.specs.Gives.{label_of}
 use Rattle.edit_doc.specs.Held.{IfHeld}
 use Rattle.edit_doc.proofs.Children.{IsChild, size_from}
 use Rattle.wrap_split.specs.Wrap.{first_visible}
-use Rattle.wrap_split.proofs.Children.{rest_at}
+use Rattle.edit_actions.proofs.Children.{rest_at}
 use Rattle.wrap_split.proofs.siblings.first_visible_child.Given as goal
 
 -- the first that is visible is one of those still to come

@@ -1,0 +1,2 @@
+pub mod ActiveRange
+pub mod Siblings

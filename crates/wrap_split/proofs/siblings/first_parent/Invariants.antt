@@ -1,8 +1,0 @@
-use Rattle.std.proofs.Common.{◌≡◌, drop}
-use Rattle.edit_model.specs.Gives.{labels_of}
-use Rattle.wrap_split.specs.Siblings.{first_parent}
-use Rattle.wrap_split.proofs.siblings.first_parent.Given as goal
-
-abbrev pub invariant-loop-member : goal.invariant-loop-member
-invariant-loop-member l =
-    first_parent l.doc.state (labels_of (drop l.member-index l.list)) ≡ first_parent l.doc.state (labels_of l.list)

@@ -1,8 +1,0 @@
-use Rattle.std.proofs.Common.{◌≡◌, drop}
-use Rattle.edit_model.specs.Gives.{labels_of}
-use Rattle.wrap_split.specs.Siblings.{is_among}
-use Rattle.wrap_split.proofs.siblings.is_among.Given as goal
-
-abbrev pub invariant-loop-member : goal.invariant-loop-member
-invariant-loop-member l =
-    is_among l.node.label (labels_of (drop l.member-index l.list)) ≡ is_among l.node.label (labels_of l.list)
