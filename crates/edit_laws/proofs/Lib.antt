@@ -16,3 +16,8 @@ pub mod NewElements
 pub mod Hosts
 pub mod Splitting
 pub mod Fronts
+pub mod Cancelling
+pub mod BelowHost
+pub mod StatelessRuns
+pub mod Resting
+pub mod Unwrapping

@@ -10,7 +10,7 @@ use Rattle.edit_model.specs.State.{State}
 use Rattle.edit_model.specs.Kept.{borne_by, leaves, bears_nothing}
 use Rattle.edit_model.specs.Edit.{Edit, Insert, Remove, Move, Replace, Set, Unset, is_made_edit, trees_after, with_set, with_unset, changed, edited}
 use Rattle.edit_model.specs.Action as action
-use Rattle.edit_model.specs.Action.{Action, made, words_content, extended, acted}
+use Rattle.edit_model.specs.Action.{Action, made, words_content, extended, extracted, acted}
 use Rattle.edit_model.specs.Run.{Reaches, here, onward, Run, final}
 use Rattle.edit_model.specs.History.{document_of}
 use Rattle.edit_model.specs.Lawful.{IsForest}
@@ -21,6 +21,7 @@ use Rattle.edit_model.proofs.Forests.{inner_child}
 use Rattle.edit_model.proofs.IslandRuns.{trees_made, trees_left}
 use Rattle.edit_model.proofs.LawfulRuns.{lawful_along}
 use Rattle.edit_model.proofs.OutsideRuns.{trees-extended, trees-selected, trees-grown, trees-sent, trees-scratched}
+use Rattle.edit_model.proofs.TailSteps.{extracted_off}
 use Rattle.edit_model.proofs.Tests.{inserts, removes}
 use Rattle.edit_laws.specs.Order.{KeepsLeaves, KeepsOrder, IsKeeping}
 use Rattle.edit_laws.specs.Tame.{IsQuiet}
@@ -138,6 +139,7 @@ quiet_keeps (action.Send node at tail) quiet s is = same_forest s.trees _ (trees
 quiet_keeps (action.Scratch pair) quiet s is = same_forest s.trees _ (trees-scratched pair s)
 quiet_keeps (action.Override command setting) quiet s is = keeps_refl (tree_of s.trees 0)
 quiet_keeps (action.Flag flags) quiet s is = keeps_refl (tree_of s.trees 0)
+quiet_keeps (action.Extract from end target) quiet s is = same_trees s (extracted from end target s) (ap (λ t. t.trees) (extracted_off from end target s is.keeping))
 
 pub bare_insert_acted : (p : ℕ) (b : Option ℕ) (n : ℕ) (s : State) → IsKeeping s → leaves (tree_of s.trees n) ≡ [] → KeepsOrder s (acted (action.Change (Insert p b n)) s)
 unfolding acted

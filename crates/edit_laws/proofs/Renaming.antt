@@ -12,7 +12,8 @@ use Rattle.dom_model.proofs.Links.{parent_count, children_of-link, children_of-w
 use Rattle.dom_model.proofs.Kept.{content_of-link, content_of-with_leaf_other}
 use Rattle.edit_model.specs.State.{State}
 use Rattle.edit_model.specs.Kept.{borne_by, leaves, is_thing}
-use Rattle.edit_model.specs.Confined.{has_name, is_editable_for, may_insert}
+use Rattle.edit_model.specs.Confined.{is_editable_for, may_insert}
+use Rattle.dom_model.specs.Contents.{has_name}
 use Rattle.edit_model.specs.Edit.{Insert, is_made_edit, trees_after, edited}
 use Rattle.edit_model.specs.Action.{MakeElement, made, acted}
 use Rattle.edit_model.specs.History.{document_of}

@@ -1,4 +1,4 @@
--- The laws of order of setting a tag name and of splitting a text.
+-- The laws of order of unwrapping, of setting a tag name and of splitting a text.
 use Rattle.std.specs.Prelude.{◌≡◌, ℕ, true, false, List, Some}
 use Rattle.dom_model.specs.declared.Content.TheVariants.{Words}
 use Rattle.dom_model.specs.Forest.{IsWithin, content_of}
@@ -6,9 +6,14 @@ use Rattle.edit_model.specs.State.{State}
 use Rattle.edit_model.specs.Kept.{is_thing}
 use Rattle.edit_model.specs.Confined.{is_editable_for}
 use Rattle.edit_model.specs.Compositions.{set_tag_name, split_words}
+use Rattle.edit_model.specs.Moves.{unwrap}
 use Rattle.edit_model.specs.Run.{final}
 use Rattle.edit_laws.specs.Order.{KeepsOrder, IsKeeping}
 use Rattle.edit_laws.specs.MoveLaws.{IsBare}
+
+-- putting the children of a bare node in its place
+abbrev pub UnwrapsKeep : Type 0
+UnwrapsKeep = (e : ℕ) (s : State) → IsKeeping s → IsBare s e → KeepsOrder s (final (unwrap e) s)
 
 -- setting the tag name of a bare node, to one that is neither img nor hr
 abbrev pub TagNamesKeep : Type 0

@@ -3,3 +3,8 @@ pub mod Tame
 pub mod Laws
 pub mod MoveLaws
 pub mod CompositionLaws
+pub mod BelowHost
+pub mod Stateless
+pub mod StatelessLaws
+pub mod Islands
+pub mod CommandsAtRest

@@ -1,11 +1,17 @@
-//! The laws of order: what algorithms that keep contents make of the characters, images and rules of a document.
+//! The laws of order: what algorithms that keep contents make of the characters, images and rules of a document. And what
+//! a command leaves, seen from outside commands: what lies outside its host, the marks there, and the islands.
 #![tactic(auto)]
 
+mod commands;
 mod compositions;
 mod laws;
 mod moves;
+mod stateless;
 
-pub use compositions::{split_texts_keep, tag_names_keep};
+pub use commands::{
+    islands_stay_at_rest, marks_stay_at_rest, order_stays_at_rest, outside_stays_at_rest,
+};
+pub use compositions::{split_texts_keep, tag_names_keep, unwraps_keep};
 pub use laws::{
     bare_inserts_keep, keeping_stays, order_follows, quiet_actions_keep, tame_acts, tame_answers,
     tame_chooses, tame_follows, tame_for_each, tame_given, tame_looks, tame_new_elements,
@@ -16,4 +22,9 @@ pub use moves::{
     children_part, children_stay, first_children_go_before, first_children_go_over,
     last_children_go_after, moves_out_are_left_out, next_goes_over, next_siblings_go_in,
     previous_siblings_go_in,
+};
+pub use stateless::{
+    split_texts_stateless, stateless_acts, stateless_answers, stateless_chooses, stateless_copies,
+    stateless_follows, stateless_for_each, stateless_given, stateless_looks, stateless_while,
+    tag_names_stateless, unwraps_stateless,
 };

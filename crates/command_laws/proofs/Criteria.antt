@@ -1,0 +1,95 @@
+-- What meets a criterion that names neither img nor hr bears nothing itself.
+use Rattle.std.proofs.Common.{◌≡◌, ℕ, Bool, true, false, ◌&&◌, List, [], ◌∷◌, Option, refl, sym, ap, subst, ◌∙◌, inl, inr, true≢false}
+use Rattle.std.specs.Option.{option_map_or, option_and_then}
+use Rattle.std.specs.Prelude.{codes, bytes_eq}
+use Rattle.std.proofs.lemmas.Bool.{cases_Bool}
+use Rattle.dom_model.specs.declared.Content.{Content}
+use Rattle.dom_model.specs.declared.Content.TheVariants.{Document, Element, Words, Remark}
+use Rattle.dom_model.specs.declared.attributes.Attribute.{Attribute}
+use Rattle.dom_model.specs.Contents.{name_in, has_name}
+use Rattle.dom_model.specs.Forest.{content_of}
+use Rattle.css_value.proofs.Names.{same-name}
+use Rattle.node_styles.specs.NameClasses.{is_simple_indentation, is_simple_indentation_content, is_indentation_content}
+use Rattle.node_styles.specs.OwnStyles.{is_named}
+use Rattle.command_value.specs.Modifiable.{meets_value, is_simple_modifiable, is_simple_modifiable_content, is_simple_with}
+use Rattle.edit_model.specs.State.{State}
+use Rattle.edit_model.specs.Kept.{borne_by, is_thing}
+use Rattle.edit_laws.specs.MoveLaws.{IsBare}
+use Rattle.wrap_split.specs.declared.rule.Criterion.{Criterion}
+use Rattle.wrap_split.specs.declared.rule.Criterion.TheVariants.{Never, SameValue, Named, SimpleIndentation, Aligned}
+use Rattle.wrap_split.specs.Target.{meets, is_aligned}
+use Rattle.command_laws.specs.WrapLaws.{NamesNoThing}
+
+-- ---- an image or a rule meets none
+
+modifiable_img : (list : List Attribute) → is_simple_modifiable_content (Element (codes "img") list) ≡ false
+unfolding is_simple_modifiable_content is_simple_with is_named
+modifiable_img [] = refl
+modifiable_img (a ∷ []) = refl
+modifiable_img (a ∷ b ∷ list) = refl
+
+modifiable_hr : (list : List Attribute) → is_simple_modifiable_content (Element (codes "hr") list) ≡ false
+unfolding is_simple_modifiable_content is_simple_with is_named
+modifiable_hr [] = refl
+modifiable_hr (a ∷ []) = refl
+modifiable_hr (a ∷ b ∷ list) = refl
+
+indentation_img : (list : List Attribute) → is_simple_indentation_content (Element (codes "img") list) ≡ false
+unfolding is_simple_indentation_content is_indentation_content is_named
+indentation_img list = refl
+
+indentation_hr : (list : List Attribute) → is_simple_indentation_content (Element (codes "hr") list) ≡ false
+unfolding is_simple_indentation_content is_indentation_content is_named
+indentation_hr list = refl
+
+-- what the two elements fail, each of the name of one fails
+thing_fails : (test : Content → Bool) → ((list : List Attribute) → test (Element (codes "img") list) ≡ false) → ((list : List Attribute) → test (Element (codes "hr") list) ≡ false)
+    → (name : List ℕ) (list : List Attribute) → is_thing name ≡ true → test (Element name list) ≡ false
+thing_fails test img hr name list t = elim (cases_Bool (bytes_eq name (codes "img"))) [
+  | inl e ↦ subst (λ n. test (Element n list) ≡ false) (sym (same-name name (codes "img") e)) (img list)
+  | inr e ↦ (let t' = rw e at t in subst (λ n. test (Element n list) ≡ false) (sym (same-name name (codes "hr") t')) (hr list))
+]
+
+-- ---- what meets one
+
+named_bare : (s : State) (l : ℕ) (name : List ℕ) → is_thing name ≡ false → has_name s.trees l name ≡ true → IsBare s l
+unfolding borne_by
+named_bare s l name plain h Document e = refl
+named_bare s l name plain h (Element own list) e =
+    let k : bytes_eq own name ≡ true = sym (ap (λ (c : Option Content). option_map_or (λ own. bytes_eq own name) (option_and_then name_in c) false) e) ∙ h in
+    rw (ap is_thing (same-name own name k) ∙ plain) refl
+named_bare s l name plain h (Words chars) e = absurd (true≢false (sym h ∙ ap (λ (c : Option Content). option_map_or (λ own. bytes_eq own name) (option_and_then name_in c) false) e))
+named_bare s l name plain h (Remark chars) e = refl
+
+-- what passes a test that no image, no rule and no text passes
+tested_bare : (s : State) (l : ℕ) (test : Content → Bool) → ((name : List ℕ) (list : List Attribute) → is_thing name ≡ true → test (Element name list) ≡ false) → ((chars : List ℕ) → test (Words chars) ≡ false)
+    → option_map_or test (content_of s.trees l) false ≡ true → IsBare s l
+unfolding borne_by
+tested_bare s l test thing text h Document e = refl
+tested_bare s l test thing text h (Element name list) e = elim (cases_Bool (is_thing name)) [
+  | inl t ↦ absurd (true≢false (sym h ∙ (ap (λ (c : Option Content). option_map_or test c false) e ∙ thing name list t)))
+  | inr t ↦ rw t refl
+]
+tested_bare s l test thing text h (Words chars) e = absurd (true≢false (sym h ∙ (ap (λ (c : Option Content). option_map_or test c false) e ∙ text chars)))
+tested_bare s l test thing text h (Remark chars) e = refl
+
+modifiable_text : (chars : List ℕ) → is_simple_modifiable_content (Words chars) ≡ false
+unfolding is_simple_modifiable_content
+modifiable_text chars = refl
+
+indentation_text : (chars : List ℕ) → is_simple_indentation_content (Words chars) ≡ false
+unfolding is_simple_indentation_content is_indentation_content is_named
+indentation_text chars = refl
+
+first_part : (a b : Bool) → (a && b) ≡ true → a ≡ true
+first_part true b h = refl
+first_part false b h = h
+
+pub meets_bare : (c : Criterion) (s : State) (l : ℕ) → NamesNoThing c → meets c s.trees l ≡ true → IsBare s l
+unfolding meets meets_value is_simple_modifiable is_simple_indentation is_aligned
+meets_bare Never s l plain h = absurd (true≢false (sym h))
+meets_bare (SameValue command value) s l plain h =
+    tested_bare s l is_simple_modifiable_content (thing_fails is_simple_modifiable_content modifiable_img modifiable_hr) modifiable_text (first_part (option_map_or is_simple_modifiable_content (content_of s.trees l) false) _ (first_part _ _ h))
+meets_bare (Named name bare) s l plain h = named_bare s l name plain (first_part (has_name s.trees l name) _ h)
+meets_bare SimpleIndentation s l plain h = tested_bare s l is_simple_indentation_content (thing_fails is_simple_indentation_content indentation_img indentation_hr) indentation_text h
+meets_bare (Aligned alignment) s l plain h = named_bare s l (codes "div") refl (first_part (has_name s.trees l (codes "div")) _ h)

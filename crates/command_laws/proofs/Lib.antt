@@ -1,0 +1,14 @@
+pub mod UnlinkRuns
+pub mod Breaks
+pub mod SplitParts
+pub mod Positions
+pub mod Cleared
+pub mod Copies
+pub mod Splitting
+pub mod Criteria
+pub mod Sides
+pub mod Widening
+pub mod NewBreaks
+pub mod MovingIn
+pub mod Merging
+pub mod Wrapping

@@ -1,0 +1,5 @@
+use Rattle.command_laws.proofs.Breaks.{tame_breaks_before}
+use Rattle.command_laws.proofs.line_breaks.breaks_before_go.Goals as goal
+
+pub returns : goal.returns
+returns c = λ n. tame_breaks_before n

@@ -1,0 +1,5 @@
+use Rattle.command_laws.proofs.Splitting.{tame_unwrap}
+use Rattle.command_laws.proofs.splits.nodes_go_and_children_stay.Goals as goal
+
+pub returns : goal.returns
+returns c = λ n. tame_unwrap n

@@ -1,0 +1,4 @@
+pub mod Inline
+pub mod BreakLaws
+pub mod SplitLaws
+pub mod WrapLaws

@@ -1,0 +1,18 @@
+//! The laws of order of splitting the parent of a list, and of removing a node while its children stay.
+
+ghost use Rattle.command_laws.specs.SplitLaws.{ParentsSplit, ParentOfOneSplits, NodesGoAndChildrenStay};
+
+/// Splitting the parent of a list keeps the order, where the list has consecutive children of a node,
+pub fn parents_split()
+    ensures { ParentsSplit }
+{}
+
+/// and where it has one node.
+pub fn parent_of_one_splits()
+    ensures { ParentOfOneSplits }
+{}
+
+/// Removing a node while its children stay keeps the order.
+pub fn nodes_go_and_children_stay()
+    ensures { NodesGoAndChildrenStay }
+{}

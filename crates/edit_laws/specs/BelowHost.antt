@@ -1,0 +1,9 @@
+-- What stands below a node.
+use Rattle.std.specs.Prelude.{ℕ}
+use Rattle.dom_model.specs.declared.Content.{Content}
+use Rattle.dom_model.specs.Forest.{Forest, tree_of}
+use Rattle.dom_model.specs.Places.{kids_in}
+
+-- the children of a node, with all that is below them
+abbrev pub below : Forest Content → ℕ → Forest Content
+below f l = kids_in (tree_of f l)

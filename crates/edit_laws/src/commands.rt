@@ -1,0 +1,23 @@
+//! The laws of commands, seen from outside commands, each the contract of a function that does nothing.
+
+ghost use Rattle.edit_laws.specs.CommandsAtRest.{OutsideStays, MarksStay, IslandsStay, OrderStays};
+
+/// What lies outside the host stays.
+pub fn outside_stays_at_rest()
+    ensures { OutsideStays }
+{}
+
+/// A mark whose points both stand apart from the host stays where it is.
+pub fn marks_stay_at_rest()
+    ensures { MarksStay }
+{}
+
+/// An island stays below the host with its tree, or it goes with a tree whose root is editable or made by the command.
+pub fn islands_stay_at_rest()
+    ensures { IslandsStay }
+{}
+
+/// Where the order of the document is kept, that of what is below the host is.
+pub fn order_stays_at_rest()
+    ensures { OrderStays }
+{}

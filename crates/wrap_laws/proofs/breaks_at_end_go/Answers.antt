@@ -1,5 +1,0 @@
-use Rattle.wrap_laws.proofs.Breaks.{tame_breaks_at_end}
-use Rattle.wrap_laws.proofs.breaks_at_end_go.Goals as goal
-
-pub returns : goal.returns
-returns c = λ n. tame_breaks_at_end n

@@ -1,5 +1,0 @@
-use Rattle.wrap_laws.proofs.Wrapping.{wrap_keeps}
-use Rattle.wrap_laws.proofs.lists_wrap.Goals as goal
-
-pub returns : goal.returns
-returns c = λ criterion r front list rest o s plain makes is kids. wrap_keeps criterion r front list rest o s plain makes is kids

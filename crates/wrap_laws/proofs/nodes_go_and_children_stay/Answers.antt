@@ -1,5 +1,0 @@
-use Rattle.wrap_laws.proofs.Splitting.{tame_unwrap}
-use Rattle.wrap_laws.proofs.nodes_go_and_children_stay.Goals as goal
-
-pub returns : goal.returns
-returns c = λ n. tame_unwrap n
