@@ -7,15 +7,14 @@ use Rattle.node_arena.specs.declared.NodeRef.{NodeRef}
 use Rattle.node_arena.specs.Held.{Names, label}
 use Rattle.node_paths.specs.Paths.{label_at, path_of, node_text}
 use Rattle.page_write.proofs.Placing.{within_count}
-use Rattle.live_range.specs.declared.places.Point.{Point}
-use Rattle.point_order.specs.PointOrder.{is_in_document, is_placed}
+use Rattle.point_order.specs.PointOrder.{is_in_document}
 use Rattle.edit_model.specs.Gives.{label_of}
 use Rattle.edit_model.specs.History.{rested}
 use Rattle.edit_model.specs.Lawful.{IsForest}
 use Rattle.edit_model.specs.State.{State}
 use Rattle.edit_doc.specs.Held.{Finds, Holds}
 use Rattle.edit_doc.specs.Whole.{Whole}
-use Rattle.edit_engine.proofs.Seeing.{Same, label_same, path_inside, in_document, placed_inside}
+use Rattle.edit_engine.proofs.Seeing.{Same, label_same, path_inside, in_document}
 
 -- what an arena finds at a path is what the document finds there
 pub record FoundAt (d : Whole) (o : Option NodeRef) (path : List ℕ) : Type 0 where
@@ -38,9 +37,6 @@ by_label (Some r) = refl
 pub text_same : (f g : Forest Content) → Same f g → (l : ℕ) → node_text f l ≡ node_text g l
 unfolding node_text path_of
 text_same f g s l = ap (λ x. node_text x l) s.first ∙ sym (ap (λ x. node_text x l) s.second)
-
-pub placed_here : (f : Forest Content) (p : Point) → is_placed f p ≡ true → 0 < count_of f p.label
-placed_here f p h = within_count f 0 p.label (placed_inside f p h)
 
 -- outside commands all nodes are in the document
 pub all_inside : (s : State) → rested s ≡ s → (l : ℕ) → 0 < count_of s.trees l → IsWithin s.trees 0 l

@@ -1,6 +1,6 @@
 -- What an arena with hidden trees shows of a document: its first tree.
-use Rattle.std.proofs.Common.{◌≡◌, ℕ, ◌<◌, ◌≤◌, Bool, true, ◌&&◌, List, [], ◌∷◌, Option, Some, None, IfSome, refl, sym, ap, subst, ◌∙◌, arith, zero, suc}
-use Rattle.std.specs.Prelude.{nat_lt, nat_le}
+use Rattle.std.proofs.Common.{◌≡◌, ℕ, ◌<◌, ◌≤◌, true, List, [], ◌∷◌, Option, Some, None, IfSome, refl, sym, ap, subst, ◌∙◌, arith, zero, suc}
+use Rattle.std.specs.Prelude.{nat_le}
 use Rattle.std.specs.List.{All}
 use Rattle.std.proofs.lemmas.Bool.Decides.{nat_tests}
 use Rattle.dom_model.specs.declared.Content.{Content}
@@ -14,6 +14,7 @@ use Rattle.live_range.specs.declared.places.Point.{Point}
 use Rattle.live_range.specs.declared.places.Pair.{Pair}
 use Rattle.live_range.specs.LivePoints.{LivePoints}
 use Rattle.point_order.specs.PointOrder.{is_placed, is_in_document}
+use Rattle.edit_actions.proofs.Placed.{placed_inside}
 use Rattle.edit_model.specs.Lawful.{IsForest, IsPlaced, IsPlacedPair}
 use Rattle.node_paths.specs.Paths.{label_at, label_by, node_in, path_of, node_text}
 use Rattle.page_write.specs.Html.{document_html}
@@ -53,13 +54,6 @@ unfolding label_at
 label_same f g s path = ap (λ x. label_at x path) s.first ∙ sym (ap (λ x. label_at x path) s.second)
 
 -- ---- placed points
-
-pub placed_inside : (f : Forest Content) (p : Point) → is_placed f p ≡ true → IsWithin f 0 p.label
-unfolding is_placed
-placed_inside f p h = by_tests (count_of (tree_of f 0) p.label) _ h
-  where
-    by_tests : (n : ℕ) (b : Bool) → (nat_lt 0 n && b) ≡ true → 0 < n
-    by_tests n b h = grind (arith, nat_tests)
 
 pub inside : (f g : Forest Content) (p : Point) → tree_of f 0 ≡ tree_of g 0 → is_placed g p ≡ true → IsWithin f 0 p.label
 inside f g p same h = subst (λ t. 0 < count_of t p.label) (sym same) (placed_inside g p h)

@@ -1,84 +1,93 @@
--- The commands that there are, when they are enabled, and what they do.
-use Rattle.std.specs.Prelude.{ℕ, Bool, true, false, not, List, map, codes, bytes_eq, is_some, Option, Some, None, if◌then◌else◌}
-use Rattle.std.specs.Option.{option_and_then}
+-- The commands: one row of facts for each, when they are enabled, and the actions of those that are built.
+use Rattle.std.specs.Prelude.{ℕ, Bool, true, false, not, ◌&&◌, ◌||◌, List, map, codes, bytes_eq, is_some, Option, Some, None, if◌then◌else◌}
+use Rattle.std.specs.Option.{option_map_or}
 use Rattle.std.specs.Char.{to_ascii_lowercase}
-use Rattle.html_names.specs.Commands.{command_named}
 use Rattle.html_names.specs.declared.commands.Command.{Command}
 use Rattle.html_names.specs.declared.commands.Command.TheVariants as command
 use Rattle.edit_model.specs.State.{State}
 use Rattle.edit_model.specs.Run.{Run, ◌>>◌, answer, look, given, set_flags}
 use Rattle.edit_model.specs.declared.settings.Flags.{Flags}
-use Rattle.edit_engine.specs.declared.commands.Supported.{Supported}
-use Rattle.edit_engine.specs.declared.commands.Supported.TheVariants.{Unlink, StyleWithCss, UseCss, DefaultParagraphSeparator}
-use Rattle.edit_engine.specs.Hosts.{affected_host}
-use Rattle.edit_engine.specs.Unlink.{unlink}
+use Rattle.edit_engine.specs.declared.commands.Row.{Row}
+use Rattle.edit_actions.specs.ActiveRange.{affected_host}
+use Rattle.inline_commands.specs.Unlink.{unlink}
 
-abbrev pub command_of : Supported → Command
-command_of Unlink = command.Unlink
-command_of StyleWithCss = command.StyleWithCss
-command_of UseCss = command.UseCss
-command_of DefaultParagraphSeparator = command.DefaultParagraphSeparator
+-- ---- one row a command
 
--- the commands that are supported
-abbrev pub supported_of : Command → Option Supported
-supported_of command.Unlink = Some Unlink
-supported_of command.StyleWithCss = Some StyleWithCss
-supported_of command.UseCss = Some UseCss
-supported_of command.DefaultParagraphSeparator = Some DefaultParagraphSeparator
-supported_of _ = None
+abbrev pub facts : (keeping needs_host recording : Bool) → Row
+facts keeping needs_host recording = record { keeping = keeping; needs_host = needs_host; recording = recording }
 
--- the supported command that a name names, in any case
-unfoldable pub supported_named : List ℕ → Option Supported
-supported_named name = option_and_then supported_of (command_named name)
+abbrev pub row_of : Command → Row
+row_of command.Bold = facts true true false
+row_of command.Italic = facts true true false
+row_of command.Underline = facts true true false
+row_of command.Strikethrough = facts true true false
+row_of command.Subscript = facts true true false
+row_of command.Superscript = facts true true false
+row_of command.CreateLink = facts true true false
+row_of command.Unlink = facts true true false
+row_of command.FontName = facts true true false
+row_of command.FontSize = facts true true false
+row_of command.ForeColor = facts true true false
+row_of command.BackColor = facts true true false
+row_of command.HiliteColor = facts true true false
+row_of command.RemoveFormat = facts true true false
+row_of command.FormatBlock = facts true true true
+row_of command.JustifyLeft = facts true true true
+row_of command.JustifyCenter = facts true true true
+row_of command.JustifyRight = facts true true true
+row_of command.JustifyFull = facts true true true
+row_of command.Indent = facts true true true
+row_of command.Outdent = facts true true true
+row_of command.Delete = facts false true true
+row_of command.InsertText = facts false true false
+row_of command.InsertParagraph = facts false true true
+row_of command.StyleWithCss = facts false false false
+row_of command.UseCss = facts false false false
+row_of command.DefaultParagraphSeparator = facts false false false
+row_of command.InsertOrderedList = facts true true true
+row_of command.InsertUnorderedList = facts true true true
+row_of command.InsertLineBreak = facts false true true
+row_of command.InsertHorizontalRule = facts false true true
+row_of command.InsertImage = facts false true false
 
--- the commands that set flags need no selection; the others need an affected editing host
-abbrev pub is_enabled : State → Supported → Bool
-is_enabled s Unlink = is_some (affected_host s)
-is_enabled s StyleWithCss = true
-is_enabled s UseCss = true
-is_enabled s DefaultParagraphSeparator = true
-
--- whether a command keeps images, rules and characters other than tab, LF, CR and space
-abbrev pub is_keeping : Supported → Bool
-is_keeping Unlink = true
-is_keeping StyleWithCss = false
-is_keeping UseCss = false
-is_keeping DefaultParagraphSeparator = false
-
--- the three commands on flags
-abbrev pub is_flag_command : Supported → Bool
-is_flag_command Unlink = false
-is_flag_command StyleWithCss = true
-is_flag_command UseCss = true
-is_flag_command DefaultParagraphSeparator = true
-
--- ---- what they do
+-- ---- the commands on flags
 
 abbrev pub is_value : List ℕ → List ℕ → Bool
 is_value value word = bytes_eq (map to_ascii_lowercase value) word
 
--- the default single-line container is p or div; any other value is refused
+abbrev pub flags_taken : Flags → Run Bool
+flags_taken flags = set_flags flags >> answer true
+
+-- styleWithCSS and useCSS, step 1
+unfoldable pub set_css_styling : Bool → Run Bool
+set_css_styling on = look λ s. flags_taken (record s.flags { css_styling = on })
+
+-- defaultParagraphSeparator, step 1: the default single-line container is p or div; any other value is refused
 abbrev pub separator_set : Flags → List ℕ → Option Flags
 separator_set flags value =
     if is_value value (codes "p") then Some (record flags { paragraphs = true })
     else (if is_value value (codes "div") then Some (record flags { paragraphs = false }) else None)
 
--- the flags after a command on flags, unless it refuses the value
-unfoldable pub flags_set : Flags → Supported → List ℕ → Option Flags
-flags_set flags Unlink value = None
-flags_set flags StyleWithCss value = Some (record flags { css_styling = not (is_value value (codes "false")) })
-flags_set flags UseCss value = Some (record flags { css_styling = is_value value (codes "false") })
-flags_set flags DefaultParagraphSeparator value = separator_set flags value
+-- defaultParagraphSeparator, steps 1 and 2
+unfoldable pub set_separator : List ℕ → Run Bool
+set_separator value = look λ s. given (separator_set s.flags value) (answer false) flags_taken
 
-abbrev pub flags_taken : Flags → Run Bool
-flags_taken flags = set_flags flags >> answer true
+-- ---- the actions: a command is supported where there is one
 
-unfoldable pub set_flag : Supported → List ℕ → Run Bool
-set_flag c value = look λ s. given (flags_set s.flags c value) (answer false) flags_taken
+abbrev pub action : Command → Option (List ℕ → Run Bool)
+action command.Unlink = Some (λ value. unlink)
+action command.StyleWithCss = Some (λ value. set_css_styling (not (is_value value (codes "false"))))
+action command.UseCss = Some (λ value. set_css_styling (is_value value (codes "false")))
+action command.DefaultParagraphSeparator = Some set_separator
+action _ = None
 
--- the action of a command with a value, and its answer
-abbrev pub action : Supported → List ℕ → Run Bool
-action Unlink value = unlink
-action StyleWithCss value = set_flag StyleWithCss value
-action UseCss value = set_flag UseCss value
-action DefaultParagraphSeparator value = set_flag DefaultParagraphSeparator value
+abbrev pub is_supported : Command → Bool
+is_supported c = is_some (action c)
+
+-- the action of a command with a value; one that isn't supported answers false
+abbrev pub action_of : Command → List ℕ → Run Bool
+action_of c value = option_map_or (λ act. act value) (action c) (answer false)
+
+-- a command that needs a host is enabled only where there is an affected editing host
+unfoldable pub is_enabled : State → Command → Bool
+is_enabled s c = is_supported c && (not (row_of c).needs_host || is_some (affected_host s))

@@ -1,18 +1,19 @@
 -- What executing a command comes to (HTML Editing APIs, "execCommand()").
 use Rattle.std.specs.Prelude.{◌≡◌, ◌⊎◌, ℕ, nat_lt, Bool, true, false, not, List, Result, Ok, Err, if◌then◌else◌}
 use Rattle.std.specs.Option.{option_map_or}
+use Rattle.html_names.specs.Commands.{command_named}
+use Rattle.html_names.specs.declared.commands.Command.{Command}
 use Rattle.dom_model.specs.Document.{page_depth}
 use Rattle.edit_model.specs.State.{State}
 use Rattle.edit_model.specs.History.{rested, begun, recorded}
-use Rattle.edit_model.specs.Run.{final, value}
-use Rattle.edit_engine.specs.declared.commands.Supported.{Supported}
+use Rattle.edit_model.specs.Run.{Run, final, value}
 use Rattle.edit_engine.specs.declared.answers.Answer.{Answer}
 use Rattle.edit_engine.specs.declared.answers.Answer.TheVariants.{Yes, No}
 use Rattle.edit_engine.specs.declared.answers.ExecFault.{ExecFault}
 use Rattle.edit_engine.specs.declared.answers.ExecFault.TheVariants as fault
-use Rattle.edit_engine.specs.Commands.{supported_named, is_enabled, is_keeping, action}
+use Rattle.edit_engine.specs.Commands.{row_of, action_of, is_enabled}
 use Rattle.edit_engine.specs.Editing.{Editing}
-use Rattle.edit_engine.specs.Hosts.{affected_host}
+use Rattle.edit_actions.specs.ActiveRange.{affected_host}
 
 -- refused without a change: unsupported or not enabled, too deep a document, or a run past the cap; or the action's answer
 -- and the editor after it
@@ -26,31 +27,41 @@ pub data Outcome : Type 0 where
 abbrev pub depth_limit : ℕ
 depth_limit = 250
 
-abbrev pub began : State → Supported → State
-began s c = begun (affected_host s) (is_keeping c) s
+-- ---- a run between begin and commit, of a command that is a keeping one or not
 
--- the state in which the command's run ends
-abbrev pub ran : State → Supported → List ℕ → State
-ran s c v = final (action c v) (began s c)
+abbrev pub began : State → Bool → State
+began s keeping = begun (affected_host s) keeping s
 
--- the editor after a command: with an edit the history has an entry for it
+-- the state in which the run ends, and its answer
+abbrev pub ran : State → Bool → Run Bool → State
+ran s keeping m = final m (began s keeping)
+
+abbrev pub answered : State → Bool → Run Bool → Bool
+answered s keeping m = value m (began s keeping)
+
+-- the editor after a run: with an edit the history has an entry for it
 abbrev pub after_run : Editing → State → Editing
-after_run e t = record { state = rested t; history = recorded false e.state t e.history }
+after_run e t = record e { state = rested t; history = recorded false e.state t e.history }
 
-unfoldable pub run_outcome : Editing → Supported → List ℕ → Outcome
-run_outcome e c v =
-    if nat_lt e.state.cap (ran e.state c v).next then Full
-    else Acted (value (action c v) (began e.state c)) (after_run e (ran e.state c v))
+-- execute a command, steps 4 to 6: a run that answers false is taken back
+unfoldable pub run_outcome : Editing → Bool → Run Bool → Outcome
+run_outcome e keeping m =
+    if nat_lt e.state.cap (ran e.state keeping m).next then Full
+    else (if answered e.state keeping m then Acted true (after_run e (ran e.state keeping m)) else Acted false e)
 
-unfoldable pub command_outcome : Editing → List ℕ → Supported → Outcome
+-- ---- commands
+
+-- execute a command, steps 2 and 3, and then from 4 on
+unfoldable pub command_outcome : Editing → List ℕ → Command → Outcome
 command_outcome e v c =
     if not (is_enabled e.state c) then Refused
-    else (if nat_lt depth_limit (page_depth e.state.trees) then Deep else run_outcome e c v)
+    else (if nat_lt depth_limit (page_depth e.state.trees) then Deep else run_outcome e (row_of c).keeping (action_of c v))
 
+-- execute a command, step 1, and then from 2 on
 unfoldable pub outcome : Editing → List ℕ → List ℕ → Outcome
-outcome e name v = option_map_or (command_outcome e v) (supported_named name) Refused
+outcome e name v = option_map_or (command_outcome e v) (command_named name) Refused
 
--- ---- how an answer tells it; want of memory may come in its place, and then nothing has changed
+-- ---- which answer comes; a call may be out of memory in its place, and then nothing has changed
 
 abbrev pub Tells : Result Answer ExecFault → Editing → Editing → Outcome → Type 0
 Tells (Ok Yes) old new o = o ≡ Acted true new

@@ -1,7 +1,3 @@
-pub mod Lineage
-pub mod Ranges
-pub mod Hosts
-pub mod Unlink
 pub mod Commands
 pub mod Editing
 pub mod Execution
@@ -10,4 +6,7 @@ pub mod Places
 pub mod Probe
 pub mod Views
 pub mod Faults
-pub mod Clearing
+pub mod Running
+pub mod Confinement
+pub mod Refusals
+pub mod WorkedIslands

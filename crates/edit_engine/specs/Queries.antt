@@ -1,6 +1,9 @@
--- The questions that can be asked of a command (HTML Editing APIs, "queryCommandState()" and the like).
-use Rattle.std.specs.Prelude.{ℕ, Bool, true, false, List, [], codes, is_some, if◌then◌else◌}
+-- The questions that can be asked of a command (HTML Editing APIs, "queryCommandState()" and the like), in two layers.
+use Rattle.std.specs.Prelude.{ℕ, Bool, true, false, List, [], codes, Option, if◌then◌else◌}
 use Rattle.std.specs.Option.{option_map_or}
+use Rattle.html_names.specs.Commands.{command_named}
+use Rattle.html_names.specs.declared.commands.Command.{Command}
+use Rattle.html_names.specs.declared.commands.Command.TheVariants as command
 use Rattle.html_names.specs.declared.query.QueryKind.{QueryKind}
 use Rattle.html_names.specs.declared.query.QueryKind.TheVariants.{Enabled, Indeterm, State, Supported}
 use Rattle.html_names.specs.declared.query.QueryKind.TheVariants as kind
@@ -10,14 +13,28 @@ use Rattle.edit_model.specs.Overrides.{setting_of}
 use Rattle.edit_model.specs.State as model
 use Rattle.edit_engine.specs.declared.answers.Reply.{Reply}
 use Rattle.edit_engine.specs.declared.answers.Reply.TheVariants as reply
-use Rattle.edit_engine.specs.declared.commands.Supported as commands
-use Rattle.edit_engine.specs.declared.commands.Supported.TheVariants as command
-use Rattle.edit_engine.specs.Commands.{command_of, supported_named, is_enabled}
+use Rattle.edit_engine.specs.Commands.{is_supported, is_enabled}
+use Rattle.edit_actions.specs.ActiveRange.{affected_host}
 
-abbrev pub Command : Type 0
-Command = commands.Supported
+-- ---- the answers of a command's own, with a host: it decides what is editable
 
--- a state override answers first, and a value override
+abbrev pub own_indeterm : model.State → Option ℕ → Command → Bool
+own_indeterm s host _ = false
+
+abbrev pub own_state : model.State → Option ℕ → Command → Bool
+own_state s host command.StyleWithCss = s.flags.css_styling
+own_state s host _ = false
+
+-- the name of the default single-line container
+abbrev pub container_name : Bool → List ℕ
+container_name paragraphs = if paragraphs then codes "p" else codes "div"
+
+abbrev pub own_value : model.State → Option ℕ → Command → List ℕ
+own_value s host command.DefaultParagraphSeparator = container_name s.flags.paragraphs
+own_value s host _ = []
+
+-- ---- a state override answers first, and a value override
+
 abbrev pub overriding_state : Setting → Bool → Bool
 overriding_state On b = true
 overriding_state Off b = false
@@ -30,45 +47,35 @@ overriding_value Off w = w
 overriding_value (Text value) w = value
 overriding_value Absent w = w
 
-abbrev pub own_state : model.State → Command → Bool
-own_state s command.Unlink = false
-own_state s command.StyleWithCss = s.flags.css_styling
-own_state s command.UseCss = false
-own_state s command.DefaultParagraphSeparator = false
+abbrev pub state_in : model.State → Option ℕ → Command → Bool
+state_in s host c = overriding_state (setting_of s.overrides c) (own_state s host c)
 
--- the name of the default single-line container
-abbrev pub container_name : Bool → List ℕ
-container_name paragraphs = if paragraphs then codes "p" else codes "div"
+abbrev pub value_in : model.State → Option ℕ → Command → List ℕ
+value_in s host c = overriding_value (setting_of s.overrides c) (own_value s host c)
 
-abbrev pub own_value : model.State → Command → List ℕ
-own_value s command.Unlink = []
-own_value s command.StyleWithCss = []
-own_value s command.UseCss = []
-own_value s command.DefaultParagraphSeparator = container_name s.flags.paragraphs
+-- the reply of what isn't supported or isn't enabled
+abbrev pub no_reply : QueryKind → Reply
+no_reply kind.Value = reply.Wording []
+no_reply _ = reply.Flag false
 
-abbrev pub override_of : model.State → Command → Setting
-override_of s c = setting_of s.overrides (command_of c)
+-- A question that a running command asks is read with that command's host, and not whether the command asked for is
+-- supported or enabled.
+unfoldable pub query_in : model.State → Option ℕ → QueryKind → Command → Reply
+query_in s host Indeterm c = reply.Flag (own_indeterm s host c)
+query_in s host State c = reply.Flag (state_in s host c)
+query_in s host kind.Value c = reply.Wording (value_in s host c)
+query_in s host Enabled c = no_reply Enabled
+query_in s host Supported c = no_reply Supported
 
-unfoldable pub state_of : model.State → Command → Bool
-state_of s c = if is_enabled s c then overriding_state (override_of s c) (own_state s c) else false
+-- ---- the gate
 
-unfoldable pub value_of : model.State → Command → List ℕ
-value_of s c = if is_enabled s c then overriding_value (override_of s c) (own_value s c) else []
+unfoldable pub gated : model.State → QueryKind → Command → Reply
+gated s kind c = if is_enabled s c then query_in s (affected_host s) kind c else no_reply kind
 
--- A question about a command that isn't supported, or isn't enabled, is answered false, or with the empty text.
-unfoldable pub state_named : model.State → List ℕ → Bool
-state_named s name = option_map_or (state_of s) (supported_named name) false
+abbrev pub reply_for : model.State → QueryKind → Command → Reply
+reply_for s Supported c = reply.Flag (is_supported c)
+reply_for s Enabled c = reply.Flag (is_enabled s c)
+reply_for s kind c = gated s kind c
 
-unfoldable pub enabled_named : model.State → List ℕ → Bool
-enabled_named s name = option_map_or (is_enabled s) (supported_named name) false
-
-unfoldable pub value_named : model.State → List ℕ → List ℕ
-value_named s name = option_map_or (value_of s) (supported_named name) []
-
--- none of the commands is ever indeterminate
-abbrev pub reply_of : model.State → QueryKind → List ℕ → Reply
-reply_of s Enabled name = reply.Flag (enabled_named s name)
-reply_of s Indeterm name = reply.Flag false
-reply_of s State name = reply.Flag (state_named s name)
-reply_of s Supported name = reply.Flag (is_some (supported_named name))
-reply_of s kind.Value name = reply.Wording (value_named s name)
+unfoldable pub reply_of : model.State → QueryKind → List ℕ → Reply
+reply_of s kind name = option_map_or (reply_for s kind) (command_named name) (no_reply kind)

@@ -1,51 +1,81 @@
-//! The commands that are supported.
+//! What is known of each command.
 
 ghost use Rattle.std.specs.Prelude.{◌≡◌};
 ghost use Rattle.std.specs.Char.{to_ascii_lowercase};
-ghost use Rattle.edit_engine.specs.Commands.{command_of, supported_of, supported_named, is_value};
+ghost use Rattle.edit_engine.specs.Commands.{facts, row_of, is_supported, is_value};
 
 use html_names::Command;
 use std::marker::Copy;
 
-/// A command that is supported.
+/// What is known of a command, whatever it does.
 #[derive(Clone, Copy, PartialEq, Eq, Debug)]
-pub enum Supported {
-    Unlink,
-    StyleWithCss,
-    UseCss,
-    DefaultParagraphSeparator,
+pub(crate) struct Row {
+    /// Whether it keeps images, rules and characters other than tab, LF, CR and space.
+    pub(crate) keeping: bool,
+    /// Whether it is enabled only where there is an affected editing host.
+    pub(crate) needs_host: bool,
+    /// Whether it records the overrides before its action, and restores them where the range is collapsed after it.
+    pub(crate) recording: bool,
 }
 
-impl Supported {
-    pub(crate) fn command(self) -> Command
-        ensures { result ≡ command_of self }
-    {
-        match self {
-            Supported::Unlink => Command::Unlink,
-            Supported::StyleWithCss => Command::StyleWithCss,
-            Supported::UseCss => Command::UseCss,
-            Supported::DefaultParagraphSeparator => Command::DefaultParagraphSeparator,
-        }
+fn facts(keeping: bool, needs_host: bool, recording: bool) -> Row
+    ensures { result ≡ facts keeping needs_host recording }
+{
+    Row {
+        keeping,
+        needs_host,
+        recording,
     }
+}
 
-    fn of(command: Command) -> Option<Supported>
-        ensures { result ≡ supported_of command }
-    {
-        match command {
-            Command::Unlink => Some(Supported::Unlink),
-            Command::StyleWithCss => Some(Supported::StyleWithCss),
-            Command::UseCss => Some(Supported::UseCss),
-            Command::DefaultParagraphSeparator => Some(Supported::DefaultParagraphSeparator),
-            _ => None,
+pub(crate) fn row_of(command: Command) -> Row
+    ensures { result ≡ row_of command }
+{
+    match command {
+        Command::Bold
+        | Command::Italic
+        | Command::Underline
+        | Command::Strikethrough
+        | Command::Subscript
+        | Command::Superscript
+        | Command::CreateLink
+        | Command::Unlink
+        | Command::FontName
+        | Command::FontSize
+        | Command::ForeColor
+        | Command::BackColor
+        | Command::HiliteColor
+        | Command::RemoveFormat => facts(true, true, false),
+        Command::FormatBlock
+        | Command::JustifyLeft
+        | Command::JustifyCenter
+        | Command::JustifyRight
+        | Command::JustifyFull
+        | Command::Indent
+        | Command::Outdent
+        | Command::InsertOrderedList
+        | Command::InsertUnorderedList => facts(true, true, true),
+        Command::Delete
+        | Command::InsertParagraph
+        | Command::InsertLineBreak
+        | Command::InsertHorizontalRule => facts(false, true, true),
+        Command::StyleWithCss | Command::UseCss | Command::DefaultParagraphSeparator => {
+            facts(false, false, false)
         }
+        Command::InsertText | Command::InsertImage => facts(false, true, false),
     }
+}
 
-    /// The supported command that a name names, without regard to ASCII case.
-    #[tactic(auto, unfolding(crate::specs::Commands::supported_named))]
-    pub fn named(name: &str) -> Option<Supported>
-        ensures { result ≡ supported_named name.now }
-    {
-        Supported::of(Command::named(name)?)
+/// Whether the command has an action.
+pub(crate) fn is_supported(command: Command) -> bool
+    ensures { result ≡ is_supported command }
+{
+    match command {
+        Command::Unlink => true,
+        Command::StyleWithCss => true,
+        Command::UseCss => true,
+        Command::DefaultParagraphSeparator => true,
+        _ => false,
     }
 }
 

@@ -1,123 +1,54 @@
 //! The editor.
 
-ghost use Rattle.std.specs.Prelude.{◌≡◌, ◌↔◌, ◌⊎◌, ◌<◌, ◌≤◌, ◌+◌, ℕ, IfOk, OnOk, OnErr, IsTrue, MatchOption, Ok, Err, None, Some, List, [], length, nat_lt, ◌≢◌, true, false};
+ghost use Rattle.std.specs.Prelude.{◌≡◌, ◌↔◌, ◌⊎◌, ◌<◌, ◌+◌, ℕ, IfOk, OnOk, OnErr, IsTrue, MatchOption, Ok, Err, None, Some, List, [], length, ◌≢◌, true, false};
 ghost use Rattle.live_range.specs.LivePoints.{has_mark};
 ghost use Rattle.live_range.specs.declared.places.Pair.{Pair};
+ghost use Rattle.edit_doc.specs.Kept.{HoldsOnlyNeeded};
 ghost use Rattle.edit_doc.specs.Whole.{HasNoLoose, IsClosed, first_edits};
-ghost use Rattle.edit_engine.specs.Commands.{supported_named, is_enabled, is_flag_command, flags_set};
+ghost use Rattle.edit_engine.specs.Commands.{row_of, action_of};
+ghost use Rattle.edit_engine.specs.Confinement.{KeepsOutside, KeepsMarks, KeepsIslands, KeepsCharacters};
 ghost use Rattle.edit_engine.specs.Editing.{Editing, new_editing, undone, redone};
 ghost use Rattle.edit_engine.specs.Execution.{outcome, command_outcome, run_outcome, Tells};
-ghost use Rattle.edit_engine.specs.Clearing.{began_unlink, IsCleared, IsTakenBack};
-ghost use Rattle.edit_doc.specs.Held.{EachHeld};
-ghost use Rattle.edit_engine.specs.Unlink.{clear_link, links_touched};
-ghost use Rattle.edit_model.specs.Gives.{labels_of};
-ghost use Rattle.edit_model.specs.Run.{final, for_each};
-ghost use Rattle.edit_model.specs.State.{IsOver};
-ghost use Rattle.dom_model.specs.Document.{page_depth};
 ghost use Rattle.edit_engine.specs.Places.{pair_at, selecting, unselecting, marking, unmarking, IsCrowded};
 ghost use Rattle.edit_engine.specs.Queries.{reply_of};
 ghost use Rattle.edit_engine.specs.Views.{view_text};
 
+use crate::actions::run_command;
 use crate::answers::{Answer, ExecFault, PlaceFault, Reply, ViewFault, ViewKind};
-use crate::commands::{Supported, is_value};
-use crate::hosts::affected_host;
-use crate::links::links_of;
 use crate::places::{node_at, pair_at};
 use crate::probe::probe_line;
 use crate::queries::{ask, is_enabled};
-use crate::unlink::clear_links;
 use crate::views::{html_line, points_lines, stat_line, tree_lines};
 use dom_model::Name;
-use edit_doc::{Arena, Doc, Flags, NodeRef};
-use html_names::QueryKind;
+use edit_doc::{Arena, Doc};
+use html_names::{Command, QueryKind};
 use script_read::Place;
 use std::alloc::{AllocError, Global};
 use std::marker::Model;
 use std::sync::ledger::Ledger;
 use step_count::Steps;
 
-// The links that unlink is for.
-#[tactic(auto, unfolding(crate::specs::Unlink::links_touched))]
-fn touched_links(alloc: Global, doc: &Doc) -> Result<Vec<NodeRef>, AllocError>
-    ensures held { IfOk result (λ list. EachHeld doc.now list.items) }
-    ensures links { IfOk result (λ list. labels_of list.items ≡ links_touched doc.now.state) }
-{
-    doc.lawful();
-    match doc.points().selection() {
-        Some(pair) => links_of(alloc, doc, pair),
-        None => Ok(Vec::new(alloc)),
-    }
-}
-
-// One command that clears the links, taken back where it can't be done.
-fn unlink_each(alloc: Global, doc: &mut Doc, list: &[NodeRef]) -> Result<(), ExecFault>
-    requires closed { IsClosed doc.old }
-    requires held { EachHeld doc.old list.now }
-    ensures done { OnOk result (IsCleared doc.old doc.new (labels_of list.now)) }
-    ensures full { result ≡ Err ExecFault.Full → IsOver (final (for_each (labels_of list.now) clear_link) (began_unlink doc.old.state)) }
-    ensures not_deep { result ≢ Err ExecFault.Deep }
-    ensures err { OnErr result (IsTakenBack doc.old doc.new) }
-{
-    let host = affected_host(doc);
-    doc.begin(host, true)?;
-    match clear_links(alloc, doc, list) {
-        Ok(()) => {
-            doc.lawful();
-            doc.commit();
-            Ok(())
-        }
-        Err(fault) => {
-            doc.roll_back();
-            Err(ExecFault::from(fault))
-        }
-    }
-}
-
-// The flags after a command on flags, unless it refuses the value.
-#[tactic(auto, unfolding(crate::specs::Commands::flags_set))]
-fn flags_after(flags: Flags, command: Supported, value: &[char]) -> Option<Flags>
-    ensures { result ≡ flags_set flags command value.now }
-{
-    match command {
-        Supported::StyleWithCss => Some(Flags {
-            css_styling: !is_value(value, b"false"),
-            paragraphs: flags.paragraphs,
-        }),
-        Supported::UseCss => Some(Flags {
-            css_styling: is_value(value, b"false"),
-            paragraphs: flags.paragraphs,
-        }),
-        Supported::DefaultParagraphSeparator if is_value(value, b"p") => Some(Flags {
-            css_styling: flags.css_styling,
-            paragraphs: true,
-        }),
-        Supported::DefaultParagraphSeparator if is_value(value, b"div") => Some(Flags {
-            css_styling: flags.css_styling,
-            paragraphs: false,
-        }),
-        _ => None,
-    }
-}
+// How deep a document may be as a command begins.
+const DEPTH_LIMIT: u32 = 250;
 
 /// An editor of a document.
 #[derive(Drop)]
 pub struct Editor {
     doc: Doc,
-    // No view of the history is deeper, nor is the document. A command that may make it deeper raises this.
-    deepest: u32,
 }
 
 impl Model for Editor {
-    ghost use Rattle.edit_engine.specs.Editing.{Editing, editing_code, IsBound};
+    ghost use Rattle.std.specs.Prelude.{false};
+    ghost use Rattle.edit_engine.specs.Editing.{Editing, editing_code};
     ghost use Rattle.edit_doc.specs.Whole.{IsClosed};
 
     ghost Value = { Editing };
 
     ghost coded = { editing_code };
 
-    ghost view = { λ e. record { state = e.doc.state; history = e.doc.history } };
+    ghost view = { λ e. record { state = e.doc.state; history = e.doc.history; typing = false } };
 
-    ghost invariant = { λ e. IsClosed e.doc × IsBound e.deepest record { state = e.doc.state; history = e.doc.history } };
+    ghost invariant = { λ e. IsClosed e.doc };
 }
 
 impl Editor {
@@ -129,25 +60,29 @@ impl Editor {
         ensures { IfOk result (λ e. e ≡ new_editing arena undo_depth) }
     {
         let doc = Doc::new(alloc, arena, undo_depth)?;
-        let deepest = doc.page_depth();
-        Ok(Editor { doc, deepest })
+        Ok(Editor { doc })
     }
 
     /// Executes the command that a name names, in any case. It is taken whole, or the editor is as before.
     pub fn exec(&mut self, alloc: Global, name: &str, value: &[char]) -> Result<Answer, ExecFault>
         ensures tells { Tells result self.old self.new (outcome self.old name.now value.now) }
+        ensures confined { KeepsOutside self.old self.new }
+        ensures marks { KeepsMarks self.old self.new }
+        ensures islands { KeepsIslands self.old self.new }
+        ensures characters { KeepsCharacters name.now self.old self.new }
     {
-        match Supported::named(name) {
-            Some(command) => self.exec_supported(alloc, command, value),
+        self.doc.lawful();
+        match Command::named(name) {
+            Some(command) => self.exec_command(alloc, command, value),
             None => Ok(Answer::No),
         }
     }
 
-    // The same of a supported command.
-    fn exec_supported(
+    // The same of a command.
+    fn exec_command(
         &mut self,
         alloc: Global,
-        command: Supported,
+        command: Command,
         value: &[char],
     ) -> Result<Answer, ExecFault>
         ensures { Tells result self.old self.new (command_outcome self.old value.now command) }
@@ -155,52 +90,21 @@ impl Editor {
         if !is_enabled(&self.doc, command) {
             return Ok(Answer::No);
         }
-        if self.is_deep() {
+        if self.doc.is_deeper_than(DEPTH_LIMIT) {
             return Err(ExecFault::Deep);
         }
-        match command {
-            Supported::Unlink => self.unlink(alloc),
-            _ => Ok(self.set_flag(command, value)),
-        }
+        self.run(alloc, command, value)
     }
 
-    // Whether the document is too deep for a command. It is walked only where it may be.
-    fn is_deep(&self) -> bool
-        ensures { result ≡ nat_lt 250 (page_depth self.now.state.trees) }
-    {
-        self.deepest > 250 && self.doc.page_depth() > 250
-    }
-
-    // A command on flags, which needs no selection.
-    fn set_flag(&mut self, command: Supported, value: &[char]) -> Answer
-        requires { is_flag_command command ≡ true }
-        ensures { Tells (Ok result) self.old self.new (run_outcome self.old command value.now) }
-    {
-        match flags_after(self.doc.flags(), command, value) {
-            Some(flags) => {
-                self.doc.lawful();
-                self.doc.set_flags(flags);
-                Answer::Yes
-            }
-            None => {
-                self.doc.lawful();
-                Answer::No
-            }
-        }
-    }
-
-    // The command unlink. Where there are no links nothing is begun. It makes no document deeper, so the bound stays.
-    fn unlink(&mut self, alloc: Global) -> Result<Answer, ExecFault>
-        ensures { (value : List ℕ) → Tells result self.old self.new (run_outcome self.old Supported.Unlink value) }
+    // Runs a command.
+    fn run(&mut self, alloc: Global, command: Command, value: &[char]) -> Result<Answer, ExecFault>
+        ensures { Tells result self.old self.new (run_outcome self.old (row_of command).keeping (action_of command value.now)) }
     {
         self.doc.lawful();
-        let list = touched_links(alloc, &self.doc)?;
-        if list.is_empty() {
-            return Ok(Answer::Yes);
-        }
-        match unlink_each(alloc, &mut self.doc, &list) {
-            Ok(()) => Ok(Answer::Yes),
-            Err(fault) => Err(fault),
+        match run_command(alloc, &mut self.doc, command, value) {
+            Ok(true) => Ok(Answer::Yes),
+            Ok(false) => Ok(Answer::No),
+            Err(fault) => Err(ExecFault::from(fault)),
         }
     }
 
@@ -289,12 +193,15 @@ impl Editor {
         }
     }
 
-    /// The document. No command is running, so its call `kept_nodes` says which nodes are held.
+    /// The document. Between the calls of an editor each node that is held is in the document, or in a loose tree with a node
+    /// that a change of a kept entry names.
     pub fn document(&self) -> &Doc
         ensures closed { IsClosed result.now }
         ensures state { result.now.state ≡ self.now.state }
         ensures history { result.now.history ≡ self.now.history }
+        ensures needed { HoldsOnlyNeeded result.now }
     {
+        self.doc.kept_nodes();
         &self.doc
     }
 }

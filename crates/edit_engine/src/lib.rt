@@ -4,17 +4,16 @@
 //! its document and the history of views that undo and redo go through.
 #![tactic(auto)]
 
+mod actions;
 mod answers;
 mod commands;
 mod editor;
-mod hosts;
-mod links;
+mod laws;
 mod places;
 mod probe;
 mod queries;
-mod unlink;
 mod views;
 
 pub use answers::{Answer, ExecFault, PlaceFault, Reply, ViewFault, ViewKind};
-pub use commands::Supported;
 pub use editor::Editor;
+pub use laws::{locked_span_is_island, refusals_leave_the_state};

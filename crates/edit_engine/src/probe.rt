@@ -8,13 +8,13 @@ ghost use Rattle.edit_doc.specs.Whole.{IsClosed};
 ghost use Rattle.edit_doc.specs.Held.{Holds, IfHeld};
 ghost use Rattle.edit_engine.specs.Probe.{tested, path_or_none, host_words, text_words, break_words, style_text, style_words, probe_line};
 
-use doc_tests::{
-    editing_host, is_block, is_block_prop, is_collapsed_break, is_collapsed_whitespace,
-    is_extraneous_break, is_visible, is_whitespace, resolved,
-};
 use edit_doc::{Doc, Kind, NodeRef};
 use escaped_text::push_chars;
 use node_paths::push_path;
+use node_tests::{
+    editing_host, is_block, is_block_prop, is_collapsed_break, is_collapsed_whitespace,
+    is_extraneous_break, is_visible, is_whitespace, resolved,
+};
 use std::alloc::{AllocError, Global};
 use style_table::Property;
 

@@ -1,34 +1,61 @@
-//! Questions about commands.
+//! Questions about commands, in two layers: what a command itself is asked, and the gate before it.
 
 ghost use Rattle.std.specs.Prelude.{◌≡◌, ◌&&◌, IfOk, true, is_some};
-ghost use Rattle.edit_engine.specs.Commands.{is_enabled, command_of};
-ghost use Rattle.edit_engine.specs.Queries.{overriding_state, own_state, own_value, overriding_value, override_of, state_of, value_of, state_named, value_named, enabled_named, reply_of};
+ghost use Rattle.edit_model.specs.Gives.{label_of};
+ghost use Rattle.edit_doc.specs.Held.{IfHeld};
+ghost use Rattle.edit_engine.specs.Commands.{is_enabled};
+ghost use Rattle.edit_engine.specs.Queries.{own_indeterm, own_state, own_value, overriding_state, overriding_value, state_in, value_in, query_in, no_reply, gated, reply_for, reply_of};
 
 use crate::answers::Reply;
-use crate::commands::Supported;
-use crate::hosts::affected_host;
+use crate::commands::{is_supported, row_of};
 use dom_model::Chars;
-use edit_doc::{Doc, Setting};
-use html_names::QueryKind;
+use edit_actions::affected_host;
+use edit_doc::{Doc, NodeRef, Setting};
+use html_names::{Command, QueryKind};
 use std::alloc::{AllocError, Global};
 
-pub(crate) fn is_enabled(doc: &Doc, command: Supported) -> bool
+#[tactic(auto, unfolding(crate::specs::Commands::is_enabled))]
+pub(crate) fn is_enabled(doc: &Doc, command: Command) -> bool
     ensures { result ≡ is_enabled doc.now.state command }
 {
+    is_supported(command) && (!row_of(command).needs_host || affected_host(doc).is_some())
+}
+
+fn own_indeterm(_doc: &Doc, _host: Option<NodeRef>, _command: Command) -> bool
+    requires { IfHeld _doc.now _host }
+    ensures { result ≡ own_indeterm _doc.now.state (label_of _host) _command }
+{
+    false
+}
+
+fn own_state(doc: &Doc, _host: Option<NodeRef>, command: Command) -> bool
+    requires { IfHeld doc.now _host }
+    ensures { result ≡ own_state doc.now.state (label_of _host) command }
+{
     match command {
-        Supported::Unlink => affected_host(doc).is_some(),
-        Supported::StyleWithCss => true,
-        Supported::UseCss => true,
-        Supported::DefaultParagraphSeparator => true,
+        Command::StyleWithCss => doc.flags().css_styling,
+        _ => false,
     }
 }
 
-fn own_state(doc: &Doc, command: Supported) -> bool
-    ensures { result ≡ own_state doc.now.state command }
+fn own_value(
+    alloc: Global,
+    doc: &Doc,
+    _host: Option<NodeRef>,
+    command: Command,
+) -> Result<Chars, AllocError>
+    requires { IfHeld doc.now _host }
+    ensures { IfOk result (λ value. value ≡ own_value doc.now.state (label_of _host) command) }
 {
     match command {
-        Supported::StyleWithCss => doc.flags().css_styling,
-        _ => false,
+        Command::DefaultParagraphSeparator => {
+            if doc.flags().paragraphs {
+                Chars::from_slice(alloc, &['p'])
+            } else {
+                Chars::from_slice(alloc, &['d', 'i', 'v'])
+            }
+        }
+        _ => Chars::from_slice(alloc, &[]),
     }
 }
 
@@ -44,72 +71,84 @@ fn overriding(setting: &Setting, state: bool) -> bool
     }
 }
 
-#[tactic(auto, unfolding(crate::specs::Queries::state_of))]
-fn state_of(doc: &Doc, command: Supported) -> bool
-    ensures { result ≡ state_of doc.now.state command }
+fn value_in(
+    alloc: Global,
+    doc: &Doc,
+    host: Option<NodeRef>,
+    command: Command,
+) -> Result<Chars, AllocError>
+    requires { IfHeld doc.now host }
+    ensures { IfOk result (λ value. value ≡ value_in doc.now.state (label_of host) command) }
 {
-    is_enabled(doc, command) && overriding(doc.setting(command.command()), own_state(doc, command))
-}
-
-#[tactic(auto, unfolding(crate::specs::Queries::state_named))]
-fn state_named(doc: &Doc, name: &str) -> bool
-    ensures { result ≡ state_named doc.now.state name.now }
-{
-    match Supported::named(name) {
-        Some(command) => state_of(doc, command),
-        None => false,
-    }
-}
-
-#[tactic(auto, unfolding(crate::specs::Queries::enabled_named))]
-fn enabled_named(doc: &Doc, name: &str) -> bool
-    ensures { result ≡ enabled_named doc.now.state name.now }
-{
-    match Supported::named(name) {
-        Some(command) => is_enabled(doc, command),
-        None => false,
-    }
-}
-
-fn own_value(alloc: Global, doc: &Doc, command: Supported) -> Result<Chars, AllocError>
-    ensures { IfOk result (λ value. value ≡ own_value doc.now.state command) }
-{
-    match command {
-        Supported::DefaultParagraphSeparator => {
-            if doc.flags().paragraphs {
-                Chars::from_slice(alloc, &['p'])
-            } else {
-                Chars::from_slice(alloc, &['d', 'i', 'v'])
-            }
-        }
-        _ => Chars::from_slice(alloc, &[]),
-    }
-}
-
-#[tactic(auto, unfolding(crate::specs::Queries::value_of))]
-fn value_of(alloc: Global, doc: &Doc, command: Supported) -> Result<Chars, AllocError>
-    ensures { IfOk result (λ value. value ≡ value_of doc.now.state command) }
-{
-    if !is_enabled(doc, command) {
-        return Chars::from_slice(alloc, &[]);
-    }
-    match doc.setting(command.command()) {
+    match doc.setting(command) {
         Setting::Text { value } => value.clone(),
-        _ => own_value(alloc, doc, command),
+        _ => own_value(alloc, doc, host, command),
     }
 }
 
-#[tactic(auto, unfolding(crate::specs::Queries::value_named))]
-fn value_named(alloc: Global, doc: &Doc, name: &str) -> Result<Chars, AllocError>
-    ensures { IfOk result (λ value. value ≡ value_named doc.now.state name.now) }
+// The reply of what isn't supported or isn't enabled.
+fn no_reply(alloc: Global, kind: QueryKind) -> Result<Reply, AllocError>
+    ensures { IfOk result (λ reply. reply ≡ no_reply kind) }
 {
-    match Supported::named(name) {
-        Some(command) => value_of(alloc, doc, command),
-        None => Chars::from_slice(alloc, &[]),
+    match kind {
+        QueryKind::Value => Ok(Reply::Wording(Chars::from_slice(alloc, &[])?)),
+        _ => Ok(Reply::Flag(false)),
+    }
+}
+
+/// The answer to a question as a running command asks it, with its host.
+#[tactic(auto, unfolding(crate::specs::Queries::query_in))]
+pub(crate) fn query_in(
+    alloc: Global,
+    doc: &Doc,
+    host: Option<NodeRef>,
+    kind: QueryKind,
+    command: Command,
+) -> Result<Reply, AllocError>
+    requires { IfHeld doc.now host }
+    ensures { IfOk result (λ reply. reply ≡ query_in doc.now.state (label_of host) kind command) }
+{
+    match kind {
+        QueryKind::Indeterm => Ok(Reply::Flag(own_indeterm(doc, host, command))),
+        QueryKind::State => Ok(Reply::Flag(overriding(
+            doc.setting(command),
+            own_state(doc, host, command),
+        ))),
+        QueryKind::Value => Ok(Reply::Wording(value_in(alloc, doc, host, command)?)),
+        QueryKind::Enabled => no_reply(alloc, QueryKind::Enabled),
+        QueryKind::Supported => no_reply(alloc, QueryKind::Supported),
+    }
+}
+
+// The same of a command that is looked at first.
+#[tactic(auto, unfolding(crate::specs::Queries::gated))]
+fn gated(alloc: Global, doc: &Doc, kind: QueryKind, command: Command) -> Result<Reply, AllocError>
+    ensures { IfOk result (λ reply. reply ≡ gated doc.now.state kind command) }
+{
+    if is_enabled(doc, command) {
+        query_in(alloc, doc, affected_host(doc), kind, command)
+    } else {
+        no_reply(alloc, kind)
+    }
+}
+
+fn reply_for(
+    alloc: Global,
+    doc: &Doc,
+    kind: QueryKind,
+    command: Command,
+) -> Result<Reply, AllocError>
+    ensures { IfOk result (λ reply. reply ≡ reply_for doc.now.state kind command) }
+{
+    match kind {
+        QueryKind::Supported => Ok(Reply::Flag(is_supported(command))),
+        QueryKind::Enabled => Ok(Reply::Flag(is_enabled(doc, command))),
+        kind => gated(alloc, doc, kind, command),
     }
 }
 
 /// The answer to a question about the command that a name names.
+#[tactic(auto, unfolding(crate::specs::Queries::reply_of))]
 pub(crate) fn ask(
     alloc: Global,
     doc: &Doc,
@@ -118,11 +157,8 @@ pub(crate) fn ask(
 ) -> Result<Reply, AllocError>
     ensures { IfOk result (λ reply. reply ≡ reply_of doc.now.state kind name.now) }
 {
-    match kind {
-        QueryKind::Enabled => Ok(Reply::Flag(enabled_named(doc, name))),
-        QueryKind::Indeterm => Ok(Reply::Flag(false)),
-        QueryKind::State => Ok(Reply::Flag(state_named(doc, name))),
-        QueryKind::Supported => Ok(Reply::Flag(Supported::named(name).is_some())),
-        QueryKind::Value => Ok(Reply::Wording(value_named(alloc, doc, name)?)),
+    match Command::named(name) {
+        Some(command) => reply_for(alloc, doc, kind, command),
+        None => no_reply(alloc, kind),
     }
 }

@@ -1,9 +1,36 @@
 use Rattle.std.proofs.Common.{sym, ◌∙◌, inl, refl}
-use Rattle.edit_engine.proofs.Editors.{named_outcome, unnamed_outcome}
+use Rattle.edit_engine.specs.Execution.{Tells, outcome}
+use Rattle.edit_engine.proofs.Confining.{standing, changes, outside_kept, marks_kept, islands_kept, characters_kept}
+use Rattle.edit_engine.proofs.Outcomes.{named_outcome, unnamed_outcome}
 use Rattle.edit_engine.proofs.editor.Editor.exec.Goals as goal
 
 pub returns-in-Some : goal.returns-in-Some
-returns-in-Some c = record { tells = rw (named_outcome c.args.self.now c.args.name.now c.args.value.now c.in-Some.command (sym c.named.ensures ∙ c.in-Some.is)) c.exec_supported.ensures }
+returns-in-Some c =
+    let old = c.args.self.now in
+    let new = c.exec_command.new.self in
+    let name = c.args.name.now in
+    let v = c.args.value.now in
+    let stands = standing c.self.inside.doc old c.self.view_is c.self.invariant c.lawful.ensures in
+    let tells : Tells c.exec_command.result old new (outcome old name v) = rw (named_outcome old name v c.in-Some.command (sym c.named.ensures.value ∙ c.in-Some.is)) c.exec_command.ensures in
+    let k = changes c.exec_command.result old new name v tells in
+    record {
+      tells = tells;
+      confined = outside_kept old new name v stands k;
+      marks = marks_kept old new name v stands k;
+      islands = islands_kept old new name v stands k;
+      characters = characters_kept old new name v stands k;
+    }
 
 pub returns-in-None : goal.returns-in-None
-returns-in-None c = record { tells = (inl (unnamed_outcome c.args.self.now c.args.name.now c.args.value.now (sym c.named.ensures ∙ c.in-None.is)), refl) }
+returns-in-None c =
+    let old = c.args.self.now in
+    let name = c.args.name.now in
+    let v = c.args.value.now in
+    let stands = standing c.self.inside.doc old c.self.view_is c.self.invariant c.lawful.ensures in
+    record {
+      tells = (inl (unnamed_outcome old name v (sym c.named.ensures.value ∙ c.in-None.is)), refl);
+      confined = outside_kept old old name v stands (inl refl);
+      marks = marks_kept old old name v stands (inl refl);
+      islands = islands_kept old old name v stands (inl refl);
+      characters = characters_kept old old name v stands (inl refl);
+    }

@@ -1,0 +1,183 @@
+-- What every execution of a command keeps: either nothing changed, or the run of a command did it all.
+use Rattle.std.proofs.Common.{◌≡◌, ◌⊎◌, ℕ, zero, suc, ◌<◌, Bool, true, false, not, cond, eqb, List, [], ◌∷◌, ◌++◌, length, take, Option, Some, None, Result, Ok, Err, refl, sym, ap, subst, ◌∙◌, inl, inr, arith, length-append}
+use Rattle.std.specs.Prelude.{nat_lt}
+use Rattle.std.specs.List.{AllZip}
+use Rattle.std.specs.Option.{option_map_or}
+use Rattle.std.proofs.lemmas.Bool.{ne_eqb}
+use Rattle.html_names.specs.Commands.{command_named}
+use Rattle.html_names.specs.declared.commands.Command.{Command}
+use Rattle.dom_model.specs.Change.{Loosen}
+use Rattle.dom_model.specs.Document.{page_depth}
+use Rattle.dom_model.specs.Forest.{tree_of}
+use Rattle.live_range.specs.declared.places.Pair.{Pair}
+use Rattle.edit_model.specs.State.{State}
+use Rattle.edit_model.specs.History.{Entry, begun, rested, entry_of, with_entry, recorded}
+use Rattle.edit_model.specs.Laws.{KeepsMark}
+use Rattle.edit_model.specs.Lawful.{IsLawful}
+use Rattle.edit_model.specs.Outside.{outside_by, is_island}
+use Rattle.edit_model.specs.Run.{Reaches, Run, final}
+use Rattle.edit_model.proofs.Commands.{lawful_begun}
+use Rattle.edit_laws.specs.BelowHost.{below}
+use Rattle.edit_laws.specs.Islands.{StaysBelow, IsTakenOut, IslandKept}
+use Rattle.edit_laws.specs.Order.{KeepsLeaves, KeepsOrder}
+use Rattle.edit_laws.specs.Tame.{Tame}
+use Rattle.edit_laws.proofs.Resting.{island_inside, outside_at_rest, marks_at_rest, islands_at_rest, order_at_rest}
+use Rattle.edit_laws.proofs.Subsequences.{keeps_refl}
+use Rattle.edit_actions.specs.ActiveRange.{affected_host}
+use Rattle.edit_doc.specs.Whole.{Whole, IsClosed, IsDoc}
+use Rattle.edit_engine.specs.declared.answers.Answer.{Answer}
+use Rattle.edit_engine.specs.declared.answers.Answer.TheVariants.{Yes, No}
+use Rattle.edit_engine.specs.declared.answers.ExecFault.{ExecFault}
+use Rattle.edit_engine.specs.declared.answers.ExecFault.TheVariants as fault
+use Rattle.edit_engine.specs.Commands.{row_of, action_of, is_enabled}
+use Rattle.edit_engine.specs.Confinement.{KeepsOutside, KeepsMarks, IsGone, KeepsIslands, KeepsCharacters}
+use Rattle.edit_engine.specs.Editing.{Editing}
+use Rattle.edit_engine.specs.Execution.{Refused, Deep, Full, Acted, depth_limit, began, ran, answered, after_run, run_outcome, command_outcome, outcome, Tells}
+use Rattle.edit_engine.proofs.AffectedHosts.{host_is_host}
+use Rattle.edit_engine.proofs.Fitness.{fit}
+use Rattle.edit_engine.proofs.Outcomes.{shown}
+
+-- ---- what an answer tells
+
+same_after : (x z : Editing) → Acted true x ≡ Acted true z → x ≡ z
+same_after x z e = cc
+
+acted_by : (refused deep full answer : Bool) (x y z : Editing) → cond refused Refused (cond deep Deep (cond full Full (cond answer (Acted true x) (Acted false y)))) ≡ Acted true z → x ≡ z
+acted_by true deep full answer x y z e = absurd (let t : Refused ≡ Acted true z = e in cc)
+acted_by false true full answer x y z e = absurd (let t : Deep ≡ Acted true z = e in cc)
+acted_by false false true answer x y z e = absurd (let t : Full ≡ Acted true z = e in cc)
+acted_by false false false true x y z e = same_after x z e
+acted_by false false false false x y z e = absurd (let t : Acted false y ≡ Acted true z = e in cc)
+
+run_of : (old : Editing) (v : List ℕ) (c : Command) (new : Editing) → command_outcome old v c ≡ Acted true new → after_run old (ran old.state (row_of c).keeping (action_of c v)) ≡ new
+unfolding command_outcome run_outcome
+run_of old v c new e =
+    acted_by (not (is_enabled old.state c)) (nat_lt depth_limit (page_depth old.state.trees))
+    (nat_lt old.state.cap (ran old.state (row_of c).keeping (action_of c v)).next) (answered old.state (row_of c).keeping (action_of c v))
+    (after_run old (ran old.state (row_of c).keeping (action_of c v))) old new e
+
+-- the run of a command that the name names made the new editor
+pub record IsRun (old new : Editing) (name v : List ℕ) : Type 0 where
+  pub command : Command
+  pub named : command_named name ≡ Some command
+  pub is : after_run old (ran old.state (row_of command).keeping (action_of command v)) ≡ new
+
+made_run : (old new : Editing) (name v : List ℕ) → outcome old name v ≡ Acted true new → IsRun old new name v
+unfolding outcome
+made_run old new name v e = by_name (command_named name) refl e
+  where
+    by_name : (o : Option Command) → command_named name ≡ o → option_map_or (command_outcome old v) o Refused ≡ Acted true new → IsRun old new name v
+    by_name None is e = absurd (let t : Refused ≡ Acted true new = e in cc)
+    by_name (Some c) is e = record { command = c; named = is; is = run_of old v c new e }
+
+pub changes : (r : Result Answer ExecFault) (old new : Editing) (name v : List ℕ) → Tells r old new (outcome old name v) → (new ≡ old) ⊎ IsRun old new name v
+changes (Ok Yes) old new name v tells = inr (made_run old new name v tells)
+changes (Ok No) old new name v tells = inl tells.1
+changes (Err fault.Full) old new name v tells = inl tells.1
+changes (Err fault.Deep) old new name v tells = inl tells.1
+changes (Err fault.Memory) old new name v tells = inl tells
+
+-- ---- the run of a command
+
+reaches : (m : Run Bool) (s : State) → Reaches s (final m s)
+unfolding final
+reaches m s = m.by_actions s
+
+-- what holds of an editor between its calls
+pub record Standing (e : Editing) : Type 0 where
+  pub lawful : IsLawful e.state
+  pub resting : rested e.state ≡ e.state
+  pub depth : 0 < e.history.depth
+
+pub standing : (w : Whole) (e : Editing) → shown w ≡ e → IsClosed w → IsDoc w → Standing e
+standing w e view closed law = subst Standing view (record { lawful = law.lawful; resting = law.resting closed; depth = law.some_depth })
+
+same_marks : (host : Option ℕ) (s : State) (ms : List (List ℕ × Pair)) → AllZip (KeepsMark host s.trees) ms ms
+same_marks host s [] = tt
+same_marks host s (m ∷ ms) = ((refl, λ _ _. refl), same_marks host s ms)
+
+module _ (old new : Editing) (name v : List ℕ) (stands : Standing old) where
+  law : IsLawful old.state
+  law = stands.lawful
+
+  whole : tree_of old.state.trees 0 ≡ old.state.trees
+  unfolding rested
+  whole = ap (λ (s : State). s.trees) stands.resting
+
+  pub outside_kept : (new ≡ old) ⊎ IsRun old new name v → KeepsOutside old new
+  outside_kept (inl same) = ap (λ (e : Editing). outside_by (affected_host old.state) e.state.trees) same
+  outside_kept (inr run) =
+      let k = (row_of run.command).keeping in
+      let m = action_of run.command v in
+      subst (λ (e : Editing). KeepsOutside old e) run.is
+      (outside_at_rest old.state (ran old.state k m) (affected_host old.state) k law (reaches m (began old.state k)))
+
+  pub marks_kept : (new ≡ old) ⊎ IsRun old new name v → KeepsMarks old new
+  marks_kept (inl same) = subst (λ (e : Editing). KeepsMarks old e) (sym same) (same_marks (affected_host old.state) old.state old.state.points.marks)
+  marks_kept (inr run) =
+      let k = (row_of run.command).keeping in
+      let m = action_of run.command v in
+      subst (λ (e : Editing). KeepsMarks old e) run.is
+      (marks_at_rest old.state (ran old.state k m) (affected_host old.state) k law (reaches m (began old.state k)))
+
+  -- ---- islands
+
+  -- an island that stays is where it was
+  still_there : (h l : ℕ) → affected_host old.state ≡ Some h → is_island old.state.trees h l ≡ true → StaysBelow old.state.trees old.state.trees h l
+  still_there h l host island =
+      record { inside = island_inside old.state h l law (host_is_host old.state law.forest.distinct h host) island; same = refl }
+
+  -- a list with an edit makes an entry
+  entry_there : (n : ℕ) (e : Entry) (es : List Entry) → 0 < n → (rest : List Entry) × (take n (e ∷ es) ≡ e ∷ rest)
+  entry_there zero e es some = absurd (omega (arith, some))
+  entry_there (suc n) e es some = (take n es, refl)
+
+  recorded_entry : (t : State) → 0 < length t.edits → (rest : List Entry) × ((recorded false old.state t old.history).undo ≡ entry_of old.state t ∷ rest)
+  unfolding recorded with_entry
+  recorded_entry t some =
+      let off : eqb (length t.edits) 0 ≡ false = ne_eqb (length t.edits) 0 (λ e. omega (arith, some, e)) in
+      rw off (entry_there old.history.depth (entry_of old.state t) old.history.undo stands.depth)
+
+  some_edit : (b t : State) (l : ℕ) → IsTakenOut b t l → 0 < length t.edits
+  some_edit b t l k =
+      let same : length t.edits ≡ length (k.then_at.edits ++ (Loosen k.root ∷ k.later)) = ap length k.listed in
+      omega (arith, same, length-append k.then_at.edits (Loosen k.root ∷ k.later))
+
+  island_of : (h l : ℕ) (k : Bool) (m : Run Bool) → IslandKept (begun (Some h) k old.state) (final m (begun (Some h) k old.state)) old.state.trees (rested (final m (begun (Some h) k old.state))).trees h l → StaysBelow old.state.trees (after_run old (final m (begun (Some h) k old.state))).state.trees h l ⊎ IsGone old (after_run old (final m (begun (Some h) k old.state))) h l
+  island_of h l k m (inl stays) = inl stays
+  island_of h l k m (inr gone) =
+      let t = final m (begun (Some h) k old.state) in
+      let r = recorded_entry t (some_edit (begun (Some h) k old.state) t l gone.1) in
+      inr (record { out = gone.0; keeping = k; ended = t; older = r.0; entry = r.1; taken = gone.1 })
+
+  pub islands_kept : (new ≡ old) ⊎ IsRun old new name v → KeepsIslands old new
+  unfolding final
+  islands_kept (inl same) h l host island = subst (λ (e : Editing). StaysBelow old.state.trees e.state.trees h l ⊎ IsGone old e h l) (sym same) (inl (still_there h l host island))
+  islands_kept (inr run) h l host island =
+      let k = (row_of run.command).keeping in
+      let m = action_of run.command v in
+      let b = begun (Some h) k old.state in
+      let hosted = host_is_host old.state law.forest.distinct h host in
+      let at_host : after_run old (final m b) ≡ new = ap (λ o. after_run old (final m (begun o k old.state))) (sym host) ∙ run.is in
+      let leaves = (fit run.command v).stateless.leaves b (lawful_begun (Some h) k old.state law) in
+      subst (λ (e : Editing). StaysBelow old.state.trees e.state.trees h l ⊎ IsGone old e h l) at_host
+      (island_of h l k m (islands_at_rest old.state (final m b) h k law whole hosted (m.by_actions b) leaves l island))
+
+  -- ---- characters
+
+  kept_along : (h : ℕ) (k : Bool) (m : Run Bool) → k ≡ true → Tame m → KeepsOrder old.state (final m (begun (Some h) k old.state))
+  unfolding begun
+  kept_along h k m keeping t = t.keeps (begun (Some h) k old.state) (record { lawful = lawful_begun (Some h) k old.state law; keeping = keeping })
+
+  pub characters_kept : (new ≡ old) ⊎ IsRun old new name v → KeepsCharacters name old new
+  characters_kept (inl same) c h named keeps host = subst (λ (e : Editing). KeepsLeaves (below old.state.trees h) (below e.state.trees h)) (sym same) (keeps_refl (below old.state.trees h))
+  characters_kept (inr run) c h named keeps host =
+      let m = action_of run.command v in
+      let k = (row_of run.command).keeping in
+      let same : run.command ≡ c = (let t : Some run.command ≡ Some c = sym run.named ∙ named in cc) in
+      let keeping : k ≡ true = ap (λ x. (row_of x).keeping) same ∙ keeps in
+      let b = begun (Some h) k old.state in
+      let hosted = host_is_host old.state law.forest.distinct h host in
+      let at_host : after_run old (final m b) ≡ new = ap (λ o. after_run old (final m (begun o k old.state))) (sym host) ∙ run.is in
+      subst (λ (e : Editing). KeepsLeaves (below old.state.trees h) (below e.state.trees h)) at_host
+      (order_at_rest old.state (final m b) h k law whole hosted (reaches m b) (kept_along h k m keeping ((fit run.command v).tame keeping)))

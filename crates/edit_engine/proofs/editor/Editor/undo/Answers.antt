@@ -1,9 +1,0 @@
-use Rattle.std.proofs.Common.{sym, subst}
-use Rattle.edit_doc.specs.Whole.{Whole}
-use Rattle.edit_engine.proofs.Depths.{Kept, bound_undone}
-use Rattle.edit_engine.proofs.editor.Editor.undo.Goals as goal
-
-pub invariant_of-self : goal.invariant_of-self
-invariant_of-self g c =
-    let w = c.self.inside.doc in
-    subst (λ (v : Whole). Kept c.self.inside.deepest v) (sym c.undo.ensures.doc) (c.self.invariant.0, bound_undone c.self.inside.deepest (record { state = w.state; history = w.history }) c.self.invariant.1)

@@ -1,0 +1,11 @@
+use Rattle.std.proofs.Common.{refl}
+use Rattle.point_order.specs.PointOrder.{is_before}
+use Rattle.node_styles.specs.Lineage.{lineage}
+use Rattle.node_tests.specs.AffectedHost.{takes_commands, common_host, affected_host}
+use Rattle.edit_model.specs.Outside.{is_within_host, is_island}
+use Rattle.edit_actions.specs.ActiveRange.{host_of_pair}
+use Rattle.edit_engine.proofs.laws.locked_span_is_island.Goals as goal
+
+pub returns : goal.returns
+unfolding is_before lineage takes_commands common_host affected_host is_within_host is_island host_of_pair
+returns _ = (refl, refl)

@@ -1,5 +1,0 @@
-use Rattle.dom_model.specs.Forest.{depth_of}
-use Rattle.edit_engine.proofs.links.+push_above.Given as goal
-
-abbrev pub decreases-push_above : goal.decreases-push_above
-decreases-push_above l = depth_of l.doc.now.state.trees l.node.label

@@ -1,0 +1,47 @@
+-- What every execution of a command keeps, whatever it answers.
+use Rattle.std.specs.Prelude.{◌≡◌, ◌⊎◌, ℕ, Bool, true, List, ◌∷◌, Some}
+use Rattle.std.specs.List.{AllZip}
+use Rattle.html_names.specs.Commands.{command_named}
+use Rattle.html_names.specs.declared.commands.Command.{Command}
+use Rattle.dom_model.specs.Forest.{IsWithin}
+use Rattle.edit_model.specs.State.{State}
+use Rattle.edit_model.specs.History.{Entry, begun, entry_of}
+use Rattle.edit_model.specs.Laws.{KeepsMark}
+use Rattle.edit_model.specs.Outside.{outside_by, is_island}
+use Rattle.edit_actions.specs.ActiveRange.{affected_host}
+use Rattle.edit_laws.specs.BelowHost.{below}
+use Rattle.edit_laws.specs.Islands.{StaysBelow, IsTakenOut}
+use Rattle.edit_laws.specs.Order.{KeepsLeaves}
+use Rattle.edit_engine.specs.Commands.{row_of}
+use Rattle.edit_engine.specs.Editing.{Editing}
+
+-- the document without the children of the affected host is as before; without an affected host all of it is
+abbrev pub KeepsOutside : Editing → Editing → Type 0
+KeepsOutside old new = outside_by (affected_host old.state) new.state.trees ≡ outside_by (affected_host old.state) old.state.trees
+
+-- the marks keep their names and their order, and one whose points both stand apart from the host its place
+abbrev pub KeepsMarks : Editing → Editing → Type 0
+KeepsMarks old new = AllZip (KeepsMark (affected_host old.state) old.state.trees) old.state.points.marks new.state.points.marks
+
+-- The node isn't in the document any more: a command took it out, with a tree whose root was editable for the host or made by
+-- the command. The removal is one of the edits of the new entry, which are those of the state in which the command ended.
+pub record IsGone (old new : Editing) (h l : ℕ) : Type 0 where
+  pub out : IsWithin new.state.trees 0 l → ⊥
+  pub keeping : Bool
+  pub ended : State
+  pub older : List Entry
+  pub entry : new.history.undo ≡ entry_of old.state ended ∷ older
+  pub taken : IsTakenOut (begun (Some h) keeping old.state) ended l
+
+-- each island of the affected host stands below it, with an equal tree, or is gone
+abbrev pub KeepsIslands : Editing → Editing → Type 0
+KeepsIslands old new =
+    (h l : ℕ) → affected_host old.state ≡ Some h → is_island old.state.trees h l ≡ true
+    → StaysBelow old.state.trees new.state.trees h l ⊎ IsGone old new h l
+
+-- where the name is that of a keeping command, what stands below the affected host bears the same characters, images and rules
+-- in the same order, and at most blanks may be missing
+abbrev pub KeepsCharacters : List ℕ → Editing → Editing → Type 0
+KeepsCharacters name old new =
+    (c : Command) (h : ℕ) → command_named name ≡ Some c → (row_of c).keeping ≡ true → affected_host old.state ≡ Some h
+    → KeepsLeaves (below old.state.trees h) (below new.state.trees h)

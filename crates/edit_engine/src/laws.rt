@@ -1,0 +1,15 @@
+//! The laws of commands. Each is the contract of a function that does nothing.
+
+ghost use Rattle.edit_engine.specs.Refusals.{RefusalsLeave};
+ghost use Rattle.edit_engine.specs.WorkedIslands.{LockedSpanIsIsland};
+
+/// A command's action that answers false leaves the state as it was, so that taking the command back loses nothing.
+pub fn refusals_leave_the_state()
+    ensures { RefusalsLeave }
+{}
+
+/// Of `<div contenteditable=""><p>a<span contenteditable="false">i</span></p></div>` with a caret in the first text: the
+/// affected host is the div, and the span is an island of it.
+pub fn locked_span_is_island()
+    ensures { LockedSpanIsIsland }
+{}

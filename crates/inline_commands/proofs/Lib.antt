@@ -1,0 +1,3 @@
+pub mod AllLinks
+pub mod Carets
+pub mod Walking
