@@ -5,3 +5,4 @@ pub mod Names
 pub mod Runs
 pub mod Turns
 pub mod Whole
+pub mod Grammars

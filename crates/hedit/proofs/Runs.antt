@@ -1,9 +1,9 @@
 -- How the parts of a run follow their transcripts.
-use Rattle.std.proofs.Common.{◌≡◌, ◌≢◌, ◌⊎◌, ◌==◌, Bool, true, false, ℕ, suc, ◌+◌, ◌<◌, ◌≤◌, List, [], ◌∷◌, ◌++◌, length, take, Option, Some, None, refl, sym, ap, ◌∙◌, subst, inl, inr, arith, append_assoc, codes, bytes_eq}
+use Rattle.std.proofs.Common.{◌≡◌, ◌≢◌, ◌==◌, Bool, true, false, ℕ, suc, ◌+◌, ◌<◌, ◌≤◌, List, [], ◌∷◌, ◌++◌, length, Option, Some, None, refl, sym, ap, ◌∙◌, subst, inl, inr, arith, append_assoc}
 use Rattle.std.proofs.lemmas.Bool.Decides.{nat_tests}
 use Rattle.std.proofs.lemmas.List.{append-nil}
 use Rattle.edit_io.specs.Faults.{Rose}
-use Rattle.edit_io.specs.Told.{with_front, with_end, IsAtEnd, TakesPrefix}
+use Rattle.edit_io.specs.Told.{with_end, TakesPrefix}
 use Rattle.edit_io.proofs.Told.{takes_whole, with_end-nil, with_end-with_end, takes_longer, takes_after}
 use Rattle.edit_io.proofs.Faults.{Rose-after}
 use Rattle.dom_model.specs.declared.Content.{Content}
@@ -25,10 +25,11 @@ use Rattle.page_grammar.specs.Page.{size}
 use Rattle.dom_model.specs.Forest.{tops}
 use Rattle.page_read.specs.Answer.{IsDocument}
 use Rattle.hedit.specs.Replies.{line_reply, replies_to}
-use Rattle.hedit.specs.Transcript.{Transcript, transcript_of, refused, word_of, numbers_line, page_editing, checked, acted, run_block, ordered}
+use Rattle.hedit.specs.Transcript.{Transcript, transcript_of, refused, page_editing, checked, acted, run_block, gives}
 use Rattle.hedit.specs.Following.{Follows, IsWanted, Answered}
 use Rattle.hedit.specs.declared.session.Status.{Status}
-use Rattle.hedit.specs.declared.session.Status.TheVariants.{Done, Usage, ReadFault, WriteFault, Memory, PageRefused, TooLong}
+use Rattle.hedit.specs.declared.session.Status.TheVariants.{Done, WriteFault, Memory}
+use Rattle.hedit.specs.declared.words.Limits.{Limits}
 use Rattle.hedit.specs.declared.words.Order.{Order}
 use Rattle.hedit.specs.declared.words.Order.TheVariants.{Run, Check}
 
@@ -61,7 +62,7 @@ follows_memory want before after count count_after answered taken counted = reco
   counted = counted;
 }
 
--- memory was wanted before anything was written
+-- out of memory before anything was written
 pub follows_nothing : (want : Transcript) (told : Option (List ℕ)) (count : ℕ) → Answered want.status → Follows want told told count count Memory
 follows_nothing want told count answered = follows_memory want told told count count answered (nothing_taken told want.text) (omega arith)
 
@@ -71,26 +72,26 @@ pub checked_answered : (r : Reading) → Answered (checked r).status
 checked_answered (Children f) = tt
 checked_answered (Refused place kind) = tt
 
-pub acted_answered : (cap undo : ℕ) (acts : List (List ℕ)) (r : Reading) → Answered (acted cap undo acts r).status
-acted_answered cap undo acts (Children f) = tt
-acted_answered cap undo acts (Refused place kind) = tt
+pub acted_answered : (limits : Limits) (acts : List (List ℕ)) (r : Reading) → Answered (acted limits acts r).status
+acted_answered limits acts (Children f) = tt
+acted_answered limits acts (Refused place kind) = tt
 
-pub block_answered : (cap undo size : ℕ) (b : Block) → Answered (run_block cap undo size b).status
-block_answered cap undo size NoOpening = tt
-block_answered cap undo size NoClosing = tt
-block_answered cap undo size (Whole page acts) = acted_answered cap undo acts (page_reading 200 cap page)
+pub block_answered : (limits : Limits) (size : ℕ) (b : Block) → Answered (run_block limits size b).status
+block_answered limits size NoOpening = tt
+block_answered limits size NoClosing = tt
+block_answered limits size (Whole page acts) = acted_answered limits acts (page_reading 200 limits.cap page)
 
-pub ordered_answered : (input : List ℕ) (order : Order) → Answered (ordered input order).status
-ordered_answered input Check = checked_answered (page_reading 200 2000000 input)
-ordered_answered input (Run cap undo) = block_answered cap undo (length input) (block_of input)
+pub gives_answered : (order : Order) (text : List ℕ) → Answered (gives order text).status
+gives_answered Check text = checked_answered (page_reading 200 2000000 text)
+gives_answered (Run limits) text = block_answered limits (length text) (block_of text)
 
 pub checked_wanted : (cap : ℕ) (bytes : List ℕ) (fault : PageFault) (o : Option Kind) → IsFaultAnswer cap bytes fault o → IsWanted fault.at o (checked (page_reading 200 cap bytes))
 checked_wanted cap bytes fault None e = tt
 checked_wanted cap bytes fault (Some kind) e = ap checked e
 
-pub acted_wanted : (undo : ℕ) (acts : List (List ℕ)) (cap : ℕ) (bytes : List ℕ) (fault : PageFault) (o : Option Kind) → IsFaultAnswer cap bytes fault o → IsWanted fault.at o (acted cap undo acts (page_reading 200 cap bytes))
-acted_wanted undo acts cap bytes fault None e = tt
-acted_wanted undo acts cap bytes fault (Some kind) e = ap (acted cap undo acts) e
+pub acted_wanted : (limits : Limits) (acts : List (List ℕ)) (bytes : List ℕ) (fault : PageFault) (o : Option Kind) → IsFaultAnswer limits.cap bytes fault o → IsWanted fault.at o (acted limits acts (page_reading 200 limits.cap bytes))
+acted_wanted limits acts bytes fault None e = tt
+acted_wanted limits acts bytes fault (Some kind) e = ap (acted limits acts) e
 
 -- the line of a kind is the line that is wanted
 pub wanted_line : (place : ℕ) (k : PageKind) (want : Transcript) → k ≢ kinds.Memory → IsWanted place (kind_of k) want → refused place (kind_word k) ≡ want

@@ -1,23 +1,25 @@
 -- How the whole run follows its transcript, over an input that is told.
 use Rattle.std.proofs.Common.{◌≡◌, ◌⊎◌, ◌&&◌, ℕ, ◌<◌, ◌≤◌, Bool, true, false, List, [], ◌∷◌, ◌++◌, length, Option, Some, None, IfSome, refl, sym, ap, ◌∙◌, subst, inl, inr, arith, nat_lt, nat_le, unwrap_or, lit<, if◌then◌else◌}
-use Rattle.std.specs.Option.{option_and_then}
+use Rattle.std.specs.Option.{option_map, option_and_then}
 use Rattle.std.proofs.lemmas.Bool.Decides.{nat_tests}
 use Rattle.std.proofs.lemmas.List.{append-nil}
 use Rattle.edit_io.specs.Faults.{Rose}
-use Rattle.edit_io.specs.Told.{with_front, with_end, IsAtEnd, TakesPrefix}
+use Rattle.edit_io.specs.Told.{with_front, with_end, IsAtEnd}
 use Rattle.edit_io.proofs.Told.{with_end-nil, with_front-some, with_front-none}
 use Rattle.script_read.specs.Reading.{number_of}
-use Rattle.hedit.specs.Words.{order_of, amount_of, greatest, usual, with_setting, IsSetting, AreSettings, IsOrder, none_given}
-use Rattle.hedit.specs.Transcript.{Transcript, transcript_of, transcript, read_transcript, ordered}
-use Rattle.hedit.specs.Following.{Follows, RunFollows, HasCap, Answered}
+use Rattle.hedit.specs.Words.{order_of, amount_of, choice_of, greatest_cap, greatest_undo, usual_undo, with_choice, AreSettings, IsOrder, none_given}
+use Rattle.hedit.specs.Transcript.{Transcript, transcript_of, transcript, order_transcript, reads_input, gives}
+use Rattle.hedit.specs.Following.{Follows, RunFollows, IsAnswered, HasCap, Answered}
 use Rattle.hedit.specs.declared.session.Status.{Status}
 use Rattle.hedit.specs.declared.session.Status.TheVariants.{Done, Usage, ReadFault, WriteFault, Memory, PageRefused, TooLong}
 use Rattle.hedit.specs.declared.words.Order.{Order}
 use Rattle.hedit.specs.declared.words.Order.TheVariants.{Run, Check}
 use Rattle.hedit.specs.declared.words.Setting.{Setting}
 use Rattle.hedit.specs.declared.words.Setting.TheVariants.{Cap, Undo}
+use Rattle.hedit.specs.declared.words.Choice.{Choice}
+use Rattle.hedit.specs.declared.words.Choice.TheVariants as choices
 use Rattle.hedit.specs.declared.words.Options.{Options}
-use Rattle.hedit.proofs.Runs.{nothing_taken, ordered_answered}
+use Rattle.hedit.proofs.Runs.{nothing_taken, gives_answered}
 
 -- ---- an order's cap is a label, and it keeps entries
 
@@ -29,35 +31,51 @@ both : (b c : Bool) → b && c ≡ true → b ≡ true
 both true c e = refl
 both false c e = absurd (let e' = e in cc)
 
-amount_above : (s : Setting) (o : Option ℕ) (n : ℕ) → option_and_then (λ k. if nat_lt 0 k && nat_le k (greatest s) then Some k else None) o ≡ Some n → 0 < n
-amount_above s None n e = absurd (let e' = e in cc)
-amount_above s (Some k) n e =
-    let p = picked (nat_lt 0 k && nat_le k (greatest s)) k n e in
-    let t : nat_lt 0 k ≡ true = both (nat_lt 0 k) (nat_le k (greatest s)) p.0 in
+amount_above : (greatest : ℕ) (o : Option ℕ) (n : ℕ) → option_and_then (λ k. if nat_lt 0 k && nat_le k greatest then Some k else None) o ≡ Some n → 0 < n
+amount_above greatest None n e = absurd (let e' = e in cc)
+amount_above greatest (Some k) n e =
+    let p = picked (nat_lt 0 k && nat_le k greatest) k n e in
+    let t : nat_lt 0 k ≡ true = both (nat_lt 0 k) (nat_le k greatest) p.0 in
     let above : 0 < k = grind (arith, nat_tests) in
     rw (← p.1) above
+
+abbrev IsAbove : Choice → Type 0
+IsAbove (choices.Cap n) = 0 < n
+IsAbove (choices.Undo n) = 0 < n
+
+mapped : (f : ℕ → Choice) (o : Option ℕ) (x : Choice) → option_map f o ≡ Some x → (n : ℕ) × (o ≡ Some n) × (f n ≡ x)
+mapped f None x e = absurd (let e' = e in cc)
+mapped f (Some n) x e = (n, refl, let e' = e in cc)
+
+choice_above : (s : Setting) (text : List ℕ) (x : Choice) → choice_of s text ≡ Some x → IsAbove x
+choice_above Cap text x e =
+    let m = mapped choices.Cap (amount_of greatest_cap text) x e in
+    subst IsAbove m.2 (amount_above greatest_cap (number_of text) m.0 m.1)
+choice_above Undo text x e =
+    let m = mapped choices.Undo (amount_of greatest_undo text) x e in
+    subst IsAbove m.2 (amount_above greatest_undo (number_of text) m.0 m.1)
 
 abbrev AmountsAbove : Options → Type 0
 AmountsAbove o = IfSome o.cap (λ n. 0 < n) × IfSome o.undo (λ n. 0 < n)
 
-settings_above : (xs : List (Setting × ℕ)) (words : List (List ℕ)) (before after : Options) → AreSettings xs words before after → AmountsAbove before → AmountsAbove after
+settings_above : (xs : List (Setting × Choice)) (words : List (List ℕ)) (before after : Options) → AreSettings xs words before after → AmountsAbove before → AmountsAbove after
 settings_above [] words before after s above = subst AmountsAbove s.1 above
 settings_above (x ∷ xs) words before after s above =
-    settings_above xs s.0 (with_setting before x.0 x.1) after s.3 (one x.0 x.1 (amount_above x.0 (number_of s.1.0) x.1 s.1.1))
+    settings_above xs s.0 (with_choice before x.1) after s.3 (one x.1 (choice_above x.0 s.1.0 x.1 s.1.1))
   where
-    one : (k : Setting) (n : ℕ) → 0 < n → AmountsAbove (with_setting before k n)
-    one Cap n some = (some, above.1)
-    one Undo n some = (above.0, some)
+    one : (c : Choice) → IsAbove c → AmountsAbove (with_choice before c)
+    one (choices.Cap n) some = (some, above.1)
+    one (choices.Undo n) some = (above.0, some)
 
-picked_above : (o : Option ℕ) (n most : ℕ) → 0 < most → IfSome o (λ k. 0 < k) → n ≡ unwrap_or o most → 0 < n
-picked_above None n most some above is = rw is some
-picked_above (Some k) n most some above is = rw is above
+picked_above : (o : Option ℕ) (usual : ℕ) → 0 < usual → IfSome o (λ k. 0 < k) → 0 < unwrap_or o usual
+picked_above None usual some above = some
+picked_above (Some k) usual some above = above
 
 pub order_has_cap : (words : List (List ℕ)) (order : Order) → IsOrder words order → HasCap order
 order_has_cap words Check is = tt
-order_has_cap words (Run cap undo) is =
+order_has_cap words (Run limits) is =
     let above = settings_above is.0 is.1 none_given is.2 is.4 (tt, tt) in
-    (picked_above is.2.cap cap (usual Cap) (lit< tt) above.0 is.5, picked_above is.2.undo undo (usual Undo) (lit< tt) above.1 is.6)
+    rw (is.5) (picked_above is.2.cap greatest_cap (lit< tt) above.0, picked_above is.2.undo usual_undo (lit< tt) above.1)
 
 -- ---- what is told
 
@@ -81,20 +99,28 @@ told_read old (Some rest) bytes P is end h =
 usage_transcript : (words : List (List ℕ)) (bytes : List ℕ) → order_of words ≡ None → transcript words bytes ≡ transcript_of Usage []
 usage_transcript words bytes none = rw none refl
 
-pub order_transcript : (words : List (List ℕ)) (bytes : List ℕ) (order : Order) → order_of words ≡ Some order → length bytes ≤ 8388608 → transcript words bytes ≡ ordered bytes order
-order_transcript words bytes order is short =
+and_false : (b : Bool) → (b && false) ≡ false
+and_false true = refl
+and_false false = refl
+
+-- each order reads the input
+all_read : (order : Order) → reads_input order ≡ true
+all_read Check = refl
+all_read (Run limits) = refl
+
+short_transcript : (words : List (List ℕ)) (bytes : List ℕ) (order : Order) → order_of words ≡ Some order → length bytes ≤ 8388608 → transcript words bytes ≡ gives order bytes
+short_transcript words bytes order is short =
     let t : nat_lt 8388608 (length bytes) ≡ false = grind (arith, nat_tests) in
-    rw (is, t) refl
+    rw (is, t, and_false (reads_input order)) refl
 
 long_transcript : (words : List (List ℕ)) (bytes : List ℕ) (order : Order) → order_of words ≡ Some order → 8388608 < length bytes → transcript words bytes ≡ transcript_of TooLong []
 long_transcript words bytes order is long =
     let t : nat_lt 8388608 (length bytes) ≡ true = grind (arith, nat_tests) in
-    rw (is, t) refl
+    rw (is, all_read order, t) refl
 
--- the statuses of transcripts
+-- the statuses of the transcripts of orders
 abbrev IsGiven : Status → Type 0
 IsGiven Done = Unit {0}
-IsGiven Usage = Unit {0}
 IsGiven PageRefused = Unit {0}
 IsGiven TooLong = Unit {0}
 IsGiven s = ⊥
@@ -108,20 +134,16 @@ answered_given WriteFault h = absurd h
 answered_given Memory h = absurd h
 answered_given TooLong h = absurd h
 
-read_given : (bytes : List ℕ) (order : Order) (b : Bool) → nat_lt 8388608 (length bytes) ≡ b → IsGiven (read_transcript bytes order).status
-read_given bytes order true t = rw t tt
-read_given bytes order false t = rw t (answered_given (ordered bytes order).status (ordered_answered bytes order))
+order_given : (bytes : List ℕ) (order : Order) (b : Bool) → (reads_input order && nat_lt 8388608 (length bytes)) ≡ b → IsGiven (order_transcript bytes order).status
+order_given bytes order true t = rw t tt
+order_given bytes order false t = rw t (answered_given (gives order bytes).status (gives_answered order bytes))
 
-transcript_given : (words : List (List ℕ)) (bytes : List ℕ) → IsGiven (transcript words bytes).status
-transcript_given words bytes = by_order (order_of words) refl
-  where
-    by_order : (o : Option Order) → order_of words ≡ o → IsGiven (transcript words bytes).status
-    by_order None e = rw e tt
-    by_order (Some order) e = rw e (read_given bytes order (nat_lt 8388608 (length bytes)) refl)
+transcript_given : (words : List (List ℕ)) (bytes : List ℕ) (order : Order) → order_of words ≡ Some order → IsGiven (transcript words bytes).status
+transcript_given words bytes order is = rw is (order_given bytes order (reads_input order && nat_lt 8388608 (length bytes)) refl)
 
--- nothing is written: the status is the transcript's, or has its cause
-silent : (want : Transcript) (told : Option (List ℕ)) (r0 r1 w : ℕ) (status : Status) → (status ≡ want.status → want.text ≡ []) → (status ≡ want.status) ⊎ (((status ≡ ReadFault) × Rose r0 r1) ⊎ (status ≡ Memory)) → RunFollows want told told r0 r1 w w status
-silent want told r0 r1 w status empty cause = record {
+-- nothing is written by an order: the status is the transcript's, or has its cause
+silent : (want : Transcript) (told : Option (List ℕ)) (r0 r1 w : ℕ) (status : Status) → IsGiven want.status → (status ≡ want.status → want.text ≡ []) → (status ≡ want.status) ⊎ (((status ≡ ReadFault) × Rose r0 r1) ⊎ (status ≡ Memory)) → RunFollows want told told r0 r1 w w status
+silent want told r0 r1 w status given empty cause = record {
   written = nothing_taken told want.text;
   whole = λ e. sym (with_end-nil told) ∙ ap (with_end told) (sym (empty e));
   cause = elim cause [
@@ -129,32 +151,46 @@ silent want told r0 r1 w status empty cause = record {
     | inr (inl h) ↦ inr (inl h)
     | inr (inr e) ↦ inr (inr (inr e))
   ];
+  usage = λ h. absurd (subst IsGiven h given);
+  too_long = λ h. elim cause [
+    | inl e ↦ inl (e ∙ h)
+    | inr x ↦ inr x
+  ];
+}
+
+usage_follows : (want : Transcript) (told : Option (List ℕ)) (r w : ℕ) → want ≡ transcript_of Usage [] → RunFollows want told told r r w w Usage
+usage_follows want told r w is = record {
+  written = nothing_taken told want.text;
+  whole = λ _. sym (with_end-nil told) ∙ ap (with_end told) (sym (ap (λ (t : Transcript). t.text) is));
+  cause = inl (sym (ap (λ (t : Transcript). t.status) is));
+  usage = λ _. refl;
+  too_long = λ h. absurd (let e : Usage ≡ TooLong = sym (ap (λ (t : Transcript). t.status) is) ∙ h in cc);
 }
 
 pub told_usage : (left : Option (List ℕ)) (words : List (List ℕ)) (told : Option (List ℕ)) (r w : ℕ) → order_of words ≡ None → IfSome left (λ bytes. RunFollows (transcript words bytes) told told r r w w Usage)
 told_usage left words told r w none =
-    told_all left _ (λ bytes.
-    let is = usage_transcript words bytes none in
-    silent (transcript words bytes) told r r w Usage (λ _. ap (λ (t : Transcript). t.text) is) (inl (ap (λ (t : Transcript). t.status) (sym is))))
+    told_all left _ (λ bytes. usage_follows (transcript words bytes) told r w (usage_transcript words bytes none))
 
-pub told_failed : (left : Option (List ℕ)) (words : List (List ℕ)) (told : Option (List ℕ)) (r0 r1 w : ℕ) → Rose r0 r1 → IfSome left (λ bytes. RunFollows (transcript words bytes) told told r0 r1 w w ReadFault)
-told_failed left words told r0 r1 w rose =
+pub told_failed : (left : Option (List ℕ)) (words : List (List ℕ)) (order : Order) (told : Option (List ℕ)) (r0 r1 w : ℕ) → order_of words ≡ Some order → Rose r0 r1 → IfSome left (λ bytes. RunFollows (transcript words bytes) told told r0 r1 w w ReadFault)
+told_failed left words order told r0 r1 w is rose =
     told_all left _ (λ bytes.
-    silent (transcript words bytes) told r0 r1 w ReadFault (λ e. absurd (subst IsGiven (sym e) (transcript_given words bytes))) (inr (inl (refl, rose))))
+    let given = transcript_given words bytes order is in
+    silent (transcript words bytes) told r0 r1 w ReadFault given (λ e. absurd (subst IsGiven (sym e) given)) (inr (inl (refl, rose))))
 
-pub told_memory : (left : Option (List ℕ)) (words : List (List ℕ)) (told : Option (List ℕ)) (r0 r1 w : ℕ) → IfSome left (λ bytes. RunFollows (transcript words bytes) told told r0 r1 w w Memory)
-told_memory left words told r0 r1 w =
+pub told_memory : (left : Option (List ℕ)) (words : List (List ℕ)) (order : Order) (told : Option (List ℕ)) (r0 r1 w : ℕ) → order_of words ≡ Some order → IfSome left (λ bytes. RunFollows (transcript words bytes) told told r0 r1 w w Memory)
+told_memory left words order told r0 r1 w is =
     told_all left _ (λ bytes.
-    silent (transcript words bytes) told r0 r1 w Memory (λ e. absurd (subst IsGiven (sym e) (transcript_given words bytes))) (inr (inr refl)))
+    let given = transcript_given words bytes order is in
+    silent (transcript words bytes) told r0 r1 w Memory given (λ e. absurd (subst IsGiven (sym e) given)) (inr (inr refl)))
 
 pub told_long : (left : Option (List ℕ)) (words : List (List ℕ)) (order : Order) (told : Option (List ℕ)) (r0 r1 w : ℕ) → order_of words ≡ Some order → IfSome left (λ bytes. 8388608 < length bytes) → IfSome left (λ bytes. RunFollows (transcript words bytes) told told r0 r1 w w TooLong)
 told_long left words order told r0 r1 w is long =
     told_each left _ _ (λ bytes more.
     let e = long_transcript words bytes order is more in
-    silent (transcript words bytes) told r0 r1 w TooLong (λ _. ap (λ (t : Transcript). t.text) e) (inl (ap (λ (t : Transcript). t.status) (sym e)))) long
+    silent (transcript words bytes) told r0 r1 w TooLong (transcript_given words bytes order is) (λ _. ap (λ (t : Transcript). t.text) e) (inl (ap (λ (t : Transcript). t.status) (sym e)))) long
 
-run_follows : (want : Transcript) (before after : Option (List ℕ)) (r0 r1 w0 w1 : ℕ) (status : Status) → Follows want before after w0 w1 status → RunFollows want before after r0 r1 w0 w1 status
-run_follows want before after r0 r1 w0 w1 status f = record {
+run_follows : (want : Transcript) (before after : Option (List ℕ)) (r0 r1 w0 w1 : ℕ) (status : Status) → Answered want.status → Follows want before after w0 w1 status → RunFollows want before after r0 r1 w0 w1 status
+run_follows want before after r0 r1 w0 w1 status answered f = record {
   written = f.written;
   whole = f.whole;
   cause = elim f.cause [
@@ -162,11 +198,35 @@ run_follows want before after r0 r1 w0 w1 status f = record {
     | inr (inl h) ↦ inr (inr (inl h))
     | inr (inr e) ↦ inr (inr (inr e))
   ];
+  usage = λ h. absurd (subst Answered h answered);
+  too_long = λ h. absurd (subst Answered h answered);
 }
 
-pub told_run : (old new : Option (List ℕ)) (bytes : List ℕ) (words : List (List ℕ)) (order : Order) (before after : Option (List ℕ)) (r0 r1 w0 w1 : ℕ) (status : Status) → order_of words ≡ Some order → old ≡ with_front bytes new → IsAtEnd new → length bytes ≤ 8388608 → Follows (ordered bytes order) before after w0 w1 status
+pub told_run : (old new : Option (List ℕ)) (bytes : List ℕ) (words : List (List ℕ)) (order : Order) (before after : Option (List ℕ)) (r0 r1 w0 w1 : ℕ) (status : Status) → order_of words ≡ Some order → old ≡ with_front bytes new → IsAtEnd new → length bytes ≤ 8388608 → Follows (gives order bytes) before after w0 w1 status
     → IfSome old (λ bytes. RunFollows (transcript words bytes) before after r0 r1 w0 w1 status)
 told_run old new bytes words order before after r0 r1 w0 w1 status is read end short f =
     told_read old new bytes (λ bs. RunFollows (transcript words bs) before after r0 r1 w0 w1 status) read end (
-    let e = order_transcript words bytes order is short in
-    run_follows (transcript words bytes) before after r0 r1 w0 w1 status (rw e f))
+    let e = short_transcript words bytes order is short in
+    rw e (run_follows (gives order bytes) before after r0 r1 w0 w1 status (gives_answered order bytes) f))
+
+-- a status of the transcript comes with the whole of it
+answered_whole : (want : Transcript) (before after : Option (List ℕ)) (w0 w1 : ℕ) (status : Status) → Answered status → Follows want before after w0 w1 status → status ≡ want.status
+answered_whole want before after w0 w1 status answered f = elim f.cause [
+  | inl e ↦ e
+  | inr (inl h) ↦ absurd (subst Answered h.0 answered)
+  | inr (inr e) ↦ absurd (subst Answered e answered)
+]
+
+pub answered_run : (old new : Option (List ℕ)) (bytes : List ℕ) (words : List (List ℕ)) (order : Order) (before after : Option (List ℕ)) (w0 w1 : ℕ) (status : Status) → IsOrder words order → order_of words ≡ Some order → old ≡ with_front bytes new → IsAtEnd new → length bytes ≤ 8388608 → Follows (gives order bytes) before after w0 w1 status
+    → Answered status → IsAnswered words old new before after status
+answered_run old new bytes words order before after w0 w1 status asked is read end short f answered =
+    let e = short_transcript words bytes order is short in
+    let same = answered_whole (gives order bytes) before after w0 w1 status answered f in
+    record {
+      order = order;
+      ordered = asked;
+      text = bytes;
+      read = rw (all_read order) (read, end);
+      given = rw e (sym same);
+      written = rw e (f.whole same);
+    }

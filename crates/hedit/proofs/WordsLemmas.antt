@@ -1,5 +1,5 @@
 -- The two first words of the options, and that `order_of` decides the grammar.
-use Rattle.std.proofs.Common.{◌≡◌, ◌↔◌, ℕ, ◌<◌, ◌≤◌, Bool, true, false, ◌&&◌, cond, List, [], ◌∷◌, ◌++◌, length, take, drop, map, get_or, codes, Option, Some, None, is_some, nat_eq, refl, sym, ◌∙◌, ap, subst, inl, inr, arith}
+use Rattle.std.proofs.Common.{◌≡◌, ◌↔◌, ℕ, ◌≤◌, Bool, true, false, ◌&&◌, cond, List, [], ◌∷◌, ◌++◌, length, take, drop, map, get_or, codes, Option, Some, None, nat_eq, refl, sym, ◌∙◌, ap, subst, inl, inr, arith}
 use Rattle.std.specs.Bool.{Decides}
 use Rattle.std.specs.List.{starts_with}
 use Rattle.std.specs.Option.{option_map, option_and_then, option_map_or}
@@ -10,8 +10,9 @@ use Rattle.hedit.specs.declared.words.Order.{Order}
 use Rattle.hedit.specs.declared.words.Order.TheVariants.{Run, Check}
 use Rattle.hedit.specs.declared.words.Setting.{Setting}
 use Rattle.hedit.specs.declared.words.Setting.TheVariants.{Cap, Undo}
+use Rattle.hedit.specs.declared.words.Choice.{Choice}
 use Rattle.hedit.specs.declared.words.Options.{Options}
-use Rattle.hedit.specs.Words.{name_of, amount_of, given, with_setting, none_given, setting_named, setting_joined, setting_read, joined_read, options_read, run_of, order_of, is_empty, IsSetting, AreSettings, IsOrder}
+use Rattle.hedit.specs.Words.{name_of, choice_of, is_given, with_choice, none_given, setting_named, setting_joined, setting_read, joined_read, options_read, run_of, order_of, is_empty, IsSetting, AreSettings, IsOrder}
 
 -- ---- the two first words
 
@@ -82,22 +83,22 @@ joined-is w q e =
     joined-by w q _ _ (begins w (codes "--cap=")) (begins w (codes "--undo=")) e
 
 pub record Reads (o : Options) (s : Setting) (text : List ℕ) (p : Options) : Type 0 where
-  pub amount : ℕ
-  pub is : amount_of s text ≡ Some amount
-  pub new : given o s ≡ None
-  pub then_p : with_setting o s amount ≡ p
+  pub choice : Choice
+  pub is : choice_of s text ≡ Some choice
+  pub new : is_given o s ≡ false
+  pub then_p : with_choice o choice ≡ p
 
-reads-by : (o : Options) (s : Setting) (text : List ℕ) (p : Options) (g a : Option ℕ) → given o s ≡ g → amount_of s text ≡ a
-    → cond (is_some g) None (option_map (with_setting o s) a) ≡ Some p → Reads o s text p
-reads-by o s text p (Some x) a eg ea e = absurd (cc)
-reads-by o s text p None None eg ea e = absurd (cc)
-reads-by o s text p None (Some n) eg ea e = record { amount = n; is = ea; new = eg; then_p = some-is e }
+reads-by : (o : Options) (s : Setting) (text : List ℕ) (p : Options) (g : Bool) (a : Option Choice) → is_given o s ≡ g → choice_of s text ≡ a
+    → cond g None (option_map (with_choice o) a) ≡ Some p → Reads o s text p
+reads-by o s text p true a eg ea e = absurd (cc)
+reads-by o s text p false None eg ea e = absurd (cc)
+reads-by o s text p false (Some x) eg ea e = record { choice = x; is = ea; new = eg; then_p = some-is e }
 
 reads-is : (o : Options) (s : Setting) (text : List ℕ) (p : Options) → setting_read o s text ≡ Some p → Reads o s text p
-reads-is o s text p e = reads-by o s text p (given o s) (amount_of s text) refl refl e
+reads-is o s text p e = reads-by o s text p (is_given o s) (choice_of s text) refl refl e
 
-reads-back : (o : Options) (s : Setting) (text : List ℕ) (n : ℕ) → amount_of s text ≡ Some n → given o s ≡ None → setting_read o s text ≡ Some (with_setting o s n)
-reads-back o s text n amount new = rw (new, amount) refl
+reads-back : (o : Options) (s : Setting) (text : List ℕ) (x : Choice) → choice_of s text ≡ Some x → is_given o s ≡ false → setting_read o s text ≡ Some (with_choice o x)
+reads-back o s text x amount new = rw (new, amount) refl
 
 -- ---- the options
 
@@ -113,42 +114,42 @@ joined-joined : (s : Setting) (text : List ℕ) → setting_joined (name_of s ++
 joined-joined Cap text = refl
 joined-joined Undo text = refl
 
-joined-back : (o : Options) (s : Setting) (text : List ℕ) (n : ℕ) → amount_of s text ≡ Some n → given o s ≡ None
-    → joined_read o (name_of s ++ codes "=" ++ text) ≡ Some (with_setting o s n)
-joined-back o s text n amount new = rw (joined-joined s text) (reads-back o s text n amount new)
+joined-back : (o : Options) (s : Setting) (text : List ℕ) (x : Choice) → choice_of s text ≡ Some x → is_given o s ≡ false
+    → joined_read o (name_of s ++ codes "=" ++ text) ≡ Some (with_choice o x)
+joined-back o s text x amount new = rw (joined-joined s text) (reads-back o s text x amount new)
 
-two-back : (o p : Options) (s : Setting) (text : List ℕ) (n : ℕ) (rest : List (List ℕ)) → amount_of s text ≡ Some n → given o s ≡ None
-    → options_read (with_setting o s n) rest ≡ Some p → options_read o (name_of s ∷ (text ∷ rest)) ≡ Some p
-two-back o p s text n rest amount new more = rw (name-named s) (rw (reads-back o s text n amount new) more)
+two-back : (o p : Options) (s : Setting) (text : List ℕ) (x : Choice) (rest : List (List ℕ)) → choice_of s text ≡ Some x → is_given o s ≡ false
+    → options_read (with_choice o x) rest ≡ Some p → options_read o (name_of s ∷ (text ∷ rest)) ≡ Some p
+two-back o p s text x rest amount new more = rw (name-named s) (rw (reads-back o s text x amount new) more)
 
-one-back : (o p : Options) (s : Setting) (text : List ℕ) (n : ℕ) (rest : List (List ℕ)) → amount_of s text ≡ Some n → given o s ≡ None
-    → options_read (with_setting o s n) rest ≡ Some p → options_read o ((name_of s ++ codes "=" ++ text) ∷ rest) ≡ Some p
-one-back o p s text n [] amount new more = joined-back o s text n amount new ∙ more
-one-back o p s text n (next ∷ rest) amount new more = rw (joined-not_named s text) (rw (joined-back o s text n amount new) more)
+one-back : (o p : Options) (s : Setting) (text : List ℕ) (x : Choice) (rest : List (List ℕ)) → choice_of s text ≡ Some x → is_given o s ≡ false
+    → options_read (with_choice o x) rest ≡ Some p → options_read o ((name_of s ++ codes "=" ++ text) ∷ rest) ≡ Some p
+one-back o p s text x [] amount new more = joined-back o s text x amount new ∙ more
+one-back o p s text x (next ∷ rest) amount new more = rw (joined-not_named s text) (rw (joined-back o s text x amount new) more)
 
-settings-read : (xs : List (Setting × ℕ)) (words : List (List ℕ)) (o p : Options) → AreSettings xs words o p → options_read o words ≡ Some p
+settings-read : (xs : List (Setting × Choice)) (words : List (List ℕ)) (o p : Options) → AreSettings xs words o p → options_read o words ≡ Some p
 settings-read [] words o p are = rw are.0 (ap Some are.1)
 settings-read (x ∷ xs) words o p (rest, is, new, more) =
-    let tail = settings-read xs rest (with_setting o x.0 x.1) p more in
+    let tail = settings-read xs rest (with_choice o x.1) p more in
     elim is.2 [
       | inl e ↦ rw e (two-back o p x.0 is.0 x.1 rest is.1 new tail)
       | inr e ↦ rw e (one-back o p x.0 is.0 x.1 rest is.1 new tail)
     ]
 
 pub record Settings (words : List (List ℕ)) (o p : Options) : Type 0 where
-  pub list : List (Setting × ℕ)
+  pub list : List (Setting × Choice)
   pub are : AreSettings list words o p
 
-settings-more : (o p : Options) (s : Setting) (n : ℕ) (words rest : List (List ℕ)) → IsSetting s n words rest → given o s ≡ None
-    → Settings rest (with_setting o s n) p → Settings words o p
-settings-more o p s n words rest is new more = record { list = (s, n) ∷ more.list; are = (rest, is, new, more.are) }
+settings-more : (o p : Options) (s : Setting) (x : Choice) (words rest : List (List ℕ)) → IsSetting s x words rest → is_given o s ≡ false
+    → Settings rest (with_choice o x) p → Settings words o p
+settings-more o p s x words rest is new more = record { list = (s, x) ∷ more.list; are = (rest, is, new, more.are) }
 
 read-settings : (o p : Options) (words : List (List ℕ)) → options_read o words ≡ Some p → Settings words o p
 read-settings o p [] e = record { list = []; are = (refl, some-is e) }
 read-settings o p (word ∷ []) e =
     let j = and_then-some (λ q. setting_read o q.0 q.1) (setting_joined word) p e in
     let r = reads-is o j.first.0 j.first.1 p j.then_b in
-    settings-more o p j.first.0 r.amount (word ∷ []) [] (j.first.1, r.is, inr (ap (λ w. w ∷ []) (joined-is word j.first j.was))) r.new
+    settings-more o p j.first.0 r.choice (word ∷ []) [] (j.first.1, r.is, inr (ap (λ w. w ∷ []) (joined-is word j.first j.was))) r.new
     (record { list = []; are = (refl, r.then_p) })
 read-settings o p (word ∷ (text ∷ words)) e =
     elim (setting_named word) as (λ (n : Option Setting). setting_named word ≡ n
@@ -157,14 +158,14 @@ read-settings o p (word ∷ (text ∷ words)) e =
       | Some s ↦ λ was e.
           let t = and_then-some (λ q. options_read q words) (setting_read o s text) p e in
           let r = reads-is o s text t.first t.was in
-          settings-more o p s r.amount (word ∷ (text ∷ words)) words (text, r.is, inl (ap (λ w. w ∷ (text ∷ words)) (name-is word s was))) r.new
-          (read-settings (with_setting o s r.amount) p words (subst (λ (q : Options). options_read q words ≡ Some p) (sym r.then_p) t.then_b))
+          settings-more o p s r.choice (word ∷ (text ∷ words)) words (text, r.is, inl (ap (λ w. w ∷ (text ∷ words)) (name-is word s was))) r.new
+          (read-settings (with_choice o r.choice) p words (subst (λ (q : Options). options_read q words ≡ Some p) (sym r.then_p) t.then_b))
       | None ↦ λ was e.
           let t = and_then-some (λ q. options_read q (text ∷ words)) (joined_read o word) p e in
           let j = and_then-some (λ q. setting_read o q.0 q.1) (setting_joined word) t.first t.was in
           let r = reads-is o j.first.0 j.first.1 t.first j.then_b in
-          settings-more o p j.first.0 r.amount (word ∷ (text ∷ words)) (text ∷ words) (j.first.1, r.is, inr (ap (λ w. w ∷ (text ∷ words)) (joined-is word j.first j.was))) r.new
-          (read-settings (with_setting o j.first.0 r.amount) p (text ∷ words) (subst (λ (q : Options). options_read q (text ∷ words) ≡ Some p) (sym r.then_p) t.then_b))
+          settings-more o p j.first.0 r.choice (word ∷ (text ∷ words)) (text ∷ words) (j.first.1, r.is, inr (ap (λ w. w ∷ (text ∷ words)) (joined-is word j.first j.was))) r.new
+          (read-settings (with_choice o r.choice) p (text ∷ words) (subst (λ (q : Options). options_read q (text ∷ words) ≡ Some p) (sym r.then_p) t.then_b))
     ] refl e
 
 -- ---- the order
@@ -173,7 +174,7 @@ is_run : (word : List ℕ) (words : List (List ℕ)) (o : Order) (p : Options) �
     → IsOrder (word ∷ words) o
 is_run word words o p w r e =
     let s = read-settings none_given p words r in
-    subst (λ (o : Order). IsOrder (word ∷ words) o) e (s.list, words, p, ap (λ x. x ∷ words) w, s.are, refl, refl)
+    subst (λ (o : Order). IsOrder (word ∷ words) o) e (s.list, words, p, ap (λ x. x ∷ words) w, s.are, refl)
 
 is_check : (word : List ℕ) (words : List (List ℕ)) (o : Order) → word ≡ codes "check" → cond (is_empty words) (Some Check) None ≡ Some o → IsOrder (word ∷ words) o
 is_check word [] o w e = subst (λ (o : Order). IsOrder (word ∷ []) o) (some-is e) (ap (λ x. x ∷ []) w)
@@ -198,8 +199,8 @@ order-sound (word ∷ words) o e =
 
 order-complete : (words : List (List ℕ)) (o : Order) → IsOrder words o → order_of words ≡ Some o
 order-complete words Check is = rw is refl
-order-complete words (Run cap undo) (xs, rest, options, e, are, c, u) =
-    rw e (rw (settings-read xs rest none_given options are) (rw (c, u) refl))
+order-complete words (Run limits) (xs, rest, options, e, are, l) =
+    rw e (rw (settings-read xs rest none_given options are) (rw l refl))
 
 pub grammar_of : (r : Option Order) (words : List (List ℕ)) → r ≡ order_of words → (o : Order) → (r ≡ Some o) ↔ IsOrder words o
 grammar_of r words is o = ((λ e. order-sound words o (sym is ∙ e)), (λ in_it. is ∙ order-complete words o in_it))

@@ -3,3 +3,4 @@ pub mod Block
 pub mod Replies
 pub mod Transcript
 pub mod Following
+pub mod Grammars

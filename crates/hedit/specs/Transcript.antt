@@ -1,5 +1,5 @@
 -- What a run of the program answers: a status, and the text that it writes.
-use Rattle.std.specs.Prelude.{ℕ, suc, nat_lt, List, [], ◌++◌, length, codes, Option, if◌then◌else◌}
+use Rattle.std.specs.Prelude.{ℕ, suc, Bool, true, ◌&&◌, nat_lt, List, [], ◌++◌, length, codes, if◌then◌else◌}
 use Rattle.std.specs.Option.{option_map_or}
 use Rattle.std.specs.Fmt.{decimal}
 use Rattle.dom_model.specs.declared.Content.{Content}
@@ -11,8 +11,9 @@ use Rattle.page_grammar.specs.Reading.{Reading, Children, Refused, page_reading}
 use Rattle.page_grammar.specs.Page.{Siblings, size}
 use Rattle.edit_engine.specs.Editing.{Editing, new_editing}
 use Rattle.hedit.specs.Replies.{replies_to}
-use Rattle.hedit.specs.Words.{order_of}
+use Rattle.hedit.specs.Words.{order_of, greatest_cap}
 use Rattle.hedit.specs.Block.{Block, NoOpening, NoClosing, Whole, block_of}
+use Rattle.hedit.specs.declared.words.Limits.{Limits}
 use Rattle.hedit.specs.declared.words.Order.{Order}
 use Rattle.hedit.specs.declared.words.Order.TheVariants.{Run, Check}
 use Rattle.hedit.specs.declared.session.Status.{Status}
@@ -29,12 +30,9 @@ transcript_of status text = record { status = status; text = text }
 abbrev pub input_limit : ℕ
 input_limit = 8388608
 
--- how deep a page may go, and how many labels it may draw where no option says otherwise
+-- how deep a page may go
 abbrev pub depth_limit : ℕ
 depth_limit = 200
-
-abbrev pub usual_cap : ℕ
-usual_cap = 2000000
 
 -- ---- acts
 
@@ -76,24 +74,34 @@ checked (Children children) = transcript_of Done (numbers_line (document_of chil
 checked (Refused place kind) = refused place (word_of kind)
 
 -- `run`: the page of the block, and then the acts
-abbrev pub acted : (cap undo : ℕ) → List (List ℕ) → Reading → Transcript
-acted cap undo acts (Children children) = transcript_of Done (replies_to (page_editing cap undo children) acts)
-acted cap undo acts (Refused place kind) = refused place (word_of kind)
+abbrev pub acted : Limits → List (List ℕ) → Reading → Transcript
+acted limits acts (Children children) = transcript_of Done (replies_to (page_editing limits.cap limits.undo children) acts)
+acted limits acts (Refused place kind) = refused place (word_of kind)
 
-abbrev pub run_block : (cap undo size : ℕ) → Block → Transcript
-run_block cap undo size NoOpening = refused 0 (codes "no-opening")
-run_block cap undo size NoClosing = refused size (codes "no-closing")
-run_block cap undo size (Whole page acts) = acted cap undo acts (page_reading depth_limit cap page)
+abbrev pub run_block : Limits → (size : ℕ) → Block → Transcript
+run_block limits size NoOpening = refused 0 (codes "no-opening")
+run_block limits size NoClosing = refused size (codes "no-closing")
+run_block limits size (Whole page acts) = acted limits acts (page_reading depth_limit limits.cap page)
+
+-- ---- orders: a row for each, what it reads and what it gives
+
+-- whether an order reads the input
+abbrev pub reads_input : Order → Bool
+reads_input Check = true
+reads_input (Run limits) = true
+
+-- the transcript of an order on its text, which is the input where it reads that
+abbrev pub gives : Order → List ℕ → Transcript
+gives Check text = checked (page_reading depth_limit greatest_cap text)
+gives (Run limits) text = run_block limits (length text) (block_of text)
 
 -- ---- the whole
 
-abbrev pub ordered : List ℕ → Order → Transcript
-ordered input Check = checked (page_reading depth_limit usual_cap input)
-ordered input (Run cap undo) = run_block cap undo (length input) (block_of input)
-
-abbrev pub read_transcript : List ℕ → Order → Transcript
-read_transcript input order = if nat_lt input_limit (length input) then transcript_of TooLong [] else ordered input order
+-- an input that is read must not be too long
+abbrev pub order_transcript : List ℕ → Order → Transcript
+order_transcript input order =
+    if reads_input order && nat_lt input_limit (length input) then transcript_of TooLong [] else gives order input
 
 -- the words are looked at first, then the length of the input, then the page, then the acts
 abbrev pub transcript : List (List ℕ) → List ℕ → Transcript
-transcript words input = option_map_or (read_transcript input) (order_of words) (transcript_of Usage [])
+transcript words input = option_map_or (order_transcript input) (order_of words) (transcript_of Usage [])

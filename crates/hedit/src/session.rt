@@ -1,8 +1,7 @@
 //! The run of the program over any source and sink.
 
-ghost use Rattle.std.specs.Prelude.{◌≡◌, ◌<◌, ◌≤◌, ◌⊎◌, ◌↔◌, ℕ, List, [], length, map, string_bytes, IfSome, Some, None};
+ghost use Rattle.std.specs.Prelude.{◌≡◌, ◌<◌, ◌≤◌, ◌↔◌, length, map, string_bytes, IfSome, Some, None};
 ghost use Rattle.edit_io.specs.Faults.{Rose};
-ghost use Rattle.edit_io.specs.Told.{with_front, with_end, IsAtEnd, TakesPrefix};
 ghost use Rattle.page_grammar.specs.Reading.{page_reading};
 ghost use Rattle.page_read.specs.Faults.{kind_of};
 ghost use Rattle.hedit.specs.Words.{order_of};
@@ -10,13 +9,14 @@ ghost use Rattle.hedit.specs.Block.{lines_of, block_of};
 ghost use Rattle.edit_doc.specs.Whole.{HasNoLoose};
 ghost use Rattle.edit_engine.specs.Editing.{new_editing};
 ghost use Rattle.hedit.specs.Replies.{line_reply, replies_to};
-ghost use Rattle.hedit.specs.Transcript.{Transcript, numbers_line, transcript_of, refused, checked, acted, run_block, ordered, transcript, depth_limit, usual_cap, input_limit};
-ghost use Rattle.hedit.specs.Following.{Follows, IsWanted, HasCap, RunFollows, Answered, IsSilent};
+ghost use Rattle.hedit.specs.Transcript.{Transcript, numbers_line, transcript_of, refused, checked, acted, run_block, gives, transcript};
+ghost use Rattle.hedit.specs.Grammars.{RestsOnGrammars};
+ghost use Rattle.hedit.specs.Following.{Follows, IsWanted, HasCap, IsAnswered, RunFollows, Answered, IsSilent};
 
 use crate::acts::answer_line;
 use crate::block::{PageBlock, after_line, line_end, read_block};
 use crate::reply::{numbers, refusal};
-use crate::words::{Order, read_words};
+use crate::words::{Limits, Order, read_words};
 use edit_engine::Editor;
 use edit_io::{ReadAllFault, Sink, SinkFault, Source, read_all, write_all};
 use node_arena::Arena;
@@ -34,7 +34,7 @@ pub enum Status {
     ReadFault = 3,
     /// A write failed. What was written is a prefix of the transcript.
     WriteFault = 4,
-    /// There was no memory. What was written is a prefix of the transcript.
+    /// Memory ran out. What was written is a prefix of the transcript.
     Memory = 5,
     /// The page block or the page is refused. The line that says so is written.
     PageRefused = 6,
@@ -42,17 +42,11 @@ pub enum Status {
     TooLong = 7,
 }
 
-// How many labels a session may draw, and how many entries it keeps for undo.
-#[derive(Clone, Copy)]
-struct Limits {
-    cap: u32,
-    undo: u32,
-}
-
 // Writes a text, and answers the status, or why the writing failed.
 fn answer<O: Sink>(output: &mut O, text: &[u8], status: Status) -> Status
     requires { Answered status }
-    ensures { Follows (transcript_of status text.now) (O.taken output.old) (O.taken output.new) (O.faults output.old) (O.faults output.new) result }
+    ensures { Follows (transcript_of status text.now)
+        (O.taken output.old) (O.taken output.new) (O.faults output.old) (O.faults output.new) result }
 {
     match write_all(output, text) {
         Ok(()) => status,
@@ -63,7 +57,8 @@ fn answer<O: Sink>(output: &mut O, text: &[u8], status: Status) -> Status
 
 // Refuses the page at a place, by the word of a kind.
 fn refuse<O: Sink>(alloc: Global, output: &mut O, place: usize, word: &str) -> Status
-    ensures { Follows (refused place word.now) (O.taken output.old) (O.taken output.new) (O.faults output.old) (O.faults output.new) result }
+    ensures { Follows (refused place word.now)
+        (O.taken output.old) (O.taken output.new) (O.faults output.old) (O.faults output.new) result }
 {
     match refusal(alloc, place, word) {
         Ok(line) => answer(output, line.as_bytes(), Status::PageRefused),
@@ -72,7 +67,8 @@ fn refuse<O: Sink>(alloc: Global, output: &mut O, place: usize, word: &str) -> S
 }
 
 fn refuse_page<O: Sink>(alloc: Global, output: &mut O, fault: PageFault) -> Status
-    ensures { (want : Transcript) → Answered want.status → IsWanted fault.at (kind_of fault.kind) want → Follows want (O.taken output.old) (O.taken output.new) (O.faults output.old) (O.faults output.new) result }
+    ensures { (want : Transcript) → Answered want.status → IsWanted fault.at (kind_of fault.kind) want
+        → Follows want (O.taken output.old) (O.taken output.new) (O.faults output.old) (O.faults output.new) result }
 {
     match fault.kind {
         PageKind::Memory => Status::Memory,
@@ -82,7 +78,8 @@ fn refuse_page<O: Sink>(alloc: Global, output: &mut O, fault: PageFault) -> Stat
 
 // Accepts a page by its numbers.
 fn accept<O: Sink>(alloc: Global, arena: &Arena, output: &mut O) -> Status
-    ensures { Follows (transcript_of Status.Done (numbers_line arena.now.trees)) (O.taken output.old) (O.taken output.new) (O.faults output.old) (O.faults output.new) result }
+    ensures { Follows (transcript_of Status.Done (numbers_line arena.now.trees))
+        (O.taken output.old) (O.taken output.new) (O.faults output.old) (O.faults output.new) result }
 {
     match numbers(alloc, arena) {
         Ok(line) => answer(output, line.as_bytes(), Status::Done),
@@ -92,7 +89,8 @@ fn accept<O: Sink>(alloc: Global, arena: &Arena, output: &mut O) -> Status
 
 // `check`: the whole input is the page.
 fn check<O: Sink>(alloc: Global, input: &[u8], output: &mut O) -> Status
-    ensures { Follows (checked (page_reading 200 2000000 input.now)) (O.taken output.old) (O.taken output.new) (O.faults output.old) (O.faults output.new) result }
+    ensures { Follows (checked (page_reading 200 2000000 input.now))
+        (O.taken output.old) (O.taken output.new) (O.faults output.old) (O.faults output.new) result }
 {
     match read_page(alloc, input, 2000000) {
         Ok(arena) => accept(alloc, &arena, output),
@@ -102,7 +100,8 @@ fn check<O: Sink>(alloc: Global, input: &[u8], output: &mut O) -> Status
 
 // Answers one line.
 fn act<O: Sink>(alloc: Global, editor: &mut Editor, line: &[u8], output: &mut O) -> Status
-    ensures follows { Follows (transcript_of Status.Done (line_reply editor.old line.now).text) (O.taken output.old) (O.taken output.new) (O.faults output.old) (O.faults output.new) result }
+    ensures follows { Follows (transcript_of Status.Done (line_reply editor.old line.now).text)
+        (O.taken output.old) (O.taken output.new) (O.faults output.old) (O.faults output.new) result }
     ensures after { result ≡ Status.Done → editor.new ≡ (line_reply editor.old line.now).after }
 {
     match answer_line(alloc, editor, line) {
@@ -113,7 +112,8 @@ fn act<O: Sink>(alloc: Global, editor: &mut Editor, line: &[u8], output: &mut O)
 
 // Answers the lines of the acts, as far as memory and the output go.
 fn run_acts<O: Sink>(alloc: Global, editor: &mut Editor, acts: &[u8], output: &mut O) -> Status
-    ensures { Follows (transcript_of Status.Done (replies_to editor.old (lines_of acts.now))) (O.taken output.old) (O.taken output.new) (O.faults output.old) (O.faults output.new) result }
+    ensures { Follows (transcript_of Status.Done (replies_to editor.old (lines_of acts.now)))
+        (O.taken output.old) (O.taken output.new) (O.faults output.old) (O.faults output.new) result }
 {
     let mut rest = acts;
     while !rest.is_empty() {
@@ -131,7 +131,8 @@ fn run_acts<O: Sink>(alloc: Global, editor: &mut Editor, acts: &[u8], output: &m
 fn edit_page<O: Sink>(alloc: Global, arena: Arena, undo: u32, acts: &[u8], output: &mut O) -> Status
     requires depth { 0 < undo }
     requires loose { HasNoLoose arena }
-    ensures { Follows (transcript_of Status.Done (replies_to (new_editing arena undo) (lines_of acts.now))) (O.taken output.old) (O.taken output.new) (O.faults output.old) (O.faults output.new) result }
+    ensures { Follows (transcript_of Status.Done (replies_to (new_editing arena undo) (lines_of acts.now)))
+        (O.taken output.old) (O.taken output.new) (O.faults output.old) (O.faults output.new) result }
 {
     match Editor::new(alloc, arena, undo as usize) {
         Ok(mut editor) => run_acts(alloc, &mut editor, acts, output),
@@ -149,7 +150,8 @@ fn run_page<O: Sink>(
 ) -> Status
     requires cap { 0 < limits.cap }
     requires undo { 0 < limits.undo }
-    ensures { Follows (acted limits.cap limits.undo (lines_of acts.now) (page_reading 200 limits.cap page.now)) (O.taken output.old) (O.taken output.new) (O.faults output.old) (O.faults output.new) result }
+    ensures { Follows (acted limits (lines_of acts.now) (page_reading 200 limits.cap page.now))
+        (O.taken output.old) (O.taken output.new) (O.faults output.old) (O.faults output.new) result }
 {
     match read_page(alloc, page, limits.cap) {
         Ok(arena) => edit_page(alloc, arena, limits.undo, acts, output),
@@ -161,7 +163,8 @@ fn run_page<O: Sink>(
 fn run<O: Sink>(alloc: Global, input: &[u8], limits: Limits, output: &mut O) -> Status
     requires cap { 0 < limits.cap }
     requires undo { 0 < limits.undo }
-    ensures { Follows (run_block limits.cap limits.undo (length input.now) (block_of input.now)) (O.taken output.old) (O.taken output.new) (O.faults output.old) (O.faults output.new) result }
+    ensures { Follows (run_block limits (length input.now) (block_of input.now))
+        (O.taken output.old) (O.taken output.new) (O.faults output.old) (O.faults output.new) result }
 {
     match read_block(input) {
         PageBlock::NoOpening => refuse(alloc, output, 0, "no-opening"),
@@ -173,15 +176,17 @@ fn run<O: Sink>(alloc: Global, input: &[u8], limits: Limits, output: &mut O) -> 
 // What was ordered, over an input that is read.
 fn obey<O: Sink>(alloc: Global, order: Order, input: &[u8], output: &mut O) -> Status
     requires { HasCap order }
-    ensures { Follows (ordered input.now order) (O.taken output.old) (O.taken output.new) (O.faults output.old) (O.faults output.new) result }
+    ensures { Follows (gives order input.now)
+        (O.taken output.old) (O.taken output.new) (O.faults output.old) (O.faults output.new) result }
 {
     match order {
         Order::Check => check(alloc, input, output),
-        Order::Run { cap, undo } => run(alloc, input, Limits { cap, undo }, output),
+        Order::Run(limits) => run(alloc, input, limits, output),
     }
 }
 
 /// Runs the program over the words after its name: reads all of the input, and writes the transcript.
+#[tactic(auto, using(crate::proofs::Grammars::rests))]
 pub fn run_session<I: Source, O: Sink>(
     alloc: Global,
     words: &[String],
@@ -192,16 +197,23 @@ pub fn run_session<I: Source, O: Sink>(
     ensures usage { (result ≡ Status.Usage) ↔ (order_of (map string_bytes words.now) ≡ None) }
     ensures unread { result ≡ Status.Usage → (input.new ≡ input.old) × (output.new ≡ output.old) }
 
-    // Of an input that is told, what is written is a prefix of the transcript; all of it with the transcript's status; and any
-    // other status has its cause.
-    ensures told { IfSome (I.left input.old) (λ bytes. RunFollows (transcript (map string_bytes words.now) bytes) (O.taken output.old) (O.taken output.new) (I.faults input.old) (I.faults input.new) (O.faults output.old) (O.faults output.new) result) }
+    // Where the source shows its bytes, what is written is a prefix of their transcript, all of it with the
+    // transcript's status, and any other status has its cause.
+    ensures told { IfSome (I.left input.old) (λ bytes. RunFollows (transcript (map string_bytes words.now) bytes)
+        (O.taken output.old) (O.taken output.new) (I.faults input.old) (I.faults input.new)
+        (O.faults output.old) (O.faults output.new) result) }
 
-    // Whatever is told, the input was read to its end where the answer rests on it, and the transcript of what was read is written.
-    ensures answered { Answered result → (bytes : List ℕ) × (I.left input.old ≡ with_front bytes (I.left input.new)) × IsAtEnd (I.left input.new) × (transcript (map string_bytes words.now) bytes).status ≡ result × (O.taken output.new ≡ with_end (O.taken output.old) (transcript (map string_bytes words.now) bytes).text) }
+    // With Done and PageRefused the input was read to its end, and the transcript of what was read is
+    // written whole.
+    ensures answered { Answered result → IsAnswered (map string_bytes words.now)
+        (I.left input.old) (I.left input.new) (O.taken output.old) (O.taken output.new) result }
     ensures read_fault { result ≡ Status.ReadFault → Rose (I.faults input.old) (I.faults input.new) }
     ensures write_fault { result ≡ Status.WriteFault → Rose (O.faults output.old) (O.faults output.new) }
     ensures silent { IsSilent result → output.new ≡ output.old }
     ensures counted { (I.faults input.old ≤ I.faults input.new) × (O.faults output.old ≤ O.faults output.new) }
+
+    // What the transcript rests on is what the grammars say of words, page blocks, pages and acts.
+    ensures grammars { RestsOnGrammars }
 {
     let order = match read_words(words) {
         Some(order) => order,

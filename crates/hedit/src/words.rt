@@ -1,7 +1,7 @@
 //! The words of the command line, after the program's name.
 
 ghost use Rattle.std.specs.Prelude.{◌≡◌, ◌↔◌, map, string_bytes};
-ghost use Rattle.hedit.specs.Words.{greatest, amount_of, given, with_setting, setting_named, setting_read, joined_read, options_read, order_of, IsOrder};
+ghost use Rattle.hedit.specs.Words.{amount_of, choice_of, is_given, with_choice, limits_of, setting_named, setting_read, joined_read, options_read, order_of, IsOrder};
 
 use script_read::read_number;
 use std::marker::Copy;
@@ -9,10 +9,17 @@ use std::marker::Copy;
 /// What the program is asked to do.
 #[derive(Clone, Copy, PartialEq, Eq, Debug)]
 pub enum Order {
-    /// To run a session: labels stay below `cap`, and `undo` entries are kept for undo.
-    Run { cap: u32, undo: u32 },
-    /// To read a page and tell its numbers.
+    /// To run a session.
+    Run(Limits),
+    /// To read a page and write its numbers.
     Check,
+}
+
+/// What bounds a session: labels stay below `cap`, and `undo` entries are kept for undo.
+#[derive(Clone, Copy, PartialEq, Eq, Debug)]
+pub struct Limits {
+    pub cap: u32,
+    pub undo: u32,
 }
 
 /// An option of `run`.
@@ -22,6 +29,13 @@ pub enum Setting {
     Undo,
 }
 
+/// An option with its value.
+#[derive(Clone, Copy, PartialEq, Eq, Debug)]
+pub enum Choice {
+    Cap(u32),
+    Undo(u32),
+}
+
 /// The options that are given so far.
 #[derive(Clone, Copy, PartialEq, Eq, Debug)]
 pub struct Options {
@@ -29,49 +43,65 @@ pub struct Options {
     pub undo: Option<u32>,
 }
 
+const GREATEST_CAP: u32 = 2_000_000;
+
+const GREATEST_UNDO: u32 = 1000;
+
+const USUAL_UNDO: u32 = 100;
+
 impl Options {
-    fn given(&self, setting: Setting) -> Option<u32>
-        ensures { result ≡ given self.now setting }
+    fn has(&self, setting: Setting) -> bool
+        ensures { result ≡ is_given self.now setting }
     {
         match setting {
-            Setting::Cap => self.cap,
-            Setting::Undo => self.undo,
+            Setting::Cap => self.cap.is_some(),
+            Setting::Undo => self.undo.is_some(),
         }
     }
 
-    fn with(self, setting: Setting, amount: u32) -> Options
-        ensures { result ≡ with_setting self setting amount }
+    fn with(self, choice: Choice) -> Options
+        ensures { result ≡ with_choice self choice }
     {
-        match setting {
-            Setting::Cap => Options {
+        match choice {
+            Choice::Cap(amount) => Options {
                 cap: Some(amount),
                 undo: self.undo,
             },
-            Setting::Undo => Options {
+            Choice::Undo(amount) => Options {
                 cap: self.cap,
                 undo: Some(amount),
             },
         }
     }
-}
 
-fn greatest(setting: Setting) -> u32
-    ensures { result ≡ greatest setting }
-{
-    match setting {
-        Setting::Cap => 2_000_000,
-        Setting::Undo => 1000,
+    fn limits(self) -> Limits
+        ensures { result ≡ limits_of self }
+    {
+        Limits {
+            cap: self.cap.unwrap_or(GREATEST_CAP),
+            undo: self.undo.unwrap_or(USUAL_UNDO),
+        }
     }
 }
 
-fn read_amount(setting: Setting, text: &str) -> Option<u32>
-    ensures { result ≡ amount_of setting text.now }
+fn read_amount(text: &str, greatest: u32) -> Option<u32>
+    ensures { result ≡ amount_of greatest text.now }
 {
     let amount = read_number(text.as_bytes())?;
-    if 0 < amount && amount <= greatest(setting) {
+    if 0 < amount && amount <= greatest {
         Some(amount)
     } else {
         None
+    }
+}
+
+// What the text of its value chooses for an option.
+fn read_choice(setting: Setting, text: &str) -> Option<Choice>
+    ensures { result ≡ choice_of setting text.now }
+{
+    match setting {
+        Setting::Cap => Some(Choice::Cap(read_amount(text, GREATEST_CAP)?)),
+        Setting::Undo => Some(Choice::Undo(read_amount(text, GREATEST_UNDO)?)),
     }
 }
 
@@ -88,14 +118,14 @@ fn setting_named(word: &str) -> Option<Setting>
 fn read_setting(options: Options, setting: Setting, text: &str) -> Option<Options>
     ensures { result ≡ setting_read options setting text.now }
 {
-    if options.given(setting).is_some() {
+    if options.has(setting) {
         return None;
     }
-    let amount = read_amount(setting, text)?;
-    Some(options.with(setting, amount))
+    let choice = read_choice(setting, text)?;
+    Some(options.with(choice))
 }
 
-// A setting and its amount in one word.
+// An option and its value in one word.
 fn read_joined(options: Options, word: &str) -> Option<Options>
     ensures { result ≡ joined_read options word.now }
 {
@@ -108,7 +138,7 @@ fn read_joined(options: Options, word: &str) -> Option<Options>
     None
 }
 
-// Each setting is given at most once, so this goes at most three calls deep.
+// Each option is given at most once, so this goes at most three calls deep.
 fn read_options(options: Options, words: &[String]) -> Option<Options>
     ensures { result ≡ options_read options (map string_bytes words.now) }
 {
@@ -138,10 +168,7 @@ pub fn read_words(words: &[String]) -> Option<Order>
                 },
                 rest,
             )?;
-            Some(Order::Run {
-                cap: options.cap.unwrap_or(2_000_000),
-                undo: options.undo.unwrap_or(100),
-            })
+            Some(Order::Run(options.limits()))
         }
         [only] if only.as_str() == "check" => Some(Order::Check),
         _ => None,
@@ -154,7 +181,7 @@ mod tests {
     use std::test::Fail;
 
     fn order(cap: u32, undo: u32) -> Option<Order> {
-        Some(Order::Run { cap, undo })
+        Some(Order::Run(Limits { cap, undo }))
     }
 
     #[test]

@@ -17,7 +17,7 @@ use Rattle.script_read.specs.declared.act.Place.{Place}
 use Rattle.script_read.specs.declared.verb.Verb.{Verb}
 use Rattle.script_read.specs.declared.verb.Verb.TheVariants as verbs
 use Rattle.script_read.specs.Acts.{word_of, BeginsWith, IsName, IsNumber, IsPath, IsPoint, IsValue, Spells, IsUnknown, IsOutside}
-use Rattle.script_read.specs.Reading.{◌>>=◌, cut, name_of, number_of, count_of, path_of, point_of, value_of, select_of, mark_of, unmark_of, exec_parts, exec_of, query_of, undo_of, redo_of, probe_of, word_act, arguments_act, verb_of, first_word, after_word, Line, Long, Unknown, Known, known_line, line_parts, line_of}
+use Rattle.script_read.specs.Reading.{◌>>=◌, cut, name_of, number_of, count_of, path_of, point_of, value_of, select_of, mark_of, unmark_of, exec_parts, exec_of, query_of, undo_of, redo_of, probe_of, word_act, arguments_act, verb_of, first_word, after_word, Line, Long, Unknown, Known, known_line, line_parts, line_of, IsLine}
 use Rattle.script_read.specs.Answers.{Reads, Gives}
 use Rattle.script_read.proofs.Tests.{some-is, chosen, differs, bound}
 use Rattle.script_read.proofs.Cutting.{Avoids, cut-found, cut-none, cut-parts}
@@ -348,16 +348,58 @@ short_by line (Some p) (Some v) c e =
     known_short line v (arguments_act v p.1) (line_of_parts line v p.1 is) (inr (p.1, is)) (λ act a. arguments_sound line v p.1 act is a)
 
 -- long, or not long and so
-abbrev pub IsLine : List ℕ → Line → Type 0
-IsLine line l = ((l ≡ Long) × (8192 < length line)) ⊎ ((length line ≤ 8192) × IsShort line l)
+abbrev LongOrShort : List ℕ → Line → Type 0
+LongOrShort line l = ((l ≡ Long) × (8192 < length line)) ⊎ ((length line ≤ 8192) × IsShort line l)
 
-pub line-is : (line : List ℕ) → IsLine line (line_of line)
+long_or_short : (line : List ℕ) → LongOrShort line (line_of line)
 unfolding line_of
-line-is line =
+long_or_short line =
     elim (cases_lt 8192 (length line)) [
       | inl lt ↦ inl (let e : ltb 8192 (length line) ≡ true = grind (arith, nat_tests, lt) in rw e refl, lt)
       | inr le ↦ inr (le, let e : ltb 8192 (length line) ≡ false = grind (arith, nat_tests, le) in rw e (short_by line (cut 32 line) (verb_of (first_word line (cut 32 line))) refl refl))
     ]
+
+-- ---- what it means
+
+means_by : (line : List ℕ) (l : Line) → LongOrShort line l → IsLine line l
+means_by line l (inl long) = rw (long.0) long.1
+means_by line Long (inr short) = absurd short.1
+means_by line Unknown (inr short) = short
+means_by line (Known None) (inr short) = (short.0, short.1.0, short.1.1)
+means_by line (Known (Some act)) (inr short) = (short.0, short.1.1)
+
+pub means : (line : List ℕ) → IsLine line (line_of line)
+means line = means_by line (line_of line) (long_or_short line)
+
+long_at : (line : List ℕ) (l : Line) → LongOrShort line l → 8192 < length line → l ≡ Long
+long_at line l (inl long) lt = long.0
+long_at line l (inr short) lt = absurd (omega (arith, short.0))
+
+unknown_at : (line : List ℕ) (l : Line) → LongOrShort line l → IsUnknown line → l ≡ Unknown
+unknown_at line l (inl long) lacks = absurd (omega (arith, long.1, lacks.0))
+unknown_at line Long (inr short) lacks = absurd short.1
+unknown_at line Unknown (inr short) lacks = refl
+unknown_at line (Known None) (inr short) lacks = absurd (lacks.1 short.1.0.0 short.1.0.1)
+unknown_at line (Known (Some act)) (inr short) lacks = absurd (lacks.1 short.1.0.0 short.1.0.1)
+
+outside_at : (line : List ℕ) (l : Line) → LongOrShort line l → IsOutside line → l ≡ Known None
+outside_at line l (inl long) lacks = absurd (omega (arith, long.1, lacks.0))
+outside_at line Long (inr short) lacks = absurd short.1
+outside_at line Unknown (inr short) lacks = absurd (short.1 lacks.1.0 lacks.1.1)
+outside_at line (Known None) (inr short) lacks = refl
+outside_at line (Known (Some act)) (inr short) lacks = absurd (lacks.2 act short.1.1)
+
+spelled_at : (line : List ℕ) (act : Act) → length line ≤ 8192 → Spells line act → line_of line ≡ Known (Some act)
+unfolding line_of
+spelled_at line act le spells =
+    let e : ltb 8192 (length line) ≡ false = grind (arith, nat_tests, le) in
+    rw e (spelled_line line act spells)
+
+pub one_meaning : (line : List ℕ) (l : Line) → IsLine line l → line_of line ≡ l
+one_meaning line Long lt = long_at line (line_of line) (long_or_short line) lt
+one_meaning line Unknown lacks = unknown_at line (line_of line) (long_or_short line) lacks
+one_meaning line (Known None) lacks = outside_at line (line_of line) (long_or_short line) lacks
+one_meaning line (Known (Some act)) is = spelled_at line act is.0 is.1
 
 -- ---- what is answered
 
@@ -366,58 +408,32 @@ act_is line (Err fault) l is gives = tt
 act_is line (Ok act) Long is gives = absurd (cc)
 act_is line (Ok act) Unknown is gives = absurd (cc)
 act_is line (Ok act) (Known None) is gives = absurd (cc)
-act_is line (Ok act) (Known (Some read)) (inl long) gives = absurd (let e = long.0 in cc)
-act_is line (Ok act) (Known (Some read)) (inr short) gives = (short.0, subst (Spells line) (some-is gives) short.1.1)
+act_is line (Ok act) (Known (Some read)) is gives = (is.0, subst (Spells line) (some-is gives) is.1)
 
 pub spelled_is : (line : List ℕ) (result : Result Act LineFault) → Gives result (line_of line) → (act : Act) → length line ≤ 8192 → Spells line act → Reads result (Some act)
-unfolding line_of
-spelled_is line result gives act le spells =
-    let e : ltb 8192 (length line) ≡ false = grind (arith, nat_tests, le) in
-    let known : line_of line ≡ Known (Some act) = rw e (spelled_line line act spells) in
-    subst (Gives result) known gives
-
-long_at : (line : List ℕ) (l : Line) → IsLine line l → 8192 < length line → l ≡ Long
-long_at line l (inl long) lt = long.0
-long_at line l (inr short) lt = absurd (omega (arith, short.0))
+spelled_is line result gives act le spells = subst (Gives result) (spelled_at line act le spells) gives
 
 is_long : (line : List ℕ) (result : Result Act LineFault) (l : Line) → IsLine line l → Gives result l → result ≡ Err LongLine → 8192 < length line
-is_long line result l (inl long) gives e = long.1
-is_long line result Long (inr short) gives e = absurd short.1
-is_long line result Unknown (inr short) gives e = absurd (let f = sym gives ∙ e in cc)
-is_long line result (Known o) (inr short) gives e = absurd (subst (λ (r : Result Act LineFault). Reads r o) e gives)
+is_long line result Long is gives e = is
+is_long line result Unknown is gives e = absurd (let f = sym gives ∙ e in cc)
+is_long line result (Known o) is gives e = absurd (subst (λ (r : Result Act LineFault). Reads r o) e gives)
 
-pub long_is : (line : List ℕ) (result : Result Act LineFault) (l : Line) → IsLine line l → Gives result l → (result ≡ Err LongLine) ↔ (8192 < length line)
-long_is line result l is gives = (is_long line result l is gives, λ lt. subst (Gives result) (long_at line l is lt) gives)
-
-unknown_at : (line : List ℕ) (l : Line) → IsLine line l → IsUnknown line → l ≡ Unknown
-unknown_at line l (inl long) lacks = absurd (omega (arith, long.1, lacks.0))
-unknown_at line Long (inr short) lacks = absurd short.1
-unknown_at line Unknown (inr short) lacks = refl
-unknown_at line (Known None) (inr short) lacks = absurd (lacks.1 short.1.0.0 short.1.0.1)
-unknown_at line (Known (Some act)) (inr short) lacks = absurd (lacks.1 short.1.0.0 short.1.0.1)
+pub long_is : (line : List ℕ) (result : Result Act LineFault) → Gives result (line_of line) → (result ≡ Err LongLine) ↔ (8192 < length line)
+long_is line result gives = (is_long line result (line_of line) (means line) gives, λ lt. subst (Gives result) (one_meaning line Long lt) gives)
 
 is_unknown : (line : List ℕ) (result : Result Act LineFault) (l : Line) → IsLine line l → Gives result l → result ≡ Err UnknownAct → IsUnknown line
-is_unknown line result l (inl long) gives e = let g : result ≡ Err LongLine = subst (Gives result) long.0 gives in absurd (let f = sym g ∙ e in cc)
-is_unknown line result Long (inr short) gives e = absurd short.1
-is_unknown line result Unknown (inr short) gives e = short
-is_unknown line result (Known o) (inr short) gives e = absurd (subst (λ (r : Result Act LineFault). Reads r o) e gives)
+is_unknown line result Long is gives e = absurd (let f = sym gives ∙ e in cc)
+is_unknown line result Unknown is gives e = is
+is_unknown line result (Known o) is gives e = absurd (subst (λ (r : Result Act LineFault). Reads r o) e gives)
 
-pub unknown_is : (line : List ℕ) (result : Result Act LineFault) (l : Line) → IsLine line l → Gives result l → (result ≡ Err UnknownAct) ↔ IsUnknown line
-unknown_is line result l is gives = (is_unknown line result l is gives, λ lacks. subst (Gives result) (unknown_at line l is lacks) gives)
+pub unknown_is : (line : List ℕ) (result : Result Act LineFault) → Gives result (line_of line) → (result ≡ Err UnknownAct) ↔ IsUnknown line
+unknown_is line result gives = (is_unknown line result (line_of line) (means line) gives, λ lacks. subst (Gives result) (one_meaning line Unknown lacks) gives)
 
 pub syntax_is : (line : List ℕ) (result : Result Act LineFault) (l : Line) → IsLine line l → Gives result l → result ≡ Err Syntax → IsOutside line
-syntax_is line result l (inl long) gives e = let g : result ≡ Err LongLine = subst (Gives result) long.0 gives in absurd (let f = sym g ∙ e in cc)
-syntax_is line result Long (inr short) gives e = absurd short.1
-syntax_is line result Unknown (inr short) gives e = absurd (let f = sym gives ∙ e in cc)
-syntax_is line result (Known None) (inr short) gives e = (short.0, short.1.0, short.1.1)
-syntax_is line result (Known (Some act)) (inr short) gives e = let f : Some act ≡ None = subst (λ (r : Result Act LineFault). Reads r (Some act)) e gives in absurd (cc)
-
-outside_at : (line : List ℕ) (l : Line) → IsLine line l → IsOutside line → l ≡ Known None
-outside_at line l (inl long) lacks = absurd (omega (arith, long.1, lacks.0))
-outside_at line Long (inr short) lacks = absurd short.1
-outside_at line Unknown (inr short) lacks = absurd (short.1 lacks.1.0 lacks.1.1)
-outside_at line (Known None) (inr short) lacks = refl
-outside_at line (Known (Some act)) (inr short) lacks = absurd (lacks.2 act short.1.1)
+syntax_is line result Long is gives e = absurd (let f = sym gives ∙ e in cc)
+syntax_is line result Unknown is gives e = absurd (let f = sym gives ∙ e in cc)
+syntax_is line result (Known None) is gives e = is
+syntax_is line result (Known (Some act)) is gives e = let f : Some act ≡ None = subst (λ (r : Result Act LineFault). Reads r (Some act)) e gives in absurd (cc)
 
 none_read : (result : Result Act LineFault) → Reads result None → (result ≡ Err Syntax) ⊎ (result ≡ Err Memory)
 none_read (Ok act) e = absurd (cc)
@@ -426,5 +442,5 @@ none_read (Err UnknownAct) e = absurd e
 none_read (Err LongLine) e = absurd e
 none_read (Err Memory) e = inr refl
 
-pub outside_is : (line : List ℕ) (result : Result Act LineFault) (l : Line) → IsLine line l → Gives result l → IsOutside line → (result ≡ Err Syntax) ⊎ (result ≡ Err Memory)
-outside_is line result l is gives lacks = none_read result (subst (Gives result) (outside_at line l is lacks) gives)
+pub outside_is : (line : List ℕ) (result : Result Act LineFault) → Gives result (line_of line) → IsOutside line → (result ≡ Err Syntax) ⊎ (result ≡ Err Memory)
+outside_is line result gives lacks = none_read result (subst (Gives result) (one_meaning line (Known None) lacks) gives)

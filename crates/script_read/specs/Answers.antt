@@ -1,4 +1,4 @@
--- What readers answer, beside what is to be read. Memory may be wanting at any place.
+-- What readers answer, beside what is to be read. Memory may run out at any place.
 use Rattle.std.specs.Prelude.{◌≡◌, Option, Some, None, Result, Ok, Err}
 use Rattle.script_read.specs.declared.act.Act.{Act}
 use Rattle.script_read.specs.declared.act.LineFault.{LineFault}

@@ -15,7 +15,7 @@ use Rattle.script_read.specs.declared.verb.Verb.{Verb}
 use Rattle.script_read.specs.declared.verb.Verb.TheVariants as verbs
 use Rattle.script_read.specs.declared.value.Escape.{Escape}
 use Rattle.script_read.specs.declared.value.Escape.TheVariants as escapes
-use Rattle.script_read.specs.Acts.{word_of, is_name, is_number, is_hex_digit, line_limit}
+use Rattle.script_read.specs.Acts.{word_of, is_name, is_number, is_hex_digit, line_limit, Spells, IsUnknown, IsOutside}
 
 infixl 10 ◌>>=◌
 abbrev pub ◌>>=◌ : {A B : Type 0} → Option A → (A → Option B) → Option B
@@ -225,3 +225,10 @@ line_parts line parts = known_line (after_word parts) (verb_of (first_word line 
 
 unfoldable pub line_of : List ℕ → Line
 line_of line = if nat_lt line_limit (length line) then Long else line_parts line (cut 32 line)
+
+-- what it means, by the grammar: too long; no act's word; outside the grammar; spelled
+abbrev pub IsLine : List ℕ → Line → Type 0
+IsLine line Long = line_limit < length line
+IsLine line Unknown = IsUnknown line
+IsLine line (Known None) = IsOutside line
+IsLine line (Known (Some act)) = (length line ≤ line_limit) × Spells line act

@@ -4,7 +4,7 @@ ghost use Rattle.std.specs.Prelude.{◌≡◌, ◌<◌, ◌≤◌, ◌⊎◌, �
 ghost use Rattle.script_read.specs.declared.act.Act.{Act};
 ghost use Rattle.script_read.specs.Acts.{Spells, IsUnknown, IsOutside};
 ghost use Rattle.script_read.specs.Answers.{Reads, Gives};
-ghost use Rattle.script_read.specs.Reading.{now_of, cut, name_of, count_of, select_of, mark_of, unmark_of, exec_of, query_of, undo_of, redo_of, probe_of, word_act, arguments_act, act_of, first_word, after_word, line_parts, line_of};
+ghost use Rattle.script_read.specs.Reading.{now_of, cut, name_of, count_of, select_of, mark_of, unmark_of, exec_of, query_of, undo_of, redo_of, probe_of, word_act, arguments_act, act_of, first_word, after_word, line_parts, Line, line_of, IsLine};
 
 use crate::act::{Act, LineFault};
 use crate::parts::{cut, is_name, read_number};
@@ -198,9 +198,11 @@ fn read(alloc: Global, line: &[u8]) -> Result<Act, LineFault>
 /// The act that a line spells, or why it spells none. The line comes without its LF.
 ///
 /// The faults are tried in this order: the line has more than 8,192 bytes; its first word, up to the first space, is no
-/// act's; it is outside the grammar or outside UTF-8. Memory may be wanting for the parts that the act holds.
+/// act's; it is outside the grammar or outside UTF-8. Memory may run out for the parts that the act holds.
 pub fn read_line(alloc: Global, line: &[u8]) -> Result<Act, LineFault>
     ensures computed { Gives result (line_of line.now) }
+    ensures meaning { IsLine line.now (line_of line.now) }
+    ensures one_meaning { (l : Line) → IsLine line.now l → line_of line.now ≡ l }
     ensures act { IfOk result (λ act. (length line.now ≤ 8192) × Spells line.now act) }
     ensures spelled { (act : Act) → length line.now ≤ 8192 → Spells line.now act → Reads result (Some act) }
     ensures one_act { (a b : Act) → Spells line.now a → Spells line.now b → a ≡ b }

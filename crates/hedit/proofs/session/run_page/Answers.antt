@@ -8,7 +8,7 @@ pub returns-in-Err : goal.returns-in-Err
 returns-in-Err g c =
     let r = page_reading 200 c.args.limits.cap c.args.page.now in
     let acts = lines_of c.args.acts.now in
-    c.refuse_page.ensures (acted c.args.limits.cap c.args.limits.undo acts r) (acted_answered c.args.limits.cap c.args.limits.undo acts r) (acted_wanted c.args.limits.undo acts c.args.limits.cap c.args.page.now c.in-Err.fault _ c.in-Err.ensures.answer)
+    c.refuse_page.ensures (acted c.args.limits acts r) (acted_answered c.args.limits acts r) (acted_wanted c.args.limits acts c.args.page.now c.in-Err.fault _ c.in-Err.ensures.answer)
 
 pub edit_page-requires-clause-loose : goal.edit_page-requires-clause-loose
 edit_page-requires-clause-loose g c = alone c.in-Ok.arena c.args.limits.cap c.in-Ok.ensures.answer.0 c.in-Ok.ensures.answer.2
