@@ -1,0 +1,9 @@
+//! Tests of the libraries over pages that are read: each row of a table is a page, or what an editing host holds, nodes of
+//! it by their labels (the labels count the nodes in tree order, from 0 for the Document), and what has to come.
+//!
+//! A module a layer: `styles` for `node_styles`, `nodes` for `node_tests`, `documents` for `edit_doc`, `wraps` for
+//! `wrap_split`. `pages` reads pages and finds nodes for all of them.
+#![tactic(auto)]
+
+#[cfg(test)]
+mod tests;

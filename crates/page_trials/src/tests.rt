@@ -1,0 +1,6 @@
+mod documents;
+mod nodes;
+mod pages;
+mod styles;
+mod values;
+mod wraps;

@@ -1,0 +1,383 @@
+//! Commands that are taken back, undone and redone.
+
+ghost use Rattle.std.specs.Prelude.{◌≡◌, ◌<◌, IfOk};
+ghost use Rattle.edit_doc.specs.Whole.{IsClosed, IsOpen};
+
+use super::acts::{Act, make_each};
+use crate::tests::pages::{begin, document_of};
+use edit_doc::{Chars, Committed, Doc, Flags, Pair, Point, Setting};
+use html_names::Command;
+use page_write::write_html;
+use std::alloc::{AllocError, Global};
+use std::marker::Brand;
+use std::sync::ledger::{Blank, Ledger};
+use std::test::Fail;
+use step_count::Steps;
+
+// 1 div (2 "ab", 3 b (4 "cd"), 5 i (6 "ef"), 7 p (8 "gh", 9 img))
+const PAGE: &str =
+    "<div contenteditable=\"true\">ab<b class=\"c\" id=\"x\">cd</b><i>ef</i><p>gh<img></p></div>";
+
+const EDITED: &str = "<div contenteditable=\"true\"><p>yzgh </p>ax<u>cdnew</u><em></em></div>";
+
+// Twenty edits in two parts, and the nodes that they make: u 10, "new" 11, "yz" 12, em 13, " " 14.
+static FIRST: [Act; 10] = [
+    Act::Element("u"),
+    Act::Insert(1, 3, 10),
+    Act::Words(&['n', 'e', 'w']),
+    Act::Insert(10, 0, 11),
+    Act::Move(4, 10, 11),
+    Act::Set(3, "title", &['t']),
+    Act::Set(3, "class", &['d']),
+    Act::Unset(3, "class"),
+    Act::Replace(2, 1, 1, &['x', 'y', 'z']),
+    Act::Split(2, 2),
+];
+
+static LATER: [Act; 10] = [
+    Act::Rename(5, "em"),
+    Act::Remove(8),
+    Act::Insert(7, 9, 8),
+    Act::Remove(9),
+    Act::Move(7, 1, 2),
+    Act::Words(&[' ']),
+    Act::Insert(7, 0, 14),
+    Act::Move(12, 7, 8),
+    Act::Replace(6, 0, 2, &[]),
+    Act::Remove(3),
+];
+
+fn push_node(alloc: Global, text: &mut String, doc: &Doc, label: u32) -> Result<(), AllocError> {
+    let Some(node) = doc.find(label) else {
+        return Ok(());
+    };
+    let parent = doc.parent(node).map(|n| n.label);
+    let prev = doc.prev(node).map(|n| n.label);
+    let line = format!(in alloc; "{label} in {parent:?} after {prev:?}\n")?;
+    text.push_str(line.as_str())
+}
+
+fn tree_of(alloc: Global, doc: &Doc) -> Result<String, Fail> {
+    let html = write_html(alloc, doc.arena())?;
+    let mut text = String::from_utf8(html).ok().ok_or("text")?;
+    for label in 0..doc.arena().next_label() {
+        push_node(alloc, &mut text, doc, label)?;
+    }
+    Ok(text)
+}
+
+fn push_pair(alloc: Global, text: &mut String, pair: Pair) -> Result<(), AllocError> {
+    let a = pair.anchor;
+    let b = pair.focus;
+    let line = format!(in alloc; "{}:{} {}:{}\n", a.label, a.offset, b.label, b.offset)?;
+    text.push_str(line.as_str())
+}
+
+fn points_of(alloc: Global, doc: &Doc) -> Result<String, AllocError> {
+    let points = doc.points();
+    let mut text = String::new(alloc);
+    if let Some(pair) = points.selection() {
+        push_pair(alloc, &mut text, pair)?;
+    }
+    for place in 0..3 {
+        if let Some((_, pair)) = points.mark_at(place) {
+            push_pair(alloc, &mut text, pair)?;
+        }
+    }
+    Ok(text)
+}
+
+fn push_setting(text: &mut String, setting: &Setting) -> Result<(), AllocError> {
+    match setting {
+        Setting::On => text.push_str("on "),
+        Setting::Off => text.push_str("off "),
+        Setting::Absent => text.push_str("absent "),
+        Setting::Text { value } => {
+            for c in value.as_slice() {
+                text.push(*c)?;
+            }
+            text.push_str(" ")
+        }
+    }
+}
+
+fn settings_of(alloc: Global, doc: &Doc) -> Result<String, AllocError> {
+    let mut text = String::new(alloc);
+    push_setting(&mut text, doc.setting(Command::Bold))?;
+    push_setting(&mut text, doc.setting(Command::ForeColor))?;
+    let flags = doc.flags();
+    if flags.css_styling {
+        text.push_str("css ")?;
+    }
+    if flags.paragraphs {
+        text.push_str("p ")?;
+    }
+    Ok(text)
+}
+
+// What a document shows in each view of the history: its nodes with their parents and earlier siblings, its text, its
+// selection and marks, and its numbers with the bound on its depth.
+fn shown(alloc: Global, doc: &Doc) -> Result<String, Fail> {
+    let mut text = tree_of(alloc, doc)?;
+    let points = points_of(alloc, doc)?;
+    text.push_str(points.as_str())?;
+    let counts = doc.counts();
+    let line = format!(in alloc; "{} {} {}\n", counts.nodes, counts.chars, counts.depth)?;
+    text.push_str(line.as_str())?;
+    Ok(text)
+}
+
+// That, and the overrides, the flags and the next label.
+fn whole(alloc: Global, doc: &Doc) -> Result<String, Fail> {
+    let mut text = shown(alloc, doc)?;
+    let settings = settings_of(alloc, doc)?;
+    text.push_str(settings.as_str())?;
+    let next = doc.arena().next_label();
+    let line = format!(in alloc; "{next}")?;
+    text.push_str(line.as_str())?;
+    Ok(text)
+}
+
+fn point(label: u32, offset: u32) -> Point {
+    Point { label, offset }
+}
+
+// Marks the selection.
+fn mark(doc: &mut Doc, name: &[u8]) -> Result<(), Fail>
+    requires { IsClosed doc.old }
+    ensures { IsClosed doc.new }
+{
+    doc.lawful();
+    if let Some(pair) = doc.points().selection() {
+        if doc.set_mark(name, pair).is_err() {
+            return Err("mark".into());
+        }
+    }
+    Ok(())
+}
+
+// A document with a mark, a selection, overrides and a flag.
+fn start(alloc: Global) -> Result<Doc, Fail>
+    ensures { IfOk result (λ doc. IsClosed doc) }
+{
+    let mut doc = document_of(alloc, PAGE)?;
+    doc.select(point(4, 1), point(6, 2));
+    mark(&mut doc, b"m")?;
+    doc.select(point(8, 1), point(2, 1));
+    let value = Chars::from_slice(alloc, &['r', 'e', 'd'])?;
+    doc.set_setting(Command::Bold, Setting::On);
+    doc.set_setting(Command::ForeColor, Setting::Text { value });
+    Ok(doc)
+}
+
+// Begins a command, or one that joins the last entry.
+#[tactic(auto, unfolding(edit_doc::specs::Whole::opened))]
+fn open(doc: &mut Doc, resumes: bool) -> Result<(), Fail>
+    requires { IsClosed doc.old }
+    ensures { IfOk result (λ _. IsOpen doc.new) }
+{
+    if !resumes {
+        begin(doc)?;
+        return Ok(());
+    }
+    let host = doc.find(1);
+    if doc.resume(host)? {
+        Ok(())
+    } else {
+        Err("no entry".into())
+    }
+}
+
+// The same with edits in it, which all have to be made, and flags set.
+fn run(alloc: Global, doc: &mut Doc, acts: &[Act], more: &[Act], resumes: bool) -> Result<(), Fail>
+    requires { IsClosed doc.old }
+    ensures { IfOk result (λ _. IsOpen doc.new) }
+{
+    open(doc, resumes)?;
+    if !make_each(alloc, doc, acts)? || !make_each(alloc, doc, more)? {
+        return Err("not made".into());
+    }
+    doc.set_flags(Flags {
+        css_styling: true,
+        paragraphs: true,
+    });
+    Ok(())
+}
+
+fn take_back(doc: &mut Doc)
+    requires { IsOpen doc.old }
+    ensures { IsClosed doc.new }
+{
+    doc.roll_back();
+}
+
+fn end(doc: &mut Doc) -> bool
+    requires { IsOpen doc.old }
+    ensures { IsClosed doc.new }
+{
+    matches!(doc.commit(), Committed::Entry)
+}
+
+fn undo_uncounted<L: Ledger>(doc: &mut Doc, blank: Blank) -> bool
+    requires name { blank.name ≡ L.name }
+    requires parts { blank.parts ≡ L.parts }
+    requires some { 0 < blank.parts }
+    requires closed { IsClosed doc.old }
+    ensures { IsClosed doc.new }
+{
+    let mut steps = Steps::<L>::open(blank);
+    doc.undo(&mut steps)
+}
+
+fn redo_uncounted<L: Ledger>(doc: &mut Doc, blank: Blank) -> bool
+    requires name { blank.name ≡ L.name }
+    requires parts { blank.parts ≡ L.parts }
+    requires some { 0 < blank.parts }
+    requires closed { IsClosed doc.old }
+    ensures { IsClosed doc.new }
+{
+    let mut steps = Steps::<L>::open(blank);
+    doc.redo(&mut steps)
+}
+
+fn undo(doc: &mut Doc) -> bool
+    requires { IsClosed doc.old }
+    ensures { IsClosed doc.new }
+{
+    undo_uncounted::<Brand>(doc, Blank::new(1))
+}
+
+fn redo(doc: &mut Doc) -> bool
+    requires { IsClosed doc.old }
+    ensures { IsClosed doc.new }
+{
+    redo_uncounted::<Brand>(doc, Blank::new(1))
+}
+
+// How many entries undo and redo would take, and the edits of the next one.
+fn has_lengths(doc: &Doc, undo: usize, redo: usize, edits: usize) -> bool
+    requires { IsClosed doc.now }
+{
+    doc.undo_len() == undo && doc.redo_len() == redo && doc.edits() == edits
+}
+
+// Whether the document shows what it showed, without overrides.
+fn is_as(alloc: Global, doc: &Doc, was: &str) -> Result<bool, Fail> {
+    let is = shown(alloc, doc)?;
+    let settings = settings_of(alloc, doc)?;
+    Ok(is.as_str() == was && settings.as_str() == "absent absent css p ")
+}
+
+// Whether undo and redo of one entry lead between what was shown before and after it.
+fn turns(alloc: Global, doc: &mut Doc, before: &str, after: &str) -> Result<bool, Fail>
+    requires { IsClosed doc.old }
+    ensures { IsClosed doc.new }
+{
+    let undone = undo(doc);
+    let is_before = is_as(alloc, doc, before)?;
+    let redone = redo(doc);
+    let is_after = is_as(alloc, doc, after)?;
+    Ok(undone && is_before && redone && is_after)
+}
+
+// Whether a command with the edits that is taken back leaves all as it was.
+fn is_taken_back(
+    alloc: Global,
+    doc: &mut Doc,
+    acts: &[Act],
+    more: &[Act],
+    resumes: bool,
+) -> Result<bool, Fail>
+    requires { IsClosed doc.old }
+    ensures { IfOk result (λ _. IsClosed doc.new) }
+{
+    let before = whole(alloc, doc)?;
+    run(alloc, doc, acts, more, resumes)?;
+    take_back(doc);
+    let after = whole(alloc, doc)?;
+    Ok(after.as_str() == before.as_str())
+}
+
+fn run_to_end(
+    alloc: Global,
+    doc: &mut Doc,
+    acts: &[Act],
+    more: &[Act],
+    resumes: bool,
+) -> Result<(), Fail>
+    requires { IsClosed doc.old }
+    ensures { IfOk result (λ _. IsClosed doc.new) }
+{
+    run(alloc, doc, acts, more, resumes)?;
+    if end(doc) {
+        Ok(())
+    } else {
+        Err("no entry".into())
+    }
+}
+
+// The edits in one command, or in two of which the second joins the entry of the first.
+fn run_all(alloc: Global, doc: &mut Doc, resumes: bool) -> Result<(), Fail>
+    requires { IsClosed doc.old }
+    ensures { IfOk result (λ _. IsClosed doc.new) }
+{
+    if resumes {
+        run_to_end(alloc, doc, &FIRST, &[], false)?;
+        run_to_end(alloc, doc, &LATER, &[], true)
+    } else {
+        run_to_end(alloc, doc, &FIRST, &LATER, false)
+    }
+}
+
+// Whether all edits were made, in one entry, and the document is as deep as they leave it.
+fn is_edited(doc: &Doc, is: &str) -> bool
+    requires { IsClosed doc.now }
+{
+    let three_deep = doc.is_deeper_than(2) && !doc.is_deeper_than(3);
+    is.starts_with(EDITED) && has_lengths(doc, 1, 0, 20) && three_deep
+}
+
+// Whether the edits are made, and undo and redo lead between what is shown before and after them.
+fn leads_back(alloc: Global, doc: &mut Doc, before: &str, resumes: bool) -> Result<bool, Fail>
+    requires { IsClosed doc.old }
+{
+    run_all(alloc, doc, resumes)?;
+    let after = shown(alloc, doc)?;
+    let made = is_edited(doc, after.as_str());
+    let turned = turns(alloc, doc, before, after.as_str())?;
+    Ok(made && turned)
+}
+
+fn is_undone(alloc: Global, resumes: bool) -> Result<bool, Fail> {
+    let mut doc = start(alloc)?;
+    let before = shown(alloc, &doc)?;
+    leads_back(alloc, &mut doc, before.as_str(), resumes)
+}
+
+fn first_is_taken_back(alloc: Global) -> Result<bool, Fail> {
+    let mut doc = start(alloc)?;
+    let same = is_taken_back(alloc, &mut doc, &FIRST, &LATER, false)?;
+    Ok(same && has_lengths(&doc, 0, 0, 0))
+}
+
+fn resumed_is_taken_back(alloc: Global) -> Result<bool, Fail> {
+    let mut doc = start(alloc)?;
+    run_to_end(alloc, &mut doc, &FIRST, &[], false)?;
+    let same = is_taken_back(alloc, &mut doc, &LATER, &[], true)?;
+    Ok(same && has_lengths(&doc, 1, 0, 9))
+}
+
+#[test]
+fn commands_are_taken_back(rt: HostRuntime) -> Result<(), Fail> {
+    assert!(rt; first_is_taken_back(rt.alloc())?);
+    assert!(rt; resumed_is_taken_back(rt.alloc())?);
+    Ok(())
+}
+
+#[test]
+fn commands_are_undone(rt: HostRuntime) -> Result<(), Fail> {
+    for resumes in [false, true] {
+        assert!(rt; is_undone(rt.alloc(), resumes)?);
+    }
+    Ok(())
+}

@@ -1,0 +1,42 @@
+//! The tests of nodes over a document under edits, of a tree that stands apart from the document.
+
+ghost use Rattle.std.specs.Prelude.{IfOk};
+ghost use Rattle.edit_doc.specs.Held.{Holds};
+ghost use Rattle.edit_doc.specs.Whole.{IsClosed};
+
+use crate::tests::pages::{begin, range_of};
+use edit_doc::{Attributes, Doc, Name, NodeRef};
+use node_arena::Arena;
+use node_tests::{contained_nodes, effective_nodes, resolved};
+use std::alloc::Global;
+use std::test::Fail;
+use style_table::Property;
+
+// A loose `b` with a text in it, in a document that is empty.
+fn bold_text(doc: &mut Doc, alloc: Global) -> Result<(NodeRef, NodeRef), Fail>
+    requires { IsClosed doc.old }
+    ensures { IfOk result (λ pair. Holds doc.new pair.0 × Holds doc.new pair.1) }
+{
+    let name = Name::from_slice(alloc, b"b")?;
+    let attributes = Attributes::new(alloc);
+    begin(doc)?;
+    let bold = doc.make_element(&name, &attributes)?;
+    let text = doc.make_words(&['a'])?;
+    doc.insert(bold, None, text)?;
+    Ok((bold, text))
+}
+
+#[test]
+fn loose_trees_meet_the_tests(rt: HostRuntime) -> Result<(), Fail> {
+    let alloc = rt.alloc();
+    let mut doc = Doc::new(alloc, Arena::new(alloc, 9)?, 5)?;
+    let (bold, text) = bold_text(&mut doc, alloc)?;
+    let weight = resolved(alloc, &doc, text, Property::FontWeight)?;
+    assert_eq!(rt; weight.as_slice(), ['7', '0', '0'].as_slice());
+    let range = range_of(&doc, (bold.label, 0), (bold.label, 1))?;
+    let contained = contained_nodes(alloc, &doc, range)?;
+    assert_eq!(rt; contained.as_slice(), [text].as_slice());
+    let effective = effective_nodes(alloc, &doc, range)?;
+    assert_eq!(rt; effective.as_slice(), [bold, text].as_slice());
+    Ok(())
+}

@@ -1,0 +1,4 @@
+//! Resolved styles, and the classes of elements.
+
+mod classes;
+mod resolved;
