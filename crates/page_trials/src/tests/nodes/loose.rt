@@ -4,9 +4,8 @@ ghost use Rattle.std.specs.Prelude.{IfOk};
 ghost use Rattle.edit_doc.specs.Held.{Holds};
 ghost use Rattle.edit_doc.specs.Whole.{IsClosed};
 
-use crate::tests::pages::{begin, range_of};
+use crate::tests::pages::{begin, document_of, range_of};
 use edit_doc::{Attributes, Doc, Name, NodeRef};
-use node_arena::Arena;
 use node_tests::{contained_nodes, effective_nodes, resolved};
 use std::alloc::Global;
 use std::test::Fail;
@@ -29,7 +28,7 @@ fn bold_text(doc: &mut Doc, alloc: Global) -> Result<(NodeRef, NodeRef), Fail>
 #[test]
 fn loose_trees_meet_the_tests(rt: HostRuntime) -> Result<(), Fail> {
     let alloc = rt.alloc();
-    let mut doc = Doc::new(alloc, Arena::new(alloc, 9)?, 5)?;
+    let mut doc = document_of(alloc, "")?;
     let (bold, text) = bold_text(&mut doc, alloc)?;
     let weight = resolved(alloc, &doc, text, Property::FontWeight)?;
     assert_eq!(rt; weight.as_slice(), ['7', '0', '0'].as_slice());
