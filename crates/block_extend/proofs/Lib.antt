@@ -1,0 +1,8 @@
+mod Kids
+mod Stepping
+mod Walking
+mod Visiting
+mod Nesting
+mod Taking
+pub mod Ordered
+pub mod Counting

@@ -1,0 +1,46 @@
+-- Members of a list that are taken one by one.
+use Rattle.std.proofs.Common.{◌≡◌, ℕ, ◌+◌, ◌<◌, true, false, cond, List, [], ◌∷◌, ◌++◌, length, drop, get_or, Option, Some, refl, sym, ap, ◌∙◌, subst, add-one, drop-cons}
+use Rattle.std.specs.Prelude.{map}
+use Rattle.std.specs.List.{All}
+use Rattle.std.proofs.lemmas.List.Elements.{All-append, All-cons, All-nil}
+use Rattle.dom_model.specs.declared.Content.{Content}
+use Rattle.dom_model.specs.Forest.{Forest}
+use Rattle.node_arena.specs.declared.NodeRef.{NodeRef}
+use Rattle.node_arena.specs.Held.{label}
+use Rattle.block_extend.specs.Gaps.{is_below}
+use Rattle.block_extend.proofs.Nesting.{gather_after}
+
+abbrev pub labels : List NodeRef → List ℕ
+labels xs = map (λ r. r.label) xs
+
+abbrev pub member : List NodeRef → ℕ → NodeRef
+member xs i = get_or xs i record { slot = 0; label = 0 }
+
+rest_is : (xs : List NodeRef) (i : ℕ) → i < length xs → labels (drop i xs) ≡ (member xs i).label ∷ labels (drop (i + 1) xs)
+rest_is xs i h = rw (add-one, drop-cons xs i record { slot = 0; label = 0 }) refl
+
+pushed : (xs : List NodeRef) (x : NodeRef) (rest : List ℕ) → labels (xs ++ x ∷ []) ++ rest ≡ labels xs ++ x.label ∷ rest
+pushed [] x rest = refl
+pushed (y ∷ xs) x rest = ap (λ r. y.label ∷ r) (pushed xs x rest)
+
+pub pushed_held : (holds : NodeRef → Type 0) (xs new : List NodeRef) (x : NodeRef) → All holds xs → holds x → new ≡ xs ++ x ∷ [] → All holds new
+pushed_held holds xs new x h k e = subst (All holds) (sym e) (All-append holds xs (x ∷ []) h (All-cons holds x [] k (All-nil holds)))
+
+-- ---- those that are no descendant of the last one taken
+
+module _ (f : Forest Content) (xs : List NodeRef) (i : ℕ) (low : i < length xs) (last : Option NodeRef) (kept : List NodeRef) (whole : List ℕ) (so_far : labels kept ++ gather_after f (label last) (labels (drop i xs)) ≡ whole) where
+  abbrev rest : List ℕ
+  rest = labels (drop (i + 1) xs)
+
+  next_is : labels kept ++ cond (is_below f (label last) (member xs i).label) (gather_after f (label last) rest) ((member xs i).label ∷ gather_after f (Some (member xs i).label) rest) ≡ whole
+  next_is = ap (λ ys. labels kept ++ gather_after f (label last) ys) (sym (rest_is xs i low)) ∙ so_far
+
+  pub passed_over : is_below f (label last) (member xs i).label ≡ true → labels kept ++ gather_after f (label last) rest ≡ whole
+  passed_over e = ap (λ b. labels kept ++ cond b (gather_after f (label last) rest) ((member xs i).label ∷ gather_after f (Some (member xs i).label) rest)) (sym e) ∙ next_is
+
+  pub taken_in : (new : List NodeRef) → new ≡ kept ++ member xs i ∷ [] → is_below f (label last) (member xs i).label ≡ false → labels new ++ gather_after f (Some (member xs i).label) rest ≡ whole
+  taken_in new is e =
+      ap (λ ys. labels ys ++ gather_after f (Some (member xs i).label) rest) is
+      ∙ pushed kept (member xs i) (gather_after f (Some (member xs i).label) rest)
+      ∙ ap (λ b. labels kept ++ cond b (gather_after f (label last) rest) ((member xs i).label ∷ gather_after f (Some (member xs i).label) rest)) (sym e)
+      ∙ next_is

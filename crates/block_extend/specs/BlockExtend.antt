@@ -1,0 +1,94 @@
+-- The block-extended range (HTML Editing APIs, "block-extend"): a range with its ends taken out to where lines of blocks
+-- start and end. The steps are those of docs/ALGORITHMS.md.
+use Rattle.std.specs.Prelude.{ℕ, zero, suc, ◌+◌, ◌-◌, ◌==◌, nat_lt, Bool, false, Option, Some, None, if◌then◌else◌, codes}
+use Rattle.std.specs.Option.{option_map, option_and_then, unwrap_or}
+use Rattle.dom_model.specs.declared.Content.{Content}
+use Rattle.dom_model.specs.Contents.{length_of}
+use Rattle.dom_model.specs.Forest.{Forest, parent_of}
+use Rattle.dom_model.specs.Places.{index_of}
+use Rattle.live_range.specs.declared.places.Point.{Point}
+use Rattle.node_styles.specs.Lineage.{nearest_label}
+use Rattle.node_styles.specs.OwnStyles.{is_named}
+use Rattle.node_tests.specs.BlockPoints.{is_block_start, is_block_end, is_block_boundary}
+use Rattle.node_tests.specs.LineBreaks.{turns}
+use Rattle.block_extend.specs.declared.places.Way.{Way}
+use Rattle.block_extend.specs.declared.places.Way.TheVariants.{Back, OutBefore, Forth, OutAfter}
+
+-- ---- steps from place to place
+
+-- the place in the parent of a node that is this many places after the one before the node
+abbrev pub out_of : Forest Content → ℕ → ℕ → Option Point
+out_of f l places = option_map (λ p. record { label = p; offset = index_of f l + places }) (parent_of f l)
+
+-- the place before: at the start of a node, that before the node
+unfoldable pub back : Forest Content → Point → Option Point
+back f at = if at.offset == 0 then out_of f at.label 0 else Some (record { label = at.label; offset = at.offset - 1 })
+
+-- the place after: at the end of a node, that after the node
+unfoldable pub forth : Forest Content → Point → Option Point
+forth f at =
+    if nat_lt at.offset (length_of f at.label) then Some (record { label = at.label; offset = at.offset + 1 }) else out_of f at.label 1
+
+-- out of a node, from its start alone
+unfoldable pub out_before : Forest Content → Point → Option Point
+out_before f at = if at.offset == 0 then out_of f at.label 0 else None
+
+-- out of a node, from its end alone
+unfoldable pub out_after : Forest Content → Point → Option Point
+out_after f at = if nat_lt at.offset (length_of f at.label) then None else out_of f at.label 1
+
+abbrev pub step : Way → Forest Content → Point → Option Point
+step Back f at = back f at
+step OutBefore f at = out_before f at
+step Forth f at = forth f at
+step OutAfter f at = out_after f at
+
+-- steps back and forth stop where they come to a block boundary point
+abbrev pub stops : Way → Forest Content → Point → Bool
+stops Back f at = is_block_boundary f at.label at.offset
+stops OutBefore f at = false
+stops Forth f at = is_block_boundary f at.label at.offset
+stops OutAfter f at = false
+
+abbrev pub led : Option Point → Point → (Point → Point) → Point
+led None at on = at
+led (Some next) at on = on next
+
+-- from a place on, as long as a step leads on, until it comes to a place where steps stop; at most so many turns
+unfoldable pub walk : Way → Forest Content → ℕ → Point → Point
+walk way f zero at = at
+walk way f (suc n) at = led (step way f at) at λ next. if stops way f next then next else walk way f n next
+
+-- ---- the two ends
+
+-- block-extend, steps 1 and 4: out of the innermost li that the node is or is in
+unfoldable pub out_of_item : Forest Content → ℕ → Point → Point
+out_of_item f places at = unwrap_or (option_and_then (λ l. out_of f l places) (nearest_label (is_named (codes "li")) f at.label)) at
+
+-- block-extend, step 2: back to a block boundary point, but from a block start point
+unfoldable pub to_block_start : Forest Content → Point → Point
+to_block_start f at = if is_block_start f at.label at.offset then at else walk Back f (turns f) at
+
+-- block-extend, step 3: out of each node whose start it is
+unfoldable pub to_outer_start : Forest Content → Point → Point
+to_outer_start f at = walk OutBefore f (turns f) at
+
+-- block-extend, step 5: on to a block boundary point, but from a block end point
+unfoldable pub to_block_end : Forest Content → Point → Point
+to_block_end f at = if is_block_end f at.label at.offset then at else walk Forth f (turns f) at
+
+-- block-extend, step 6: out of each node whose end it is
+unfoldable pub to_outer_end : Forest Content → Point → Point
+to_outer_end f at = walk OutAfter f (turns f) at
+
+-- block-extend, steps 1 to 3
+unfoldable pub extended_start : Forest Content → Point → Point
+extended_start f at = to_outer_start f (to_block_start f (out_of_item f 0 at))
+
+-- block-extend, steps 4 to 6
+unfoldable pub extended_end : Forest Content → Point → Point
+extended_end f at = to_outer_end f (to_block_end f (out_of_item f 1 at))
+
+-- the start and the end of the block-extended range
+unfoldable pub block_extend : Forest Content → Point → Point → Point × Point
+block_extend f start end = (extended_start f start, extended_end f end)

@@ -1,0 +1,29 @@
+-- Places told by the children beside them, and what the code of this crate looks at. No public clause cites this module.
+use Rattle.std.specs.Prelude.{◌≡◌, ℕ, Bool, false, Option, Some, None}
+use Rattle.dom_model.specs.declared.Content.{Content}
+use Rattle.dom_model.specs.Forest.{Forest}
+use Rattle.live_range.specs.declared.places.Point.{Point}
+use Rattle.node_arena.specs.declared.NodeRef.{NodeRef}
+use Rattle.node_arena.specs.Reads.{Names}
+use Rattle.point_order.specs.PointOrder.{is_ancestor}
+use Rattle.node_tests.specs.BlockPoints.{child_before, child_at}
+use Rattle.block_extend.specs.declared.places.Place.{Place}
+
+abbrev pub point_of : Place → Point
+point_of at = record { label = at.node.label; offset = at.offset }
+
+-- the children beside a place of a node
+pub record Stands (holds : NodeRef → Type 0) (f : Forest Content) (at : Place) : Type 0 where
+  pub node : holds at.node
+  pub before : Names holds at.before (child_before f at.node.label at.offset)
+  pub after : Names holds at.after (child_at f at.node.label at.offset)
+
+-- a step leads there
+abbrev pub Leads : (NodeRef → Type 0) → Forest Content → Option Place → Option Point → Type 0
+Leads holds f None to = to ≡ None
+Leads holds f (Some at) to = (to ≡ Some (point_of at)) × Stands holds f at
+
+-- a node stands below the one that may be there
+abbrev pub is_below : Forest Content → Option ℕ → ℕ → Bool
+is_below f None l = false
+is_below f (Some t) l = is_ancestor f t l

@@ -1,0 +1,6 @@
+pub mod BlockExtend
+pub mod Gather
+pub mod Series
+pub mod Order
+pub mod Prohibited
+pub mod Gaps

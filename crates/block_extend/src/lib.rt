@@ -1,0 +1,14 @@
+//! The block-extended range, and the nodes of a range that a block command goes over. The terms are those of the W3C's
+//! *HTML Editing APIs*. Block extension takes no memory; it goes from place to place by links.
+#![tactic(auto)]
+
+mod extending;
+mod gathering;
+mod places;
+mod prohibited;
+mod series;
+
+pub use extending::block_extend;
+pub use gathering::{Choice, gather, gather_in};
+pub use prohibited::is_above_prohibited;
+pub use series::{Link, count_series, is_next};

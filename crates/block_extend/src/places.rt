@@ -1,0 +1,300 @@
+//! Places in a tree, told by the children beside them, and the steps from one to the next.
+
+ghost use Rattle.std.specs.Prelude.{◌≡◌, ◌<◌, ◌+◌, ◌-◌, IfSome, is_none};
+ghost use Rattle.dom_model.specs.Contents.{length_of};
+ghost use Rattle.dom_model.specs.Forest.{parent_of};
+ghost use Rattle.node_arena.specs.Held.{label};
+ghost use Rattle.node_arena.specs.Reads.{Names};
+ghost use Rattle.node_tests.specs.BlockPoints as points;
+ghost use Rattle.block_extend.specs.BlockExtend as extend;
+ghost use Rattle.block_extend.specs.Gaps as gaps;
+ghost use Rattle.block_extend.specs.Gaps.{Leads, Stands};
+
+use live_range::Point;
+use node_arena::{NodeRef, Nodes, is_break};
+use node_tests::{is_block, is_visible};
+
+/// A place in a node, with the children beside it.
+#[derive(Clone, Copy)]
+pub(crate) struct Place {
+    pub node: NodeRef,
+    pub offset: u32,
+    pub before: Option<NodeRef>,
+    pub after: Option<NodeRef>,
+}
+
+/// How a walk goes: to the place before or after, or only out of nodes from their start or their end.
+#[derive(Clone, Copy)]
+pub(crate) enum Way {
+    Back,
+    OutBefore,
+    Forth,
+    OutAfter,
+}
+
+/// The point of a place.
+pub(crate) fn point_of(at: Place) -> Point
+    ensures { result ≡ gaps.point_of at }
+{
+    Point {
+        label: at.node.label,
+        offset: at.offset,
+    }
+}
+
+// The child at an offset.
+fn child_at<N: Nodes>(nodes: &N, node: NodeRef, offset: u32) -> Option<NodeRef>
+    requires { N.holds nodes.now node }
+    ensures { Names (N.holds nodes.now) result (points.child_at (N.trees nodes.now) node.label offset) }
+{
+    nodes.lawful();
+    let mut child = nodes.first_child(node);
+    let mut index: u32 = 0;
+    while index < offset {
+        match child {
+            Some(at) => child = nodes.next(at),
+            None => return None,
+        }
+        index += 1;
+    }
+    child
+}
+
+// The child before an offset.
+fn child_before<N: Nodes>(nodes: &N, node: NodeRef, offset: u32) -> Option<NodeRef>
+    requires { N.holds nodes.now node }
+    ensures { Names (N.holds nodes.now) result (points.child_before (N.trees nodes.now) node.label offset) }
+{
+    if offset == 0 {
+        None
+    } else {
+        child_at(nodes, node, offset - 1)
+    }
+}
+
+/// The place at an offset. It counts the children before it.
+pub(crate) fn place_at<N: Nodes>(nodes: &N, node: NodeRef, offset: u32) -> Place
+    requires { N.holds nodes.now node }
+    ensures stands { Stands (N.holds nodes.now) (N.trees nodes.now) result }
+    ensures node { result.node ≡ node }
+    ensures offset { result.offset ≡ offset }
+{
+    Place {
+        node,
+        offset,
+        before: child_before(nodes, node, offset),
+        after: child_at(nodes, node, offset),
+    }
+}
+
+/// The place before a node, in its parent.
+pub(crate) fn place_before<N: Nodes>(nodes: &N, node: NodeRef) -> Option<Place>
+    requires { N.holds nodes.now node }
+    ensures { Leads (N.holds nodes.now) (N.trees nodes.now) result (extend.out_of (N.trees nodes.now) node.label 0) }
+{
+    nodes.lawful();
+    match nodes.parent(node) {
+        Some(parent) => Some(Place {
+            node: parent,
+            offset: nodes.index(node),
+            before: nodes.prev(node),
+            after: Some(node),
+        }),
+        None => None,
+    }
+}
+
+/// The place after a node, in its parent.
+pub(crate) fn place_after<N: Nodes>(nodes: &N, node: NodeRef) -> Option<Place>
+    requires { N.holds nodes.now node }
+    ensures { Leads (N.holds nodes.now) (N.trees nodes.now) result (extend.out_of (N.trees nodes.now) node.label 1) }
+{
+    nodes.lawful();
+    match nodes.parent(node) {
+        Some(parent) => Some(Place {
+            node: parent,
+            offset: nodes.index(node) + 1,
+            before: Some(node),
+            after: nodes.next(node),
+        }),
+        None => None,
+    }
+}
+
+// The place one offset before.
+fn one_back<N: Nodes>(nodes: &N, at: Place) -> Place
+    requires stands { Stands (N.holds nodes.now) (N.trees nodes.now) at }
+    requires some { 0 < at.offset }
+    ensures stands { Stands (N.holds nodes.now) (N.trees nodes.now) result }
+    ensures node { result.node ≡ at.node }
+    ensures offset { result.offset ≡ at.offset - 1 }
+{
+    nodes.lawful();
+    match at.before {
+        Some(child) => Place {
+            node: at.node,
+            offset: at.offset - 1,
+            before: nodes.prev(child),
+            after: Some(child),
+        },
+        None => place_at(nodes, at.node, at.offset - 1),
+    }
+}
+
+// The place one offset after.
+fn one_forth<N: Nodes>(nodes: &N, at: Place) -> Place
+    requires stands { Stands (N.holds nodes.now) (N.trees nodes.now) at }
+    requires some { at.offset < length_of (N.trees nodes.now) at.node.label }
+    ensures stands { Stands (N.holds nodes.now) (N.trees nodes.now) result }
+    ensures node { result.node ≡ at.node }
+    ensures offset { result.offset ≡ at.offset + 1 }
+{
+    nodes.lawful();
+    let _length = nodes.length(at.node);
+    match at.after {
+        Some(child) => Place {
+            node: at.node,
+            offset: at.offset + 1,
+            before: Some(child),
+            after: nodes.next(child),
+        },
+        None => place_at(nodes, at.node, at.offset + 1),
+    }
+}
+
+// The place before: at the start of a node, that before the node.
+#[tactic(auto, unfolding(crate::specs::BlockExtend::back))]
+fn back<N: Nodes>(nodes: &N, at: Place) -> Option<Place>
+    requires { Stands (N.holds nodes.now) (N.trees nodes.now) at }
+    ensures { Leads (N.holds nodes.now) (N.trees nodes.now) result (extend.back (N.trees nodes.now) (gaps.point_of at)) }
+{
+    if at.offset == 0 {
+        place_before(nodes, at.node)
+    } else {
+        Some(one_back(nodes, at))
+    }
+}
+
+// The place after: at the end of a node, that after the node.
+#[tactic(auto, unfolding(crate::specs::BlockExtend::forth))]
+fn forth<N: Nodes>(nodes: &N, at: Place) -> Option<Place>
+    requires { Stands (N.holds nodes.now) (N.trees nodes.now) at }
+    ensures { Leads (N.holds nodes.now) (N.trees nodes.now) result (extend.forth (N.trees nodes.now) (gaps.point_of at)) }
+{
+    if at.offset < nodes.length(at.node) {
+        Some(one_forth(nodes, at))
+    } else {
+        place_after(nodes, at.node)
+    }
+}
+
+// Out of a node, from its start alone.
+#[tactic(auto, unfolding(crate::specs::BlockExtend::out_before))]
+fn out_before<N: Nodes>(nodes: &N, at: Place) -> Option<Place>
+    requires { Stands (N.holds nodes.now) (N.trees nodes.now) at }
+    ensures { Leads (N.holds nodes.now) (N.trees nodes.now) result (extend.out_before (N.trees nodes.now) (gaps.point_of at)) }
+{
+    if at.offset == 0 {
+        place_before(nodes, at.node)
+    } else {
+        None
+    }
+}
+
+// Out of a node, from its end alone.
+#[tactic(auto, unfolding(crate::specs::BlockExtend::out_after))]
+fn out_after<N: Nodes>(nodes: &N, at: Place) -> Option<Place>
+    requires { Stands (N.holds nodes.now) (N.trees nodes.now) at }
+    ensures { Leads (N.holds nodes.now) (N.trees nodes.now) result (extend.out_after (N.trees nodes.now) (gaps.point_of at)) }
+{
+    if at.offset < nodes.length(at.node) {
+        None
+    } else {
+        place_after(nodes, at.node)
+    }
+}
+
+/// A step of a walk.
+pub(crate) fn step<N: Nodes>(nodes: &N, way: Way, at: Place) -> Option<Place>
+    requires { Stands (N.holds nodes.now) (N.trees nodes.now) at }
+    ensures { Leads (N.holds nodes.now) (N.trees nodes.now) result (extend.step way (N.trees nodes.now) (gaps.point_of at)) }
+{
+    match way {
+        Way::Back => back(nodes, at),
+        Way::OutBefore => out_before(nodes, at),
+        Way::Forth => forth(nodes, at),
+        Way::OutAfter => out_after(nodes, at),
+    }
+}
+
+// Whether a block or a line starts after this node, if there is one.
+#[tactic(auto, unfolding(node_tests::specs::BlockPoints::starts_after))]
+fn starts_after<N: Nodes>(nodes: &N, node: Option<NodeRef>) -> bool
+    requires { IfSome node (N.holds nodes.now) }
+    ensures { result ≡ points.starts_after (N.trees nodes.now) (label node) }
+{
+    match node {
+        Some(node) => {
+            is_visible(nodes, node) && (is_block(nodes, node) || is_break(nodes, node))
+        }
+        None => false,
+    }
+}
+
+// Whether a block ends before this node, if there is one.
+#[tactic(auto, unfolding(node_tests::specs::BlockPoints::ends_before))]
+fn ends_before<N: Nodes>(nodes: &N, node: Option<NodeRef>) -> bool
+    requires { IfSome node (N.holds nodes.now) }
+    ensures { result ≡ points.ends_before (N.trees nodes.now) (label node) }
+{
+    match node {
+        Some(node) => is_visible(nodes, node) && is_block(nodes, node),
+        None => false,
+    }
+}
+
+// Whether a node has no parent.
+fn is_root<N: Nodes>(nodes: &N, node: NodeRef) -> bool
+    requires { N.holds nodes.now node }
+    ensures { result ≡ is_none (parent_of (N.trees nodes.now) node.label) }
+{
+    nodes.parent(node).is_none()
+}
+
+/// Whether a place is a block start point.
+#[tactic(auto, unfolding(node_tests::specs::BlockPoints::is_block_start))]
+pub(crate) fn is_start<N: Nodes>(nodes: &N, at: Place) -> bool
+    requires { Stands (N.holds nodes.now) (N.trees nodes.now) at }
+    ensures { result ≡ points.is_block_start (N.trees nodes.now) at.node.label at.offset }
+{
+    (at.offset == 0 && is_root(nodes, at.node)) || starts_after(nodes, at.before)
+}
+
+/// Whether a place is a block end point.
+#[tactic(auto, unfolding(node_tests::specs::BlockPoints::is_block_end))]
+pub(crate) fn is_end<N: Nodes>(nodes: &N, at: Place) -> bool
+    requires { Stands (N.holds nodes.now) (N.trees nodes.now) at }
+    ensures { result ≡ points.is_block_end (N.trees nodes.now) at.node.label at.offset }
+{
+    (at.offset == nodes.length(at.node) && is_root(nodes, at.node)) || ends_before(nodes, at.after)
+}
+
+// Whether a place is either.
+#[tactic(auto, unfolding(node_tests::specs::BlockPoints::is_block_boundary))]
+fn is_boundary<N: Nodes>(nodes: &N, at: Place) -> bool
+    requires { Stands (N.holds nodes.now) (N.trees nodes.now) at }
+    ensures { result ≡ points.is_block_boundary (N.trees nodes.now) at.node.label at.offset }
+{
+    is_start(nodes, at) || is_end(nodes, at)
+}
+
+/// Whether a walk stops where it comes to a place.
+pub(crate) fn stops<N: Nodes>(nodes: &N, way: Way, at: Place) -> bool
+    requires { Stands (N.holds nodes.now) (N.trees nodes.now) at }
+    ensures { result ≡ extend.stops way (N.trees nodes.now) (gaps.point_of at) }
+{
+    match way {
+        Way::Back | Way::Forth => is_boundary(nodes, at),
+        Way::OutBefore | Way::OutAfter => false,
+    }
+}
