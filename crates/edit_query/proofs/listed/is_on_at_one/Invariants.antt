@@ -1,0 +1,10 @@
+use Rattle.std.proofs.Common.{◌≡◌, drop}
+use Rattle.std.specs.List.{list_any}
+use Rattle.command_value.specs.EffectiveValues.{is_activated}
+use Rattle.edit_model.specs.Gives.{labels_of}
+use Rattle.edit_query.proofs.listed.is_on_at_one.Given as goal
+
+abbrev pub invariant-loop-node : goal.invariant-loop-node
+invariant-loop-node l =
+    list_any (λ x. is_activated l.doc.state.trees x l.command) (labels_of (drop l.node-index l.list))
+    ≡ list_any (λ x. is_activated l.doc.state.trees x l.command) (labels_of l.list)

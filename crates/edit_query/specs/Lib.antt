@@ -1,0 +1,5 @@
+pub mod Formattable
+pub mod Listed
+pub mod Rows
+pub mod Queries
+pub mod Replies

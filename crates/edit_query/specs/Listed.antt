@@ -1,0 +1,36 @@
+-- What commands and their values are at the nodes of a list.
+use Rattle.std.specs.Prelude.{ℕ, Bool, true, false, not, ◌&&◌, List, [], ◌∷◌, Option, Some, None, bytes_eq, codes}
+use Rattle.std.specs.List.{list_all, list_any}
+use Rattle.std.specs.Option.{option_map_or}
+use Rattle.dom_model.specs.declared.Content.{Content}
+use Rattle.dom_model.specs.Forest.{Forest}
+use Rattle.html_names.specs.declared.commands.Command.{Command}
+use Rattle.html_names.specs.declared.commands.Command.TheVariants as command
+use Rattle.command_value.specs.EffectiveValues.{effective, is_activated}
+
+-- the command is on at one of them, and not at another
+unfoldable pub is_partly_on : Forest Content → Command → List ℕ → Bool
+is_partly_on f c ls = list_any (λ l. is_activated f l c) ls && not (list_all (λ l. is_activated f l c) ls)
+
+-- the effective value of subscript, which is that of superscript too, is "mixed"
+abbrev pub is_mixed : Forest Content → ℕ → Bool
+is_mixed f l = option_map_or (λ text. bytes_eq text (codes "mixed")) (effective f l command.Subscript) false
+
+unfoldable pub has_mixed : Forest Content → List ℕ → Bool
+has_mixed f ls = list_any (is_mixed f) ls
+
+-- both are null, or the same text
+abbrev pub is_same_value : Option (List ℕ) → Option (List ℕ) → Bool
+is_same_value None None = true
+is_same_value (Some a) (Some b) = bytes_eq a b
+is_same_value None (Some b) = false
+is_same_value (Some a) None = false
+
+-- the effective value of one of them is another than this
+abbrev pub has_other_value : Forest Content → Command → Option (List ℕ) → List ℕ → Bool
+has_other_value f c value ls = list_any (λ l. not (is_same_value (effective f l c) value)) ls
+
+-- the effective value of one of them is another than that of the first
+abbrev pub have_other_values : Forest Content → Command → List ℕ → Bool
+have_other_values f c [] = false
+have_other_values f c (l ∷ ls) = has_other_value f c (effective f l c) ls

@@ -1,0 +1,76 @@
+-- What each command answers of its own, where no override does (HTML Editing APIs, "indeterminate", "state", "value"): a row
+-- a command. A host decides what is editable.
+use Rattle.std.specs.Prelude.{ℕ, ◌+◌, Bool, false, ◌||◌, List, [], ◌∷◌, Option, codes, if◌then◌else◌}
+use Rattle.std.specs.List.{list_all}
+use Rattle.std.specs.Option.{option_map_or, option_and_then, option_or, unwrap_or}
+use Rattle.css_value.specs.Numbers.{legacy_size}
+use Rattle.css_value.specs.Values.{font_size_of}
+use Rattle.html_names.specs.declared.commands.Command.{Command}
+use Rattle.html_names.specs.declared.commands.Command.TheVariants as command
+use Rattle.command_value.specs.EffectiveValues.{effective, is_activated}
+use Rattle.edit_model.specs.State.{State}
+use Rattle.edit_query.specs.Listed.{is_partly_on, has_mixed, have_other_values}
+use Rattle.edit_query.specs.Formattable.{formattable_nodes, first_formattable, start_node}
+
+abbrev pub is_on_at_start : State → Command → Bool
+is_on_at_start s c = option_map_or (λ l. is_activated s.trees l c) (start_node s) false
+
+-- the command is on at all formattable nodes in the range, or where there is none at the range's start
+abbrev pub is_on_throughout : State → Command → List ℕ → Bool
+is_on_throughout s c [] = is_on_at_start s c
+is_on_throughout s c (l ∷ ls) = list_all (λ n. is_activated s.trees n c) (l ∷ ls)
+
+unfoldable pub is_on : State → Option ℕ → Command → Bool
+is_on s host c = is_on_throughout s c (formattable_nodes s host)
+
+-- the effective value of the first formattable node in the range, or where there is none that at the range's start
+unfoldable pub first_value : State → Option ℕ → Command → Option (List ℕ)
+first_value s host c = option_and_then (λ l. effective s.trees l c) (option_or (first_formattable s host) (start_node s))
+
+-- the digit of the legacy size, 1 to 7, of a size of a font (HTML Editing APIs, "legacy font size for")
+abbrev pub legacy_text : List ℕ → List ℕ
+legacy_text text = option_map_or (λ px. (48 + legacy_size px) ∷ []) (font_size_of text) []
+
+-- the name of the default single-line container
+abbrev pub container_name : Bool → List ℕ
+container_name paragraphs = if paragraphs then codes "p" else codes "div"
+
+-- ---- one row a command
+
+abbrev pub own_indeterm : State → Option ℕ → Command → Bool
+own_indeterm s host command.Bold = is_partly_on s.trees command.Bold (formattable_nodes s host)
+own_indeterm s host command.Italic = is_partly_on s.trees command.Italic (formattable_nodes s host)
+own_indeterm s host command.Underline = is_partly_on s.trees command.Underline (formattable_nodes s host)
+own_indeterm s host command.Strikethrough = is_partly_on s.trees command.Strikethrough (formattable_nodes s host)
+own_indeterm s host command.Subscript =
+    is_partly_on s.trees command.Subscript (formattable_nodes s host) || has_mixed s.trees (formattable_nodes s host)
+own_indeterm s host command.Superscript =
+    is_partly_on s.trees command.Superscript (formattable_nodes s host) || has_mixed s.trees (formattable_nodes s host)
+own_indeterm s host command.CreateLink = have_other_values s.trees command.CreateLink (formattable_nodes s host)
+own_indeterm s host command.FontName = have_other_values s.trees command.FontName (formattable_nodes s host)
+own_indeterm s host command.FontSize = have_other_values s.trees command.FontSize (formattable_nodes s host)
+own_indeterm s host command.ForeColor = have_other_values s.trees command.ForeColor (formattable_nodes s host)
+own_indeterm s host command.BackColor = have_other_values s.trees command.BackColor (formattable_nodes s host)
+own_indeterm s host command.HiliteColor = have_other_values s.trees command.HiliteColor (formattable_nodes s host)
+own_indeterm s host _ = false
+
+abbrev pub own_state : State → Option ℕ → Command → Bool
+own_state s host command.Bold = is_on s host command.Bold
+own_state s host command.Italic = is_on s host command.Italic
+own_state s host command.Underline = is_on s host command.Underline
+own_state s host command.Strikethrough = is_on s host command.Strikethrough
+own_state s host command.Subscript = is_on s host command.Subscript
+own_state s host command.Superscript = is_on s host command.Superscript
+own_state s host command.StyleWithCss = s.flags.css_styling
+own_state s host _ = false
+
+-- null is empty
+abbrev pub own_value : State → Option ℕ → Command → List ℕ
+own_value s host command.CreateLink = unwrap_or (first_value s host command.CreateLink) []
+own_value s host command.FontName = unwrap_or (first_value s host command.FontName) []
+own_value s host command.FontSize = option_map_or legacy_text (first_value s host command.FontSize) []
+own_value s host command.ForeColor = unwrap_or (first_value s host command.ForeColor) []
+own_value s host command.BackColor = unwrap_or (first_value s host command.BackColor) []
+own_value s host command.HiliteColor = unwrap_or (first_value s host command.HiliteColor) []
+own_value s host command.DefaultParagraphSeparator = container_name s.flags.paragraphs
+own_value s host _ = []

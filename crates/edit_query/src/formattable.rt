@@ -1,0 +1,122 @@
+//! The formattable nodes that the active range effectively contains.
+
+ghost use Rattle.std.specs.Prelude.{◌≡◌, ◌++◌, IfOk, OnOk};
+ghost use Rattle.std.specs.List.{filter};
+ghost use Rattle.node_tests.specs.Listing.{only_if};
+ghost use Rattle.node_tests.specs.Visible.{is_formattable};
+ghost use Rattle.edit_model.specs.Gives.{label_of, labels_of};
+ghost use Rattle.edit_model.specs.Lawful.{IsPlacedPair};
+ghost use Rattle.edit_doc.specs.Held.{Holds, IfHeld, EachHeld, Finds};
+ghost use Rattle.edit_query.specs.Formattable.{formattable_between, formattable_nodes, first_formattable, start_node};
+
+use edit_actions::ends_of;
+use edit_doc::{Doc, NodeRef, Pair};
+use node_tests::{effective_nodes, is_formattable};
+use point_order::node_of;
+use std::alloc::{AllocError, Global};
+
+// Puts a node behind those found before, where it is formattable with this host.
+#[tactic(auto, using(edit_model::proofs::Steps::labels_of_push_end, edit_doc::proofs::Children::pushed_held))]
+fn push_formattable(
+    doc: &Doc,
+    host: NodeRef,
+    node: NodeRef,
+    found: &mut Vec<NodeRef>,
+) -> Result<(), AllocError>
+    requires host_held { Holds doc.now host }
+    requires node_held { Holds doc.now node }
+    requires found_held { EachHeld doc.now found.old.items }
+    ensures held { OnOk result (EachHeld doc.now found.new.items) }
+    ensures nodes { OnOk result (labels_of found.new.items ≡ labels_of found.old.items ++ only_if (is_formattable doc.now.state.trees host.label) node.label) }
+{
+    if is_formattable(doc, host, node) {
+        found.push(node)?;
+    }
+    Ok(())
+}
+
+// Of a list, the nodes that are formattable with this host.
+#[tactic(auto, using(edit_model::proofs::Steps::labels_of_end))]
+fn formattable_of(
+    alloc: Global,
+    doc: &Doc,
+    host: NodeRef,
+    list: &[NodeRef],
+) -> Result<Vec<NodeRef>, AllocError>
+    requires host_held { Holds doc.now host }
+    requires list_held { EachHeld doc.now list.now }
+    ensures held { IfOk result (λ found. EachHeld doc.now found.items) }
+    ensures nodes { IfOk result (λ found. labels_of found.items ≡ filter (is_formattable doc.now.state.trees host.label) (labels_of list.now)) }
+{
+    let mut found = Vec::new(alloc);
+    for node in list {
+        push_formattable(doc, host, *node, &mut found)?;
+    }
+    Ok(found)
+}
+
+// Those of the range of a pair of points.
+#[tactic(auto, using(edit_actions::proofs::Placed::placed_here, crate::proofs::Lists::labels_mapped, crate::proofs::Lists::each_held), unfolding(crate::specs::Formattable::formattable_between))]
+fn formattable_between(
+    alloc: Global,
+    doc: &Doc,
+    host: NodeRef,
+    pair: Pair,
+) -> Result<Vec<NodeRef>, AllocError>
+    requires host_held { Holds doc.now host }
+    requires placed { IsPlacedPair doc.now.state.trees pair }
+    ensures held { IfOk result (λ list. EachHeld doc.now list.items) }
+    ensures nodes { IfOk result (λ list. labels_of list.items ≡ formattable_between doc.now.state.trees host.label pair) }
+{
+    let list = effective_nodes(alloc, doc, ends_of(doc, pair))?;
+    formattable_of(alloc, doc, host, list.as_slice())
+}
+
+/// The formattable nodes, those with `host` as their editing host, that the active range effectively contains, in tree
+/// order (HTML Editing APIs, "formattable node", "effectively contained"). There are none without a host, without a
+/// selection, and at a caret.
+#[tactic(auto, unfolding(crate::specs::Formattable::formattable_nodes))]
+pub fn formattable_nodes(
+    alloc: Global,
+    doc: &Doc,
+    host: Option<NodeRef>,
+) -> Result<Vec<NodeRef>, AllocError>
+    requires { IfHeld doc.now host }
+    ensures held { IfOk result (λ list. EachHeld doc.now list.items) }
+    ensures nodes { IfOk result (λ list. labels_of list.items ≡ formattable_nodes doc.now.state (label_of host)) }
+{
+    doc.lawful();
+    match (host, doc.points().selection()) {
+        (Some(host), Some(pair)) => formattable_between(alloc, doc, host, pair),
+        _ => Ok(Vec::new(alloc)),
+    }
+}
+
+/// The first of [`formattable_nodes`].
+#[tactic(auto, unfolding(crate::specs::Formattable::first_formattable))]
+pub fn first_formattable(
+    alloc: Global,
+    doc: &Doc,
+    host: Option<NodeRef>,
+) -> Result<Option<NodeRef>, AllocError>
+    requires { IfHeld doc.now host }
+    ensures { IfOk result (λ node. Finds doc.now node (first_formattable doc.now.state (label_of host))) }
+{
+    let list = formattable_nodes(alloc, doc, host)?;
+    match list.as_slice() {
+        [] => Ok(None),
+        [node, ..] => Ok(Some(*node)),
+    }
+}
+
+/// The node of the active range's start.
+#[tactic(auto, using(edit_actions::proofs::Placed::placed_here), unfolding(crate::specs::Formattable::start_node))]
+pub(crate) fn start_node(doc: &Doc) -> Option<NodeRef>
+    ensures { Finds doc.now result (start_node doc.now.state) }
+{
+    doc.lawful();
+    match doc.points().selection() {
+        Some(pair) => Some(node_of(doc, ends_of(doc, pair).0)),
+        None => None,
+    }
+}

@@ -1,0 +1,17 @@
+//! Questions about commands (HTML Editing APIs, "queryCommandIndeterm()", "queryCommandState()", "queryCommandValue()"), as a
+//! running command asks them: with its editing host, and without a look at whether the command asked for is supported or
+//! enabled.
+//!
+//! Inline commands are asked of the formattable nodes in the active range. A question costs the nodes from the start to the
+//! end of that range, those above them, and the children of these; its list of nodes takes memory, and so does a text.
+#![tactic(auto)]
+
+mod formattable;
+mod listed;
+mod queries;
+mod reply;
+mod rows;
+
+pub use formattable::{first_formattable, formattable_nodes};
+pub use queries::{query, query_state, query_value};
+pub use reply::{Reply, no_reply};

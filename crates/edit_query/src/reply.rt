@@ -1,0 +1,27 @@
+//! What a question is answered.
+
+ghost use Rattle.std.specs.Prelude.{◌≡◌, IfOk};
+ghost use Rattle.edit_query.specs.Replies.{no_reply};
+
+use dom_model::Chars;
+use html_names::QueryKind;
+use std::alloc::{AllocError, Global};
+
+/// What a question about a command is answered (HTML Editing APIs, "methods to query and execute commands").
+#[derive(Drop)]
+pub enum Reply {
+    /// Whether it is so: of every kind of question but `value`.
+    Flag(bool),
+    /// The command's value.
+    Wording(Chars),
+}
+
+/// The reply where the command isn't supported or isn't enabled: false, or the empty text.
+pub fn no_reply(alloc: Global, kind: QueryKind) -> Result<Reply, AllocError>
+    ensures { IfOk result (λ reply. reply ≡ no_reply kind) }
+{
+    match kind {
+        QueryKind::Value => Ok(Reply::Wording(Chars::from_slice(alloc, &[])?)),
+        _ => Ok(Reply::Flag(false)),
+    }
+}

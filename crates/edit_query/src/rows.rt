@@ -1,0 +1,205 @@
+//! What each command answers of its own, where no override does.
+
+ghost use Rattle.std.specs.Prelude.{◌≡◌, ◌+◌, Bool, IfOk, []};
+ghost use Rattle.std.specs.Option.{option_map_or, option_copied, unwrap_or, option_or};
+ghost use Rattle.css_value.specs.Numbers as sizes;
+ghost use Rattle.command_value.specs.EffectiveValues as values;
+ghost use Rattle.edit_model.specs.Gives.{label_of};
+ghost use Rattle.edit_doc.specs.Held.{IfHeld, Finds};
+ghost use Rattle.edit_query.specs.Formattable.{first_formattable, start_node};
+ghost use Rattle.edit_query.specs.Rows.{is_on_at_start, is_on, first_value, legacy_text, container_name, own_indeterm, own_state, own_value};
+
+use crate::formattable::{first_formattable, formattable_nodes, start_node};
+use crate::listed::{has_mixed, have_other_values, is_on_at_all, is_partly_on};
+use command_value::{effective, is_activated};
+use css_value::{legacy_size, read_font_size};
+use dom_model::Chars;
+use edit_doc::{Doc, NodeRef};
+use html_names::Command;
+use std::alloc::{AllocError, Global};
+
+/// Whether a command is on at some and off at other nodes that it formats, or they have different values.
+pub(crate) fn own_indeterm(
+    alloc: Global,
+    doc: &Doc,
+    host: Option<NodeRef>,
+    command: Command,
+) -> Result<bool, AllocError>
+    requires { IfHeld doc.now host }
+    ensures { IfOk result (λ flag. flag ≡ own_indeterm doc.now.state (label_of host) command) }
+{
+    match command {
+        Command::Bold | Command::Italic | Command::Underline | Command::Strikethrough => {
+            let list = formattable_nodes(alloc, doc, host)?;
+            Ok(is_partly_on(doc, command, &list))
+        }
+        Command::Subscript | Command::Superscript => {
+            let list = formattable_nodes(alloc, doc, host)?;
+            Ok(is_partly_on(doc, command, &list) || has_mixed(doc, &list))
+        }
+        Command::CreateLink
+        | Command::FontName
+        | Command::FontSize
+        | Command::ForeColor
+        | Command::BackColor
+        | Command::HiliteColor => {
+            let list = formattable_nodes(alloc, doc, host)?;
+            have_other_values(alloc, doc, command, &list)
+        }
+        _ => Ok(false),
+    }
+}
+
+// Whether a command is on at the range's start.
+fn is_on_at_start(doc: &Doc, command: Command) -> bool
+    ensures { result ≡ is_on_at_start doc.now.state command }
+{
+    match start_node(doc) {
+        Some(node) => is_activated(doc, node, command),
+        None => false,
+    }
+}
+
+// Whether a command is on at all formattable nodes in the range, or where there is none at its start.
+#[tactic(auto, unfolding(crate::specs::Rows::is_on))]
+fn is_on(
+    alloc: Global,
+    doc: &Doc,
+    host: Option<NodeRef>,
+    command: Command,
+) -> Result<bool, AllocError>
+    requires { IfHeld doc.now host }
+    ensures { IfOk result (λ flag. flag ≡ is_on doc.now.state (label_of host) command) }
+{
+    let list = formattable_nodes(alloc, doc, host)?;
+    if list.is_empty() {
+        Ok(is_on_at_start(doc, command))
+    } else {
+        Ok(is_on_at_all(doc, command, &list))
+    }
+}
+
+/// Whether a command is on.
+pub(crate) fn own_state(
+    alloc: Global,
+    doc: &Doc,
+    host: Option<NodeRef>,
+    command: Command,
+) -> Result<bool, AllocError>
+    requires { IfHeld doc.now host }
+    ensures { IfOk result (λ flag. flag ≡ own_state doc.now.state (label_of host) command) }
+{
+    match command {
+        Command::Bold
+        | Command::Italic
+        | Command::Underline
+        | Command::Strikethrough
+        | Command::Subscript
+        | Command::Superscript => is_on(alloc, doc, host, command),
+        Command::StyleWithCss => Ok(doc.flags().css_styling),
+        _ => Ok(false),
+    }
+}
+
+// The first formattable node in the range, or where there is none that at its start.
+fn first_node(
+    alloc: Global,
+    doc: &Doc,
+    host: Option<NodeRef>,
+) -> Result<Option<NodeRef>, AllocError>
+    requires { IfHeld doc.now host }
+    ensures { IfOk result (λ node. Finds doc.now node (option_or (first_formattable doc.now.state (label_of host)) (start_node doc.now.state))) }
+{
+    match first_formattable(alloc, doc, host)? {
+        Some(node) => Ok(Some(node)),
+        None => Ok(start_node(doc)),
+    }
+}
+
+// The effective value of that node.
+#[tactic(auto, unfolding(crate::specs::Rows::first_value))]
+fn first_value(
+    alloc: Global,
+    doc: &Doc,
+    host: Option<NodeRef>,
+    command: Command,
+) -> Result<Option<Chars>, AllocError>
+    requires { IfHeld doc.now host }
+    ensures { IfOk result (λ value. value ≡ first_value doc.now.state (label_of host) command) }
+{
+    match first_node(alloc, doc, host)? {
+        Some(node) => effective(alloc, doc, node, command),
+        None => Ok(None),
+    }
+}
+
+// The value itself; null is empty.
+fn or_empty(alloc: Global, value: Option<Chars>) -> Result<Chars, AllocError>
+    ensures { IfOk result (λ text. text ≡ unwrap_or value []) }
+{
+    match value {
+        Some(text) => Ok(text),
+        None => Chars::from_slice(alloc, &[]),
+    }
+}
+
+// The digit of the legacy size of a size in pixels.
+#[tactic(auto, unfolding(css_value::specs::Numbers::legacy_size))]
+fn size_digit(px: u32) -> char
+    ensures { result ≡ 48 + sizes.legacy_size px }
+{
+    (b'0' + legacy_size(px)) as char
+}
+
+/// A size of a font as its legacy size.
+pub(crate) fn legacy_text(alloc: Global, text: &[char]) -> Result<Chars, AllocError>
+    ensures { IfOk result (λ size. size ≡ legacy_text text.now) }
+{
+    match read_font_size(text) {
+        Some(px) => Chars::from_slice(alloc, &[size_digit(px as u32)]),
+        None => Chars::from_slice(alloc, &[]),
+    }
+}
+
+// The legacy size of a value; null is empty.
+fn legacy_value(alloc: Global, value: Option<Chars>) -> Result<Chars, AllocError>
+    ensures { IfOk result (λ text. text ≡ option_map_or legacy_text value []) }
+{
+    match value {
+        Some(text) => legacy_text(alloc, text.as_slice()),
+        None => Chars::from_slice(alloc, &[]),
+    }
+}
+
+// The name of the default single-line container.
+fn container_name(alloc: Global, paragraphs: bool) -> Result<Chars, AllocError>
+    ensures { IfOk result (λ name. name ≡ container_name paragraphs) }
+{
+    if paragraphs {
+        Chars::from_slice(alloc, &['p'])
+    } else {
+        Chars::from_slice(alloc, &['d', 'i', 'v'])
+    }
+}
+
+/// The value of a command.
+pub(crate) fn own_value(
+    alloc: Global,
+    doc: &Doc,
+    host: Option<NodeRef>,
+    command: Command,
+) -> Result<Chars, AllocError>
+    requires { IfHeld doc.now host }
+    ensures { IfOk result (λ value. value ≡ own_value doc.now.state (label_of host) command) }
+{
+    match command {
+        Command::CreateLink
+        | Command::FontName
+        | Command::ForeColor
+        | Command::BackColor
+        | Command::HiliteColor => or_empty(alloc, first_value(alloc, doc, host, command)?),
+        Command::FontSize => legacy_value(alloc, first_value(alloc, doc, host, command)?),
+        Command::DefaultParagraphSeparator => container_name(alloc, doc.flags().paragraphs),
+        _ => Chars::from_slice(alloc, &[]),
+    }
+}
