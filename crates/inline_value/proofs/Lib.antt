@@ -1,0 +1,7 @@
+pub mod Clears
+pub mod Above
+pub mod Levels
+pub mod Nested
+pub mod Givers
+pub mod Selecting
+pub mod Lists

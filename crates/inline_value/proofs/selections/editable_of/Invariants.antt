@@ -1,0 +1,13 @@
+use Rattle.std.proofs.Common.{◌≡◌, ◌++◌, drop}
+use Rattle.std.specs.Prelude.{filter}
+use Rattle.edit_model.specs.Confined.{is_editable_for}
+use Rattle.edit_model.specs.Gives.{labels_of}
+use Rattle.edit_doc.specs.Held.{EachHeld}
+use Rattle.inline_value.proofs.selections.editable_of.Given as goal
+
+-- those so far are listed, and the others are still to be listed
+abbrev pub invariant-loop-node : goal.invariant-loop-node
+invariant-loop-node l = record {
+  nodes : labels_of l.kept.items ++ filter (is_editable_for l.doc.state) (labels_of (drop l.node-index l.list)) ≡ filter (is_editable_for l.doc.state) (labels_of l.list);
+  held : EachHeld l.doc l.kept.items;
+}

@@ -1,0 +1,14 @@
+use Rattle.std.proofs.Common.{◌≡◌, drop}
+use Rattle.std.specs.Option.{option_copied}
+use Rattle.edit_model.specs.Gives.{labels_of}
+use Rattle.edit_model.specs.Run.{final, for_each}
+use Rattle.edit_doc.specs.Held.{Keeps}
+use Rattle.inline_value.specs.Selections.{give_node}
+use Rattle.inline_value.proofs.selections.give_each.Given as goal
+
+-- what is left to do ends where the whole ends
+abbrev pub invariant-loop-node : goal.invariant-loop-node
+invariant-loop-node l =
+    (final (for_each (labels_of (drop l.node-index l.list)) (give_node l.command (option_copied l.value))) l.doc.state
+    ≡ final (for_each (labels_of l.list) (give_node l.command (option_copied l.value))) l.initial.doc.state)
+    × Keeps l.initial.doc l.doc

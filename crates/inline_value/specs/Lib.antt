@@ -1,0 +1,11 @@
+pub mod Styling
+pub mod Clearing
+pub mod Reordering
+pub mod Wrappers
+pub mod Forcing
+pub mod Pushing
+pub mod Recording
+pub mod Records
+pub mod Ancestors
+pub mod Overrides
+pub mod Selections
