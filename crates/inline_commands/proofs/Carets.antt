@@ -1,5 +1,5 @@
 -- The links around a caret are those among the ancestors of its node.
-use Rattle.std.proofs.Common.{◌≡◌, ◌≢◌, ℕ, zero, suc, ◌<◌, ◌≤◌, Bool, true, false, ◌&&◌, ◌||◌, List, [], ◌∷◌, ◌++◌, reverse, map, Some, None, refl, sym, ap, ◌∙◌, subst, inl, inr, arith, eqb, append_assoc}
+use Rattle.std.proofs.Common.{◌≡◌, ◌≢◌, ℕ, zero, suc, ◌<◌, ◌≤◌, Bool, true, false, ◌&&◌, ◌||◌, List, [], ◌∷◌, ◌++◌, reverse, map, Option, Some, None, refl, sym, ap, ◌∙◌, subst, inl, inr, arith, eqb, append_assoc}
 use Rattle.std.specs.Prelude.{filter, nat_lt}
 use Rattle.std.specs.Option.{unwrap_or}
 use Rattle.std.proofs.lemmas.Bool.Decides.{eqb_tells, nat_tests}
@@ -17,7 +17,9 @@ use Rattle.point_order.specs.PointOrder.{is_within, is_ancestor, is_before}
 use Rattle.node_styles.specs.Lineage.{Kin, lineage_from, lineage}
 use Rattle.node_styles.proofs.Lineages.{kin, lineage_absent}
 use Rattle.edit_model.specs.Lawful.{IsForest}
+use Rattle.inline_commands.specs.Linking.{links_above}
 use Rattle.inline_commands.specs.Unlink.{is_link, is_touched, links_in}
+use Rattle.inline_commands.proofs.Above.{none_above, above_child}
 use Rattle.inline_commands.proofs.Walking.{preorder_tree}
 
 abbrev pub labels : List Kin → List ℕ
@@ -260,7 +262,7 @@ module _ (f : Forest Content) (next : ℕ) (law : IsForest f next) (p : Point) w
       subst (λ t. filter (λ l. is_within t l n) (preorder (tree_of t 0)) ≡ reverse (labels (lineage t n))) (sym d.3)
       (first_ancestors d.0 d.1 d.2 n (subst (λ t. IsDistinct t) d.3 law.distinct) (subst (λ t. IsWithin t 0 n) d.3 inner))
 
-  pub links_up : IsWithin f 0 p.label → (q : ℕ) → parent_of f p.label ≡ Some q → links_in f p p ≡ filter (is_link f) (reverse (labels (lineage f q)))
+  links_up : IsWithin f 0 p.label → (q : ℕ) → parent_of f p.label ≡ Some q → links_in f p p ≡ filter (is_link f) (reverse (labels (lineage f q)))
   unfolding links_in
   links_up inner q up =
       let off : 0 ≢ p.label = λ e. absurd (let root = law.root in let t : parent_of f 0 ≡ Some q = ap (parent_of f) e ∙ up in cc) in
@@ -268,7 +270,14 @@ module _ (f : Forest Content) (next : ℕ) (law : IsForest f next) (p : Point) w
       ∙ (filter_both (is_link f) (λ l. is_within f l q) (preorder (tree_of f 0))
       ∙ ap (filter (is_link f)) (ancestors q (within_step f 0 law.distinct law.document p.label q off up inner)))
 
-  pub links_top : parent_of f p.label ≡ None → links_in f p p ≡ []
+  links_top : parent_of f p.label ≡ None → links_in f p p ≡ []
   unfolding links_in
   links_top root =
       filter_none (λ l. is_link f l && is_touched f p p l) (preorder (tree_of f 0)) (λ l. and_false (is_link f l) (is_touched f p p l) (caret_touches f p l ∙ ancestor_none f law.distinct l p.label root))
+
+  pub caret_links : IsWithin f 0 p.label → 0 < count_of f p.label → links_in f p p ≡ links_above f p.label
+  caret_links inner here = by_parent (parent_of f p.label) refl
+    where
+      by_parent : (o : Option ℕ) → parent_of f p.label ≡ o → links_in f p p ≡ links_above f p.label
+      by_parent None root = links_top root ∙ sym (none_above f law.distinct p.label here root)
+      by_parent (Some q) up = links_up inner q up ∙ sym (above_child f law.distinct p.label here q up)

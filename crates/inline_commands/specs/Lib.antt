@@ -1,1 +1,6 @@
 pub mod Unlink
+pub mod Toggling
+pub mod Linking
+pub mod RemovingFormat
+pub mod ValueCommands
+pub mod RestoringStates

@@ -1,82 +1,37 @@
-//! Clearing the value of links, and the command unlink. The steps are those of docs/ALGORITHMS.md.
+//! The command unlink. The steps are those of docs/ALGORITHMS.md.
 
-ghost use Rattle.std.specs.Prelude.{◌≡◌, IfOk, Some};
+ghost use Rattle.std.specs.Prelude.{◌≡◌, IfOk};
+ghost use Rattle.html_names.specs.declared.commands.Command.TheVariants.{Unlink};
 ghost use Rattle.edit_model.specs.Gives.{Gives, labels_of};
-ghost use Rattle.edit_model.specs.Run.{for_each};
 ghost use Rattle.edit_doc.specs.Held.{Holds, EachHeld, Keeps};
 ghost use Rattle.edit_doc.specs.Whole.{IsOpen};
-ghost use Rattle.inline_commands.specs.Unlink.{span_for, stripped, cleared, clear_link, links_touched, unlink};
+ghost use Rattle.inline_value.specs.Selections.{clear_one};
+ghost use Rattle.inline_commands.specs.Unlink.{clear_links, links_touched, unlink};
 
-use crate::links::{is_link, is_simple_link, links_of};
-use dom_model::Name;
-use edit_actions::unwrap;
+use crate::links::links_of;
 use edit_doc::{Doc, EditFault, NodeRef};
+use html_names::Command;
+use inline_value::clear_value;
 use std::alloc::{AllocError, Global};
 
-// Clear the value, step 4: a link that still is one becomes a span.
-#[tactic(auto, using(edit_model::proofs::Steps::steps, edit_model::proofs::Steps::exits), unfolding(crate::specs::Unlink::span_for))]
-fn span_for(alloc: Global, doc: &mut Doc, node: NodeRef) -> Result<(), EditFault>
-    requires open { IsOpen doc.old }
-    requires node_held { Holds doc.old node }
-    ensures gives { Gives result doc.old.state doc.new.state (span_for node.label) }
-    ensures keeps { Keeps doc.old doc.new }
-{
-    if is_link(doc, node) {
-        let name = Name::from_slice(alloc, b"span")?;
-        doc.set_tag_name(node, &name)?;
-    }
-    Ok(())
-}
-
-// Clear the value, steps 3 and 4.
-#[tactic(auto, using(edit_model::proofs::Steps::steps, edit_model::proofs::Steps::exits), unfolding(crate::specs::Unlink::stripped))]
-fn strip(alloc: Global, doc: &mut Doc, node: NodeRef) -> Result<(), EditFault>
-    requires open { IsOpen doc.old }
-    requires node_held { Holds doc.old node }
-    ensures gives { Gives result doc.old.state doc.new.state (stripped node.label) }
-    ensures keeps { Keeps doc.old doc.new }
-{
-    let name = Name::from_slice(alloc, b"href")?;
-    doc.unset_attribute(node, &name)?;
-    span_for(alloc, doc, node)
-}
-
-// Clear the value, steps 2 to 4.
-#[tactic(auto, using(edit_model::proofs::Steps::steps, edit_model::proofs::Steps::exits), unfolding(crate::specs::Unlink::cleared))]
-fn clear(alloc: Global, doc: &mut Doc, node: NodeRef) -> Result<(), EditFault>
-    requires open { IsOpen doc.old }
-    requires node_held { Holds doc.old node }
-    ensures gives { Gives result doc.old.state doc.new.state (cleared doc.old.state node.label) }
-    ensures keeps { Keeps doc.old doc.new }
-{
-    if is_simple_link(doc, node) {
-        unwrap(doc, node)
-    } else {
-        strip(alloc, doc, node)
-    }
-}
-
-// Clear the value, step 1, and then from 2 on.
-#[tactic(auto, using(edit_model::proofs::Steps::steps, edit_model::proofs::Steps::exits), unfolding(crate::specs::Unlink::clear_link))]
+// Unlink, step 2: of one link.
+#[tactic(auto, using(edit_model::proofs::Steps::steps, edit_model::proofs::Steps::exits), unfolding(inline_value::specs::Selections::clear_one))]
 fn clear_link(alloc: Global, doc: &mut Doc, node: NodeRef) -> Result<(), EditFault>
     requires open { IsOpen doc.old }
     requires node_held { Holds doc.old node }
-    ensures gives { Gives result doc.old.state doc.new.state (clear_link node.label) }
+    ensures gives { Gives result doc.old.state doc.new.state (clear_one Unlink node.label) }
     ensures keeps { Keeps doc.old doc.new }
 {
-    if doc.is_editable_for(node) && is_link(doc, node) {
-        clear(alloc, doc, node)
-    } else {
-        Ok(())
-    }
+    clear_value(alloc, doc, node, Command::Unlink)?;
+    Ok(())
 }
 
-// Unlink, step 2: editable links give way to their children, or lose their href.
-#[tactic(auto, using(edit_model::proofs::Steps::eachs, edit_model::proofs::Steps::exits))]
+// Unlink, step 2.
+#[tactic(auto, using(edit_model::proofs::Steps::eachs, edit_model::proofs::Steps::exits), unfolding(crate::specs::Unlink::clear_links))]
 fn clear_links(alloc: Global, doc: &mut Doc, list: &[NodeRef]) -> Result<(), EditFault>
     requires open { IsOpen doc.old }
     requires list_held { EachHeld doc.old list.now }
-    ensures gives { Gives result doc.old.state doc.new.state (for_each (labels_of list.now) clear_link) }
+    ensures gives { Gives result doc.old.state doc.new.state (clear_links (labels_of list.now)) }
     ensures keeps { Keeps doc.old doc.new }
 {
     for node in list {
@@ -85,7 +40,7 @@ fn clear_links(alloc: Global, doc: &mut Doc, list: &[NodeRef]) -> Result<(), Edi
     Ok(())
 }
 
-// Unlink, step 1: the links that unlink is for.
+// Unlink, step 1.
 #[tactic(auto, unfolding(crate::specs::Unlink::links_touched))]
 fn touched_links(alloc: Global, doc: &Doc) -> Result<Vec<NodeRef>, AllocError>
     ensures held { IfOk result (λ list. EachHeld doc.now list.items) }

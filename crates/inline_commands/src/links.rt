@@ -9,7 +9,8 @@ ghost use Rattle.edit_model.specs.Gives.{label_of, labels_of};
 ghost use Rattle.edit_doc.specs.Held.{Holds, IfHeld, EachHeld};
 ghost use Rattle.node_styles.specs.Lineage.{lineage};
 ghost use Rattle.node_paths.specs.Onward.{onward_at, IsInner};
-ghost use Rattle.inline_commands.specs.Unlink.{is_link, is_simple_link, is_touched, links_in, links_of_pair};
+ghost use Rattle.inline_commands.specs.Linking.{links_above};
+ghost use Rattle.inline_commands.specs.Unlink.{is_link, is_touched, links_in, links_of_pair};
 
 use dom_model::Content;
 use edit_actions::ends_of;
@@ -18,9 +19,9 @@ use node_tests::is_contained;
 use point_order::{comes_before, is_ancestor, node_of};
 use std::alloc::{AllocError, Global};
 
-/// Whether a node is an a with the attribute href.
+// Whether a node is an a with the attribute href.
 #[tactic(auto, unfolding(crate::specs::Unlink::is_link))]
-pub(crate) fn is_link(doc: &Doc, node: NodeRef) -> bool
+fn is_link(doc: &Doc, node: NodeRef) -> bool
     requires { Holds doc.now node }
     ensures link { result ≡ is_link doc.now.state.trees node.label }
     ensures element { result ≡ true → is_element_at doc.now.state.trees node.label ≡ true }
@@ -29,21 +30,6 @@ pub(crate) fn is_link(doc: &Doc, node: NodeRef) -> bool
         Content::Element { name, attributes } => {
             name.as_slice() == b"a".as_slice() && attributes.get(b"href").is_some()
         }
-        _ => false,
-    }
-}
-
-/// Whether href is the one attribute of a link.
-#[tactic(auto, unfolding(crate::specs::Unlink::is_simple_link))]
-pub(crate) fn is_simple_link(doc: &Doc, node: NodeRef) -> bool
-    requires { Holds doc.now node }
-    ensures { result ≡ is_simple_link doc.now.state.trees node.label }
-{
-    match doc.content(node) {
-        Content::Element {
-            name: _,
-            attributes,
-        } => attributes.len() == 1,
         _ => false,
     }
 }
@@ -138,6 +124,27 @@ fn push_above(list: &mut Vec<NodeRef>, doc: &Doc, node: NodeRef) -> Result<(), A
     }
 }
 
+/// The links among the ancestors of a node, the outermost first.
+pub(crate) fn links_above(
+    alloc: Global,
+    doc: &Doc,
+    node: NodeRef,
+) -> Result<Vec<NodeRef>, AllocError>
+    requires { Holds doc.now node }
+    ensures held { IfOk result (λ list. EachHeld doc.now list.items) }
+    ensures links { IfOk result (λ list. labels_of list.items ≡ links_above doc.now.state.trees node.label) }
+{
+    doc.lawful();
+    let mut list = Vec::new(alloc);
+    match doc.parent(node) {
+        None => Ok(list),
+        Some(parent) => {
+            push_above(&mut list, doc, parent)?;
+            Ok(list)
+        }
+    }
+}
+
 // The links around a caret.
 #[tactic(auto, using(edit_actions::proofs::Placed::placed_here))]
 fn links_around(alloc: Global, doc: &Doc, caret: Point) -> Result<Vec<NodeRef>, AllocError>
@@ -146,14 +153,7 @@ fn links_around(alloc: Global, doc: &Doc, caret: Point) -> Result<Vec<NodeRef>, 
     ensures links { IfOk result (λ list. labels_of list.items ≡ links_in doc.now.state.trees caret caret) }
 {
     doc.lawful();
-    let mut list = Vec::new(alloc);
-    match doc.parent(node_of(doc, caret)) {
-        None => Ok(list),
-        Some(parent) => {
-            push_above(&mut list, doc, parent)?;
-            Ok(list)
-        }
-    }
+    links_above(alloc, doc, node_of(doc, caret))
 }
 
 // The links that a range touches. It walks the document.

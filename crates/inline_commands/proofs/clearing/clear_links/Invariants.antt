@@ -2,12 +2,13 @@ use Rattle.std.proofs.Common.{◌≡◌, drop}
 use Rattle.edit_model.specs.Gives.{labels_of}
 use Rattle.edit_model.specs.Run.{final, for_each}
 use Rattle.edit_doc.specs.Held.{Keeps}
-use Rattle.inline_commands.specs.Unlink.{clear_link}
+use Rattle.html_names.specs.declared.commands.Command.TheVariants.{Unlink}
+use Rattle.inline_value.specs.Selections.{clear_one}
 use Rattle.inline_commands.proofs.clearing.clear_links.Given as goal
 
 -- what is left to do ends where the whole ends
 abbrev pub invariant-loop-node : goal.invariant-loop-node
 invariant-loop-node l =
-    (final (for_each (labels_of (drop l.node-index l.list)) clear_link) l.doc.state
-    ≡ final (for_each (labels_of l.list) clear_link) l.initial.doc.state)
+    (final (for_each (labels_of (drop l.node-index l.list)) (clear_one Unlink)) l.doc.state
+    ≡ final (for_each (labels_of l.list) (clear_one Unlink)) l.initial.doc.state)
     × Keeps l.initial.doc l.doc

@@ -1,0 +1,12 @@
+use Rattle.std.proofs.Common.{◌≡◌, drop}
+use Rattle.edit_model.specs.Run.{final, for_each}
+use Rattle.edit_doc.specs.Held.{Keeps}
+use Rattle.inline_commands.specs.RestoringStates.{restore_entry}
+use Rattle.inline_commands.proofs.restoring.restore_entries.Given as goal
+
+-- what is left to do ends where the whole ends
+abbrev pub invariant-loop-entry : goal.invariant-loop-entry
+invariant-loop-entry l =
+    (final (for_each (drop l.entry-index l.list) restore_entry) l.doc.state
+    ≡ final (for_each l.list restore_entry) l.initial.doc.state)
+    × Keeps l.initial.doc l.doc
