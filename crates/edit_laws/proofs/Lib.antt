@@ -21,3 +21,7 @@ pub mod BelowHost
 pub mod StatelessRuns
 pub mod Resting
 pub mod Unwrapping
+pub mod Lines
+pub mod Adopting
+pub mod Swapping
+pub mod Nesting

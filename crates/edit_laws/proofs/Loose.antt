@@ -74,7 +74,7 @@ pub after_root : (o n : ℕ) (s : State) → parent_of s.trees o ≡ None → fi
 unfolding move_after
 after_root o n s root = rw (final-look, root, final-answer) refl
 
-loose_up : (s : State) → IsLawful s → (o q : ℕ) → parent_of s.trees o ≡ Some q → IsLoose s o → IsLoose s q
+pub loose_up : (s : State) → IsLawful s → (o q : ℕ) → parent_of s.trees o ≡ Some q → IsLoose s o → IsLoose s q
 loose_up s is o q up none = none_there (count_of (document_of s.trees) q) (λ h. (let k = within_below s.trees s.next is.forest q o up h in omega (arith, k, none)))
 
 pub still_before : (o n : ℕ) (s : State) → IsKeeping s → IsLoose s o → document_of (final (move_before o n) s).trees ≡ document_of s.trees

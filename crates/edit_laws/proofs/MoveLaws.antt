@@ -8,6 +8,7 @@ use Rattle.dom_model.specs.Forest.Forest.{Nil, Tree}
 use Rattle.dom_model.specs.Places.{rest_in}
 use Rattle.dom_model.proofs.Lists.{times-append}
 use Rattle.dom_model.proofs.Links.{join-Nil, found_stands, parent_of_child}
+use Rattle.dom_model.proofs.Neighbours.{parent_of-next}
 use Rattle.edit_model.specs.State.{State}
 use Rattle.edit_model.specs.Kept.{borne_by, leaves}
 use Rattle.edit_model.specs.History.{document_of}
@@ -20,12 +21,12 @@ use Rattle.edit_laws.specs.MoveLaws.{IsBare}
 use Rattle.edit_laws.proofs.Subsequences.{keeps_refl}
 use Rattle.edit_laws.proofs.Leaves.{leaves-Nil, leaves-Tree}
 use Rattle.edit_laws.proofs.QuietActions.{same_document}
-use Rattle.edit_laws.proofs.Around.{spot_here, spot_as, spot_tree, spot_distinct, self_one}
+use Rattle.edit_laws.proofs.Around.{Spot, spot_here, spot_as, spot_tree, spot_distinct, self_one}
 use Rattle.edit_laws.proofs.Patterns.{count-join, join-assoc, take_one}
 use Rattle.edit_laws.proofs.Slides.{document_distinct, each_stays}
 use Rattle.edit_laws.proofs.Lifting.{node_found, lift_all, final_move_before}
-use Rattle.edit_laws.proofs.Handing.{owner_children, below_inside, hand_all, take_all}
-use Rattle.edit_laws.proofs.Turned.{turned, next_is, drop_all, front_all, swap}
+use Rattle.edit_laws.proofs.Handing.{owner_children, below_inside, final_move_last, hand_all, take_all}
+use Rattle.edit_laws.proofs.Turned.{turned, next_is, drop_all, front_all, swap, enter}
 use Rattle.edit_laws.proofs.Seats.{Seat, seat, parts_of, Headed, headed}
 use Rattle.edit_laws.proofs.Loose.{IsLoose, none_there, loose_parent, still_each, still_last, still_first, still_before, still_after, before_root, after_root}
 
@@ -65,6 +66,21 @@ loose_child s is p q before after kids none = loose_parent s is p q (by_seen (se
     by_seen (Some o) e =
         let e' = ap (λ (k : Option (Seen Content)). times (option_map_or (λ (y : Seen Content). y.children) k []) p) e in
         parent_of_child s.trees q p o is.forest.distinct (found_stands s.trees q o is.forest.distinct e) (omega (arith, e', among))
+
+-- a node of the document of which the tree bears nothing
+bare_tree : (s : State) → IsKeeping s → (q : ℕ) (pre : Forest Content) (x : ℕ) (e : Content) (g post : Forest Content) → Spot (document_of s.trees) q (join pre (Tree x e g post)) → leaves (tree_of s.trees x) ≡ []
+    → borne_by x e ++ leaves g ≡ []
+bare_tree s is q pre x e g post spot bare =
+    let f = document_of s.trees in
+    let kids = join pre (Tree x e g post) in
+    let once = document_distinct s.trees is.lawful.forest.distinct in
+    let inside : 0 < count_of kids x = omega (arith, count-join pre (Tree x e g post) x, self_one x) in
+    let tree = take_one pre x e g post (spot_distinct f once q kids spot) in
+    let here = below_inside s is.lawful q kids spot x inside in
+    let is_tree : tree_of s.trees x ≡ Tree x e g Nil = sym (tree_of-inside s.trees 0 x is.lawful.forest.distinct here) ∙ (spot_tree f once q kids spot x inside ∙ tree.tree) in
+    ap (λ l. borne_by x e ++ l) (sym (append-nil (leaves g)))
+    ∙ (ap (λ l. borne_by x e ++ (leaves g ++ l)) (sym leaves-Nil)
+    ∙ (sym (leaves-Tree x e g Nil) ∙ (ap leaves (sym is_tree) ∙ bare)))
 
 -- ---- the laws
 
@@ -183,16 +199,7 @@ module _ (s : State) (is : IsKeeping s) where
           let after : first_in (tops w.post) ≡ Some n = sym (next_is s is.lawful q w.pre x w.content w.kids w.post w.spot) ∙ next in
           let h = headed_first w.post n after in
           let spot = spot_as f q _ (join w.pre (Tree x w.content w.kids (Tree n h.content h.kids h.post))) (ap (λ k. join w.pre (Tree x w.content w.kids k)) h.is) w.spot in
-          let kids = join w.pre (Tree x w.content w.kids w.post) in
-          let once = document_distinct s.trees is.lawful.forest.distinct in
-          let inside : 0 < count_of kids x = omega (arith, count-join w.pre (Tree x w.content w.kids w.post) x, self_one x) in
-          let tree = take_one w.pre x w.content w.kids w.post (spot_distinct f once q kids w.spot) in
-          let here = below_inside s is.lawful q kids w.spot x inside in
-          let is_tree : tree_of s.trees x ≡ Tree x w.content w.kids Nil = sym (tree_of-inside s.trees 0 x is.lawful.forest.distinct here) ∙ (spot_tree f once q kids w.spot x inside ∙ tree.tree) in
-          let none : borne_by x w.content ++ leaves w.kids ≡ [] =
-          ap (λ l. borne_by x w.content ++ l) (sym (append-nil (leaves w.kids)))
-          ∙ (ap (λ l. borne_by x w.content ++ (leaves w.kids ++ l)) (sym leaves-Nil)
-          ∙ (sym (leaves-Tree x w.content w.kids Nil) ∙ (ap leaves (sym is_tree) ∙ bare))) in
+          let none = bare_tree s is q w.pre x w.content w.kids w.post w.spot bare in
           rw (final_move_before x n q s up) (swap s is q w.pre x w.content w.kids n h.content h.kids h.post none spot).keeps
 
       by_count : (q : ℕ) → parent_of s.trees x ≡ Some q → (k : ℕ) → count_of (document_of s.trees) q ≡ k → KeepsOrder s (final (move_before x n) s)
@@ -201,6 +208,29 @@ module _ (s : State) (is : IsKeeping s) where
 
       by_parent : (p : Option ℕ) → parent_of s.trees x ≡ p → KeepsOrder s (final (move_before x n) s)
       by_parent None root = rw (before_root x n s root) (keeps_refl (document_of s.trees))
+      by_parent (Some q) up = by_count q up (count_of (document_of s.trees) q) refl
+
+  pub go_into_next : (n x : ℕ) → next_of s.trees n ≡ Some x → leaves (tree_of s.trees x) ≡ [] → KeepsOrder s (final (move_last x n) s)
+  go_into_next n x next bare = by_parent (parent_of s.trees n) refl
+    where
+      seated : (q : ℕ) → Seat s n q → KeepsOrder s (final (move_last x n) s)
+      seated q w =
+          let f = document_of s.trees in
+          let after : first_in (tops w.post) ≡ Some x = sym (next_is s is.lawful q w.pre n w.content w.kids w.post w.spot) ∙ next in
+          let h = headed_first w.post x after in
+          let spot = spot_as f q _ (join w.pre (Tree n w.content w.kids (Tree x h.content h.kids h.post))) (ap (λ k. join w.pre (Tree n w.content w.kids k)) h.is) w.spot in
+          let deeper = spot_as f q _ (join (join w.pre (Tree n w.content w.kids Nil)) (Tree x h.content h.kids h.post)) (sym (join-assoc w.pre (Tree n w.content w.kids Nil) (Tree x h.content h.kids h.post))) spot in
+          let none = bare_tree s is q (join w.pre (Tree n w.content w.kids Nil)) x h.content h.kids h.post deeper bare in
+          rw (final_move_last x n s) (enter s is q w.pre n w.content w.kids x h.content h.kids h.post none spot).keeps
+
+      by_count : (q : ℕ) → parent_of s.trees n ≡ Some q → (k : ℕ) → count_of (document_of s.trees) q ≡ k → KeepsOrder s (final (move_last x n) s)
+      by_count q up zero e =
+          let beside = parent_of-next s.trees is.lawful.forest.distinct n x q up next in
+          same_document s (final (move_last x n) s) (still_last x n s is (loose_parent s is.lawful x q beside e))
+      by_count q up (suc k) e = seated q (seat s is.lawful n q up (omega (arith, e)))
+
+      by_parent : (p : Option ℕ) → parent_of s.trees n ≡ p → KeepsOrder s (final (move_last x n) s)
+      by_parent None root = absurd (let k : None ≡ Some x = sym (ap (λ p. option_and_then (λ k. after_in (children_of s.trees k) n) p) root) ∙ next in cc)
       by_parent (Some q) up = by_count q up (count_of (document_of s.trees) q) refl
 
   pub go_nowhere : (list : List ℕ) (x : ℕ) → (IsWithin s.trees 0 x → ⊥) → KeepsOrder s (final (move_each_last list x) s)

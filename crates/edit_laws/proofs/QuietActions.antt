@@ -62,14 +62,14 @@ part_bears_nothing f next n is inner h =
         let k' = rw off at k in
         rw (off, join-Nil (tree_of ks n)) (and_parts (bears_nothing (tree_of ks n)) (bears_nothing (tree_of rest n)) (sym (bears-join (tree_of ks n) (tree_of rest n)) ∙ k')).0
 
-bears-set : (name value : List ℕ) (l : ℕ) (c : Content) → borne_by l (with_set name value c) ≡ borne_by l c
+pub bears-set : (name value : List ℕ) (l : ℕ) (c : Content) → borne_by l (with_set name value c) ≡ borne_by l c
 unfolding borne_by
 bears-set name value l Document = refl
 bears-set name value l (Element tag list) = refl
 bears-set name value l (Words chars) = refl
 bears-set name value l (Remark chars) = refl
 
-bears-unset : (name : List ℕ) (l : ℕ) (c : Content) → borne_by l (with_unset name c) ≡ borne_by l c
+pub bears-unset : (name : List ℕ) (l : ℕ) (c : Content) → borne_by l (with_unset name c) ≡ borne_by l c
 unfolding borne_by
 bears-unset name l Document = refl
 bears-unset name l (Element tag list) = refl
@@ -83,7 +83,7 @@ by_made e s k = elim (cases_Bool (is_made_edit e s)) [
   | inr off ↦ same_trees s (edited e s) (trees_left e s off)
 ]
 
-remove_keeps : (n : ℕ) (s : State) → IsKeeping s → KeepsOrder s (edited (Remove n) s)
+pub remove_keeps : (n : ℕ) (s : State) → IsKeeping s → KeepsOrder s (edited (Remove n) s)
 unfolding is_made_edit trees_after
 remove_keeps n s is = by_made (Remove n) s (λ may. (
     let t = removes s n may in

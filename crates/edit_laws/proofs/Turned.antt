@@ -1,6 +1,6 @@
 -- Lists that a loop goes through from the end: the last children of a node go to just after it, and the siblings before a node to
--- its front. Also a node goes over the bare one before it.
-use Rattle.std.proofs.Common.{◌≡◌, ◌≢◌, ℕ, ◌+◌, ◌<◌, Bool, true, false, ◌&&◌, [], ◌∷◌, ◌++◌, Some, refl, sym, ap, subst, ◌∙◌, arith}
+-- its front. Also a node goes over the bare one before it, or into the bare one after it.
+use Rattle.std.proofs.Common.{◌≡◌, ◌≢◌, ℕ, ◌+◌, ◌<◌, Bool, true, false, ◌&&◌, [], ◌∷◌, ◌++◌, Some, None, refl, sym, ap, subst, ◌∙◌, arith}
 use Rattle.std.specs.Option.{option_and_then, option_map_or}
 use Rattle.std.proofs.lemmas.Bool.{ne_eqb}
 use Rattle.dom_model.specs.declared.Content.{Content}
@@ -23,7 +23,7 @@ use Rattle.edit_model.specs.Moves.{move_after, move_first}
 use Rattle.edit_laws.proofs.Subsequences.{keeps_refl, keeps_trans}
 use Rattle.edit_laws.proofs.QuietActions.{keeping_edited}
 use Rattle.edit_laws.proofs.Around.{Spot, spot_distinct, spot_as, spot_tree, spot_without, spot_put_top, spot_put_below, self_one, fill}
-use Rattle.edit_laws.proofs.Patterns.{count-join, join-assoc, take_last, take_one, put_after_node, put_first_below, put_before_node, drop_leaves, front_leaves, swap_leaves}
+use Rattle.edit_laws.proofs.Patterns.{count-join, join-assoc, take_last, take_one, put_after_node, put_first_below, put_last_below, put_before_node, drop_leaves, front_leaves, take_leaves, swap_leaves}
 use Rattle.edit_laws.proofs.Slides.{document_distinct, Slide, slide, parent_other, not_within_above, not_within_beside, goes_where_open, each_stays}
 use Rattle.edit_laws.proofs.Lifting.{node_parent, node_found, child_parent, node_apart, owner_inside, tops-join, move_stays, all_went, some_stay, Ran}
 use Rattle.edit_laws.proofs.Handing.{owner_children, top_parent, below_inside}
@@ -243,3 +243,23 @@ swap s is q pre x e g n d j post bare spot =
     (rw (spot_without f once q kids spot n inside, spot_tree f once q kids spot n inside, tree, out)
     (spot_put_top f once q kids spot (join pre (Tree x e g post)) (Some x) (Tree n d j Nil) ∙ ap (λ h. fill spot.around (Tree q spot.content h spot.rest)) (put_before_node pre x e g post n d j apart)))
     (swap_leaves pre x e g n d j post bare)
+
+-- ---- a node goes to the end of the one after it, whose tree bears nothing
+
+pub enter : (s : State) → IsKeeping s → (q : ℕ) (pre : Forest Content) (n : ℕ) (d : Content) (j : Forest Content) (x : ℕ) (e : Content) (g post : Forest Content) → borne_by x e ++ leaves g ≡ []
+    → Spot (document_of s.trees) q (join pre (Tree n d j (Tree x e g post)))
+    → Slide s (edited (Move n x None) s) q (join pre (Tree x e (join g (Tree n d j Nil)) post)) (may_move s n x None)
+enter s is q pre n d j x e g post bare spot =
+    let f = document_of s.trees in
+    let once = document_distinct s.trees is.lawful.forest.distinct in
+    let kids = join pre (Tree n d j (Tree x e g post)) in
+    let others = join pre (Tree x e (join g (Tree n d j Nil)) post) in
+    let kids_once = spot_distinct f once q kids spot in
+    let inside : 0 < count_of kids n = omega (arith, count-join pre (Tree n d j (Tree x e g post)) n, self_one n) in
+    let here : 0 < count_of kids x = omega (arith, count-join pre (Tree n d j (Tree x e g post)) x, self_one x) in
+    let apart : count_of pre x ≡ 0 = omega (arith, kids_once x, count-join pre (Tree n d j (Tree x e g post)) x, self_one x) in
+    let t = take_one pre n d j (Tree x e g post) kids_once in
+    slide s is q kids others spot n x None inside
+    (rw (spot_without f once q kids spot n inside, spot_tree f once q kids spot n inside, t.tree, t.out)
+    (spot_put_below f once q kids spot (join pre (Tree x e g post)) x None (Tree n d j Nil) here ∙ ap (λ h. fill spot.around (Tree q spot.content h spot.rest)) (put_last_below pre x e g post n d j apart)))
+    (take_leaves pre x e g n d j post ∙ sym (swap_leaves pre x e g n d j post bare))

@@ -1,14 +1,14 @@
 -- The laws of order of moves: each loop keeps the order where its nodes stand as said, whatever of it is left out.
-use Rattle.std.specs.Prelude.{◌≡◌, ℕ, List, [], ◌∷◌, ◌++◌, true, false, Some}
+use Rattle.std.specs.Prelude.{◌≡◌, ◌≢◌, ℕ, List, [], ◌∷◌, ◌++◌, true, false, Some}
 use Rattle.dom_model.specs.declared.Content.{Content}
-use Rattle.dom_model.specs.Contents.{is_parent_at}
+use Rattle.dom_model.specs.Contents.{is_parent_at, is_break}
 use Rattle.dom_model.specs.Forest.{IsWithin, parent_of, children_of, next_of, content_of, tree_of}
 use Rattle.edit_model.specs.State.{State}
 use Rattle.edit_model.specs.Kept.{borne_by, leaves}
 use Rattle.edit_model.specs.Confined.{is_made, is_open}
-use Rattle.edit_model.specs.Run.{final, ◌>>◌}
+use Rattle.edit_model.specs.Run.{final, ◌>>◌, remove}
 use Rattle.edit_laws.specs.Order.{KeepsOrder, IsKeeping}
-use Rattle.edit_model.specs.Moves.{move_before, move_all_before, move_all_after, move_all_first, move_each_last}
+use Rattle.edit_model.specs.Moves.{insert_after, move_before, move_last, move_all_before, move_all_after, move_all_first, move_each_last}
 
 -- a node bears nothing itself: it is no image, no rule and no text with characters
 abbrev pub IsBare : State → ℕ → Type 0
@@ -46,6 +46,18 @@ PreviousSiblingsGoIn =
 abbrev pub NextGoesOver : Type 0
 NextGoesOver =
     (x n : ℕ) (s : State) → IsKeeping s → next_of s.trees x ≡ Some n → leaves (tree_of s.trees x) ≡ [] → KeepsOrder s (final (move_before x n) s)
+
+-- a node, to the end of the one after it, whose tree bears nothing
+abbrev pub NextTakesIn : Type 0
+NextTakesIn =
+    (n x : ℕ) (s : State) → IsKeeping s → next_of s.trees n ≡ Some x → leaves (tree_of s.trees x) ≡ [] → KeepsOrder s (final (move_last x n) s)
+
+-- a bare node, which is no br, from below another one to just after it, where its children stay behind; and the other one, to its
+-- end
+abbrev pub NodesChangePlaces : Type 0
+NodesChangePlaces =
+    (n c : ℕ) (s : State) → IsKeeping s → IsWithin s.trees n c → n ≢ c → IsBare s c → is_break s.trees c ≡ false
+    → KeepsOrder s (final (move_all_before (children_of s.trees c) c >> (remove c >> (insert_after n c >> move_last c n))) s)
 
 -- any nodes, to the end of one that is not in the document
 abbrev pub MovesOutAreLeftOut : Type 0

@@ -21,7 +21,7 @@ pub use laws::{
 pub use moves::{
     children_part, children_stay, first_children_go_before, first_children_go_over,
     last_children_go_after, moves_out_are_left_out, next_goes_over, next_siblings_go_in,
-    previous_siblings_go_in,
+    next_takes_in, nodes_change_places, previous_siblings_go_in,
 };
 pub use stateless::{
     split_texts_stateless, stateless_acts, stateless_answers, stateless_chooses, stateless_copies,

@@ -1,7 +1,7 @@
 //! The laws of order of loops of moves, each the contract of a function that does nothing. Of a loop all moves are made or
 //! none, and the order is kept either way.
 
-ghost use Rattle.edit_laws.specs.MoveLaws.{FirstChildrenGoBefore, LastChildrenGoAfter, FirstChildrenGoOver, NextSiblingsGoIn, PreviousSiblingsGoIn, NextGoesOver, MovesOutAreLeftOut, ChildrenPart, ChildrenStay};
+ghost use Rattle.edit_laws.specs.MoveLaws.{FirstChildrenGoBefore, LastChildrenGoAfter, FirstChildrenGoOver, NextSiblingsGoIn, PreviousSiblingsGoIn, NextGoesOver, NextTakesIn, NodesChangePlaces, MovesOutAreLeftOut, ChildrenPart, ChildrenStay};
 
 /// The first children of a bare node go to just before it.
 pub fn first_children_go_before()
@@ -31,6 +31,16 @@ pub fn previous_siblings_go_in()
 /// A node goes over the one before it, whose tree bears nothing.
 pub fn next_goes_over()
     ensures { NextGoesOver }
+{}
+
+/// A node goes to the end of the one after it, whose tree bears nothing.
+pub fn next_takes_in()
+    ensures { NextTakesIn }
+{}
+
+/// A bare node comes out from below another one, to just after it, and takes it in.
+pub fn nodes_change_places()
+    ensures { NodesChangePlaces }
 {}
 
 /// Any nodes go to the end of a node that is not in the document.
