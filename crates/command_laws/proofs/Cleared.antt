@@ -24,7 +24,7 @@ use Rattle.wrap_split.specs.Breaks.{last_below, back_step, back, break_before, b
 use Rattle.command_laws.proofs.Positions.{position, child_later, beside_earlier}
 
 -- what a step keeps, a walk keeps
-walk_keeps : (P : ℕ → Type 0) (step : ℕ → Option ℕ) → ((r m : ℕ) → P r → step r ≡ Some m → P m) → (n r : ℕ) → P r → P (walk step n r)
+pub walk_keeps : (P : ℕ → Type 0) (step : ℕ → Option ℕ) → ((r m : ℕ) → P r → step r ≡ Some m → P m) → (n r : ℕ) → P r → P (walk step n r)
 unfolding walk
 walk_keeps P step keeps zero r h = h
 walk_keeps P step keeps (suc n) r h = by_step (step r) refl (λ m k. walk_keeps P step keeps n m k)

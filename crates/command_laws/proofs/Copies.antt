@@ -21,12 +21,12 @@ use Rattle.edit_model.specs.Edit.{Insert, Unset, is_made_edit, trees_after, with
 use Rattle.edit_model.specs.Action as action
 use Rattle.edit_model.specs.Action.{made, acted}
 use Rattle.edit_model.specs.Compositions.{tag_of, attribute_list_of}
-use Rattle.edit_model.specs.Moves.{move_each_last, move_all_before, insert_before}
+use Rattle.edit_model.specs.Moves.{move_each_last, move_all_before}
 use Rattle.edit_model.specs.Run.{final, ◌>>◌}
 use Rattle.edit_model.proofs.CommandParts.{command_acted}
 use Rattle.edit_model.proofs.Giving.{edited-left}
 use Rattle.edit_model.proofs.IslandRuns.{trees_made, trees_left}
-use Rattle.edit_model.proofs.Steps.{final-bind, final-answer, final-look, final-edit, final-make_element, value-make_element}
+use Rattle.edit_model.proofs.Steps.{final-bind, final-look, final-edit, final-make_element, value-make_element}
 use Rattle.edit_model.proofs.Tests.{inserts}
 use Rattle.edit_model.proofs.Trees.{tree_of-revised_other}
 use Rattle.edit_laws.specs.Order.{KeepsOrder, IsKeeping}
@@ -35,6 +35,7 @@ use Rattle.edit_laws.proofs.Subsequences.{keeps_trans}
 use Rattle.edit_laws.proofs.QuietActions.{keeping_edited, quiet_keeps, bare_insert_keeps}
 use Rattle.edit_laws.proofs.Renaming.{made_trees, new_absent, new_tree, new_loose, new_other, keeping_made, keeps_made}
 use Rattle.edit_laws.proofs.NewElements.{new_bare}
+use Rattle.edit_laws.proofs.Adopting.{final_insert_before}
 use Rattle.edit_laws.proofs.Around.{self_one}
 use Rattle.edit_model.proofs.Documents.{document-revised}
 use Rattle.edit_laws.proofs.Slides.{parent_other}
@@ -127,10 +128,6 @@ alike_unset o name s = elim (cases_Bool (may_unset s o name)) [
         ap (borne_by o) (sym is) ∙ (unset_borne o name d ∙ h d e)
 
 -- ---- the copy
-
-pub final_insert_before : (o x q : ℕ) (s : State) → parent_of s.trees o ≡ Some q → final (insert_before o x) s ≡ edited (Insert q (Some o) x) s
-unfolding insert_before
-final_insert_before o x q s up = rw (final-look, up, final-bind, final-edit, final-answer) refl
 
 all_seven : {a b c d e f g : Bool} → a ≡ true → b ≡ true → c ≡ true → d ≡ true → e ≡ true → f ≡ true → g ≡ true → (a && (b && (c && (d && (e && (f && g)))))) ≡ true
 all_seven a b c d e f g = rw (a, b, c, d, e, f, g) refl

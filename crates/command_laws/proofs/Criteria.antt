@@ -1,12 +1,12 @@
 -- What meets a criterion that names neither img nor hr bears nothing itself.
-use Rattle.std.proofs.Common.{◌≡◌, ℕ, Bool, true, false, ◌&&◌, List, [], ◌∷◌, Option, refl, sym, ap, subst, ◌∙◌, inl, inr, true≢false}
+use Rattle.std.proofs.Common.{◌≡◌, ℕ, Bool, true, false, ◌&&◌, List, [], ◌∷◌, Option, Some, None, refl, sym, ap, subst, ◌∙◌, inl, inr, true≢false}
 use Rattle.std.specs.Option.{option_map_or, option_and_then}
 use Rattle.std.specs.Prelude.{codes, bytes_eq}
 use Rattle.std.proofs.lemmas.Bool.{cases_Bool}
 use Rattle.dom_model.specs.declared.Content.{Content}
 use Rattle.dom_model.specs.declared.Content.TheVariants.{Document, Element, Words, Remark}
 use Rattle.dom_model.specs.declared.attributes.Attribute.{Attribute}
-use Rattle.dom_model.specs.Contents.{name_in, has_name}
+use Rattle.dom_model.specs.Contents.{name_in, has_name, is_break}
 use Rattle.dom_model.specs.Forest.{content_of}
 use Rattle.css_value.proofs.Names.{same-name}
 use Rattle.node_styles.specs.NameClasses.{is_simple_indentation, is_simple_indentation_content, is_indentation_content}
@@ -52,7 +52,7 @@ thing_fails test img hr name list t = elim (cases_Bool (bytes_eq name (codes "im
 
 -- ---- what meets one
 
-named_bare : (s : State) (l : ℕ) (name : List ℕ) → is_thing name ≡ false → has_name s.trees l name ≡ true → IsBare s l
+pub named_bare : (s : State) (l : ℕ) (name : List ℕ) → is_thing name ≡ false → has_name s.trees l name ≡ true → IsBare s l
 unfolding borne_by
 named_bare s l name plain h Document e = refl
 named_bare s l name plain h (Element own list) e =
@@ -81,15 +81,39 @@ indentation_text : (chars : List ℕ) → is_simple_indentation_content (Words c
 unfolding is_simple_indentation_content is_indentation_content is_named
 indentation_text chars = refl
 
-first_part : (a b : Bool) → (a && b) ≡ true → a ≡ true
+modifiable_br : (list : List Attribute) → is_simple_modifiable_content (Element (codes "br") list) ≡ false
+unfolding is_simple_modifiable_content is_simple_with is_named
+modifiable_br [] = refl
+modifiable_br (a ∷ []) = refl
+modifiable_br (a ∷ b ∷ list) = refl
+
+pub modifiable_bare : (s : State) (l : ℕ) → is_simple_modifiable s.trees l ≡ true → IsBare s l
+unfolding is_simple_modifiable
+modifiable_bare s l h = tested_bare s l is_simple_modifiable_content (thing_fails is_simple_modifiable_content modifiable_img modifiable_hr) modifiable_text h
+
+-- nor is it a br
+pub modifiable_no_break : (s : State) (l : ℕ) → is_simple_modifiable s.trees l ≡ true → is_break s.trees l ≡ false
+unfolding is_simple_modifiable
+modifiable_no_break s l h = by_content (content_of s.trees l) h
+  where
+    by_content : (o : Option Content) → option_map_or is_simple_modifiable_content o false ≡ true → option_map_or (λ own. bytes_eq own (codes "br")) (option_and_then name_in o) false ≡ false
+    by_content None k = refl
+    by_content (Some Document) k = refl
+    by_content (Some (Element name list)) k = elim (cases_Bool (bytes_eq name (codes "br"))) [
+      | inr e ↦ e
+      | inl e ↦ absurd (true≢false (sym k ∙ subst (λ n. is_simple_modifiable_content (Element n list) ≡ false) (sym (same-name name (codes "br") e)) (modifiable_br list)))
+    ]
+    by_content (Some (Words chars)) k = refl
+    by_content (Some (Remark chars)) k = refl
+
+pub first_part : (a b : Bool) → (a && b) ≡ true → a ≡ true
 first_part true b h = refl
 first_part false b h = h
 
 pub meets_bare : (c : Criterion) (s : State) (l : ℕ) → NamesNoThing c → meets c s.trees l ≡ true → IsBare s l
-unfolding meets meets_value is_simple_modifiable is_simple_indentation is_aligned
+unfolding meets meets_value is_simple_indentation is_aligned
 meets_bare Never s l plain h = absurd (true≢false (sym h))
-meets_bare (SameValue command value) s l plain h =
-    tested_bare s l is_simple_modifiable_content (thing_fails is_simple_modifiable_content modifiable_img modifiable_hr) modifiable_text (first_part (option_map_or is_simple_modifiable_content (content_of s.trees l) false) _ (first_part _ _ h))
+meets_bare (SameValue command value) s l plain h = modifiable_bare s l (first_part (is_simple_modifiable s.trees l) _ (first_part _ _ h))
 meets_bare (Named name bare) s l plain h = named_bare s l name plain (first_part (has_name s.trees l name) _ h)
 meets_bare SimpleIndentation s l plain h = tested_bare s l is_simple_indentation_content (thing_fails is_simple_indentation_content indentation_img indentation_hr) indentation_text h
 meets_bare (Aligned alignment) s l plain h = named_bare s l (codes "div") refl (first_part (has_name s.trees l (codes "div")) _ h)

@@ -1,4 +1,3 @@
-pub mod UnlinkRuns
 pub mod Breaks
 pub mod SplitParts
 pub mod Positions
@@ -12,3 +11,19 @@ pub mod NewBreaks
 pub mod MovingIn
 pub mod Merging
 pub mod Wrapping
+pub mod StatelessMoves
+pub mod StatelessSplits
+pub mod StatelessWraps
+pub mod StylingRuns
+pub mod ClearingRuns
+pub mod ReorderRuns
+pub mod WrapperNames
+pub mod ForcingRuns
+pub mod PushingRuns
+pub mod SelectionRuns
+pub mod TogglingRuns
+pub mod LinkingRuns
+pub mod FormatRuns
+pub mod RestoringRuns
+pub mod HostLine
+pub mod AncestorRuns

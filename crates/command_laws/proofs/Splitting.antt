@@ -15,7 +15,7 @@ use Rattle.edit_model.specs.Kept.{borne_by, is_thing}
 use Rattle.edit_model.specs.Confined.{is_editable_for}
 use Rattle.edit_model.specs.Lawful.{IsLawful}
 use Rattle.edit_model.specs.Moves.{move_all_before, move_all_after}
-use Rattle.edit_model.specs.Run.{Run, final, ◌>>=◌, ◌>>◌, done, look, remove}
+use Rattle.edit_model.specs.Run.{Run, final, value, ◌>>=◌, ◌>>◌, done, look, remove}
 use Rattle.edit_model.proofs.Steps.{final-bind, final-answer, final-look}
 use Rattle.edit_laws.specs.Order.{KeepsOrder, IsKeeping}
 use Rattle.edit_laws.specs.MoveLaws.{IsBare}
@@ -37,6 +37,10 @@ use Rattle.command_laws.proofs.Copies.{copied_keeps}
 -- a run that is known at a state, and tame runs after it
 pub then_tame : {A B : Type 0} (m : Run A) (n : Run B) (s : State) → IsKeeping s → KeepsOrder s (final m s) → Tame n → KeepsOrder s (final (m >>= (λ _. n)) s)
 then_tame m n s is k t = rw final-bind (keeps_trans k (t.keeps (final m s) (keeping_final m s is)))
+
+-- and where they go on with its answer
+pub then_tame_on : {A B : Type 0} (m : Run A) (k : A → Run B) (s : State) → IsKeeping s → KeepsOrder s (final m s) → ((a : A) → Tame (k a)) → KeepsOrder s (final (m >>= k) s)
+then_tame_on m k s is keeps t = rw (final-bind m k s) (keeps_trans keeps ((t (value m s)).keeps (final m s) (keeping_final m s is)))
 
 -- ---- which members stand at the ends
 

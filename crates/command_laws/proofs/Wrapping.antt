@@ -23,6 +23,7 @@ use Rattle.edit_model.proofs.Steps.{final-bind, final-answer, final-look, final-
 use Rattle.edit_model.proofs.Tests.{inserts}
 use Rattle.edit_laws.specs.Order.{KeepsOrder, IsKeeping}
 use Rattle.edit_laws.specs.Tame.{Tame}
+use Rattle.edit_laws.proofs.Adopting.{final_insert_before}
 use Rattle.edit_laws.proofs.Around.{self_one, off_by}
 use Rattle.edit_laws.proofs.Fronts.{child_by}
 use Rattle.edit_laws.proofs.Loose.{IsLoose, none_there}
@@ -38,7 +39,6 @@ use Rattle.edit_actions.specs.Siblings.{first_parent, members}
 use Rattle.wrap_split.specs.Target.{meets, if_fits, beside, blank_of, made_of, made_by, target}
 use Rattle.wrap_split.specs.Wrap.{all_hidden, widened, moved_in, grow_at, stood, filled_from, filled, into_target, wrap_ends, wrap_list, wrap_members, wrap}
 use Rattle.command_laws.specs.WrapLaws.{NamesNoThing, MakesNoThing}
-use Rattle.command_laws.proofs.Copies.{final_insert_before}
 use Rattle.command_laws.proofs.Criteria.{meets_bare}
 use Rattle.command_laws.proofs.Merging.{tame_rest}
 use Rattle.command_laws.proofs.MovingIn.{into_previous, into_next, into_loose}

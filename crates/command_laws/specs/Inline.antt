@@ -1,10 +1,67 @@
--- The laws of the inline commands: of each, that its run keeps the order and leaves the states of contenteditable.
+-- The laws of the inline commands, and of what other commands take from them: of each, that its run keeps the order and leaves
+-- the states of contenteditable.
+use Rattle.std.specs.Prelude.{ℕ, List}
+use Rattle.html_names.specs.declared.commands.Command.{Command}
 use Rattle.edit_laws.specs.Stateless.{Stateless}
 use Rattle.edit_laws.specs.Tame.{Tame}
+use Rattle.inline_value.specs.declared.overrides.Override.{Override}
+use Rattle.inline_value.specs.Ancestors.{fix_ancestors}
+use Rattle.inline_commands.specs.Linking.{create_link}
+use Rattle.inline_commands.specs.RemovingFormat.{remove_format}
+use Rattle.inline_commands.specs.RestoringStates.{restore_states}
+use Rattle.inline_commands.specs.Toggling.{toggle_style, toggle_script}
 use Rattle.inline_commands.specs.Unlink.{unlink}
+use Rattle.inline_commands.specs.ValueCommands.{apply_value}
+
+-- bold, italic, underline and strikethrough
+abbrev pub StylesKeepOrder : Type 0
+StylesKeepOrder = (c : Command) → Tame (toggle_style c)
+
+abbrev pub StylesAreStateless : Type 0
+StylesAreStateless = (c : Command) → Stateless (toggle_style c)
+
+-- subscript and superscript
+abbrev pub ScriptsKeepOrder : Type 0
+ScriptsKeepOrder = (c : Command) → Tame (toggle_script c)
+
+abbrev pub ScriptsAreStateless : Type 0
+ScriptsAreStateless = (c : Command) → Stateless (toggle_script c)
+
+abbrev pub LinkingKeepsOrder : Type 0
+LinkingKeepsOrder = (v : List ℕ) → Tame (create_link v)
+
+abbrev pub LinkingIsStateless : Type 0
+LinkingIsStateless = (v : List ℕ) → Stateless (create_link v)
 
 abbrev pub UnlinkKeepsOrder : Type 0
 UnlinkKeepsOrder = Tame unlink
 
 abbrev pub UnlinkIsStateless : Type 0
 UnlinkIsStateless = Stateless unlink
+
+abbrev pub FormatGoesInOrder : Type 0
+FormatGoesInOrder = Tame remove_format
+
+abbrev pub FormatGoesStateless : Type 0
+FormatGoesStateless = Stateless remove_format
+
+-- fontName, fontSize, foreColor, backColor and hiliteColor
+abbrev pub ValuesKeepOrder : Type 0
+ValuesKeepOrder = (c : Command) (v : List ℕ) → Tame (apply_value c v)
+
+abbrev pub ValuesAreStateless : Type 0
+ValuesAreStateless = (c : Command) (v : List ℕ) → Stateless (apply_value c v)
+
+-- ---- for block commands and deletion
+
+abbrev pub AncestorsAreFixedInOrder : Type 0
+AncestorsAreFixedInOrder = (n : ℕ) → Tame (fix_ancestors n)
+
+abbrev pub AncestorsAreFixedStateless : Type 0
+AncestorsAreFixedStateless = (n : ℕ) → Stateless (fix_ancestors n)
+
+abbrev pub StatesComeBackInOrder : Type 0
+StatesComeBackInOrder = (list : List Override) → Tame (restore_states list)
+
+abbrev pub StatesComeBackStateless : Type 0
+StatesComeBackStateless = (list : List Override) → Stateless (restore_states list)

@@ -1,9 +1,10 @@
--- The laws of order of splitting the parent of a list.
+-- The laws of splitting the parent of a list.
 use Rattle.std.specs.Prelude.{◌≡◌, ℕ, List, [], ◌∷◌, ◌++◌}
 use Rattle.dom_model.specs.Forest.{children_of}
 use Rattle.edit_model.specs.State.{State}
 use Rattle.edit_model.specs.Run.{final}
 use Rattle.edit_laws.specs.Order.{KeepsOrder, IsKeeping}
+use Rattle.edit_laws.specs.Stateless.{Stateless}
 use Rattle.edit_laws.specs.Tame.{Tame}
 use Rattle.wrap_split.specs.Split.{split_parent, remove_keeping_children}
 
@@ -18,3 +19,7 @@ ParentOfOneSplits = (n : ℕ) → Tame (split_parent (n ∷ []))
 
 abbrev pub NodesGoAndChildrenStay : Type 0
 NodesGoAndChildrenStay = (n : ℕ) → Tame (remove_keeping_children n)
+
+-- splitting a parent leaves the states of contenteditable
+abbrev pub SplitsStateless : Type 0
+SplitsStateless = (list : List ℕ) → Stateless (split_parent list)

@@ -1,10 +1,13 @@
--- The laws of order of wrapping a list.
-use Rattle.std.specs.Prelude.{◌≡◌, ℕ, false, List, [], ◌∷◌, ◌++◌, Some}
+-- The laws of wrapping a list.
+use Rattle.std.specs.Prelude.{◌≡◌, ℕ, ◌||◌, false, List, [], ◌∷◌, ◌++◌, Some}
+use Rattle.dom_model.specs.declared.Content.TheVariants.{Element}
+use Rattle.dom_model.specs.Editing.{is_true_state, is_false_state}
 use Rattle.dom_model.specs.Forest.{children_of}
 use Rattle.edit_model.specs.State.{State}
 use Rattle.edit_model.specs.Kept.{is_thing}
 use Rattle.edit_model.specs.Run.{final}
 use Rattle.edit_laws.specs.Order.{KeepsOrder, IsKeeping}
+use Rattle.edit_laws.specs.Stateless.{Stateless}
 use Rattle.edit_laws.specs.Tame.{Tame}
 use Rattle.wrap_split.specs.declared.rule.Criterion.{Criterion}
 use Rattle.wrap_split.specs.declared.rule.Criterion.TheVariants.{Named}
@@ -23,6 +26,11 @@ abbrev pub MakesNoThing : Recipe → Type 0
 MakesNoThing Nothing = Unit {0}
 MakesNoThing (Make blank) = is_thing blank.name ≡ false
 
+-- what a recipe makes has no state of contenteditable
+abbrev pub MakesNoState : Recipe → Type 0
+MakesNoState Nothing = Unit {0}
+MakesNoState (Make blank) = (is_true_state (Element blank.name blank.attributes) || is_false_state (Element blank.name blank.attributes)) ≡ false
+
 -- of consecutive children of a node, in order
 abbrev pub ListsWrap : Type 0
 ListsWrap =
@@ -38,3 +46,7 @@ TakenWrap =
 -- of one node
 abbrev pub OneWraps : Type 0
 OneWraps = (c : Criterion) (r : Recipe) (n : ℕ) → NamesNoThing c → MakesNoThing r → Tame (wrap c r (n ∷ []))
+
+-- wrapping leaves the states of contenteditable
+abbrev pub WrapsStateless : Type 0
+WrapsStateless = (c : Criterion) (r : Recipe) (list : List ℕ) → MakesNoState r → Stateless (wrap c r list)

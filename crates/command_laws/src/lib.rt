@@ -6,7 +6,15 @@ mod line_breaks;
 mod splits;
 mod wraps;
 
-pub use inline::{unlink_is_stateless, unlink_keeps_order};
+pub use inline::{
+    apply_value_is_stateless, apply_value_keeps_order, create_link_is_stateless,
+    create_link_keeps_order, fix_ancestors_is_stateless, fix_ancestors_keeps_order,
+    remove_format_is_stateless, remove_format_keeps_order, restore_states_is_stateless,
+    restore_states_keeps_order, toggle_script_is_stateless, toggle_script_keeps_order,
+    toggle_style_is_stateless, toggle_style_keeps_order, unlink_is_stateless, unlink_keeps_order,
+};
 pub use line_breaks::{breaks_at_end_go, breaks_before_go, breaks_from_go};
-pub use splits::{nodes_go_and_children_stay, parent_of_one_splits, parents_split};
-pub use wraps::{lists_wrap, one_wraps, taken_wrap};
+pub use splits::{
+    nodes_go_and_children_stay, parent_of_one_splits, parents_split, splits_stateless,
+};
+pub use wraps::{lists_wrap, one_wraps, taken_wrap, wraps_stateless};

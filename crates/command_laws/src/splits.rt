@@ -1,6 +1,6 @@
-//! The laws of order of splitting the parent of a list, and of removing a node while its children stay.
+//! The laws of splitting the parent of a list, and of removing a node while its children stay.
 
-ghost use Rattle.command_laws.specs.SplitLaws.{ParentsSplit, ParentOfOneSplits, NodesGoAndChildrenStay};
+ghost use Rattle.command_laws.specs.SplitLaws.{ParentsSplit, ParentOfOneSplits, NodesGoAndChildrenStay, SplitsStateless};
 
 /// Splitting the parent of a list keeps the order, where the list has consecutive children of a node,
 pub fn parents_split()
@@ -15,4 +15,9 @@ pub fn parent_of_one_splits()
 /// Removing a node while its children stay keeps the order.
 pub fn nodes_go_and_children_stay()
     ensures { NodesGoAndChildrenStay }
+{}
+
+/// Splitting the parent of a list gives no node a state of contenteditable, and takes none away.
+pub fn splits_stateless()
+    ensures { SplitsStateless }
 {}

@@ -1,6 +1,6 @@
-//! The laws of order of wrapping a list.
+//! The laws of wrapping a list.
 
-ghost use Rattle.command_laws.specs.WrapLaws.{ListsWrap, TakenWrap, OneWraps};
+ghost use Rattle.command_laws.specs.WrapLaws.{ListsWrap, TakenWrap, OneWraps, WrapsStateless};
 
 /// Wrapping a list keeps the order, where the list has consecutive children of a node, and neither a name that a criterion
 /// wants nor that of a new element is img or hr,
@@ -16,4 +16,9 @@ pub fn taken_wrap()
 /// and where it has one node.
 pub fn one_wraps()
     ensures { OneWraps }
+{}
+
+/// Wrapping a list gives no node a state of contenteditable, and takes none away, where a new element has none.
+pub fn wraps_stateless()
+    ensures { WrapsStateless }
 {}

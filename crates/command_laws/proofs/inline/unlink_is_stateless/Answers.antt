@@ -1,4 +1,4 @@
-use Rattle.command_laws.proofs.UnlinkRuns.{stateless_unlink}
+use Rattle.command_laws.proofs.LinkingRuns.{stateless_unlink}
 use Rattle.command_laws.proofs.inline.unlink_is_stateless.Goals as goal
 
 pub returns : goal.returns

@@ -1,0 +1,226 @@
+-- Fixing disallowed ancestors keeps the order, and leaves the states of contenteditable.
+use Rattle.std.proofs.Common.{◌≡◌, ℕ, Bool, true, false, ◌&&◌, ◌||◌, not, if◌then◌else◌, List, [], ◌∷◌, Option, Some, None, refl, sym, ap, subst, ◌∙◌, true≢false}
+use Rattle.std.specs.Prelude.{codes, bytes_eq, find}
+use Rattle.std.specs.List.{AllByRecursion}
+use Rattle.std.specs.Option.{option_map_or, option_and_then}
+use Rattle.dom_model.specs.declared.Content.{Content}
+use Rattle.dom_model.specs.declared.Content.TheVariants.{Document, Element, Words, Remark}
+use Rattle.dom_model.specs.declared.attributes.Attribute.{Attribute}
+use Rattle.dom_model.specs.Contents.{name_in, name_of}
+use Rattle.dom_model.specs.Forest.{Forest, is_label, content_of}
+use Rattle.dom_model.proofs.Links.{eqb_refl_true}
+use Rattle.css_value.proofs.Names.{same-name}
+use Rattle.html_names.specs.AllowedChildren.{contents, listed_children, bound_names, is_kept_out, allowed_child}
+use Rattle.html_names.specs.ElementNames.{is_one_of, prohibited_child_names, heading_names, is_prohibited_child, is_heading}
+use Rattle.node_styles.specs.Allowed.{is_barred, name_allowed_in, allowed_in}
+use Rattle.edit_model.specs.State.{State}
+use Rattle.edit_model.specs.Compositions.{set_tag_name}
+use Rattle.edit_model.specs.Confined.{is_editable_for, is_inside}
+use Rattle.edit_model.specs.Kept.{borne_by, is_thing}
+use Rattle.edit_model.specs.Lawful.{IsLawful}
+use Rattle.edit_model.specs.Run.{final, done}
+use Rattle.edit_model.proofs.Steps.{final-look}
+use Rattle.edit_laws.specs.MoveLaws.{IsBare}
+use Rattle.edit_laws.specs.Order.{KeepsOrder, IsKeeping}
+use Rattle.edit_laws.specs.Stateless.{Stateless}
+use Rattle.edit_laws.specs.Tame.{Tame}
+use Rattle.edit_laws.proofs.Renaming.{tag_name_keeps}
+use Rattle.edit_laws.proofs.StatelessRuns.{stateless_parts, stateless_bind, stateless_answer}
+use Rattle.edit_laws.proofs.Tame.{tame, tame_answer, tame_bind}
+use Rattle.wrap_split.specs.declared.rule.Criterion.TheVariants.{Named}
+use Rattle.wrap_split.specs.declared.rule.Recipe.TheVariants.{Make}
+use Rattle.edit_query.specs.Rows.{container_name}
+use Rattle.inline_value.specs.Ancestors.{is_prohibited, has_place, lifted, lift, is_description, description_list, wrap_description, hosts_none, split_out, part_child, part_children, lift_renamed, rename, replace_misplaced, fix_ancestors}
+use Rattle.command_laws.proofs.FormatRuns.{tame_split_once, stateless_split_once}
+use Rattle.command_laws.proofs.HostLine.{host_among}
+use Rattle.command_laws.proofs.PushingRuns.{tame_record_values, tame_restore_values, stateless_record_values, stateless_restore_values}
+use Rattle.command_laws.proofs.Splitting.{then_tame_on, tame_split_one}
+use Rattle.command_laws.proofs.StatelessSplits.{stateless_split}
+use Rattle.command_laws.proofs.StatelessWraps.{stateless_wrap}
+use Rattle.command_laws.proofs.Wrapping.{tame_wrap_one}
+
+-- ---- where a paragraph may stand, a rule may
+
+find_all : {A : Type 0} (list : List A) (test : A → Bool) (P : A → Type 0) → AllByRecursion P list → (x : A) → find test list ≡ Some x → P x
+find_all [] test P all x e = absurd (let t = e in cc)
+find_all (y ∷ list) test P all x e = by_test (test y) e (find_all list test P all.1 x)
+  where
+    by_test : (v : Bool) → (if v then Some y else find test list) ≡ Some x → (find test list ≡ Some x → P x) → P x
+    by_test true k more = (let same : y ≡ x = (let t = k in cc) in subst P same all.0)
+    by_test false k more = more k
+
+-- no row lists a paragraph
+row_without : (parent : List ℕ) (row : List (List ℕ) × List (List ℕ)) → listed_children parent ≡ Some row → is_one_of row.1 (codes "p") ≡ false
+unfolding listed_children contents
+row_without parent row e = find_all contents (λ row. is_one_of row.0 parent) (λ row. is_one_of row.1 (codes "p") ≡ false) (refl, (refl, (refl, (refl, (refl, (refl, (refl, tt))))))) row e
+
+rule_allowed : (parent : List ℕ) → allowed_child (codes "p") parent ≡ true → allowed_child (codes "hr") parent ≡ true
+unfolding allowed_child is_kept_out bound_names is_prohibited_child prohibited_child_names is_heading heading_names
+rule_allowed parent h = by_row (listed_children parent) refl
+  where
+    by_row : (o : Option (List (List ℕ) × List (List ℕ))) → listed_children parent ≡ o → allowed_child (codes "hr") parent ≡ true
+    by_row None e = (let h' = rw e at h in rw e h')
+    by_row (Some row) e = absurd (let h' = rw e at h in true≢false (sym h' ∙ row_without parent row e))
+
+barred_same : (f : Forest Content) (parent : ℕ) → is_barred (codes "hr") f parent ≡ is_barred (codes "p") f parent
+unfolding is_barred is_prohibited_child prohibited_child_names is_heading heading_names
+barred_same f parent = refl
+
+rule_stands : (f : Forest Content) (parent : ℕ) → name_allowed_in (codes "p") f parent ≡ true → name_allowed_in (codes "hr") f parent ≡ true
+unfolding name_allowed_in
+rule_stands f parent h = by_name (name_of f parent) h
+  where
+    by_bar : (v w : Bool) (name : List ℕ) → v ≡ w → (not w && allowed_child (codes "p") name) ≡ true → (not v && allowed_child (codes "hr") name) ≡ true
+    by_bar true true name e k = k
+    by_bar true false name e k = absurd (true≢false e)
+    by_bar false true name e k = absurd (true≢false (sym e))
+    by_bar false false name e k = rule_allowed name k
+
+    by_name : (o : Option (List ℕ)) → option_map_or (λ name. not (is_barred (codes "p") f parent) && allowed_child (codes "p") name) o false ≡ true → option_map_or (λ name. not (is_barred (codes "hr") f parent) && allowed_child (codes "hr") name) o false ≡ true
+    by_name None k = k
+    by_name (Some name) k = by_bar (is_barred (codes "hr") f parent) (is_barred (codes "p") f parent) name (barred_same f parent) k
+
+-- ---- what is renamed bears nothing itself
+
+either_fails : (a b : Bool) → (a || b) ≡ false → (a ≡ false) × (b ≡ false)
+either_fails true b h = absurd (true≢false h)
+either_fails false b h = (refl, h)
+
+prohibited_img : is_prohibited_child (codes "img") ≡ false
+unfolding is_prohibited_child prohibited_child_names
+prohibited_img = refl
+
+module _ (s : State) (is : IsLawful s) (n : ℕ) (editable : is_editable_for s n ≡ true) (placeless : has_place s n ≡ false) (hosts : hosts_none s ≡ false) where
+  -- a rule has a place, since a paragraph may stand in the host
+  rule_placed : (attributes : List Attribute) → content_of s.trees n ≡ Some (Element (codes "hr") attributes) → has_place s n ≡ true
+  unfolding has_place is_inside hosts_none allowed_in
+  rule_placed attributes e = host_among s is n editable (λ a. is_inside s a && allowed_in s.trees n a) (λ h host. passes h host)
+    where
+      stands : (h : ℕ) → s.host ≡ Some h → name_allowed_in (codes "p") s.trees h ≡ true
+      stands h host = by_value (name_allowed_in (codes "p") s.trees h) (sym (ap (λ o. not (option_map_or (λ h. name_allowed_in (codes "p") s.trees h) o false)) host) ∙ hosts)
+        where
+          by_value : (v : Bool) → not v ≡ false → v ≡ true
+          by_value true k = refl
+          by_value false k = absurd (true≢false k)
+
+      inside : (h : ℕ) → s.host ≡ Some h → is_inside s h ≡ true
+      inside h host = ap (λ o. is_label o h || is_editable_for s h) host ∙ rw (eqb_refl_true h) refl
+
+      passes : (h : ℕ) → s.host ≡ Some h → (is_inside s h && allowed_in s.trees n h) ≡ true
+      passes h host = rw (inside h host, e) (rule_stands s.trees h (stands h host))
+
+  renamed_bare : is_prohibited s n ≡ true → IsBare s n
+  unfolding is_prohibited borne_by
+  renamed_bare h Document e = refl
+  renamed_bare h (Element name attributes) e = by_name (bytes_eq name (codes "img")) (bytes_eq name (codes "hr")) refl refl
+    where
+      own : is_prohibited_child name ≡ true
+      own = sym (ap (λ (o : Option Content). option_map_or is_prohibited_child (option_and_then name_in o) false) e) ∙ h
+
+      by_name : (v w : Bool) → bytes_eq name (codes "img") ≡ v → bytes_eq name (codes "hr") ≡ w → borne_by n (Element name attributes) ≡ []
+      by_name true w p q = absurd (true≢false (sym own ∙ (ap is_prohibited_child (same-name name (codes "img") p) ∙ prohibited_img)))
+      by_name false true p q = absurd (true≢false (sym (rule_placed attributes (e ∙ ap (λ k. Some (Element k attributes)) (same-name name (codes "hr") q))) ∙ placeless))
+      by_name false false p q = rw (p, q) refl
+  renamed_bare h (Words chars) e = absurd (true≢false (sym h ∙ ap (λ (o : Option Content). option_map_or is_prohibited_child (option_and_then name_in o) false) e))
+  renamed_bare h (Remark chars) e = refl
+
+-- ---- the order
+
+tame_lifted : (n : ℕ) → Tame (lifted n)
+unfolding lifted
+tame_lifted n = search (tame, tame_split_once)
+
+tame_lift : (n : ℕ) → Tame (lift n)
+unfolding lift
+tame_lift n = search (tame, tame_record_values, tame_lifted, tame_restore_values)
+
+tame_description : (n : ℕ) → Tame (wrap_description n)
+unfolding wrap_description
+tame_description n = tame_bind _ (λ _. done) (tame_wrap_one (Named (codes "dl") true) (Make description_list) n refl refl) (λ _. tame_answer tt)
+
+tame_split_out : (k : ℕ) → Tame (split_out k)
+unfolding split_out
+tame_split_out k = search (tame, tame_record_values, tame_split_one, tame_restore_values)
+
+tame_part_child : (k : ℕ) → Tame (part_child k)
+unfolding part_child
+tame_part_child k = search (tame, tame_split_out)
+
+tame_part_children : (n : ℕ) → Tame (part_children n)
+unfolding part_children
+tame_part_children n = search (tame, tame_part_child)
+
+tame_lift_renamed : (n : ℕ) → Tame (lift_renamed n)
+unfolding lift_renamed
+tame_lift_renamed n = search (tame, tame_lift, tame_part_children)
+
+container_plain : (v : Bool) → is_thing (container_name v) ≡ false
+container_plain true = refl
+container_plain false = refl
+
+rename_keeps : (n : ℕ) (s : State) → IsKeeping s → IsBare s n → KeepsOrder s (final (rename n) s)
+unfolding rename
+rename_keeps n s is bare =
+    rw final-look
+    (then_tame_on (set_tag_name n (container_name s.flags.paragraphs)) lift_renamed s is (tag_name_keeps n (container_name s.flags.paragraphs) s is bare (container_plain s.flags.paragraphs)) tame_lift_renamed)
+
+replace_keeps : (n : ℕ) (s : State) → IsKeeping s → is_editable_for s n ≡ true → has_place s n ≡ false → KeepsOrder s (final (replace_misplaced n) s)
+unfolding replace_misplaced
+replace_keeps n s is editable placeless = rw final-look (by_test (is_description s n) (hosts_none s) (is_prohibited s n) refl refl)
+  where
+    by_test : (u v w : Bool) → hosts_none s ≡ v → is_prohibited s n ≡ w → KeepsOrder s (final (if u then wrap_description n else (if v || not w then done else rename n)) s)
+    by_test true v w e k = (tame_description n).keeps s is
+    by_test false true w e k = (tame_answer tt).keeps s is
+    by_test false false false e k = (tame_answer tt).keeps s is
+    by_test false false true e k = rename_keeps n s is (renamed_bare s is.lawful n editable placeless e k)
+
+pub tame_fix_ancestors : (n : ℕ) → Tame (fix_ancestors n)
+unfolding fix_ancestors
+tame_fix_ancestors n = record { keeps = λ s is. rw final-look (by_test s is (is_editable_for s n) (has_place s n) refl refl) }
+  where
+    by_test : (s : State) → IsKeeping s → (v w : Bool) → is_editable_for s n ≡ v → has_place s n ≡ w → KeepsOrder s (final (if not v then done else (if w then lift n else replace_misplaced n)) s)
+    by_test s is false w e k = (tame_answer tt).keeps s is
+    by_test s is true true e k = (tame_lift n).keeps s is
+    by_test s is true false e k = replace_keeps n s is e k
+
+-- ---- the states of contenteditable
+
+stateless_lifted : (n : ℕ) → Stateless (lifted n)
+unfolding lifted
+stateless_lifted n = search (stateless_parts, stateless_split_once)
+
+stateless_lift : (n : ℕ) → Stateless (lift n)
+unfolding lift
+stateless_lift n = search (stateless_parts, stateless_record_values, stateless_lifted, stateless_restore_values)
+
+stateless_description : (n : ℕ) → Stateless (wrap_description n)
+unfolding wrap_description
+stateless_description n = stateless_bind _ (λ _. done) (stateless_wrap (Named (codes "dl") true) (Make description_list) refl (n ∷ [])) (λ _. stateless_answer tt)
+
+stateless_split_out : (k : ℕ) → Stateless (split_out k)
+unfolding split_out
+stateless_split_out k = search (stateless_parts, stateless_record_values, stateless_split, stateless_restore_values)
+
+stateless_part_child : (k : ℕ) → Stateless (part_child k)
+unfolding part_child
+stateless_part_child k = search (stateless_parts, stateless_split_out)
+
+stateless_part_children : (n : ℕ) → Stateless (part_children n)
+unfolding part_children
+stateless_part_children n = search (stateless_parts, stateless_part_child)
+
+stateless_lift_renamed : (n : ℕ) → Stateless (lift_renamed n)
+unfolding lift_renamed
+stateless_lift_renamed n = search (stateless_parts, stateless_lift, stateless_part_children)
+
+stateless_rename : (n : ℕ) → Stateless (rename n)
+unfolding rename
+stateless_rename n = search (stateless_parts, stateless_lift_renamed)
+
+stateless_replace : (n : ℕ) → Stateless (replace_misplaced n)
+unfolding replace_misplaced
+stateless_replace n = search (stateless_parts, stateless_description, stateless_rename)
+
+pub stateless_fix_ancestors : (n : ℕ) → Stateless (fix_ancestors n)
+unfolding fix_ancestors
+stateless_fix_ancestors n = search (stateless_parts, stateless_lift, stateless_replace)

@@ -1,0 +1,195 @@
+-- Clearing the value of an element keeps the order, and leaves the states of contenteditable.
+use Rattle.std.proofs.Common.{◌≡◌, ℕ, Bool, true, false, if◌then◌else◌, ◌||◌, not, List, [], ◌∷◌, Option, refl, sym, ap, ◌∙◌, true≢false}
+use Rattle.std.specs.Prelude.{codes, bytes_eq, is_none}
+use Rattle.std.specs.Option.{option_map_or, option_and_then}
+use Rattle.dom_model.specs.declared.Content.{Content}
+use Rattle.dom_model.specs.declared.Content.TheVariants.{Document, Element, Words, Remark}
+use Rattle.dom_model.specs.Contents.{name_in}
+use Rattle.dom_model.specs.Forest.{children_of}
+use Rattle.css_value.specs.declared.decoration.DecorationLine.{DecorationLine}
+use Rattle.html_names.specs.declared.commands.Command.{Command}
+use Rattle.command_value.specs.Subjects.{subject}
+use Rattle.command_value.specs.declared.subject.Subject.{Subject}
+use Rattle.command_value.specs.declared.subject.Subject.TheVariants.{Link, Background, Script, Line, Weight, Slant, Family, Size, Foreground, Nothing}
+use Rattle.command_value.specs.Modifiable.{is_simple_modifiable}
+use Rattle.command_value.specs.SpecifiedValues.{specified_in, specified}
+use Rattle.edit_model.specs.State.{State}
+use Rattle.edit_model.specs.Confined.{is_editable_for}
+use Rattle.edit_model.specs.Compositions.{set_tag_name}
+use Rattle.edit_model.specs.Edit.{Unset}
+use Rattle.edit_model.specs.Kept.{borne_by, is_thing}
+use Rattle.edit_model.specs.Moves.{unwrap}
+use Rattle.edit_model.specs.Run.{final, ◌>>=◌, answer, done, given, unset_attribute}
+use Rattle.edit_model.proofs.Steps.{final-look}
+use Rattle.edit_laws.specs.MoveLaws.{IsBare}
+use Rattle.edit_laws.specs.Order.{KeepsOrder, IsKeeping}
+use Rattle.edit_laws.specs.Stateless.{Stateless}
+use Rattle.edit_laws.specs.Tame.{Tame}
+use Rattle.edit_laws.proofs.Renaming.{tag_name_keeps}
+use Rattle.edit_laws.proofs.StatelessRuns.{stateless_parts, stateless_bind, stateless_answer, stateless_edit, stateless_if, stateless_look_at}
+use Rattle.edit_laws.proofs.Tame.{tame, tame_answer}
+use Rattle.edit_laws.proofs.Unwrapping.{unwrap_keeps, stateless_unwrap}
+use Rattle.wrap_split.specs.Split.{is_void_thing}
+use Rattle.inline_value.specs.Clearing.{write_words, drop_line, drop_word, drop_property, hint_of, drop_attribute, drop_hint, drop_link, span_for, stripped, unwrapped, clear_value}
+use Rattle.command_laws.proofs.Criteria.{modifiable_bare}
+use Rattle.command_laws.proofs.Splitting.{then_tame, then_tame_on}
+use Rattle.command_laws.proofs.StylingRuns.{tame_set_style, tame_unset_style, stateless_set_style, stateless_unset_style}
+
+-- ---- the order
+
+tame_words : (e : ℕ) (text : List ℕ) → Tame (write_words e text)
+unfolding write_words
+tame_words e text = search (tame, tame_set_style, tame_unset_style)
+
+tame_line : (line : DecorationLine) (e : ℕ) → Tame (drop_line line e)
+unfolding drop_line
+tame_line line e = search (tame, tame_words)
+
+tame_word : (u : Subject) (e : ℕ) → Tame (drop_word u e)
+tame_word Link e = tame_answer tt
+tame_word Background e = tame_answer tt
+tame_word Script e = tame_answer tt
+tame_word (Line line) e = tame_line line e
+tame_word Weight e = tame_answer tt
+tame_word Slant e = tame_answer tt
+tame_word Family e = tame_answer tt
+tame_word Size e = tame_answer tt
+tame_word Foreground e = tame_answer tt
+tame_word Nothing e = tame_answer tt
+
+tame_property : (command : Command) (e : ℕ) → Tame (drop_property command e)
+unfolding drop_property
+tame_property command e = search (tame, tame_unset_style)
+
+tame_attribute : (name attribute : List ℕ) (e : ℕ) → Tame (drop_attribute name attribute e)
+unfolding drop_attribute
+tame_attribute name attribute e = search tame
+
+tame_hint : (command : Command) (e : ℕ) → Tame (drop_hint command e)
+unfolding drop_hint
+tame_hint command e = search (tame, tame_attribute)
+
+tame_link : (u : Subject) (e : ℕ) → Tame (drop_link u e)
+tame_link Link e = tame_attribute (codes "a") (codes "href") e
+tame_link Background e = tame_answer tt
+tame_link Script e = tame_answer tt
+tame_link (Line line) e = tame_answer tt
+tame_link Weight e = tame_answer tt
+tame_link Slant e = tame_answer tt
+tame_link Family e = tame_answer tt
+tame_link Size e = tame_answer tt
+tame_link Foreground e = tame_answer tt
+tame_link Nothing e = tame_answer tt
+
+-- an element that gives a value, and is no image and no rule, bears nothing itself
+specified_bare : (s : State) (e : ℕ) (command : Command) → is_none (specified s.trees e command) ≡ false → is_void_thing s e ≡ false → IsBare s e
+unfolding specified specified_in borne_by
+specified_bare s e command some plain Document h = refl
+specified_bare s e command some plain (Element name attributes) h =
+    let t : is_thing name ≡ false = sym (ap (λ (o : Option Content). option_map_or is_thing (option_and_then name_in o) false) h) ∙ plain in
+    rw t refl
+specified_bare s e command some plain (Words chars) h = absurd (true≢false (sym (ap (λ (o : Option Content). is_none (option_and_then (λ c. specified_in c command) o)) h) ∙ some))
+specified_bare s e command some plain (Remark chars) h = refl
+
+tame_span : (command : Command) (e : ℕ) → Tame (span_for command e)
+unfolding span_for
+tame_span command e = record { keeps = λ s is. rw final-look (by_test s is (is_none (specified s.trees e command)) (is_void_thing s e) refl refl) }
+  where
+    by_test : (s : State) → IsKeeping s → (v w : Bool) → is_none (specified s.trees e command) ≡ v → is_void_thing s e ≡ w
+        → KeepsOrder s (final (if v || w then answer [] else (set_tag_name e (codes "span") >>= (λ x. answer (x ∷ [])))) s)
+    by_test s is true w h k = (tame_answer []).keeps s is
+    by_test s is false true h k = (tame_answer []).keeps s is
+    by_test s is false false h k =
+        then_tame_on (set_tag_name e (codes "span")) (λ x. answer (x ∷ [])) s is (tag_name_keeps e (codes "span") s is (specified_bare s e command h k) refl) (λ x. tame_answer (x ∷ []))
+
+tame_stripped : (command : Command) (e : ℕ) → Tame (stripped command e)
+unfolding stripped
+tame_stripped command e = search (tame, tame_word, tame_property, tame_hint, tame_link, tame_span)
+
+unwrapped_keeps : (e : ℕ) (s : State) → IsKeeping s → IsBare s e → KeepsOrder s (final (unwrapped e) s)
+unfolding unwrapped
+unwrapped_keeps e s is bare = rw final-look (then_tame (unwrap e) (answer (children_of s.trees e)) s is (unwrap_keeps e s is bare) (tame_answer (children_of s.trees e)))
+
+pub tame_clear_value : (command : Command) (e : ℕ) → Tame (clear_value command e)
+unfolding clear_value
+tame_clear_value command e = record { keeps = λ s is. rw final-look (by_test s is (not (is_editable_for s e) || is_none (specified s.trees e command)) (is_simple_modifiable s.trees e) refl) }
+  where
+    by_test : (s : State) → IsKeeping s → (v w : Bool) → is_simple_modifiable s.trees e ≡ w → KeepsOrder s (final (if v then answer [] else (if w then unwrapped e else stripped command e)) s)
+    by_test s is true w h = (tame_answer []).keeps s is
+    by_test s is false true h = unwrapped_keeps e s is (modifiable_bare s e h)
+    by_test s is false false h = (tame_stripped command e).keeps s is
+
+-- ---- the states of contenteditable
+
+stateless_words : (e : ℕ) (text : List ℕ) → Stateless (write_words e text)
+unfolding write_words
+stateless_words e text = search (stateless_parts, stateless_set_style, stateless_unset_style)
+
+stateless_line : (line : DecorationLine) (e : ℕ) → Stateless (drop_line line e)
+unfolding drop_line
+stateless_line line e = search (stateless_parts, stateless_words)
+
+stateless_word : (u : Subject) (e : ℕ) → Stateless (drop_word u e)
+stateless_word Link e = stateless_answer tt
+stateless_word Background e = stateless_answer tt
+stateless_word Script e = stateless_answer tt
+stateless_word (Line line) e = stateless_line line e
+stateless_word Weight e = stateless_answer tt
+stateless_word Slant e = stateless_answer tt
+stateless_word Family e = stateless_answer tt
+stateless_word Size e = stateless_answer tt
+stateless_word Foreground e = stateless_answer tt
+stateless_word Nothing e = stateless_answer tt
+
+stateless_property : (command : Command) (e : ℕ) → Stateless (drop_property command e)
+unfolding drop_property
+stateless_property command e = search (stateless_parts, stateless_unset_style)
+
+stateless_attribute : (name attribute : List ℕ) (e : ℕ) → bytes_eq attribute (codes "contenteditable") ≡ false → Stateless (drop_attribute name attribute e)
+unfolding drop_attribute
+stateless_attribute name attribute e plain =
+    stateless_look_at _ (λ s. stateless_if _ _ _ (stateless_bind (unset_attribute e attribute) (λ _. done) (stateless_edit (Unset e attribute) plain) (λ _. stateless_answer tt)) (stateless_answer tt))
+
+stateless_hinted : (u : Subject) (e : ℕ) → Stateless (given (hint_of u) done (λ hint. drop_attribute (codes "font") hint e))
+stateless_hinted Link e = stateless_answer tt
+stateless_hinted Background e = stateless_answer tt
+stateless_hinted Script e = stateless_answer tt
+stateless_hinted (Line line) e = stateless_answer tt
+stateless_hinted Weight e = stateless_answer tt
+stateless_hinted Slant e = stateless_answer tt
+stateless_hinted Family e = stateless_attribute (codes "font") (codes "face") e refl
+stateless_hinted Size e = stateless_attribute (codes "font") (codes "size") e refl
+stateless_hinted Foreground e = stateless_attribute (codes "font") (codes "color") e refl
+stateless_hinted Nothing e = stateless_answer tt
+
+stateless_hint : (command : Command) (e : ℕ) → Stateless (drop_hint command e)
+unfolding drop_hint
+stateless_hint command e = stateless_hinted (subject command) e
+
+stateless_link : (u : Subject) (e : ℕ) → Stateless (drop_link u e)
+stateless_link Link e = stateless_attribute (codes "a") (codes "href") e refl
+stateless_link Background e = stateless_answer tt
+stateless_link Script e = stateless_answer tt
+stateless_link (Line line) e = stateless_answer tt
+stateless_link Weight e = stateless_answer tt
+stateless_link Slant e = stateless_answer tt
+stateless_link Family e = stateless_answer tt
+stateless_link Size e = stateless_answer tt
+stateless_link Foreground e = stateless_answer tt
+stateless_link Nothing e = stateless_answer tt
+
+stateless_span : (command : Command) (e : ℕ) → Stateless (span_for command e)
+unfolding span_for
+stateless_span command e = search stateless_parts
+
+stateless_stripped : (command : Command) (e : ℕ) → Stateless (stripped command e)
+unfolding stripped
+stateless_stripped command e = search (stateless_parts, stateless_word, stateless_property, stateless_hint, stateless_link, stateless_span)
+
+stateless_unwrapped : (e : ℕ) → Stateless (unwrapped e)
+unfolding unwrapped
+stateless_unwrapped e = search (stateless_parts, stateless_unwrap)
+
+pub stateless_clear_value : (command : Command) (e : ℕ) → Stateless (clear_value command e)
+unfolding clear_value
+stateless_clear_value command e = search (stateless_parts, stateless_unwrapped, stateless_stripped)

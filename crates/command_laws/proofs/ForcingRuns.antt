@@ -1,0 +1,307 @@
+-- Forcing a value keeps the order, and leaves the states of contenteditable.
+use Rattle.std.proofs.Common.{◌≡◌, ℕ, zero, suc, Bool, true, false, ◌&&◌, if◌then◌else◌, List, [], ◌∷◌, Option, refl}
+use Rattle.std.specs.Prelude.{codes}
+use Rattle.dom_model.specs.declared.Content.TheVariants.{Element}
+use Rattle.dom_model.specs.declared.attributes.Attribute.{Attribute}
+use Rattle.dom_model.specs.Contents.{has_name}
+use Rattle.html_names.specs.declared.commands.Command.{Command}
+use Rattle.command_value.specs.Subjects.{subject}
+use Rattle.command_value.specs.declared.subject.Subject.{Subject}
+use Rattle.command_value.specs.declared.subject.Subject.TheVariants.{Link, Background, Script, Line, Weight, Slant, Family, Size, Foreground, Nothing}
+use Rattle.edit_model.specs.State.{State}
+use Rattle.edit_model.specs.Action.{made}
+use Rattle.edit_model.specs.Compositions.{set_tag_name}
+use Rattle.edit_model.specs.Confined.{is_editable_for}
+use Rattle.edit_model.specs.Kept.{is_thing}
+use Rattle.edit_model.specs.Moves.{insert_before, move_before, move_last}
+use Rattle.edit_model.specs.Run.{Run, final, ◌>>=◌, ◌>>◌, answer, done, remove}
+use Rattle.edit_model.proofs.Steps.{final-bind, final-look, final-make_element, value-bind, value-look, value-make_element}
+use Rattle.edit_laws.specs.Order.{KeepsOrder, IsKeeping}
+use Rattle.edit_laws.specs.Stateless.{Stateless}
+use Rattle.edit_laws.specs.Tame.{Tame}
+use Rattle.edit_laws.proofs.Nesting.{Held, put_near, near_shaped, goes_in, goes_out}
+use Rattle.edit_laws.proofs.QuietActions.{keeping_final}
+use Rattle.edit_laws.proofs.Renaming.{tag_name_keeps, keeping_made}
+use Rattle.edit_laws.proofs.StatelessRuns.{stateless_parts, stateless_answer, stateless_bind, stateless_each, stateless_if, stateless_look_at, stateless_make_element}
+use Rattle.edit_laws.proofs.Subsequences.{keeps_trans}
+use Rattle.edit_laws.proofs.Tame.{tame, tame_answer, tame_bind, tame_each, tame_if, tame_look, tame_remove}
+use Rattle.wrap_split.specs.declared.rule.Criterion.TheVariants.{SameValue}
+use Rattle.wrap_split.specs.declared.rule.Recipe.TheVariants.{Nothing as NoNode}
+use Rattle.wrap_split.specs.Wrap.{wrap}
+use Rattle.inline_value.specs.Forcing.{lacks, reorder_prev, reorder_next, joined, rename_link, rename_links, clear_way, make_wrapper, style_by, style_wrapper, taken_back, settled, put_in, wrapped, unless_alike, force_node, force_self, heirs, force_child, force_heirs, forced, force_value, force}
+use Rattle.inline_value.specs.Wrappers.{wrapper_for}
+use Rattle.command_laws.proofs.Criteria.{named_bare}
+use Rattle.command_laws.proofs.ReorderRuns.{tame_reorder, stateless_reorder}
+use Rattle.command_laws.proofs.Splitting.{then_tame}
+use Rattle.command_laws.proofs.StatelessMoves.{stateless_moves}
+use Rattle.command_laws.proofs.StatelessWraps.{stateless_wrap_found}
+use Rattle.command_laws.proofs.StylingRuns.{Shaping, shaping, shaping_set_style, tame_set_style, stateless_set_style}
+use Rattle.command_laws.proofs.WrapperNames.{plain_wrapper}
+use Rattle.command_laws.proofs.Wrapping.{tame_wrap_one}
+
+-- ---- siblings that give the value take the node in
+
+tame_reorder_prev : (command : Command) (v : List ℕ) (n : ℕ) → Tame (reorder_prev command v n)
+unfolding reorder_prev
+tame_reorder_prev command v n = search (tame, tame_reorder)
+
+tame_reorder_next : (command : Command) (v : List ℕ) (n : ℕ) → Tame (reorder_next command v n)
+unfolding reorder_next
+tame_reorder_next command v n = search (tame, tame_reorder)
+
+tame_joining : (command : Command) (v : List ℕ) (n : ℕ) → Tame (wrap (SameValue command v) NoNode (n ∷ []))
+tame_joining command v n = tame_wrap_one (SameValue command v) NoNode n tt tt
+
+tame_joined : (command : Command) (v : List ℕ) (n : ℕ) → Tame (joined command v n)
+unfolding joined
+tame_joined command v n = search (tame, tame_reorder_prev, tame_reorder_next, tame_joining)
+
+-- ---- links around the node
+
+renamed_keeps : (e : ℕ) (s : State) → IsKeeping s → (v w : Bool) → has_name s.trees e (codes "a") ≡ w → KeepsOrder s (final (if v && w then (set_tag_name e (codes "span") >> done) else done) s)
+renamed_keeps e s is true true h = then_tame (set_tag_name e (codes "span")) done s is (tag_name_keeps e (codes "span") s is (named_bare s e (codes "a") refl h) refl) (tame_answer tt)
+renamed_keeps e s is true false h = (tame_answer tt).keeps s is
+renamed_keeps e s is false w h = (tame_answer tt).keeps s is
+
+tame_rename_link : (e : ℕ) → Tame (rename_link e)
+unfolding rename_link
+tame_rename_link e = record { keeps = λ s is. rw final-look (renamed_keeps e s is (is_editable_for s e) (has_name s.trees e (codes "a")) refl) }
+
+tame_rename_links : (n : ℕ) → Tame (rename_links n)
+unfolding rename_links
+tame_rename_links n = search (tame, tame_rename_link)
+
+tame_clear_way : (u : Subject) (n : ℕ) → Tame (clear_way u n)
+tame_clear_way Link n = tame_rename_links n
+tame_clear_way Background n = tame_answer tt
+tame_clear_way Script n = tame_answer tt
+tame_clear_way (Line line) n = tame_answer tt
+tame_clear_way Weight n = tame_answer tt
+tame_clear_way Slant n = tame_answer tt
+tame_clear_way Family n = tame_answer tt
+tame_clear_way Size n = tame_answer tt
+tame_clear_way Foreground n = tame_answer tt
+tame_clear_way Nothing n = tame_answer tt
+
+-- ---- the style of what is made
+
+tame_style_by : (u : Subject) (command : Command) (v : List ℕ) (p : ℕ) → Tame (style_by u command v p)
+tame_style_by Link command v p = search (tame, tame_set_style)
+tame_style_by Background command v p = search (tame, tame_set_style)
+tame_style_by Script command v p = search (tame, tame_set_style)
+tame_style_by (Line line) command v p = tame_set_style p (codes "text-decoration") v
+tame_style_by Weight command v p = search (tame, tame_set_style)
+tame_style_by Slant command v p = search (tame, tame_set_style)
+tame_style_by Family command v p = search (tame, tame_set_style)
+tame_style_by Size command v p = search (tame, tame_set_style)
+tame_style_by Foreground command v p = search (tame, tame_set_style)
+tame_style_by Nothing command v p = search (tame, tame_set_style)
+
+tame_style_wrapper : (command : Command) (v : List ℕ) (p : ℕ) → Tame (style_wrapper command v p)
+unfolding style_wrapper
+tame_style_wrapper command v p = search (tame, tame_style_by)
+
+shaping_style_by : (u : Subject) (command : Command) (v : List ℕ) (p : ℕ) → Shaping (style_by u command v p)
+shaping_style_by Link command v p = search (shaping, shaping_set_style)
+shaping_style_by Background command v p = search (shaping, shaping_set_style)
+shaping_style_by Script command v p = search (shaping, shaping_set_style)
+shaping_style_by (Line line) command v p = shaping_set_style p (codes "text-decoration") v
+shaping_style_by Weight command v p = search (shaping, shaping_set_style)
+shaping_style_by Slant command v p = search (shaping, shaping_set_style)
+shaping_style_by Family command v p = search (shaping, shaping_set_style)
+shaping_style_by Size command v p = search (shaping, shaping_set_style)
+shaping_style_by Foreground command v p = search (shaping, shaping_set_style)
+shaping_style_by Nothing command v p = search (shaping, shaping_set_style)
+
+shaping_style_wrapper : (command : Command) (v : List ℕ) (p : ℕ) → Shaping (style_wrapper command v p)
+unfolding style_wrapper
+shaping_style_wrapper command v p = search (shaping, shaping_style_by)
+
+-- ---- the node goes in, and comes out again where it hasn't taken the value
+
+settled_keeps : (command : Command) (v : List ℕ) (n p : ℕ) (s : State) → IsKeeping s → Held s p n → KeepsOrder s (final (settled command v n p) s)
+unfolding settled taken_back
+settled_keeps command v n p s is held = rw final-look (by_test (lacks s n command v))
+  where
+    rest : Tame (remove p >>= (λ _. answer true))
+    rest = tame_bind (remove p) (λ _. answer true) (tame_remove p) (λ _. tame_answer true)
+
+    by_test : (w : Bool) → KeepsOrder s (final (if w then taken_back n p else answer false) s)
+    by_test true = then_tame (move_before p n) (remove p >>= (λ _. answer true)) s is (goes_out s is p n held) rest
+    by_test false = (tame_answer false).keeps s is
+
+put_in_keeps : (command : Command) (v : List ℕ) (n : ℕ) (s : State) → IsKeeping s → (name : List ℕ) (attributes : List Attribute) → is_thing name ≡ false
+    → KeepsOrder s (final (put_in command v n s.next) (made (Element name attributes) s))
+unfolding put_in
+put_in_keeps command v n s is name attributes plain =
+    let p = s.next in
+    let s1 : State = made (Element name attributes) s in
+    let s2 : State = final (insert_before n p) s1 in
+    let s3 : State = final (style_wrapper command v p) s2 in
+    let s4 : State = final (move_last p n) s3 in
+    let is2 : IsKeeping s2 = keeping_final (insert_before n p) s1 (keeping_made name attributes s is) in
+    let is3 : IsKeeping s3 = keeping_final (style_wrapper command v p) s2 is2 in
+    let put = put_near s is name attributes plain n in
+    let into = goes_in s3 is3 p n (near_shaped s2 s3 p n ((shaping_style_wrapper command v p).shapes s2 is2.lawful) put.1) in
+    rw (final-bind, final-bind, final-bind)
+    (keeps_trans put.0
+    (keeps_trans ((tame_style_wrapper command v p).keeps s2 is2)
+    (keeps_trans into.0 (settled_keeps command v n p s4 (keeping_final (move_last p n) s3 is3) into.1))))
+
+tame_wrapped : (command : Command) (v : List ℕ) (n : ℕ) → Tame (wrapped command v n)
+unfolding wrapped make_wrapper
+tame_wrapped command v n = record {
+  keeps = λ s is. (
+      let way : Run (Unit {0}) = clear_way (subject command) n in
+      let t : State = final way s in
+      let w = wrapper_for t.flags.css_styling command v in
+      rw (final-bind, final-bind, final-look, final-make_element, value-bind, value-look, value-make_element)
+      (keeps_trans ((tame_clear_way (subject command) n).keeps s is)
+      (put_in_keeps command v n t (keeping_final way s is) w.name w.attributes (plain_wrapper t.flags.css_styling command v).named)));
+}
+
+-- ---- the whole
+
+tame_unless : (command : Command) (v : List ℕ) (n : ℕ) → Tame (unless_alike command v n)
+unfolding unless_alike
+tame_unless command v n = search (tame, tame_wrapped)
+
+tame_node : (command : Command) (v : List ℕ) (n : ℕ) → Tame (force_node command v n)
+unfolding force_node
+tame_node command v n = search (tame, tame_joined, tame_unless)
+
+tame_self : (command : Command) (v : List ℕ) (n : ℕ) → Tame (force_self command v n)
+unfolding force_self
+tame_self command v n = search (tame, tame_node)
+
+tame_child : (again : ℕ → Run (Unit {0})) → ((k : ℕ) → Tame (again k)) → (command : Command) (v : List ℕ) (k : ℕ) → Tame (force_child again command v k)
+unfolding force_child
+tame_child again t command v k = tame_look _ (λ s. tame_if _ done (again k) (tame_answer tt) (t k))
+
+tame_heirs : (again : ℕ → Run (Unit {0})) → ((k : ℕ) → Tame (again k)) → (command : Command) (v : List ℕ) (n : ℕ) (wanted : Bool) → Tame (force_heirs again command v n wanted)
+unfolding force_heirs
+tame_heirs again t command v n wanted =
+    tame_if wanted _ done (tame_look _ (λ s. tame_each (heirs s n) (force_child again command v) (λ k. tame_child again t command v k))) (tame_answer tt)
+
+tame_forced : (fuel : ℕ) (command : Command) (v : List ℕ) (n : ℕ) → Tame (forced fuel command v n)
+unfolding forced
+tame_forced zero command v n = tame_answer tt
+tame_forced (suc fuel) command v n =
+    tame_bind (force_self command v n) (force_heirs (forced fuel command v) command v n) (tame_self command v n)
+    (λ wanted. tame_heirs (forced fuel command v) (λ k. tame_forced fuel command v k) command v n wanted)
+
+tame_force_value : (command : Command) (v : List ℕ) (n : ℕ) → Tame (force_value command v n)
+unfolding force_value
+tame_force_value command v n = search (tame, tame_forced)
+
+pub tame_force : (command : Command) (v : Option (List ℕ)) (n : ℕ) → Tame (force command v n)
+unfolding force
+tame_force command v n = search (tame, tame_force_value)
+
+-- ---- the states of contenteditable
+
+stateless_reorder_prev : (command : Command) (v : List ℕ) (n : ℕ) → Stateless (reorder_prev command v n)
+unfolding reorder_prev
+stateless_reorder_prev command v n = search (stateless_parts, stateless_reorder)
+
+stateless_reorder_next : (command : Command) (v : List ℕ) (n : ℕ) → Stateless (reorder_next command v n)
+unfolding reorder_next
+stateless_reorder_next command v n = search (stateless_parts, stateless_reorder)
+
+stateless_joined : (command : Command) (v : List ℕ) (n : ℕ) → Stateless (joined command v n)
+unfolding joined
+stateless_joined command v n = search (stateless_parts, stateless_reorder_prev, stateless_reorder_next, stateless_wrap_found)
+
+stateless_rename_link : (e : ℕ) → Stateless (rename_link e)
+unfolding rename_link
+stateless_rename_link e = search stateless_parts
+
+stateless_rename_links : (n : ℕ) → Stateless (rename_links n)
+unfolding rename_links
+stateless_rename_links n = search (stateless_parts, stateless_rename_link)
+
+stateless_clear_way : (u : Subject) (n : ℕ) → Stateless (clear_way u n)
+stateless_clear_way Link n = stateless_rename_links n
+stateless_clear_way Background n = stateless_answer tt
+stateless_clear_way Script n = stateless_answer tt
+stateless_clear_way (Line line) n = stateless_answer tt
+stateless_clear_way Weight n = stateless_answer tt
+stateless_clear_way Slant n = stateless_answer tt
+stateless_clear_way Family n = stateless_answer tt
+stateless_clear_way Size n = stateless_answer tt
+stateless_clear_way Foreground n = stateless_answer tt
+stateless_clear_way Nothing n = stateless_answer tt
+
+stateless_make_wrapper : (command : Command) (v : List ℕ) (n : ℕ) → Stateless (make_wrapper command v n)
+unfolding make_wrapper
+stateless_make_wrapper command v n =
+    stateless_bind (clear_way (subject command) n) _ (stateless_clear_way (subject command) n)
+    (λ _. stateless_look_at _ (λ s. stateless_make_element _ _ (plain_wrapper s.flags.css_styling command v).stateless))
+
+stateless_style_by : (u : Subject) (command : Command) (v : List ℕ) (p : ℕ) → Stateless (style_by u command v p)
+stateless_style_by Link command v p = search (stateless_parts, stateless_set_style)
+stateless_style_by Background command v p = search (stateless_parts, stateless_set_style)
+stateless_style_by Script command v p = search (stateless_parts, stateless_set_style)
+stateless_style_by (Line line) command v p = stateless_set_style p (codes "text-decoration") v
+stateless_style_by Weight command v p = search (stateless_parts, stateless_set_style)
+stateless_style_by Slant command v p = search (stateless_parts, stateless_set_style)
+stateless_style_by Family command v p = search (stateless_parts, stateless_set_style)
+stateless_style_by Size command v p = search (stateless_parts, stateless_set_style)
+stateless_style_by Foreground command v p = search (stateless_parts, stateless_set_style)
+stateless_style_by Nothing command v p = search (stateless_parts, stateless_set_style)
+
+stateless_style_wrapper : (command : Command) (v : List ℕ) (p : ℕ) → Stateless (style_wrapper command v p)
+unfolding style_wrapper
+stateless_style_wrapper command v p = search (stateless_parts, stateless_style_by)
+
+stateless_taken_back : (n p : ℕ) → Stateless (taken_back n p)
+unfolding taken_back
+stateless_taken_back n p = search (stateless_parts, stateless_moves)
+
+stateless_settled : (command : Command) (v : List ℕ) (n p : ℕ) → Stateless (settled command v n p)
+unfolding settled
+stateless_settled command v n p = search (stateless_parts, stateless_taken_back)
+
+stateless_put_in : (command : Command) (v : List ℕ) (n p : ℕ) → Stateless (put_in command v n p)
+unfolding put_in
+stateless_put_in command v n p = search (stateless_parts, stateless_moves, stateless_style_wrapper, stateless_settled)
+
+stateless_wrapped : (command : Command) (v : List ℕ) (n : ℕ) → Stateless (wrapped command v n)
+unfolding wrapped
+stateless_wrapped command v n = search (stateless_parts, stateless_make_wrapper, stateless_put_in)
+
+stateless_unless : (command : Command) (v : List ℕ) (n : ℕ) → Stateless (unless_alike command v n)
+unfolding unless_alike
+stateless_unless command v n = search (stateless_parts, stateless_wrapped)
+
+stateless_node : (command : Command) (v : List ℕ) (n : ℕ) → Stateless (force_node command v n)
+unfolding force_node
+stateless_node command v n = search (stateless_parts, stateless_joined, stateless_unless)
+
+stateless_self : (command : Command) (v : List ℕ) (n : ℕ) → Stateless (force_self command v n)
+unfolding force_self
+stateless_self command v n = search (stateless_parts, stateless_node)
+
+stateless_child : (again : ℕ → Run (Unit {0})) → ((k : ℕ) → Stateless (again k)) → (command : Command) (v : List ℕ) (k : ℕ) → Stateless (force_child again command v k)
+unfolding force_child
+stateless_child again t command v k = stateless_look_at _ (λ s. stateless_if _ done (again k) (stateless_answer tt) (t k))
+
+stateless_heirs : (again : ℕ → Run (Unit {0})) → ((k : ℕ) → Stateless (again k)) → (command : Command) (v : List ℕ) (n : ℕ) (wanted : Bool) → Stateless (force_heirs again command v n wanted)
+unfolding force_heirs
+stateless_heirs again t command v n wanted =
+    stateless_if wanted _ done (stateless_look_at _ (λ s. stateless_each (heirs s n) (force_child again command v) (λ k. stateless_child again t command v k))) (stateless_answer tt)
+
+stateless_forced : (fuel : ℕ) (command : Command) (v : List ℕ) (n : ℕ) → Stateless (forced fuel command v n)
+unfolding forced
+stateless_forced zero command v n = stateless_answer tt
+stateless_forced (suc fuel) command v n =
+    stateless_bind (force_self command v n) (force_heirs (forced fuel command v) command v n) (stateless_self command v n)
+    (λ wanted. stateless_heirs (forced fuel command v) (λ k. stateless_forced fuel command v k) command v n wanted)
+
+stateless_force_value : (command : Command) (v : List ℕ) (n : ℕ) → Stateless (force_value command v n)
+unfolding force_value
+stateless_force_value command v n = search (stateless_parts, stateless_forced)
+
+pub stateless_force : (command : Command) (v : Option (List ℕ)) (n : ℕ) → Stateless (force command v n)
+unfolding force
+stateless_force command v n = search (stateless_parts, stateless_force_value)

@@ -1,0 +1,175 @@
+-- Splitting the parent of a list leaves the states of contenteditable: the parent is copied only where it is editable.
+use Rattle.std.proofs.Common.{◌≡◌, ℕ, Bool, true, false, ◌&&◌, ◌||◌, not, if◌then◌else◌, List, is_none, refl, sym, ap, ◌∙◌, true≢false}
+use Rattle.std.specs.Prelude.{codes}
+use Rattle.dom_model.specs.Forest.{first_in, parent_of, children_of}
+use Rattle.node_tests.specs.LineBreaks.{follows_break, precedes_break}
+use Rattle.edit_model.specs.State.{State}
+use Rattle.edit_model.specs.Compositions.{tag_of, attribute_list_of}
+use Rattle.edit_model.specs.Confined.{is_editable_for}
+use Rattle.edit_model.specs.Lawful.{IsLawful}
+use Rattle.edit_model.specs.Laws.{LeavesStatesOn}
+use Rattle.edit_model.specs.Moves.{insert_before, move_all_before, move_each_last}
+use Rattle.edit_model.specs.Run.{Reaches, here, onward, reaches_trans, Run, final, value, ◌>>=◌, ◌>>◌, done, look, make_element, unset_attribute}
+use Rattle.edit_model.proofs.LawfulRuns.{lawful_along}
+use Rattle.edit_model.proofs.Steps.{final-answer, final-look}
+use Rattle.edit_laws.specs.Stateless.{Stateless}
+use Rattle.edit_laws.proofs.StatelessRuns.{stateless_parts, stateless_answer, stateless_bind, stateless_copy}
+use Rattle.edit_actions.specs.Siblings.{starts_in, ends_in, has, until}
+use Rattle.wrap_split.specs.Breaks.{breaks_before, breaks_at_end, breaks_from}
+use Rattle.wrap_split.specs.Split.{break_before, break_after, clear_before, copied, copy_front, drop_first_break, close, tidy_after, split_end, split_rest, split_marked, is_void_thing, split_at, split_members, split_parent, remove_keeping_children}
+use Rattle.command_laws.proofs.Cleared.{cleared}
+use Rattle.command_laws.proofs.StatelessMoves.{stateless_moves}
+
+-- ---- a run from a state
+
+abbrev At : {T : Type 0} → State → Run T → Type 0
+At s m = LeavesStatesOn (m.by_actions s)
+
+leaves_trans : {s t u : State} (p : Reaches s t) (q : Reaches t u) → LeavesStatesOn p → LeavesStatesOn q → LeavesStatesOn (reaches_trans p q)
+unfolding reaches_trans
+leaves_trans p here h k = h
+leaves_trans p (onward q a) h k = (leaves_trans p q h k.0, k.1)
+
+at_bind : {A B : Type 0} (m : Run A) (k : A → Run B) (s : State) → At s m → At (final m s) (k (value m s)) → At s (m >>= k)
+unfolding ◌>>=◌ final value
+at_bind m k s h g = leaves_trans (m.by_actions s) ((k (m.run s).1).by_actions (m.run s).0) h g
+
+at_look : {A : Type 0} (k : State → Run A) (s : State) → At s (k s) → At s (look k)
+unfolding look
+at_look k s h = h
+
+lawful_final : {T : Type 0} (m : Run T) (s : State) → IsLawful s → IsLawful (final m s)
+unfolding final
+lawful_final m s is = lawful_along (m.by_actions s) is
+
+-- ---- line breaks
+
+pub stateless_breaks_before : (n : ℕ) → Stateless (breaks_before n)
+unfolding breaks_before
+stateless_breaks_before n = search stateless_parts depth 9
+
+pub stateless_breaks_at_end : (n : ℕ) → Stateless (breaks_at_end n)
+unfolding breaks_at_end
+stateless_breaks_at_end n = search stateless_parts depth 9
+
+pub stateless_breaks_from : (n : ℕ) → Stateless (breaks_from n)
+unfolding breaks_from
+stateless_breaks_from n = search (stateless_parts, stateless_breaks_before, stateless_breaks_at_end)
+
+-- ---- the parts that copy nothing
+
+stateless_break_before : (wanted : Bool) (a : ℕ) → Stateless (break_before wanted a)
+unfolding break_before
+stateless_break_before wanted a = search (stateless_parts, stateless_moves)
+
+stateless_break_after : (wanted : Bool) (z : ℕ) → Stateless (break_after wanted z)
+unfolding break_after
+stateless_break_after wanted z = search (stateless_parts, stateless_moves)
+
+stateless_clear_before : (o : ℕ) (list : List ℕ) → Stateless (clear_before o list)
+unfolding clear_before
+stateless_clear_before o list = search (stateless_parts, stateless_breaks_before)
+
+stateless_drop_first : (o z : ℕ) → Stateless (drop_first_break o z)
+unfolding drop_first_break
+stateless_drop_first o z = search stateless_parts depth 9
+
+stateless_close : (o z : ℕ) (wanted : Bool) → Stateless (close o z wanted)
+unfolding close
+stateless_close o z wanted = search (stateless_parts, stateless_break_after, stateless_breaks_before)
+
+stateless_tidy : (z : ℕ) → Stateless (tidy_after z)
+unfolding tidy_after
+stateless_tidy z = search (stateless_parts, stateless_breaks_at_end)
+
+stateless_end : (o : ℕ) (list : List ℕ) (z : ℕ) (wanted : Bool) → Stateless (split_end o list z wanted)
+unfolding split_end
+stateless_end o list z wanted = search (stateless_parts, stateless_moves, stateless_break_after, stateless_breaks_at_end)
+
+tail : (o : ℕ) (list : List ℕ) (a z : ℕ) (before after : Bool) → Run (Unit {0})
+tail o list a z before after = do
+  move_all_before list o
+  break_before before a
+  drop_first_break o z
+  close o z after
+  tidy_after z
+
+stateless_tail : (o : ℕ) (list : List ℕ) (a z : ℕ) (before after : Bool) → Stateless (tail o list a z before after)
+unfolding tail
+stateless_tail o list a z before after = search (stateless_parts, stateless_moves, stateless_break_before, stateless_drop_first, stateless_close, stateless_tidy)
+
+-- ---- the copy
+
+copied_at : (o a : ℕ) (s : State) → IsLawful s → is_editable_for s o ≡ true → At s (copied o a)
+unfolding copied
+copied_at o a s is editable = at_look _ s (run.leaves s is)
+  where
+    stateless_rest : (x : ℕ) → Stateless (unset_attribute o (codes "id") >> (insert_before o x >> move_each_last (until a (children_of s.trees o)) x))
+    stateless_rest x = search (stateless_parts, stateless_moves)
+
+    run : Stateless (make_element (tag_of s.trees o) (attribute_list_of s.trees o) >>= (λ x. unset_attribute o (codes "id") >> (insert_before o x >> move_each_last (until a (children_of s.trees o)) x)))
+    run = stateless_bind (make_element (tag_of s.trees o) (attribute_list_of s.trees o)) _ (stateless_copy s o (tag_of s.trees o) is editable) stateless_rest
+
+front_at : (o : ℕ) (list : List ℕ) (a : ℕ) (s : State) → IsLawful s → (starts_in s o list ≡ false → is_editable_for s o ≡ true) → At s (copy_front o list a)
+unfolding copy_front
+front_at o list a s is ready = at_look _ s (by_start (starts_in s o list) refl)
+  where
+    by_start : (v : Bool) → starts_in s o list ≡ v → At s (if v then done else copied o a)
+    by_start true e = (stateless_answer tt).leaves s is
+    by_start false e = copied_at o a s is (ready e)
+
+rest_at : (o : ℕ) (list : List ℕ) (a z : ℕ) (before after : Bool) (s : State) → IsLawful s → (starts_in s o list ≡ false → is_editable_for s o ≡ true) → At s (split_rest o list a z before after)
+unfolding split_rest tail
+rest_at o list a z before after s is ready =
+    at_bind (copy_front o list a) (λ _. tail o list a z before after) s (front_at o list a s is ready)
+    ((stateless_tail o list a z before after).leaves (final (copy_front o list a) s) (lawful_final (copy_front o list a) s is))
+
+marked_at : (o : ℕ) (list : List ℕ) (a z : ℕ) (s : State) → IsLawful s → (starts_in s o list ≡ false → is_editable_for s o ≡ true) → At s (split_marked o list a z)
+unfolding split_marked
+marked_at o list a z s is ready =
+    at_look _ s (by_ends (not (starts_in s o list) && ends_in s o list) (starts_in s o list && follows_break s.trees o) (ends_in s o list && precedes_break s.trees o))
+  where
+    by_ends : (v before after : Bool) → At s (if v then split_end o list z after else split_rest o list a z before after)
+    by_ends true before after = (stateless_end o list z after).leaves s is
+    by_ends false before after = rest_at o list a z before after s is ready
+
+-- after the line breaks before o are gone, it is copied only if it wasn't touched
+still_editable : (o : ℕ) (list : List ℕ) (s : State) → IsLawful s → is_editable_for s o ≡ true → starts_in (final (clear_before o list) s) o list ≡ false → is_editable_for (final (clear_before o list) s) o ≡ true
+unfolding clear_before starts_in
+still_editable o list s is editable = by_start (starts_in s o list) refl
+  where
+    same : (xs ys : List ℕ) → ys ≡ xs → has list (first_in xs) ≡ true → has list (first_in ys) ≡ true
+    same xs ys e h = ap (λ l. has list (first_in l)) e ∙ h
+
+    still : starts_in s o list ≡ true → starts_in (final (breaks_before o) s) o list ≡ true
+    still e = same (children_of s.trees o) (children_of (final (breaks_before o) s).trees o) (cleared o s is).children e
+
+    by_start : (v : Bool) → starts_in s o list ≡ v
+        → starts_in (final (look λ t. if starts_in t o list then breaks_before o else done) s) o list ≡ false → is_editable_for (final (look λ t. if starts_in t o list then breaks_before o else done) s) o ≡ true
+    by_start false e = rw (final-look, e, final-answer) (λ _. editable)
+    by_start true e = rw (final-look, e) (λ none. absurd (true≢false (sym (still e) ∙ none)))
+
+stateless_at : (o : ℕ) (list : List ℕ) (a z : ℕ) → Stateless (split_at o list a z)
+unfolding split_at
+stateless_at o list a z = record { leaves = λ s is. at_look _ s (by_test s is (is_editable_for s o) (is_none (parent_of s.trees o) || is_void_thing s o) refl) }
+  where
+    by_test : (s : State) → IsLawful s → (v w : Bool) → is_editable_for s o ≡ v → At s (if not v || w then done else (clear_before o list >> split_marked o list a z))
+    by_test s is false w e = (stateless_answer tt).leaves s is
+    by_test s is true true e = (stateless_answer tt).leaves s is
+    by_test s is true false e =
+        at_bind (clear_before o list) (λ _. split_marked o list a z) s ((stateless_clear_before o list).leaves s is)
+        (marked_at o list a z (final (clear_before o list) s) (lawful_final (clear_before o list) s is) (still_editable o list s is e))
+
+-- ---- of a list
+
+stateless_members : (o : ℕ) (list : List ℕ) → Stateless (split_members o list)
+unfolding split_members
+stateless_members o list = search (stateless_parts, stateless_at)
+
+pub stateless_split : (list : List ℕ) → Stateless (split_parent list)
+unfolding split_parent
+stateless_split list = search (stateless_parts, stateless_members)
+
+pub stateless_keeping_children : (n : ℕ) → Stateless (remove_keeping_children n)
+unfolding remove_keeping_children
+stateless_keeping_children n = search (stateless_parts, stateless_split)

@@ -1,0 +1,83 @@
+-- Setting and unsetting a style keeps the order, the states of contenteditable, and the shape of the trees.
+use Rattle.std.proofs.Common.{ℕ, Bool, true, false, if◌then◌else◌, List, Option, Some, None}
+use Rattle.edit_model.specs.State.{State}
+use Rattle.edit_model.specs.Lawful.{IsLawful}
+use Rattle.edit_model.specs.Run.{Run, final, value, ◌>>=◌, answer, look, given, set_attribute, unset_attribute}
+use Rattle.edit_model.proofs.LawfulRuns.{lawful_along}
+use Rattle.edit_model.proofs.Steps.{final-bind, final-answer, final-look, final-edit}
+use Rattle.edit_laws.specs.Stateless.{Stateless}
+use Rattle.edit_laws.specs.Tame.{Tame}
+use Rattle.edit_laws.proofs.Nesting.{Shaped, shaped_refl, shaped_trans, shaped_set, shaped_unset}
+use Rattle.edit_laws.proofs.StatelessRuns.{stateless_parts}
+use Rattle.edit_laws.proofs.Tame.{tame}
+use Rattle.inline_value.specs.Styling.{write_text, set_style, unset_style}
+
+-- ---- runs that leave the shape of the trees
+
+pub record Shaping {T : Type 0} (m : Run T) : Type 0 where
+  pub shapes : (s : State) → IsLawful s → Shaped s (final m s)
+
+lawful_final : {T : Type 0} (m : Run T) (s : State) → IsLawful s → IsLawful (final m s)
+unfolding final
+lawful_final m s is = lawful_along (m.by_actions s) is
+
+pub shaping_answer : {A : Type 0} (a : A) → Shaping (answer a)
+shaping_answer a = record { shapes = λ s is. rw (final-answer a s) (shaped_refl s) }
+
+pub shaping_bind : {A B : Type 0} (m : Run A) (k : A → Run B) → Shaping m → ((a : A) → Shaping (k a)) → Shaping (m >>= k)
+shaping_bind m k p q = record {
+  shapes = λ s is. rw (final-bind m k s) (shaped_trans s (final m s) (final (k (value m s)) (final m s)) (p.shapes s is) ((q (value m s)).shapes (final m s) (lawful_final m s is)));
+}
+
+pub shaping_look : {A : Type 0} (k : State → Run A) → ((s : State) → Shaping (k s)) → Shaping (look k)
+shaping_look k p = record { shapes = λ s is. rw (final-look k s) ((p s).shapes s is) }
+
+pub shaping_if : {A : Type 0} (b : Bool) (m n : Run A) → Shaping m → Shaping n → Shaping (if b then m else n)
+shaping_if true m n p q = p
+shaping_if false m n p q = q
+
+pub shaping_given : {A B : Type 0} (o : Option A) (n : Run B) (f : A → Run B) → Shaping n → ((a : A) → Shaping (f a)) → Shaping (given o n f)
+shaping_given None n f p q = p
+shaping_given (Some a) n f p q = q a
+
+pub shaping_set : (e : ℕ) (name value : List ℕ) → Shaping (set_attribute e name value)
+shaping_set e name value = record { shapes = λ s is. rw final-edit (shaped_set e name value s is) }
+
+pub shaping_unset : (e : ℕ) (name : List ℕ) → Shaping (unset_attribute e name)
+shaping_unset e name = record { shapes = λ s is. rw final-edit (shaped_unset e name s is) }
+
+pub ruleset shaping = (shaping_answer, shaping_bind, shaping_look, shaping_if, shaping_given, shaping_set, shaping_unset)
+
+-- ---- styles
+
+tame_text : (e : ℕ) (text : List ℕ) → Tame (write_text e text)
+unfolding write_text
+tame_text e text = search tame
+
+pub tame_set_style : (e : ℕ) (name value : List ℕ) → Tame (set_style e name value)
+unfolding set_style
+tame_set_style e name value = search (tame, tame_text)
+
+pub tame_unset_style : (e : ℕ) (name : List ℕ) → Tame (unset_style e name)
+unfolding unset_style
+tame_unset_style e name = search (tame, tame_text)
+
+stateless_text : (e : ℕ) (text : List ℕ) → Stateless (write_text e text)
+unfolding write_text
+stateless_text e text = search stateless_parts
+
+pub stateless_set_style : (e : ℕ) (name value : List ℕ) → Stateless (set_style e name value)
+unfolding set_style
+stateless_set_style e name value = search (stateless_parts, stateless_text)
+
+pub stateless_unset_style : (e : ℕ) (name : List ℕ) → Stateless (unset_style e name)
+unfolding unset_style
+stateless_unset_style e name = search (stateless_parts, stateless_text)
+
+shaping_text : (e : ℕ) (text : List ℕ) → Shaping (write_text e text)
+unfolding write_text
+shaping_text e text = search shaping
+
+pub shaping_set_style : (e : ℕ) (name value : List ℕ) → Shaping (set_style e name value)
+unfolding set_style
+shaping_set_style e name value = search (shaping, shaping_text)
