@@ -1,17 +1,25 @@
 -- The certificates of the actions of commands, a line for each command.
 use Rattle.std.proofs.Common.{◌≡◌, ℕ, Bool, true, false, List, sym, true≢false}
-use Rattle.std.specs.Prelude.{not, codes}
+use Rattle.std.specs.Prelude.{not, codes, if◌then◌else◌}
 use Rattle.html_names.specs.declared.commands.Command.{Command}
 use Rattle.html_names.specs.declared.commands.Command.TheVariants as command
 use Rattle.edit_model.specs.Action.{Flag}
-use Rattle.edit_model.specs.Run.{Run, answer, given, set_flags}
+use Rattle.edit_model.specs.Run.{Run, ◌>>=◌, answer, done, look, given, set_flags}
+use Rattle.edit_model.specs.State.{State}
 use Rattle.edit_model.specs.declared.settings.Flags.{Flags}
 use Rattle.edit_laws.specs.Stateless.{Stateless}
 use Rattle.edit_laws.specs.Tame.{Tame}
-use Rattle.edit_laws.proofs.StatelessRuns.{stateless_answer, stateless_bind, stateless_look_at, stateless_given, stateless_perform}
-use Rattle.edit_laws.proofs.Tame.{tame_answer}
-use Rattle.command_laws.proofs.UnlinkRuns.{tame_unlink, stateless_unlink}
-use Rattle.edit_engine.specs.Commands.{row_of, action_of, is_value, flags_taken, set_css_styling, separator_set, set_separator}
+use Rattle.edit_laws.proofs.StatelessRuns.{stateless_answer, stateless_bind, stateless_look_at, stateless_if, stateless_given, stateless_perform}
+use Rattle.edit_laws.proofs.Tame.{tame_answer, tame_bind, tame_look, tame_if}
+use Rattle.command_laws.proofs.FormatRuns.{tame_remove_format, stateless_remove_format}
+use Rattle.command_laws.proofs.LinkingRuns.{tame_create_link, stateless_create_link, tame_unlink, stateless_unlink}
+use Rattle.command_laws.proofs.RestoringRuns.{tame_restore_states, stateless_restore_states}
+use Rattle.command_laws.proofs.TogglingRuns.{tame_toggle_style, stateless_toggle_style, tame_toggle_script, stateless_toggle_script, tame_apply_value, stateless_apply_value}
+use Rattle.inline_value.specs.Overrides.{overrides_of}
+use Rattle.inline_value.specs.declared.overrides.Override.{Override}
+use Rattle.inline_commands.specs.RestoringStates.{restore_states}
+use Rattle.edit_engine.specs.Framing.{is_collapsed, restore_collapsed, give_back, recorded_action, framed}
+use Rattle.edit_engine.specs.Commands.{row_of, own_action, action_of, is_value, flags_taken, set_css_styling, separator_set, set_separator}
 
 -- a run leaves the states of contenteditable, and a keeping one keeps the order
 pub record IsFit (keeping : Bool) (m : Run Bool) : Type 0 where
@@ -44,36 +52,65 @@ stateless_separator value =
 
 -- ---- all commands
 
+own_fit : (c : Command) (value : List ℕ) → IsFit (row_of c).keeping (own_action c value)
+own_fit command.Bold value = keeper (stateless_toggle_style command.Bold) (tame_toggle_style command.Bold)
+own_fit command.Italic value = keeper (stateless_toggle_style command.Italic) (tame_toggle_style command.Italic)
+own_fit command.Underline value = keeper (stateless_toggle_style command.Underline) (tame_toggle_style command.Underline)
+own_fit command.Strikethrough value = keeper (stateless_toggle_style command.Strikethrough) (tame_toggle_style command.Strikethrough)
+own_fit command.Subscript value = keeper (stateless_toggle_script command.Subscript) (tame_toggle_script command.Subscript)
+own_fit command.Superscript value = keeper (stateless_toggle_script command.Superscript) (tame_toggle_script command.Superscript)
+own_fit command.CreateLink value = keeper (stateless_create_link value) (tame_create_link value)
+own_fit command.Unlink value = keeper stateless_unlink tame_unlink
+own_fit command.FontName value = keeper (stateless_apply_value command.FontName value) (tame_apply_value command.FontName value)
+own_fit command.FontSize value = keeper (stateless_apply_value command.FontSize value) (tame_apply_value command.FontSize value)
+own_fit command.ForeColor value = keeper (stateless_apply_value command.ForeColor value) (tame_apply_value command.ForeColor value)
+own_fit command.BackColor value = keeper (stateless_apply_value command.BackColor value) (tame_apply_value command.BackColor value)
+own_fit command.HiliteColor value = keeper (stateless_apply_value command.HiliteColor value) (tame_apply_value command.HiliteColor value)
+own_fit command.RemoveFormat value = keeper stateless_remove_format tame_remove_format
+own_fit command.FormatBlock value = unbuilt true
+own_fit command.JustifyLeft value = unbuilt true
+own_fit command.JustifyCenter value = unbuilt true
+own_fit command.JustifyRight value = unbuilt true
+own_fit command.JustifyFull value = unbuilt true
+own_fit command.Indent value = unbuilt true
+own_fit command.Outdent value = unbuilt true
+own_fit command.Delete value = unbuilt false
+own_fit command.InsertText value = unbuilt false
+own_fit command.InsertParagraph value = unbuilt false
+own_fit command.StyleWithCss value = other (stateless_styling (not (is_value value (codes "false"))))
+own_fit command.UseCss value = other (stateless_styling (is_value value (codes "false")))
+own_fit command.DefaultParagraphSeparator value = other (stateless_separator value)
+own_fit command.InsertOrderedList value = unbuilt true
+own_fit command.InsertUnorderedList value = unbuilt true
+own_fit command.InsertLineBreak value = unbuilt false
+own_fit command.InsertHorizontalRule value = unbuilt false
+own_fit command.InsertImage value = unbuilt false
+
+-- ---- with the overrides recorded and restored
+
+stateless_back : (list : List Override) (b : Bool) → Stateless (give_back list b)
+unfolding restore_collapsed
+stateless_back list true =
+    stateless_bind (restore_collapsed list) (λ _. answer true)
+    (stateless_look_at (λ s. if is_collapsed s then restore_states list else done) (λ s. stateless_if (is_collapsed s) (restore_states list) done (stateless_restore_states list) (stateless_answer tt)))
+    (λ _. stateless_answer true)
+stateless_back list false = stateless_answer false
+
+tame_back : (list : List Override) (b : Bool) → Tame (give_back list b)
+unfolding restore_collapsed
+tame_back list true =
+    tame_bind (restore_collapsed list) (λ _. answer true)
+    (tame_look (λ s. if is_collapsed s then restore_states list else done) (λ s. tame_if (is_collapsed s) (restore_states list) done (tame_restore_states list) (tame_answer tt)))
+    (λ _. tame_answer true)
+tame_back list false = tame_answer false
+
+framed_fit : (keeping recording : Bool) (m : Run Bool) → IsFit keeping m → IsFit keeping (framed recording m)
+unfolding recorded_action
+framed_fit keeping true m h = record {
+  stateless = stateless_look_at (λ s. m >>= give_back (overrides_of s)) (λ s. stateless_bind m (give_back (overrides_of s)) h.stateless (stateless_back (overrides_of s)));
+  tame = λ keeps. tame_look (λ s. m >>= give_back (overrides_of s)) (λ s. tame_bind m (give_back (overrides_of s)) (h.tame keeps) (tame_back (overrides_of s)));
+}
+framed_fit keeping false m h = h
+
 pub fit : (c : Command) (value : List ℕ) → IsFit (row_of c).keeping (action_of c value)
-fit command.Bold value = unbuilt true
-fit command.Italic value = unbuilt true
-fit command.Underline value = unbuilt true
-fit command.Strikethrough value = unbuilt true
-fit command.Subscript value = unbuilt true
-fit command.Superscript value = unbuilt true
-fit command.CreateLink value = unbuilt true
-fit command.Unlink value = keeper stateless_unlink tame_unlink
-fit command.FontName value = unbuilt true
-fit command.FontSize value = unbuilt true
-fit command.ForeColor value = unbuilt true
-fit command.BackColor value = unbuilt true
-fit command.HiliteColor value = unbuilt true
-fit command.RemoveFormat value = unbuilt true
-fit command.FormatBlock value = unbuilt true
-fit command.JustifyLeft value = unbuilt true
-fit command.JustifyCenter value = unbuilt true
-fit command.JustifyRight value = unbuilt true
-fit command.JustifyFull value = unbuilt true
-fit command.Indent value = unbuilt true
-fit command.Outdent value = unbuilt true
-fit command.Delete value = unbuilt false
-fit command.InsertText value = unbuilt false
-fit command.InsertParagraph value = unbuilt false
-fit command.StyleWithCss value = other (stateless_styling (not (is_value value (codes "false"))))
-fit command.UseCss value = other (stateless_styling (is_value value (codes "false")))
-fit command.DefaultParagraphSeparator value = other (stateless_separator value)
-fit command.InsertOrderedList value = unbuilt true
-fit command.InsertUnorderedList value = unbuilt true
-fit command.InsertLineBreak value = unbuilt false
-fit command.InsertHorizontalRule value = unbuilt false
-fit command.InsertImage value = unbuilt false
+fit c value = framed_fit (row_of c).keeping (row_of c).recording (own_action c value) (own_fit c value)

@@ -1,12 +1,22 @@
 -- Actions that answer false leave the state.
-use Rattle.std.proofs.Common.{ℕ, Bool, true, false, true≢false, not, List, Option, Some, None, refl}
+use Rattle.std.proofs.Common.{◌≡◌, ℕ, Bool, true, false, true≢false, not, sym, ◌∙◌, List, [], ◌∷◌, Option, Some, None, refl, subst}
 use Rattle.std.specs.Prelude.{codes}
+use Rattle.html_names.specs.declared.commands.Command.{Command}
 use Rattle.html_names.specs.declared.commands.Command.TheVariants as command
 use Rattle.edit_model.specs.State.{State}
-use Rattle.edit_model.specs.Run.{Run, final, value, ◌>>=◌, ◌>>◌, answer, look, given, for_each, set_flags}
-use Rattle.edit_engine.specs.Commands.{flags_taken, is_value, separator_set, set_css_styling, set_separator}
+use Rattle.edit_model.specs.Run.{Run, final, value, ◌>>=◌, ◌>>◌, answer, look, given, set_flags}
+use Rattle.edit_engine.specs.Framing.{give_back, recorded_action, framed}
+use Rattle.inline_value.specs.Overrides.{overrides_of}
+use Rattle.inline_value.specs.declared.overrides.Override.{Override}
+use Rattle.edit_engine.specs.Commands.{row_of, own_action, flags_taken, is_value, separator_set, set_css_styling, set_separator}
 use Rattle.edit_engine.specs.Refusals.{LeavesRefused, RefusalsLeave}
-use Rattle.inline_commands.specs.Unlink.{clear_link, links_touched, unlink}
+use Rattle.edit_query.specs.Queries.{state_of}
+use Rattle.inline_value.specs.Selections.{split_ends, set_value}
+use Rattle.inline_commands.specs.Linking.{relink_range, link_range, create_link}
+use Rattle.inline_commands.specs.RemovingFormat.{unwrap_candidates, part_nodes, clear_commands, remove_format}
+use Rattle.inline_commands.specs.Toggling.{style_on, toggled, set_toggled, toggle_style, script_on, set_unless, set_script, toggle_script}
+use Rattle.inline_commands.specs.Unlink.{clear_links, links_touched, unlink}
+use Rattle.inline_commands.specs.ValueCommands.{value_taken, set_taken, take, apply_value}
 
 leaves_true : {A : Type 0} (m : Run A) → LeavesRefused (m >> answer true)
 unfolding value ◌>>=◌ answer
@@ -24,11 +34,63 @@ leaves_given : {A : Type 0} (o : Option A) (f : A → Run Bool) → ((a : A) →
 leaves_given None f h = leaves_false
 leaves_given (Some a) f h = h a
 
+-- a run that answers true, whatever went before
+abbrev AnswersTrue : Run Bool → Type 0
+AnswersTrue m = (s : State) → value m s ≡ true
+
+true_last : {A : Type 0} (m : Run A) → AnswersTrue (m >> answer true)
+unfolding value ◌>>=◌ answer
+true_last m s = refl
+
+true_after : {A : Type 0} (m : Run A) (n : Run Bool) → AnswersTrue n → AnswersTrue (m >> n)
+unfolding value final ◌>>=◌
+true_after m n h s = h (m.run s).0
+
+leaves_taken : (m : Run Bool) → AnswersTrue m → LeavesRefused m
+leaves_taken m h s refused = absurd (true≢false (sym (h s) ∙ refused))
+
 -- ---- one line a command
+
+leaves_toggle : (c : Command) → LeavesRefused (toggle_style c)
+unfolding toggle_style set_toggled
+leaves_toggle c =
+    leaves_given (style_on c) (set_toggled c)
+    (λ on. leaves_look (λ s. set_value c (toggled c on (state_of s s.host c)) >> answer true) (λ t. leaves_true (set_value c (toggled c on (state_of t t.host c)))))
+
+set_script_taken : (c : Command) (on : List ℕ) (b : Bool) → LeavesRefused (set_value c None >> (set_unless b c on >> answer true))
+set_script_taken c on b =
+    let m = set_unless b c on >> answer true in
+    leaves_taken (set_value c None >> m) (true_after (set_value c None) m (true_last (set_unless b c on)))
+
+leaves_script : (c : Command) → LeavesRefused (toggle_script c)
+unfolding toggle_script set_script
+leaves_script c =
+    leaves_given (script_on c) (set_script c)
+    (λ on. leaves_look (λ s. set_value c None >> (set_unless (state_of s s.host c) c on >> answer true)) (λ t. set_script_taken c on (state_of t t.host c)))
+
+leaves_link : (v : List ℕ) → LeavesRefused (create_link v)
+unfolding create_link link_range
+leaves_link [] = leaves_false
+leaves_link (c ∷ v) =
+    let m = set_value command.CreateLink (Some (c ∷ v)) >> answer true in
+    leaves_taken (relink_range (c ∷ v) >> m) (true_after (relink_range (c ∷ v)) m (true_last (set_value command.CreateLink (Some (c ∷ v)))))
 
 leaves_unlink : LeavesRefused unlink
 unfolding unlink
-leaves_unlink = leaves_look (λ s. for_each (links_touched s) clear_link >> answer true) (λ t. leaves_true (for_each (links_touched t) clear_link))
+leaves_unlink = leaves_look (λ s. clear_links (links_touched s) >> answer true) (λ t. leaves_true (clear_links (links_touched t)))
+
+leaves_value : (c : Command) (v : List ℕ) → LeavesRefused (apply_value c v)
+unfolding apply_value take set_taken
+leaves_value c v = leaves_given (value_taken c v) (set_taken c) (λ w. leaves_true (set_value c (Some w)))
+
+leaves_format : LeavesRefused remove_format
+unfolding remove_format
+leaves_format =
+    let clears = clear_commands >> answer true in
+    let parts = part_nodes >> clears in
+    let splits = split_ends >> parts in
+    leaves_taken (unwrap_candidates >> splits)
+    (true_after unwrap_candidates splits (true_after split_ends parts (true_after part_nodes clears (true_last clear_commands))))
 
 leaves_css_styling : (on : Bool) → LeavesRefused (set_css_styling on)
 unfolding set_css_styling
@@ -38,9 +100,40 @@ leaves_separator : (v : List ℕ) → LeavesRefused (set_separator v)
 unfolding set_separator
 leaves_separator v = leaves_look (λ s. given (separator_set s.flags v) (answer false) flags_taken) (λ t. leaves_given (separator_set t.flags v) flags_taken (λ flags. leaves_true (set_flags flags)))
 
+-- ---- with the overrides recorded and restored
+
+leaves_back : (list : List Override) (m : Run Bool) → LeavesRefused m → LeavesRefused (m >>= give_back list)
+unfolding value final ◌>>=◌ answer
+leaves_back list m h s refused = by_answer (value m s) refl
+  where
+    by_answer : (b : Bool) → value m s ≡ b → final (m >>= give_back list) s ≡ s
+    by_answer true e = absurd (true≢false (subst (λ b. value (give_back list b) (final m s) ≡ false) e refused))
+    by_answer false e = subst (λ b. final (give_back list b) (final m s) ≡ s) (sym e) (h s e)
+
+leaves_framed : (recording : Bool) (m : Run Bool) → LeavesRefused m → LeavesRefused (framed recording m)
+unfolding recorded_action
+leaves_framed true m h = leaves_look (λ s. m >>= give_back (overrides_of s)) (λ s. leaves_back (overrides_of s) m h)
+leaves_framed false m h = h
+
+own_refusals : (c : Command) (v : List ℕ) → LeavesRefused (own_action c v)
+own_refusals command.Bold v = leaves_toggle command.Bold
+own_refusals command.Italic v = leaves_toggle command.Italic
+own_refusals command.Underline v = leaves_toggle command.Underline
+own_refusals command.Strikethrough v = leaves_toggle command.Strikethrough
+own_refusals command.Subscript v = leaves_script command.Subscript
+own_refusals command.Superscript v = leaves_script command.Superscript
+own_refusals command.CreateLink v = leaves_link v
+own_refusals command.Unlink v = leaves_unlink
+own_refusals command.FontName v = leaves_value command.FontName v
+own_refusals command.FontSize v = leaves_value command.FontSize v
+own_refusals command.ForeColor v = leaves_value command.ForeColor v
+own_refusals command.BackColor v = leaves_value command.BackColor v
+own_refusals command.HiliteColor v = leaves_value command.HiliteColor v
+own_refusals command.RemoveFormat v = leaves_format
+own_refusals command.StyleWithCss v = leaves_css_styling (not (is_value v (codes "false")))
+own_refusals command.UseCss v = leaves_css_styling (is_value v (codes "false"))
+own_refusals command.DefaultParagraphSeparator v = leaves_separator v
+own_refusals _ v = leaves_false
+
 pub refusals_leave : RefusalsLeave
-refusals_leave command.Unlink v = leaves_unlink
-refusals_leave command.StyleWithCss v = leaves_css_styling (not (is_value v (codes "false")))
-refusals_leave command.UseCss v = leaves_css_styling (is_value v (codes "false"))
-refusals_leave command.DefaultParagraphSeparator v = leaves_separator v
-refusals_leave _ v = leaves_false
+refusals_leave c v = leaves_framed (row_of c).recording (own_action c v) (own_refusals c v)

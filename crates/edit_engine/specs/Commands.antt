@@ -9,7 +9,12 @@ use Rattle.edit_model.specs.Run.{Run, ◌>>◌, answer, look, given, set_flags}
 use Rattle.edit_model.specs.declared.settings.Flags.{Flags}
 use Rattle.edit_engine.specs.declared.commands.Row.{Row}
 use Rattle.edit_actions.specs.ActiveRange.{affected_host}
+use Rattle.edit_engine.specs.Framing.{framed}
+use Rattle.inline_commands.specs.Linking.{create_link}
+use Rattle.inline_commands.specs.RemovingFormat.{remove_format}
+use Rattle.inline_commands.specs.Toggling.{toggle_style, toggle_script}
 use Rattle.inline_commands.specs.Unlink.{unlink}
+use Rattle.inline_commands.specs.ValueCommands.{apply_value}
 
 -- ---- one row a command
 
@@ -75,7 +80,20 @@ set_separator value = look λ s. given (separator_set s.flags value) (answer fal
 -- ---- the actions: a command is supported where there is one
 
 abbrev pub action : Command → Option (List ℕ → Run Bool)
+action command.Bold = Some (λ value. toggle_style command.Bold)
+action command.Italic = Some (λ value. toggle_style command.Italic)
+action command.Underline = Some (λ value. toggle_style command.Underline)
+action command.Strikethrough = Some (λ value. toggle_style command.Strikethrough)
+action command.Subscript = Some (λ value. toggle_script command.Subscript)
+action command.Superscript = Some (λ value. toggle_script command.Superscript)
+action command.CreateLink = Some create_link
 action command.Unlink = Some (λ value. unlink)
+action command.FontName = Some (apply_value command.FontName)
+action command.FontSize = Some (apply_value command.FontSize)
+action command.ForeColor = Some (apply_value command.ForeColor)
+action command.BackColor = Some (apply_value command.BackColor)
+action command.HiliteColor = Some (apply_value command.HiliteColor)
+action command.RemoveFormat = Some (λ value. remove_format)
 action command.StyleWithCss = Some (λ value. set_css_styling (not (is_value value (codes "false"))))
 action command.UseCss = Some (λ value. set_css_styling (is_value value (codes "false")))
 action command.DefaultParagraphSeparator = Some set_separator
@@ -84,9 +102,13 @@ action _ = None
 abbrev pub is_supported : Command → Bool
 is_supported c = is_some (action c)
 
--- the action of a command with a value; one that isn't supported answers false
+-- the command's own action with a value; one that isn't supported answers false
+abbrev pub own_action : Command → List ℕ → Run Bool
+own_action c value = option_map_or (λ act. act value) (action c) (answer false)
+
+-- the action as it is taken, with the overrides recorded before and restored after it where the command does so
 abbrev pub action_of : Command → List ℕ → Run Bool
-action_of c value = option_map_or (λ act. act value) (action c) (answer false)
+action_of c value = framed (row_of c).recording (own_action c value)
 
 -- a command that needs a host is enabled only where there is an affected editing host
 unfoldable pub is_enabled : State → Command → Bool

@@ -1,3 +1,4 @@
+pub mod Framing
 pub mod Commands
 pub mod Editing
 pub mod Execution

@@ -1,6 +1,5 @@
 //! What an editor answers, and why it refuses.
 
-use dom_model::Chars;
 use edit_doc::{EditFault, MarkFault};
 use script_read::Path;
 use std::alloc::AllocError;
@@ -48,13 +47,6 @@ impl From<EditFault> for ExecFault {
             EditFault::Memory => ExecFault::Memory,
         }
     }
-}
-
-/// What a question about a command is answered.
-#[derive(Drop)]
-pub enum Reply {
-    Flag(bool),
-    Wording(Chars),
 }
 
 /// Why a pair of points was not selected or marked.

@@ -71,10 +71,21 @@ pub(crate) fn is_supported(command: Command) -> bool
     ensures { result ≡ is_supported command }
 {
     match command {
-        Command::Unlink => true,
-        Command::StyleWithCss => true,
-        Command::UseCss => true,
-        Command::DefaultParagraphSeparator => true,
+        Command::Bold
+        | Command::Italic
+        | Command::Underline
+        | Command::Strikethrough
+        | Command::Subscript
+        | Command::Superscript
+        | Command::CreateLink
+        | Command::Unlink
+        | Command::FontName
+        | Command::FontSize
+        | Command::ForeColor
+        | Command::BackColor
+        | Command::HiliteColor
+        | Command::RemoveFormat => true,
+        Command::StyleWithCss | Command::UseCss | Command::DefaultParagraphSeparator => true,
         _ => false,
     }
 }

@@ -14,13 +14,14 @@ ghost use Rattle.edit_engine.specs.Queries.{reply_of};
 ghost use Rattle.edit_engine.specs.Views.{view_text};
 
 use crate::actions::run_command;
-use crate::answers::{Answer, ExecFault, PlaceFault, Reply, ViewFault, ViewKind};
+use crate::answers::{Answer, ExecFault, PlaceFault, ViewFault, ViewKind};
 use crate::places::{node_at, pair_at};
 use crate::probe::probe_line;
 use crate::queries::{ask, is_enabled};
 use crate::views::{html_line, points_lines, stat_line, tree_lines};
 use dom_model::Name;
 use edit_doc::{Arena, Doc};
+use edit_query::Reply;
 use html_names::{Command, QueryKind};
 use script_read::Place;
 use std::alloc::{AllocError, Global};

@@ -14,6 +14,7 @@ mod probe;
 mod queries;
 mod views;
 
-pub use answers::{Answer, ExecFault, PlaceFault, Reply, ViewFault, ViewKind};
+pub use answers::{Answer, ExecFault, PlaceFault, ViewFault, ViewKind};
+pub use edit_query::Reply;
 pub use editor::Editor;
 pub use laws::{locked_span_is_island, refusals_leave_the_state};
