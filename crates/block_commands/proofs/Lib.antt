@@ -1,0 +1,5 @@
+mod Above
+mod Counting
+mod Looping
+mod ValueNames
+mod Matching

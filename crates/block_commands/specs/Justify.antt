@@ -1,0 +1,97 @@
+-- Justifying the selection (HTML Editing APIs, "justify the selection"): the blocks of the active range come to stand in a
+-- div that aligns them. The steps are those of docs/ALGORITHMS.md.
+use Rattle.std.specs.Prelude.{ℕ, Bool, true, false, ◌&&◌, ◌||◌, not, List, [], ◌∷◌, ◌++◌, take, drop, Option, is_some, bytes_eq, codes, if◌then◌else◌}
+use Rattle.std.specs.Option.{option_map_or}
+use Rattle.dom_model.specs.declared.attributes.Attribute.{Attribute}
+use Rattle.dom_model.specs.declared.Content.{Content}
+use Rattle.dom_model.specs.AttributeList.{value_of}
+use Rattle.dom_model.specs.Contents.{has_name}
+use Rattle.dom_model.specs.Forest.{Forest}
+use Rattle.css_value.specs.DeclarationList as style
+use Rattle.node_styles.specs.Allowed.{allowed_in_name}
+use Rattle.command_value.specs.Alignment.{alignment_value}
+use Rattle.edit_model.specs.State.{State}
+use Rattle.edit_model.specs.Confined.{is_editable_for}
+use Rattle.edit_model.specs.Compositions.{attribute_list_of, set_tag_name}
+use Rattle.edit_model.specs.Run.{Run, ◌>>◌, answer, done, look, for_each, while_at_most, unset_attribute}
+use Rattle.wrap_split.specs.declared.rule.Blank.{Blank}
+use Rattle.wrap_split.specs.declared.rule.Criterion.TheVariants.{Aligned}
+use Rattle.wrap_split.specs.declared.rule.Recipe.TheVariants.{Make}
+use Rattle.wrap_split.specs.Split.{remove_keeping_children}
+use Rattle.wrap_split.specs.Target.{is_without_attributes}
+use Rattle.wrap_split.specs.Walks.{turn_bound}
+use Rattle.wrap_split.specs.Wrap.{wrap}
+use Rattle.inline_value.specs.Styling.{unset_style}
+use Rattle.block_commands.specs.Gathered.{outermost, contained}
+use Rattle.block_commands.specs.Series.{count_series, is_next, has_members}
+
+-- ---- justify, step 1: elements that align what is in them give that up
+
+-- an align attribute, or a style that declares text-align
+abbrev pub sets_alignment : List ℕ → Bool
+sets_alignment text = is_some (style.value_of (style.declarations_in text) (codes "text-align"))
+
+abbrev pub has_alignment : List Attribute → Bool
+has_alignment list = is_some (value_of list (codes "align")) || option_map_or sets_alignment (value_of list (codes "style")) false
+
+-- or a center
+unfoldable pub gives_alignment : State → ℕ → Bool
+gives_alignment s e = has_alignment (attribute_list_of s.trees e) || has_name s.trees e (codes "center")
+
+unfoldable pub is_aligning : State → ℕ → Bool
+is_aligning s e = is_editable_for s e && gives_alignment s e
+
+-- a div, span or center without attributes
+unfoldable pub is_plain : Forest Content → ℕ → Bool
+is_plain f e = is_without_attributes f e && (has_name f e (codes "div") || (has_name f e (codes "span") || has_name f e (codes "center")))
+
+unfoldable pub name_div : ℕ → Run (Unit {0})
+name_div e = look λ s. if has_name s.trees e (codes "center") then set_tag_name e (codes "div") >> done else done
+
+unfoldable pub drop_plain : ℕ → Run (Unit {0})
+drop_plain e = look λ s. if is_plain s.trees e then remove_keeping_children e else name_div e
+
+unfoldable pub clear_alignment : ℕ → Run (Unit {0})
+clear_alignment e = do
+  unset_attribute e (codes "align")
+  unset_style e (codes "text-align")
+  drop_plain e
+
+unfoldable pub clear_alignments : Run (Unit {0})
+clear_alignments = look λ s. for_each (contained (is_aligning s) s) clear_alignment
+
+-- ---- justify, step 2: the nodes that are aligned otherwise
+
+unfoldable pub is_misaligned : List ℕ → State → ℕ → Bool
+is_misaligned alignment s l =
+    is_editable_for s l && (allowed_in_name s.trees l (codes "div") && not (bytes_eq (alignment_value s.trees l) alignment))
+
+-- ---- justify, step 3: they are wrapped, series by series
+
+-- a div with the style `text-align: X;`
+abbrev pub aligned_div : List ℕ → Blank
+aligned_div alignment = record {
+  name = codes "div";
+  attributes = record { name = codes "style"; value = codes "text-align: " ++ (alignment ++ codes ";") } ∷ [];
+}
+
+unfoldable pub wrapped : List ℕ → List ℕ → Run (Option ℕ)
+wrapped alignment list = wrap (Aligned alignment) (Make (aligned_div alignment)) list
+
+unfoldable pub align_series : List ℕ → List ℕ → Run (List ℕ)
+align_series alignment list = look λ s.
+    let count = count_series (is_next s) list in
+    wrapped alignment (take count list) >> answer (drop count list)
+
+unfoldable pub align_all : List ℕ → List ℕ → Run (Unit {0})
+align_all alignment list = look λ s. while_at_most (turn_bound s) has_members (align_series alignment) list >> done
+
+-- justify, steps 2 and 3
+unfoldable pub align_range : List ℕ → Run (Unit {0})
+align_range alignment = look λ s. align_all alignment (outermost (is_misaligned alignment s) s)
+
+unfoldable pub justify : List ℕ → Run Bool
+justify alignment = do
+  clear_alignments
+  align_range alignment
+  answer true

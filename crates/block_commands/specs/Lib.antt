@@ -1,0 +1,4 @@
+pub mod Gathered
+pub mod Series
+pub mod FormatBlock
+pub mod Justify

@@ -1,0 +1,211 @@
+//! What aligns, and the div that a list is aligned in.
+
+ghost use Rattle.std.specs.Prelude.{◌≡◌, ◌&&◌, ◌++◌, IfOk, true, false, not, bytes_eq, codes, map, slice_get};
+ghost use Rattle.std.specs.Char.{to_ascii_lowercase};
+ghost use Rattle.std.specs.List.{list_all};
+ghost use Rattle.std.specs.Option.{option_map_or};
+ghost use Rattle.dom_model.specs.Contents as contents;
+ghost use Rattle.css_value.specs.DeclarationList.{declarations_in};
+ghost use Rattle.css_value.specs.Values.{text_align_keyword};
+ghost use Rattle.edit_doc.specs.Held.{Holds};
+ghost use Rattle.wrap_split.specs.Target as target;
+ghost use Rattle.wrap_split.specs.declared.rule.Criterion.TheVariants.{Aligned};
+ghost use Rattle.block_commands.specs.Justify as justify;
+
+use block_extend::Choice;
+use command_value::alignment;
+use css_value::{Only, TextAlign, find, sets_only};
+use dom_model::{Attributes, Chars, Content, Name};
+use edit_doc::{Doc, NodeRef};
+use node_tests::{allowed_in_name, has_name};
+use std::alloc::{AllocError, Global};
+use wrap_split::{Blank, Meets};
+
+// Whether two texts are the same without regard to ASCII case.
+fn is_same_in_any_case(text: &[char], other: &[char]) -> bool
+    ensures { result ≡ bytes_eq (map to_ascii_lowercase text.now) (map to_ascii_lowercase other.now) }
+{
+    if text.len() != other.len() {
+        return false;
+    }
+    for (i, c) in text.iter().enumerate() {
+        if c.to_ascii_lowercase() != other[i].to_ascii_lowercase() {
+            return false;
+        }
+    }
+    true
+}
+
+// Whether a style sets text-align to this, and nothing else.
+fn is_text_align(text: &[char], alignment: &[char]) -> bool
+    ensures { result ≡ target.is_text_align alignment.now (declarations_in text.now) }
+{
+    if !sets_only(text, Only::TextAlign) {
+        return false;
+    }
+    match find(text, b"text-align") {
+        Some(value) => value == alignment,
+        None => false,
+    }
+}
+
+// Whether an attribute aligns so, and does nothing else.
+#[tactic(auto, unfolding(wrap_split::specs::Target::aligns))]
+fn aligns(name: &[u8], value: &[char], alignment: &[char]) -> bool
+    ensures { result ≡ target.aligns alignment.now (record { name = name.now; value = value.now }) }
+{
+    (name == b"align".as_slice() && is_same_in_any_case(value, alignment))
+        || (name == b"style".as_slice() && is_text_align(value, alignment))
+}
+
+// Whether the attribute at a place aligns so.
+fn aligns_at(attributes: &Attributes, place: usize, alignment: &[char]) -> bool
+    ensures { result ≡ option_map_or (target.aligns alignment.now) (slice_get attributes.now place) false }
+{
+    match attributes.at(place) {
+        Some((name, value)) => aligns(name, value.as_slice(), alignment),
+        None => false,
+    }
+}
+
+// Whether each attribute aligns so.
+#[tactic(auto, using(crate::proofs::Matching::passes_at, crate::proofs::Matching::fails_at, crate::proofs::Matching::all_end))]
+fn all_align(attributes: &Attributes, alignment: &[char]) -> bool
+    ensures { result ≡ list_all (target.aligns alignment.now) attributes.now }
+{
+    for place in 0..attributes.len() {
+        if !aligns_at(attributes, place, alignment) {
+            return false;
+        }
+    }
+    true
+}
+
+/// A div fits that does nothing but align so.
+#[derive(Drop)]
+pub struct AlignedSibling {
+    pub alignment: Chars,
+}
+
+impl Meets for AlignedSibling {
+    ghost criterion = { λ s. Aligned s.alignment };
+
+    #[tactic(auto, unfolding(wrap_split::specs::Target::meets, wrap_split::specs::Target::is_aligned))]
+    fn meets(&self, doc: &Doc, node: NodeRef) -> bool {
+        match doc.content(node) {
+            Content::Element {
+                name: _,
+                attributes,
+            } => {
+                has_name(doc, node, b"div")
+                    && attributes.len() != 0
+                    && all_align(attributes, self.alignment.as_slice())
+            }
+            _ => false,
+        }
+    }
+}
+
+/// Whether a node is a center, which is an element.
+pub(crate) fn is_center(doc: &Doc, node: NodeRef) -> bool
+    requires { Holds doc.now node }
+    ensures center { result ≡ contents.has_name doc.now.state.trees node.label (codes "center") }
+    ensures element { result ≡ true → contents.is_element_at doc.now.state.trees node.label ≡ true }
+{
+    match doc.content(node) {
+        Content::Element {
+            name,
+            attributes: _,
+        } => name.as_slice() == b"center".as_slice(),
+        _ => false,
+    }
+}
+
+// Whether a style declares text-align.
+fn sets_alignment(text: &[char]) -> bool
+    ensures { result ≡ justify.sets_alignment text.now }
+{
+    find(text, b"text-align").is_some()
+}
+
+// Whether attributes align what is in an element.
+fn has_alignment(attributes: &Attributes) -> bool
+    ensures { result ≡ justify.has_alignment attributes.now }
+{
+    if attributes.get(b"align").is_some() {
+        return true;
+    }
+    match attributes.get(b"style") {
+        Some(text) => sets_alignment(text.as_slice()),
+        None => false,
+    }
+}
+
+// Justify, step 1: an align attribute, a style that declares text-align, or a center.
+#[tactic(auto, unfolding(crate::specs::Justify::gives_alignment))]
+fn gives_alignment(doc: &Doc, node: NodeRef) -> bool
+    requires { Holds doc.now node }
+    ensures { result ≡ justify.gives_alignment doc.now.state node.label }
+{
+    match doc.content(node) {
+        Content::Element {
+            name: _,
+            attributes,
+        } => has_alignment(attributes) || is_center(doc, node),
+        _ => false,
+    }
+}
+
+/// The elements that give up their alignment.
+#[derive(Clone, Copy)]
+pub(crate) struct Aligning;
+
+impl Choice<Doc> for Aligning {
+    ghost use Rattle.block_commands.specs.Justify.{is_aligning};
+
+    ghost chosen = { λ s d l. is_aligning d.state l };
+
+    #[tactic(auto, unfolding(crate::specs::Justify::is_aligning))]
+    fn chooses(&self, doc: &Doc, node: NodeRef) -> bool {
+        doc.is_editable_for(node) && gives_alignment(doc, node)
+    }
+}
+
+/// Justify, step 2: the nodes that are aligned otherwise.
+#[derive(Clone, Copy)]
+pub(crate) struct Misaligned {
+    pub alignment: TextAlign,
+}
+
+impl Choice<Doc> for Misaligned {
+    ghost use Rattle.css_value.specs.Values.{text_align_keyword};
+    ghost use Rattle.block_commands.specs.Justify.{is_misaligned};
+
+    ghost chosen = { λ s d l. is_misaligned (text_align_keyword s.alignment) d.state l };
+
+    #[tactic(auto, unfolding(crate::specs::Justify::is_misaligned, command_value::specs::Alignment::alignment_value))]
+    fn chooses(&self, doc: &Doc, node: NodeRef) -> bool {
+        doc.is_editable_for(node)
+            && allowed_in_name(doc, node, b"div")
+            && alignment(doc, node).keyword() != self.alignment.keyword()
+    }
+}
+
+/// A div with the style `text-align: X;`.
+pub(crate) fn aligned_div(alloc: Global, alignment: &[char]) -> Result<Blank, AllocError>
+    ensures { IfOk result (λ blank. blank ≡ justify.aligned_div alignment.now) }
+{
+    let mut text = Vec::new(alloc);
+    text.extend_from_slice(&['t', 'e', 'x', 't', '-', 'a', 'l', 'i', 'g', 'n', ':', ' '])?;
+    text.extend_from_slice(alignment)?;
+    text.push(';')?;
+    let mut attributes = Attributes::new(alloc);
+    attributes.insert(
+        Name::from_slice(alloc, b"style")?,
+        Chars::from_slice(alloc, &text)?,
+    )?;
+    Ok(Blank {
+        name: Name::from_slice(alloc, b"div")?,
+        attributes,
+    })
+}

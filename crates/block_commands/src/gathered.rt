@@ -1,0 +1,112 @@
+//! The nodes of the block-extended active range that a block command goes over.
+
+ghost use Rattle.std.specs.Prelude.{◌≡◌, ◌<◌, IfOk, filter};
+ghost use Rattle.dom_model.specs.Forest.{count_of};
+ghost use Rattle.edit_model.specs.Gives.{labels_of};
+ghost use Rattle.edit_model.specs.Lawful.{IsPlacedPair};
+ghost use Rattle.edit_doc.specs.Held.{EachHeld};
+ghost use Rattle.block_commands.specs.Gathered as gathered;
+
+use block_extend::{Choice, block_extend, gather_in};
+use edit_actions::ends_of;
+use edit_doc::{Doc, NodeList, NodeRef, Pair, Point};
+use node_tests::contained_nodes;
+use std::alloc::{AllocError, Global};
+
+// The ends of the range of two points, block-extended.
+#[tactic(auto, using(edit_actions::proofs::Placed::placed_here))]
+fn extended(doc: &Doc, pair: Pair) -> (Point, Point)
+    requires { IsPlacedPair doc.now.state.trees pair }
+    ensures range { result ≡ gathered.extended doc.now.state.trees pair }
+    ensures start { 0 < count_of doc.now.state.trees result.0.label }
+    ensures end { 0 < count_of doc.now.state.trees result.1.label }
+{
+    block_extend(doc, ends_of(doc, pair))
+}
+
+// Of a range, the nodes that pass, without those that have an ancestor among them.
+fn outermost_in<C: Choice<Doc>>(
+    alloc: Global,
+    doc: &Doc,
+    range: (Point, Point),
+    choice: &C,
+) -> Result<NodeList, AllocError>
+    requires start { 0 < count_of doc.now.state.trees range.0.label }
+    requires end { 0 < count_of doc.now.state.trees range.1.label }
+    ensures held { IfOk result (λ list. EachHeld doc.now list) }
+    ensures nodes { IfOk result (λ list. labels_of list ≡ gathered.outermost_in (C.chosen choice.now doc.now) doc.now.state.trees range) }
+{
+    gather_in(alloc, doc, range, choice)
+}
+
+/// The nodes that the block-extended active range contains and that pass a test, in tree order, without those that have an
+/// ancestor among them. Without a selection there are none.
+#[tactic(auto, unfolding(crate::specs::Gathered::outermost))]
+pub(crate) fn outermost<C: Choice<Doc>>(
+    alloc: Global,
+    doc: &Doc,
+    choice: &C,
+) -> Result<NodeList, AllocError>
+    ensures held { IfOk result (λ list. EachHeld doc.now list) }
+    ensures nodes { IfOk result (λ list. labels_of list ≡ gathered.outermost (C.chosen choice.now doc.now) doc.now.state) }
+{
+    doc.lawful();
+    match doc.points().selection() {
+        Some(pair) => outermost_in(alloc, doc, extended(doc, pair), choice),
+        None => NodeList::from_slice(alloc, &[]),
+    }
+}
+
+// Of a list, the nodes that pass.
+fn chosen_of<C: Choice<Doc>>(
+    alloc: Global,
+    doc: &Doc,
+    choice: &C,
+    list: &[NodeRef],
+) -> Result<Vec<NodeRef>, AllocError>
+    requires { EachHeld doc.now list.now }
+    ensures held { IfOk result (λ kept. EachHeld doc.now kept.items) }
+    ensures nodes { IfOk result (λ kept. labels_of kept.items ≡ filter (C.chosen choice.now doc.now) (labels_of list.now)) }
+{
+    let mut kept = Vec::new(alloc);
+    for node in list {
+        if choice.chooses(doc, *node) {
+            kept.push(*node)?;
+        }
+    }
+    Ok(kept)
+}
+
+// Of a range, all nodes that pass.
+fn contained_in<C: Choice<Doc>>(
+    alloc: Global,
+    doc: &Doc,
+    range: (Point, Point),
+    choice: &C,
+) -> Result<Vec<NodeRef>, AllocError>
+    requires start { 0 < count_of doc.now.state.trees range.0.label }
+    requires end { 0 < count_of doc.now.state.trees range.1.label }
+    ensures held { IfOk result (λ list. EachHeld doc.now list.items) }
+    ensures nodes { IfOk result (λ list. labels_of list.items ≡ gathered.contained_in (C.chosen choice.now doc.now) doc.now.state.trees range) }
+{
+    let list = contained_nodes(alloc, doc, range)?;
+    chosen_of(alloc, doc, choice, list.as_slice())
+}
+
+/// All nodes that the block-extended active range contains and that pass a test, in tree order. Without a selection there are
+/// none.
+#[tactic(auto, unfolding(crate::specs::Gathered::contained))]
+pub(crate) fn contained<C: Choice<Doc>>(
+    alloc: Global,
+    doc: &Doc,
+    choice: &C,
+) -> Result<Vec<NodeRef>, AllocError>
+    ensures held { IfOk result (λ list. EachHeld doc.now list.items) }
+    ensures nodes { IfOk result (λ list. labels_of list.items ≡ gathered.contained (C.chosen choice.now doc.now) doc.now.state) }
+{
+    doc.lawful();
+    match doc.points().selection() {
+        Some(pair) => contained_in(alloc, doc, extended(doc, pair), choice),
+        None => Ok(Vec::new(alloc)),
+    }
+}

@@ -1,0 +1,205 @@
+//! The justify commands. The steps are those of docs/ALGORITHMS.md.
+
+ghost use Rattle.std.specs.Prelude.{IfOk, ◌≡◌, ◌≤◌, length, drop};
+ghost use Rattle.css_value.specs.Values.{text_align_keyword};
+ghost use Rattle.edit_model.specs.Gives.{Gives, GivesAs, GivesMaybe, labels_of};
+ghost use Rattle.edit_doc.specs.Held.{Holds, EachHeld, Keeps};
+ghost use Rattle.edit_model.specs.Run.{for_each};
+ghost use Rattle.edit_doc.specs.Whole.{IsOpen};
+ghost use Rattle.wrap_split.specs.Target.{is_without_attributes};
+ghost use Rattle.block_commands.specs.Justify as justify;
+
+use crate::aligned::{AlignedSibling, Aligning, Misaligned, aligned_div, is_center};
+use crate::bound::turn_bound;
+use crate::gathered::{contained, outermost};
+use crate::series::count_siblings;
+use css_value::TextAlign;
+use dom_model::{Chars, Content, Name};
+use edit_doc::{Doc, EditFault, NodeList, NodeRef};
+use inline_value::unset_style;
+use node_tests::has_name;
+use std::alloc::Global;
+use wrap_split::{CopyMade, WrapRule, remove_keeping_children, wrap};
+
+// Step 1: a center becomes a div.
+#[tactic(auto, using(edit_model::proofs::Steps::steps, edit_model::proofs::Steps::exits), unfolding(crate::specs::Justify::name_div))]
+fn name_div(alloc: Global, doc: &mut Doc, node: NodeRef) -> Result<(), EditFault>
+    requires open { IsOpen doc.old }
+    requires node_held { Holds doc.old node }
+    ensures gives { Gives result doc.old.state doc.new.state (justify.name_div node.label) }
+    ensures keeps { Keeps doc.old doc.new }
+{
+    if is_center(doc, node) {
+        let name = Name::from_slice(alloc, b"div")?;
+        doc.set_tag_name(node, &name)?;
+    }
+    Ok(())
+}
+
+// Step 1: whether a node is an element without attributes.
+fn is_bare(doc: &Doc, node: NodeRef) -> bool
+    requires { Holds doc.now node }
+    ensures { result ≡ is_without_attributes doc.now.state.trees node.label }
+{
+    match doc.content(node) {
+        Content::Element {
+            name: _,
+            attributes,
+        } => attributes.len() == 0,
+        _ => false,
+    }
+}
+
+// Step 1: whether it is a div, span or center without attributes.
+#[tactic(auto, unfolding(crate::specs::Justify::is_plain))]
+fn is_plain(doc: &Doc, node: NodeRef) -> bool
+    requires { Holds doc.now node }
+    ensures { result ≡ justify.is_plain doc.now.state.trees node.label }
+{
+    is_bare(doc, node)
+        && (has_name(doc, node, b"div")
+            || has_name(doc, node, b"span")
+            || has_name(doc, node, b"center"))
+}
+
+// Step 1: such an element goes, and its children stay.
+#[tactic(auto, using(edit_model::proofs::Steps::steps, edit_model::proofs::Steps::exits), unfolding(crate::specs::Justify::drop_plain))]
+fn drop_plain(alloc: Global, doc: &mut Doc, node: NodeRef) -> Result<(), EditFault>
+    requires open { IsOpen doc.old }
+    requires node_held { Holds doc.old node }
+    ensures gives { Gives result doc.old.state doc.new.state (justify.drop_plain node.label) }
+    ensures keeps { Keeps doc.old doc.new }
+{
+    if is_plain(doc, node) {
+        remove_keeping_children(alloc, doc, node)
+    } else {
+        name_div(alloc, doc, node)
+    }
+}
+
+// Step 1, of one element.
+#[tactic(auto, using(edit_model::proofs::Steps::steps, edit_model::proofs::Steps::exits), unfolding(crate::specs::Justify::clear_alignment))]
+fn clear_alignment(alloc: Global, doc: &mut Doc, node: NodeRef) -> Result<(), EditFault>
+    requires open { IsOpen doc.old }
+    requires node_held { Holds doc.old node }
+    ensures gives { Gives result doc.old.state doc.new.state (justify.clear_alignment node.label) }
+    ensures keeps { Keeps doc.old doc.new }
+{
+    let name = Name::from_slice(alloc, b"align")?;
+    doc.unset_attribute(node, &name)?;
+    unset_style(alloc, doc, node, b"text-align")?;
+    drop_plain(alloc, doc, node)
+}
+
+// Step 1, of each element of a list.
+#[tactic(auto, using(edit_model::proofs::Steps::eachs, edit_model::proofs::Steps::exits))]
+fn clear_each(alloc: Global, doc: &mut Doc, list: &[NodeRef]) -> Result<(), EditFault>
+    requires open { IsOpen doc.old }
+    requires list_held { EachHeld doc.old list.now }
+    ensures gives { Gives result doc.old.state doc.new.state (for_each (labels_of list.now) justify.clear_alignment) }
+    ensures keeps { Keeps doc.old doc.new }
+{
+    for node in list {
+        clear_alignment(alloc, doc, *node)?;
+    }
+    Ok(())
+}
+
+// Step 1.
+#[tactic(auto, using(edit_model::proofs::Steps::steps, edit_model::proofs::Steps::exits), unfolding(crate::specs::Justify::clear_alignments))]
+fn clear_alignments(alloc: Global, doc: &mut Doc) -> Result<(), EditFault>
+    requires open { IsOpen doc.old }
+    ensures gives { Gives result doc.old.state doc.new.state justify.clear_alignments }
+    ensures keeps { Keeps doc.old doc.new }
+{
+    let list = contained(alloc, doc, &Aligning)?;
+    clear_each(alloc, doc, &list)
+}
+
+// Step 3: a list is wrapped in a div that aligns so.
+#[tactic(auto, using(edit_model::proofs::Steps::steps, edit_model::proofs::Steps::exits), unfolding(crate::specs::Justify::wrapped))]
+fn wrap_aligned(
+    alloc: Global,
+    doc: &mut Doc,
+    alignment: &[char],
+    list: &[NodeRef],
+) -> Result<Option<NodeRef>, EditFault>
+    requires open { IsOpen doc.old }
+    requires list_held { EachHeld doc.old list.now }
+    ensures gives { GivesMaybe result doc.old.state doc.new.state (justify.wrapped alignment.now (labels_of list.now)) }
+    ensures keeps { Keeps doc.old doc.new }
+{
+    let test = AlignedSibling {
+        alignment: Chars::from_slice(alloc, alignment)?,
+    };
+    let maker = CopyMade {
+        blank: aligned_div(alloc, alignment)?,
+    };
+    let members = NodeList::from_slice(alloc, list)?;
+    wrap(alloc, doc, members, &WrapRule::new(test, maker))
+}
+
+// Step 3, one turn: how many members the first series of a list has, which are wrapped.
+#[tactic(auto, using(edit_model::proofs::Steps::steps, edit_model::proofs::Steps::exits, crate::proofs::Counting::labels_of_take, crate::proofs::Counting::labels_of_rest, crate::proofs::Counting::exit_count), unfolding(crate::specs::Justify::align_series))]
+fn align_series(
+    alloc: Global,
+    doc: &mut Doc,
+    alignment: &[char],
+    list: &[NodeRef],
+) -> Result<usize, EditFault>
+    requires open { IsOpen doc.old }
+    requires list_held { EachHeld doc.old list.now }
+    ensures gives { GivesAs (λ count. labels_of (drop count list.now)) result doc.old.state doc.new.state (justify.align_series alignment.now (labels_of list.now)) }
+    ensures within { IfOk result (λ count. count ≤ length list.now) }
+    ensures keeps { Keeps doc.old doc.new }
+{
+    let count = count_siblings(doc, list);
+    wrap_aligned(alloc, doc, alignment, &list[..count])?;
+    Ok(count)
+}
+
+// Step 3.
+#[tactic(auto, using(edit_model::proofs::Steps::whiles, edit_model::proofs::Steps::exits, crate::proofs::Counting::members_on, crate::proofs::Counting::members_off, crate::proofs::Counting::drop_more, crate::proofs::Counting::exit_count), unfolding(crate::specs::Justify::align_all))]
+fn align_all(
+    alloc: Global,
+    doc: &mut Doc,
+    alignment: &[char],
+    list: &[NodeRef],
+) -> Result<(), EditFault>
+    requires open { IsOpen doc.old }
+    requires list_held { EachHeld doc.old list.now }
+    ensures gives { Gives result doc.old.state doc.new.state (justify.align_all alignment.now (labels_of list.now)) }
+    ensures keeps { Keeps doc.old doc.new }
+{
+    let mut left = turn_bound(doc);
+    let mut at: usize = 0;
+    while left > 0 && at < list.len() {
+        at += align_series(alloc, doc, alignment, &list[at..])?;
+        left -= 1;
+    }
+    Ok(())
+}
+
+// Steps 2 and 3.
+#[tactic(auto, using(edit_model::proofs::Steps::steps, edit_model::proofs::Steps::exits), unfolding(crate::specs::Justify::align_range))]
+fn align_range(alloc: Global, doc: &mut Doc, alignment: TextAlign) -> Result<(), EditFault>
+    requires open { IsOpen doc.old }
+    ensures gives { Gives result doc.old.state doc.new.state (justify.align_range (text_align_keyword alignment)) }
+    ensures keeps { Keeps doc.old doc.new }
+{
+    let list = outermost(alloc, doc, &Misaligned { alignment })?;
+    let text = alignment.print(alloc)?;
+    align_all(alloc, doc, &text, list.as_slice())
+}
+
+/// Justifies the active range: its blocks come to stand in a div that aligns them. It answers true.
+#[tactic(auto, using(edit_model::proofs::Steps::steps, edit_model::proofs::Steps::exits), unfolding(crate::specs::Justify::justify))]
+pub fn justify(alloc: Global, doc: &mut Doc, alignment: TextAlign) -> Result<bool, EditFault>
+    requires open { IsOpen doc.old }
+    ensures gives { Gives result doc.old.state doc.new.state (justify.justify (text_align_keyword alignment)) }
+    ensures keeps { Keeps doc.old doc.new }
+{
+    clear_alignments(alloc, doc)?;
+    align_range(alloc, doc, alignment)?;
+    Ok(true)
+}

@@ -1,0 +1,15 @@
+//! Commands on blocks, as actions on a document under edits: between a command's begin and its end. Each answers whether the
+//! command was taken (HTML Editing APIs, "action").
+#![tactic(auto)]
+
+mod aligned;
+mod bound;
+mod formatting;
+mod gathered;
+mod justifying;
+mod lines;
+mod names;
+mod series;
+
+pub use formatting::format_block;
+pub use justifying::justify;

@@ -1,0 +1,61 @@
+//! The nodes that formatBlock is for, and the blocks that they leave. The steps are those of docs/ALGORITHMS.md.
+
+ghost use Rattle.std.specs.Prelude.{◌≡◌};
+ghost use Rattle.edit_doc.specs.Held.{Holds};
+ghost use Rattle.block_commands.specs.FormatBlock as format;
+
+use block_extend::{Choice, is_above_prohibited};
+use edit_doc::{Doc, NodeRef};
+use node_tests::{allowed_in_name, has_name, is_formattable_block, is_non_list_single_line};
+
+// Step 2: a line of its own but for li, or what may stand in a paragraph.
+#[tactic(auto, unfolding(crate::specs::FormatBlock::is_line))]
+fn is_line(doc: &Doc, node: NodeRef) -> bool
+    requires { Holds doc.now node }
+    ensures { result ≡ format.is_line doc.now.state.trees node.label }
+{
+    is_non_list_single_line(doc, node)
+        || has_name(doc, node, b"dd")
+        || has_name(doc, node, b"dt")
+        || allowed_in_name(doc, node, b"p")
+}
+
+/// The nodes that formatBlock is for.
+#[derive(Clone, Copy)]
+pub(crate) struct Formatted;
+
+impl Choice<Doc> for Formatted {
+    ghost use Rattle.block_commands.specs.FormatBlock.{is_formatted};
+
+    ghost chosen = { λ s d l. is_formatted d.state l };
+
+    #[tactic(auto, unfolding(crate::specs::FormatBlock::is_formatted))]
+    fn chooses(&self, doc: &Doc, node: NodeRef) -> bool {
+        doc.is_editable_for(node) && is_line(doc, node) && !is_above_prohibited(doc, node)
+    }
+}
+
+// Step 3: an editable block with no other block in it.
+#[tactic(auto, unfolding(crate::specs::FormatBlock::is_outer_block))]
+fn is_outer_block(doc: &Doc, node: NodeRef) -> bool
+    requires { Holds doc.now node }
+    ensures { result ≡ format.is_outer_block doc.now.state node.label }
+{
+    doc.is_editable_for(node) && is_formattable_block(doc, node) && !is_above_prohibited(doc, node)
+}
+
+/// Whether an ancestor of a node is such a block.
+pub(crate) fn has_outer_block(doc: &Doc, node: NodeRef) -> bool
+    requires { Holds doc.now node }
+    ensures { result ≡ format.has_outer_block doc.now.state node.label }
+{
+    doc.lawful();
+    let mut at = doc.parent(node);
+    while let Some(above) = at {
+        if is_outer_block(doc, above) {
+            return true;
+        }
+        at = doc.parent(above);
+    }
+    false
+}
