@@ -1,0 +1,122 @@
+-- How a list is taken series by series.
+use Rattle.std.proofs.Common.{◌≡◌, ℕ, zero, suc, ◌+◌, ◌-◌, ◌<◌, ◌≤◌, Bool, List, [], ◌∷◌, length, take, drop, map, min, get_or, refl, sym, ap, ◌∙◌, subst, add-one, arith}
+use Rattle.std.proofs.Math.ListN.{drop_of_length-le}
+use Rattle.std.proofs.lemmas.List.{length-take, length-drop, get_or-take, get_or-drop, take_all}
+use Rattle.std.proofs.lemmas.List.Elements.{All-from_get_or, All-get_or, All-drop}
+use Rattle.std.specs.List.{All}
+use Rattle.node_arena.specs.declared.NodeRef.{NodeRef}
+use Rattle.edit_model.specs.State.{State}
+use Rattle.edit_model.specs.Run.{Run, final, ◌>>=◌, answer, look}
+use Rattle.edit_model.specs.declared.settings.EditFault.{EditFault}
+use Rattle.edit_model.specs.Gives.{labels_of, Fails}
+use Rattle.edit_model.proofs.Steps.{steps, final-bind, fails-bind, length-labels_of}
+use Rattle.edit_doc.specs.Whole.{Whole}
+use Rattle.edit_doc.specs.Held.{Holds, EachHeld}
+use Rattle.block_extend.specs.Series.{count_after, count_series}
+use Rattle.list_indent.specs.Series.{for_series}
+
+-- ---- lists of references
+
+pub labels_map : (xs : List NodeRef) → map (λ r. r.label) xs ≡ labels_of xs
+labels_map [] = refl
+labels_map (x ∷ xs) = ap (λ r. x.label ∷ r) (labels_map xs)
+
+labels_take : (n : ℕ) (xs : List NodeRef) → take n (labels_of xs) ≡ labels_of (take n xs)
+labels_take zero xs = refl
+labels_take (suc n) [] = refl
+labels_take (suc n) (x ∷ xs) = ap (λ r. x.label ∷ r) (labels_take n xs)
+
+labels_drop : (n : ℕ) (xs : List NodeRef) → drop n (labels_of xs) ≡ labels_of (drop n xs)
+labels_drop zero xs = refl
+labels_drop (suc n) [] = refl
+labels_drop (suc n) (x ∷ xs) = labels_drop n xs
+
+drop_none : (n : ℕ) → drop {A = NodeRef} n [] ≡ []
+drop_none zero = refl
+drop_none (suc n) = refl
+
+drop_drop : (m n : ℕ) (xs : List NodeRef) → drop n (drop m xs) ≡ drop (m + n) xs
+drop_drop zero n xs = let same : n ≡ zero + n = omega arith in ap (λ k. drop k xs) same
+drop_drop (suc m) n [] = drop_none n ∙ sym (drop_none (suc m + n))
+drop_drop (suc m) n (x ∷ xs) = let same : suc (m + n) ≡ suc m + n = omega arith in drop_drop m n xs ∙ ap (λ k. drop k (x ∷ xs)) same
+
+-- ---- what is passed over
+
+skipped : (on : State → ℕ → ℕ → Bool) (body : List ℕ → Run (Unit {0})) (n : ℕ) (xs : List ℕ) → for_series on body n xs ≡ for_series on body zero (drop n xs)
+unfolding for_series
+skipped on body zero xs = refl
+skipped on body (suc n) [] = refl
+skipped on body (suc n) (x ∷ xs) = skipped on body n xs
+
+-- ---- a turn, and the end
+
+first_turn : (on : State → ℕ → ℕ → Bool) (body : List ℕ → Run (Unit {0})) (xs : List ℕ) (s : State) → 0 < length xs →
+    final (for_series on body zero xs) s
+    ≡ final (body (take (count_series (on s) xs) xs) >>= (λ _. for_series on body zero (drop (count_series (on s) xs) xs))) s
+unfolding for_series look ◌>>=◌ final
+first_turn on body [] s h = absurd (omega arith)
+first_turn on body (x ∷ xs) s h =
+    let k = count_after (on s) x xs in
+    ap (λ m. final (body (x ∷ take k xs) >>= (λ _. m)) s) (skipped on body k xs)
+    ∙ ap (λ j. final (body (take j (x ∷ xs)) >>= (λ _. for_series on body zero (drop j (x ∷ xs)))) s) (sym (add-one k))
+
+pub series_turn : (on : State → ℕ → ℕ → Bool) (body : List ℕ → Run (Unit {0})) (xs : List NodeRef) (at n : ℕ) (s : State) → at < length xs
+    → n ≡ count_series (on s) (map (λ r. r.label) (drop at xs))
+    → final (for_series on body 0 (labels_of (drop at xs))) s
+    ≡ final (body (labels_of (take n (drop at xs))) >>= (λ _. for_series on body 0 (labels_of (drop (at + n) xs)))) s
+series_turn on body xs at n s h count =
+    let some : 0 < length (labels_of (drop at xs)) = rw (length-labels_of (drop at xs), length-drop at xs) (omega (arith, h)) in
+    let n_is : count_series (on s) (labels_of (drop at xs)) ≡ n = sym (count ∙ ap (count_series (on s)) (labels_map (drop at xs))) in
+    let rest : drop n (labels_of (drop at xs)) ≡ labels_of (drop (at + n) xs) = labels_drop n (drop at xs) ∙ ap labels_of (drop_drop at n xs) in
+    first_turn on body (labels_of (drop at xs)) s some
+    ∙ ap (λ j. final (body (take j (labels_of (drop at xs))) >>= (λ _. for_series on body 0 (drop j (labels_of (drop at xs))))) s) n_is
+    ∙ ap (λ ys. final (body ys >>= (λ _. for_series on body 0 (drop n (labels_of (drop at xs))))) s) (labels_take n (drop at xs))
+    ∙ ap (λ ys. final (body (labels_of (take n (drop at xs))) >>= (λ _. for_series on body 0 ys)) s) rest
+
+pub series_end : (on : State → ℕ → ℕ → Bool) (body : List ℕ → Run (Unit {0})) (xs : List NodeRef) (at : ℕ) → length xs ≤ at →
+    for_series on body 0 (labels_of (drop at xs)) ≡ answer tt
+unfolding for_series
+series_end on body xs at h = rw (drop_of_length-le xs h) refl
+
+pub ruleset series = (steps, series_end)
+
+-- a turn that is done, and one in which a fault comes
+
+pub rest_same : (xs : List NodeRef) (at : ℕ) → take (length xs - at) (drop at xs) ≡ drop at xs
+rest_same xs at = let long = length-drop at xs in take_all (length xs - at) (drop at xs) (omega (arith, long))
+
+module _ (on : State → ℕ → ℕ → Bool) (body : List ℕ → Run (Unit {0})) (xs part : List NodeRef) (at n : ℕ) (s : State) (low : at < length xs)
+    (count : n ≡ count_series (on s) (map (λ r. r.label) (take (length xs - at) (drop at xs)))) (is : part ≡ take n (take (length xs - at) (drop at xs))) where
+  turn : final (for_series on body 0 (labels_of (drop at xs))) s
+      ≡ final (body (labels_of part) >>= (λ _. for_series on body 0 (labels_of (drop (at + n) xs)))) s
+  turn =
+      series_turn on body xs at n s low (count ∙ ap (λ ys. count_series (on s) (map (λ r. r.label) ys)) (rest_same xs at))
+      ∙ ap (λ ys. final (body (labels_of ys) >>= (λ _. for_series on body 0 (labels_of (drop (at + n) xs)))) s) (sym (is ∙ ap (take n) (rest_same xs at)))
+
+  pub turn_done : (t whole : State) → final (body (labels_of part)) s ≡ t → final (for_series on body 0 (labels_of (drop at xs))) s ≡ whole
+      → final (for_series on body 0 (labels_of (drop (at + n) xs))) t ≡ whole
+  turn_done t whole to same =
+      ap (final (for_series on body 0 (labels_of (drop (at + n) xs)))) (sym to)
+      ∙ (sym (final-bind (body (labels_of part)) (λ _. for_series on body 0 (labels_of (drop (at + n) xs))) s) ∙ (sym turn ∙ same))
+
+  pub turn_fails : (e : EditFault) (whole : State) → Fails e (final (body (labels_of part)) s) → final (for_series on body 0 (labels_of (drop at xs))) s ≡ whole → Fails e whole
+  turn_fails e whole fails same =
+      subst (Fails e) (sym turn ∙ same) (fails-bind e (body (labels_of part)) (λ _. for_series on body 0 (labels_of (drop (at + n) xs))) s fails)
+
+-- ---- what is held of a list is held of a part of it
+
+pub held_drop : (d : Whole) (xs : List NodeRef) (at : ℕ) → EachHeld d xs → All (Holds d) (drop at xs)
+held_drop d xs at held = All-drop (Holds d) at xs (All-from_get_or (Holds d) xs record { slot = 0; label = 0 } held)
+
+pub held_all : (d : Whole) (xs : List NodeRef) → All (Holds d) xs → EachHeld d xs
+held_all d xs held = λ k low. All-get_or (Holds d) xs k record { slot = 0; label = 0 } low held
+
+pub held_part : (d : Whole) (xs : List NodeRef) (at n : ℕ) → EachHeld d xs → EachHeld d (take n (drop at xs))
+held_part d xs at n held = λ k low. at_place k low
+  where
+    at_place : (k : ℕ) → k < length (take n (drop at xs)) → Holds d (get_or (take n (drop at xs)) k record { slot = 0; label = 0 })
+    at_place k low =
+        let few : k < min n (length xs - at) = rw (length-take, length-drop) at low in
+        let in_part : k < n = omega (arith, few) in
+        let in_list : at + k < length xs = omega (arith, few) in
+        rw (get_or-take n (drop at xs) k record { slot = 0; label = 0 } in_part, get_or-drop at xs k record { slot = 0; label = 0 }) (held (at + k) in_list)

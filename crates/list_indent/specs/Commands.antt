@@ -1,0 +1,154 @@
+-- The commands indent and outdent (HTML Editing APIs, "the indent command", "the outdent command"). The steps are those of
+-- docs/ALGORITHMS.md.
+use Rattle.std.specs.Prelude.{ℕ, Bool, true, false, ◌||◌, ◌&&◌, not, List, [], ◌++◌, map, filter, reverse, codes, Option, Some, None, if◌then◌else◌}
+use Rattle.std.specs.Option.{option_and_then}
+use Rattle.dom_model.specs.declared.Content.{Content}
+use Rattle.dom_model.specs.Contents.{has_name}
+use Rattle.dom_model.specs.Forest.{Forest, parent_of, children_of, first_of, first_in}
+use Rattle.dom_model.specs.Forest.Forest.{Nil, Tree}
+use Rattle.live_range.specs.declared.places.Pair.{Pair}
+use Rattle.live_range.specs.declared.places.Point.{Point}
+use Rattle.point_order.specs.PointOrder.{is_within}
+use Rattle.node_styles.specs.Allowed.{allowed_in_name}
+use Rattle.node_styles.specs.Lineage.{lineage}
+use Rattle.edit_model.specs.State.{State}
+use Rattle.edit_model.specs.Confined.{is_editable_for}
+use Rattle.edit_model.specs.Run.{Run, ◌>>=◌, ◌>>◌, answer, done, look, given, for_each}
+use Rattle.edit_actions.specs.ActiveRange.{start_of, end_of}
+use Rattle.edit_actions.specs.Siblings.{until}
+use Rattle.wrap_split.specs.Split.{split_parent}
+use Rattle.wrap_split.specs.Wrap.{first_visible, last_visible}
+use Rattle.inline_value.specs.Ancestors.{fix_ancestors}
+use Rattle.inline_value.specs.Recording.{record_values, restore_values}
+use Rattle.block_extend.specs.BlockExtend.{block_extend}
+use Rattle.block_extend.specs.Gather.{gathered}
+use Rattle.block_extend.specs.Series.{is_next}
+use Rattle.node_paths.specs.Onward.{onward_at}
+use Rattle.list_indent.specs.Series.{for_series}
+use Rattle.list_indent.specs.Sublists.{is_list, is_item, is_in_list, normalize_sublists}
+use Rattle.list_indent.specs.Indenting.{indent_list}
+use Rattle.list_indent.specs.Outdenting.{outdent_node}
+
+-- ---- indent and outdent, step 1: the items around the ends of the active range
+
+-- the items among a node and its ancestors, in tree order
+unfoldable pub items_over : Forest Content → ℕ → List ℕ
+items_over f n = filter (λ l. has_name f l (codes "li")) (reverse (map (λ k. k.label) (lineage f n)))
+
+-- the items around two nodes of which the first isn't after the second, in tree order: those around the first, and then
+-- those around the second alone
+unfoldable pub items_around : Forest Content → ℕ → ℕ → List ℕ
+items_around f start end = items_over f start ++ filter (λ l. not (is_within f l start)) (items_over f end)
+
+abbrev pub items_by : Forest Content → Option Pair → List ℕ
+items_by f None = []
+items_by f (Some pair) = items_around f (start_of f pair).label (end_of f pair).label
+
+unfoldable pub range_items : State → List ℕ
+range_items s = items_by s.trees s.points.selection
+
+unfoldable pub normalize_range : Run (Unit {0})
+normalize_range = look λ s. for_each (range_items s) normalize_sublists
+
+-- ---- indent and outdent, step 2: what is gathered in the block-extended range
+
+abbrev pub gathered_in : (ℕ → Bool) → Forest Content → Point × Point → List ℕ
+gathered_in test f range = gathered test f range.0 range.1
+
+abbrev pub gathered_by : (ℕ → Bool) → Forest Content → Option Pair → List ℕ
+gathered_by test f None = []
+gathered_by test f (Some pair) = gathered_in test f (block_extend f (start_of f pair) (end_of f pair))
+
+unfoldable pub range_nodes : (State → ℕ → Bool) → State → List ℕ
+range_nodes test s = gathered_by (test s) s.trees s.points.selection
+
+-- ---- indent
+
+-- indent, step 2: an editable node that may stand in a div or an ol
+unfoldable pub is_indentable : State → ℕ → Bool
+is_indentable s n =
+    is_editable_for s n && (allowed_in_name s.trees n (codes "div") || allowed_in_name s.trees n (codes "ol"))
+
+-- indent, step 3: the last visible sibling before n
+unfoldable pub shown_before : State → ℕ → Option ℕ
+shown_before s n = option_and_then (λ p. last_visible s (until n (children_of s.trees p))) (parent_of s.trees n)
+
+-- indent, step 3, where n is the first visible node: the item before an item of a list is normalized
+unfoldable pub normalize_before : ℕ → Run (Unit {0})
+normalize_before n = look λ s.
+    if is_item s n && is_in_list s n then given (shown_before s n) done normalize_sublists else done
+
+unfoldable pub normalize_first : List ℕ → Run (Unit {0})
+normalize_first list = look λ s. given (first_visible s list) done normalize_before
+
+-- indent, step 4: series of siblings
+abbrev pub goes_on : State → ℕ → ℕ → Bool
+goes_on s x y = is_next s.trees x y
+
+unfoldable pub indent_nodes : List ℕ → Run (Unit {0})
+indent_nodes list = do
+  normalize_first list
+  for_series goes_on indent_list 0 list
+
+-- indent, step 2, and then from 3 on
+unfoldable pub indent_gathered : Run (Unit {0})
+indent_gathered = look λ s. indent_nodes (range_nodes is_indentable s)
+
+-- indent, steps 1 to 4
+unfoldable pub indent : Run Bool
+indent = do
+  normalize_range
+  indent_gathered
+  answer true
+
+-- ---- outdent
+
+-- a node of these trees is editable
+abbrev pub has_editable : State → Forest Content → Bool
+has_editable s Nil = false
+has_editable s (Tree l c ks rest) = is_editable_for s l || (has_editable s ks || has_editable s rest)
+
+-- a descendant of n is editable
+unfoldable pub has_editable_below : State → ℕ → Bool
+has_editable_below s n = has_editable s (onward_at s.trees (first_of s.trees n))
+
+-- outdent, step 2: an editable node without editable descendants, or a list, or an item of a list
+unfoldable pub is_outdentable : State → ℕ → Bool
+is_outdentable s n =
+    is_editable_for s n && (not (has_editable_below s n) || (is_list s n || (is_item s n && is_in_list s n)))
+
+-- outdent, step 3: a member that is outdented alone, a list or what stands in none
+unfoldable pub is_lone : State → ℕ → Bool
+is_lone s n = is_list s n || not (is_in_list s n)
+
+-- others are taken in series, which end before a list
+unfoldable pub goes_on_items : State → ℕ → ℕ → Bool
+goes_on_items s x y = is_next s.trees x y && (not (is_lone s x) && not (is_list s y))
+
+-- outdent, step 3: items leave their list
+unfoldable pub split_items : List ℕ → Run (Unit {0})
+split_items list = do
+  values ← record_values list
+  split_parent list
+  for_each list fix_ancestors
+  restore_values values
+
+unfoldable pub outdent_from : List ℕ → ℕ → Run (Unit {0})
+outdent_from list x = look λ s. if is_lone s x then outdent_node x else split_items list
+
+unfoldable pub outdent_series : List ℕ → Run (Unit {0})
+outdent_series list = given (first_in list) done (outdent_from list)
+
+unfoldable pub outdent_nodes : List ℕ → Run (Unit {0})
+outdent_nodes list = for_series goes_on_items outdent_series 0 list
+
+-- outdent, step 2, and then 3
+unfoldable pub outdent_gathered : Run (Unit {0})
+outdent_gathered = look λ s. outdent_nodes (range_nodes is_outdentable s)
+
+-- outdent, steps 1 to 3
+unfoldable pub outdent : Run Bool
+outdent = do
+  normalize_range
+  outdent_gathered
+  answer true

@@ -1,0 +1,5 @@
+pub mod Sublists
+pub mod Indenting
+pub mod Outdenting
+pub mod Series
+pub mod Commands

@@ -1,0 +1,207 @@
+//! The items around the active range, and the nodes of the block-extended range that indent and outdent go over.
+
+ghost use Rattle.std.specs.Prelude.{◌≡◌, ◌++◌, ◌∷◌, [], Some, OnOk, IfOk, not, codes, filter};
+ghost use Rattle.dom_model.specs.Contents.{has_name};
+ghost use Rattle.node_styles.specs.Lineage.{lineage};
+ghost use Rattle.node_paths.specs.Onward.{onward_at, IsInner};
+ghost use Rattle.point_order.specs.PointOrder.{is_within};
+ghost use Rattle.edit_model.specs.Gives.{label_of, labels_of};
+ghost use Rattle.edit_model.specs.Lawful.{IsPlacedPair};
+ghost use Rattle.edit_doc.specs.Held.{Holds, IfHeld, EachHeld};
+ghost use Rattle.list_indent.specs.Commands.{items_over, items_around, items_by, range_items, range_nodes, gathered_by, is_indentable, is_outdentable, has_editable, has_editable_below};
+
+use crate::lists::{is_in_list, is_item, is_list};
+use block_extend::{Choice, block_extend, gather_in};
+use edit_actions::ends_of;
+use edit_doc::{Doc, NodeList, NodeRef, Pair};
+use node_tests::{allowed_in_name, is_within};
+use point_order::node_of;
+use std::alloc::{AllocError, Global};
+
+// Appends a node, if it is an item.
+fn push_if_item(list: &mut Vec<NodeRef>, doc: &Doc, node: NodeRef) -> Result<(), AllocError>
+    requires node_held { Holds doc.now node }
+    requires each_held { EachHeld doc.now list.old.items }
+    ensures held { EachHeld doc.now list.new.items }
+    ensures ok { OnOk result (labels_of list.new.items ≡ labels_of list.old.items ++ filter (λ l. has_name doc.now.state.trees l (codes "li")) (node.label ∷ [])) }
+{
+    if is_item(doc, node) {
+        list.push(node)?;
+    }
+    Ok(())
+}
+
+// Appends the items among a node and its ancestors, outermost first.
+fn push_items(list: &mut Vec<NodeRef>, doc: &Doc, node: NodeRef) -> Result<(), AllocError>
+    requires node_held { Holds doc.now node }
+    requires each_held { EachHeld doc.now list.old.items }
+    ensures held { EachHeld doc.now list.new.items }
+    ensures ok { OnOk result (labels_of list.new.items ≡ labels_of list.old.items ++ items_over doc.now.state.trees node.label) }
+{
+    doc.lawful();
+    match doc.parent(node) {
+        None => push_if_item(list, doc, node),
+        Some(parent) => {
+            push_items(list, doc, parent)?;
+            push_if_item(list, doc, node)
+        }
+    }
+}
+
+// Appends those items of a list that a node isn't in.
+fn push_apart(
+    list: &mut Vec<NodeRef>,
+    doc: &Doc,
+    items: &[NodeRef],
+    node: NodeRef,
+) -> Result<(), AllocError>
+    requires node_held { Holds doc.now node }
+    requires items_held { EachHeld doc.now items.now }
+    requires each_held { EachHeld doc.now list.old.items }
+    ensures held { EachHeld doc.now list.new.items }
+    ensures ok { OnOk result (labels_of list.new.items ≡ labels_of list.old.items ++ filter (λ l. not (is_within doc.now.state.trees l node.label)) (labels_of items.now)) }
+{
+    for item in items {
+        if !is_within(doc, *item, node) {
+            list.push(*item)?;
+        }
+    }
+    Ok(())
+}
+
+// The items around two nodes.
+#[tactic(auto, unfolding(crate::specs::Commands::items_around))]
+fn items_around(
+    alloc: Global,
+    doc: &Doc,
+    start: NodeRef,
+    end: NodeRef,
+) -> Result<Vec<NodeRef>, AllocError>
+    requires start_held { Holds doc.now start }
+    requires end_held { Holds doc.now end }
+    ensures held { IfOk result (λ list. EachHeld doc.now list.items) }
+    ensures items { IfOk result (λ list. labels_of list.items ≡ items_around doc.now.state.trees start.label end.label) }
+{
+    let mut list = Vec::new(alloc);
+    push_items(&mut list, doc, start)?;
+    let mut others = Vec::new(alloc);
+    push_items(&mut others, doc, end)?;
+    push_apart(&mut list, doc, &others, start)?;
+    Ok(list)
+}
+
+#[tactic(auto, using(edit_actions::proofs::Placed::placed_here))]
+fn items_of(alloc: Global, doc: &Doc, pair: Pair) -> Result<Vec<NodeRef>, AllocError>
+    requires { IsPlacedPair doc.now.state.trees pair }
+    ensures held { IfOk result (λ list. EachHeld doc.now list.items) }
+    ensures items { IfOk result (λ list. labels_of list.items ≡ items_by doc.now.state.trees (Some pair)) }
+{
+    let (start, end) = ends_of(doc, pair);
+    items_around(alloc, doc, node_of(doc, start), node_of(doc, end))
+}
+
+// Indent and outdent, step 1: the items around the ends of the active range.
+#[tactic(auto, unfolding(crate::specs::Commands::range_items))]
+pub(crate) fn range_items(alloc: Global, doc: &Doc) -> Result<Vec<NodeRef>, AllocError>
+    ensures held { IfOk result (λ list. EachHeld doc.now list.items) }
+    ensures items { IfOk result (λ list. labels_of list.items ≡ range_items doc.now.state) }
+{
+    doc.lawful();
+    match doc.points().selection() {
+        Some(pair) => items_of(alloc, doc, pair),
+        None => Ok(Vec::new(alloc)),
+    }
+}
+
+/// Indent, step 2: what is gathered.
+#[derive(Clone, Copy)]
+pub(crate) struct Indentable;
+
+impl Choice<Doc> for Indentable {
+    ghost use Rattle.list_indent.specs.Commands.{is_indentable};
+
+    ghost chosen = { λ s d l. is_indentable d.state l };
+
+    #[tactic(auto, unfolding(crate::specs::Commands::is_indentable))]
+    fn chooses(&self, doc: &Doc, node: NodeRef) -> bool {
+        doc.is_editable_for(node)
+            && (allowed_in_name(doc, node, b"div") || allowed_in_name(doc, node, b"ol"))
+    }
+}
+
+// Whether an editable node stands in the tree of a node or of a later sibling.
+fn has_editable(doc: &Doc, first: Option<NodeRef>) -> bool
+    requires held { IfHeld doc.now first }
+    requires inner { IsInner doc.now.state.trees (label_of first) }
+    ensures { result ≡ has_editable doc.now.state (onward_at doc.now.state.trees (label_of first)) }
+{
+    doc.lawful();
+    let mut at = first;
+    while let Some(node) = at {
+        if doc.is_editable_for(node) || has_editable(doc, doc.first_child(node)) {
+            return true;
+        }
+        at = doc.next(node);
+    }
+    false
+}
+
+// Whether an editable node stands below a node.
+#[tactic(auto, unfolding(crate::specs::Commands::has_editable_below))]
+fn has_editable_below(doc: &Doc, node: NodeRef) -> bool
+    requires { Holds doc.now node }
+    ensures { result ≡ has_editable_below doc.now.state node.label }
+{
+    doc.lawful();
+    has_editable(doc, doc.first_child(node))
+}
+
+/// Outdent, step 2: what is gathered.
+#[derive(Clone, Copy)]
+pub(crate) struct Outdentable;
+
+impl Choice<Doc> for Outdentable {
+    ghost use Rattle.list_indent.specs.Commands.{is_outdentable};
+
+    ghost chosen = { λ s d l. is_outdentable d.state l };
+
+    #[tactic(auto, unfolding(crate::specs::Commands::is_outdentable))]
+    fn chooses(&self, doc: &Doc, node: NodeRef) -> bool {
+        doc.is_editable_for(node)
+            && (!has_editable_below(doc, node)
+                || is_list(doc, node)
+                || (is_item(doc, node) && is_in_list(doc, node)))
+    }
+}
+
+// The nodes of the block-extended range of a pair that are chosen.
+#[tactic(auto, using(edit_actions::proofs::Placed::placed_here))]
+fn gathered_of<C: Choice<Doc>>(
+    alloc: Global,
+    doc: &Doc,
+    pair: Pair,
+    choice: &C,
+) -> Result<NodeList, AllocError>
+    requires { IsPlacedPair doc.now.state.trees pair }
+    ensures held { IfOk result (λ list. EachHeld doc.now list) }
+    ensures nodes { IfOk result (λ list. labels_of list ≡ gathered_by (C.chosen choice.now doc.now) doc.now.state.trees (Some pair)) }
+{
+    let range = block_extend(doc, ends_of(doc, pair));
+    gather_in(alloc, doc, range, choice)
+}
+
+// Indent and outdent, step 2: the nodes of the block-extended active range that are chosen.
+pub(crate) fn range_nodes<C: Choice<Doc>>(
+    alloc: Global,
+    doc: &Doc,
+    choice: &C,
+) -> Result<NodeList, AllocError>
+    ensures held { IfOk result (λ list. EachHeld doc.now list) }
+    ensures nodes { IfOk result (λ list. labels_of list ≡ gathered_by (C.chosen choice.now doc.now) doc.now.state.trees doc.now.state.points.selection) }
+{
+    doc.lawful();
+    match doc.points().selection() {
+        Some(pair) => gathered_of(alloc, doc, pair, choice),
+        None => NodeList::from_slice(alloc, &Vec::new(alloc)),
+    }
+}

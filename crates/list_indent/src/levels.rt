@@ -1,0 +1,208 @@
+//! Outdent a node, step 7: the siblings on the way to the indentation element are indented in its place. The steps are those of
+//! docs/ALGORITHMS.md.
+
+ghost use Rattle.std.specs.Prelude.{◌≡◌, ◌≤◌, ◌==◌, ◌||◌, IfOk, length, drop, take, reverse};
+ghost use Rattle.dom_model.specs.Forest.{first_in, is_label};
+ghost use Rattle.edit_model.specs.Gives.{Gives, label_of, labels_of};
+ghost use Rattle.edit_doc.specs.Whole.{IsOpen};
+ghost use Rattle.edit_doc.specs.Held.{Holds, IfHeld, EachHeld, Finds, Keeps};
+ghost use Rattle.wrap_split.specs.Wrap.{break_next};
+ghost use Rattle.list_indent.specs.Outdenting.{child_on_way, drop_break, indent_before, rest_after, siblings_after, indent_after, part_around, part_level, part_levels};
+
+use crate::indenting::indent_list;
+use edit_actions::{children_before, is_same};
+use edit_doc::{Doc, EditFault, NodeList, NodeRef};
+use node_tests::{is_block, is_break};
+use std::alloc::{AllocError, Global};
+
+// Whether a child is the node, or the one that may be there.
+fn is_on_way(node: NodeRef, below: Option<NodeRef>, child: NodeRef) -> bool
+    ensures { result ≡ (child.label == node.label || is_label (label_of below) child.label) }
+{
+    child.label == node.label || is_same(below, child)
+}
+
+// The child of an element that is the node or the ancestor below the element.
+fn child_on_way(
+    doc: &Doc,
+    element: NodeRef,
+    node: NodeRef,
+    below: Option<NodeRef>,
+) -> Option<NodeRef>
+    requires { Holds doc.now element }
+    ensures { Finds doc.now result (child_on_way doc.now.state element.label node.label (label_of below)) }
+{
+    doc.lawful();
+    let mut at = doc.first_child(element);
+    while let Some(child) = at {
+        if is_on_way(node, below, child) {
+            return Some(child);
+        }
+        at = doc.next(child);
+    }
+    None
+}
+
+// The br after an inline node that is no br.
+#[tactic(auto, unfolding(wrap_split::specs::Wrap::break_next))]
+fn break_next(doc: &Doc, node: NodeRef) -> Option<NodeRef>
+    requires { Holds doc.now node }
+    ensures { Finds doc.now result (break_next doc.now.state node.label) }
+{
+    if is_block(doc, node) || is_break(doc, node) {
+        return None;
+    }
+    let next = doc.next(node)?;
+    if is_break(doc, next) {
+        Some(next)
+    } else {
+        None
+    }
+}
+
+#[tactic(auto, using(edit_model::proofs::Steps::steps, edit_model::proofs::Steps::exits), unfolding(crate::specs::Outdenting::drop_break))]
+fn drop_break(doc: &mut Doc, node: NodeRef) -> Result<(), EditFault>
+    requires open { IsOpen doc.old }
+    requires node_held { Holds doc.old node }
+    ensures gives { Gives result doc.old.state doc.new.state (drop_break node.label) }
+    ensures keeps { Keeps doc.old doc.new }
+{
+    let Some(next) = break_next(doc, node) else {
+        return Ok(());
+    };
+    doc.remove(next)?;
+    Ok(())
+}
+
+// Indents the siblings before a child.
+#[tactic(auto, using(edit_model::proofs::Steps::steps, edit_model::proofs::Steps::exits), unfolding(crate::specs::Outdenting::indent_before))]
+fn indent_before(
+    alloc: Global,
+    doc: &mut Doc,
+    element: NodeRef,
+    child: NodeRef,
+) -> Result<(), EditFault>
+    requires open { IsOpen doc.old }
+    requires element_held { Holds doc.old element }
+    ensures gives { Gives result doc.old.state doc.new.state (indent_before element.label child.label) }
+    ensures keeps { Keeps doc.old doc.new }
+{
+    let front = children_before(alloc, doc, element, child)?;
+    let list = NodeList::from_slice(alloc, &front)?;
+    indent_list(alloc, doc, list)
+}
+
+// The place in a list after a node; its end, where the node isn't in it.
+#[tactic(auto, using(edit_model::proofs::Steps::labels_of_drop, edit_model::proofs::Steps::labels_of_end))]
+fn place_after(list: &[NodeRef], node: NodeRef) -> usize
+    ensures within { result ≤ length list.now }
+    ensures rest { labels_of (drop result list.now) ≡ rest_after node.label (labels_of list.now) }
+{
+    let mut at = 0;
+    while at < list.len() {
+        if list[at].label == node.label {
+            return at + 1;
+        }
+        at += 1;
+    }
+    at
+}
+
+// The siblings after a node.
+#[tactic(auto, unfolding(crate::specs::Outdenting::siblings_after))]
+fn siblings_after(alloc: Global, doc: &Doc, node: NodeRef) -> Result<NodeList, AllocError>
+    requires { Holds doc.now node }
+    ensures held { IfOk result (λ list. EachHeld doc.now list) }
+    ensures siblings { IfOk result (λ list. labels_of list ≡ siblings_after doc.now.state node.label) }
+{
+    let Some(parent) = doc.parent(node) else {
+        return NodeList::from_slice(alloc, &Vec::new(alloc));
+    };
+    let children = doc.children_of(parent)?;
+    let at = place_after(&children, node);
+    NodeList::from_slice(alloc, &children[at..])
+}
+
+#[tactic(auto, using(edit_model::proofs::Steps::steps, edit_model::proofs::Steps::exits), unfolding(crate::specs::Outdenting::indent_after))]
+fn indent_after(alloc: Global, doc: &mut Doc, child: NodeRef) -> Result<(), EditFault>
+    requires open { IsOpen doc.old }
+    requires child_held { Holds doc.old child }
+    ensures gives { Gives result doc.old.state doc.new.state (indent_after child.label) }
+    ensures keeps { Keeps doc.old doc.new }
+{
+    let list = siblings_after(alloc, doc, child)?;
+    indent_list(alloc, doc, list)
+}
+
+#[tactic(auto, using(edit_model::proofs::Steps::steps, edit_model::proofs::Steps::exits), unfolding(crate::specs::Outdenting::part_around))]
+fn part_around(
+    alloc: Global,
+    doc: &mut Doc,
+    element: NodeRef,
+    child: NodeRef,
+) -> Result<(), EditFault>
+    requires open { IsOpen doc.old }
+    requires element_held { Holds doc.old element }
+    requires child_held { Holds doc.old child }
+    ensures gives { Gives result doc.old.state doc.new.state (part_around element.label child.label) }
+    ensures keeps { Keeps doc.old doc.new }
+{
+    drop_break(doc, child)?;
+    indent_before(alloc, doc, element, child)?;
+    indent_after(alloc, doc, child)
+}
+
+// One turn, with the element taken.
+#[tactic(auto, using(edit_model::proofs::Steps::steps, edit_model::proofs::Steps::exits), unfolding(crate::specs::Outdenting::part_level))]
+fn part_level(
+    alloc: Global,
+    doc: &mut Doc,
+    node: NodeRef,
+    below: Option<NodeRef>,
+    element: NodeRef,
+) -> Result<(), EditFault>
+    requires open { IsOpen doc.old }
+    requires element_held { Holds doc.old element }
+    ensures gives { Gives result doc.old.state doc.new.state (part_level node.label (label_of below) element.label) }
+    ensures keeps { Keeps doc.old doc.new }
+{
+    let Some(child) = child_on_way(doc, element, node, below) else {
+        return Ok(());
+    };
+    part_around(alloc, doc, element, child)
+}
+
+#[tactic(auto, using(crate::proofs::Downward::befores))]
+// The member before an index.
+fn member_before(list: &[NodeRef], index: usize) -> Option<NodeRef>
+    requires { index ≤ length list.now }
+    ensures { label_of result ≡ first_in (reverse (labels_of (take index list.now))) }
+{
+    if index == 0 {
+        None
+    } else {
+        Some(list[index - 1])
+    }
+}
+
+// Parts each of the elements, of which the last one is the outermost.
+#[tactic(auto, using(crate::proofs::Downward::levels, edit_model::proofs::Steps::exits))]
+pub(crate) fn part_levels(
+    alloc: Global,
+    doc: &mut Doc,
+    node: NodeRef,
+    way: &[NodeRef],
+) -> Result<(), EditFault>
+    requires open { IsOpen doc.old }
+    requires way_held { EachHeld doc.old way.now }
+    ensures gives { Gives result doc.old.state doc.new.state (part_levels node.label (reverse (labels_of way.now))) }
+    ensures keeps { Keeps doc.old doc.new }
+{
+    let mut left = way.len();
+    while left > 0 {
+        left -= 1;
+        let below = member_before(way, left);
+        part_level(alloc, doc, node, below, way[left])?;
+    }
+    Ok(())
+}

@@ -1,0 +1,93 @@
+//! Lists, items, and what their children are.
+
+ghost use Rattle.std.specs.Prelude.{◌≡◌};
+ghost use Rattle.std.specs.List.{list_any};
+ghost use Rattle.css_value.specs.StyleText.{is_space};
+ghost use Rattle.dom_model.specs.Forest.{children_of};
+ghost use Rattle.node_styles.specs.Allowed as allowed;
+ghost use Rattle.edit_doc.specs.Held.{Holds};
+ghost use Rattle.wrap_split.specs.Walks.{turn_bound};
+ghost use Rattle.list_indent.specs.Sublists.{is_list, is_item, is_in_list, is_blank};
+
+use dom_model::Content;
+use edit_doc::{Doc, NodeRef};
+use node_tests::has_name;
+
+// How many turns a loop takes at most that starts now.
+pub(crate) fn turn_bound(doc: &Doc) -> u128
+    ensures { result ≡ turn_bound doc.now.state }
+{
+    let counts = doc.counts();
+    2 * counts.nodes as u128 + counts.chars as u128 + 2
+}
+
+// Whether a node is an ol or ul.
+#[tactic(auto, unfolding(crate::specs::Sublists::is_list))]
+pub(crate) fn is_list(doc: &Doc, node: NodeRef) -> bool
+    requires { Holds doc.now node }
+    ensures { result ≡ is_list doc.now.state node.label }
+{
+    has_name(doc, node, b"ol") || has_name(doc, node, b"ul")
+}
+
+// Whether a node is an li.
+pub(crate) fn is_item(doc: &Doc, node: NodeRef) -> bool
+    requires { Holds doc.now node }
+    ensures { result ≡ is_item doc.now.state node.label }
+{
+    has_name(doc, node, b"li")
+}
+
+// Whether the parent of a node is an ol or ul.
+#[tactic(auto, unfolding(crate::specs::Sublists::is_in_list))]
+pub(crate) fn is_in_list(doc: &Doc, node: NodeRef) -> bool
+    requires { Holds doc.now node }
+    ensures { result ≡ is_in_list doc.now.state node.label }
+{
+    match doc.parent(node) {
+        Some(parent) => is_list(doc, parent),
+        None => false,
+    }
+}
+
+fn is_space(c: char) -> bool
+    ensures { result ≡ is_space c }
+{
+    matches!(c, '\t' | '\n' | '\x0c' | '\r' | ' ')
+}
+
+// Whether a text is space characters alone, or empty.
+#[tactic(auto, unfolding(node_styles::specs::Allowed::are_spaces))]
+fn are_spaces(chars: &[char]) -> bool
+    ensures { result ≡ allowed.are_spaces chars.now }
+{
+    chars.iter().all(|c| is_space(*c))
+}
+
+// Whether a node is Words of space characters alone.
+#[tactic(auto, unfolding(crate::specs::Sublists::is_blank))]
+pub(crate) fn is_blank(doc: &Doc, node: NodeRef) -> bool
+    requires { Holds doc.now node }
+    ensures { result ≡ is_blank doc.now.state node.label }
+{
+    match doc.content(node) {
+        Content::Words(chars) => are_spaces(chars.as_slice()),
+        _ => false,
+    }
+}
+
+// Whether an ol or ul is among the children of a node.
+pub(crate) fn has_list(doc: &Doc, node: NodeRef) -> bool
+    requires { Holds doc.now node }
+    ensures { result ≡ list_any (is_list doc.now.state) (children_of doc.now.state.trees node.label) }
+{
+    doc.lawful();
+    let mut at = doc.first_child(node);
+    while let Some(child) = at {
+        if is_list(doc, child) {
+            return true;
+        }
+        at = doc.next(child);
+    }
+    false
+}
