@@ -1,0 +1,10 @@
+pub mod Turns
+pub mod Absent
+pub mod Kids
+pub mod Selecting
+pub mod Counted
+pub mod Rows
+pub mod Recordings
+pub mod Above
+pub mod Shown
+pub mod Stuck

@@ -1,0 +1,16 @@
+use Rattle.std.proofs.Common.{◌≡◌}
+use Rattle.edit_model.specs.Run.{final, value, while_at_most}
+use Rattle.edit_doc.specs.Held.{Keeps}
+use Rattle.delete_core.specs.Whitespace.{lays, lay_turn}
+use Rattle.delete_core.specs.Places.{turn_bound}
+use Rattle.delete_core.proofs.laying.lay_all.Given as goal
+
+-- what is left to do ends where the whole ends
+abbrev pub invariant-loop-turns : goal.invariant-loop-turns
+invariant-loop-turns l =
+    (final (while_at_most l.turns (lays l.spaces l.end) (lay_turn l.spaces) l.laid) l.doc.state
+    ≡ final (while_at_most (turn_bound l.initial.doc.state) (lays l.spaces l.end) (lay_turn l.spaces) l.initial.laid) l.initial.doc.state)
+    × Keeps l.initial.doc l.doc
+
+abbrev pub decreases-loop-turns : goal.decreases-loop-turns
+decreases-loop-turns l = l.turns

@@ -1,0 +1,17 @@
+use Rattle.std.proofs.Common.{◌≡◌, Some}
+use Rattle.edit_model.specs.Gives.{label_of, labels_of}
+use Rattle.edit_model.specs.Run.{final, value, while_at_most}
+use Rattle.edit_doc.specs.Held.{Holds, IfHeld, Keeps}
+use Rattle.delete_core.specs.Merging.{has_list_to_join, join_once}
+use Rattle.delete_core.specs.Places.{turn_bound}
+use Rattle.delete_core.proofs.lists.join_lists.Given as goal
+
+-- what is left to do ends where the whole ends
+abbrev pub invariant-loop-turns : goal.invariant-loop-turns
+invariant-loop-turns l =
+    (final (while_at_most l.turns has_list_to_join join_once l.node.label) l.doc.state
+    ≡ final (while_at_most (turn_bound l.initial.doc.state) has_list_to_join join_once l.node.label) l.initial.doc.state)
+    × (Keeps l.initial.doc l.doc)
+
+abbrev pub decreases-loop-turns : goal.decreases-loop-turns
+decreases-loop-turns l = l.turns

@@ -1,0 +1,18 @@
+use Rattle.std.proofs.Common.{◌≡◌}
+use Rattle.edit_model.specs.Run.{final, value, while_at_most}
+use Rattle.edit_doc.specs.Held.{Keeps}
+use Rattle.delete_core.specs.Whitespace.{scans, scan_turn}
+use Rattle.delete_core.specs.Places.{turn_bound}
+use Rattle.delete_core.proofs.scanning.scan_blanks.Given as goal
+
+-- what is left to do ends where the whole ends
+abbrev pub invariant-loop-turns : goal.invariant-loop-turns
+invariant-loop-turns l =
+    (final (while_at_most l.turns scans (scan_turn l.fix) l.scan) l.doc.state
+    ≡ final (while_at_most (turn_bound l.initial.doc.state) scans (scan_turn l.fix) l.initial.scan) l.initial.doc.state)
+    × ((value (while_at_most l.turns scans (scan_turn l.fix) l.scan) l.doc.state
+    ≡ value (while_at_most (turn_bound l.initial.doc.state) scans (scan_turn l.fix) l.initial.scan) l.initial.doc.state)
+    × Keeps l.initial.doc l.doc)
+
+abbrev pub decreases-loop-turns : goal.decreases-loop-turns
+decreases-loop-turns l = l.turns

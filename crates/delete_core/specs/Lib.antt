@@ -1,0 +1,10 @@
+pub mod Spaces
+pub mod Places
+pub mod Equivalent
+pub mod Whitespace
+pub mod Ends
+pub mod Erasing
+pub mod Merging
+pub mod Values
+pub mod Stretches
+pub mod Deletion

@@ -1,0 +1,205 @@
+//! Deleting the selection. The steps are those of docs/ALGORITHMS.md.
+
+ghost use Rattle.std.specs.Prelude.{◌≡◌, ◌<◌};
+ghost use Rattle.dom_model.specs.Forest.{count_of};
+ghost use Rattle.edit_model.specs.Gives.{Gives, GivesAs, label_of};
+ghost use Rattle.edit_doc.specs.Whole.{IsOpen};
+ghost use Rattle.edit_doc.specs.Held.{Holds, IfHeld, Keeps};
+ghost use Rattle.delete_core.specs.Stretches.{StretchHeld};
+ghost use Rattle.delete_core.specs.Deletion.{erase_across, erase, delete_recorded, delete_selected, delete_range, delete_between, delete_selection};
+
+use crate::ends::{
+    block_of_end, canonicalize_end, canonicalize_start, out_of_end, out_of_start, select, settle,
+};
+use crate::equivalent::{first_equivalent, last_equivalent};
+use crate::erasing::{cut_after, cut_before, erase_within, is_own_text, remove_nodes};
+use crate::merging::merge_if;
+use crate::places::comes_before;
+use edit_actions::ends_of;
+use edit_doc::{Doc, EditFault, NodeRef, Point};
+use inline_value::{Overrides, record_states};
+use point_order::node_of;
+use std::alloc::Global;
+
+/// How a selection is deleted.
+#[derive(Clone, Copy)]
+struct Manner {
+    /// The blocks of the two ends are merged.
+    merge: bool,
+    /// Inline nodes that are left empty go, also those in which the start stands.
+    strip: bool,
+    /// The caret that is left where nothing is merged stands at the end of the range.
+    backward: bool,
+}
+
+/// What is deleted: from a point of a node to a point of another one.
+#[derive(Clone, Copy)]
+struct Stretch {
+    start: Point,
+    start_node: NodeRef,
+    end: Point,
+    end_node: NodeRef,
+}
+
+// Delete the selection, steps 6 to 15.
+#[tactic(auto, using(edit_model::proofs::Steps::steps, edit_model::proofs::Steps::exits), unfolding(crate::specs::Deletion::erase_across))]
+fn erase_across(
+    alloc: Global,
+    doc: &mut Doc,
+    manner: Manner,
+    stretch: Stretch,
+    blocks: (Option<NodeRef>, Option<NodeRef>),
+) -> Result<(), EditFault>
+    requires open { IsOpen doc.old }
+    requires stretch_held { StretchHeld doc.old stretch }
+    requires block_held { IfHeld doc.old blocks.0 }
+    requires other_held { IfHeld doc.old blocks.1 }
+    ensures gives { Gives result doc.old.state doc.new.state (erase_across manner stretch.start stretch.end (label_of blocks.0) (label_of blocks.1)) }
+    ensures keeps { Keeps doc.old doc.new }
+{
+    cut_after(doc, stretch.start_node, stretch.start)?; // step 6
+    remove_nodes(alloc, doc, manner.strip, stretch.start_node)?; // step 7
+    cut_before(doc, stretch.end_node, stretch.end)?; // step 8
+    canonicalize_start(alloc, doc, false)?;
+    canonicalize_end(alloc, doc, false)?;
+    merge_if(alloc, doc, manner.merge, manner.backward, blocks) // steps 9 to 15
+}
+
+// Step 5, or from 6 on.
+#[tactic(auto, using(edit_model::proofs::Steps::steps, edit_model::proofs::Steps::exits), unfolding(crate::specs::Deletion::erase))]
+fn erase(
+    alloc: Global,
+    doc: &mut Doc,
+    manner: Manner,
+    stretch: Stretch,
+    blocks: (Option<NodeRef>, Option<NodeRef>),
+) -> Result<(), EditFault>
+    requires open { IsOpen doc.old }
+    requires stretch_held { StretchHeld doc.old stretch }
+    requires block_held { IfHeld doc.old blocks.0 }
+    requires other_held { IfHeld doc.old blocks.1 }
+    ensures gives { Gives result doc.old.state doc.new.state (erase manner stretch.start stretch.end (label_of blocks.0) (label_of blocks.1)) }
+    ensures keeps { Keeps doc.old doc.new }
+{
+    if stretch.start.label == stretch.end.label && is_own_text(doc, stretch.start_node) {
+        let node = stretch.start_node;
+        return erase_within(
+            alloc,
+            doc,
+            node,
+            stretch.start,
+            stretch.end,
+            manner.backward,
+        );
+    }
+    erase_across(alloc, doc, manner, stretch, blocks)
+}
+
+// Steps 3 and 4, and then from 5 on.
+#[tactic(auto, using(edit_model::proofs::Steps::steps, edit_model::proofs::Steps::exits), unfolding(crate::specs::Deletion::delete_recorded))]
+fn delete_recorded(
+    alloc: Global,
+    doc: &mut Doc,
+    manner: Manner,
+    stretch: Stretch,
+) -> Result<Overrides, EditFault>
+    requires open { IsOpen doc.old }
+    requires stretch_held { StretchHeld doc.old stretch }
+    ensures gives { Gives result doc.old.state doc.new.state (delete_recorded manner stretch.start stretch.end) }
+    ensures keeps { Keeps doc.old doc.new }
+{
+    let block = block_of_end(doc, stretch.start_node);
+    let other = block_of_end(doc, stretch.end_node);
+    let states = record_states(alloc, doc)?;
+    erase(alloc, doc, manner, stretch, (block, other))?;
+    Ok(states)
+}
+
+// Step 2, and then from 3 on.
+#[tactic(auto, using(edit_model::proofs::Steps::steps, edit_model::proofs::Steps::exits, edit_model::proofs::Steps::actions), unfolding(crate::specs::Deletion::delete_selected))]
+fn delete_selected(
+    alloc: Global,
+    doc: &mut Doc,
+    manner: Manner,
+    start: Point,
+    end: Point,
+) -> Result<Overrides, EditFault>
+    requires open { IsOpen doc.old }
+    requires start_there { 0 < count_of doc.old.state.trees start.label }
+    requires end_there { 0 < count_of doc.old.state.trees end.label }
+    ensures gives { Gives result doc.old.state doc.new.state (delete_selected manner start end) }
+    ensures keeps { Keeps doc.old doc.new }
+{
+    let stretch = Stretch {
+        start,
+        start_node: node_of(doc, start),
+        end,
+        end_node: node_of(doc, end),
+    };
+    select(doc, start, end);
+    delete_recorded(alloc, doc, manner, stretch)
+}
+
+// Step 1, and then from 2 on.
+#[tactic(auto, using(edit_model::proofs::Steps::steps, edit_model::proofs::Steps::exits), unfolding(crate::specs::Deletion::delete_range))]
+fn delete_range(
+    alloc: Global,
+    doc: &mut Doc,
+    manner: Manner,
+    start: Point,
+    end: Point,
+) -> Result<Overrides, EditFault>
+    requires open { IsOpen doc.old }
+    ensures gives { Gives result doc.old.state doc.new.state (delete_range manner start end) }
+    ensures keeps { Keeps doc.old doc.new }
+{
+    if !comes_before(doc, start, end) {
+        settle(doc, manner.backward)?;
+        return Ok(Overrides::new(alloc));
+    }
+    let first = out_of_start(doc, node_of(doc, start), start);
+    let last = out_of_end(doc, node_of(doc, end), end);
+    delete_selected(alloc, doc, manner, first, last)
+}
+
+#[tactic(auto, using(edit_model::proofs::Steps::steps, edit_model::proofs::Steps::exits), unfolding(crate::specs::Deletion::delete_between))]
+fn delete_between(alloc: Global, doc: &mut Doc, manner: Manner) -> Result<Overrides, EditFault>
+    requires open { IsOpen doc.old }
+    ensures gives { Gives result doc.old.state doc.new.state (delete_between manner) }
+    ensures keeps { Keeps doc.old doc.new }
+{
+    doc.lawful();
+    let Some(pair) = doc.points().selection() else {
+        return Ok(Overrides::new(alloc));
+    };
+    let (start, end) = ends_of(doc, pair);
+    let first = last_equivalent(doc, start);
+    let last = first_equivalent(doc, end);
+    delete_range(alloc, doc, manner, first, last)
+}
+
+/// Deletes what is selected. With `merge` the blocks of the two ends become one. With `strip` inline nodes that are left empty go;
+/// without it those stay in which the start stands. The caret that is left where nothing is merged stands at the start of the
+/// range, or at its end where `backward` is on. Answers the states and values to restore, which are those of the first
+/// formattable node that was selected; none where nothing is deleted.
+#[tactic(auto, using(edit_model::proofs::Steps::steps, edit_model::proofs::Steps::exits), unfolding(crate::specs::Deletion::delete_selection))]
+pub fn delete_selection(
+    alloc: Global,
+    doc: &mut Doc,
+    merge: bool,
+    strip: bool,
+    backward: bool,
+) -> Result<Overrides, EditFault>
+    requires open { IsOpen doc.old }
+    ensures gives { Gives result doc.old.state doc.new.state (delete_selection merge strip backward) }
+    ensures keeps { Keeps doc.old doc.new }
+{
+    canonicalize_start(alloc, doc, true)?;
+    canonicalize_end(alloc, doc, true)?;
+    let manner = Manner {
+        merge,
+        strip,
+        backward,
+    };
+    delete_between(alloc, doc, manner)
+}

@@ -1,0 +1,43 @@
+//! Deleting: canonical whitespace, equivalent points, and deleting the selection (W3C, *HTML Editing APIs*), over a document
+//! under edits.
+//!
+//! Each call is proved to make one run of elementary edits, which its definition composes step by step.
+#![tactic(auto)]
+
+mod blanks;
+mod deletion;
+mod ends;
+mod equivalent;
+mod erasing;
+mod inner;
+mod laying;
+mod lines;
+mod lists;
+mod merging;
+mod outer;
+mod places;
+mod scanning;
+mod spaces;
+mod stepping;
+mod trimming;
+mod whitespace;
+
+pub use deletion::delete_selection;
+pub use edit_doc::{Doc, EditFault, Point};
+pub use equivalent::{first_equivalent, last_equivalent};
+pub use inline_value::Overrides;
+pub use spaces::canonical_spaces;
+pub use whitespace::canonicalize;
+
+#[cfg(test)]
+mod tests {
+    use super::*;
+    use std::test::Fail;
+
+    #[test]
+    fn lays(rt: HostRuntime) -> Result<(), Fail> {
+        let spaces = canonical_spaces(rt.alloc(), 5, false, true)?;
+        assert!(rt; spaces.as_slice() == [' ', '\u{a0}', ' ', '\u{a0}', '\u{a0}'].as_slice());
+        Ok(())
+    }
+}

@@ -1,0 +1,164 @@
+//! Merging the blocks of the two ends after a deletion. The steps are those of docs/ALGORITHMS.md.
+
+ghost use Rattle.std.specs.Prelude.{◌≡◌, IfOk};
+ghost use Rattle.edit_model.specs.Gives.{Gives, GivesAs, label_of};
+ghost use Rattle.edit_doc.specs.Whole.{IsOpen};
+ghost use Rattle.edit_doc.specs.Held.{Holds, EachHeld, IfHeld, Keeps};
+ghost use Rattle.inline_value.specs.Records.{entries_of, nodes_of};
+ghost use Rattle.delete_core.specs.Merging.{drop_prop, merged, fill_empty, finish, finish_if, merge, are_mergeable, merge_both, merge_if};
+ghost use Rattle.delete_core.specs.Values.{ValuesHeld, recorded_in};
+
+use crate::ends::settle;
+use crate::erasing::append_break;
+use crate::inner::merge_inner;
+use crate::lists::join_lists;
+use crate::outer::{merge_beside, merge_outer};
+use crate::places::is_inside;
+use edit_doc::{Doc, EditFault, NodeRef};
+use inline_value::{Values, restore_values};
+use node_tests::{is_ancestor, is_block_prop};
+use std::alloc::Global;
+use wrap_split::breaks_at_end;
+
+// Delete the selection, step 10: removes the one child of a block that only holds its line open.
+#[tactic(auto, using(edit_model::proofs::Steps::steps, edit_model::proofs::Steps::exits), unfolding(crate::specs::Merging::drop_prop))]
+fn drop_prop(doc: &mut Doc, block: NodeRef) -> Result<(), EditFault>
+    requires open { IsOpen doc.old }
+    requires block_held { Holds doc.old block }
+    ensures gives { Gives result doc.old.state doc.new.state (drop_prop block.label) }
+    ensures keeps { Keeps doc.old doc.new }
+{
+    let Some(child) = doc.first_child(block) else {
+        return Ok(());
+    };
+    if doc.next(child).is_none() && is_block_prop(doc, child) {
+        doc.remove(child)?;
+    }
+    Ok(())
+}
+
+// Steps 11 to 13.
+#[tactic(auto, using(edit_model::proofs::Steps::steps, edit_model::proofs::Steps::exits, crate::proofs::Recordings::recordings), unfolding(crate::specs::Merging::merged))]
+fn merged(
+    alloc: Global,
+    doc: &mut Doc,
+    block: NodeRef,
+    other: NodeRef,
+) -> Result<Option<Values>, EditFault>
+    requires open { IsOpen doc.old }
+    requires block_held { Holds doc.old block }
+    requires other_held { Holds doc.old other }
+    ensures gives { GivesAs recorded_in result doc.old.state doc.new.state (merged block.label other.label) }
+    ensures held { IfOk result (ValuesHeld doc.new) }
+    ensures keeps { Keeps doc.old doc.new }
+{
+    if is_ancestor(doc, block, other) {
+        merge_inner(alloc, doc, block, other)
+    } else if is_ancestor(doc, other, block) {
+        merge_outer(alloc, doc, block, other)
+    } else {
+        merge_beside(alloc, doc, block, other)
+    }
+}
+
+#[tactic(auto, using(edit_model::proofs::Steps::steps, edit_model::proofs::Steps::exits), unfolding(crate::specs::Merging::fill_empty))]
+fn fill_empty(alloc: Global, doc: &mut Doc, block: NodeRef) -> Result<(), EditFault>
+    requires open { IsOpen doc.old }
+    requires block_held { Holds doc.old block }
+    ensures gives { Gives result doc.old.state doc.new.state (fill_empty block.label) }
+    ensures keeps { Keeps doc.old doc.new }
+{
+    if doc.first_child(block).is_none() {
+        append_break(alloc, doc, block)?;
+    }
+    Ok(())
+}
+
+// Steps 14 and 15.
+#[tactic(auto, using(edit_model::proofs::Steps::steps, edit_model::proofs::Steps::exits, crate::proofs::Recordings::recordings), unfolding(crate::specs::Merging::finish))]
+fn finish(alloc: Global, doc: &mut Doc, block: NodeRef, values: &Values) -> Result<(), EditFault>
+    requires open { IsOpen doc.old }
+    requires block_held { Holds doc.old block }
+    requires values_held { EachHeld doc.old (nodes_of values.now) }
+    ensures gives { Gives result doc.old.state doc.new.state (finish block.label (entries_of values.now)) }
+    ensures keeps { Keeps doc.old doc.new }
+{
+    join_lists(doc, block)?;
+    restore_values(alloc, doc, values)?;
+    fill_empty(alloc, doc, block)?;
+    breaks_at_end(doc, block)
+}
+
+// Steps 10 to 15.
+#[tactic(auto, using(edit_model::proofs::Steps::steps, edit_model::proofs::Steps::exits, crate::proofs::Recordings::recordings), unfolding(crate::specs::Merging::merge, crate::specs::Merging::finish_if))]
+fn merge(alloc: Global, doc: &mut Doc, block: NodeRef, other: NodeRef) -> Result<(), EditFault>
+    requires open { IsOpen doc.old }
+    requires block_held { Holds doc.old block }
+    requires other_held { Holds doc.old other }
+    ensures gives { Gives result doc.old.state doc.new.state (merge block.label other.label) }
+    ensures keeps { Keeps doc.old doc.new }
+{
+    drop_prop(doc, block)?;
+    let Some(values) = merged(alloc, doc, block, other)? else {
+        return Ok(());
+    };
+    finish(alloc, doc, block, &values)
+}
+
+#[tactic(auto, unfolding(crate::specs::Merging::are_mergeable))]
+fn are_mergeable(doc: &Doc, block: NodeRef, other: NodeRef) -> bool
+    requires block_held { Holds doc.now block }
+    requires other_held { Holds doc.now other }
+    ensures { result ≡ are_mergeable doc.now.state block.label other.label }
+{
+    is_inside(doc, block) && is_inside(doc, other) && block.label != other.label
+}
+
+// Step 9, and then from 10 on, of two blocks.
+#[tactic(auto, using(edit_model::proofs::Steps::steps, edit_model::proofs::Steps::exits), unfolding(crate::specs::Merging::merge_both))]
+fn merge_both(
+    alloc: Global,
+    doc: &mut Doc,
+    backward: bool,
+    block: NodeRef,
+    other: NodeRef,
+) -> Result<(), EditFault>
+    requires open { IsOpen doc.old }
+    requires block_held { Holds doc.old block }
+    requires other_held { Holds doc.old other }
+    ensures gives { Gives result doc.old.state doc.new.state (merge_both backward block.label other.label) }
+    ensures keeps { Keeps doc.old doc.new }
+{
+    if are_mergeable(doc, block, other) {
+        merge(alloc, doc, block, other)
+    } else {
+        settle(doc, backward)
+    }
+}
+
+/// Delete the selection, step 9, and then from 10 on, of blocks that there may be.
+#[tactic(auto, using(edit_model::proofs::Steps::steps, edit_model::proofs::Steps::exits), unfolding(crate::specs::Merging::merge_if))]
+pub(crate) fn merge_if(
+    alloc: Global,
+    doc: &mut Doc,
+    merging: bool,
+    backward: bool,
+    blocks: (Option<NodeRef>, Option<NodeRef>),
+) -> Result<(), EditFault>
+    requires open { IsOpen doc.old }
+    requires block_held { IfHeld doc.old blocks.0 }
+    requires other_held { IfHeld doc.old blocks.1 }
+    ensures gives { Gives result doc.old.state doc.new.state (merge_if merging backward (label_of blocks.0) (label_of blocks.1)) }
+    ensures keeps { Keeps doc.old doc.new }
+{
+    if !merging {
+        return settle(doc, backward);
+    }
+    let Some(block) = blocks.0 else {
+        return settle(doc, backward);
+    };
+    let Some(other) = blocks.1 else {
+        return settle(doc, backward);
+    };
+    merge_both(alloc, doc, backward, block, other)
+}

@@ -1,0 +1,164 @@
+//! Points by the nodes beside them.
+
+ghost use Rattle.std.specs.Prelude.{◌≡◌, ◌<◌, IfSome, true};
+ghost use Rattle.dom_model.specs.Forest.{count_of};
+ghost use Rattle.edit_model.specs.Confined.{is_inside};
+ghost use Rattle.edit_model.specs.Gives.{label_of};
+ghost use Rattle.edit_doc.specs.Held.{Holds, IfHeld, Finds};
+ghost use Rattle.node_tests.specs.BlockPoints as points;
+ghost use Rattle.delete_core.specs.Places.{start_in, end_in, before_in, after_in, before_node, after_node, if_inside, comes_before, turn_bound};
+
+use edit_actions::is_same;
+use edit_doc::{Doc, NodeRef, Point};
+use node_arena::Nodes;
+
+/// How many turns a loop takes at most that starts now.
+pub(crate) fn turn_bound(doc: &Doc) -> u128
+    ensures { result ≡ turn_bound doc.now.state }
+{
+    let counts = doc.counts();
+    2 * counts.nodes as u128 + counts.chars as u128 + 2
+}
+
+/// Whether a node is the affected host of the running command, or editable.
+#[tactic(auto, unfolding(edit_model::specs::Confined::is_inside))]
+pub(crate) fn is_inside(doc: &Doc, node: NodeRef) -> bool
+    requires { Holds doc.now node }
+    ensures { result ≡ is_inside doc.now.state node.label }
+{
+    is_same(doc.host(), node) || doc.is_editable_for(node)
+}
+
+/// A node, if there is one, that is inside.
+pub(crate) fn if_inside(doc: &Doc, node: Option<NodeRef>) -> Option<NodeRef>
+    requires { IfHeld doc.now node }
+    ensures { Finds doc.now result (if_inside doc.now.state (label_of node)) }
+{
+    let node = node?;
+    if is_inside(doc, node) {
+        Some(node)
+    } else {
+        None
+    }
+}
+
+/// The child at an offset. It counts the children before it.
+pub(crate) fn child_at(doc: &Doc, node: NodeRef, offset: u32) -> Option<NodeRef>
+    requires { Holds doc.now node }
+    ensures { Finds doc.now result (points.child_at doc.now.state.trees node.label offset) }
+{
+    doc.lawful();
+    let mut child = doc.first_child(node);
+    let mut left = offset;
+    while left > 0 {
+        match child {
+            Some(at) => child = doc.next(at),
+            None => return None,
+        }
+        left -= 1;
+    }
+    child
+}
+
+/// The child before an offset. At the end of a node it is found at once.
+pub(crate) fn child_before(doc: &Doc, node: NodeRef, offset: u32) -> Option<NodeRef>
+    requires { Holds doc.now node }
+    ensures { Finds doc.now result (points.child_before doc.now.state.trees node.label offset) }
+{
+    if offset == 0 {
+        None
+    } else {
+        child_at(doc, node, offset - 1)
+    }
+}
+
+/// The start of a node.
+pub(crate) fn start_in(node: NodeRef) -> Point
+    ensures { result ≡ start_in node.label }
+{
+    Point {
+        label: node.label,
+        offset: 0,
+    }
+}
+
+/// The end of a node.
+pub(crate) fn end_in(doc: &Doc, node: NodeRef) -> Point
+    requires { Holds doc.now node }
+    ensures { result ≡ end_in doc.now.state.trees node.label }
+{
+    Point {
+        label: node.label,
+        offset: doc.length(node),
+    }
+}
+
+/// The point just before a node in a parent, if that is there.
+pub(crate) fn before_in(doc: &Doc, node: NodeRef, parent: Option<NodeRef>) -> Option<Point>
+    requires held { Holds doc.now node }
+    requires parent_held { IfHeld doc.now parent }
+    ensures gives { result ≡ before_in doc.now.state.trees node.label (label_of parent) }
+    ensures there { IfSome result (λ at. 0 < count_of doc.now.state.trees at.label) }
+{
+    let parent = parent?;
+    Some(Point {
+        label: parent.label,
+        offset: doc.index(node),
+    })
+}
+
+/// The point just after a node in a parent, if that is there.
+pub(crate) fn after_in(doc: &Doc, node: NodeRef, parent: Option<NodeRef>) -> Option<Point>
+    requires held { Holds doc.now node }
+    requires parent_held { IfHeld doc.now parent }
+    ensures gives { result ≡ after_in doc.now.state.trees node.label (label_of parent) }
+    ensures there { IfSome result (λ at. 0 < count_of doc.now.state.trees at.label) }
+{
+    Nodes::lawful(doc);
+    let parent = parent?;
+    Some(Point {
+        label: parent.label,
+        offset: doc.index(node) + 1,
+    })
+}
+
+/// The point just before a node; the root of a tree has none.
+#[tactic(auto, unfolding(crate::specs::Places::before_node))]
+pub(crate) fn before_node(doc: &Doc, node: NodeRef) -> Option<Point>
+    requires { Holds doc.now node }
+    ensures gives { result ≡ before_node doc.now.state.trees node.label }
+    ensures there { IfSome result (λ at. 0 < count_of doc.now.state.trees at.label) }
+{
+    before_in(doc, node, doc.parent(node))
+}
+
+/// The point just after a node; the root of a tree has none.
+#[tactic(auto, unfolding(crate::specs::Places::after_node))]
+pub(crate) fn after_node(doc: &Doc, node: NodeRef) -> Option<Point>
+    requires { Holds doc.now node }
+    ensures gives { result ≡ after_node doc.now.state.trees node.label }
+    ensures there { IfSome result (λ at. 0 < count_of doc.now.state.trees at.label) }
+{
+    after_in(doc, node, doc.parent(node))
+}
+
+/// The point just after the node of a point; there is none where the node isn't there or is the root of a tree.
+#[tactic(auto, using(crate::proofs::Absent::absent), unfolding(crate::specs::Places::after_node))]
+pub(crate) fn after_there(doc: &Doc, at: Point) -> Option<Point>
+    ensures { result ≡ after_node doc.now.state.trees at.label }
+{
+    let node = doc.find(at.label)?;
+    after_in(doc, node, doc.parent(node))
+}
+
+/// Whether both nodes are there, and the first point comes before the other.
+#[tactic(auto, unfolding(crate::specs::Places::comes_before))]
+pub(crate) fn comes_before(doc: &Doc, point: Point, other: Point) -> bool
+    ensures gives { result ≡ comes_before doc.now.state.trees point other }
+    ensures point_there { result ≡ true → 0 < count_of doc.now.state.trees point.label }
+    ensures other_there { result ≡ true → 0 < count_of doc.now.state.trees other.label }
+{
+    doc.find(point.label).is_some()
+        && doc.find(other.label).is_some()
+        && point_order::comes_before(doc, point, other)
+}
