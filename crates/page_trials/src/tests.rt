@@ -1,6 +1,10 @@
+mod commands;
 mod documents;
+mod extending;
+mod inline;
 mod nodes;
 mod pages;
+mod queries;
 mod styles;
 mod values;
 mod wraps;
