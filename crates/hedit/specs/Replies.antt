@@ -9,8 +9,8 @@ use Rattle.script_read.specs.declared.act.Act.{Act}
 use Rattle.script_read.specs.declared.act.Act.TheVariants.{Select, Unselect, Mark, Unmark, Exec, Query, Undo, Redo, Probe, Html, Tree, Points, Stat}
 use Rattle.script_read.specs.Acts.{is_name}
 use Rattle.script_read.specs.Reading.{Line, Long, Unknown, Known, line_of}
-use Rattle.edit_engine.specs.declared.answers.Reply.{Reply}
-use Rattle.edit_engine.specs.declared.answers.Reply.TheVariants as reply
+use Rattle.edit_query.specs.declared.reply.Reply.{Reply}
+use Rattle.edit_query.specs.declared.reply.Reply.TheVariants as reply
 use Rattle.edit_engine.specs.declared.answers.ViewKind.{ViewKind}
 use Rattle.edit_engine.specs.declared.answers.ViewKind.TheVariants as view
 use Rattle.edit_engine.specs.Editing.{Editing, undone, redone, turned}

@@ -5,7 +5,12 @@ use std::alloc::{AllocError, Global};
 use std::test::Fail;
 
 // What a session on a page answers.
-fn answer(alloc: Global, words: &[&str], page: &str, acts: &str) -> Result<Vec<u8>, AllocError> {
+pub(crate) fn answer(
+    alloc: Global,
+    words: &[&str],
+    page: &str,
+    acts: &str,
+) -> Result<Vec<u8>, AllocError> {
     let input = format!(in alloc; "page <<END\n{page}\nEND\n{acts}")?;
     let (status, written) = answer_to(alloc, words, input.as_bytes())?;
     if status == Status::Done {

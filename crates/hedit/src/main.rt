@@ -8,6 +8,8 @@ mod acts;
 mod block;
 #[cfg(test)]
 mod editing_tests;
+#[cfg(test)]
+mod formatting_tests;
 mod reply;
 mod session;
 #[cfg(test)]
