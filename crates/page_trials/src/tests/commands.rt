@@ -250,18 +250,40 @@ fn restores(
     Ok(restore_states(alloc, doc, &list)?)
 }
 
-#[test]
-fn states_are_restored(rt: HostRuntime) -> Result<(), Fail> {
-    let alloc = rt.alloc();
+// Where a range has a formattable node, the values come to it; where it is a caret, its overrides are set. The states are those of
+// "ab", which is bold.
+fn restores_at(
+    alloc: Global,
+    doc: &mut Doc,
+    to: ((u32, u32), (u32, u32)),
+    wanted: &str,
+    is_override: bool,
+) -> Result<bool, Fail>
+    requires { IsClosed doc.old }
+{
+    restores(alloc, doc, ((3, 0), (3, 2)), to)?;
+    let bold = matches!(doc.setting(Command::Bold), Setting::On);
+    let italic = matches!(doc.setting(Command::Italic), Setting::Off);
+    Ok(holds(alloc, doc, wanted)? && bold == is_override && italic == is_override)
+}
+
+// What the host holds once the states are restored at a range.
+fn restored(
+    alloc: Global,
+    to: ((u32, u32), (u32, u32)),
+    wanted: &str,
+    is_override: bool,
+) -> Result<bool, Fail> {
     // 2 b (3 "ab"), 4 "cd"
     let page = page_of(alloc, "<b>ab</b>cd")?;
     let mut doc = document_of(alloc, page.as_str())?;
-    restores(alloc, &mut doc, ((3, 0), (3, 2)), ((4, 0), (4, 2)))?;
-    assert!(rt; holds(alloc, &doc, "<b>abcd</b>")?);
-    let mut doc = document_of(alloc, page.as_str())?;
-    restores(alloc, &mut doc, ((3, 0), (3, 2)), ((4, 1), (4, 1)))?;
-    assert!(rt; holds(alloc, &doc, "<b>ab</b>cd")?);
-    assert!(rt; matches!(doc.setting(Command::Bold), Setting::On));
-    assert!(rt; matches!(doc.setting(Command::Italic), Setting::Off));
+    restores_at(alloc, &mut doc, to, wanted, is_override)
+}
+
+#[test]
+fn states_are_restored(rt: HostRuntime) -> Result<(), Fail> {
+    let alloc = rt.alloc();
+    assert!(rt; restored(alloc, ((4, 0), (4, 2)), "<b>abcd</b>", false)?);
+    assert!(rt; restored(alloc, ((4, 1), (4, 1)), "<b>ab</b>cd", true)?);
     Ok(())
 }
