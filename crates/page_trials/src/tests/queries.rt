@@ -1,5 +1,7 @@
 //! What is asked of inline commands.
 
+ghost use Rattle.edit_doc.specs.Whole.{IsClosed};
+
 use crate::tests::pages::{begin, document_of, page_of};
 use css_value::has_codes;
 use dom_model::Chars;
@@ -261,23 +263,28 @@ fn questions_are_answered(rt: HostRuntime) -> Result<(), Fail> {
     Ok(())
 }
 
-#[test]
-fn overrides_answer_first(rt: HostRuntime) -> Result<(), Fail> {
-    let alloc = rt.alloc();
-    let mut doc = document_of(alloc, "<div contenteditable=\"true\">a</div>")?;
+// Whether the overrides of a style, a size and a colour answer.
+fn overrides_answer(alloc: Global, doc: &mut Doc) -> Result<bool, Fail>
+    requires { IsClosed doc.old }
+{
     doc.select(point((2, 0)), point((2, 1)));
-    begin(&mut doc)?;
-    let host = doc.find(1);
+    begin(doc)?;
     doc.set_setting(Command::Bold, Setting::On);
     let value = chars(alloc, "xx-large")?;
     doc.set_setting(Command::FontSize, Setting::Text { value });
     let value = chars(alloc, "#f00")?;
     doc.set_setting(Command::ForeColor, Setting::Text { value });
-    let reply = query(alloc, &doc, host, QueryKind::State, Command::Bold)?;
-    assert_eq!(rt; flag(reply), Some(true));
-    let reply = query(alloc, &doc, host, QueryKind::Value, Command::FontSize)?;
-    assert!(rt; is_wording(reply, "6"));
-    let reply = query(alloc, &doc, host, QueryKind::Value, Command::ForeColor)?;
-    assert!(rt; is_wording(reply, "#f00"));
+    let host = doc.find(1);
+    let style = query(alloc, doc, host, QueryKind::State, Command::Bold)?;
+    let size = query(alloc, doc, host, QueryKind::Value, Command::FontSize)?;
+    let colour = query(alloc, doc, host, QueryKind::Value, Command::ForeColor)?;
+    Ok(flag(style) == Some(true) && is_wording(size, "6") && is_wording(colour, "#f00"))
+}
+
+#[test]
+fn overrides_answer_first(rt: HostRuntime) -> Result<(), Fail> {
+    let alloc = rt.alloc();
+    let mut doc = document_of(alloc, "<div contenteditable=\"true\">a</div>")?;
+    assert!(rt; overrides_answer(alloc, &mut doc)?);
     Ok(())
 }
