@@ -6,7 +6,8 @@ use Rattle.dom_model.specs.Forest.{Forest, join, tops, count_of, IsDistinct, par
 use Rattle.dom_model.specs.Forest.Forest.{Nil, Tree}
 use Rattle.dom_model.specs.Places.{onward}
 use Rattle.dom_model.proofs.Links.{parent_count}
-use Rattle.node_tests.proofs.Inside.{siblings, tree_is_kids, onward_is_tree}
+use Rattle.node_tests.specs.Listing.{siblings}
+use Rattle.node_tests.proofs.Inside.{tree_is_kids, onward_is_tree}
 use Rattle.node_tests.proofs.Around.{content_at, own_tree}
 
 module _ (f : Forest Content) (once : IsDistinct f) where

@@ -18,7 +18,8 @@ use Rattle.node_tests.specs.CollapsedWhitespace.{decides, collapses_at, is_solid
 use Rattle.node_tests.specs.SolidNeighbours.{met, first_met, last_in_order, neighbour_after, is_solid_neighbour}
 use Rattle.node_tests.proofs.Pieces.{count_in_tree, find_where, once_kids, once_rest, tree-below, tree-after, has, hasnt, back}
 use Rattle.node_tests.proofs.Pieces.Where.{Here, Below, After}
-use Rattle.node_tests.proofs.Inside.{siblings, tree_is_kids}
+use Rattle.node_tests.specs.Listing.{siblings}
+use Rattle.node_tests.proofs.Inside.{tree_is_kids}
 use Rattle.node_tests.proofs.Around.{content_at, single_block, inner_is}
 use Rattle.node_tests.proofs.Steps.{prev_step, labels-parent, labels-block, labels-root}
 use Rattle.node_tests.proofs.Walking.{prev_parent}

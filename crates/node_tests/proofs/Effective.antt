@@ -6,13 +6,18 @@ use Rattle.dom_model.specs.Forest.Forest.{Nil, Tree}
 use Rattle.dom_model.specs.Places.{onward}
 use Rattle.dom_model.proofs.Neighbours.{parent_of-first}
 use Rattle.live_range.specs.declared.places.Point.{Point}
-use Rattle.node_tests.specs.Ranges.{is_touched, is_cut, has_trees, all_effective}
-use Rattle.node_tests.proofs.Inside.{siblings, tree_is_kids, onward_is_tree}
+use Rattle.node_tests.specs.Ranges.{is_contained, is_partial, is_touched, is_cut, has_trees, all_effective}
+use Rattle.node_tests.specs.Listing.{siblings}
+use Rattle.node_tests.proofs.Inside.{tree_is_kids, onward_is_tree}
 use Rattle.node_tests.proofs.Around.{content_at}
 use Rattle.node_tests.proofs.ChildAt.{own_onward}
 use Rattle.node_tests.proofs.Propping.{and_assoc, and_true}
 
 module _ (f : Forest Content) (start end : Point) where
+  pub touched_by : (l : ℕ) (a b : Bool) → a ≡ is_contained f start end l → b ≡ is_partial f start end l → (a || b) ≡ is_touched f start end l
+  unfolding is_touched
+  touched_by l a b e e' = rw (e, e') refl
+
   effective-join : (g h : Forest Content) → all_effective f start end (join g h) ≡ (all_effective f start end g && all_effective f start end h)
   effective-join Nil h = refl
   effective-join (Tree m c ks rest) h =

@@ -12,10 +12,11 @@ use Rattle.dom_model.proofs.Within.{within_self, within_child, depth_of-parent}
 use Rattle.dom_model.proofs.Earlier.{first_of_two-within, first_of_two-apart}
 use Rattle.live_range.specs.declared.places.Point.{Point}
 use Rattle.point_order.specs.PointOrder.{is_before, child_toward}
+use Rattle.node_tests.specs.declared.listing.Wanted.{Wanted}
 use Rattle.node_tests.specs.declared.listing.Wanted.TheVariants.{Contained, Effective}
 use Rattle.node_tests.specs.CollapsedWhitespace.{is_words}
 use Rattle.node_tests.specs.Listing.{is_wanted}
-use Rattle.node_tests.specs.Ranges.{is_contained, is_partial, is_touched, all_effective, is_effectively_contained, contained_nodes, effective_nodes}
+use Rattle.node_tests.specs.Ranges.{is_contained, is_partial, is_touched, all_effective, is_effectively_contained}
 use Rattle.node_tests.proofs.Wanting.{passed, passed_root}
 use Rattle.node_tests.proofs.Pieces.{count_in_tree}
 use Rattle.node_tests.proofs.Toward.{through, toward_none}
@@ -27,10 +28,10 @@ copied (Ok list) items labels same is = ap (map (λ k. k.label)) same ∙ is
 copied (Err e) items labels same is = tt
 
 module _ (f : Forest Content) (once : IsDistinct f) where
-  abbrev Rooted : ℕ → Type 0
+  abbrev pub Rooted : ℕ → Type 0
   Rooted l = (y : ℕ) × (0 < count_of f y) × (parent_of f y ≡ None) × IsWithin f y l
 
-  root_above : (n l : ℕ) → depth_of f l < n → 0 < count_of f l → Rooted l
+  pub root_above : (n l : ℕ) → depth_of f l < n → 0 < count_of f l → Rooted l
   root_above zero l low here = absurd (omega (arith, low))
   root_above (suc n) l low here =
       by_parent (parent_of f l) refl (λ p e. root_above n p (omega (arith, low, depth_of-parent f l p once e)) (parent_count f l p once e).1)
@@ -74,11 +75,6 @@ module _ (f : Forest Content) (once : IsDistinct f) where
       unfolding is_contained
       not_contained l here out = ap (λ v. v && is_before f (record { label = l; offset = length_of f l }) end) (no_order l here out start (record { label = l; offset = 0 }) refl inside)
 
-      pub all_contained : passed (is_wanted Contained f start end) (tree_of f root) ≡ contained_nodes f start end
-      unfolding is_wanted contained_nodes
-      all_contained =
-          sym (passed_root (is_contained f start end) f root once there top (λ l here none. not_contained l here (λ w. omega (arith, w, none))))
-
       untouched : (k : ℕ) → 0 < count_of f k → (IsWithin f root k → ⊥) → IsWithin f root end.label → is_touched f start end k ≡ false
       unfolding is_touched is_partial
       untouched k here out end_in =
@@ -104,7 +100,18 @@ module _ (f : Forest Content) (once : IsDistinct f) where
               (some_trees (tree_of f l) l (within_self f l once here)) in
               ap (λ v. is_before f start end && v) none ∙ (elim (is_before f start end) as (λ v. (v && false) ≡ false) [ true ↦ refl | false ↦ refl ])
 
-      pub all_listed : 0 < count_of f end.label → passed (is_wanted Effective f start end) (tree_of f root) ≡ effective_nodes f start end
-      unfolding is_wanted effective_nodes
-      all_listed end_here =
-          sym (passed_root (is_effectively_contained f start end) f root once there top (λ l here none. not_effective end_here l here (λ w. omega (arith, w, none))))
+      unwanted : (w : Wanted) → 0 < count_of f end.label → (l : ℕ) → 0 < count_of f l → (IsWithin f root l → ⊥) → is_wanted w f start end l ≡ false
+      unfolding is_wanted
+      unwanted Contained end_here l here out = not_contained l here out
+      unwanted Effective end_here l here out = not_effective end_here l here out
+
+      pub all_wanted : (w : Wanted) → 0 < count_of f end.label → passed (is_wanted w f start end) (tree_of f root) ≡ passed (is_wanted w f start end) f
+      all_wanted w end_here =
+          sym (passed_root (is_wanted w f start end) f root once there top (λ l here none. unwanted w end_here l here (λ o. omega (arith, o, none))))
+
+      pub end_inside : 0 < count_of f end.label → is_before f start end ≡ true → IsWithin f root end.label
+      end_inside end_here ordered = by_count (count_of (tree_of f root) end.label) refl
+        where
+          by_count : (n : ℕ) → count_of (tree_of f root) end.label ≡ n → IsWithin f root end.label
+          by_count zero e = absurd (let none = no_order end.label end_here (λ o. omega (arith, e, o)) start end refl inside in let t : true ≡ false = sym ordered ∙ none in cc)
+          by_count (suc n) e = omega (arith, e)

@@ -7,13 +7,9 @@ use Rattle.dom_model.specs.Places.{or_else, onward}
 use Rattle.dom_model.proofs.Totals.{total-join}
 use Rattle.dom_model.proofs.Links.{parent_count}
 use Rattle.dom_model.proofs.Parts.{onward_absent, at_label}
+use Rattle.node_tests.specs.Listing.{siblings}
 use Rattle.node_tests.proofs.Pieces.{find_where, once_kids, once_rest, tree-below, tree-after}
 use Rattle.node_tests.proofs.Pieces.Where.{Here, Below, After}
-
--- the tree of a label with those of its later siblings
-abbrev pub siblings : Forest Content → Option ℕ → Forest Content
-siblings f None = Nil
-siblings f (Some k) = onward f k
 
 -- how many nodes
 abbrev pub nodes : Forest Content → ℕ

@@ -6,7 +6,8 @@ use Rattle.dom_model.proofs.Neighbours.{parent_of-first, parent_of-next}
 use Rattle.node_arena.specs.declared.NodeRef.{NodeRef}
 use Rattle.node_arena.specs.Held.{label}
 use Rattle.node_arena.specs.Reads.{IsLawful, Names}
-use Rattle.node_tests.proofs.Inside.{siblings, nodes, fewer_kids, fewer_onward, some_node}
+use Rattle.node_tests.specs.Listing.{siblings}
+use Rattle.node_tests.proofs.Inside.{nodes, fewer_kids, fewer_onward, some_node}
 
 -- a child of p, or none after the last
 pub record Kid (holds : NodeRef → Type 0) (f : Forest Content) (p : ℕ) (o : Option NodeRef) : Type 0 where

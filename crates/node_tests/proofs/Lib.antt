@@ -23,3 +23,6 @@ mod Turns
 mod Tags
 mod Endings
 mod OwnHost
+mod Reaching
+mod Above
+mod Gathered

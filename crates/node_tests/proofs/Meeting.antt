@@ -7,7 +7,8 @@ use Rattle.dom_model.specs.Forest.Forest.{Nil, Tree}
 use Rattle.dom_model.specs.Places.{onward}
 use Rattle.node_tests.specs.declared.neighbours.Neighbour.{Neighbour}
 use Rattle.node_tests.specs.SolidNeighbours.{met, first_met, last_met, last_in_order}
-use Rattle.node_tests.proofs.Inside.{siblings, tree_is_kids, onward_is_tree}
+use Rattle.node_tests.specs.Listing.{siblings}
+use Rattle.node_tests.proofs.Inside.{tree_is_kids, onward_is_tree}
 use Rattle.node_tests.proofs.Around.{content_at}
 
 or_none : (o : Option Neighbour) → option_or o None ≡ o

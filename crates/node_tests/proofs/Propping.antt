@@ -7,7 +7,8 @@ use Rattle.dom_model.specs.Places.{onward}
 use Rattle.dom_model.proofs.Links.{parent_count}
 use Rattle.node_tests.specs.Visible.{is_visible}
 use Rattle.node_tests.specs.BlockProps.{Props, is_break_prop, is_inline_element, is_prop, props_in, is_block_prop}
-use Rattle.node_tests.proofs.Inside.{siblings, tree_is_kids, onward_is_tree}
+use Rattle.node_tests.specs.Listing.{siblings}
+use Rattle.node_tests.proofs.Inside.{tree_is_kids, onward_is_tree}
 use Rattle.node_tests.proofs.Around.{content_at}
 use Rattle.node_tests.proofs.Showing.{or_assoc, or_false}
 

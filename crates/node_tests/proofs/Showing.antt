@@ -5,7 +5,8 @@ use Rattle.dom_model.specs.Forest.{Forest, join, count_of, IsDistinct, tree_of, 
 use Rattle.dom_model.specs.Forest.Forest.{Nil, Tree}
 use Rattle.dom_model.specs.Places.{onward}
 use Rattle.node_tests.specs.Visible.{is_boxless, shows, shows_in}
-use Rattle.node_tests.proofs.Inside.{siblings, tree_is_kids, onward_is_tree}
+use Rattle.node_tests.specs.Listing.{siblings}
+use Rattle.node_tests.proofs.Inside.{tree_is_kids, onward_is_tree}
 use Rattle.node_tests.proofs.Around.{content_at}
 
 pub or_assoc : (a b c : Bool) → ((a || b) || c) ≡ (a || (b || c))

@@ -18,14 +18,14 @@ use Rattle.point_order.specs.PointOrder.{is_before, child_toward}
 use Rattle.node_tests.specs.declared.listing.Wanted.{Wanted}
 use Rattle.node_tests.specs.declared.listing.Wanted.TheVariants.{Contained, Effective}
 use Rattle.node_tests.specs.CollapsedWhitespace.{is_words}
-use Rattle.node_tests.specs.Listing.{is_wanted, LiesBefore, LiesAfter, IsOpen}
-use Rattle.node_tests.specs.Ranges.{is_contained, is_partial, is_touched, all_effective, is_effectively_contained, effective_nodes}
+use Rattle.node_tests.specs.Listing.{is_wanted, LiesBefore, LiesAfter}
+use Rattle.node_tests.specs.Ranges.{is_contained, is_partial, is_touched, all_effective, is_effectively_contained}
 use Rattle.node_tests.proofs.Pieces.{count_in_tree}
 use Rattle.node_tests.proofs.Toward.{through, toward, toward_none, apart}
 use Rattle.node_tests.proofs.Untouched.{all_false, some_trees}
 use Rattle.node_tests.proofs.Wanting.{passed, passed_none}
 
-and_none : (v : Bool) → (v && false) ≡ false
+pub and_none : (v : Bool) → (v && false) ≡ false
 and_none true = refl
 and_none false = refl
 
@@ -148,7 +148,7 @@ module _ (f : Forest Content) (once : IsDistinct f) where
         ap (λ v. is_before f start end && v) (all_false f start end (tree_of f x) (λ y h. off y (through f once k x y inside h)) (some_trees (tree_of f x) x (within_self f x once there)))
         ∙ and_none (is_before f start end)
 
-    reversed : (x : ℕ) → is_before f start end ≡ false → is_effectively_contained f start end x ≡ false
+    pub reversed : (x : ℕ) → is_before f start end ≡ false → is_effectively_contained f start end x ≡ false
     unfolding is_effectively_contained
     reversed x e = ap (λ v. v && all_effective f start end (tree_of f x)) e
 
@@ -171,7 +171,7 @@ module _ (f : Forest Content) (once : IsDistinct f) where
         ap (λ v. v && all_effective f start end (tree_of f k)) ordered ∙ ap (all_effective f start end) t.2 ∙ all
 
     module _ (k : ℕ) (lies : LiesBefore f start k) where
-      out_before : (x : ℕ) → IsWithin f k x → is_contained f start end x ≡ false
+      pub out_before : (x : ℕ) → IsWithin f k x → is_contained f start end x ≡ false
       unfolding is_contained
       out_before x inside = ap (λ v. v && is_before f (record { label = x; offset = length_of f x }) end) (lies.none x 0 inside)
 
@@ -188,7 +188,7 @@ module _ (f : Forest Content) (once : IsDistinct f) where
           untouched y (out_before y h) (no_part y (not_start y h) (ap (λ v. v && not (eqb end.offset 0)) (differs y end.label off))))
       past_start (suc n) e x inside = reversed x (lies.none end.label end.offset (omega (arith, e)))
 
-      unwanted_before : (w : Wanted) (x : ℕ) → IsWithin f k x → is_wanted w f start end x ≡ false
+      pub unwanted_before : (w : Wanted) (x : ℕ) → IsWithin f k x → is_wanted w f start end x ≡ false
       unfolding is_wanted
       unwanted_before Contained x inside = out_before x inside
       unwanted_before Effective x inside = past_start (count_of (tree_of f k) end.label) refl x inside
@@ -197,7 +197,7 @@ module _ (f : Forest Content) (once : IsDistinct f) where
       skipped_before w = passed_none (is_wanted w f start end) (tree_of f k) (unwanted_before w)
 
     module _ (k : ℕ) (lies : LiesAfter f end k) where
-      out_after : (x : ℕ) → IsWithin f k x → is_contained f start end x ≡ false
+      pub out_after : (x : ℕ) → IsWithin f k x → is_contained f start end x ≡ false
       unfolding is_contained
       out_after x inside =
           ap (λ v. is_before f start (record { label = x; offset = 0 }) && v) (lies.none x (length_of f x) inside)
@@ -219,7 +219,7 @@ module _ (f : Forest Content) (once : IsDistinct f) where
           untouched y (out_after y h) (no_part y off (at_start end.offset y refl h)))
       past_end (suc n) e x inside = reversed x (lies.none start.label start.offset (omega (arith, e)))
 
-      unwanted_after : (w : Wanted) (x : ℕ) → IsWithin f k x → is_wanted w f start end x ≡ false
+      pub unwanted_after : (w : Wanted) (x : ℕ) → IsWithin f k x → is_wanted w f start end x ≡ false
       unfolding is_wanted
       unwanted_after Contained x inside = out_after x inside
       unwanted_after Effective x inside = past_end (count_of (tree_of f k) start.label) refl x inside
@@ -229,12 +229,7 @@ module _ (f : Forest Content) (once : IsDistinct f) where
 
     -- ---- each node of these is wanted
 
-    pub wanted_inside : (k : ℕ) → 0 < count_of f k → LiesAfter f start k → LiesBefore f end k → (w : Wanted) → IsOpen w f start end → is_wanted w f start end k ≡ true
+    pub wanted_inside : (k : ℕ) → 0 < count_of f k → LiesAfter f start k → LiesBefore f end k → is_before f start end ≡ true → (w : Wanted) → is_wanted w f start end k ≡ true
     unfolding is_wanted
-    wanted_inside k here after before Contained open' = contained_inside k here after before
-    wanted_inside k here after before Effective open' = effective_inside k here after before open'
-
-    -- nor is any where the range is collapsed
-    pub none_effective : is_before f start end ≡ false → [] ≡ effective_nodes f start end
-    unfolding effective_nodes
-    none_effective e = sym (passed_none (is_effectively_contained f start end) f (λ x here. reversed x e))
+    wanted_inside k here after before ordered Contained = contained_inside k here after before
+    wanted_inside k here after before ordered Effective = effective_inside k here after before ordered

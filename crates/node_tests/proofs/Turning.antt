@@ -66,7 +66,7 @@ get_times (x ∷ xs) zero k e =
     elim (eqb_tells x k) [ inl (t, _) ↦ rw t (omega arith) | inr (_, off) ↦ absurd (off is) ]
 get_times (x ∷ xs) (suc i) k e = omega (arith, get_times xs i k e)
 
-place_is : (xs : List ℕ) (i k : ℕ) → ((j : ℕ) → times xs j ≤ 1) → slice_get xs i ≡ Some k → place_in xs k ≡ i
+pub place_is : (xs : List ℕ) (i k : ℕ) → ((j : ℕ) → times xs j ≤ 1) → slice_get xs i ≡ Some k → place_in xs k ≡ i
 place_is [] i k once e = absurd (let t = e in cc)
 place_is (x ∷ xs) zero k once e =
     let is : x ≡ k = (let t = e in cc) in
@@ -99,6 +99,11 @@ past_get : (xs : List ℕ) (n : ℕ) → length xs ≤ n → slice_get xs n ≡ 
 past_get [] n h = refl
 past_get (x ∷ xs) zero h = absurd (omega (arith, h))
 past_get (x ∷ xs) (suc n) h = past_get xs n (omega (arith, h))
+
+pub get_none : (xs : List ℕ) (n : ℕ) → slice_get xs n ≡ None → length xs ≤ n
+get_none [] n e = omega arith
+get_none (x ∷ xs) zero e = absurd (let t = e in cc)
+get_none (x ∷ xs) (suc n) e = omega (arith, get_none xs n e)
 
 place_low : (xs : List ℕ) (l : ℕ) → 0 < times xs l → place_in xs l < length xs
 place_low [] l h = absurd (omega (arith, h))
@@ -264,6 +269,20 @@ module _ {holds : NodeRef → Type 0} {f : Forest Content} {upper : ℕ} (law : 
 
     pub last_index : length (children_of f p) ≡ index_of f l + 1 → next_of f l ≡ None
     last_index whole = sym after_index ∙ past_get (children_of f p) (index_of f l + 1) (omega (arith, whole))
+
+    -- the index finds the child
+    pub at_index : child_at f p (index_of f l) ≡ Some l
+    at_index = ap (slice_get (children_of f p)) index ∙ at_place (children_of f p) l among
+
+    pub index_under : index_of f l < length (children_of f p)
+    index_under = omega (arith, index, place_low (children_of f p) l among)
+
+    -- with no later sibling it is the last
+    pub no_next : next_of f l ≡ None → length (children_of f p) ≡ index_of f l + 1
+    no_next e =
+        let xs = children_of f p in
+        let t : eqb (place_in xs l + 1) (length xs) ≡ true = sym (none_after xs l among) ∙ ap is_none (sym (next_in f law.distinct l p child) ∙ e) in
+        elim (eqb_tells (place_in xs l + 1) (length xs)) [ inl (_, same) ↦ omega (arith, same, index) | inr (u, _) ↦ absurd (let v : true ≡ false = sym t ∙ u in cc) ]
 
   module _ (r p : NodeRef) (child : parent_of f r.label ≡ Some p.label) where
     pub stands_before : (o : Option NodeRef) → label o ≡ prev_of f r.label → StandsAt f (record { node = p; before = o; after = Some r }) (record { node = p.label; offset = index_of f r.label + 0 })

@@ -12,7 +12,8 @@ use Rattle.dom_model.proofs.Links.{seen, eqb_refl_true}
 use Rattle.dom_model.proofs.Stands.{parent_stands, times-tops}
 use Rattle.node_tests.proofs.Pieces.{count_in_tree, once_rest, tree-after}
 use Rattle.node_tests.specs.Listing.{only_if}
-use Rattle.node_tests.proofs.Inside.{siblings, tree_is_kids, onward_is_tree}
+use Rattle.node_tests.specs.Listing.{siblings}
+use Rattle.node_tests.proofs.Inside.{tree_is_kids, onward_is_tree}
 
 preorder_onto_is : (f : Forest Content) (ls : List ℕ) → preorder_onto f ls ≡ preorder f ++ ls
 preorder_onto_is Nil ls = refl
@@ -48,19 +49,20 @@ module _ (test : ℕ → Bool) where
 
   module _ (f : Forest Content) (once : IsDistinct f) where
     -- a node and its children
-    pub listed_init : (l : ℕ) → 0 < count_of f l → (o : Option ℕ) → o ≡ first_of f l → (old new : List ℕ) → new ≡ old ++ only_if test l → new ++ passed (siblings f o) ≡ old ++ passed (tree_of f l)
-    listed_init l here o e old new is =
+    pub tree_passed : (l : ℕ) → 0 < count_of f l → passed (tree_of f l) ≡ only_if test l ++ passed (siblings f (first_of f l))
+    tree_passed l here =
         let s = seen f l once here in
         let c = s.0.content in
         let tree : tree_of f l ≡ Tree l c (siblings f (first_of f l)) Nil = tree_is_kids f once l c here (ap (option_map (λ (x : Seen Content). x.content)) s.2) in
-        let whole : passed (tree_of f l) ≡ only_if test l ++ passed (siblings f o) =
         ap passed tree
         ∙ (passed_tree l c (siblings f (first_of f l)) Nil
-        ∙ (ap (λ xs. only_if test l ++ xs) (append-nil (passed (siblings f (first_of f l))))
-        ∙ ap (λ k. only_if test l ++ passed (siblings f k)) (sym e))) in
+        ∙ ap (λ xs. only_if test l ++ xs) (append-nil (passed (siblings f (first_of f l)))))
+
+    pub listed_init : (l : ℕ) → 0 < count_of f l → (o : Option ℕ) → o ≡ first_of f l → (old new : List ℕ) → new ≡ old ++ only_if test l → new ++ passed (siblings f o) ≡ old ++ passed (tree_of f l)
+    listed_init l here o e old new is =
         ap (λ xs. xs ++ passed (siblings f o)) is
         ∙ (append_assoc old (only_if test l) (passed (siblings f o))
-        ∙ ap (λ xs. old ++ xs) (sym whole))
+        ∙ ap (λ xs. old ++ xs) (sym (tree_passed l here ∙ ap (λ k. only_if test l ++ passed (siblings f k)) (sym e))))
 
     -- past a child
     pub listed_next : (k p : ℕ) → parent_of f k ≡ Some p → (o : Option ℕ) → o ≡ next_of f k → (all old new : List ℕ) → old ++ passed (onward f k) ≡ all → new ≡ old ++ passed (tree_of f k) → new ++ passed (siblings f o) ≡ all
@@ -83,6 +85,18 @@ module _ (test : ℕ → Bool) where
       ∙ (ap (λ v. cond v (l ∷ []) [] ++ (passed ks ++ passed rest)) (off l here)
       ∙ (ap (λ xs. xs ++ passed rest) (passed_none ks (λ k h. off k (omega (arith, h))))
       ∙ passed_none rest (λ k h. off k (omega (arith, h)))))
+
+  -- each of them passes
+  pub passed_every : (f : Forest Content) → ((l : ℕ) → 0 < count_of f l → test l ≡ true) → passed f ≡ preorder f
+  passed_every Nil on = refl
+  passed_every (Tree l c ks rest) on =
+      let self : eqb l l ≡ true = eqb_refl_true l in
+      let here : 0 < count_of (Tree l c ks rest) l = (rw self (omega arith)) in
+      passed_tree l c ks rest
+      ∙ (ap (λ v. cond v (l ∷ []) [] ++ (passed ks ++ passed rest)) (on l here)
+      ∙ (ap (λ xs. l ∷ (xs ++ passed rest)) (passed_every ks (λ k h. on k (omega (arith, h))))
+      ∙ (ap (λ xs. l ∷ (preorder ks ++ xs)) (passed_every rest (λ k h. on k (omega (arith, h))))
+      ∙ ap (λ xs. l ∷ xs) (sym (preorder_onto_is ks (preorder rest))))))
 
   -- only nodes of one tree pass
   passed_top : (f : Forest Content) (root : ℕ) → IsDistinct f → 0 < times (tops f) root → ((l : ℕ) → 0 < count_of f l → count_of (tree_of f root) l ≡ 0 → test l ≡ false) → passed f ≡ passed (tree_of f root)

@@ -1,12 +1,17 @@
 //! The nodes that a range contains, and those that it contains in effect, in tree order.
 
-ghost use Rattle.std.specs.Prelude.{◌≡◌, ◌<◌, ◌≤◌, ◌⊎◌, ◌++◌, Bool, None, OnOk, IfOk, map};
-ghost use Rattle.std.specs.List.{All, filter};
-ghost use Rattle.dom_model.specs.Forest.{count_of, parent_of, preorder, tree_of, IsWithin};
-ghost use Rattle.node_tests.specs.Listing.{is_wanted, only_if, IsOpen, Lies, Parts};
+ghost use Rattle.std.specs.Prelude.{◌≡◌, ◌≢◌, ◌<◌, ◌≤◌, length, not, ◌&&◌, ◌++◌, Bool, None, OnOk, IfOk, map};
+ghost use Rattle.std.specs.List.{All, filter, insert};
+ghost use Rattle.dom_model.specs.Forest.{count_of, first_of, parent_of, preorder, tree_of, IsWithin};
+ghost use Rattle.node_arena.specs.Held.{label};
+ghost use Rattle.point_order.specs.PointOrder.{is_before};
+ghost use Rattle.node_tests.specs.BlockPoints.{child_at};
+ghost use Rattle.node_tests.specs.Listing.{is_at, is_listed, is_wanted, siblings, Lies, LiesAfter, LiesBefore, Reaches, Ends};
 ghost use Rattle.node_tests.specs.Ranges as ranges;
 
-use crate::ranges::{is_contained, is_effectively_contained};
+use crate::block_points::child_at;
+use crate::neighbours::is_nothing;
+use crate::ranges::{is_cut, is_partial};
 use live_range::Point;
 use node_arena::{NodeList, NodeRef, Nodes};
 use point_order::{child_toward, comes_before, node_of};
@@ -19,127 +24,236 @@ enum Wanted {
     Effective,
 }
 
-/// Where a point parts the children of a node: so many lie before it, and those from an index on after it.
+/// Where a point stands among the children of a node: those before the child lie before the point, and those after it lie
+/// after the point. The child has the point in its own tree, or lies after it too. With no child, all lie before the point.
 #[derive(Clone, Copy)]
-struct Parting {
-    ended: u32,
-    begun: u32,
+struct Reach {
+    child: Option<NodeRef>,
+    holds: bool,
 }
 
-/// What is known of a tree: that it lies after the start of a range, and before its end.
+/// Whether a tree lies after the start of a range, and before its end. Where it doesn't, that point stands in the tree.
 #[derive(Clone, Copy)]
 struct Sides {
     after: bool,
     before: bool,
 }
 
-#[tactic(auto, unfolding(crate::specs::Listing::is_wanted))]
-fn is_wanted<N: Nodes>(nodes: &N, node: NodeRef, range: (Point, Point), wanted: Wanted) -> bool
-    requires node_held { N.holds nodes.now node }
-    requires start_held { 0 < count_of (N.trees nodes.now) range.0.label }
-    requires end_held { 0 < count_of (N.trees nodes.now) range.1.label }
-    ensures { result ≡ is_wanted wanted (N.trees nodes.now) range.0 range.1 node.label }
+fn lies_between(sides: Sides) -> bool
+    ensures { result ≡ (sides.after && sides.before) }
 {
-    match wanted {
-        Wanted::Contained => is_contained(nodes, node, range),
-        Wanted::Effective => is_effectively_contained(nodes, node, range),
+    sides.after && sides.before
+}
+
+// Whether a child is this node.
+fn is_at(child: Option<NodeRef>, node: NodeRef) -> bool
+    ensures { result ≡ is_at (label child) node.label }
+{
+    match child {
+        Some(at) => at.label == node.label,
+        None => false,
     }
 }
 
-// The same by what is known of the node's tree, where that is enough.
-fn is_wanted_there<N: Nodes>(
+// Whether two children are the same one, or there is neither.
+fn is_same(child: Option<NodeRef>, other: Option<NodeRef>) -> bool
+    ensures same { result ≡ Bool.true → label child ≡ label other }
+    ensures other { result ≡ Bool.false → label child ≢ label other }
+{
+    match (child, other) {
+        (Some(one), Some(two)) => one.label == two.label,
+        (None, None) => true,
+        _ => false,
+    }
+}
+
+// Where a point in the tree of a node stands among the node's children.
+fn reach_of<N: Nodes>(nodes: &N, node: NodeRef, point: Point) -> Reach
+    requires node_held { N.holds nodes.now node }
+    requires point_held { 0 < count_of (N.trees nodes.now) point.label }
+    requires inside { IsWithin (N.trees nodes.now) node.label point.label }
+    ensures reaches { Reaches (N.holds nodes.now) (N.trees nodes.now) point node.label result }
+    ensures own { point.label ≡ node.label → label result.child ≡ child_at (N.trees nodes.now) node.label point.offset }
+{
+    nodes.lawful();
+    if point.label == node.label {
+        return Reach {
+            child: child_at(nodes, node, point.offset),
+            holds: false,
+        };
+    }
+    Reach {
+        child: child_toward(nodes, node, node_of(nodes, point)),
+        holds: true,
+    }
+}
+
+// Where the start of a range stands among the children of a node.
+fn start_reach<N: Nodes>(nodes: &N, node: NodeRef, start: Point, after: bool) -> Reach
+    requires node_held { N.holds nodes.now node }
+    requires start_held { 0 < count_of (N.trees nodes.now) start.label }
+    requires after { after ≡ Bool.true → LiesAfter (N.trees nodes.now) start node.label }
+    requires inside { after ≡ Bool.false → IsWithin (N.trees nodes.now) node.label start.label }
+    ensures reaches { Reaches (N.holds nodes.now) (N.trees nodes.now) start node.label result }
+    ensures first { after ≡ Bool.true → label result.child ≡ first_of (N.trees nodes.now) node.label }
+{
+    nodes.lawful();
+    if after {
+        return Reach {
+            child: nodes.first_child(node),
+            holds: false,
+        };
+    }
+    reach_of(nodes, node, start)
+}
+
+// Where the end of a range stands among them.
+fn end_reach<N: Nodes>(nodes: &N, node: NodeRef, end: Point, before: bool) -> Reach
+    requires node_held { N.holds nodes.now node }
+    requires end_held { 0 < count_of (N.trees nodes.now) end.label }
+    requires before { before ≡ Bool.true → LiesBefore (N.trees nodes.now) end node.label }
+    requires inside { before ≡ Bool.false → IsWithin (N.trees nodes.now) node.label end.label }
+    ensures reaches { Reaches (N.holds nodes.now) (N.trees nodes.now) end node.label result }
+    ensures own { before ≡ Bool.false → end.label ≡ node.label → label result.child ≡ child_at (N.trees nodes.now) node.label end.offset }
+{
+    nodes.lawful();
+    if before {
+        return Reach {
+            child: None,
+            holds: false,
+        };
+    }
+    reach_of(nodes, node, end)
+}
+
+// The first child that lies after the point.
+fn first_after<N: Nodes>(nodes: &N, point: Point, top: NodeRef, reach: Reach) -> Option<NodeRef>
+    requires { Reaches (N.holds nodes.now) (N.trees nodes.now) point top.label reach }
+    ensures { Ends (N.holds nodes.now) (N.trees nodes.now) point top.label reach result }
+{
+    nodes.lawful();
+    match reach.child {
+        Some(child) if reach.holds => nodes.next(child),
+        child => child,
+    }
+}
+
+// What is known of the tree of a child.
+fn inner_sides(start: Reach, end: Reach, node: NodeRef) -> Sides
+    ensures after { result.after ≡ not (start.holds && is_at (label start.child) node.label) }
+    ensures before { result.before ≡ not (end.holds && is_at (label end.child) node.label) }
+{
+    Sides {
+        after: !(start.holds && is_at(start.child, node)),
+        before: !(end.holds && is_at(end.child, node)),
+    }
+}
+
+// Whether a range contains a node in whose tree an end of it stands: only where the end is past the end of the node.
+fn is_contained_above<N: Nodes>(
     nodes: &N,
     node: NodeRef,
     range: (Point, Point),
     sides: Sides,
-    wanted: Wanted,
+    next: Option<NodeRef>,
+) -> bool
+    requires node_held { N.holds nodes.now node }
+    requires sides { Lies (N.trees nodes.now) range.0 range.1 sides node.label }
+    requires above { sides.after ≡ Bool.true → sides.before ≡ Bool.false }
+    requires next { sides.before ≡ Bool.false → range.1.label ≡ node.label → label next ≡ child_at (N.trees nodes.now) node.label range.1.offset }
+    ensures { result ≡ ranges.is_contained (N.trees nodes.now) range.0 range.1 node.label }
+{
+    nodes.lawful();
+    if !sides.after {
+        return false;
+    }
+    if range.1.label != node.label {
+        return false;
+    }
+    if !is_nothing(next) {
+        return false;
+    }
+    nodes.length(node) < range.1.offset
+}
+
+// Whether a range effectively contains such a node, by whether it contains it and effectively contains all children.
+#[tactic(auto, unfolding(crate::specs::Ranges::is_touched))]
+fn is_effective_above<N: Nodes>(
+    nodes: &N,
+    node: NodeRef,
+    range: (Point, Point),
+    contained: bool,
+    first: Option<NodeRef>,
+    whole: bool,
 ) -> bool
     requires node_held { N.holds nodes.now node }
     requires start_held { 0 < count_of (N.trees nodes.now) range.0.label }
     requires end_held { 0 < count_of (N.trees nodes.now) range.1.label }
-    requires sides { Lies (N.trees nodes.now) range.0 range.1 sides node.label }
-    requires open { IsOpen wanted (N.trees nodes.now) range.0 range.1 }
-    ensures { result ≡ is_wanted wanted (N.trees nodes.now) range.0 range.1 node.label }
+    requires contained { contained ≡ ranges.is_contained (N.trees nodes.now) range.0 range.1 node.label }
+    requires first { label first ≡ first_of (N.trees nodes.now) node.label }
+    requires whole { whole ≡ ranges.all_effective (N.trees nodes.now) range.0 range.1 (siblings (N.trees nodes.now) (label first)) }
+    ensures { result ≡ ranges.all_effective (N.trees nodes.now) range.0 range.1 (tree_of (N.trees nodes.now) node.label) }
 {
     nodes.lawful();
-    if sides.after && sides.before {
+    if contained {
         return true;
     }
-    is_wanted(nodes, node, range, wanted)
+    if is_partial(nodes, node, range) {
+        return true;
+    }
+    if is_cut(nodes, node, range) {
+        return false;
+    }
+    if is_nothing(first) {
+        return false;
+    }
+    whole
 }
 
-// Puts a node behind those found before, where it is wanted.
-fn push_wanted<N: Nodes>(
-    nodes: &N,
-    node: NodeRef,
-    range: (Point, Point),
-    sides: Sides,
-    wanted: Wanted,
-    found: &mut Vec<NodeRef>,
-) -> Result<(), AllocError>
+// Whether such a node is listed.
+fn is_listed(wanted: Wanted, contained: bool, effective: bool) -> bool
+    ensures { result ≡ is_listed wanted contained effective }
+{
+    match wanted {
+        Wanted::Contained => contained,
+        Wanted::Effective => effective,
+    }
+}
+
+fn count(found: &Vec<NodeRef>) -> usize
+    ensures { result ≡ length found.now.items }
+{
+    found.len()
+}
+
+// Puts a node before those from a place on.
+fn put_at(found: &mut Vec<NodeRef>, place: usize, node: NodeRef) -> Result<(), AllocError>
+    requires { place ≤ length found.old.items }
+    ensures { OnOk result (found.new.items ≡ insert found.old.items place node) }
+{
+    found.insert(place, node)?;
+    Ok(())
+}
+
+// Puts all nodes of the tree of a node behind those found before.
+fn push_all<N: Nodes>(nodes: &N, node: NodeRef, found: &mut Vec<NodeRef>) -> Result<(), AllocError>
     requires node_held { N.holds nodes.now node }
-    requires start_held { 0 < count_of (N.trees nodes.now) range.0.label }
-    requires end_held { 0 < count_of (N.trees nodes.now) range.1.label }
-    requires sides { Lies (N.trees nodes.now) range.0 range.1 sides node.label }
-    requires open { IsOpen wanted (N.trees nodes.now) range.0 range.1 }
     requires found_held { All (N.holds nodes.now) found.old.items }
-    ensures nodes { OnOk result (map (λ r. r.label) found.new.items ≡ map (λ r. r.label) found.old.items ++ only_if (is_wanted wanted (N.trees nodes.now) range.0 range.1) node.label) }
+    ensures nodes { OnOk result (map (λ r. r.label) found.new.items ≡ map (λ r. r.label) found.old.items ++ preorder (tree_of (N.trees nodes.now) node.label)) }
     ensures held { OnOk result (All (N.holds nodes.now) found.new.items) }
 {
-    if is_wanted_there(nodes, node, range, sides, wanted) {
-        found.push(node)?;
+    nodes.lawful();
+    found.push(node)?;
+    let mut child = nodes.first_child(node);
+    while let Some(at) = child {
+        push_all(nodes, at, found)?;
+        child = nodes.next(at);
     }
     Ok(())
 }
 
-// Where a point parts the children of a node. If it stands below none of them, nothing is known.
-fn parts_at<N: Nodes>(nodes: &N, node: NodeRef, point: Point) -> Parting
-    requires node_held { N.holds nodes.now node }
-    requires point_held { 0 < count_of (N.trees nodes.now) point.label }
-    ensures { Parts (N.trees nodes.now) point node.label result }
-{
-    nodes.lawful();
-    if point.label == node.label {
-        return Parting {
-            ended: point.offset,
-            begun: point.offset,
-        };
-    }
-    match child_toward(nodes, node, node_of(nodes, point)) {
-        Some(child) => {
-            let index = nodes.index(child);
-            Parting {
-                ended: index,
-                begun: index + 1,
-            }
-        }
-        None => Parting {
-            ended: 0,
-            begun: nodes.length(node),
-        },
-    }
-}
-
-// Whether the child at an index lies before the start of a range or after its end.
-fn is_outside(start: Parting, end: Parting, index: u32) -> bool
-    ensures outside { result ≡ Bool.true → (index < start.ended) ⊎ (end.begun ≤ index) }
-{
-    index < start.ended || end.begun <= index
-}
-
-// What is known of the child at an index.
-fn inner_sides(sides: Sides, start: Parting, end: Parting, index: u32) -> Sides
-    ensures after { result.after ≡ Bool.true → (sides.after ≡ Bool.true) ⊎ (start.begun ≤ index) }
-    ensures before { result.before ≡ Bool.true → (sides.before ≡ Bool.true) ⊎ (index < end.ended) }
-{
-    Sides {
-        after: sides.after || start.begun <= index,
-        before: sides.before || index < end.ended,
-    }
-}
-
-// Puts the wanted nodes of the tree of a node behind those found before. It looks into no child that lies before the range or
-// after it, and tests no node of a child that lies between its ends.
+// Puts the wanted nodes of the tree of a node behind those found before, and answers whether the range effectively contains
+// the node. It looks at no child that lies before the range or after it, and tests no node that lies between its ends.
 fn push_tree<N: Nodes>(
     nodes: &N,
     node: NodeRef,
@@ -147,34 +261,49 @@ fn push_tree<N: Nodes>(
     sides: Sides,
     wanted: Wanted,
     found: &mut Vec<NodeRef>,
-) -> Result<(), AllocError>
+) -> Result<bool, AllocError>
     requires node_held { N.holds nodes.now node }
     requires start_held { 0 < count_of (N.trees nodes.now) range.0.label }
     requires end_held { 0 < count_of (N.trees nodes.now) range.1.label }
     requires sides { Lies (N.trees nodes.now) range.0 range.1 sides node.label }
-    requires open { IsOpen wanted (N.trees nodes.now) range.0 range.1 }
+    requires ordered { is_before (N.trees nodes.now) range.0 range.1 ≡ Bool.true }
     requires found_held { All (N.holds nodes.now) found.old.items }
     ensures nodes { OnOk result (map (λ r. r.label) found.new.items ≡ map (λ r. r.label) found.old.items ++ filter (is_wanted wanted (N.trees nodes.now) range.0 range.1) (preorder (tree_of (N.trees nodes.now) node.label))) }
     ensures held { OnOk result (All (N.holds nodes.now) found.new.items) }
+    ensures effective { IfOk result (λ e. e ≡ ranges.all_effective (N.trees nodes.now) range.0 range.1 (tree_of (N.trees nodes.now) node.label)) }
 {
     nodes.lawful();
-    push_wanted(nodes, node, range, sides, wanted, found)?;
-    let start = parts_at(nodes, node, range.0);
-    let end = parts_at(nodes, node, range.1);
-    let mut index: u32 = 0;
-    let mut child = nodes.first_child(node);
-    while let Some(at) = child {
-        if !is_outside(start, end, index) {
-            let inner = inner_sides(sides, start, end, index);
-            push_tree(nodes, at, range, inner, wanted, found)?;
-        }
-        index += 1;
-        child = nodes.next(at);
+    if lies_between(sides) {
+        push_all(nodes, node, found)?;
+        return Ok(true);
     }
-    Ok(())
+    let place = count(found);
+    let start = start_reach(nodes, node, range.0, sides.after);
+    let end = end_reach(nodes, node, range.1, sides.before);
+    let stop = first_after(nodes, range.1, node, end);
+    let first = nodes.first_child(node);
+    let mut whole = is_same(first, start.child);
+    let mut child = start.child;
+    while let Some(at) = child {
+        if is_at(stop, at) {
+            whole = false;
+            child = None;
+        } else {
+            let inner = inner_sides(start, end, at);
+            let is_effective = push_tree(nodes, at, range, inner, wanted, found)?;
+            whole &= is_effective;
+            child = nodes.next(at);
+        }
+    }
+    let contained = is_contained_above(nodes, node, range, sides, end.child);
+    let effective = is_effective_above(nodes, node, range, contained, first, whole);
+    if is_listed(wanted, contained, effective) {
+        put_at(found, place, node)?;
+    }
+    Ok(effective)
 }
 
-// Nothing is known of a tree.
+// Both ends stand in the tree.
 fn no_side() -> Sides
     ensures after { result.after ≡ Bool.false }
     ensures before { result.before ≡ Bool.false }
@@ -200,8 +329,32 @@ fn root_of<N: Nodes>(nodes: &N, node: NodeRef) -> NodeRef
     at
 }
 
-/// The nodes that a range contains, in tree order. It looks at the nodes from the start to the end of the range, those above
-/// them, and the children of these.
+// The wanted nodes of a range.
+fn wanted_nodes<N: Nodes>(
+    alloc: Global,
+    nodes: &N,
+    range: (Point, Point),
+    wanted: Wanted,
+) -> Result<NodeList, AllocError>
+    requires start_held { 0 < count_of (N.trees nodes.now) range.0.label }
+    requires end_held { 0 < count_of (N.trees nodes.now) range.1.label }
+    ensures nodes { IfOk result (λ list. map (λ r. r.label) list ≡ filter (is_wanted wanted (N.trees nodes.now) range.0 range.1) (preorder (N.trees nodes.now))) }
+    ensures held { IfOk result (λ list. All (N.holds nodes.now) list) }
+{
+    nodes.lawful();
+    let mut found = Vec::new(alloc);
+    if !comes_before(nodes, range.0, range.1) {
+        return NodeList::from_slice(alloc, &found);
+    }
+    let start = node_of(nodes, range.0);
+    let root = root_of(nodes, start);
+    push_tree(nodes, root, range, no_side(), wanted, &mut found)?;
+    NodeList::from_slice(alloc, &found)
+}
+
+/// The nodes that a range contains, in tree order. It looks at the nodes from the start to the end of the range and those
+/// above them, and at the children before an end only where that end is a place among them.
+#[tactic(auto, unfolding(crate::specs::Listing::is_wanted, crate::specs::Ranges::contained_nodes))]
 pub fn contained_nodes<N: Nodes>(
     alloc: Global,
     nodes: &N,
@@ -212,16 +365,12 @@ pub fn contained_nodes<N: Nodes>(
     ensures nodes { IfOk result (λ list. map (λ r. r.label) list ≡ ranges.contained_nodes (N.trees nodes.now) range.0 range.1) }
     ensures held { IfOk result (λ list. All (N.holds nodes.now) list) }
 {
-    nodes.lawful();
-    let start = node_of(nodes, range.0);
-    let root = root_of(nodes, start);
-    let mut found = Vec::new(alloc);
-    push_tree(nodes, root, range, no_side(), Wanted::Contained, &mut found)?;
-    NodeList::from_slice(alloc, &found)
+    wanted_nodes(alloc, nodes, range, Wanted::Contained)
 }
 
-/// The nodes that a range effectively contains, in tree order. It looks at the nodes from the start to the end of the range, those above
-/// them, and the children of these.
+/// The nodes that a range effectively contains, in tree order. It looks at the nodes from the start to the end of the range
+/// and those above them, and at the children before an end only where that end is a place among them.
+#[tactic(auto, unfolding(crate::specs::Listing::is_wanted, crate::specs::Ranges::effective_nodes))]
 pub fn effective_nodes<N: Nodes>(
     alloc: Global,
     nodes: &N,
@@ -232,13 +381,5 @@ pub fn effective_nodes<N: Nodes>(
     ensures nodes { IfOk result (λ list. map (λ r. r.label) list ≡ ranges.effective_nodes (N.trees nodes.now) range.0 range.1) }
     ensures held { IfOk result (λ list. All (N.holds nodes.now) list) }
 {
-    nodes.lawful();
-    let mut found = Vec::new(alloc);
-    if !comes_before(nodes, range.0, range.1) {
-        return NodeList::from_slice(alloc, &found);
-    }
-    let start = node_of(nodes, range.0);
-    let root = root_of(nodes, start);
-    push_tree(nodes, root, range, no_side(), Wanted::Effective, &mut found)?;
-    NodeList::from_slice(alloc, &found)
+    wanted_nodes(alloc, nodes, range, Wanted::Effective)
 }

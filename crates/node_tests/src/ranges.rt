@@ -31,7 +31,7 @@ pub fn is_contained<N: Nodes>(nodes: &N, node: NodeRef, range: (Point, Point)) -
 
 #[tactic(auto, unfolding(crate::specs::Ranges::is_partial))]
 // Whether a node is Words at an end of the range, of which a part lies in the range.
-fn is_partial<N: Nodes>(nodes: &N, node: NodeRef, range: (Point, Point)) -> bool
+pub(crate) fn is_partial<N: Nodes>(nodes: &N, node: NodeRef, range: (Point, Point)) -> bool
     requires { N.holds nodes.now node }
     ensures { result ≡ ranges.is_partial (N.trees nodes.now) range.0 range.1 node.label }
 {
@@ -64,7 +64,7 @@ fn end_cuts<N: Nodes>(nodes: &N, end: Point, node: NodeRef) -> bool
 }
 
 #[tactic(auto, unfolding(crate::specs::Ranges::is_cut))]
-fn is_cut<N: Nodes>(nodes: &N, node: NodeRef, range: (Point, Point)) -> bool
+pub(crate) fn is_cut<N: Nodes>(nodes: &N, node: NodeRef, range: (Point, Point)) -> bool
     requires node_held { N.holds nodes.now node }
     requires start_held { 0 < count_of (N.trees nodes.now) range.0.label }
     requires end_held { 0 < count_of (N.trees nodes.now) range.1.label }

@@ -5,7 +5,7 @@ use Rattle.dom_model.specs.Forest.{Forest, tops, children_of}
 use Rattle.node_arena.specs.declared.NodeRef.{NodeRef}
 use Rattle.node_arena.specs.Held.{label}
 use Rattle.node_arena.specs.Reads.{IsLawful, Names}
-use Rattle.node_tests.proofs.Inside.{siblings}
+use Rattle.node_tests.specs.Listing.{siblings}
 use Rattle.node_tests.proofs.Kids.{Kid, first_kid, next_kid}
 use Rattle.node_tests.proofs.ChildAt.{children_are, next_at, at_none, at_some}
 use Rattle.node_tests.proofs.block_points.child_at.Goals as goal

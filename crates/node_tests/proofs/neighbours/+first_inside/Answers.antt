@@ -3,7 +3,7 @@ use Rattle.std.specs.Option.{option_or}
 use Rattle.dom_model.specs.Forest.{next_of}
 use Rattle.node_arena.specs.Held.{label}
 use Rattle.node_tests.specs.SolidNeighbours.{first_met}
-use Rattle.node_tests.proofs.Inside.{siblings}
+use Rattle.node_tests.specs.Listing.{siblings}
 use Rattle.node_tests.proofs.Kids.{first_kid, next_kid, next_smaller, tree_smaller}
 use Rattle.node_tests.proofs.Meeting.{first_at, first_kids, first_next}
 use Rattle.node_tests.proofs.neighbours.+first_inside.Goals as goal

@@ -2,7 +2,7 @@ use Rattle.std.proofs.Common.{sym, ap, ◌∙◌, arith}
 use Rattle.std.specs.Option.{option_or}
 use Rattle.node_arena.specs.Held.{label}
 use Rattle.node_tests.specs.SolidNeighbours.{last_in_order}
-use Rattle.node_tests.proofs.Inside.{siblings}
+use Rattle.node_tests.specs.Listing.{siblings}
 use Rattle.node_tests.proofs.Kids.{first_kid, next_kid, next_smaller, tree_smaller}
 use Rattle.node_tests.proofs.Meeting.{order_kids, order_next}
 use Rattle.node_tests.proofs.neighbours.+last_in_order.Goals as goal

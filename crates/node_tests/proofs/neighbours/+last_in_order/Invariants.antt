@@ -3,7 +3,8 @@ use Rattle.std.specs.Option.{option_or}
 use Rattle.dom_model.specs.Forest.{tree_of}
 use Rattle.node_arena.specs.Held.{label}
 use Rattle.node_tests.specs.SolidNeighbours.{last_in_order}
-use Rattle.node_tests.proofs.Inside.{siblings, nodes}
+use Rattle.node_tests.specs.Listing.{siblings}
+use Rattle.node_tests.proofs.Inside.{nodes}
 use Rattle.node_tests.proofs.Kids.{Kid}
 use Rattle.node_tests.proofs.neighbours.+last_in_order.Given as goal
 

@@ -3,7 +3,7 @@ use Rattle.dom_model.specs.Forest.{next_of}
 use Rattle.node_arena.specs.Held.{label}
 use Rattle.node_tests.specs.Visible.{is_visible}
 use Rattle.node_tests.specs.BlockProps.{props_in}
-use Rattle.node_tests.proofs.Inside.{siblings}
+use Rattle.node_tests.specs.Listing.{siblings}
 use Rattle.node_tests.proofs.Kids.{first_kid, next_kid, next_smaller, tree_smaller}
 use Rattle.node_tests.proofs.Propping.{break_is, not_inline, kids_are, stops, goes_on, fine_prop, fine_hidden, at_end}
 use Rattle.node_tests.proofs.props.+is_block_prop.Goals as goal

@@ -2,7 +2,8 @@ use Rattle.std.proofs.Common.{◌≡◌, ◌&&◌, ◌||◌}
 use Rattle.dom_model.specs.Forest.{tree_of}
 use Rattle.node_arena.specs.Held.{label}
 use Rattle.node_tests.specs.BlockProps.{is_block_prop, props_in}
-use Rattle.node_tests.proofs.Inside.{siblings, nodes}
+use Rattle.node_tests.specs.Listing.{siblings}
+use Rattle.node_tests.proofs.Inside.{nodes}
 use Rattle.node_tests.proofs.Kids.{Kid}
 use Rattle.node_tests.proofs.props.+is_block_prop.Given as goal
 

@@ -2,7 +2,7 @@ use Rattle.std.proofs.Common.{◌&&◌, refl, sym, ap, ◌∙◌, arith}
 use Rattle.dom_model.specs.Forest.{next_of}
 use Rattle.node_arena.specs.Held.{label}
 use Rattle.node_tests.specs.Ranges.{all_effective}
-use Rattle.node_tests.proofs.Inside.{siblings}
+use Rattle.node_tests.specs.Listing.{siblings}
 use Rattle.node_tests.proofs.Kids.{first_kid, next_kid, next_smaller, tree_smaller}
 use Rattle.node_tests.proofs.Effective.{touched_effective, cut_ineffective, childless_ineffective, kids_effective, next_effective}
 use Rattle.node_tests.proofs.ranges.+is_effective.Goals as goal

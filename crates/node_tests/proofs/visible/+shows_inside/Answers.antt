@@ -2,7 +2,7 @@ use Rattle.std.proofs.Common.{◌||◌, refl, sym, ap, ◌∙◌, arith}
 use Rattle.dom_model.specs.Forest.{next_of}
 use Rattle.node_arena.specs.Held.{label}
 use Rattle.node_tests.specs.Visible.{shows_in}
-use Rattle.node_tests.proofs.Inside.{siblings}
+use Rattle.node_tests.specs.Listing.{siblings}
 use Rattle.node_tests.proofs.Kids.{first_kid, next_kid, next_smaller, tree_smaller}
 use Rattle.node_tests.proofs.Showing.{boxless_hides, node_shows, kids_show, next_shows}
 use Rattle.node_tests.proofs.visible.+shows_inside.Goals as goal
