@@ -1,6 +1,6 @@
 -- A map in insertion order and the list of attributes that it stands for change together.
-use Rattle.std.proofs.Common.{◌≡◌, ℕ, Bool, true, false, cond, List, [], ◌∷◌, Some, refl, ap}
-use Rattle.std.specs.Prelude.{bytes_eq}
+use Rattle.std.proofs.Common.{◌≡◌, ℕ, Bool, true, false, cond, zero, suc, ◌≤◌, List, [], ◌∷◌, Some, None, refl, ap, arith, drop, length}
+use Rattle.std.specs.Prelude.{bytes_eq, slice_get}
 use Rattle.std.specs.List.{AllZip, each_same, IsDistinct, AllByRecursion}
 use Rattle.std.specs.Vec.{vec_len}
 use Rattle.std.specs.Map.{lookup, remove_entry, keys_of}
@@ -63,3 +63,18 @@ module _ {A : Type 0} where
 pub distinct-nothing : IsDistinctNames []
 unfolding IsDistinct
 distinct-nothing = tt
+
+-- the value of a name in what is left after some attributes
+pub value_of-next : (name : List ℕ) (list : List Attribute) (i : ℕ) (a : Attribute) → slice_get list i ≡ Some a
+    → value_of (drop i list) name ≡ cond (bytes_eq name a.name) (Some a.value) (value_of (drop (suc i) list) name)
+value_of-next name [] i a is = absurd (let t = is in cc)
+value_of-next name (x ∷ list) zero a is =
+    let same : x ≡ a = (let t = is in cc) in
+    ap (λ (y : Attribute). cond (bytes_eq name y.name) (Some y.value) (value_of list name)) same
+value_of-next name (x ∷ list) (suc i) a is = value_of-next name list i a is
+
+pub value_of-end : (name : List ℕ) (list : List Attribute) (i : ℕ) → length list ≤ i → value_of (drop i list) name ≡ None
+value_of-end name [] zero low = refl
+value_of-end name [] (suc i) low = refl
+value_of-end name (x ∷ list) zero low = absurd (omega (arith, low))
+value_of-end name (x ∷ list) (suc i) low = value_of-end name list i (omega (arith, low))

@@ -1,6 +1,6 @@
 //! The attribute list of an element.
 
-ghost use Rattle.std.specs.Prelude.{◌≡◌, [], IfOk, OnOk, OnErr, IsTrue, ◌↔◌, length, slice_get, is_some};
+ghost use Rattle.std.specs.Prelude.{◌≡◌, ◌<◌, Some, [], IfOk, OnOk, OnErr, IsTrue, ◌↔◌, length, slice_get, is_some};
 ghost use Rattle.std.specs.Option.{option_copied, option_map};
 ghost use Rattle.dom_model.specs.AttributeList.{value_of, set_in, unset_in, IsDistinctNames};
 ghost use Rattle.dom_model.specs.AttributeMap.{attributes_of};
@@ -9,6 +9,9 @@ use crate::texts::{Chars, Name};
 use indexmap::IndexMap;
 use std::alloc::{AllocError, AllocFailed, Global};
 use std::marker::Model;
+
+// So many attributes are looked at in turn.
+const FEW: usize = 8;
 
 /// One attribute: its qualified name and its value.
 #[derive(Drop)]
@@ -52,6 +55,42 @@ fn take(map: &mut IndexMap<Vec<u8>, Chars>, name: &[u8]) -> bool
     map.shift_remove(name).is_some()
 }
 
+// The name and the value at a place of a map that has so many.
+fn entry_at<'a>(map: &'a IndexMap<Vec<u8>, Chars>, place: usize) -> (&'a [u8], &'a Chars)
+    requires { place < length map.now.entries }
+    ensures { slice_get (attributes_of map.now.entries) place ≡ Some (record { name = result.0.now; value = result.1.now }) }
+{
+    match map.get_index(place) {
+        Some((name, value)) => (name.as_slice(), value),
+        None => unreachable!(),
+    }
+}
+
+// The value of a name, by a look at each attribute in turn.
+fn scanned<'a>(map: &'a IndexMap<Vec<u8>, Chars>, name: &[u8]) -> Option<&'a Chars>
+    ensures { option_copied result ≡ value_of (attributes_of map.now.entries) name.now }
+{
+    let mut place = 0;
+    while place < map.len() {
+        let (own, value) = entry_at(map, place);
+        if name == own {
+            return Some(value);
+        }
+        place += 1;
+    }
+    None
+}
+
+// The value of a name. Where there are few, to look at each takes less time than to hash the name.
+fn value_in<'a>(map: &'a IndexMap<Vec<u8>, Chars>, name: &[u8]) -> Option<&'a Chars>
+    ensures { option_copied result ≡ value_of (attributes_of map.now.entries) name.now }
+{
+    if map.len() <= FEW {
+        return scanned(map, name);
+    }
+    map.get(name)
+}
+
 impl Attributes {
     /// The empty list.
     pub fn new(alloc: Global) -> Attributes
@@ -90,7 +129,7 @@ impl Attributes {
     {
         match &self.list {
             None => None,
-            Some(map) => map.get(name),
+            Some(map) => value_in(map, name),
         }
     }
 

@@ -17,7 +17,7 @@ has_name name row = list_any (λ known. bytes_eq known name) row.1
 
 unfoldable pub display_rows : List DefaultRow
 display_rows =
-    (codes "block", (codes "address" ∷ codes "article" ∷ codes "aside" ∷ codes "blockquote" ∷ codes "body" ∷ codes "center" ∷ codes "dd" ∷ codes "details" ∷ codes "dir" ∷ codes "div" ∷ codes "dl" ∷ codes "dt" ∷ codes "fieldset" ∷ codes "figcaption" ∷ codes "figure" ∷ codes "footer" ∷ codes "form" ∷ codes "h1" ∷ codes "h2" ∷ codes "h3" ∷ codes "h4" ∷ codes "h5" ∷ codes "h6" ∷ codes "header" ∷ codes "hgroup" ∷ codes "hr" ∷ codes "html" ∷ codes "legend" ∷ codes "listing" ∷ codes "main" ∷ codes "menu" ∷ codes "nav" ∷ codes "ol" ∷ codes "p" ∷ codes "pre" ∷ codes "section" ∷ codes "summary" ∷ codes "ul" ∷ []))
+    (codes "block", (codes "p" ∷ codes "div" ∷ codes "body" ∷ codes "html" ∷ codes "h1" ∷ codes "h2" ∷ codes "h3" ∷ codes "ul" ∷ codes "ol" ∷ codes "blockquote" ∷ codes "address" ∷ codes "article" ∷ codes "aside" ∷ codes "center" ∷ codes "dd" ∷ codes "details" ∷ codes "dir" ∷ codes "dl" ∷ codes "dt" ∷ codes "fieldset" ∷ codes "figcaption" ∷ codes "figure" ∷ codes "footer" ∷ codes "form" ∷ codes "h4" ∷ codes "h5" ∷ codes "h6" ∷ codes "header" ∷ codes "hgroup" ∷ codes "hr" ∷ codes "legend" ∷ codes "listing" ∷ codes "main" ∷ codes "menu" ∷ codes "nav" ∷ codes "pre" ∷ codes "section" ∷ codes "summary" ∷ []))
     ∷ (codes "block", (codes "caption" ∷ codes "col" ∷ codes "colgroup" ∷ codes "tbody" ∷ codes "td" ∷ codes "tfoot" ∷ codes "th" ∷ codes "thead" ∷ codes "tr" ∷ []))
     ∷ (codes "list-item", (codes "li" ∷ []))
     ∷ (codes "table", (codes "table" ∷ []))
