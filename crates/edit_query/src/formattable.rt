@@ -7,10 +7,12 @@ ghost use Rattle.node_tests.specs.Visible.{is_formattable};
 ghost use Rattle.edit_model.specs.Gives.{label_of, labels_of};
 ghost use Rattle.edit_model.specs.Lawful.{IsPlacedPair};
 ghost use Rattle.edit_doc.specs.Held.{Holds, IfHeld, EachHeld, Finds};
-ghost use Rattle.edit_query.specs.Formattable.{formattable_between, formattable_nodes, first_formattable, start_node};
+ghost use Rattle.node_tests.specs.Ranges.{effective_nodes};
+ghost use Rattle.edit_actions.specs.ActiveRange.{start_of, end_of};
+ghost use Rattle.edit_query.specs.Formattable.{first_in, formattable_between, formattable_nodes, first_formattable, start_node};
 
 use edit_actions::ends_of;
-use edit_doc::{Doc, NodeRef, Pair};
+use edit_doc::{Doc, NodeList, NodeRef, Pair};
 use node_tests::{effective_nodes, is_formattable};
 use point_order::node_of;
 use std::alloc::{AllocError, Global};
@@ -55,8 +57,37 @@ fn formattable_of(
     Ok(found)
 }
 
-// Those of the range of a pair of points.
-#[tactic(auto, using(edit_actions::proofs::Placed::placed_here, crate::proofs::Lists::labels_mapped, crate::proofs::Lists::each_held), unfolding(crate::specs::Formattable::formattable_between))]
+/// The first node of a list that is formattable with this host.
+#[tactic(auto, using(edit_model::proofs::Steps::labels_of_drop, edit_model::proofs::Steps::labels_of_end))]
+pub(crate) fn first_formattable_of(doc: &Doc, host: NodeRef, list: &[NodeRef]) -> Option<NodeRef>
+    requires host_held { Holds doc.now host }
+    requires list_held { EachHeld doc.now list.now }
+    ensures { Finds doc.now result (first_in (filter (is_formattable doc.now.state.trees host.label) (labels_of list.now))) }
+{
+    for node in list {
+        if is_formattable(doc, host, *node) {
+            return Some(*node);
+        }
+    }
+    None
+}
+
+/// The nodes that the range of a pair of points effectively contains.
+#[tactic(auto, using(edit_actions::proofs::Placed::placed_here, crate::proofs::Lists::labels_mapped, crate::proofs::Lists::each_held))]
+pub(crate) fn effective_between(
+    alloc: Global,
+    doc: &Doc,
+    pair: Pair,
+) -> Result<NodeList, AllocError>
+    requires { IsPlacedPair doc.now.state.trees pair }
+    ensures held { IfOk result (λ list. EachHeld doc.now list) }
+    ensures nodes { IfOk result (λ list. labels_of list ≡ effective_nodes doc.now.state.trees (start_of doc.now.state.trees pair) (end_of doc.now.state.trees pair)) }
+{
+    effective_nodes(alloc, doc, ends_of(doc, pair))
+}
+
+// The formattable ones of them.
+#[tactic(auto, unfolding(crate::specs::Formattable::formattable_between))]
 fn formattable_between(
     alloc: Global,
     doc: &Doc,
@@ -68,8 +99,24 @@ fn formattable_between(
     ensures held { IfOk result (λ list. EachHeld doc.now list.items) }
     ensures nodes { IfOk result (λ list. labels_of list.items ≡ formattable_between doc.now.state.trees host.label pair) }
 {
-    let list = effective_nodes(alloc, doc, ends_of(doc, pair))?;
+    let list = effective_between(alloc, doc, pair)?;
     formattable_of(alloc, doc, host, list.as_slice())
+}
+
+// The first of these.
+#[tactic(auto, unfolding(crate::specs::Formattable::formattable_between))]
+fn first_between(
+    alloc: Global,
+    doc: &Doc,
+    host: NodeRef,
+    pair: Pair,
+) -> Result<Option<NodeRef>, AllocError>
+    requires host_held { Holds doc.now host }
+    requires placed { IsPlacedPair doc.now.state.trees pair }
+    ensures { IfOk result (λ node. Finds doc.now node (first_in (formattable_between doc.now.state.trees host.label pair))) }
+{
+    let list = effective_between(alloc, doc, pair)?;
+    Ok(first_formattable_of(doc, host, list.as_slice()))
 }
 
 /// The formattable nodes, those with `host` as their editing host, that the active range effectively contains, in tree
@@ -92,8 +139,8 @@ pub fn formattable_nodes(
     }
 }
 
-/// The first of [`formattable_nodes`].
-#[tactic(auto, unfolding(crate::specs::Formattable::first_formattable))]
+/// The first of [`formattable_nodes`]. It tests no node after it.
+#[tactic(auto, unfolding(crate::specs::Formattable::first_formattable, crate::specs::Formattable::formattable_nodes))]
 pub fn first_formattable(
     alloc: Global,
     doc: &Doc,
@@ -102,10 +149,10 @@ pub fn first_formattable(
     requires { IfHeld doc.now host }
     ensures { IfOk result (λ node. Finds doc.now node (first_formattable doc.now.state (label_of host))) }
 {
-    let list = formattable_nodes(alloc, doc, host)?;
-    match list.as_slice() {
-        [] => Ok(None),
-        [node, ..] => Ok(Some(*node)),
+    doc.lawful();
+    match (host, doc.points().selection()) {
+        (Some(host), Some(pair)) => first_between(alloc, doc, host, pair),
+        _ => Ok(None),
     }
 }
 

@@ -1,10 +1,11 @@
 //! What commands and their values are at the nodes of a list.
 
 ghost use Rattle.std.specs.Prelude.{◌≡◌, Bool, IfOk, not, bytes_eq};
-ghost use Rattle.std.specs.List.{list_all, list_any};
+ghost use Rattle.std.specs.List.{filter, list_all, list_any};
 ghost use Rattle.std.specs.Option.{option_map_or, option_copied};
 ghost use Rattle.command_value.specs.EffectiveValues as values;
 ghost use Rattle.command_value.specs.ValueTexts.{value_text};
+ghost use Rattle.node_tests.specs.Visible.{is_formattable};
 ghost use Rattle.edit_model.specs.Gives.{labels_of};
 ghost use Rattle.edit_doc.specs.Held.{Holds, EachHeld};
 ghost use Rattle.edit_query.specs.Listed.{is_partly_on, is_mixed, has_mixed, is_same_value, has_other_value, have_other_values};
@@ -14,6 +15,7 @@ use css_value::{has_codes, is_decimal, is_pixels};
 use dom_model::Chars;
 use edit_doc::{Doc, NodeRef};
 use html_names::Command;
+use node_tests::is_formattable;
 use std::alloc::{AllocError, Global};
 
 // Whether a command is on at one node of a list.
@@ -30,14 +32,35 @@ fn is_on_at_one(doc: &Doc, command: Command, list: &[NodeRef]) -> bool
     false
 }
 
-/// Whether a command is on at each node of a list.
+// Whether a command is on at each node of a list.
 #[tactic(auto, using(edit_model::proofs::Steps::labels_of_drop, edit_model::proofs::Steps::labels_of_end))]
-pub(crate) fn is_on_at_all(doc: &Doc, command: Command, list: &[NodeRef]) -> bool
+fn is_on_at_all(doc: &Doc, command: Command, list: &[NodeRef]) -> bool
     requires { EachHeld doc.now list.now }
     ensures { result ≡ list_all (λ l. values.is_activated doc.now.state.trees l command) (labels_of list.now) }
 {
     for node in list {
         if !is_activated(doc, *node, command) {
+            return false;
+        }
+    }
+    true
+}
+
+/// Whether a command is on at each node of a list that is formattable with this host. It tests no node after the first where the
+/// command is off.
+#[tactic(auto, using(edit_model::proofs::Steps::labels_of_drop, edit_model::proofs::Steps::labels_of_end))]
+pub(crate) fn is_on_at_formattable(
+    doc: &Doc,
+    host: NodeRef,
+    command: Command,
+    list: &[NodeRef],
+) -> bool
+    requires host_held { Holds doc.now host }
+    requires list_held { EachHeld doc.now list.now }
+    ensures { result ≡ list_all (λ l. values.is_activated doc.now.state.trees l command) (filter (is_formattable doc.now.state.trees host.label) (labels_of list.now)) }
+{
+    for node in list {
+        if is_formattable(doc, host, *node) && !is_activated(doc, *node, command) {
             return false;
         }
     }

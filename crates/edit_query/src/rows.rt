@@ -5,16 +5,19 @@ ghost use Rattle.std.specs.Option.{option_map_or, option_copied, unwrap_or, opti
 ghost use Rattle.css_value.specs.Numbers as sizes;
 ghost use Rattle.command_value.specs.EffectiveValues as values;
 ghost use Rattle.edit_model.specs.Gives.{label_of};
-ghost use Rattle.edit_doc.specs.Held.{IfHeld, Finds};
-ghost use Rattle.edit_query.specs.Formattable.{first_formattable, start_node};
-ghost use Rattle.edit_query.specs.Rows.{is_on_at_start, is_on, first_value, legacy_text, container_name, own_indeterm, own_state, own_value};
+ghost use Rattle.edit_model.specs.Lawful.{IsPlacedPair};
+ghost use Rattle.edit_doc.specs.Held.{Holds, IfHeld, Finds};
+ghost use Rattle.edit_query.specs.Formattable.{formattable_between, first_formattable, start_node};
+ghost use Rattle.edit_query.specs.Rows.{is_on_at_start, is_on_throughout, is_on, first_value, legacy_text, container_name, own_indeterm, own_state, own_value};
 
-use crate::formattable::{first_formattable, formattable_nodes, start_node};
-use crate::listed::{has_mixed, have_other_values, is_on_at_all, is_partly_on};
+use crate::formattable::{
+    effective_between, first_formattable, first_formattable_of, formattable_nodes, start_node,
+};
+use crate::listed::{has_mixed, have_other_values, is_on_at_formattable, is_partly_on};
 use command_value::{effective, is_activated};
 use css_value::{legacy_size, read_font_size};
 use dom_model::Chars;
-use edit_doc::{Doc, NodeRef};
+use edit_doc::{Doc, NodeRef, Pair};
 use html_names::Command;
 use std::alloc::{AllocError, Global};
 
@@ -60,8 +63,28 @@ fn is_on_at_start(doc: &Doc, command: Command) -> bool
     }
 }
 
-// Whether a command is on at all formattable nodes in the range, or where there is none at its start.
-#[tactic(auto, unfolding(crate::specs::Rows::is_on))]
+// Whether a command is on at all formattable nodes of a range, or where there is none at the active range's start.
+#[tactic(auto, using(crate::proofs::Throughout::some, crate::proofs::Throughout::none), unfolding(crate::specs::Formattable::formattable_between))]
+fn is_on_between(
+    alloc: Global,
+    doc: &Doc,
+    host: NodeRef,
+    pair: Pair,
+    command: Command,
+) -> Result<bool, AllocError>
+    requires host_held { Holds doc.now host }
+    requires placed { IsPlacedPair doc.now.state.trees pair }
+    ensures { IfOk result (λ flag. flag ≡ is_on_throughout doc.now.state command (formattable_between doc.now.state.trees host.label pair)) }
+{
+    let list = effective_between(alloc, doc, pair)?;
+    match first_formattable_of(doc, host, list.as_slice()) {
+        Some(_) => Ok(is_on_at_formattable(doc, host, command, list.as_slice())),
+        None => Ok(is_on_at_start(doc, command)),
+    }
+}
+
+// The same of the active range.
+#[tactic(auto, unfolding(crate::specs::Rows::is_on, crate::specs::Formattable::formattable_nodes))]
 fn is_on(
     alloc: Global,
     doc: &Doc,
@@ -71,11 +94,10 @@ fn is_on(
     requires { IfHeld doc.now host }
     ensures { IfOk result (λ flag. flag ≡ is_on doc.now.state (label_of host) command) }
 {
-    let list = formattable_nodes(alloc, doc, host)?;
-    if list.is_empty() {
-        Ok(is_on_at_start(doc, command))
-    } else {
-        Ok(is_on_at_all(doc, command, &list))
+    doc.lawful();
+    match (host, doc.points().selection()) {
+        (Some(host), Some(pair)) => is_on_between(alloc, doc, host, pair, command),
+        _ => Ok(is_on_at_start(doc, command)),
     }
 }
 
