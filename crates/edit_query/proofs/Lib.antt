@@ -1,3 +1,5 @@
 pub mod Lists
 pub mod Scripts
 pub mod Throughout
+pub mod Climbing
+pub mod Typing

@@ -1,5 +1,9 @@
 pub mod Formattable
+pub mod Leaves
+pub mod Sought
 pub mod Listed
+pub mod Features
+pub mod BlockTypes
 pub mod Rows
 pub mod Queries
 pub mod Replies

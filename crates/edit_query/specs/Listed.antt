@@ -4,13 +4,33 @@ use Rattle.std.specs.List.{list_all, list_any}
 use Rattle.std.specs.Option.{option_map_or}
 use Rattle.dom_model.specs.declared.Content.{Content}
 use Rattle.dom_model.specs.Forest.{Forest}
+use Rattle.css_value.specs.declared.values.TextAlign.{TextAlign}
+use Rattle.css_value.specs.Values.{text_align_keyword}
 use Rattle.html_names.specs.declared.commands.Command.{Command}
 use Rattle.html_names.specs.declared.commands.Command.TheVariants as command
+use Rattle.command_value.specs.Alignment.{alignment_value}
 use Rattle.command_value.specs.EffectiveValues.{effective, is_activated}
 
+-- one of them passes, and another doesn't
+unfoldable pub is_partly : (ℕ → Bool) → List ℕ → Bool
+is_partly test ls = list_any test ls && not (list_all test ls)
+
 -- the command is on at one of them, and not at another
-unfoldable pub is_partly_on : Forest Content → Command → List ℕ → Bool
-is_partly_on f c ls = list_any (λ l. is_activated f l c) ls && not (list_all (λ l. is_activated f l c) ls)
+abbrev pub is_partly_on : Forest Content → Command → List ℕ → Bool
+is_partly_on f c ls = is_partly (λ l. is_activated f l c) ls
+
+-- the node has this alignment
+abbrev pub is_aligned : Forest Content → TextAlign → ℕ → Bool
+is_aligned f a l = bytes_eq (alignment_value f l) (text_align_keyword a)
+
+-- one of them has this alignment, and another hasn't
+abbrev pub is_partly_aligned : Forest Content → TextAlign → List ℕ → Bool
+is_partly_aligned f a ls = is_partly (λ l. is_aligned f a l) ls
+
+-- there are some, and all have this alignment
+abbrev pub are_aligned : Forest Content → TextAlign → List ℕ → Bool
+are_aligned f a [] = false
+are_aligned f a (l ∷ ls) = list_all (λ n. is_aligned f a n) (l ∷ ls)
 
 -- the effective value of subscript, which is that of superscript too, is "mixed"
 abbrev pub is_mixed : Forest Content → ℕ → Bool

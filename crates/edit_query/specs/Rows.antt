@@ -1,16 +1,20 @@
 -- What each command answers of its own, where no override does (HTML Editing APIs, "indeterminate", "state", "value"): a row
 -- a command. A host decides what is editable.
-use Rattle.std.specs.Prelude.{ℕ, ◌+◌, Bool, false, ◌||◌, List, [], ◌∷◌, Option, codes, if◌then◌else◌}
+use Rattle.std.specs.Prelude.{ℕ, ◌+◌, Bool, false, ◌||◌, List, [], ◌∷◌, Option, Some, None, codes, if◌then◌else◌}
 use Rattle.std.specs.List.{list_all}
 use Rattle.std.specs.Option.{option_map_or, option_and_then, option_or, unwrap_or}
+use Rattle.css_value.specs.declared.values.TextAlign.TheVariants as text_align
 use Rattle.css_value.specs.Numbers.{legacy_size}
 use Rattle.css_value.specs.Values.{font_size_of}
 use Rattle.html_names.specs.declared.commands.Command.{Command}
 use Rattle.html_names.specs.declared.commands.Command.TheVariants as command
+use Rattle.command_value.specs.Alignment.{alignment_value}
 use Rattle.command_value.specs.EffectiveValues.{effective, is_activated}
 use Rattle.edit_model.specs.State.{State}
-use Rattle.edit_query.specs.Listed.{is_partly_on, has_mixed, have_other_values}
+use Rattle.edit_query.specs.BlockTypes.{type_of, have_other_types}
 use Rattle.edit_query.specs.Formattable.{formattable_nodes, first_formattable, start_node}
+use Rattle.edit_query.specs.Leaves.{leaves, first_leaf}
+use Rattle.edit_query.specs.Listed.{is_partly_on, is_partly_aligned, are_aligned, has_mixed, have_other_values}
 
 abbrev pub is_on_at_start : State → Command → Bool
 is_on_at_start s c = option_map_or (λ l. is_activated s.trees l c) (start_node s) false
@@ -26,6 +30,20 @@ is_on s host c = is_on_throughout s c (formattable_nodes s host)
 -- the effective value of the first formattable node in the range, or where there is none that at the range's start
 unfoldable pub first_value : State → Option ℕ → Command → Option (List ℕ)
 first_value s host c = option_and_then (λ l. effective s.trees l c) (option_or (first_formattable s host) (start_node s))
+
+-- two leaves of the block-extended range have different types; without a host there are no leaves
+abbrev pub types_differ : State → Option ℕ → Bool
+types_differ s None = false
+types_differ s (Some host) = have_other_types s.trees host (leaves s (Some host))
+
+-- the type of the first leaf
+abbrev pub first_type : State → Option ℕ → List ℕ
+first_type s None = []
+first_type s (Some host) = option_map_or (type_of s.trees host) (first_leaf s (Some host)) []
+
+-- the alignment of the first leaf
+abbrev pub first_alignment : State → Option ℕ → List ℕ
+first_alignment s host = option_map_or (alignment_value s.trees) (first_leaf s host) (codes "left")
 
 -- the digit of the legacy size, 1 to 7, of a size of a font (HTML Editing APIs, "legacy font size for")
 abbrev pub legacy_text : List ℕ → List ℕ
@@ -52,6 +70,11 @@ own_indeterm s host command.FontSize = have_other_values s.trees command.FontSiz
 own_indeterm s host command.ForeColor = have_other_values s.trees command.ForeColor (formattable_nodes s host)
 own_indeterm s host command.BackColor = have_other_values s.trees command.BackColor (formattable_nodes s host)
 own_indeterm s host command.HiliteColor = have_other_values s.trees command.HiliteColor (formattable_nodes s host)
+own_indeterm s host command.FormatBlock = types_differ s host
+own_indeterm s host command.JustifyLeft = is_partly_aligned s.trees text_align.Left (leaves s host)
+own_indeterm s host command.JustifyCenter = is_partly_aligned s.trees text_align.Center (leaves s host)
+own_indeterm s host command.JustifyRight = is_partly_aligned s.trees text_align.Right (leaves s host)
+own_indeterm s host command.JustifyFull = is_partly_aligned s.trees text_align.Justify (leaves s host)
 own_indeterm s host _ = false
 
 abbrev pub own_state : State → Option ℕ → Command → Bool
@@ -61,6 +84,10 @@ own_state s host command.Underline = is_on s host command.Underline
 own_state s host command.Strikethrough = is_on s host command.Strikethrough
 own_state s host command.Subscript = is_on s host command.Subscript
 own_state s host command.Superscript = is_on s host command.Superscript
+own_state s host command.JustifyLeft = are_aligned s.trees text_align.Left (leaves s host)
+own_state s host command.JustifyCenter = are_aligned s.trees text_align.Center (leaves s host)
+own_state s host command.JustifyRight = are_aligned s.trees text_align.Right (leaves s host)
+own_state s host command.JustifyFull = are_aligned s.trees text_align.Justify (leaves s host)
 own_state s host command.StyleWithCss = s.flags.css_styling
 own_state s host _ = false
 
@@ -72,5 +99,10 @@ own_value s host command.FontSize = option_map_or legacy_text (first_value s hos
 own_value s host command.ForeColor = unwrap_or (first_value s host command.ForeColor) []
 own_value s host command.BackColor = unwrap_or (first_value s host command.BackColor) []
 own_value s host command.HiliteColor = unwrap_or (first_value s host command.HiliteColor) []
+own_value s host command.FormatBlock = first_type s host
+own_value s host command.JustifyLeft = first_alignment s host
+own_value s host command.JustifyCenter = first_alignment s host
+own_value s host command.JustifyRight = first_alignment s host
+own_value s host command.JustifyFull = first_alignment s host
 own_value s host command.DefaultParagraphSeparator = container_name s.flags.paragraphs
 own_value s host _ = []

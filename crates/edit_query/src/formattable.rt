@@ -1,9 +1,6 @@
 //! The formattable nodes that the active range effectively contains.
 
-ghost use Rattle.std.specs.Prelude.{◌≡◌, ◌++◌, IfOk, OnOk};
-ghost use Rattle.std.specs.List.{filter};
-ghost use Rattle.node_tests.specs.Listing.{only_if};
-ghost use Rattle.node_tests.specs.Visible.{is_formattable};
+ghost use Rattle.std.specs.Prelude.{◌≡◌, IfOk};
 ghost use Rattle.edit_model.specs.Gives.{label_of, labels_of};
 ghost use Rattle.edit_model.specs.Lawful.{IsPlacedPair};
 ghost use Rattle.edit_doc.specs.Held.{Holds, IfHeld, EachHeld, Finds};
@@ -11,66 +8,12 @@ ghost use Rattle.node_tests.specs.Ranges.{effective_nodes};
 ghost use Rattle.edit_actions.specs.ActiveRange.{start_of, end_of};
 ghost use Rattle.edit_query.specs.Formattable.{first_in, formattable_between, formattable_nodes, first_formattable, start_node};
 
+use crate::sought::{Sought, first_sought, sought_of};
 use edit_actions::ends_of;
 use edit_doc::{Doc, NodeList, NodeRef, Pair};
-use node_tests::{effective_nodes, is_formattable};
+use node_tests::effective_nodes;
 use point_order::node_of;
 use std::alloc::{AllocError, Global};
-
-// Puts a node behind those found before, where it is formattable with this host.
-#[tactic(auto, using(edit_model::proofs::Steps::labels_of_push_end, edit_doc::proofs::Children::pushed_held))]
-fn push_formattable(
-    doc: &Doc,
-    host: NodeRef,
-    node: NodeRef,
-    found: &mut Vec<NodeRef>,
-) -> Result<(), AllocError>
-    requires host_held { Holds doc.now host }
-    requires node_held { Holds doc.now node }
-    requires found_held { EachHeld doc.now found.old.items }
-    ensures held { OnOk result (EachHeld doc.now found.new.items) }
-    ensures nodes { OnOk result (labels_of found.new.items ≡ labels_of found.old.items ++ only_if (is_formattable doc.now.state.trees host.label) node.label) }
-{
-    if is_formattable(doc, host, node) {
-        found.push(node)?;
-    }
-    Ok(())
-}
-
-// Of a list, the nodes that are formattable with this host.
-#[tactic(auto, using(edit_model::proofs::Steps::labels_of_end))]
-fn formattable_of(
-    alloc: Global,
-    doc: &Doc,
-    host: NodeRef,
-    list: &[NodeRef],
-) -> Result<Vec<NodeRef>, AllocError>
-    requires host_held { Holds doc.now host }
-    requires list_held { EachHeld doc.now list.now }
-    ensures held { IfOk result (λ found. EachHeld doc.now found.items) }
-    ensures nodes { IfOk result (λ found. labels_of found.items ≡ filter (is_formattable doc.now.state.trees host.label) (labels_of list.now)) }
-{
-    let mut found = Vec::new(alloc);
-    for node in list {
-        push_formattable(doc, host, *node, &mut found)?;
-    }
-    Ok(found)
-}
-
-/// The first node of a list that is formattable with this host.
-#[tactic(auto, using(edit_model::proofs::Steps::labels_of_drop, edit_model::proofs::Steps::labels_of_end))]
-pub(crate) fn first_formattable_of(doc: &Doc, host: NodeRef, list: &[NodeRef]) -> Option<NodeRef>
-    requires host_held { Holds doc.now host }
-    requires list_held { EachHeld doc.now list.now }
-    ensures { Finds doc.now result (first_in (filter (is_formattable doc.now.state.trees host.label) (labels_of list.now))) }
-{
-    for node in list {
-        if is_formattable(doc, host, *node) {
-            return Some(*node);
-        }
-    }
-    None
-}
 
 /// The nodes that the range of a pair of points effectively contains.
 #[tactic(auto, using(edit_actions::proofs::Placed::placed_here, crate::proofs::Lists::labels_mapped, crate::proofs::Lists::each_held))]
@@ -100,7 +43,7 @@ fn formattable_between(
     ensures nodes { IfOk result (λ list. labels_of list.items ≡ formattable_between doc.now.state.trees host.label pair) }
 {
     let list = effective_between(alloc, doc, pair)?;
-    formattable_of(alloc, doc, host, list.as_slice())
+    sought_of(alloc, doc, host, Sought::Formattable, list.as_slice())
 }
 
 // The first of these.
@@ -116,7 +59,7 @@ fn first_between(
     ensures { IfOk result (λ node. Finds doc.now node (first_in (formattable_between doc.now.state.trees host.label pair))) }
 {
     let list = effective_between(alloc, doc, pair)?;
-    Ok(first_formattable_of(doc, host, list.as_slice()))
+    Ok(first_sought(doc, host, Sought::Formattable, list.as_slice()))
 }
 
 /// The formattable nodes, those with `host` as their editing host, that the active range effectively contains, in tree

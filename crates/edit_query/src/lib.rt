@@ -6,11 +6,14 @@
 //! end of that range, those above them, and the children of these; its list of nodes takes memory, and so does a text.
 #![tactic(auto)]
 
+mod block_types;
 mod formattable;
+mod leaves;
 mod listed;
 mod queries;
 mod reply;
 mod rows;
+mod sought;
 
 pub use formattable::{first_formattable, formattable_nodes};
 pub use queries::{query, query_state, query_value};

@@ -1,4 +1,4 @@
-//! What commands and their values are at the nodes of a list.
+//! What commands, their values and alignments are at the nodes of a list.
 
 ghost use Rattle.std.specs.Prelude.{◌≡◌, Bool, IfOk, not, bytes_eq};
 ghost use Rattle.std.specs.List.{filter, list_all, list_any};
@@ -8,42 +8,73 @@ ghost use Rattle.command_value.specs.ValueTexts.{value_text};
 ghost use Rattle.node_tests.specs.Visible.{is_formattable};
 ghost use Rattle.edit_model.specs.Gives.{labels_of};
 ghost use Rattle.edit_doc.specs.Held.{Holds, EachHeld};
-ghost use Rattle.edit_query.specs.Listed.{is_partly_on, is_mixed, has_mixed, is_same_value, has_other_value, have_other_values};
+ghost use Rattle.edit_query.specs.Features.{has_feature};
+ghost use Rattle.edit_query.specs.Listed.{is_partly, is_mixed, has_mixed, is_same_value, has_other_value, have_other_values};
 
-use command_value::{Value, effective, effective_value, has_alike_value, is_activated};
-use css_value::{has_codes, is_decimal, is_pixels};
+use command_value::{Value, alignment, effective, effective_value, has_alike_value, is_activated};
+use css_value::{TextAlign, has_codes, is_decimal, is_pixels};
 use dom_model::Chars;
 use edit_doc::{Doc, NodeRef};
 use html_names::Command;
 use node_tests::is_formattable;
 use std::alloc::{AllocError, Global};
 
-// Whether a command is on at one node of a list.
+/// What is looked for at each node of a list.
+#[derive(Clone, Copy)]
+pub(crate) enum Feature {
+    /// The command is on.
+    On(Command),
+    /// The node has the alignment.
+    Aligned(TextAlign),
+}
+
+// Whether a node has it.
+#[tactic(auto, unfolding(command_value::specs::Alignment::alignment_value))]
+fn has_feature(doc: &Doc, feature: Feature, node: NodeRef) -> bool
+    requires { Holds doc.now node }
+    ensures { result ≡ has_feature feature doc.now.state.trees node.label }
+{
+    match feature {
+        Feature::On(command) => is_activated(doc, node, command),
+        Feature::Aligned(wanted) => alignment(doc, node).keyword() == wanted.keyword(),
+    }
+}
+
+// Whether one node of a list has it.
 #[tactic(auto, using(edit_model::proofs::Steps::labels_of_drop, edit_model::proofs::Steps::labels_of_end))]
-fn is_on_at_one(doc: &Doc, command: Command, list: &[NodeRef]) -> bool
+fn is_at_one(doc: &Doc, feature: Feature, list: &[NodeRef]) -> bool
     requires { EachHeld doc.now list.now }
-    ensures { result ≡ list_any (λ l. values.is_activated doc.now.state.trees l command) (labels_of list.now) }
+    ensures { result ≡ list_any (has_feature feature doc.now.state.trees) (labels_of list.now) }
 {
     for node in list {
-        if is_activated(doc, *node, command) {
+        if has_feature(doc, feature, *node) {
             return true;
         }
     }
     false
 }
 
-// Whether a command is on at each node of a list.
+/// Whether each node of a list has it.
 #[tactic(auto, using(edit_model::proofs::Steps::labels_of_drop, edit_model::proofs::Steps::labels_of_end))]
-fn is_on_at_all(doc: &Doc, command: Command, list: &[NodeRef]) -> bool
+pub(crate) fn is_at_all(doc: &Doc, feature: Feature, list: &[NodeRef]) -> bool
     requires { EachHeld doc.now list.now }
-    ensures { result ≡ list_all (λ l. values.is_activated doc.now.state.trees l command) (labels_of list.now) }
+    ensures { result ≡ list_all (has_feature feature doc.now.state.trees) (labels_of list.now) }
 {
     for node in list {
-        if !is_activated(doc, *node, command) {
+        if !has_feature(doc, feature, *node) {
             return false;
         }
     }
     true
+}
+
+/// Whether one node of a list has it, and another hasn't.
+#[tactic(auto, unfolding(crate::specs::Listed::is_partly))]
+pub(crate) fn is_partly(doc: &Doc, feature: Feature, list: &[NodeRef]) -> bool
+    requires { EachHeld doc.now list.now }
+    ensures { result ≡ is_partly (has_feature feature doc.now.state.trees) (labels_of list.now) }
+{
+    is_at_one(doc, feature, list) && !is_at_all(doc, feature, list)
 }
 
 /// Whether a command is on at each node of a list that is formattable with this host. It tests no node after the first where the
@@ -65,15 +96,6 @@ pub(crate) fn is_on_at_formattable(
         }
     }
     true
-}
-
-/// Whether a command is on at one node of a list, and not at another.
-#[tactic(auto, unfolding(crate::specs::Listed::is_partly_on))]
-pub(crate) fn is_partly_on(doc: &Doc, command: Command, list: &[NodeRef]) -> bool
-    requires { EachHeld doc.now list.now }
-    ensures { result ≡ is_partly_on doc.now.state.trees command (labels_of list.now) }
-{
-    is_on_at_one(doc, command, list) && !is_on_at_all(doc, command, list)
 }
 
 // Whether the effective value of subscript and superscript is "mixed" at a node.

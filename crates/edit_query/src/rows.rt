@@ -8,20 +8,53 @@ ghost use Rattle.edit_model.specs.Gives.{label_of};
 ghost use Rattle.edit_model.specs.Lawful.{IsPlacedPair};
 ghost use Rattle.edit_doc.specs.Held.{Holds, IfHeld, Finds};
 ghost use Rattle.edit_query.specs.Formattable.{formattable_between, first_formattable, start_node};
-ghost use Rattle.edit_query.specs.Rows.{is_on_at_start, is_on_throughout, is_on, first_value, legacy_text, container_name, own_indeterm, own_state, own_value};
+ghost use Rattle.edit_query.specs.Leaves.{leaves};
+ghost use Rattle.edit_query.specs.Listed.{is_partly_aligned, are_aligned};
+ghost use Rattle.edit_query.specs.Rows.{is_on_at_start, is_on_throughout, is_on, first_value, types_differ, first_type, first_alignment, legacy_text, container_name, own_indeterm, own_state, own_value};
 
-use crate::formattable::{
-    effective_between, first_formattable, first_formattable_of, formattable_nodes, start_node,
+use crate::block_types::{have_other_types, type_of};
+use crate::formattable::{effective_between, first_formattable, formattable_nodes, start_node};
+use crate::leaves::{first_leaf, leaves};
+use crate::listed::{
+    Feature, has_mixed, have_other_values, is_at_all, is_on_at_formattable, is_partly,
 };
-use crate::listed::{has_mixed, have_other_values, is_on_at_formattable, is_partly_on};
-use command_value::{effective, is_activated};
-use css_value::{legacy_size, read_font_size};
+use crate::sought::{Sought, first_sought};
+use command_value::{alignment, effective, is_activated};
+use css_value::{TextAlign, legacy_size, read_font_size};
 use dom_model::Chars;
 use edit_doc::{Doc, NodeRef, Pair};
 use html_names::Command;
 use std::alloc::{AllocError, Global};
 
-/// Whether a command is on at some and off at other nodes that it formats, or they have different values.
+// Whether two leaves have different types.
+fn types_differ(alloc: Global, doc: &Doc, host: Option<NodeRef>) -> Result<bool, AllocError>
+    requires { IfHeld doc.now host }
+    ensures { IfOk result (λ flag. flag ≡ types_differ doc.now.state (label_of host)) }
+{
+    match host {
+        Some(own) => {
+            let list = leaves(alloc, doc, host)?;
+            Ok(have_other_types(doc, own, &list))
+        }
+        None => Ok(false),
+    }
+}
+
+// Whether one leaf has an alignment, and another hasn't.
+fn is_partly_aligned(
+    alloc: Global,
+    doc: &Doc,
+    host: Option<NodeRef>,
+    wanted: TextAlign,
+) -> Result<bool, AllocError>
+    requires { IfHeld doc.now host }
+    ensures { IfOk result (λ flag. flag ≡ is_partly_aligned doc.now.state.trees wanted (leaves doc.now.state (label_of host))) }
+{
+    let list = leaves(alloc, doc, host)?;
+    Ok(is_partly(doc, Feature::Aligned(wanted), &list))
+}
+
+/// Whether a command is on at some and off at other nodes that it formats, or they have different values, types or alignments.
 pub(crate) fn own_indeterm(
     alloc: Global,
     doc: &Doc,
@@ -34,11 +67,11 @@ pub(crate) fn own_indeterm(
     match command {
         Command::Bold | Command::Italic | Command::Underline | Command::Strikethrough => {
             let list = formattable_nodes(alloc, doc, host)?;
-            Ok(is_partly_on(doc, command, &list))
+            Ok(is_partly(doc, Feature::On(command), &list))
         }
         Command::Subscript | Command::Superscript => {
             let list = formattable_nodes(alloc, doc, host)?;
-            Ok(is_partly_on(doc, command, &list) || has_mixed(doc, &list))
+            Ok(is_partly(doc, Feature::On(command), &list) || has_mixed(doc, &list))
         }
         Command::CreateLink
         | Command::FontName
@@ -49,6 +82,11 @@ pub(crate) fn own_indeterm(
             let list = formattable_nodes(alloc, doc, host)?;
             have_other_values(alloc, doc, command, &list)
         }
+        Command::FormatBlock => types_differ(alloc, doc, host),
+        Command::JustifyLeft => is_partly_aligned(alloc, doc, host, TextAlign::Left),
+        Command::JustifyCenter => is_partly_aligned(alloc, doc, host, TextAlign::Center),
+        Command::JustifyRight => is_partly_aligned(alloc, doc, host, TextAlign::Right),
+        Command::JustifyFull => is_partly_aligned(alloc, doc, host, TextAlign::Justify),
         _ => Ok(false),
     }
 }
@@ -77,7 +115,7 @@ fn is_on_between(
     ensures { IfOk result (λ flag. flag ≡ is_on_throughout doc.now.state command (formattable_between doc.now.state.trees host.label pair)) }
 {
     let list = effective_between(alloc, doc, pair)?;
-    match first_formattable_of(doc, host, list.as_slice()) {
+    match first_sought(doc, host, Sought::Formattable, list.as_slice()) {
         Some(_) => Ok(is_on_at_formattable(doc, host, command, list.as_slice())),
         None => Ok(is_on_at_start(doc, command)),
     }
@@ -101,6 +139,20 @@ fn is_on(
     }
 }
 
+// Whether there are leaves, and all have an alignment.
+fn are_aligned(
+    alloc: Global,
+    doc: &Doc,
+    host: Option<NodeRef>,
+    wanted: TextAlign,
+) -> Result<bool, AllocError>
+    requires { IfHeld doc.now host }
+    ensures { IfOk result (λ flag. flag ≡ are_aligned doc.now.state.trees wanted (leaves doc.now.state (label_of host))) }
+{
+    let list = leaves(alloc, doc, host)?;
+    Ok(!list.is_empty() && is_at_all(doc, Feature::Aligned(wanted), &list))
+}
+
 /// Whether a command is on.
 pub(crate) fn own_state(
     alloc: Global,
@@ -118,6 +170,10 @@ pub(crate) fn own_state(
         | Command::Strikethrough
         | Command::Subscript
         | Command::Superscript => is_on(alloc, doc, host, command),
+        Command::JustifyLeft => are_aligned(alloc, doc, host, TextAlign::Left),
+        Command::JustifyCenter => are_aligned(alloc, doc, host, TextAlign::Center),
+        Command::JustifyRight => are_aligned(alloc, doc, host, TextAlign::Right),
+        Command::JustifyFull => are_aligned(alloc, doc, host, TextAlign::Justify),
         Command::StyleWithCss => Ok(doc.flags().css_styling),
         _ => Ok(false),
     }
@@ -152,6 +208,37 @@ fn first_value(
     match first_node(alloc, doc, host)? {
         Some(node) => effective(alloc, doc, node, command),
         None => Ok(None),
+    }
+}
+
+// The characters that have the codes of these bytes.
+fn chars_of(alloc: Global, bytes: &[u8]) -> Result<Chars, AllocError>
+    ensures { IfOk result (λ chars. chars ≡ bytes.now) }
+{
+    let chars: Vec<char> = bytes.iter().map(|b| *b as char).collect(alloc)?;
+    Ok(Chars::from_vec(chars))
+}
+
+// The type of the first leaf; where there is none it is empty.
+fn first_type(alloc: Global, doc: &Doc, host: Option<NodeRef>) -> Result<Chars, AllocError>
+    requires { IfHeld doc.now host }
+    ensures { IfOk result (λ name. name ≡ first_type doc.now.state (label_of host)) }
+{
+    match (host, first_leaf(alloc, doc, host)?) {
+        (Some(own), Some(leaf)) => chars_of(alloc, type_of(doc, own, leaf)),
+        _ => chars_of(alloc, b""),
+    }
+}
+
+// The alignment of the first leaf; where there is none it is left.
+#[tactic(auto, unfolding(command_value::specs::Alignment::alignment_value))]
+fn first_alignment(alloc: Global, doc: &Doc, host: Option<NodeRef>) -> Result<Chars, AllocError>
+    requires { IfHeld doc.now host }
+    ensures { IfOk result (λ keyword. keyword ≡ first_alignment doc.now.state (label_of host)) }
+{
+    match first_leaf(alloc, doc, host)? {
+        Some(leaf) => chars_of(alloc, alignment(doc, leaf).keyword()),
+        None => chars_of(alloc, TextAlign::Left.keyword()),
     }
 }
 
@@ -198,9 +285,9 @@ fn container_name(alloc: Global, paragraphs: bool) -> Result<Chars, AllocError>
     ensures { IfOk result (λ name. name ≡ container_name paragraphs) }
 {
     if paragraphs {
-        Chars::from_slice(alloc, &['p'])
+        chars_of(alloc, b"p")
     } else {
-        Chars::from_slice(alloc, &['d', 'i', 'v'])
+        chars_of(alloc, b"div")
     }
 }
 
@@ -221,6 +308,11 @@ pub(crate) fn own_value(
         | Command::BackColor
         | Command::HiliteColor => or_empty(alloc, first_value(alloc, doc, host, command)?),
         Command::FontSize => legacy_value(alloc, first_value(alloc, doc, host, command)?),
+        Command::FormatBlock => first_type(alloc, doc, host),
+        Command::JustifyLeft
+        | Command::JustifyCenter
+        | Command::JustifyRight
+        | Command::JustifyFull => first_alignment(alloc, doc, host),
         Command::DefaultParagraphSeparator => container_name(alloc, doc.flags().paragraphs),
         _ => Chars::from_slice(alloc, &[]),
     }

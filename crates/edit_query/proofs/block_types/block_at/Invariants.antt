@@ -1,0 +1,14 @@
+use Rattle.std.proofs.Common.{◌≡◌}
+use Rattle.dom_model.specs.Forest.{depth_of}
+use Rattle.edit_doc.specs.Held.{Holds}
+use Rattle.edit_query.specs.BlockTypes.{block_at}
+use Rattle.edit_query.proofs.block_types.block_at.Given as goal
+
+abbrev pub invariant-loop-parent : goal.invariant-loop-parent
+invariant-loop-parent l = record {
+  held : Holds l.doc l.at;
+  same : block_at l.doc.state.trees l.host.label l.at.label ≡ block_at l.doc.state.trees l.host.label l.fn.node.label;
+}
+
+abbrev pub decreases-loop-parent : goal.decreases-loop-parent
+decreases-loop-parent l = depth_of l.doc.state.trees l.at.label

@@ -1,0 +1,10 @@
+use Rattle.std.proofs.Common.{◌≡◌, drop}
+use Rattle.std.specs.List.{list_all}
+use Rattle.edit_model.specs.Gives.{labels_of}
+use Rattle.edit_query.specs.Features.{has_feature}
+use Rattle.edit_query.proofs.listed.is_at_all.Given as goal
+
+abbrev pub invariant-loop-node : goal.invariant-loop-node
+invariant-loop-node l =
+    list_all (has_feature l.feature l.doc.state.trees) (labels_of (drop l.node-index l.list))
+    ≡ list_all (has_feature l.feature l.doc.state.trees) (labels_of l.list)
