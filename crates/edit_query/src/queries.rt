@@ -13,7 +13,9 @@ use html_names::{Command, QueryKind};
 use std::alloc::{AllocError, Global};
 
 /// The state of a command (HTML Editing APIs, "state"): its state override, or else whether it is on at all formattable
-/// nodes in the active range, and where there is none at the range's start. `host` is the running command's editing host.
+/// nodes in the active range, and where there is none at the range's start. A justify command is on where there are visible
+/// editable nodes without children in the block-extended range, and all have its alignment. `host` is the running command's
+/// editing host.
 #[tactic(auto, unfolding(crate::specs::Queries::state_of))]
 pub fn query_state(
     alloc: Global,
@@ -43,7 +45,9 @@ fn shown_override(alloc: Global, command: Command, value: &Chars) -> Result<Char
 
 /// The value of a command (HTML Editing APIs, "value"): its value override, or else the effective value of the first
 /// formattable node in the active range, and where there is none that at the range's start. A size of a font is shown as
-/// the legacy size, 1 to 7; no value is the empty text. `host` is the running command's editing host.
+/// the legacy size, 1 to 7; no value is the empty text. Of formatBlock it is the type, of a justify command the alignment, of
+/// the first visible editable node without children in the block-extended range. `host` is the running command's editing
+/// host.
 #[tactic(auto, unfolding(crate::specs::Queries::value_of))]
 pub fn query_value(
     alloc: Global,

@@ -1,4 +1,4 @@
-//! What is asked of inline commands.
+//! What is asked of commands.
 
 ghost use Rattle.edit_doc.specs.Whole.{IsClosed};
 
@@ -12,7 +12,7 @@ use std::alloc::{AllocError, Global};
 use std::test::Fail;
 
 // What an editing host of the label 1 holds, the ends of a range, a command, and its answers.
-static ANSWERS: [(&str, (u32, u32), (u32, u32), Command, bool, bool, &str); 22] = [
+static ANSWERS: [(&str, (u32, u32), (u32, u32), Command, bool, bool, &str); 37] = [
     // 2 b (3 "ab"), 4 "cd"
     (
         "<b>ab</b>cd",
@@ -205,6 +205,7 @@ static ANSWERS: [(&str, (u32, u32), (u32, u32), Command, bool, bool, &str); 22] 
         false,
         "monospace",
     ),
+    // what the blocks are
     (
         "<p>a</p>",
         (3, 0),
@@ -212,7 +213,143 @@ static ANSWERS: [(&str, (u32, u32), (u32, u32), Command, bool, bool, &str); 22] 
         Command::FormatBlock,
         false,
         false,
+        "p",
+    ),
+    (
+        "<h1>a</h1> <p>b</p>",
+        (6, 1),
+        (3, 0),
+        Command::FormatBlock,
+        true,
+        false,
+        "h1",
+    ),
+    (
+        "<h1>a</h1> <h1>b</h1>",
+        (3, 0),
+        (6, 1),
+        Command::FormatBlock,
+        false,
+        false,
+        "h1",
+    ),
+    (
+        "<b>a</b><h2>b</h2>",
+        (3, 0),
+        (5, 1),
+        Command::FormatBlock,
+        true,
+        false,
         "",
+    ),
+    (
+        "<div>a<p>b</p></div>",
+        (3, 0),
+        (3, 0),
+        Command::FormatBlock,
+        false,
+        false,
+        "",
+    ),
+    (
+        "<dl><dd><b>a</b></dd></dl>",
+        (5, 0),
+        (5, 0),
+        Command::FormatBlock,
+        false,
+        false,
+        "dd",
+    ),
+    (
+        "<p>a</p><h1 contenteditable=\"false\">b</h1>",
+        (1, 0),
+        (1, 2),
+        Command::FormatBlock,
+        false,
+        false,
+        "p",
+    ),
+    (
+        "<p></p><h1>a</h1>",
+        (2, 0),
+        (4, 1),
+        Command::FormatBlock,
+        true,
+        false,
+        "p",
+    ),
+    // how they are aligned
+    (
+        "<p align=\"right\">a</p> <p>b</p>",
+        (3, 0),
+        (6, 1),
+        Command::JustifyRight,
+        true,
+        false,
+        "right",
+    ),
+    (
+        "<p align=\"right\">a</p> <p>b</p>",
+        (3, 0),
+        (6, 1),
+        Command::JustifyCenter,
+        false,
+        false,
+        "right",
+    ),
+    (
+        "<p align=\"right\">a</p> <p>b</p>",
+        (6, 0),
+        (6, 0),
+        Command::JustifyLeft,
+        false,
+        true,
+        "left",
+    ),
+    (
+        "<p align=\"right\">a</p> <p style=\"text-align: end\">b</p>",
+        (3, 0),
+        (6, 1),
+        Command::JustifyRight,
+        false,
+        true,
+        "right",
+    ),
+    (
+        "<center>a</center>",
+        (3, 0),
+        (3, 0),
+        Command::JustifyCenter,
+        false,
+        true,
+        "center",
+    ),
+    (
+        "<p style=\"text-align: justify\">a</p>",
+        (3, 0),
+        (3, 0),
+        Command::JustifyFull,
+        false,
+        true,
+        "justify",
+    ),
+    (
+        "<span style=\"text-align: right\">a</span>",
+        (3, 0),
+        (3, 0),
+        Command::JustifyRight,
+        false,
+        false,
+        "left",
+    ),
+    (
+        "",
+        (1, 0),
+        (1, 0),
+        Command::JustifyLeft,
+        false,
+        false,
+        "left",
     ),
 ];
 

@@ -5,7 +5,7 @@ use Rattle.edit_doc.specs.Held.{EachHeld}
 use Rattle.edit_query.specs.Sought.{is_sought}
 use Rattle.edit_query.proofs.sought.sought_of.Given as goal
 
--- the formattable ones so far are found, and those of the others are still to be found
+-- those sought so far are found, and those of the others are still to be found
 abbrev pub invariant-loop-node : goal.invariant-loop-node
 invariant-loop-node l =
     (labels_of l.found.items ++ filter (is_sought l.sought l.doc.state.trees l.host.label) (labels_of (drop l.node-index l.list))
