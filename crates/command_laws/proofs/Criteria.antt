@@ -50,6 +50,15 @@ thing_fails test img hr name list t = elim (cases_Bool (bytes_eq name (codes "im
   | inr e ↦ (let t' = rw e at t in subst (λ n. test (Element n list) ≡ false) (sym (same-name name (codes "hr") t')) (hr list))
 ]
 
+-- a name that passes what both names fail is neither
+pub no_thing : (test : List ℕ → Bool) → test (codes "img") ≡ false → test (codes "hr") ≡ false → (name : List ℕ) → test name ≡ true → is_thing name ≡ false
+no_thing test img hr name h = by_name (bytes_eq name (codes "img")) (bytes_eq name (codes "hr")) refl refl
+  where
+    by_name : (v w : Bool) → bytes_eq name (codes "img") ≡ v → bytes_eq name (codes "hr") ≡ w → is_thing name ≡ false
+    by_name true w e k = absurd (true≢false (sym h ∙ (ap test (same-name name (codes "img") e) ∙ img)))
+    by_name false true e k = absurd (true≢false (sym h ∙ (ap test (same-name name (codes "hr") k) ∙ hr)))
+    by_name false false e k = rw (e, k) refl
+
 -- ---- what meets one
 
 pub named_bare : (s : State) (l : ℕ) (name : List ℕ) → is_thing name ≡ false → has_name s.trees l name ≡ true → IsBare s l

@@ -1,6 +1,6 @@
 -- Removing the format keeps the order, and leaves the states of contenteditable.
 use Rattle.std.proofs.Common.{◌≡◌, ℕ, Bool, true, false, ◌&&◌, if◌then◌else◌, List, [], ◌∷◌, Option, Some, None, refl, sym, ap, ◌∙◌, inl, inr, true≢false}
-use Rattle.std.specs.Prelude.{codes, bytes_eq, filter}
+use Rattle.std.specs.Prelude.{codes, filter}
 use Rattle.std.specs.List.{AllByRecursion}
 use Rattle.std.specs.Option.{option_map_or}
 use Rattle.std.proofs.lemmas.Bool.{cases_Bool}
@@ -9,7 +9,6 @@ use Rattle.dom_model.specs.declared.Content.TheVariants.{Document, Element, Word
 use Rattle.dom_model.specs.Contents.{name_in}
 use Rattle.dom_model.specs.Forest.{parent_of, children_of, content_of, unlink}
 use Rattle.dom_model.proofs.Kept.{content_of-link, content_of-unlink}
-use Rattle.css_value.proofs.Names.{same-name}
 use Rattle.html_names.specs.ElementNames.{format_names, is_remove_format_candidate}
 use Rattle.node_styles.specs.NameClasses.{is_format_candidate}
 use Rattle.edit_model.specs.State.{State}
@@ -37,6 +36,7 @@ use Rattle.edit_laws.proofs.Unwrapping.{unwrap_keeps, stateless_unwrap}
 use Rattle.inline_value.specs.Ancestors.{split_once}
 use Rattle.inline_commands.specs.RemovingFormat.{is_candidate, candidates_in_range, unwrap_candidates, part_from_format, part_nodes, clear_command, clear_commands, remove_format}
 use Rattle.inline_value.specs.Selections.{nodes_in_range}
+use Rattle.command_laws.proofs.Criteria.{no_thing}
 use Rattle.command_laws.proofs.SelectionRuns.{tame_set_value, tame_split_ends, stateless_set_value, stateless_split_ends}
 use Rattle.command_laws.proofs.Splitting.{tame_split_one}
 use Rattle.command_laws.proofs.StatelessSplits.{stateless_split}
@@ -110,12 +110,7 @@ unfolding is_remove_format_candidate format_names
 candidate_hr = refl
 
 candidate_no_thing : (name : List ℕ) → is_remove_format_candidate name ≡ true → is_thing name ≡ false
-candidate_no_thing name h = by_name (bytes_eq name (codes "img")) (bytes_eq name (codes "hr")) refl refl
-  where
-    by_name : (v w : Bool) → bytes_eq name (codes "img") ≡ v → bytes_eq name (codes "hr") ≡ w → is_thing name ≡ false
-    by_name true w e k = absurd (true≢false (sym h ∙ (ap is_remove_format_candidate (same-name name (codes "img") e) ∙ candidate_img)))
-    by_name false true e k = absurd (true≢false (sym h ∙ (ap is_remove_format_candidate (same-name name (codes "hr") k) ∙ candidate_hr)))
-    by_name false false e k = rw (e, k) refl
+candidate_no_thing name h = no_thing is_remove_format_candidate candidate_img candidate_hr name h
 
 named_candidate : (s : State) (l : ℕ) → option_map_or (λ c. option_map_or is_remove_format_candidate (name_in c) false) (content_of s.trees l) false ≡ true → IsBare s l
 unfolding borne_by

@@ -27,3 +27,8 @@ pub mod FormatRuns
 pub mod RestoringRuns
 pub mod HostLine
 pub mod AncestorRuns
+pub mod Walks
+pub mod Together
+pub mod Unwrapped
+pub mod Series
+pub mod BlockRuns

@@ -38,7 +38,7 @@ at_look : {A : Type 0} (k : State → Run A) (s : State) → At s (k s) → At s
 unfolding look
 at_look k s h = h
 
-lawful_final : {T : Type 0} (m : Run T) (s : State) → IsLawful s → IsLawful (final m s)
+pub lawful_final : {T : Type 0} (m : Run T) (s : State) → IsLawful s → IsLawful (final m s)
 unfolding final
 lawful_final m s is = lawful_along (m.by_actions s) is
 

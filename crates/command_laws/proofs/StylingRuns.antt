@@ -3,7 +3,6 @@ use Rattle.std.proofs.Common.{ℕ, Bool, true, false, if◌then◌else◌, List,
 use Rattle.edit_model.specs.State.{State}
 use Rattle.edit_model.specs.Lawful.{IsLawful}
 use Rattle.edit_model.specs.Run.{Run, final, value, ◌>>=◌, answer, look, given, set_attribute, unset_attribute}
-use Rattle.edit_model.proofs.LawfulRuns.{lawful_along}
 use Rattle.edit_model.proofs.Steps.{final-bind, final-answer, final-look, final-edit}
 use Rattle.edit_laws.specs.Stateless.{Stateless}
 use Rattle.edit_laws.specs.Tame.{Tame}
@@ -11,15 +10,12 @@ use Rattle.edit_laws.proofs.Nesting.{Shaped, shaped_refl, shaped_trans, shaped_s
 use Rattle.edit_laws.proofs.StatelessRuns.{stateless_parts}
 use Rattle.edit_laws.proofs.Tame.{tame}
 use Rattle.inline_value.specs.Styling.{write_text, set_style, unset_style}
+use Rattle.command_laws.proofs.StatelessSplits.{lawful_final}
 
 -- ---- runs that leave the shape of the trees
 
 pub record Shaping {T : Type 0} (m : Run T) : Type 0 where
   pub shapes : (s : State) → IsLawful s → Shaped s (final m s)
-
-lawful_final : {T : Type 0} (m : Run T) (s : State) → IsLawful s → IsLawful (final m s)
-unfolding final
-lawful_final m s is = lawful_along (m.by_actions s) is
 
 pub shaping_answer : {A : Type 0} (a : A) → Shaping (answer a)
 shaping_answer a = record { shapes = λ s is. rw (final-answer a s) (shaped_refl s) }

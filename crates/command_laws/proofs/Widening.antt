@@ -33,7 +33,7 @@ first-append : (xs ys : List ℕ) (a : ℕ) → first_in xs ≡ Some a → first
 first-append [] ys a e = absurd (let e' = e in cc)
 first-append (x ∷ xs) ys a e = e
 
-pushed-last : (o : Option ℕ) (xs : List ℕ) (z : ℕ) → last_or o (xs ++ z ∷ []) ≡ Some z
+pub pushed-last : (o : Option ℕ) (xs : List ℕ) (z : ℕ) → last_or o (xs ++ z ∷ []) ≡ Some z
 pushed-last o [] z = refl
 pushed-last o (x ∷ xs) z = pushed-last (Some x) xs z
 
@@ -85,12 +85,12 @@ module _ (s : State) (is : IsLawful s) (o : ℕ) where
   one_before : (list : List ℕ) (a q : ℕ) → Siblings s o list → first_in list ≡ Some a → prev_of s.trees a ≡ Some q → Siblings s o (q ∷ list)
   one_before list a q w first prev = let r = node_before s is o w.front list w.rest w.is a q first prev in record { front = r.0; rest = w.rest; is = r.1 }
 
-  one_after : (list : List ℕ) (z q : ℕ) → Siblings s o list → last_in list ≡ Some z → next_of s.trees z ≡ Some q → Siblings s o (list ++ q ∷ [])
+  pub one_after : (list : List ℕ) (z q : ℕ) → Siblings s o list → last_in list ≡ Some z → next_of s.trees z ≡ Some q → Siblings s o (list ++ q ∷ [])
   one_after list z q w last next =
       let r = node_after s is o w.front list w.rest w.is z q last next in
       record { front = w.front; rest = r.0; is = r.1 ∙ ap (λ k. w.front ++ k) (sym (append_assoc list (q ∷ []) r.0)) }
 
-  same_list : (list : List ℕ) → Siblings s o list → Siblings s o (list ++ [])
+  pub same_list : (list : List ℕ) → Siblings s o list → Siblings s o (list ++ [])
   same_list list w = subst (Siblings s o) (sym (append-nil list)) w
 
   front_siblings : (n a : ℕ) (list : List ℕ) → Siblings s o list → first_in list ≡ Some a → Siblings s o (extended_front s n a list)

@@ -91,7 +91,7 @@ tame_grow : (p : ℕ) → Tame (grow_at p)
 unfolding grow_at
 tame_grow p = search tame
 
-put_in-middle : (front rest : List ℕ) (a x : ℕ) → times front a ≡ 0 → put_in (front ++ a ∷ rest) (Some a) x ≡ front ++ x ∷ a ∷ rest
+pub put_in-middle : (front rest : List ℕ) (a x : ℕ) → times front a ≡ 0 → put_in (front ++ a ∷ rest) (Some a) x ≡ front ++ x ∷ a ∷ rest
 put_in-middle [] rest a x none = rw (eqb_refl_true a) refl
 put_in-middle (y ∷ front) rest a x none = rw (other y none) (ap (λ k. y ∷ k) (put_in-middle front rest a x (omega (arith, none))))
   where
@@ -270,7 +270,7 @@ module _ (c : Criterion) (r : Recipe) (plain : NamesNoThing c) (makes : MakesNoT
   taken_keep front list rest up kids = rw (final-look, up) (members_keep (members s o list) (record { front = front; rest = rest; is = kids }))
 
 -- nothing is wrapped without a parent
-parentless : (c : Criterion) (r : Recipe) (list : List ℕ) (s : State) → first_parent s list ≡ None → KeepsOrder s (final (wrap c r list) s)
+pub parentless : (c : Criterion) (r : Recipe) (list : List ℕ) (s : State) → first_parent s list ≡ None → KeepsOrder s (final (wrap c r list) s)
 unfolding wrap
 parentless c r list s none = rw (final-look, none, final-answer) (keeps_refl (document_of s.trees))
 
@@ -281,6 +281,14 @@ wrap_keeps c r front (a ∷ l) rest o s plain makes is kids =
     let owned : (n : ℕ) → 0 < times (a ∷ l) n → parent_of s.trees n ≡ Some o = λ n h. member s is.lawful o front (a ∷ l) rest kids n h in
     let up : parent_of s.trees a ≡ Some o = owned a (omega (arith, self_one a)) in
     taken_keep c r plain makes s is o front (a ∷ l) rest (ap (λ p. either p (first_parent s l)) up) (kids ∙ ap (λ k. front ++ (k ++ rest)) (sym (all_members s o (a ∷ l) owned)))
+
+-- of a list that is together
+pub together_keeps : (c : Criterion) (r : Recipe) → NamesNoThing c → MakesNoThing r → (s : State) → IsKeeping s → (list : List ℕ) → ((o : ℕ) → Siblings s o (members s o list)) → KeepsOrder s (final (wrap c r list) s)
+together_keeps c r plain makes s is list all = by_parent (first_parent s list) refl
+  where
+    by_parent : (p : Option ℕ) → first_parent s list ≡ p → KeepsOrder s (final (wrap c r list) s)
+    by_parent None none = parentless c r list s none
+    by_parent (Some o) up = let w = all o in taken_keep c r plain makes s is o w.front list w.rest up w.is
 
 -- ---- of one node
 

@@ -2,3 +2,4 @@ pub mod Inline
 pub mod BreakLaws
 pub mod SplitLaws
 pub mod WrapLaws
+pub mod Blocks

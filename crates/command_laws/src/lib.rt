@@ -1,11 +1,15 @@
 //! The laws of commands, and of the algorithms that they share, each the contract of a function that does nothing.
 #![tactic(auto)]
 
+mod blocks;
 mod inline;
 mod line_breaks;
 mod splits;
 mod wraps;
 
+pub use blocks::{
+    format_block_is_stateless, format_block_keeps_order, justify_is_stateless, justify_keeps_order,
+};
 pub use inline::{
     apply_value_is_stateless, apply_value_keeps_order, create_link_is_stateless,
     create_link_keeps_order, fix_ancestors_is_stateless, fix_ancestors_keeps_order,

@@ -1,0 +1,213 @@
+-- The block commands keep the order, and leave the states of contenteditable.
+use Rattle.std.proofs.Common.{◌≡◌, ℕ, Bool, true, false, if◌then◌else◌, List, take, Option, refl}
+use Rattle.std.specs.Prelude.{codes}
+use Rattle.dom_model.specs.Contents.{has_name}
+use Rattle.dom_model.specs.Forest.{children_of}
+use Rattle.html_names.specs.ElementNames as names
+use Rattle.html_names.specs.ElementNames.{formattable_block_names}
+use Rattle.edit_model.specs.State.{State}
+use Rattle.edit_model.specs.Compositions.{set_tag_name}
+use Rattle.edit_model.specs.Kept.{is_thing}
+use Rattle.edit_model.specs.Run.{final, ◌>>◌, done, answer}
+use Rattle.edit_model.proofs.Steps.{final-answer, final-bind, final-look}
+use Rattle.edit_laws.specs.Order.{KeepsOrder, IsKeeping}
+use Rattle.edit_laws.specs.Stateless.{Stateless}
+use Rattle.edit_laws.specs.Tame.{Tame}
+use Rattle.edit_laws.proofs.QuietActions.{keeping_final}
+use Rattle.edit_laws.proofs.Renaming.{tag_name_keeps}
+use Rattle.edit_laws.proofs.StatelessRuns.{stateless_parts, stateless_answer, stateless_bind, stateless_if, stateless_look_at}
+use Rattle.edit_laws.proofs.Subsequences.{keeps_trans}
+use Rattle.edit_laws.proofs.Tame.{tame_answer}
+use Rattle.wrap_split.specs.declared.rule.Criterion.{Criterion}
+use Rattle.wrap_split.specs.declared.rule.Criterion.TheVariants.{Never, Named, Aligned}
+use Rattle.wrap_split.specs.declared.rule.Recipe.TheVariants.{Make}
+use Rattle.wrap_split.specs.Split.{remove_keeping_children}
+use Rattle.wrap_split.specs.Wrap.{wrap}
+use Rattle.inline_value.specs.Recording.{record_values}
+use Rattle.block_commands.specs.FormatBlock as blocks
+use Rattle.block_commands.specs.FormatBlock.{block_name, split_once, leave_blocks, leave_each, split_blocks, block, is_apart, fixed, made_block, format_children, format_container, format_series, format_first, format_next, format_all, format_list, format_to, format_block}
+use Rattle.block_commands.specs.Justify as aligning
+use Rattle.block_commands.specs.Justify.{name_div, drop_plain, clear_alignment, clear_alignments, aligned_div, align_series, align_all, align_range, justify}
+use Rattle.block_commands.specs.Series.{count_series, is_next, is_next_on_line}
+use Rattle.command_laws.specs.WrapLaws.{NamesNoThing}
+use Rattle.command_laws.proofs.Criteria.{no_thing, named_bare}
+use Rattle.command_laws.proofs.PushingRuns.{tame_restore_values, stateless_record_values, stateless_restore_values}
+use Rattle.command_laws.proofs.Series.{next_is, next_on_line, series_keeps}
+use Rattle.command_laws.proofs.Splitting.{then_tame, then_tame_on, tame_unwrap}
+use Rattle.command_laws.proofs.StatelessSplits.{stateless_keeping_children}
+use Rattle.command_laws.proofs.StatelessWraps.{stateless_wrap}
+use Rattle.command_laws.proofs.Unwrapped.{children_stay_together}
+use Rattle.command_laws.proofs.Walks.{Fit, fit, fits, fit_answer, fit_record, fit_restore, fit_split_one, fit_unwrap, fit_fix, fit_unset_style}
+use Rattle.command_laws.proofs.Wrapping.{together_keeps}
+
+-- ---- formatBlock, step 3
+
+fit_split_once : (n : ℕ) → Fit (split_once n)
+unfolding split_once
+fit_split_once n = search (fits, fit_split_one)
+
+fit_leave : (n : ℕ) → Fit (leave_blocks n)
+unfolding leave_blocks
+fit_leave n = search (fits, fit_split_once)
+
+fit_leave_each : (list : List ℕ) → Fit (leave_each list)
+unfolding leave_each
+fit_leave_each list = search (fits, fit_leave)
+
+fit_split_blocks : (list : List ℕ) → Fit (split_blocks list)
+unfolding split_blocks
+fit_split_blocks list = search (fits, fit_record, fit_leave_each, fit_restore)
+
+-- ---- formatBlock, step 4
+
+fit_fixed : (made : Option ℕ) → Fit (fixed made)
+unfolding fixed
+fit_fixed made = search (fits, fit_fix)
+
+-- no block is an image or a rule
+block_img : names.is_formattable_block (codes "img") ≡ false
+unfolding names.is_formattable_block formattable_block_names
+block_img = refl
+
+block_hr : names.is_formattable_block (codes "hr") ≡ false
+unfolding names.is_formattable_block formattable_block_names
+block_hr = refl
+
+block_no_thing : (name : List ℕ) → names.is_formattable_block name ≡ true → is_thing name ≡ false
+block_no_thing name h = no_thing names.is_formattable_block block_img block_hr name h
+
+module _ (name : List ℕ) (plain : is_thing name ≡ false) where
+  -- a series is wrapped, or the children of a container that went
+  wrapped_keeps : (s : State) → IsKeeping s → (list : List ℕ) → ((c : Criterion) → NamesNoThing c → KeepsOrder s (final (wrap c (Make (block name)) list) s)) → KeepsOrder s (final (made_block name list) s)
+  unfolding made_block blocks.wrapped
+  wrapped_keeps s is list keeps = then_tame_on (blocks.wrapped name list) fixed s is (by_name (is_apart name)) (λ made. (fit_fixed made).order)
+    where
+      by_name : (v : Bool) → KeepsOrder s (final (if v then wrap Never (Make (block name)) list else wrap (Named name true) (Make (block name)) list) s)
+      by_name true = keeps Never tt
+      by_name false = keeps (Named name true) plain
+
+  stateless_made : (list : List ℕ) → Stateless (made_block name list)
+  unfolding made_block blocks.wrapped
+  stateless_made list =
+      stateless_bind _ fixed
+      (stateless_if (is_apart name) _ _ (stateless_wrap Never (Make (block name)) refl list) (stateless_wrap (Named name true) (Make (block name)) refl list))
+      (λ made. (fit_fixed made).states)
+
+  container_keeps : (n : ℕ) (s : State) → IsKeeping s → KeepsOrder s (final (format_children name n (children_of s.trees n)) s)
+  unfolding format_children record_values
+  container_keeps n s is =
+      let children = children_of s.trees n in
+      let t : State = final (remove_keeping_children n) s in
+      let is_t = keeping_final (remove_keeping_children n) s is in
+      let stay = children_stay_together n s is.lawful in
+      let made = wrapped_keeps t is_t children (λ c named. together_keeps c (Make (block name)) named plain t is_t children stay.siblings) in
+      rw (final-bind, final-look, final-answer, final-bind)
+      (keeps_trans ((tame_unwrap n).keeps s is) (then_tame (made_block name children) _ t is_t made (tame_restore_values _)))
+
+  stateless_children : (n : ℕ) (children : List ℕ) → Stateless (format_children name n children)
+  unfolding format_children
+  stateless_children n children = search (stateless_parts, stateless_record_values, stateless_keeping_children, stateless_made, stateless_restore_values)
+
+  fit_container : (n : ℕ) → Fit (format_container name n)
+  unfolding format_container
+  fit_container n = fit (record { keeps = λ s is. rw final-look (container_keeps n s is) }) (stateless_look_at _ (λ s. stateless_children n (children_of s.trees n)))
+
+  series_block_keeps : (list : List ℕ) (s : State) → IsKeeping s → KeepsOrder s (final (made_block name (take (count_series (is_next_on_line s) list) list)) s)
+  series_block_keeps list s is =
+      wrapped_keeps s is (take (count_series (is_next_on_line s) list) list) (λ c named. series_keeps c (Make (block name)) named plain s is (is_next_on_line s) (next_on_line s) list)
+
+  fit_series : (list : List ℕ) → Fit (format_series name list)
+  unfolding format_series
+  fit_series list =
+      fit (record { keeps = λ s is. rw final-look (then_tame _ _ s is (series_block_keeps list s is) (tame_answer _)) })
+      (stateless_look_at _ (λ s. stateless_bind _ _ (stateless_made (take (count_series (is_next_on_line s) list) list)) (λ _. stateless_answer _)))
+
+  fit_first : (list : List ℕ) (x : ℕ) → Fit (format_first name list x)
+  unfolding format_first
+  fit_first list x = search (fits, fit_container, fit_series)
+
+  fit_next : (list : List ℕ) → Fit (format_next name list)
+  unfolding format_next
+  fit_next list = search (fits, fit_first)
+
+  fit_all : (list : List ℕ) → Fit (format_all name list)
+  unfolding format_all
+  fit_all list = search (fits, fit_next)
+
+  fit_list : (list : List ℕ) → Fit (format_list name list)
+  unfolding format_list
+  fit_list list = search (fits, fit_split_blocks, fit_all)
+
+  fit_to : Fit (format_to name)
+  unfolding format_to
+  fit_to = search (fits, fit_list)
+
+fit_format_block : (v : List ℕ) → Fit (format_block v)
+unfolding format_block
+fit_format_block v = by_name (names.is_formattable_block (block_name v)) refl
+  where
+    by_name : (b : Bool) → names.is_formattable_block (block_name v) ≡ b → Fit (if b then format_to (block_name v) else answer false)
+    by_name true h = fit_to (block_name v) (block_no_thing (block_name v) h)
+    by_name false h = fit_answer false
+
+pub tame_format_block : (v : List ℕ) → Tame (format_block v)
+tame_format_block v = (fit_format_block v).order
+
+pub stateless_format_block : (v : List ℕ) → Stateless (format_block v)
+stateless_format_block v = (fit_format_block v).states
+
+-- ---- justify, step 1
+
+named_div_keeps : (e : ℕ) (s : State) → IsKeeping s → (v : Bool) → has_name s.trees e (codes "center") ≡ v → KeepsOrder s (final (if v then set_tag_name e (codes "div") >> done else done) s)
+named_div_keeps e s is true h = then_tame (set_tag_name e (codes "div")) done s is (tag_name_keeps e (codes "div") s is (named_bare s e (codes "center") refl h) refl) (tame_answer tt)
+named_div_keeps e s is false h = (tame_answer tt).keeps s is
+
+fit_name_div : (e : ℕ) → Fit (name_div e)
+unfolding name_div
+fit_name_div e = fit (record { keeps = λ s is. rw final-look (named_div_keeps e s is (has_name s.trees e (codes "center")) refl) }) (search stateless_parts)
+
+fit_drop_plain : (e : ℕ) → Fit (drop_plain e)
+unfolding drop_plain
+fit_drop_plain e = search (fits, fit_unwrap, fit_name_div)
+
+fit_clear : (e : ℕ) → Fit (clear_alignment e)
+unfolding clear_alignment
+fit_clear e = search (fits, fit_unset_style, fit_drop_plain)
+
+fit_clear_all : Fit clear_alignments
+unfolding clear_alignments
+fit_clear_all = search (fits, fit_clear)
+
+-- ---- justify, step 3
+
+align_keeps : (alignment list : List ℕ) (s : State) → IsKeeping s → KeepsOrder s (final (aligning.wrapped alignment (take (count_series (is_next s) list) list)) s)
+unfolding aligning.wrapped
+align_keeps alignment list s is = series_keeps (Aligned alignment) (Make (aligned_div alignment)) tt refl s is (is_next s) (next_is s) list
+
+stateless_aligned : (alignment list : List ℕ) → Stateless (aligning.wrapped alignment list)
+unfolding aligning.wrapped
+stateless_aligned alignment list = stateless_wrap (Aligned alignment) (Make (aligned_div alignment)) refl list
+
+fit_align : (alignment list : List ℕ) → Fit (align_series alignment list)
+unfolding align_series
+fit_align alignment list =
+    fit (record { keeps = λ s is. rw final-look (then_tame _ _ s is (align_keeps alignment list s is) (tame_answer _)) })
+    (stateless_look_at _ (λ s. stateless_bind _ _ (stateless_aligned alignment (take (count_series (is_next s) list) list)) (λ _. stateless_answer _)))
+
+fit_align_all : (alignment list : List ℕ) → Fit (align_all alignment list)
+unfolding align_all
+fit_align_all alignment list = search (fits, fit_align)
+
+fit_align_range : (alignment : List ℕ) → Fit (align_range alignment)
+unfolding align_range
+fit_align_range alignment = search (fits, fit_align_all)
+
+fit_justify : (alignment : List ℕ) → Fit (justify alignment)
+unfolding justify
+fit_justify alignment = search (fits, fit_clear_all, fit_align_range)
+
+pub tame_justify : (alignment : List ℕ) → Tame (justify alignment)
+tame_justify alignment = (fit_justify alignment).order
+
+pub stateless_justify : (alignment : List ℕ) → Stateless (justify alignment)
+stateless_justify alignment = (fit_justify alignment).states

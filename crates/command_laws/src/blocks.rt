@@ -1,0 +1,23 @@
+//! The laws of the block commands.
+
+ghost use Rattle.command_laws.specs.Blocks.{BlocksKeepOrder, BlocksAreStateless, JustifyingKeepsOrder, JustifyingIsStateless};
+
+/// Formatting blocks keeps the order of characters, images and rules.
+pub fn format_block_keeps_order()
+    ensures { BlocksKeepOrder }
+{}
+
+/// It gives no node a state of contenteditable, and takes none away.
+pub fn format_block_is_stateless()
+    ensures { BlocksAreStateless }
+{}
+
+/// Justifying keeps the order.
+pub fn justify_keeps_order()
+    ensures { JustifyingKeepsOrder }
+{}
+
+/// It gives and takes no state of contenteditable.
+pub fn justify_is_stateless()
+    ensures { JustifyingIsStateless }
+{}
