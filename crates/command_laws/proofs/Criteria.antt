@@ -9,7 +9,7 @@ use Rattle.dom_model.specs.declared.attributes.Attribute.{Attribute}
 use Rattle.dom_model.specs.Contents.{name_in, has_name, is_break}
 use Rattle.dom_model.specs.Forest.{content_of}
 use Rattle.css_value.proofs.Names.{same-name}
-use Rattle.node_styles.specs.NameClasses.{is_simple_indentation, is_simple_indentation_content, is_indentation_content}
+use Rattle.node_styles.specs.NameClasses.{is_indentation, is_simple_indentation, is_simple_indentation_content, is_indentation_content}
 use Rattle.node_styles.specs.OwnStyles.{is_named}
 use Rattle.command_value.specs.Modifiable.{meets_value, is_simple_modifiable, is_simple_modifiable_content, is_simple_with}
 use Rattle.edit_model.specs.State.{State}
@@ -41,6 +41,14 @@ indentation_img list = refl
 indentation_hr : (list : List Attribute) → is_simple_indentation_content (Element (codes "hr") list) ≡ false
 unfolding is_simple_indentation_content is_indentation_content is_named
 indentation_hr list = refl
+
+indenting_img : (list : List Attribute) → is_indentation_content (Element (codes "img") list) ≡ false
+unfolding is_indentation_content is_named
+indenting_img list = refl
+
+indenting_hr : (list : List Attribute) → is_indentation_content (Element (codes "hr") list) ≡ false
+unfolding is_indentation_content is_named
+indenting_hr list = refl
 
 -- what the two elements fail, each of the name of one fails
 thing_fails : (test : Content → Bool) → ((list : List Attribute) → test (Element (codes "img") list) ≡ false) → ((list : List Attribute) → test (Element (codes "hr") list) ≡ false)
@@ -89,6 +97,14 @@ modifiable_text chars = refl
 indentation_text : (chars : List ℕ) → is_simple_indentation_content (Words chars) ≡ false
 unfolding is_simple_indentation_content is_indentation_content is_named
 indentation_text chars = refl
+
+indenting_text : (chars : List ℕ) → is_indentation_content (Words chars) ≡ false
+unfolding is_indentation_content is_named
+indenting_text chars = refl
+
+pub indentation_bare : (s : State) (l : ℕ) → is_indentation s.trees l ≡ true → IsBare s l
+unfolding is_indentation
+indentation_bare s l h = tested_bare s l is_indentation_content (thing_fails is_indentation_content indenting_img indenting_hr) indenting_text h
 
 modifiable_br : (list : List Attribute) → is_simple_modifiable_content (Element (codes "br") list) ≡ false
 unfolding is_simple_modifiable_content is_simple_with is_named

@@ -30,5 +30,9 @@ pub mod AncestorRuns
 pub mod Walks
 pub mod Together
 pub mod Unwrapped
+pub mod ListWalks
 pub mod Series
 pub mod BlockRuns
+pub mod Followers
+pub mod SublistRuns
+pub mod IndentRuns

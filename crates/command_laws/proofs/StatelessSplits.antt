@@ -22,7 +22,7 @@ use Rattle.command_laws.proofs.StatelessMoves.{stateless_moves}
 
 -- ---- a run from a state
 
-abbrev At : {T : Type 0} → State → Run T → Type 0
+abbrev pub At : {T : Type 0} → State → Run T → Type 0
 At s m = LeavesStatesOn (m.by_actions s)
 
 leaves_trans : {s t u : State} (p : Reaches s t) (q : Reaches t u) → LeavesStatesOn p → LeavesStatesOn q → LeavesStatesOn (reaches_trans p q)
@@ -30,11 +30,11 @@ unfolding reaches_trans
 leaves_trans p here h k = h
 leaves_trans p (onward q a) h k = (leaves_trans p q h k.0, k.1)
 
-at_bind : {A B : Type 0} (m : Run A) (k : A → Run B) (s : State) → At s m → At (final m s) (k (value m s)) → At s (m >>= k)
+pub at_bind : {A B : Type 0} (m : Run A) (k : A → Run B) (s : State) → At s m → At (final m s) (k (value m s)) → At s (m >>= k)
 unfolding ◌>>=◌ final value
 at_bind m k s h g = leaves_trans (m.by_actions s) ((k (m.run s).1).by_actions (m.run s).0) h g
 
-at_look : {A : Type 0} (k : State → Run A) (s : State) → At s (k s) → At s (look k)
+pub at_look : {A : Type 0} (k : State → Run A) (s : State) → At s (k s) → At s (look k)
 unfolding look
 at_look k s h = h
 

@@ -1,8 +1,8 @@
 -- Setting and unsetting a style keeps the order, the states of contenteditable, and the shape of the trees.
-use Rattle.std.proofs.Common.{ℕ, Bool, true, false, if◌then◌else◌, List, Option, Some, None}
+use Rattle.std.proofs.Common.{ℕ, Bool, true, false, if◌then◌else◌, List, [], ◌∷◌, Option, Some, None}
 use Rattle.edit_model.specs.State.{State}
 use Rattle.edit_model.specs.Lawful.{IsLawful}
-use Rattle.edit_model.specs.Run.{Run, final, value, ◌>>=◌, answer, look, given, set_attribute, unset_attribute}
+use Rattle.edit_model.specs.Run.{Run, final, value, ◌>>=◌, answer, look, given, for_each, set_attribute, unset_attribute}
 use Rattle.edit_model.proofs.Steps.{final-bind, final-answer, final-look, final-edit}
 use Rattle.edit_laws.specs.Stateless.{Stateless}
 use Rattle.edit_laws.specs.Tame.{Tame}
@@ -42,7 +42,12 @@ shaping_set e name value = record { shapes = λ s is. rw final-edit (shaped_set 
 pub shaping_unset : (e : ℕ) (name : List ℕ) → Shaping (unset_attribute e name)
 shaping_unset e name = record { shapes = λ s is. rw final-edit (shaped_unset e name s is) }
 
-pub ruleset shaping = (shaping_answer, shaping_bind, shaping_look, shaping_if, shaping_given, shaping_set, shaping_unset)
+pub shaping_each : {A : Type 0} (xs : List A) (f : A → Run (Unit {0})) → ((x : A) → Shaping (f x)) → Shaping (for_each xs f)
+unfolding for_each
+shaping_each [] f p = shaping_answer tt
+shaping_each (x ∷ xs) f p = shaping_bind (f x) (λ _. for_each xs f) (p x) (λ _. shaping_each xs f p)
+
+pub ruleset shaping = (shaping_answer, shaping_bind, shaping_look, shaping_if, shaping_given, shaping_each, shaping_set, shaping_unset)
 
 -- ---- styles
 
@@ -77,3 +82,7 @@ shaping_text e text = search shaping
 pub shaping_set_style : (e : ℕ) (name value : List ℕ) → Shaping (set_style e name value)
 unfolding set_style
 shaping_set_style e name value = search (shaping, shaping_text)
+
+pub shaping_unset_style : (e : ℕ) (name : List ℕ) → Shaping (unset_style e name)
+unfolding unset_style
+shaping_unset_style e name = search (shaping, shaping_text)

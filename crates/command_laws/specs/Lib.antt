@@ -3,3 +3,4 @@ pub mod BreakLaws
 pub mod SplitLaws
 pub mod WrapLaws
 pub mod Blocks
+pub mod Indents

@@ -2,6 +2,7 @@
 #![tactic(auto)]
 
 mod blocks;
+mod indents;
 mod inline;
 mod line_breaks;
 mod splits;
@@ -9,6 +10,9 @@ mod wraps;
 
 pub use blocks::{
     format_block_is_stateless, format_block_keeps_order, justify_is_stateless, justify_keeps_order,
+};
+pub use indents::{
+    indent_is_stateless, indent_keeps_order, outdent_is_stateless, outdent_keeps_order,
 };
 pub use inline::{
     apply_value_is_stateless, apply_value_keeps_order, create_link_is_stateless,

@@ -1,0 +1,157 @@
+-- Normalizing sublists keeps the order, and leaves the states of contenteditable: what leaves an item goes to just after it, or
+-- to the front of the item that follows it.
+use Rattle.std.proofs.Common.{◌≡◌, ℕ, zero, suc, Bool, true, false, if◌then◌else◌, [], ◌∷◌, Option, Some, None, refl, ap, subst, ◌∙◌}
+use Rattle.std.specs.Prelude.{codes}
+use Rattle.dom_model.specs.Forest.{last_in, last_of}
+use Rattle.edit_model.specs.State.{State}
+use Rattle.edit_model.specs.Moves.{move_after, move_first, move_all_after}
+use Rattle.edit_model.specs.Run.{Run, final, value, ◌>>=◌, answer, look, given, while_at_most, for_each, make_element}
+use Rattle.edit_model.proofs.Steps.{final-bind, final-answer, final-look, final-make_element, value-bind, value-answer, value-look, value-make_element, for_each-cons, for_each-nil}
+use Rattle.edit_laws.specs.Order.{KeepsOrder, IsKeeping}
+use Rattle.edit_laws.specs.Stateless.{Stateless}
+use Rattle.edit_laws.specs.Tame.{Tame}
+use Rattle.edit_laws.proofs.MoveLaws.{go_after}
+use Rattle.edit_laws.proofs.QuietActions.{keeping_final}
+use Rattle.edit_laws.proofs.StatelessRuns.{stateless_parts, stateless_make_element}
+use Rattle.edit_laws.proofs.Subsequences.{keeps_refl, keeps_trans}
+use Rattle.edit_laws.proofs.Tame.{tame_answer}
+use Rattle.list_indent.specs.Sublists.{has_sublist, leaves, parted, make_follower, follower_of, handed_on, part_child, part_last, part_sublists, normalize_sublists}
+use Rattle.command_laws.proofs.Followers.{Follows, goes_on, stands_after}
+use Rattle.command_laws.proofs.Splitting.{then_tame}
+use Rattle.command_laws.proofs.StatelessMoves.{stateless_moves, stateless_move_after, stateless_move_first}
+use Rattle.command_laws.proofs.Walks.{Fit, fit, fits}
+use Rattle.command_laws.proofs.Widening.{last_parted}
+
+-- ---- what is known of the state and the answer that a run ends with
+
+record Ends {A : Type 0} (s : State) (P : State → A → Type 0) (m : Run A) : Type 0 where
+  order : KeepsOrder s (final m s)
+  holds : P (final m s) (value m s)
+
+ends_answer : {A : Type 0} (P : State → A → Type 0) (a : A) (s : State) → P s a → Ends s P (answer a)
+ends_answer P a s h = record { order = rw (final-answer a s) (keeps_refl _); holds = rw (final-answer a s, value-answer a s) h }
+
+ends_look : {A : Type 0} (P : State → A → Type 0) (k : State → Run A) (s : State) → Ends s P (k s) → Ends s P (look k)
+ends_look P k s h = record { order = rw (final-look k s) h.order; holds = rw (final-look k s, value-look k s) h.holds }
+
+ends_bind : {A B : Type 0} (Q : State → A → Type 0) (P : State → B → Type 0) (m : Run A) (k : A → Run B) (s : State) → IsKeeping s → Ends s Q m
+    → ((t : State) → IsKeeping t → (a : A) → Q t a → Ends t P (k a)) → Ends s P (m >>= k)
+ends_bind Q P m k s is h more =
+    let g = more (final m s) (keeping_final m s is) (value m s) h.holds in
+    record { order = rw (final-bind m k s) (keeps_trans h.order g.order); holds = rw (final-bind m k s, value-bind m k s) g.holds }
+
+-- ---- a turn
+
+module _ (item : ℕ) where
+  -- the item that follows is told where there is one
+  Followed : State → Option ℕ → Type 0
+  Followed s None = Unit {0}
+  Followed s (Some n) = Follows s item n
+
+  one_after : (c : ℕ) (s : State) → final (for_each (c ∷ []) (move_after item)) s ≡ final (move_after item c) s
+  one_after c s = rw (for_each-cons, final-bind, for_each-nil, final-answer) refl
+
+  parts : (c : ℕ) (s : State) → IsKeeping s → last_of s.trees item ≡ Some c → Ends s Followed (parted item c)
+  unfolding parted move_all_after Followed
+  parts c s is last =
+      let l = last_parted _ c last in
+      let goes : KeepsOrder s (final (move_after item c) s) = subst (λ t. KeepsOrder s t) (one_after c s) (go_after s is l.0 (c ∷ []) item l.1) in
+      ends_bind (λ _ _. Unit {0}) Followed (move_after item c) (λ _. answer None) s is (record { order = goes; holds = tt }) (λ t _ _ _. ends_answer Followed None t tt)
+
+  -- an item that the child c may go to
+  Ready : ℕ → State → ℕ → Type 0
+  Ready c s n = (last_of s.trees item ≡ Some c) × Follows s item n
+
+  new_ready : (c : ℕ) (s : State) → IsKeeping s → last_of s.trees item ≡ Some c → Ends s (Ready c) (make_follower item)
+  unfolding make_follower Ready
+  new_ready c s is last =
+      let w = stands_after s is (codes "li") refl item in
+      record {
+        order = rw (final-bind, final-make_element, value-make_element, final-bind, final-answer) w.0;
+        holds = rw (final-bind, final-make_element, value-make_element, final-bind, final-answer, value-bind, value-make_element, final-make_element, value-bind, value-answer) (ap last_in w.1.1 ∙ last, w.1.0);
+      }
+
+  ready : (c : ℕ) (s : State) → IsKeeping s → last_of s.trees item ≡ Some c → (follower : Option ℕ) → Followed s follower → Ends s (Ready c) (follower_of item follower)
+  unfolding follower_of Followed Ready
+  ready c s is last None h = new_ready c s is last
+  ready c s is last (Some n) h = ends_answer (Ready c) n s (last, h)
+
+  hands : (c : ℕ) (t : State) → IsKeeping t → (n : ℕ) → Ready c t n → Ends t Followed (handed_on c n)
+  unfolding handed_on Ready Followed
+  hands c t is n h =
+      let w = goes_on t is item n c h.0 h.1 in
+      ends_bind (λ u _. Follows u item n) Followed (move_first n c) (λ _. answer (Some n)) t is (record { order = w.0; holds = w.1 }) (λ u _ _ k. ends_answer Followed (Some n) u k)
+
+  part_child_ends : (c : ℕ) (s : State) → IsKeeping s → last_of s.trees item ≡ Some c → (follower : Option ℕ) → Followed s follower → Ends s Followed (part_child item follower c)
+  unfolding part_child
+  part_child_ends c s is last follower h = ends_look Followed _ s (by_test (leaves s follower c))
+    where
+      by_test : (v : Bool) → Ends s Followed (if v then parted item c else (follower_of item follower >>= handed_on c))
+      by_test true = parts c s is last
+      by_test false = ends_bind (Ready c) Followed (follower_of item follower) (handed_on c) s is (ready c s is last follower h) (λ t is_t n k. hands c t is_t n k)
+
+  turn : (s : State) → IsKeeping s → (follower : Option ℕ) → Followed s follower → Ends s Followed (part_last item follower)
+  unfolding part_last
+  turn s is follower h = ends_look Followed _ s (by_last (last_of s.trees item) refl)
+    where
+      by_last : (o : Option ℕ) → last_of s.trees item ≡ o → Ends s Followed (given o (answer follower) (part_child item follower))
+      by_last None e = ends_answer Followed follower s h
+      by_last (Some c) e = part_child_ends c s is e follower h
+
+  turns : (bound : ℕ) (s : State) → IsKeeping s → (follower : Option ℕ) → Followed s follower → KeepsOrder s (final (while_at_most bound (has_sublist item) (part_last item) follower) s)
+  unfolding while_at_most
+  turns zero s is follower h = (tame_answer follower).keeps s is
+  turns (suc n) s is follower h =
+      let w = turn s is follower h in
+      let m = part_last item follower in
+      rw final-look (by_test (has_sublist item s follower) (keeps_trans w.order (turns n (final m s) (keeping_final m s is) (value m s) w.holds)))
+    where
+      more : Run (Option ℕ)
+      more = part_last item follower >>= while_at_most n (has_sublist item) (part_last item)
+
+      by_test : (v : Bool) → KeepsOrder s (final (while_at_most n (has_sublist item) (part_last item) (value (part_last item follower) s)) (final (part_last item follower) s))
+          → KeepsOrder s (final (if v then more else answer follower) s)
+      by_test true rest = rw final-bind rest
+      by_test false rest = (tame_answer follower).keeps s is
+
+  tame_sublists : Tame (part_sublists item)
+  unfolding part_sublists Followed
+  tame_sublists = record { keeps = λ s is. rw final-look (then_tame _ _ s is (turns _ s is None tt) (tame_answer tt)) }
+
+-- ---- the states of contenteditable
+
+stateless_parted : (item c : ℕ) → Stateless (parted item c)
+unfolding parted
+stateless_parted item c = search (stateless_parts, stateless_move_after)
+
+stateless_new : Stateless (make_element (codes "li") [])
+stateless_new = stateless_make_element (codes "li") [] refl
+
+stateless_follower : (item : ℕ) (follower : Option ℕ) → Stateless (follower_of item follower)
+unfolding follower_of make_follower
+stateless_follower item follower = search (stateless_parts, stateless_moves, stateless_new)
+
+stateless_handed : (c n : ℕ) → Stateless (handed_on c n)
+unfolding handed_on
+stateless_handed c n = search (stateless_parts, stateless_move_first)
+
+stateless_child : (item : ℕ) (follower : Option ℕ) (c : ℕ) → Stateless (part_child item follower c)
+unfolding part_child
+stateless_child item follower c = search (stateless_parts, stateless_parted, stateless_follower, stateless_handed)
+
+stateless_last : (item : ℕ) (follower : Option ℕ) → Stateless (part_last item follower)
+unfolding part_last
+stateless_last item follower = search (stateless_parts, stateless_child)
+
+stateless_sublists : (item : ℕ) → Stateless (part_sublists item)
+unfolding part_sublists
+stateless_sublists item = search (stateless_parts, stateless_last)
+
+-- ---- both
+
+fit_sublists : (item : ℕ) → Fit (part_sublists item)
+fit_sublists item = fit (tame_sublists item) (stateless_sublists item)
+
+pub fit_normalize : (n : ℕ) → Fit (normalize_sublists n)
+unfolding normalize_sublists
+fit_normalize n = search (fits, fit_sublists)

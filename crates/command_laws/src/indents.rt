@@ -1,0 +1,23 @@
+//! The laws of indent and outdent.
+
+ghost use Rattle.command_laws.specs.Indents.{IndentKeepsOrder, IndentIsStateless, OutdentKeepsOrder, OutdentIsStateless};
+
+/// Indent keeps the order of characters, images and rules.
+pub fn indent_keeps_order()
+    ensures { IndentKeepsOrder }
+{}
+
+/// It gives no node a state of contenteditable, and takes none away.
+pub fn indent_is_stateless()
+    ensures { IndentIsStateless }
+{}
+
+/// Outdent keeps the order.
+pub fn outdent_keeps_order()
+    ensures { OutdentKeepsOrder }
+{}
+
+/// It gives and takes no state of contenteditable.
+pub fn outdent_is_stateless()
+    ensures { OutdentIsStateless }
+{}
