@@ -11,8 +11,8 @@ returns-then-eq c =
     let place = c.loop-place.place in
     let value = c.entry_at.result.1.now in
     sym (sym c.loop-place.invariant
-      ∙ value_of-next name list place _ c.entry_at.ensures
-      ∙ ap (λ b. cond b (Some value) (value_of (drop (suc place) list) name)) (sym c.eq.ensures ∙ c.if-eq.true))
+    ∙ value_of-next name list place _ c.entry_at.ensures
+    ∙ ap (λ b. cond b (Some value) (value_of (drop (suc place) list) name)) (sym c.eq.ensures ∙ c.if-eq.true))
 
 pub loop-place-preserved : goal.loop-place-preserved
 loop-place-preserved c =
