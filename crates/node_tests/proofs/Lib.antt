@@ -23,6 +23,6 @@ mod Turns
 mod Tags
 mod Endings
 mod OwnHost
-mod Reaching
+pub mod Reaching
 mod Above
 mod Gathered

@@ -5,6 +5,7 @@ use Rattle.std.proofs.lemmas.Bool.Decides.{eqb_tells}
 use Rattle.dom_model.specs.declared.Content.{Content}
 use Rattle.dom_model.specs.Forest.{Forest, IsDistinct, IsWithin, count_of, parent_of, children_of, first_of, next_of, depth_of}
 use Rattle.std.specs.Option.{option_map_or}
+use Rattle.dom_model.specs.Contents.{length_of}
 use Rattle.dom_model.specs.Places.{place_in, index_of}
 use Rattle.dom_model.proofs.Links.{parent_count, times-children_of, eqb_refl_true}
 use Rattle.dom_model.proofs.Neighbours.{parent_of-first, parent_of-next}
@@ -19,7 +20,7 @@ use Rattle.node_tests.specs.declared.listing.Reach.{Reach}
 use Rattle.node_tests.specs.Listing.{IsAhead, Follows, Precedes, LiesAfter, LiesBefore, Reaches, Ends}
 use Rattle.node_tests.proofs.Skipping.{sibling_before, sibling_after, own_before, own_after, child_before, child_after}
 use Rattle.node_tests.proofs.Toward.{parent_among, toward, toward_is}
-use Rattle.node_tests.proofs.Turning.{at_index, first_get, get_none, get_times, index_first, index_under, next_index, no_next, place_is}
+use Rattle.node_tests.proofs.Turning.{at_index, first_get, get_none, get_times, index_first, index_low, index_under, next_index, no_next, place_is}
 
 module _ (f : Forest Content) (once : IsDistinct f) where
   later : (p : Point) → is_before f p (record { label = p.label; offset = suc p.offset }) ≡ true
@@ -111,6 +112,13 @@ module _ {holds : NodeRef → Type 0} {f : Forest Content} {upper : ℕ} (law : 
   index_at top m i child at =
       ap (λ o. option_map_or (λ q. place_in (children_of f q) m) o 0) child
       ∙ place_is (children_of f top) i m (λ j. times-children_of f top j law.distinct) at
+
+  -- the child at an offset
+  pub at_child : (top m i : ℕ) → child_at f top i ≡ Some m → (parent_of f m ≡ Some top) × (index_of f m ≡ i) × (i < length_of f top)
+  at_child top m i at =
+      let child = parent_among f law.distinct top m (get_times (children_of f top) i m at) in
+      let place = index_at top m i child at in
+      (child, place, omega (arith, place, index_low law m top child))
 
   -- the side on which a child lies to a point of its parent's tree
   pub side : (p : Point) (top k : ℕ) → 0 < count_of f top → parent_of f k ≡ Some top → IsWithin f top p.label → Follows f p top k ⊎ (Precedes f p top k ⊎ IsWithin f k p.label)
