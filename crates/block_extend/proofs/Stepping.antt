@@ -2,14 +2,17 @@
 use Rattle.std.proofs.Common.{◌≡◌, ℕ, ◌+◌, ◌-◌, ◌^◌, ◌<◌, Option, Some, sym, ◌∙◌, arith}
 use Rattle.dom_model.specs.declared.Content.{Content}
 use Rattle.dom_model.specs.Forest.{Forest, parent_of, prev_of, next_of}
+use Rattle.dom_model.specs.Contents.{length_of}
 use Rattle.dom_model.specs.Places.{index_of}
 use Rattle.dom_model.proofs.Few.{some_nodes}
 use Rattle.dom_model.proofs.Indexes.{index_of_low}
 use Rattle.node_arena.specs.declared.NodeRef.{NodeRef}
+use Rattle.node_arena.specs.Held.{label}
 use Rattle.node_arena.specs.Reads.{IsLawful, Names}
 use Rattle.node_tests.specs.BlockPoints.{child_before, child_at}
 use Rattle.block_extend.specs.Gaps.{Stands}
 use Rattle.block_extend.specs.declared.places.Place.{Place}
+use Rattle.node_tests.proofs.Reaching.{at_child}
 use Rattle.block_extend.proofs.Kids.{kid_next, kid_prev, own_index, before_at}
 
 module _ {holds : NodeRef → Type 0} {f : Forest Content} {upper : ℕ} (law : IsLawful holds f upper) where
@@ -60,3 +63,7 @@ module _ {holds : NodeRef → Type 0} {f : Forest Content} {upper : ℕ} (law : 
           before = record { is = sym (before_at f law.distinct at.node.label (at.offset + 1) (omega arith) at.offset (omega arith) ∙ sym named.is); held = named.held };
           after = record { is = next.is ∙ kid_next f law.distinct at.node.label at.offset child.label (sym named.is); held = next.held };
         }
+
+    -- a place with a child after it is before the end
+    pub before_child : (m : ℕ) → label at.after ≡ Some m → (index_of f m ≡ at.offset) × (at.offset < length_of f at.node.label)
+    before_child m e = let r = at_child law at.node.label m at.offset (sym stands.after.is ∙ e) in (r.1, r.2)

@@ -1,6 +1,6 @@
 //! Places in a tree, told by the children beside them, and the steps from one to the next.
 
-ghost use Rattle.std.specs.Prelude.{◌≡◌, ◌<◌, ◌+◌, ◌-◌, IfSome, is_none};
+ghost use Rattle.std.specs.Prelude.{◌≡◌, ◌<◌, ◌+◌, ◌-◌, ◌↔◌, IfSome, IsTrue, is_none};
 ghost use Rattle.dom_model.specs.Contents.{length_of};
 ghost use Rattle.dom_model.specs.Forest.{parent_of};
 ghost use Rattle.node_arena.specs.Held.{label};
@@ -150,7 +150,6 @@ fn one_forth<N: Nodes>(nodes: &N, at: Place) -> Place
     ensures offset { result.offset ≡ at.offset + 1 }
 {
     nodes.lawful();
-    let _length = nodes.length(at.node);
     match at.after {
         Some(child) => Place {
             node: at.node,
@@ -158,7 +157,22 @@ fn one_forth<N: Nodes>(nodes: &N, at: Place) -> Place
             before: Some(child),
             after: nodes.next(child),
         },
-        None => place_at(nodes, at.node, at.offset + 1),
+        None => {
+            let _length = nodes.length(at.node);
+            place_at(nodes, at.node, at.offset + 1)
+        }
+    }
+}
+
+// Whether a place stands before the end of its node. It counts no children.
+fn is_before_end<N: Nodes>(nodes: &N, at: Place) -> bool
+    requires { Stands (N.holds nodes.now) (N.trees nodes.now) at }
+    ensures { IsTrue result ↔ (at.offset < length_of (N.trees nodes.now) at.node.label) }
+{
+    nodes.lawful();
+    match at.after {
+        Some(_) => true,
+        None => at.offset < nodes.length(at.node),
     }
 }
 
@@ -181,7 +195,7 @@ fn forth<N: Nodes>(nodes: &N, at: Place) -> Option<Place>
     requires { Stands (N.holds nodes.now) (N.trees nodes.now) at }
     ensures { Leads (N.holds nodes.now) (N.trees nodes.now) result (extend.forth (N.trees nodes.now) (gaps.point_of at)) }
 {
-    if at.offset < nodes.length(at.node) {
+    if is_before_end(nodes, at) {
         Some(one_forth(nodes, at))
     } else {
         place_after(nodes, at.node)
@@ -207,7 +221,7 @@ fn out_after<N: Nodes>(nodes: &N, at: Place) -> Option<Place>
     requires { Stands (N.holds nodes.now) (N.trees nodes.now) at }
     ensures { Leads (N.holds nodes.now) (N.trees nodes.now) result (extend.out_after (N.trees nodes.now) (gaps.point_of at)) }
 {
-    if at.offset < nodes.length(at.node) {
+    if is_before_end(nodes, at) {
         None
     } else {
         place_after(nodes, at.node)
@@ -276,7 +290,7 @@ pub(crate) fn is_end<N: Nodes>(nodes: &N, at: Place) -> bool
     requires { Stands (N.holds nodes.now) (N.trees nodes.now) at }
     ensures { result ≡ points.is_block_end (N.trees nodes.now) at.node.label at.offset }
 {
-    (at.offset == nodes.length(at.node) && is_root(nodes, at.node)) || ends_before(nodes, at.after)
+    (is_root(nodes, at.node) && at.offset == nodes.length(at.node)) || ends_before(nodes, at.after)
 }
 
 // Whether a place is either.
