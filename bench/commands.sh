@@ -62,6 +62,34 @@ over_all 'fontSize 5' 18800
 over_all 'foreColor red' 24500
 over_all 'hiliteColor red' 24500
 over_all removeFormat 70300
+over_all 'formatBlock h1' 79300
+over_all justifyCenter 2700
+over_all indent 1060
+over_all outdent 2020
+
+# A page of one list of so many items of one text each.
+items() { # COUNT
+  awk -v n="$1" 'BEGIN {
+    printf "<div contenteditable=\"true\"><ul>"
+    for (k = 1; k <= n; k++) printf "<li>item %d</li>", k
+    printf "</ul></div>" }'
+}
+
+# A command over all of 500 and of 2,000 items.
+over_items() { # COMMAND
+  local small large last
+  items 500 > "$work/page"
+  last='item 500'
+  small=$(cost "select 0/0/0/0:0 0/0/499/0:${#last}" "exec $1")
+  items 2000 > "$work/page"
+  last='item 2000'
+  large=$(cost "select 0/0/0/0:0 0/0/1999/0:${#last}" "exec $1")
+  echo "$1: $small instructions over 500 items, $large over 2,000"
+  told "growth at four times as many" "$(ratio "$large" "$small")" 4.5
+}
+
+over_items indent
+over_items outdent
 
 # taking it off again, and taking it back
 paragraphs 500 > "$work/page"
@@ -85,6 +113,37 @@ one_word() { # ACT
 one_word 'exec bold'
 one_word 'query state bold'
 one_word 'query value foreColor'
+
+# a caret in a small and in a large page
+at_caret() { # COMMAND
+  local small large
+  paragraphs 500 > "$work/page"
+  small=$(cost "select 0/3/0:1 0/3/0:1" "exec $1")
+  paragraphs 150000 > "$work/page"
+  large=$(cost "select 0/3/0:1 0/3/0:1" "exec $1")
+  echo "$1 at a caret: $small instructions in a page of 1,000 nodes, $large in one of 300,000"
+  told "growth" "$(ratio "$large" "$small")" 1.3
+}
+
+at_caret 'formatBlock h1'
+at_caret justifyCenter
+at_caret indent
+at_caret outdent
+
+# a caret after so many siblings, whose index among them is counted
+after_siblings() { # COMMAND
+  local first last
+  paragraphs 2000 > "$work/page"
+  first=$(cost "select 0/3/0:1 0/3/0:1" "exec $1")
+  last=$(cost "select 0/1999/0:1 0/1999/0:1" "exec $1")
+  echo "$1 at a caret: $first instructions in the fourth paragraph of 2,000, $last in the last one"
+  told "instructions a sibling before it" "$(ratio "$((last - first))" 1996)" 15
+}
+
+after_siblings 'formatBlock h1'
+after_siblings justifyCenter
+after_siblings indent
+after_siblings outdent
 
 # one word below so many elements
 nested() { # DEPTH

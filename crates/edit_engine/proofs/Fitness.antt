@@ -4,14 +4,15 @@ use Rattle.std.specs.Prelude.{not, codes, if◌then◌else◌}
 use Rattle.html_names.specs.declared.commands.Command.{Command}
 use Rattle.html_names.specs.declared.commands.Command.TheVariants as command
 use Rattle.edit_model.specs.Action.{Flag}
-use Rattle.edit_model.specs.Run.{Run, ◌>>=◌, answer, done, look, given, set_flags}
-use Rattle.edit_model.specs.State.{State}
+use Rattle.edit_model.specs.Run.{Run, ◌>>=◌, answer, done, given, set_flags}
 use Rattle.edit_model.specs.declared.settings.Flags.{Flags}
 use Rattle.edit_laws.specs.Stateless.{Stateless}
 use Rattle.edit_laws.specs.Tame.{Tame}
 use Rattle.edit_laws.proofs.StatelessRuns.{stateless_answer, stateless_bind, stateless_look_at, stateless_if, stateless_given, stateless_perform}
 use Rattle.edit_laws.proofs.Tame.{tame_answer, tame_bind, tame_look, tame_if}
+use Rattle.command_laws.proofs.BlockRuns.{tame_format_block, stateless_format_block, tame_justify, stateless_justify}
 use Rattle.command_laws.proofs.FormatRuns.{tame_remove_format, stateless_remove_format}
+use Rattle.command_laws.proofs.IndentRuns.{tame_indent, stateless_indent, tame_outdent, stateless_outdent}
 use Rattle.command_laws.proofs.LinkingRuns.{tame_create_link, stateless_create_link, tame_unlink, stateless_unlink}
 use Rattle.command_laws.proofs.RestoringRuns.{tame_restore_states, stateless_restore_states}
 use Rattle.command_laws.proofs.TogglingRuns.{tame_toggle_style, stateless_toggle_style, tame_toggle_script, stateless_toggle_script, tame_apply_value, stateless_apply_value}
@@ -67,13 +68,13 @@ own_fit command.ForeColor value = keeper (stateless_apply_value command.ForeColo
 own_fit command.BackColor value = keeper (stateless_apply_value command.BackColor value) (tame_apply_value command.BackColor value)
 own_fit command.HiliteColor value = keeper (stateless_apply_value command.HiliteColor value) (tame_apply_value command.HiliteColor value)
 own_fit command.RemoveFormat value = keeper stateless_remove_format tame_remove_format
-own_fit command.FormatBlock value = unbuilt true
-own_fit command.JustifyLeft value = unbuilt true
-own_fit command.JustifyCenter value = unbuilt true
-own_fit command.JustifyRight value = unbuilt true
-own_fit command.JustifyFull value = unbuilt true
-own_fit command.Indent value = unbuilt true
-own_fit command.Outdent value = unbuilt true
+own_fit command.FormatBlock value = keeper (stateless_format_block value) (tame_format_block value)
+own_fit command.JustifyLeft value = keeper (stateless_justify (codes "left")) (tame_justify (codes "left"))
+own_fit command.JustifyCenter value = keeper (stateless_justify (codes "center")) (tame_justify (codes "center"))
+own_fit command.JustifyRight value = keeper (stateless_justify (codes "right")) (tame_justify (codes "right"))
+own_fit command.JustifyFull value = keeper (stateless_justify (codes "justify")) (tame_justify (codes "justify"))
+own_fit command.Indent value = keeper stateless_indent tame_indent
+own_fit command.Outdent value = keeper stateless_outdent tame_outdent
 own_fit command.Delete value = unbuilt false
 own_fit command.InsertText value = unbuilt false
 own_fit command.InsertParagraph value = unbuilt false

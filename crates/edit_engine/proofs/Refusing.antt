@@ -1,6 +1,6 @@
 -- Actions that answer false leave the state.
 use Rattle.std.proofs.Common.{◌≡◌, ℕ, Bool, true, false, true≢false, not, sym, ◌∙◌, List, [], ◌∷◌, Option, Some, None, refl, subst}
-use Rattle.std.specs.Prelude.{codes}
+use Rattle.std.specs.Prelude.{codes, if◌then◌else◌}
 use Rattle.html_names.specs.declared.commands.Command.{Command}
 use Rattle.html_names.specs.declared.commands.Command.TheVariants as command
 use Rattle.edit_model.specs.State.{State}
@@ -11,6 +11,11 @@ use Rattle.inline_value.specs.declared.overrides.Override.{Override}
 use Rattle.edit_engine.specs.Commands.{row_of, own_action, flags_taken, is_value, separator_set, set_css_styling, set_separator}
 use Rattle.edit_engine.specs.Refusals.{LeavesRefused, RefusalsLeave}
 use Rattle.edit_query.specs.Queries.{state_of}
+use Rattle.html_names.specs.ElementNames as names
+use Rattle.block_commands.specs.FormatBlock.{block_name, is_formatted, format_list, format_to, format_block}
+use Rattle.block_commands.specs.Gathered.{outermost}
+use Rattle.block_commands.specs.Justify.{clear_alignments, align_range, justify}
+use Rattle.list_indent.specs.Commands.{normalize_range, indent_gathered, indent, outdent_gathered, outdent}
 use Rattle.inline_value.specs.Selections.{split_ends, set_value}
 use Rattle.inline_commands.specs.Linking.{relink_range, link_range, create_link}
 use Rattle.inline_commands.specs.RemovingFormat.{unwrap_candidates, part_nodes, clear_commands, remove_format}
@@ -33,6 +38,10 @@ leaves_look k h s refused = h s s refused
 leaves_given : {A : Type 0} (o : Option A) (f : A → Run Bool) → ((a : A) → LeavesRefused (f a)) → LeavesRefused (given o (answer false) f)
 leaves_given None f h = leaves_false
 leaves_given (Some a) f h = h a
+
+leaves_if : (b : Bool) (m : Run Bool) → LeavesRefused m → LeavesRefused (if b then m else answer false)
+leaves_if true m h = h
+leaves_if false m h = leaves_false
 
 -- a run that answers true, whatever went before
 abbrev AnswersTrue : Run Bool → Type 0
@@ -92,6 +101,31 @@ leaves_format =
     leaves_taken (unwrap_candidates >> splits)
     (true_after unwrap_candidates splits (true_after split_ends parts (true_after part_nodes clears (true_last clear_commands))))
 
+leaves_block_to : (name : List ℕ) → LeavesRefused (format_to name)
+unfolding format_to
+leaves_block_to name =
+    leaves_look (λ s. format_list name (outermost (is_formatted s) s) >> answer true) (λ t. leaves_true (format_list name (outermost (is_formatted t) t)))
+
+leaves_block : (v : List ℕ) → LeavesRefused (format_block v)
+unfolding format_block
+leaves_block v = leaves_if (names.is_formattable_block (block_name v)) (format_to (block_name v)) (leaves_block_to (block_name v))
+
+-- two runs, and then true
+leaves_two : (m n : Run (Unit {0})) → LeavesRefused (m >> (n >> answer true))
+leaves_two m n = leaves_taken (m >> (n >> answer true)) (true_after m (n >> answer true) (true_last n))
+
+leaves_justify : (alignment : List ℕ) → LeavesRefused (justify alignment)
+unfolding justify
+leaves_justify alignment = leaves_two clear_alignments (align_range alignment)
+
+leaves_indent : LeavesRefused indent
+unfolding indent
+leaves_indent = leaves_two normalize_range indent_gathered
+
+leaves_outdent : LeavesRefused outdent
+unfolding outdent
+leaves_outdent = leaves_two normalize_range outdent_gathered
+
 leaves_css_styling : (on : Bool) → LeavesRefused (set_css_styling on)
 unfolding set_css_styling
 leaves_css_styling on = leaves_look (λ s. flags_taken (record s.flags { css_styling = on })) (λ t. leaves_true (set_flags (record t.flags { css_styling = on })))
@@ -130,6 +164,13 @@ own_refusals command.ForeColor v = leaves_value command.ForeColor v
 own_refusals command.BackColor v = leaves_value command.BackColor v
 own_refusals command.HiliteColor v = leaves_value command.HiliteColor v
 own_refusals command.RemoveFormat v = leaves_format
+own_refusals command.FormatBlock v = leaves_block v
+own_refusals command.JustifyLeft v = leaves_justify (codes "left")
+own_refusals command.JustifyCenter v = leaves_justify (codes "center")
+own_refusals command.JustifyRight v = leaves_justify (codes "right")
+own_refusals command.JustifyFull v = leaves_justify (codes "justify")
+own_refusals command.Indent v = leaves_indent
+own_refusals command.Outdent v = leaves_outdent
 own_refusals command.StyleWithCss v = leaves_css_styling (not (is_value v (codes "false")))
 own_refusals command.UseCss v = leaves_css_styling (is_value v (codes "false"))
 own_refusals command.DefaultParagraphSeparator v = leaves_separator v

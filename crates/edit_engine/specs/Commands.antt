@@ -10,11 +10,14 @@ use Rattle.edit_model.specs.declared.settings.Flags.{Flags}
 use Rattle.edit_engine.specs.declared.commands.Row.{Row}
 use Rattle.edit_actions.specs.ActiveRange.{affected_host}
 use Rattle.edit_engine.specs.Framing.{framed}
+use Rattle.block_commands.specs.FormatBlock.{format_block}
+use Rattle.block_commands.specs.Justify.{justify}
 use Rattle.inline_commands.specs.Linking.{create_link}
 use Rattle.inline_commands.specs.RemovingFormat.{remove_format}
 use Rattle.inline_commands.specs.Toggling.{toggle_style, toggle_script}
 use Rattle.inline_commands.specs.Unlink.{unlink}
 use Rattle.inline_commands.specs.ValueCommands.{apply_value}
+use Rattle.list_indent.specs.Commands.{indent, outdent}
 
 -- ---- one row a command
 
@@ -94,6 +97,13 @@ action command.ForeColor = Some (apply_value command.ForeColor)
 action command.BackColor = Some (apply_value command.BackColor)
 action command.HiliteColor = Some (apply_value command.HiliteColor)
 action command.RemoveFormat = Some (λ value. remove_format)
+action command.FormatBlock = Some format_block
+action command.JustifyLeft = Some (λ value. justify (codes "left"))
+action command.JustifyCenter = Some (λ value. justify (codes "center"))
+action command.JustifyRight = Some (λ value. justify (codes "right"))
+action command.JustifyFull = Some (λ value. justify (codes "justify"))
+action command.Indent = Some (λ value. indent)
+action command.Outdent = Some (λ value. outdent)
 action command.StyleWithCss = Some (λ value. set_css_styling (not (is_value value (codes "false"))))
 action command.UseCss = Some (λ value. set_css_styling (is_value value (codes "false")))
 action command.DefaultParagraphSeparator = Some set_separator

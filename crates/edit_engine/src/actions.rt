@@ -9,6 +9,8 @@ ghost use Rattle.edit_engine.specs.Framing.{is_collapsed, restore_collapsed, giv
 ghost use Rattle.edit_engine.specs.Running.{Ran};
 
 use crate::commands::{is_value, row_of};
+use block_commands::{format_block, justify};
+use css_value::TextAlign;
 use edit_actions::affected_host;
 use edit_doc::{Doc, EditFault, Flags};
 use html_names::Command;
@@ -16,6 +18,7 @@ use inline_commands::{
     apply_value, create_link, remove_format, restore_states, toggle_script, toggle_style, unlink,
 };
 use inline_value::{Overrides, record_overrides};
+use list_indent::{indent, outdent};
 use std::alloc::Global;
 
 #[tactic(auto, using(edit_model::proofs::Steps::actions), unfolding(crate::specs::Commands::set_css_styling))]
@@ -72,6 +75,13 @@ fn act(alloc: Global, doc: &mut Doc, command: Command, value: &[char]) -> Result
         | Command::BackColor
         | Command::HiliteColor => apply_value(alloc, doc, value, command),
         Command::RemoveFormat => remove_format(alloc, doc),
+        Command::FormatBlock => format_block(alloc, doc, value),
+        Command::JustifyLeft => justify(alloc, doc, TextAlign::Left),
+        Command::JustifyCenter => justify(alloc, doc, TextAlign::Center),
+        Command::JustifyRight => justify(alloc, doc, TextAlign::Right),
+        Command::JustifyFull => justify(alloc, doc, TextAlign::Justify),
+        Command::Indent => indent(alloc, doc),
+        Command::Outdent => outdent(alloc, doc),
         Command::StyleWithCss => set_css_styling(doc, !is_value(value, b"false")),
         Command::UseCss => set_css_styling(doc, is_value(value, b"false")),
         Command::DefaultParagraphSeparator => set_separator(doc, value),

@@ -85,6 +85,13 @@ pub(crate) fn is_supported(command: Command) -> bool
         | Command::BackColor
         | Command::HiliteColor
         | Command::RemoveFormat => true,
+        Command::FormatBlock
+        | Command::JustifyLeft
+        | Command::JustifyCenter
+        | Command::JustifyRight
+        | Command::JustifyFull
+        | Command::Indent
+        | Command::Outdent => true,
         Command::StyleWithCss | Command::UseCss | Command::DefaultParagraphSeparator => true,
         _ => false,
     }

@@ -7,6 +7,8 @@
 mod acts;
 mod block;
 #[cfg(test)]
+mod block_tests;
+#[cfg(test)]
 mod editing_tests;
 #[cfg(test)]
 mod formatting_tests;

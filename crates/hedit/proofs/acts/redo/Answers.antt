@@ -1,6 +1,6 @@
-use Rattle.std.proofs.Common.{◌≡◌, ◌<◌, ◌≤◌, ◌+◌, ◌-◌, suc, length, sym, ap, ◌∙◌, subst, arith, refl}
+use Rattle.std.proofs.Common.{◌≡◌, ◌<◌, ◌+◌, ◌-◌, length, sym, ◌∙◌, arith}
 use Rattle.std.specs.Prelude.{min}
-use Rattle.edit_engine.specs.Editing.{Editing, turned, redone}
+use Rattle.edit_engine.specs.Editing.{redone}
 use Rattle.hedit.proofs.Turns.{turn_more, turn_none, redone_length, redone_none, one_left, none_left, none_there, none_of}
 use Rattle.hedit.proofs.acts.redo.Goals as goal
 

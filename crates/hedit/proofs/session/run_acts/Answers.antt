@@ -1,4 +1,4 @@
-use Rattle.std.proofs.Common.{◌≡◌, ◌+◌, take, drop, arith}
+use Rattle.std.proofs.Common.{◌+◌, take, drop, arith}
 use Rattle.hedit.proofs.Runs.{so_far-start, so_far-more, so_far-ends, so_far-whole, acts_parted, some_left, none_left}
 use Rattle.hedit.proofs.session.run_acts.Goals as goal
 
