@@ -1,192 +1,134 @@
 //! Commands on inline values: each row of a table is what an editing host holds, the ends of a range by labels (1 is the host),
 //! a command and its value, what it answers, and what the host then holds.
 
-ghost use Rattle.edit_doc.specs.Whole.{IsClosed, IsOpen};
+ghost use Rattle.edit_doc.specs.Whole.{IsOpen};
 
-use super::pages::{begin, document_of, page_of};
-use edit_doc::{Doc, EditFault, Point, Setting};
+use super::pages::{Act, Row, assert_rows, chars, point};
+use edit_doc::{Doc, EditFault, Setting};
 use html_names::Command;
 use inline_commands::{
     apply_value, create_link, remove_format, restore_states, toggle_script, toggle_style, unlink,
 };
 use inline_value::record_states;
-use page_write::write_html;
-use std::alloc::{AllocError, Global};
+use std::alloc::Global;
 use std::test::Fail;
 
-type Row = (
-    &'static str,
-    (u32, u32),
-    (u32, u32),
-    Command,
-    &'static str,
-    bool,
-    &'static str,
-);
+// The action of a command with a value on a range, and what it answers.
+struct Action((u32, u32), (u32, u32), Command, &'static str, bool);
 
-static ROWS: [Row; 20] = [
+static ROWS: [Row<Action>; 20] = [
     // 2 p (3 "foobar")
-    (
+    Row(
         "<p>foobar</p>",
-        (3, 1),
-        (3, 4),
-        Command::Bold,
-        "",
-        true,
+        Action((3, 1), (3, 4), Command::Bold, "", true),
         "<p>f<b>oob</b>ar</p>",
     ),
     // 2 p (3 "f", 4 b (5 "oob"), 6 "ar")
-    (
+    Row(
         "<p>f<b>oob</b>ar</p>",
-        (5, 0),
-        (5, 3),
-        Command::Bold,
-        "",
-        true,
+        Action((5, 0), (5, 3), Command::Bold, "", true),
         "<p>foobar</p>",
     ),
-    (
+    Row(
         "<p>foobar</p>",
-        (3, 6),
-        (3, 0),
-        Command::Italic,
-        "",
-        true,
+        Action((3, 6), (3, 0), Command::Italic, "", true),
         "<p><i>foobar</i></p>",
     ),
-    (
+    Row(
         "<u>ab</u>",
-        (3, 0),
-        (3, 1),
-        Command::Underline,
-        "",
-        true,
+        Action((3, 0), (3, 1), Command::Underline, "", true),
         "a<u>b</u>",
     ),
-    (
+    Row(
         "ab",
-        (2, 1),
-        (2, 2),
-        Command::Strikethrough,
-        "",
-        true,
+        Action((2, 1), (2, 2), Command::Strikethrough, "", true),
         "a<s>b</s>",
     ),
-    ("ab", (2, 1), (2, 1), Command::Strikethrough, "", true, "ab"),
-    (
+    Row(
+        "ab",
+        Action((2, 1), (2, 1), Command::Strikethrough, "", true),
+        "ab",
+    ),
+    Row(
         "<sup>a</sup>",
-        (3, 0),
-        (3, 1),
-        Command::Subscript,
-        "",
-        true,
+        Action((3, 0), (3, 1), Command::Subscript, "", true),
         "<sub>a</sub>",
     ),
-    (
+    Row(
         "<sup>a</sup>",
-        (3, 0),
-        (3, 1),
-        Command::Superscript,
-        "",
-        true,
+        Action((3, 0), (3, 1), Command::Superscript, "", true),
         "a",
     ),
-    (
+    Row(
         "foo",
-        (2, 0),
-        (2, 3),
-        Command::CreateLink,
-        "v",
-        true,
+        Action((2, 0), (2, 3), Command::CreateLink, "v", true),
         "<a href=\"v\">foo</a>",
     ),
-    ("foo", (2, 0), (2, 3), Command::CreateLink, "", false, "foo"),
+    Row(
+        "foo",
+        Action((2, 0), (2, 3), Command::CreateLink, "", false),
+        "foo",
+    ),
     // 2 a (3 "ab", 4 b (5 "c"))
-    (
+    Row(
         "<a href=\"u\">ab<b>c</b></a>",
-        (3, 0),
-        (5, 1),
-        Command::CreateLink,
-        "v",
-        true,
+        Action((3, 0), (5, 1), Command::CreateLink, "v", true),
         "<a href=\"v\">ab<b>c</b></a>",
     ),
-    (
+    Row(
         "<p><a href=\"u\">x</a></p>",
-        (4, 1),
-        (4, 1),
-        Command::Unlink,
-        "",
-        true,
+        Action((4, 1), (4, 1), Command::Unlink, "", true),
         "<p>x</p>",
     ),
-    (
+    Row(
         "<i><b>a</b>c</i>",
-        (4, 0),
-        (4, 1),
-        Command::RemoveFormat,
-        "",
-        true,
+        Action((4, 0), (4, 1), Command::RemoveFormat, "", true),
         "a<i>c</i>",
     ),
-    (
+    Row(
         "x",
-        (2, 0),
-        (2, 1),
-        Command::FontName,
-        "Arial",
-        true,
+        Action((2, 0), (2, 1), Command::FontName, "Arial", true),
         "<font face=\"Arial\">x</font>",
     ),
-    (
+    Row(
         "x",
-        (2, 0),
-        (2, 1),
-        Command::FontSize,
-        " +1 ",
-        true,
+        Action((2, 0), (2, 1), Command::FontSize, " +1 ", true),
         "<font size=\"4\">x</font>",
     ),
-    ("x", (2, 0), (2, 1), Command::FontSize, "1e", false, "x"),
-    (
+    Row(
         "x",
-        (2, 0),
-        (2, 1),
-        Command::ForeColor,
-        "f00",
-        true,
+        Action((2, 0), (2, 1), Command::FontSize, "1e", false),
+        "x",
+    ),
+    Row(
+        "x",
+        Action((2, 0), (2, 1), Command::ForeColor, "f00", true),
         "<font color=\"#ff0000\">x</font>",
     ),
-    ("x", (2, 0), (2, 1), Command::ForeColor, "zz", false, "x"),
-    (
+    Row(
         "x",
-        (2, 0),
-        (2, 1),
-        Command::HiliteColor,
-        "red",
-        true,
+        Action((2, 0), (2, 1), Command::ForeColor, "zz", false),
+        "x",
+    ),
+    Row(
+        "x",
+        Action((2, 0), (2, 1), Command::HiliteColor, "red", true),
         "<span style=\"background-color: red;\">x</span>",
     ),
-    ("x", (2, 0), (2, 1), Command::Delete, "", false, "x"),
+    Row("x", Action((2, 0), (2, 1), Command::Delete, "", false), "x"),
 ];
 
-fn point(at: (u32, u32)) -> Point {
-    Point {
-        label: at.0,
-        offset: at.1,
+impl Act for Action {
+    fn act(&self, alloc: Global, doc: &mut Doc) -> Result<bool, Fail> {
+        let Action(anchor, focus, command, value, answer) = self;
+        doc.select(point(*anchor), point(*focus));
+        let value = chars(alloc, value)?;
+        Ok(takes(alloc, doc, *command, &value)? == *answer)
     }
 }
 
-fn chars(alloc: Global, text: &str) -> Result<Vec<char>, AllocError> {
-    let mut list = Vec::new(alloc);
-    for char in text.chars() {
-        list.push(char)?;
-    }
-    Ok(list)
-}
-
-// The action of a command.
-fn act(alloc: Global, doc: &mut Doc, command: Command, value: &[char]) -> Result<bool, EditFault>
+// The answer of a command.
+fn takes(alloc: Global, doc: &mut Doc, command: Command, value: &[char]) -> Result<bool, EditFault>
     requires { IsOpen doc.old }
 {
     match command {
@@ -201,89 +143,54 @@ fn act(alloc: Global, doc: &mut Doc, command: Command, value: &[char]) -> Result
     }
 }
 
-// Whether the host holds this.
-fn holds(alloc: Global, doc: &Doc, inner: &str) -> Result<bool, AllocError> {
-    let page = page_of(alloc, inner)?;
-    let written = write_html(alloc, doc.arena())?;
-    Ok(written.as_slice() == page.as_bytes())
-}
-
-fn does_so(alloc: Global, doc: &mut Doc, row: &Row) -> Result<bool, Fail>
-    requires { IsClosed doc.old }
-{
-    let (_, anchor, focus, command, value, answer, wanted) = row;
-    doc.select(point(*anchor), point(*focus));
-    begin(doc)?;
-    let value = chars(alloc, value)?;
-    let answered = act(alloc, doc, *command, &value)?;
-    Ok(answered == *answer && holds(alloc, doc, wanted)?)
-}
-
-fn does(alloc: Global, row: &Row) -> Result<bool, Fail> {
-    let page = page_of(alloc, row.0)?;
-    let mut doc = document_of(alloc, page.as_str())?;
-    does_so(alloc, &mut doc, row)
-}
-
 #[test]
 fn commands_change_pages(rt: HostRuntime) -> Result<(), Fail> {
-    let alloc = rt.alloc();
-    for row in &ROWS {
-        assert!(rt; does(alloc, row)?);
+    assert_rows(&rt, rt.alloc(), &ROWS)
+}
+
+// Records the states and values of "ab", which is bold, and restores them at a range. A caret gets the overrides, or there are
+// none.
+struct Restore {
+    from: (u32, u32),
+    to: (u32, u32),
+    is_override: bool,
+}
+
+// 2 b (3 "ab"), 4 "cd"
+static RESTORED: [Row<Restore>; 2] = [
+    Row(
+        "<b>ab</b>cd",
+        Restore {
+            from: (4, 0),
+            to: (4, 2),
+            is_override: false,
+        },
+        "<b>abcd</b>",
+    ),
+    Row(
+        "<b>ab</b>cd",
+        Restore {
+            from: (4, 1),
+            to: (4, 1),
+            is_override: true,
+        },
+        "<b>ab</b>cd",
+    ),
+];
+
+impl Act for Restore {
+    fn act(&self, alloc: Global, doc: &mut Doc) -> Result<bool, Fail> {
+        doc.select(point((3, 0)), point((3, 2)));
+        let list = record_states(alloc, doc)?;
+        doc.select(point(self.from), point(self.to));
+        restore_states(alloc, doc, &list)?;
+        let bold = matches!(doc.setting(Command::Bold), Setting::On);
+        let italic = matches!(doc.setting(Command::Italic), Setting::Off);
+        Ok(bold == self.is_override && italic == self.is_override)
     }
-    Ok(())
-}
-
-// Records the states and values of one range, and restores them at another.
-fn restores(
-    alloc: Global,
-    doc: &mut Doc,
-    from: ((u32, u32), (u32, u32)),
-    to: ((u32, u32), (u32, u32)),
-) -> Result<(), Fail>
-    requires { IsClosed doc.old }
-{
-    doc.select(point(from.0), point(from.1));
-    begin(doc)?;
-    let list = record_states(alloc, doc)?;
-    doc.select(point(to.0), point(to.1));
-    Ok(restore_states(alloc, doc, &list)?)
-}
-
-// Where a range has a formattable node, the values come to it; where it is a caret, its overrides are set. The states are those of
-// "ab", which is bold.
-fn restores_at(
-    alloc: Global,
-    doc: &mut Doc,
-    to: ((u32, u32), (u32, u32)),
-    wanted: &str,
-    is_override: bool,
-) -> Result<bool, Fail>
-    requires { IsClosed doc.old }
-{
-    restores(alloc, doc, ((3, 0), (3, 2)), to)?;
-    let bold = matches!(doc.setting(Command::Bold), Setting::On);
-    let italic = matches!(doc.setting(Command::Italic), Setting::Off);
-    Ok(holds(alloc, doc, wanted)? && bold == is_override && italic == is_override)
-}
-
-// What the host holds once the states are restored at a range.
-fn restored(
-    alloc: Global,
-    to: ((u32, u32), (u32, u32)),
-    wanted: &str,
-    is_override: bool,
-) -> Result<bool, Fail> {
-    // 2 b (3 "ab"), 4 "cd"
-    let page = page_of(alloc, "<b>ab</b>cd")?;
-    let mut doc = document_of(alloc, page.as_str())?;
-    restores_at(alloc, &mut doc, to, wanted, is_override)
 }
 
 #[test]
 fn states_are_restored(rt: HostRuntime) -> Result<(), Fail> {
-    let alloc = rt.alloc();
-    assert!(rt; restored(alloc, ((4, 0), (4, 2)), "<b>abcd</b>", false)?);
-    assert!(rt; restored(alloc, ((4, 1), (4, 1)), "<b>ab</b>cd", true)?);
-    Ok(())
+    assert_rows(&rt, rt.alloc(), &RESTORED)
 }

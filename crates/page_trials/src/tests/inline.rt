@@ -3,22 +3,21 @@
 
 ghost use Rattle.std.specs.Prelude.{IfOk};
 ghost use Rattle.edit_doc.specs.Held.{EachHeld, Holds};
-ghost use Rattle.edit_doc.specs.Whole.{IsClosed, IsOpen};
+ghost use Rattle.edit_doc.specs.Whole.{IsOpen};
 
-use super::pages::{begin, document_of, node_of, page_of};
-use edit_doc::{Doc, EditFault, NodeRef, Point};
+use super::pages::{Act, Row, assert_rows, chars, node_of, point};
+use edit_doc::{Doc, EditFault, NodeRef};
 use html_names::Command;
 use inline_value::{
     clear_value, fix_ancestors, force, push_down, record_values, reorder, restore_values, set_value,
 };
-use page_write::write_html;
 use std::alloc::{AllocError, Global};
 use std::test::Fail;
 use wrap_split::remove_keeping_children;
 
 // What is done to a node.
 #[derive(Clone, Copy)]
-enum Act {
+enum How {
     Clear,
     Force,
     Push,
@@ -30,430 +29,302 @@ enum Act {
     Set { from: u32, to: u32 },
 }
 
-// What the host holds, an act on the node of a label, a command with a value, null where it is none, and what it then holds.
-type Row = (
-    &'static str,
-    Act,
-    u32,
-    Command,
-    Option<&'static str>,
-    &'static str,
-);
+// A change of the node of a label, for a command and a value, None where it is null.
+struct Change(How, u32, Command, Option<&'static str>);
 
-static ROWS: [Row; 55] = [
+static ROWS: [Row<Change>; 55] = [
     // an element that does nothing else gives way, another one loses what it says, or becomes a span
-    ("<b>a</b>", Act::Clear, 2, Command::Bold, None, "a"),
-    (
+    Row("<b>a</b>", Change(How::Clear, 2, Command::Bold, None), "a"),
+    Row(
         "<b class=\"c\">a</b>",
-        Act::Clear,
-        2,
-        Command::Bold,
-        None,
+        Change(How::Clear, 2, Command::Bold, None),
         "<span class=\"c\">a</span>",
     ),
-    (
+    Row(
         "<span style=\"font-weight: bold; color: red\">a</span>",
-        Act::Clear,
-        2,
-        Command::Bold,
-        None,
+        Change(How::Clear, 2, Command::Bold, None),
         "<span style=\"color: red;\">a</span>",
     ),
-    (
+    Row(
         "<font color=\"red\" size=\"5\">a</font>",
-        Act::Clear,
-        2,
-        Command::ForeColor,
-        None,
+        Change(How::Clear, 2, Command::ForeColor, None),
         "<font size=\"5\">a</font>",
     ),
-    (
+    Row(
         "<a href=\"u\" class=\"c\">a</a>",
-        Act::Clear,
-        2,
-        Command::CreateLink,
-        None,
+        Change(How::Clear, 2, Command::CreateLink, None),
         "<a class=\"c\">a</a>",
     ),
-    (
+    Row(
         "<u style=\"text-decoration: underline  line-through\">a</u>",
-        Act::Clear,
-        2,
-        Command::Underline,
-        None,
+        Change(How::Clear, 2, Command::Underline, None),
         "<u style=\"text-decoration: line-through;\">a</u>",
     ),
     // an island keeps its value, and so does an element that gives none
-    (
+    Row(
         "<b contenteditable=\"false\">a</b>",
-        Act::Clear,
-        2,
-        Command::Bold,
-        None,
+        Change(How::Clear, 2, Command::Bold, None),
         "<b contenteditable=\"false\">a</b>",
     ),
-    (
+    Row(
         "<b><i>a</i></b>",
-        Act::Clear,
-        2,
-        Command::Italic,
-        None,
+        Change(How::Clear, 2, Command::Italic, None),
         "<b><i>a</i></b>",
     ),
     // values of ancestors go to the other children
-    (
+    Row(
         "<b>a<i>b<u>c</u></i></b>",
-        Act::Push,
-        7,
-        Command::Bold,
-        None,
+        Change(How::Push, 7, Command::Bold, None),
         "<b>a</b><i><b>b</b><u>c</u></i>",
     ),
-    (
+    Row(
         "<b>a<i>b</i></b>",
-        Act::Push,
-        4,
-        Command::Bold,
-        None,
+        Change(How::Push, 4, Command::Bold, None),
         "<b>a</b><i>b</i>",
     ),
-    (
+    Row(
         "<font color=\"red\">a<b>b</b></font>",
-        Act::Push,
-        5,
-        Command::ForeColor,
-        None,
+        Change(How::Push, 5, Command::ForeColor, None),
         "<font color=\"#ff0000\">a</font><b>b</b>",
     ),
-    ("<p>a</p>", Act::Push, 3, Command::Bold, None, "<p>a</p>"),
-    (
+    Row(
+        "<p>a</p>",
+        Change(How::Push, 3, Command::Bold, None),
+        "<p>a</p>",
+    ),
+    Row(
         "<b contenteditable=\"false\">a</b>",
-        Act::Push,
-        3,
-        Command::Bold,
-        None,
+        Change(How::Push, 3, Command::Bold, None),
         "<b contenteditable=\"false\">a</b>",
     ),
     // a modifiable element with the value comes to the outside of a chain
-    (
+    Row(
         "<i><b>x</b></i>",
-        Act::Reorder,
-        2,
-        Command::Bold,
-        Some("bold"),
+        Change(How::Reorder, 2, Command::Bold, Some("bold")),
         "<b><i>x</i></b>",
     ),
-    (
+    Row(
         "<i><u><b>x</b></u></i>",
-        Act::Reorder,
-        2,
-        Command::Bold,
-        Some("bold"),
+        Change(How::Reorder, 2, Command::Bold, Some("bold")),
         "<b><i><u>x</u></i></b>",
     ),
-    (
+    Row(
         "<b>x</b>",
-        Act::Reorder,
-        2,
-        Command::Bold,
-        Some("bold"),
+        Change(How::Reorder, 2, Command::Bold, Some("bold")),
         "<b>x</b>",
     ),
-    (
+    Row(
         "<i><b>x</b>y</i>",
-        Act::Reorder,
-        2,
-        Command::Bold,
-        Some("bold"),
+        Change(How::Reorder, 2, Command::Bold, Some("bold")),
         "<i><b>x</b>y</i>",
     ),
-    (
+    Row(
         "<i class=\"c\"><b>x</b></i>",
-        Act::Reorder,
-        2,
-        Command::Bold,
-        Some("bold"),
+        Change(How::Reorder, 2, Command::Bold, Some("bold")),
         "<i class=\"c\"><b>x</b></i>",
     ),
     // a value is forced by a sibling that has it, or by a new element
-    ("x", Act::Force, 2, Command::Bold, Some("bold"), "<b>x</b>"),
-    (
+    Row(
+        "x",
+        Change(How::Force, 2, Command::Bold, Some("bold")),
+        "<b>x</b>",
+    ),
+    Row(
         "<b>x</b>y",
-        Act::Force,
-        4,
-        Command::Bold,
-        Some("bold"),
+        Change(How::Force, 4, Command::Bold, Some("bold")),
         "<b>xy</b>",
     ),
-    (
+    Row(
         "y<b>x</b>",
-        Act::Force,
-        2,
-        Command::Bold,
-        Some("bold"),
+        Change(How::Force, 2, Command::Bold, Some("bold")),
         "<b>yx</b>",
     ),
-    (
+    Row(
         "<i><b>x</b></i>y",
-        Act::Force,
-        5,
-        Command::Bold,
-        Some("bold"),
+        Change(How::Force, 5, Command::Bold, Some("bold")),
         "<b><i>x</i>y</b>",
     ),
-    (
+    Row(
         "x",
-        Act::Force,
-        2,
-        Command::Italic,
-        Some("italic"),
+        Change(How::Force, 2, Command::Italic, Some("italic")),
         "<i>x</i>",
     ),
-    (
+    Row(
         "x",
-        Act::Force,
-        2,
-        Command::Strikethrough,
-        Some("line-through"),
+        Change(How::Force, 2, Command::Strikethrough, Some("line-through")),
         "<s>x</s>",
     ),
-    (
+    Row(
         "x",
-        Act::Force,
-        2,
-        Command::Subscript,
-        Some("subscript"),
+        Change(How::Force, 2, Command::Subscript, Some("subscript")),
         "<sub>x</sub>",
     ),
-    (
+    Row(
         "x",
-        Act::Force,
-        2,
-        Command::FontName,
-        Some("Arial"),
+        Change(How::Force, 2, Command::FontName, Some("Arial")),
         "<font face=\"Arial\">x</font>",
     ),
-    (
+    Row(
         "x",
-        Act::Force,
-        2,
-        Command::FontSize,
-        Some("large"),
+        Change(How::Force, 2, Command::FontSize, Some("large")),
         "<font size=\"4\">x</font>",
     ),
-    (
+    Row(
         "x",
-        Act::Force,
-        2,
-        Command::FontSize,
-        Some("20px"),
+        Change(How::Force, 2, Command::FontSize, Some("20px")),
         "<span style=\"font-size: 20px;\">x</span>",
     ),
-    (
+    Row(
         "x",
-        Act::Force,
-        2,
-        Command::ForeColor,
-        Some("rgb(0, 128, 255)"),
+        Change(How::Force, 2, Command::ForeColor, Some("rgb(0, 128, 255)")),
         "<font color=\"#0080ff\">x</font>",
     ),
-    (
+    Row(
         "x",
-        Act::Force,
-        2,
-        Command::HiliteColor,
-        Some("red"),
+        Change(How::Force, 2, Command::HiliteColor, Some("red")),
         "<span style=\"background-color: red;\">x</span>",
     ),
-    (
+    Row(
         "<a href=\"u\">x</a>",
-        Act::Force,
-        3,
-        Command::CreateLink,
-        Some("v"),
+        Change(How::Force, 3, Command::CreateLink, Some("v")),
         "<span href=\"u\"><a href=\"v\">x</a></span>",
     ),
     // a block hands it to its children, and so does an element that keeps another value
-    (
+    Row(
         "<p>a</p>",
-        Act::Force,
-        2,
-        Command::Bold,
-        Some("bold"),
+        Change(How::Force, 2, Command::Bold, Some("bold")),
         "<p><b>a</b></p>",
     ),
-    (
+    Row(
         "<b style=\"font-weight: normal\">x</b>",
-        Act::Force,
-        2,
-        Command::Bold,
-        Some("bold"),
+        Change(How::Force, 2, Command::Bold, Some("bold")),
         "<b style=\"font-weight: normal\"><b>x</b></b>",
     ),
-    (
+    Row(
         "<p>a<i style=\"font-weight: normal\">b</i></p>",
-        Act::Force,
-        2,
-        Command::Bold,
-        Some("bold"),
+        Change(How::Force, 2, Command::Bold, Some("bold")),
         "<p><b>a</b><i style=\"font-weight: normal\">b</i></p>",
     ),
     // nothing is done inside an island, to what has the value, or to what doesn't show
-    (
+    Row(
         "<div contenteditable=\"false\">x</div>",
-        Act::Force,
-        2,
-        Command::Bold,
-        Some("bold"),
+        Change(How::Force, 2, Command::Bold, Some("bold")),
         "<div contenteditable=\"false\">x</div>",
     ),
-    (
+    Row(
         "<span contenteditable=\"false\">x</span>",
-        Act::Force,
-        2,
-        Command::Bold,
-        Some("bold"),
+        Change(How::Force, 2, Command::Bold, Some("bold")),
         "<b><span contenteditable=\"false\">x</span></b>",
     ),
-    (
+    Row(
         "<b>x</b>",
-        Act::Force,
-        3,
-        Command::Bold,
-        Some("bold"),
+        Change(How::Force, 3, Command::Bold, Some("bold")),
         "<b>x</b>",
     ),
-    (
+    Row(
         "<p>a<br></p>",
-        Act::Force,
-        4,
-        Command::Bold,
-        Some("bold"),
+        Change(How::Force, 4, Command::Bold, Some("bold")),
         "<p>a<br></p>",
     ),
-    ("x", Act::Force, 2, Command::Bold, None, "x"),
+    Row("x", Change(How::Force, 2, Command::Bold, None), "x"),
     // recorded values come back where the parent is gone
-    ("<b>x</b>", Act::Restore, 3, Command::Bold, None, "<b>x</b>"),
-    (
+    Row(
+        "<b>x</b>",
+        Change(How::Restore, 3, Command::Bold, None),
+        "<b>x</b>",
+    ),
+    Row(
         "<font color=\"red\" size=\"5\">x</font>",
-        Act::Restore,
-        3,
-        Command::Bold,
-        None,
+        Change(How::Restore, 3, Command::Bold, None),
         "<font size=\"5\"><font color=\"#ff0000\">x</font></font>",
     ),
-    (
+    Row(
         "<b><i>x</i></b>",
-        Act::Restore,
-        4,
-        Command::Bold,
-        None,
+        Change(How::Restore, 4, Command::Bold, None),
         "<b><i>x</i></b>",
     ),
-    ("<p>x</p>", Act::Restore, 3, Command::Bold, None, "x"),
+    Row(
+        "<p>x</p>",
+        Change(How::Restore, 3, Command::Bold, None),
+        "x",
+    ),
     // a node leaves ancestors in which it may not stand, or is renamed
-    (
+    Row(
         "<p>a<p>b</p>c</p>",
-        Act::FixAncestors,
-        4,
-        Command::Bold,
-        None,
+        Change(How::FixAncestors, 4, Command::Bold, None),
         "<p>a</p><p>b</p><p>c</p>",
     ),
-    (
+    Row(
         "<b>a<p>b</p></b>",
-        Act::FixAncestors,
-        4,
-        Command::Bold,
-        None,
+        Change(How::FixAncestors, 4, Command::Bold, None),
         "<b>a</b><p><b>b</b></p>",
     ),
-    (
+    Row(
         "<dd>x</dd>",
-        Act::FixAncestors,
-        2,
-        Command::Bold,
-        None,
+        Change(How::FixAncestors, 2, Command::Bold, None),
         "<dl><dd>x</dd></dl>",
     ),
-    (
+    Row(
         "<li>x</li>",
-        Act::FixAncestors,
-        2,
-        Command::Bold,
-        None,
+        Change(How::FixAncestors, 2, Command::Bold, None),
         "<div>x</div>",
     ),
-    (
+    Row(
         "<li>x<p>y</p></li>",
-        Act::FixAncestors,
-        2,
-        Command::Bold,
-        None,
+        Change(How::FixAncestors, 2, Command::Bold, None),
         "<div>x</div><p>y</p>",
     ),
-    (
+    Row(
         "<p>a</p>",
-        Act::FixAncestors,
-        2,
-        Command::Bold,
-        None,
+        Change(How::FixAncestors, 2, Command::Bold, None),
         "<p>a</p>",
     ),
     // what is selected gets the value
-    (
+    Row(
         "foobar",
-        Act::Set { from: 1, to: 4 },
-        2,
-        Command::Bold,
-        Some("bold"),
+        Change(How::Set { from: 1, to: 4 }, 2, Command::Bold, Some("bold")),
         "f<b>oob</b>ar",
     ),
-    (
+    Row(
         "foobar",
-        Act::Set { from: 0, to: 6 },
-        2,
-        Command::Bold,
-        Some("bold"),
+        Change(How::Set { from: 0, to: 6 }, 2, Command::Bold, Some("bold")),
         "<b>foobar</b>",
     ),
-    (
+    Row(
         "<b>foobar</b>",
-        Act::Set { from: 1, to: 4 },
-        3,
-        Command::Bold,
-        Some("normal"),
+        Change(
+            How::Set { from: 1, to: 4 },
+            3,
+            Command::Bold,
+            Some("normal"),
+        ),
         "<b>f</b>oob<b>ar</b>",
     ),
-    (
+    Row(
         "<b>foobar</b>",
-        Act::Set { from: 4, to: 1 },
-        3,
-        Command::Bold,
-        Some("normal"),
+        Change(
+            How::Set { from: 4, to: 1 },
+            3,
+            Command::Bold,
+            Some("normal"),
+        ),
         "<b>f</b>oob<b>ar</b>",
     ),
-    (
+    Row(
         "foobar",
-        Act::Set { from: 2, to: 2 },
-        2,
-        Command::Bold,
-        Some("bold"),
+        Change(How::Set { from: 2, to: 2 }, 2, Command::Bold, Some("bold")),
         "foobar",
     ),
-    (
+    Row(
         "<span contenteditable=\"false\">foobar</span>",
-        Act::Set { from: 1, to: 4 },
-        3,
-        Command::Bold,
-        Some("bold"),
+        Change(How::Set { from: 1, to: 4 }, 3, Command::Bold, Some("bold")),
         "<span contenteditable=\"false\">foobar</span>",
     ),
 ];
 
 fn text_of(alloc: Global, value: Option<&str>) -> Result<Option<Vec<char>>, AllocError> {
     match value {
-        Some(text) => Ok(Some(text.chars().collect(alloc)?)),
+        Some(text) => Ok(Some(chars(alloc, text)?)),
         None => Ok(None),
     }
 }
@@ -479,7 +350,6 @@ fn listed(alloc: Global, doc: &Doc, node: NodeRef) -> Result<Vec<NodeRef>, Alloc
 fn restores(alloc: Global, doc: &mut Doc, node: NodeRef) -> Result<(), EditFault>
     requires open { IsOpen doc.old }
     requires held { Holds doc.old node }
-    ensures { IfOk result (λ _. IsOpen doc.new) }
 {
     let list = listed(alloc, doc, node)?;
     let values = record_values(alloc, doc, &list)?;
@@ -489,74 +359,47 @@ fn restores(alloc: Global, doc: &mut Doc, node: NodeRef) -> Result<(), EditFault
     restore_values(alloc, doc, &values)
 }
 
-fn selects(doc: &mut Doc, node: NodeRef, from: u32, to: u32)
-    requires open { IsOpen doc.old }
-    ensures { IsOpen doc.new }
-{
-    let anchor = Point {
-        label: node.label,
-        offset: from,
-    };
-    let focus = Point {
-        label: node.label,
-        offset: to,
-    };
-    doc.select(anchor, focus);
+impl Act for Change {
+    fn act(&self, alloc: Global, doc: &mut Doc) -> Result<bool, Fail> {
+        let Change(how, label, command, value) = self;
+        let node = node_of(doc, *label)?;
+        let text = text_of(alloc, *value)?;
+        Ok(changes(alloc, doc, *how, node, *command, slice(&text)).is_ok())
+    }
 }
 
-fn acts(
+fn changes(
     alloc: Global,
     doc: &mut Doc,
-    act: Act,
+    how: How,
     node: NodeRef,
     command: Command,
     value: Option<&[char]>,
 ) -> Result<(), EditFault>
     requires open { IsOpen doc.old }
     requires held { Holds doc.old node }
-    ensures { IfOk result (λ _. IsOpen doc.new) }
 {
-    match act {
-        Act::Clear => {
+    match how {
+        How::Clear => {
             clear_value(alloc, doc, node, command)?;
             Ok(())
         }
-        Act::Force => force(alloc, doc, value, node, command),
-        Act::Push => push_down(alloc, doc, value, node, command),
-        Act::Reorder => match value {
+        How::Force => force(alloc, doc, value, node, command),
+        How::Push => push_down(alloc, doc, value, node, command),
+        How::Reorder => match value {
             Some(text) => reorder(alloc, doc, node, text, command),
             None => Ok(()),
         },
-        Act::Restore => restores(alloc, doc, node),
-        Act::FixAncestors => fix_ancestors(alloc, doc, node),
-        Act::Set { from, to } => {
-            selects(doc, node, from, to);
+        How::Restore => restores(alloc, doc, node),
+        How::FixAncestors => fix_ancestors(alloc, doc, node),
+        How::Set { from, to } => {
+            doc.select(point((node.label, from)), point((node.label, to)));
             set_value(alloc, doc, value, command)
         }
     }
 }
 
-// Whether the act makes the host hold what is wanted.
-fn acts_so(alloc: Global, doc: &mut Doc, row: Row) -> Result<bool, Fail>
-    requires { IsClosed doc.old }
-{
-    begin(doc)?;
-    let node = node_of(doc, row.2)?;
-    let text = text_of(alloc, row.4)?;
-    if acts(alloc, doc, row.1, node, row.3, slice(&text)).is_err() {
-        return Ok(false);
-    }
-    let page = page_of(alloc, row.5)?;
-    let written = write_html(alloc, doc.arena())?;
-    Ok(written.as_slice() == page.as_bytes())
-}
-
 #[test]
 fn values_are_changed(rt: HostRuntime) -> Result<(), Fail> {
-    for row in &ROWS {
-        let page = page_of(rt.alloc(), row.0)?;
-        let mut doc = document_of(rt.alloc(), page.as_str())?;
-        assert!(rt; acts_so(rt.alloc(), &mut doc, *row)?, "{}", row.0);
-    }
-    Ok(())
+    assert_rows(&rt, rt.alloc(), &ROWS)
 }

@@ -1,4 +1,7 @@
-//! Pages, their nodes, and documents of them.
+//! Pages, their nodes, documents of them, and tables of what is done to documents.
+//!
+//! Pages and documents are let go here alone, each on one way: where one goes, its proof takes up to a minute, and again on each
+//! way out of the function that owns it. So tests say by a trait what they do with one.
 
 ghost use Rattle.std.specs.Prelude.{◌≡◌, ◌<◌, IfOk};
 ghost use Rattle.dom_model.specs.Forest.{count_of};
@@ -7,7 +10,9 @@ ghost use Rattle.edit_doc.specs.Whole.{HasNoLoose, IsClosed, IsOpen};
 use edit_doc::{Doc, Point};
 use node_arena::{Arena, NodeRef, Nodes};
 use page_read::read_page;
+use page_write::write_html;
 use std::alloc::{AllocError, Global};
+use std::process::Abort;
 use std::test::Fail;
 
 /// The nodes of a page.
@@ -33,10 +38,7 @@ pub(crate) fn point_of<N: Nodes>(nodes: &N, at: (u32, u32)) -> Result<Point, Fai
 {
     nodes.lawful();
     let node = node_of(nodes, at.0)?;
-    Ok(Point {
-        label: node.label,
-        offset: at.1,
-    })
+    Ok(point((node.label, at.1)))
 }
 
 /// The points of a range.
@@ -77,4 +79,102 @@ pub(crate) fn page_of(alloc: Global, inner: &str) -> Result<String, AllocError> 
     page.push_str(inner)?;
     page.push_str("</div>")?;
     Ok(page)
+}
+
+/// The point of a label and an offset.
+pub(crate) fn point(at: (u32, u32)) -> Point {
+    Point {
+        label: at.0,
+        offset: at.1,
+    }
+}
+
+/// The characters of a text.
+pub(crate) fn chars(alloc: Global, text: &str) -> Result<Vec<char>, AllocError> {
+    text.chars().collect(alloc)
+}
+
+/// The labels of nodes.
+pub(crate) fn labels(alloc: Global, list: &[NodeRef]) -> Result<Vec<u32>, AllocError> {
+    list.iter().map(|node| node.label).collect(alloc)
+}
+
+/// What is looked for in a page.
+pub(crate) trait Look {
+    /// Whether it is there.
+    fn meets(&self, alloc: Global, arena: &Arena) -> Result<bool, Fail>;
+}
+
+/// A row of a table: a page, and what is looked for in it.
+pub(crate) struct Page<L>(pub &'static str, pub L);
+
+// Whether a page meets its row.
+fn meets<L: Look>(alloc: Global, row: &Page<L>) -> Result<bool, Fail> {
+    let arena = read(alloc, row.0)?;
+    row.1.meets(alloc, &arena)
+}
+
+/// Asserts each row of a table of pages.
+pub(crate) fn assert_pages<L: Look>(
+    rt: &impl Abort,
+    alloc: Global,
+    rows: &[Page<L>],
+) -> Result<(), Fail> {
+    for row in rows {
+        assert!(rt; meets(alloc, row)?, "{}", row.0);
+    }
+    Ok(())
+}
+
+/// What is done with the document of a page, and what is found.
+pub(crate) trait Trial {
+    type Found;
+
+    fn run(&self, alloc: Global, doc: &mut Doc) -> Result<Self::Found, Fail>
+        requires { IsClosed doc.old };
+}
+
+/// What a trial finds on the document of a page.
+pub(crate) fn found<T: Trial>(alloc: Global, page: &str, trial: &T) -> Result<T::Found, Fail> {
+    let mut doc = document_of(alloc, page)?;
+    trial.run(alloc, &mut doc)
+}
+
+/// What is done to a document in a command.
+pub(crate) trait Act {
+    /// Does it, and answers whether that answered as it should.
+    fn act(&self, alloc: Global, doc: &mut Doc) -> Result<bool, Fail>
+        requires { IsOpen doc.old };
+}
+
+/// A row of a table: what the editing host holds, what is done, and what the host then holds.
+pub(crate) struct Row<A>(pub &'static str, pub A, pub &'static str);
+
+// The page that the act leaves, in a command of its own.
+impl<A: Act> Trial for Row<A> {
+    type Found = String;
+
+    fn run(&self, alloc: Global, doc: &mut Doc) -> Result<String, Fail> {
+        begin(doc)?;
+        if !self.1.act(alloc, doc)? {
+            return Err("answer".into());
+        }
+        let html = write_html(alloc, doc.arena())?;
+        Ok(String::from_utf8(html).ok().ok_or("text")?)
+    }
+}
+
+/// Asserts each row of a table.
+pub(crate) fn assert_rows<A: Act>(
+    rt: &impl Abort,
+    alloc: Global,
+    rows: &[Row<A>],
+) -> Result<(), Fail> {
+    for row in rows {
+        let page = page_of(alloc, row.0)?;
+        let wanted = page_of(alloc, row.2)?;
+        let html = found(alloc, page.as_str(), row)?;
+        assert_eq!(rt; html.as_str(), wanted.as_str(), "{}", row.0);
+    }
+    Ok(())
 }

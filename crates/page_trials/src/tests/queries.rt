@@ -1,20 +1,29 @@
-//! What is asked of commands.
+//! What is asked of inline commands.
 
-ghost use Rattle.edit_doc.specs.Whole.{IsClosed};
-
-use crate::tests::pages::{begin, document_of, page_of};
+use crate::tests::pages::{Trial, begin, chars, found, page_of, point};
 use css_value::has_codes;
 use dom_model::Chars;
-use edit_doc::{Doc, Point, Setting};
+use edit_doc::{Doc, Setting};
 use edit_query::{Reply, query};
 use html_names::{Command, QueryKind};
 use std::alloc::{AllocError, Global};
 use std::test::Fail;
 
-// What an editing host of the label 1 holds, the ends of a range, a command, and its answers.
-static ANSWERS: [(&str, (u32, u32), (u32, u32), Command, bool, bool, &str); 37] = [
+// What an editing host of the label 1 holds, the ends of a range, a command, and its answers: whether it is indeterminate, its
+// state and its value.
+struct Question(
+    &'static str,
+    (u32, u32),
+    (u32, u32),
+    Command,
+    bool,
+    bool,
+    &'static str,
+);
+
+static ANSWERS: [Question; 37] = [
     // 2 b (3 "ab"), 4 "cd"
-    (
+    Question(
         "<b>ab</b>cd",
         (3, 0),
         (4, 2),
@@ -23,7 +32,7 @@ static ANSWERS: [(&str, (u32, u32), (u32, u32), Command, bool, bool, &str); 37] 
         false,
         "",
     ),
-    (
+    Question(
         "<b>ab</b>cd",
         (3, 1),
         (4, 0),
@@ -32,7 +41,7 @@ static ANSWERS: [(&str, (u32, u32), (u32, u32), Command, bool, bool, &str); 37] 
         true,
         "",
     ),
-    (
+    Question(
         "<b>ab</b>cd",
         (3, 2),
         (4, 1),
@@ -41,7 +50,7 @@ static ANSWERS: [(&str, (u32, u32), (u32, u32), Command, bool, bool, &str); 37] 
         false,
         "",
     ),
-    (
+    Question(
         "<b>ab</b>cd",
         (3, 1),
         (3, 1),
@@ -50,7 +59,7 @@ static ANSWERS: [(&str, (u32, u32), (u32, u32), Command, bool, bool, &str); 37] 
         true,
         "",
     ),
-    (
+    Question(
         "<b>ab</b>cd",
         (4, 1),
         (4, 1),
@@ -59,7 +68,7 @@ static ANSWERS: [(&str, (u32, u32), (u32, u32), Command, bool, bool, &str); 37] 
         false,
         "",
     ),
-    (
+    Question(
         "<u>ab</u>cd",
         (4, 2),
         (3, 0),
@@ -69,7 +78,7 @@ static ANSWERS: [(&str, (u32, u32), (u32, u32), Command, bool, bool, &str); 37] 
         "",
     ),
     // text in an island, and text that isn't visible
-    (
+    Question(
         "<i>a</i><u contenteditable=\"false\">b</u>",
         (3, 0),
         (5, 1),
@@ -78,7 +87,7 @@ static ANSWERS: [(&str, (u32, u32), (u32, u32), Command, bool, bool, &str); 37] 
         true,
         "",
     ),
-    (
+    Question(
         "<p><b>a</b></p> <p><b>c</b></p>",
         (4, 0),
         (8, 1),
@@ -88,7 +97,7 @@ static ANSWERS: [(&str, (u32, u32), (u32, u32), Command, bool, bool, &str); 37] 
         "",
     ),
     // 2 sub (3 "a", 4 sup (5 "b"))
-    (
+    Question(
         "<sub>a<sup>b</sup></sub>",
         (3, 0),
         (5, 1),
@@ -97,7 +106,7 @@ static ANSWERS: [(&str, (u32, u32), (u32, u32), Command, bool, bool, &str); 37] 
         false,
         "",
     ),
-    (
+    Question(
         "<sub>a<sup>b</sup></sub>",
         (5, 0),
         (5, 1),
@@ -106,7 +115,7 @@ static ANSWERS: [(&str, (u32, u32), (u32, u32), Command, bool, bool, &str); 37] 
         false,
         "",
     ),
-    (
+    Question(
         "<sub>a<sup>b</sup></sub>",
         (3, 0),
         (3, 1),
@@ -115,7 +124,7 @@ static ANSWERS: [(&str, (u32, u32), (u32, u32), Command, bool, bool, &str); 37] 
         true,
         "",
     ),
-    (
+    Question(
         "<a href=\"x\">a</a>b",
         (3, 0),
         (4, 1),
@@ -124,7 +133,7 @@ static ANSWERS: [(&str, (u32, u32), (u32, u32), Command, bool, bool, &str); 37] 
         false,
         "x",
     ),
-    (
+    Question(
         "<a href=\"x\">a</a>b",
         (4, 1),
         (4, 1),
@@ -133,7 +142,7 @@ static ANSWERS: [(&str, (u32, u32), (u32, u32), Command, bool, bool, &str); 37] 
         false,
         "",
     ),
-    (
+    Question(
         "<a href=\"x\">a</a>b",
         (3, 0),
         (4, 1),
@@ -142,7 +151,7 @@ static ANSWERS: [(&str, (u32, u32), (u32, u32), Command, bool, bool, &str); 37] 
         false,
         "",
     ),
-    (
+    Question(
         "<font color=\"red\">a</font>b",
         (3, 0),
         (4, 1),
@@ -151,7 +160,7 @@ static ANSWERS: [(&str, (u32, u32), (u32, u32), Command, bool, bool, &str); 37] 
         false,
         "rgb(255, 0, 0)",
     ),
-    (
+    Question(
         "<font color=\"red\">a</font>b",
         (4, 0),
         (4, 1),
@@ -160,7 +169,7 @@ static ANSWERS: [(&str, (u32, u32), (u32, u32), Command, bool, bool, &str); 37] 
         false,
         "rgb(0, 0, 0)",
     ),
-    (
+    Question(
         "<mark>a</mark><span style=\"background-color: yellow\">b</span>",
         (3, 0),
         (5, 1),
@@ -169,7 +178,7 @@ static ANSWERS: [(&str, (u32, u32), (u32, u32), Command, bool, bool, &str); 37] 
         false,
         "rgb(255, 255, 0)",
     ),
-    (
+    Question(
         "<font size=\"7\">a</font>b",
         (3, 0),
         (4, 1),
@@ -178,7 +187,7 @@ static ANSWERS: [(&str, (u32, u32), (u32, u32), Command, bool, bool, &str); 37] 
         false,
         "7",
     ),
-    (
+    Question(
         "<font size=\"3\">a</font>b",
         (3, 0),
         (4, 1),
@@ -187,7 +196,7 @@ static ANSWERS: [(&str, (u32, u32), (u32, u32), Command, bool, bool, &str); 37] 
         false,
         "3",
     ),
-    (
+    Question(
         "<font face=\"sans\">a</font>b",
         (3, 0),
         (4, 1),
@@ -196,7 +205,7 @@ static ANSWERS: [(&str, (u32, u32), (u32, u32), Command, bool, bool, &str); 37] 
         false,
         "sans",
     ),
-    (
+    Question(
         "<tt>a</tt>",
         (3, 1),
         (3, 1),
@@ -206,7 +215,7 @@ static ANSWERS: [(&str, (u32, u32), (u32, u32), Command, bool, bool, &str); 37] 
         "monospace",
     ),
     // what the blocks are
-    (
+    Question(
         "<p>a</p>",
         (3, 0),
         (3, 1),
@@ -215,7 +224,7 @@ static ANSWERS: [(&str, (u32, u32), (u32, u32), Command, bool, bool, &str); 37] 
         false,
         "p",
     ),
-    (
+    Question(
         "<h1>a</h1> <p>b</p>",
         (6, 1),
         (3, 0),
@@ -224,7 +233,7 @@ static ANSWERS: [(&str, (u32, u32), (u32, u32), Command, bool, bool, &str); 37] 
         false,
         "h1",
     ),
-    (
+    Question(
         "<h1>a</h1> <h1>b</h1>",
         (3, 0),
         (6, 1),
@@ -233,7 +242,7 @@ static ANSWERS: [(&str, (u32, u32), (u32, u32), Command, bool, bool, &str); 37] 
         false,
         "h1",
     ),
-    (
+    Question(
         "<b>a</b><h2>b</h2>",
         (3, 0),
         (5, 1),
@@ -242,7 +251,7 @@ static ANSWERS: [(&str, (u32, u32), (u32, u32), Command, bool, bool, &str); 37] 
         false,
         "",
     ),
-    (
+    Question(
         "<div>a<p>b</p></div>",
         (3, 0),
         (3, 0),
@@ -251,7 +260,7 @@ static ANSWERS: [(&str, (u32, u32), (u32, u32), Command, bool, bool, &str); 37] 
         false,
         "",
     ),
-    (
+    Question(
         "<dl><dd><b>a</b></dd></dl>",
         (5, 0),
         (5, 0),
@@ -260,7 +269,7 @@ static ANSWERS: [(&str, (u32, u32), (u32, u32), Command, bool, bool, &str); 37] 
         false,
         "dd",
     ),
-    (
+    Question(
         "<p>a</p><h1 contenteditable=\"false\">b</h1>",
         (1, 0),
         (1, 2),
@@ -269,7 +278,7 @@ static ANSWERS: [(&str, (u32, u32), (u32, u32), Command, bool, bool, &str); 37] 
         false,
         "p",
     ),
-    (
+    Question(
         "<p></p><h1>a</h1>",
         (2, 0),
         (4, 1),
@@ -279,7 +288,7 @@ static ANSWERS: [(&str, (u32, u32), (u32, u32), Command, bool, bool, &str); 37] 
         "p",
     ),
     // how they are aligned
-    (
+    Question(
         "<p align=\"right\">a</p> <p>b</p>",
         (3, 0),
         (6, 1),
@@ -288,7 +297,7 @@ static ANSWERS: [(&str, (u32, u32), (u32, u32), Command, bool, bool, &str); 37] 
         false,
         "right",
     ),
-    (
+    Question(
         "<p align=\"right\">a</p> <p>b</p>",
         (3, 0),
         (6, 1),
@@ -297,7 +306,7 @@ static ANSWERS: [(&str, (u32, u32), (u32, u32), Command, bool, bool, &str); 37] 
         false,
         "right",
     ),
-    (
+    Question(
         "<p align=\"right\">a</p> <p>b</p>",
         (6, 0),
         (6, 0),
@@ -306,7 +315,7 @@ static ANSWERS: [(&str, (u32, u32), (u32, u32), Command, bool, bool, &str); 37] 
         true,
         "left",
     ),
-    (
+    Question(
         "<p align=\"right\">a</p> <p style=\"text-align: end\">b</p>",
         (3, 0),
         (6, 1),
@@ -315,7 +324,7 @@ static ANSWERS: [(&str, (u32, u32), (u32, u32), Command, bool, bool, &str); 37] 
         true,
         "right",
     ),
-    (
+    Question(
         "<center>a</center>",
         (3, 0),
         (3, 0),
@@ -324,7 +333,7 @@ static ANSWERS: [(&str, (u32, u32), (u32, u32), Command, bool, bool, &str); 37] 
         true,
         "center",
     ),
-    (
+    Question(
         "<p style=\"text-align: justify\">a</p>",
         (3, 0),
         (3, 0),
@@ -333,7 +342,7 @@ static ANSWERS: [(&str, (u32, u32), (u32, u32), Command, bool, bool, &str); 37] 
         true,
         "justify",
     ),
-    (
+    Question(
         "<span style=\"text-align: right\">a</span>",
         (3, 0),
         (3, 0),
@@ -342,7 +351,7 @@ static ANSWERS: [(&str, (u32, u32), (u32, u32), Command, bool, bool, &str); 37] 
         false,
         "left",
     ),
-    (
+    Question(
         "",
         (1, 0),
         (1, 0),
@@ -367,61 +376,65 @@ fn is_wording(reply: Reply, wanted: &str) -> bool {
     }
 }
 
-fn chars(alloc: Global, text: &str) -> Result<Chars, AllocError> {
-    let mut list = Vec::new(alloc);
-    for char in text.chars() {
-        list.push(char)?;
-    }
-    Ok(Chars::from_vec(list))
-}
+// Whether the answers are these.
+impl Trial for Question {
+    type Found = bool;
 
-fn point(at: (u32, u32)) -> Point {
-    Point {
-        label: at.0,
-        offset: at.1,
+    fn run(&self, alloc: Global, doc: &mut Doc) -> Result<bool, Fail> {
+        let Question(_, anchor, focus, command, indeterm, state, value) = self;
+        doc.select(point(*anchor), point(*focus));
+        let host = doc.find(1);
+        let parted = query(alloc, doc, host, QueryKind::Indeterm, *command)?;
+        let on = query(alloc, doc, host, QueryKind::State, *command)?;
+        let text = query(alloc, doc, host, QueryKind::Value, *command)?;
+        Ok(flag(parted) == Some(*indeterm) && flag(on) == Some(*state) && is_wording(text, value))
     }
 }
 
 #[test]
 fn questions_are_answered(rt: HostRuntime) -> Result<(), Fail> {
-    let alloc = rt.alloc();
-    for (page, anchor, focus, command, indeterm, state, value) in &ANSWERS {
-        let page = page_of(alloc, page)?;
-        let mut doc = document_of(alloc, page.as_str())?;
-        doc.select(point(*anchor), point(*focus));
-        let host = doc.find(1);
-        let reply = query(alloc, &doc, host, QueryKind::Indeterm, *command)?;
-        assert_eq!(rt; flag(reply), Some(*indeterm));
-        let reply = query(alloc, &doc, host, QueryKind::State, *command)?;
-        assert_eq!(rt; flag(reply), Some(*state));
-        let reply = query(alloc, &doc, host, QueryKind::Value, *command)?;
-        assert!(rt; is_wording(reply, value));
+    for question in &ANSWERS {
+        let page = page_of(rt.alloc(), question.0)?;
+        let answered = found(rt.alloc(), page.as_str(), question)?;
+        assert!(rt; answered, "{}", question.0);
     }
     Ok(())
 }
 
 // Whether the overrides of a style, a size and a colour answer.
-fn overrides_answer(alloc: Global, doc: &mut Doc) -> Result<bool, Fail>
-    requires { IsClosed doc.old }
-{
-    doc.select(point((2, 0)), point((2, 1)));
-    begin(doc)?;
+struct Overrides;
+
+impl Trial for Overrides {
+    type Found = bool;
+
+    fn run(&self, alloc: Global, doc: &mut Doc) -> Result<bool, Fail> {
+        doc.select(point((2, 0)), point((2, 1)));
+        begin(doc)?;
+        set_each(alloc, doc)?;
+        let host = doc.find(1);
+        let style = query(alloc, doc, host, QueryKind::State, Command::Bold)?;
+        let size = query(alloc, doc, host, QueryKind::Value, Command::FontSize)?;
+        let colour = query(alloc, doc, host, QueryKind::Value, Command::ForeColor)?;
+        Ok(flag(style) == Some(true) && is_wording(size, "6") && is_wording(colour, "#f00"))
+    }
+}
+
+fn set_each(alloc: Global, doc: &mut Doc) -> Result<(), AllocError> {
     doc.set_setting(Command::Bold, Setting::On);
-    let value = chars(alloc, "xx-large")?;
+    let value = Chars::from_vec(chars(alloc, "xx-large")?);
     doc.set_setting(Command::FontSize, Setting::Text { value });
-    let value = chars(alloc, "#f00")?;
+    let value = Chars::from_vec(chars(alloc, "#f00")?);
     doc.set_setting(Command::ForeColor, Setting::Text { value });
-    let host = doc.find(1);
-    let style = query(alloc, doc, host, QueryKind::State, Command::Bold)?;
-    let size = query(alloc, doc, host, QueryKind::Value, Command::FontSize)?;
-    let colour = query(alloc, doc, host, QueryKind::Value, Command::ForeColor)?;
-    Ok(flag(style) == Some(true) && is_wording(size, "6") && is_wording(colour, "#f00"))
+    Ok(())
 }
 
 #[test]
 fn overrides_answer_first(rt: HostRuntime) -> Result<(), Fail> {
-    let alloc = rt.alloc();
-    let mut doc = document_of(alloc, "<div contenteditable=\"true\">a</div>")?;
-    assert!(rt; overrides_answer(alloc, &mut doc)?);
+    let answered = found(
+        rt.alloc(),
+        "<div contenteditable=\"true\">a</div>",
+        &Overrides,
+    )?;
+    assert!(rt; answered);
     Ok(())
 }

@@ -1,354 +1,253 @@
 //! Command values.
 
-use crate::tests::pages::read;
+use crate::tests::pages::{Look, Page, assert_pages, chars, node_of};
 use command_value::{
     alignment, alike, effective, equivalent, has_alike_value, is_activated, is_modifiable_element,
     is_simple_modifiable_element, meets_value, specified, specifies, specifies_other,
 };
 use dom_model::Chars;
 use html_names::Command;
+use node_arena::Arena;
 use std::alloc::{AllocError, Global};
 use std::test::Fail;
 
-// A page, the label of a node, a command, its effective and its specified value.
-static VALUES: [(&str, u32, Command, Option<&str>, Option<&str>); 56] = [
-    ("<b>x</b>", 2, Command::Bold, Some("700"), None),
-    ("<b>x</b>", 1, Command::Bold, Some("700"), Some("bold")),
-    (
-        "<strong>x</strong>",
-        1,
-        Command::Bold,
-        Some("700"),
-        Some("bold"),
-    ),
-    ("<h1>x</h1>", 1, Command::Bold, Some("700"), None),
-    ("x", 1, Command::Bold, None, None),
-    (
-        "<b style=\"font-weight: bolder\">x</b>",
-        1,
-        Command::Bold,
-        Some("700"),
-        Some("bold"),
-    ),
-    (
-        "<i style=\"font-weight: bolder\">x</i>",
-        1,
-        Command::Bold,
-        Some("400"),
-        None,
-    ),
-    (
-        "<i style=\"font-weight: 600\">x</i>",
-        2,
-        Command::Bold,
-        Some("600"),
-        None,
-    ),
-    (
-        "<i style=\"font-weight: 600\">x</i>",
-        1,
-        Command::Bold,
-        Some("600"),
-        Some("600"),
-    ),
-    (
-        "<i>x</i>",
-        1,
-        Command::Italic,
-        Some("italic"),
-        Some("italic"),
-    ),
-    ("<cite>x</cite>", 1, Command::Italic, Some("italic"), None),
-    (
-        "<em style=\"font-style: oblique\">x</em>",
-        1,
-        Command::Italic,
-        Some("oblique"),
-        Some("oblique"),
-    ),
-    (
-        "<em style=\"font-style: slanted\">x</em>",
-        1,
-        Command::Italic,
-        Some("italic"),
-        Some("italic"),
-    ),
-    ("<u>x</u>", 2, Command::Underline, Some("underline"), None),
-    (
-        "<u>x</u>",
-        1,
-        Command::Underline,
-        Some("underline"),
-        Some("underline"),
-    ),
-    (
-        "<u><s>x</s></u>",
-        2,
-        Command::Underline,
-        Some("underline"),
-        None,
-    ),
-    (
-        "<u><s>x</s></u>",
-        2,
-        Command::Strikethrough,
-        Some("line-through"),
-        Some("line-through"),
-    ),
-    (
-        "<u style=\"text-decoration: none\">x</u>",
-        1,
-        Command::Underline,
-        None,
-        None,
-    ),
-    (
-        "<b style=\"text-decoration: underline line-through\">x</b>",
-        1,
-        Command::Underline,
-        Some("underline"),
-        Some("underline"),
-    ),
-    (
-        "<b style=\"text-decoration: underline line-through\">x</b>",
-        1,
-        Command::Strikethrough,
-        Some("line-through"),
-        Some("line-through"),
-    ),
-    (
-        "<b style=\"text-decoration: underline blink\">x</b>",
-        1,
-        Command::Underline,
-        None,
-        Some("underline"),
-    ),
-    (
-        "<a href=\"u\">x</a>",
-        1,
-        Command::Underline,
-        Some("underline"),
-        None,
-    ),
-    (
-        "<strike>x</strike>",
-        1,
-        Command::Strikethrough,
-        Some("line-through"),
-        Some("line-through"),
-    ),
-    (
-        "<del>x</del>",
-        1,
-        Command::Strikethrough,
-        Some("line-through"),
-        None,
-    ),
-    (
-        "<sub>a<sup>b</sup></sub>",
-        2,
-        Command::Subscript,
-        Some("subscript"),
-        None,
-    ),
-    (
-        "<sub>a<sup>b</sup></sub>",
-        4,
-        Command::Subscript,
-        Some("mixed"),
-        None,
-    ),
-    (
-        "<sub>a<sup>b</sup></sub>",
-        3,
-        Command::Superscript,
-        Some("mixed"),
-        Some("superscript"),
-    ),
-    ("<sub><p>a</p></sub>", 3, Command::Subscript, None, None),
-    (
-        "<sub style=\"display: block\">a</sub>",
-        1,
-        Command::Subscript,
-        None,
-        Some("subscript"),
-    ),
-    (
-        "<a href=\"u\"><b>x</b></a>",
-        3,
-        Command::CreateLink,
-        Some("u"),
-        None,
-    ),
-    (
-        "<a href=\"u\"><a>x</a></a>",
-        2,
-        Command::CreateLink,
-        Some("u"),
-        None,
-    ),
-    (
-        "<a href=\"u\"><a href=\"\">x</a></a>",
-        3,
-        Command::Unlink,
-        Some(""),
-        None,
-    ),
-    (
-        "<a href=\"u\"><a href=\"\">x</a></a>",
-        2,
-        Command::Unlink,
-        Some(""),
-        Some(""),
-    ),
-    ("<b href=\"u\">x</b>", 1, Command::CreateLink, None, None),
-    (
-        "<code>x</code>",
-        1,
-        Command::FontName,
-        Some("monospace"),
-        None,
-    ),
-    ("<b>x</b>", 1, Command::FontName, Some("serif"), None),
-    (
-        "<font face=\"A b\"><code>x</code></font>",
-        1,
-        Command::FontName,
-        Some("A b"),
-        Some("A b"),
-    ),
-    (
-        "<font face=\"\">x</font>",
-        1,
-        Command::FontName,
-        Some("serif"),
-        None,
-    ),
-    (
-        "<font size=\"+1\">x</font>",
-        1,
-        Command::FontSize,
-        Some("18px"),
-        Some("large"),
-    ),
-    (
-        "<font size=\"+1\">x</font>",
-        2,
-        Command::FontSize,
-        Some("18px"),
-        None,
-    ),
-    (
-        "<font size=\"big\">x</font>",
-        1,
-        Command::FontSize,
-        Some("16px"),
-        None,
-    ),
-    (
-        "<b size=\"7\">x</b>",
-        1,
-        Command::FontSize,
-        Some("16px"),
-        None,
-    ),
-    (
-        "<font size=\"7\" style=\"font-size: 9px\">x</font>",
-        1,
-        Command::FontSize,
-        Some("9px"),
-        Some("9px"),
-    ),
-    (
-        "<font size=\"1\" style=\"font-size: 9em\">x</font>",
-        1,
-        Command::FontSize,
-        Some("10px"),
-        Some("x-small"),
-    ),
-    (
-        "<font color=\"Red\">x</font>",
-        2,
-        Command::ForeColor,
-        Some("rgb(255, 0, 0)"),
-        None,
-    ),
-    (
-        "<font color=\"Red\">x</font>",
-        1,
-        Command::ForeColor,
-        Some("rgb(255, 0, 0)"),
-        Some("Red"),
-    ),
-    (
-        "<font color=\"reddish\">x</font>",
-        1,
-        Command::ForeColor,
-        Some("rgb(0, 0, 0)"),
-        None,
-    ),
-    (
-        "<a href=\"u\">x</a>",
-        1,
-        Command::ForeColor,
-        Some("rgb(0, 0, 238)"),
-        None,
-    ),
-    (
-        "<b>x</b>",
-        1,
-        Command::BackColor,
-        Some("rgba(0, 0, 0, 0)"),
-        None,
-    ),
-    (
-        "<p style=\"background-color: lime\"><b>x</b></p>",
-        3,
-        Command::HiliteColor,
-        Some("rgb(0, 255, 0)"),
-        None,
-    ),
-    (
-        "<p style=\"background-color: lime\"><b>x</b></p>",
-        1,
-        Command::HiliteColor,
-        Some("rgb(0, 255, 0)"),
-        None,
-    ),
-    (
-        "<p style=\"background-color: lime\"><b style=\"background-color: transparent\">x</b></p>",
-        2,
-        Command::BackColor,
-        Some("rgb(0, 255, 0)"),
-        Some("transparent"),
-    ),
-    (
-        "<mark>x</mark>",
-        1,
-        Command::BackColor,
-        Some("rgb(255, 255, 0)"),
-        None,
-    ),
-    (
-        "<i style=\"background-color: #F00; display: inline-block\">x</i>",
-        1,
-        Command::BackColor,
-        Some("rgb(255, 0, 0)"),
-        None,
-    ),
-    (
-        "<i style=\"background-color: #F00\">x</i>",
-        1,
-        Command::BackColor,
-        Some("rgb(255, 0, 0)"),
-        Some("#F00"),
-    ),
-    ("<b>x</b>", 1, Command::JustifyLeft, None, None),
-];
+// The label of a node, a command, its effective and its specified value.
+struct Valued(u32, Command, Option<&'static str>, Option<&'static str>);
 
-fn chars(alloc: Global, text: &str) -> Result<Chars, AllocError> {
-    Ok(Chars::from_vec(text.chars().collect(alloc)?))
-}
+static VALUES: [Page<Valued>; 56] = [
+    Page("<b>x</b>", Valued(2, Command::Bold, Some("700"), None)),
+    Page(
+        "<b>x</b>",
+        Valued(1, Command::Bold, Some("700"), Some("bold")),
+    ),
+    Page(
+        "<strong>x</strong>",
+        Valued(1, Command::Bold, Some("700"), Some("bold")),
+    ),
+    Page("<h1>x</h1>", Valued(1, Command::Bold, Some("700"), None)),
+    Page("x", Valued(1, Command::Bold, None, None)),
+    Page(
+        "<b style=\"font-weight: bolder\">x</b>",
+        Valued(1, Command::Bold, Some("700"), Some("bold")),
+    ),
+    Page(
+        "<i style=\"font-weight: bolder\">x</i>",
+        Valued(1, Command::Bold, Some("400"), None),
+    ),
+    Page(
+        "<i style=\"font-weight: 600\">x</i>",
+        Valued(2, Command::Bold, Some("600"), None),
+    ),
+    Page(
+        "<i style=\"font-weight: 600\">x</i>",
+        Valued(1, Command::Bold, Some("600"), Some("600")),
+    ),
+    Page(
+        "<i>x</i>",
+        Valued(1, Command::Italic, Some("italic"), Some("italic")),
+    ),
+    Page(
+        "<cite>x</cite>",
+        Valued(1, Command::Italic, Some("italic"), None),
+    ),
+    Page(
+        "<em style=\"font-style: oblique\">x</em>",
+        Valued(1, Command::Italic, Some("oblique"), Some("oblique")),
+    ),
+    Page(
+        "<em style=\"font-style: slanted\">x</em>",
+        Valued(1, Command::Italic, Some("italic"), Some("italic")),
+    ),
+    Page(
+        "<u>x</u>",
+        Valued(2, Command::Underline, Some("underline"), None),
+    ),
+    Page(
+        "<u>x</u>",
+        Valued(1, Command::Underline, Some("underline"), Some("underline")),
+    ),
+    Page(
+        "<u><s>x</s></u>",
+        Valued(2, Command::Underline, Some("underline"), None),
+    ),
+    Page(
+        "<u><s>x</s></u>",
+        Valued(
+            2,
+            Command::Strikethrough,
+            Some("line-through"),
+            Some("line-through"),
+        ),
+    ),
+    Page(
+        "<u style=\"text-decoration: none\">x</u>",
+        Valued(1, Command::Underline, None, None),
+    ),
+    Page(
+        "<b style=\"text-decoration: underline line-through\">x</b>",
+        Valued(1, Command::Underline, Some("underline"), Some("underline")),
+    ),
+    Page(
+        "<b style=\"text-decoration: underline line-through\">x</b>",
+        Valued(
+            1,
+            Command::Strikethrough,
+            Some("line-through"),
+            Some("line-through"),
+        ),
+    ),
+    Page(
+        "<b style=\"text-decoration: underline blink\">x</b>",
+        Valued(1, Command::Underline, None, Some("underline")),
+    ),
+    Page(
+        "<a href=\"u\">x</a>",
+        Valued(1, Command::Underline, Some("underline"), None),
+    ),
+    Page(
+        "<strike>x</strike>",
+        Valued(
+            1,
+            Command::Strikethrough,
+            Some("line-through"),
+            Some("line-through"),
+        ),
+    ),
+    Page(
+        "<del>x</del>",
+        Valued(1, Command::Strikethrough, Some("line-through"), None),
+    ),
+    Page(
+        "<sub>a<sup>b</sup></sub>",
+        Valued(2, Command::Subscript, Some("subscript"), None),
+    ),
+    Page(
+        "<sub>a<sup>b</sup></sub>",
+        Valued(4, Command::Subscript, Some("mixed"), None),
+    ),
+    Page(
+        "<sub>a<sup>b</sup></sub>",
+        Valued(3, Command::Superscript, Some("mixed"), Some("superscript")),
+    ),
+    Page(
+        "<sub><p>a</p></sub>",
+        Valued(3, Command::Subscript, None, None),
+    ),
+    Page(
+        "<sub style=\"display: block\">a</sub>",
+        Valued(1, Command::Subscript, None, Some("subscript")),
+    ),
+    Page(
+        "<a href=\"u\"><b>x</b></a>",
+        Valued(3, Command::CreateLink, Some("u"), None),
+    ),
+    Page(
+        "<a href=\"u\"><a>x</a></a>",
+        Valued(2, Command::CreateLink, Some("u"), None),
+    ),
+    Page(
+        "<a href=\"u\"><a href=\"\">x</a></a>",
+        Valued(3, Command::Unlink, Some(""), None),
+    ),
+    Page(
+        "<a href=\"u\"><a href=\"\">x</a></a>",
+        Valued(2, Command::Unlink, Some(""), Some("")),
+    ),
+    Page(
+        "<b href=\"u\">x</b>",
+        Valued(1, Command::CreateLink, None, None),
+    ),
+    Page(
+        "<code>x</code>",
+        Valued(1, Command::FontName, Some("monospace"), None),
+    ),
+    Page(
+        "<b>x</b>",
+        Valued(1, Command::FontName, Some("serif"), None),
+    ),
+    Page(
+        "<font face=\"A b\"><code>x</code></font>",
+        Valued(1, Command::FontName, Some("A b"), Some("A b")),
+    ),
+    Page(
+        "<font face=\"\">x</font>",
+        Valued(1, Command::FontName, Some("serif"), None),
+    ),
+    Page(
+        "<font size=\"+1\">x</font>",
+        Valued(1, Command::FontSize, Some("18px"), Some("large")),
+    ),
+    Page(
+        "<font size=\"+1\">x</font>",
+        Valued(2, Command::FontSize, Some("18px"), None),
+    ),
+    Page(
+        "<font size=\"big\">x</font>",
+        Valued(1, Command::FontSize, Some("16px"), None),
+    ),
+    Page(
+        "<b size=\"7\">x</b>",
+        Valued(1, Command::FontSize, Some("16px"), None),
+    ),
+    Page(
+        "<font size=\"7\" style=\"font-size: 9px\">x</font>",
+        Valued(1, Command::FontSize, Some("9px"), Some("9px")),
+    ),
+    Page(
+        "<font size=\"1\" style=\"font-size: 9em\">x</font>",
+        Valued(1, Command::FontSize, Some("10px"), Some("x-small")),
+    ),
+    Page(
+        "<font color=\"Red\">x</font>",
+        Valued(2, Command::ForeColor, Some("rgb(255, 0, 0)"), None),
+    ),
+    Page(
+        "<font color=\"Red\">x</font>",
+        Valued(1, Command::ForeColor, Some("rgb(255, 0, 0)"), Some("Red")),
+    ),
+    Page(
+        "<font color=\"reddish\">x</font>",
+        Valued(1, Command::ForeColor, Some("rgb(0, 0, 0)"), None),
+    ),
+    Page(
+        "<a href=\"u\">x</a>",
+        Valued(1, Command::ForeColor, Some("rgb(0, 0, 238)"), None),
+    ),
+    Page(
+        "<b>x</b>",
+        Valued(1, Command::BackColor, Some("rgba(0, 0, 0, 0)"), None),
+    ),
+    Page(
+        "<p style=\"background-color: lime\"><b>x</b></p>",
+        Valued(3, Command::HiliteColor, Some("rgb(0, 255, 0)"), None),
+    ),
+    Page(
+        "<p style=\"background-color: lime\"><b>x</b></p>",
+        Valued(1, Command::HiliteColor, Some("rgb(0, 255, 0)"), None),
+    ),
+    Page(
+        "<p style=\"background-color: lime\"><b style=\"background-color: transparent\">x</b></p>",
+        Valued(
+            2,
+            Command::BackColor,
+            Some("rgb(0, 255, 0)"),
+            Some("transparent"),
+        ),
+    ),
+    Page(
+        "<mark>x</mark>",
+        Valued(1, Command::BackColor, Some("rgb(255, 255, 0)"), None),
+    ),
+    Page(
+        "<i style=\"background-color: #F00; display: inline-block\">x</i>",
+        Valued(1, Command::BackColor, Some("rgb(255, 0, 0)"), None),
+    ),
+    Page(
+        "<i style=\"background-color: #F00\">x</i>",
+        Valued(1, Command::BackColor, Some("rgb(255, 0, 0)"), Some("#F00")),
+    ),
+    Page("<b>x</b>", Valued(1, Command::JustifyLeft, None, None)),
+];
 
 fn is_text(alloc: Global, value: Option<&Chars>, text: Option<&str>) -> Result<bool, AllocError> {
     match (value, text) {
@@ -358,30 +257,24 @@ fn is_text(alloc: Global, value: Option<&Chars>, text: Option<&str>) -> Result<b
     }
 }
 
+impl Look for Valued {
+    fn meets(&self, alloc: Global, arena: &Arena) -> Result<bool, Fail> {
+        let Valued(label, command, effective_text, specified_text) = self;
+        let node = node_of(arena, *label)?;
+        let own = effective(alloc, arena, node, *command)?;
+        let is_own = is_text(alloc, own.as_ref(), *effective_text)?;
+        let is_alike = has_alike_value(arena, node, *command, slice(own.as_ref()));
+        let given = specified(alloc, arena, node, *command)?;
+        let is_given = is_text(alloc, given.as_ref(), *specified_text)?;
+        let is_told = specifies(arena, node, *command) == given.is_some();
+        let is_other = specifies_other(arena, node, *command, slice(given.as_ref()));
+        Ok(is_own && is_alike && is_given && is_told && !is_other)
+    }
+}
+
 #[test]
 fn values_of_nodes(rt: HostRuntime) -> Result<(), Fail> {
-    let alloc = rt.alloc();
-    for (page, label, command, effective_text, specified_text) in &VALUES {
-        let arena = read(alloc, page)?;
-        let node = arena.find(*label).ok_or("label")?;
-        let own = effective(alloc, &arena, node, *command)?;
-        assert!(rt;
-            is_text(alloc, own.as_ref(), *effective_text)?,
-            "effective {page} {label}"
-        );
-        assert!(rt;
-            has_alike_value(&arena, node, *command, slice(own.as_ref())),
-            "alike {page} {label}"
-        );
-        let given = specified(alloc, &arena, node, *command)?;
-        assert!(rt;
-            is_text(alloc, given.as_ref(), *specified_text)?,
-            "specified {page} {label}"
-        );
-        assert_eq!(rt; specifies(&arena, node, *command), given.is_some());
-        assert!(rt; !specifies_other(&arena, node, *command, slice(given.as_ref())));
-    }
-    Ok(())
+    assert_pages(&rt, rt.alloc(), &VALUES)
 }
 
 fn slice(value: Option<&Chars>) -> Option<&[char]> {
@@ -475,200 +368,218 @@ fn values_that_are_the_same(rt: HostRuntime) -> Result<(), Fail> {
 
 fn optional(alloc: Global, text: Option<&str>) -> Result<Option<Chars>, AllocError> {
     match text {
-        Some(text) => Ok(Some(chars(alloc, text)?)),
+        Some(text) => Ok(Some(Chars::from_vec(chars(alloc, text)?))),
         None => Ok(None),
     }
 }
 
-// A page with an element of label 1, whether that is modifiable, and whether it is simple modifiable.
-static ELEMENTS: [(&str, bool, bool); 30] = [
-    ("<b>x</b>", true, true),
-    ("<span style=\"\">x</span>", true, true),
-    ("<a>x</a>", true, true),
-    ("<ins>x</ins>", false, false),
-    ("<b class=\"c\">x</b>", false, false),
-    ("<b style=\"font-weight: bold\">x</b>", true, true),
-    ("<b style=\"font-style: italic\">x</b>", true, false),
-    (
+// Whether the node of the label 1 is a modifiable element, and whether it is a simple one.
+struct Modifiable(bool, bool);
+
+impl Look for Modifiable {
+    fn meets(&self, _alloc: Global, arena: &Arena) -> Result<bool, Fail> {
+        let node = node_of(arena, 1)?;
+        let is_so = is_modifiable_element(arena, node) == self.0;
+        Ok(is_so && is_simple_modifiable_element(arena, node) == self.1)
+    }
+}
+
+static ELEMENTS: [Page<Modifiable>; 31] = [
+    Page("<b>x</b>", Modifiable(true, true)),
+    Page("<span style=\"\">x</span>", Modifiable(true, true)),
+    Page("<a>x</a>", Modifiable(true, true)),
+    Page("<ins>x</ins>", Modifiable(false, false)),
+    Page("<b class=\"c\">x</b>", Modifiable(false, false)),
+    Page(
+        "<b style=\"font-weight: bold\">x</b>",
+        Modifiable(true, true),
+    ),
+    Page(
+        "<b style=\"font-style: italic\">x</b>",
+        Modifiable(true, false),
+    ),
+    Page(
         "<b style=\"font-weight: bold; color: red\">x</b>",
-        true,
-        false,
+        Modifiable(true, false),
     ),
-    (
+    Page(
         "<strong style=\"font-weight: bolder\">x</strong>",
-        true,
-        true,
+        Modifiable(true, true),
     ),
-    ("<em style=\"font-style: normal\">x</em>", true, true),
-    ("<em style=\"font-weight: bold\">x</em>", true, false),
-    ("<a href=\"u\">x</a>", true, true),
-    ("<a href=\"u\" style=\"color: red\">x</a>", true, false),
-    ("<a href=\"u\" title=\"t\">x</a>", false, false),
-    ("<a name=\"u\">x</a>", false, false),
-    ("<font color=\"red\">x</font>", true, true),
-    ("<font face=\"f\">x</font>", true, true),
-    ("<font size=\"1\">x</font>", true, true),
-    ("<font size=\"1\" face=\"f\">x</font>", true, false),
-    ("<font style=\"color: red\">x</font>", true, true),
-    ("<span style=\"color: red\">x</span>", true, true),
-    (
+    Page(
+        "<em style=\"font-style: normal\">x</em>",
+        Modifiable(true, true),
+    ),
+    Page(
+        "<em style=\"font-weight: bold\">x</em>",
+        Modifiable(true, false),
+    ),
+    Page("<a href=\"u\">x</a>", Modifiable(true, true)),
+    Page(
+        "<a href=\"u\" style=\"color: red\">x</a>",
+        Modifiable(true, false),
+    ),
+    Page("<a href=\"u\" title=\"t\">x</a>", Modifiable(false, false)),
+    Page("<a name=\"u\">x</a>", Modifiable(false, false)),
+    Page("<font color=\"red\">x</font>", Modifiable(true, true)),
+    Page("<font face=\"f\">x</font>", Modifiable(true, true)),
+    Page("<font size=\"1\">x</font>", Modifiable(true, true)),
+    Page(
+        "<font size=\"1\" face=\"f\">x</font>",
+        Modifiable(true, false),
+    ),
+    Page(
+        "<font style=\"color: red\">x</font>",
+        Modifiable(true, true),
+    ),
+    Page(
+        "<span style=\"color: red\">x</span>",
+        Modifiable(true, true),
+    ),
+    Page(
         "<span style=\"color: red; color: blue\">x</span>",
-        true,
-        true,
+        Modifiable(true, true),
     ),
-    ("<u style=\"color: red\">x</u>", true, false),
-    (
+    Page("<u style=\"color: red\">x</u>", Modifiable(true, false)),
+    Page(
         "<span style=\"text-decoration: underline\">x</span>",
-        true,
-        true,
+        Modifiable(true, true),
     ),
-    ("<u style=\"text-decoration: none\">x</u>", true, true),
-    (
+    Page(
+        "<u style=\"text-decoration: none\">x</u>",
+        Modifiable(true, true),
+    ),
+    Page(
         "<s style=\"text-decoration: underline line-through\">x</s>",
-        true,
-        false,
+        Modifiable(true, false),
     ),
-    ("<sub style=\"text-decoration: none\">x</sub>", true, false),
-    ("<sub style=\"x\">x</sub>", true, true),
-    ("<p style=\"color: red\">x</p>", false, false),
-    ("<span size=\"1\">x</span>", false, false),
+    Page(
+        "<sub style=\"text-decoration: none\">x</sub>",
+        Modifiable(true, false),
+    ),
+    Page("<sub style=\"x\">x</sub>", Modifiable(true, true)),
+    Page("<p style=\"color: red\">x</p>", Modifiable(false, false)),
+    Page("<span size=\"1\">x</span>", Modifiable(false, false)),
+    Page("x", Modifiable(false, false)),
 ];
 
 #[test]
 fn elements_that_may_be_changed(rt: HostRuntime) -> Result<(), Fail> {
-    let alloc = rt.alloc();
-    for (page, is_modifiable, is_simple) in &ELEMENTS {
-        let arena = read(alloc, page)?;
-        let node = arena.find(1).ok_or("label")?;
-        assert_eq!(rt; is_modifiable_element(&arena, node), *is_modifiable);
-        assert_eq!(rt; is_simple_modifiable_element(&arena, node), *is_simple);
-    }
-    let arena = read(alloc, "x")?;
-    let text = arena.find(1).ok_or("label")?;
-    assert!(rt;
-        !is_modifiable_element(&arena, text) && !is_simple_modifiable_element(&arena, text)
-    );
-    Ok(())
+    assert_pages(&rt, rt.alloc(), &ELEMENTS)
 }
 
-// A page, the label of a node, and its alignment.
-static ALIGNMENTS: [(&str, u32, &str); 9] = [
-    ("x", 1, "left"),
-    ("<center>x</center>", 2, "center"),
-    ("<p align=\"right\"><b>x</b></p>", 3, "right"),
-    (
+// The label of a node, and its alignment.
+struct Aligned(u32, &'static str);
+
+impl Look for Aligned {
+    fn meets(&self, _alloc: Global, arena: &Arena) -> Result<bool, Fail> {
+        let node = node_of(arena, self.0)?;
+        Ok(alignment(arena, node).keyword() == self.1.as_bytes())
+    }
+}
+
+static ALIGNMENTS: [Page<Aligned>; 9] = [
+    Page("x", Aligned(1, "left")),
+    Page("<center>x</center>", Aligned(2, "center")),
+    Page("<p align=\"right\"><b>x</b></p>", Aligned(3, "right")),
+    Page(
         "<p align=\"right\"><b style=\"text-align: center\">x</b></p>",
-        3,
-        "right",
+        Aligned(3, "right"),
     ),
-    (
+    Page(
         "<p align=\"right\"><b style=\"text-align: center; display: inline-block\">x</b></p>",
-        3,
-        "center",
+        Aligned(3, "center"),
     ),
-    (
+    Page(
         "<p align=\"right\"><b style=\"text-align: center; display: none\">x</b></p>",
-        3,
-        "right",
+        Aligned(3, "right"),
     ),
-    ("<b style=\"text-align: center\">x</b>", 2, "left"),
-    ("<center><p>x</p></center>", 3, "center"),
-    ("<p style=\"text-align: end\">x</p>", 1, "right"),
+    Page("<b style=\"text-align: center\">x</b>", Aligned(2, "left")),
+    Page("<center><p>x</p></center>", Aligned(3, "center")),
+    Page("<p style=\"text-align: end\">x</p>", Aligned(1, "right")),
 ];
 
 #[test]
 fn alignments_of_nodes(rt: HostRuntime) -> Result<(), Fail> {
-    let alloc = rt.alloc();
-    for (page, label, value) in &ALIGNMENTS {
-        let arena = read(alloc, page)?;
-        let node = arena.find(*label).ok_or("label")?;
-        assert!(rt;
-            alignment(&arena, node).keyword() == value.as_bytes(),
-            "{page} {label}"
-        );
-    }
-    Ok(())
+    assert_pages(&rt, rt.alloc(), &ALIGNMENTS)
 }
 
-// A page, the label of a node, a command, and whether it counts as on.
-static STATES: [(&str, u32, Command, bool); 12] = [
-    ("<b>x</b>", 2, Command::Bold, true),
-    (
+// The label of a node, a command, and whether it counts as on.
+struct Active(u32, Command, bool);
+
+impl Look for Active {
+    fn meets(&self, _alloc: Global, arena: &Arena) -> Result<bool, Fail> {
+        let node = node_of(arena, self.0)?;
+        Ok(is_activated(arena, node, self.1) == self.2)
+    }
+}
+
+static STATES: [Page<Active>; 12] = [
+    Page("<b>x</b>", Active(2, Command::Bold, true)),
+    Page(
         "<i style=\"font-weight: 600\">x</i>",
-        2,
-        Command::Bold,
-        true,
+        Active(2, Command::Bold, true),
     ),
-    (
+    Page(
         "<i style=\"font-weight: 500\">x</i>",
-        2,
-        Command::Bold,
-        false,
+        Active(2, Command::Bold, false),
     ),
-    ("x", 1, Command::Bold, false),
-    ("<i>x</i>", 2, Command::Italic, true),
-    ("<b>x</b>", 2, Command::Italic, false),
-    ("<u>x</u>", 2, Command::Underline, true),
-    ("<u>x</u>", 2, Command::Strikethrough, false),
-    ("<sub>x</sub>", 2, Command::Subscript, true),
-    ("<sub>x</sub>", 2, Command::Superscript, false),
-    ("<sub><sup>x</sup></sub>", 3, Command::Superscript, false),
-    ("<a href=\"\">x</a>", 2, Command::CreateLink, false),
+    Page("x", Active(1, Command::Bold, false)),
+    Page("<i>x</i>", Active(2, Command::Italic, true)),
+    Page("<b>x</b>", Active(2, Command::Italic, false)),
+    Page("<u>x</u>", Active(2, Command::Underline, true)),
+    Page("<u>x</u>", Active(2, Command::Strikethrough, false)),
+    Page("<sub>x</sub>", Active(2, Command::Subscript, true)),
+    Page("<sub>x</sub>", Active(2, Command::Superscript, false)),
+    Page(
+        "<sub><sup>x</sup></sub>",
+        Active(3, Command::Superscript, false),
+    ),
+    Page("<a href=\"\">x</a>", Active(2, Command::CreateLink, false)),
 ];
 
 #[test]
 fn states_of_commands(rt: HostRuntime) -> Result<(), Fail> {
-    let alloc = rt.alloc();
-    for (page, label, command, is_on) in &STATES {
-        let arena = read(alloc, page)?;
-        let node = arena.find(*label).ok_or("label")?;
-        assert_eq!(rt; is_activated(&arena, node, *command), *is_on);
-    }
-    Ok(())
+    assert_pages(&rt, rt.alloc(), &STATES)
 }
 
-// A page with an element of label 1, a command, a value, and whether the element gives the command that value and has it.
-static GIVEN: [(&str, Command, &str, bool); 10] = [
-    ("<b>x</b>", Command::Bold, "700", true),
-    ("<b>x</b>", Command::Bold, "bold", true),
-    ("<b>x</b>", Command::Bold, "800", false),
-    ("<b class=\"c\">x</b>", Command::Bold, "bold", false),
-    (
+// A command, a value, and whether the element of the label 1 gives the command that value and has it.
+struct Meets(Command, &'static str, bool);
+
+impl Look for Meets {
+    fn meets(&self, alloc: Global, arena: &Arena) -> Result<bool, Fail> {
+        let node = node_of(arena, 1)?;
+        let value = chars(alloc, self.1)?;
+        Ok(meets_value(arena, node, self.0, value.as_slice()) == self.2)
+    }
+}
+
+static GIVEN: [Page<Meets>; 10] = [
+    Page("<b>x</b>", Meets(Command::Bold, "700", true)),
+    Page("<b>x</b>", Meets(Command::Bold, "bold", true)),
+    Page("<b>x</b>", Meets(Command::Bold, "800", false)),
+    Page("<b class=\"c\">x</b>", Meets(Command::Bold, "bold", false)),
+    Page(
         "<font size=\"4\">x</font>",
-        Command::FontSize,
-        "large",
-        true,
+        Meets(Command::FontSize, "large", true),
     ),
-    (
+    Page(
         "<font size=\"4\">x</font>",
-        Command::FontSize,
-        "18px",
-        false,
+        Meets(Command::FontSize, "18px", false),
     ),
-    (
+    Page(
         "<font color=\"red\">x</font>",
-        Command::ForeColor,
-        "#f00",
-        true,
+        Meets(Command::ForeColor, "#f00", true),
     ),
-    ("<span>x</span>", Command::Bold, "400", false),
-    ("<a href=\"u\">x</a>", Command::CreateLink, "u", true),
-    (
+    Page("<span>x</span>", Meets(Command::Bold, "400", false)),
+    Page("<a href=\"u\">x</a>", Meets(Command::CreateLink, "u", true)),
+    Page(
         "<sub style=\"display: block\">x</sub>",
-        Command::Subscript,
-        "subscript",
-        false,
+        Meets(Command::Subscript, "subscript", false),
     ),
 ];
 
 #[test]
 fn elements_that_meet_a_value(rt: HostRuntime) -> Result<(), Fail> {
-    let alloc = rt.alloc();
-    for (page, command, value, does) in &GIVEN {
-        let arena = read(alloc, page)?;
-        let node = arena.find(1).ok_or("label")?;
-        let text = chars(alloc, value)?;
-        assert_eq!(rt; meets_value(&arena, node, *command, text.as_slice()), *does);
-    }
-    Ok(())
+    assert_pages(&rt, rt.alloc(), &GIVEN)
 }

@@ -4,8 +4,8 @@ ghost use Rattle.std.specs.Prelude.{◌≡◌, ◌<◌, IfOk};
 ghost use Rattle.edit_doc.specs.Whole.{IsClosed, IsOpen};
 
 use super::acts::{Act, make_each};
-use crate::tests::pages::{begin, document_of};
-use edit_doc::{Chars, Committed, Doc, Flags, Pair, Point, Setting};
+use crate::tests::pages::{Trial, begin, found, point};
+use edit_doc::{Chars, Committed, Doc, Flags, Pair, Setting};
 use html_names::Command;
 use page_write::write_html;
 use std::alloc::{AllocError, Global};
@@ -138,10 +138,6 @@ fn whole(alloc: Global, doc: &Doc) -> Result<String, Fail> {
     Ok(text)
 }
 
-fn point(label: u32, offset: u32) -> Point {
-    Point { label, offset }
-}
-
 // Marks the selection.
 fn mark(doc: &mut Doc, name: &[u8]) -> Result<(), Fail>
     requires { IsClosed doc.old }
@@ -156,18 +152,18 @@ fn mark(doc: &mut Doc, name: &[u8]) -> Result<(), Fail>
     Ok(())
 }
 
-// A document with a mark, a selection, overrides and a flag.
-fn start(alloc: Global) -> Result<Doc, Fail>
-    ensures { IfOk result (λ doc. IsClosed doc) }
+// Gives the document a mark, a selection and overrides.
+fn start(alloc: Global, doc: &mut Doc) -> Result<(), Fail>
+    requires { IsClosed doc.old }
+    ensures { IfOk result (λ _. IsClosed doc.new) }
 {
-    let mut doc = document_of(alloc, PAGE)?;
-    doc.select(point(4, 1), point(6, 2));
-    mark(&mut doc, b"m")?;
-    doc.select(point(8, 1), point(2, 1));
+    doc.select(point((4, 1)), point((6, 2)));
+    mark(doc, b"m")?;
+    doc.select(point((8, 1)), point((2, 1)));
     let value = Chars::from_slice(alloc, &['r', 'e', 'd'])?;
     doc.set_setting(Command::Bold, Setting::On);
     doc.set_setting(Command::ForeColor, Setting::Text { value });
-    Ok(doc)
+    Ok(())
 }
 
 // Begins a command, or one that joins the last entry.
@@ -337,47 +333,61 @@ fn is_edited(doc: &Doc, is: &str) -> bool
     is.starts_with(EDITED) && has_lengths(doc, 1, 0, 20) && three_deep
 }
 
-// Whether the edits are made, and undo and redo lead between what is shown before and after them.
-fn leads_back(alloc: Global, doc: &mut Doc, before: &str, resumes: bool) -> Result<bool, Fail>
-    requires { IsClosed doc.old }
-{
-    run_all(alloc, doc, resumes)?;
-    let after = shown(alloc, doc)?;
-    let made = is_edited(doc, after.as_str());
-    let turned = turns(alloc, doc, before, after.as_str())?;
-    Ok(made && turned)
+// Whether the edits are made, in one command or in two of which the second joins the entry of the first, and undo and redo
+// lead between what is shown before and after them.
+#[derive(Clone, Copy)]
+struct Undone {
+    resumes: bool,
 }
 
-fn is_undone(alloc: Global, resumes: bool) -> Result<bool, Fail> {
-    let mut doc = start(alloc)?;
-    let before = shown(alloc, &doc)?;
-    leads_back(alloc, &mut doc, before.as_str(), resumes)
+impl Trial for Undone {
+    type Found = bool;
+
+    fn run(&self, alloc: Global, doc: &mut Doc) -> Result<bool, Fail> {
+        start(alloc, doc)?;
+        let before = shown(alloc, doc)?;
+        run_all(alloc, doc, self.resumes)?;
+        let after = shown(alloc, doc)?;
+        let made = is_edited(doc, after.as_str());
+        let turned = turns(alloc, doc, before.as_str(), after.as_str())?;
+        Ok(made && turned)
+    }
 }
 
-fn first_is_taken_back(alloc: Global) -> Result<bool, Fail> {
-    let mut doc = start(alloc)?;
-    let same = is_taken_back(alloc, &mut doc, &FIRST, &LATER, false)?;
-    Ok(same && has_lengths(&doc, 0, 0, 0))
+// Whether the command that makes the edits leaves all as it was where it is taken back, or the second of two that does.
+#[derive(Clone, Copy)]
+struct TakenBack {
+    resumes: bool,
 }
 
-fn resumed_is_taken_back(alloc: Global) -> Result<bool, Fail> {
-    let mut doc = start(alloc)?;
-    run_to_end(alloc, &mut doc, &FIRST, &[], false)?;
-    let same = is_taken_back(alloc, &mut doc, &LATER, &[], true)?;
-    Ok(same && has_lengths(&doc, 1, 0, 9))
+impl Trial for TakenBack {
+    type Found = bool;
+
+    fn run(&self, alloc: Global, doc: &mut Doc) -> Result<bool, Fail> {
+        start(alloc, doc)?;
+        if self.resumes {
+            run_to_end(alloc, doc, &FIRST, &[], false)?;
+            let same = is_taken_back(alloc, doc, &LATER, &[], true)?;
+            Ok(same && has_lengths(doc, 1, 0, 9))
+        } else {
+            let same = is_taken_back(alloc, doc, &FIRST, &LATER, false)?;
+            Ok(same && has_lengths(doc, 0, 0, 0))
+        }
+    }
 }
 
 #[test]
 fn commands_are_taken_back(rt: HostRuntime) -> Result<(), Fail> {
-    assert!(rt; first_is_taken_back(rt.alloc())?);
-    assert!(rt; resumed_is_taken_back(rt.alloc())?);
+    for resumes in [false, true] {
+        assert!(rt; found(rt.alloc(), PAGE, &TakenBack { resumes })?);
+    }
     Ok(())
 }
 
 #[test]
 fn commands_are_undone(rt: HostRuntime) -> Result<(), Fail> {
     for resumes in [false, true] {
-        assert!(rt; is_undone(rt.alloc(), resumes)?);
+        assert!(rt; found(rt.alloc(), PAGE, &Undone { resumes })?);
     }
     Ok(())
 }

@@ -1,8 +1,8 @@
 //! What edits do to points at every place of a page.
 
 use super::acts::{Act, make_act};
-use crate::tests::pages::{begin, document_of};
-use edit_doc::Point;
+use crate::tests::pages::{Trial, begin, found};
+use edit_doc::{Doc, Point};
 use std::alloc::Global;
 use std::test::Fail;
 
@@ -50,23 +50,32 @@ static ROWS: [(Act, bool, &str); 14] = [
     (Act::Rename(3, "u"), true, "3:0>7:0 3:1>7:1 "),
 ];
 
-// A point after an edit, whether it was made, and where the caret is.
-fn after(alloc: Global, act: &Act, at: Point) -> Result<(bool, Option<Point>), Fail> {
-    let mut doc = document_of(alloc, PAGE)?;
-    begin(&mut doc)?;
-    doc.collapse(at);
-    let made = make_act(alloc, &mut doc, act)?;
-    Ok((made, doc.points().selection().map(|pair| pair.anchor)))
+// An edit under a caret: whether it was made, and where the caret then is.
+#[derive(Clone, Copy)]
+struct Caret {
+    act: &'static Act,
+    at: Point,
+}
+
+impl Trial for Caret {
+    type Found = (bool, Option<Point>);
+
+    fn run(&self, alloc: Global, doc: &mut Doc) -> Result<(bool, Option<Point>), Fail> {
+        begin(doc)?;
+        doc.collapse(self.at);
+        let made = make_act(alloc, doc, self.act)?;
+        Ok((made, doc.points().selection().map(|pair| pair.anchor)))
+    }
 }
 
 // Appends where a point goes, if it doesn't stay. The edit has to be made, or not.
 fn push_step(
     alloc: Global,
     text: &mut String,
-    row: &(Act, bool, &str),
+    row: &'static (Act, bool, &'static str),
     at: Point,
 ) -> Result<(), Fail> {
-    let (made, point) = after(alloc, &row.0, at)?;
+    let (made, point) = found(alloc, PAGE, &Caret { act: &row.0, at })?;
     let point = point.ok_or("no caret")?;
     if made != row.1 {
         return Err("not so".into());
@@ -82,7 +91,7 @@ fn push_step(
 }
 
 // Where the points go.
-fn steps_of(alloc: Global, row: &(Act, bool, &str)) -> Result<String, Fail> {
+fn steps_of(alloc: Global, row: &'static (Act, bool, &'static str)) -> Result<String, Fail> {
     let mut text = String::new(alloc);
     for (label, length) in &NODES {
         for offset in 0..*length {

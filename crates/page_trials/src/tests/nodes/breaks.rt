@@ -1,67 +1,87 @@
 //! Which nodes follow and precede line breaks.
 
-use crate::tests::pages::{node_of, read};
+use crate::tests::pages::{Look, Page, assert_pages, node_of};
+use node_arena::Arena;
 use node_tests::{follows_break, precedes_break};
+use std::alloc::Global;
 use std::test::Fail;
 
-// A page, and nodes of it by their labels with whether each follows and precedes a line break.
-static BREAKS: [(&str, &[(u32, bool, bool)]); 12] = [
-    (
+// Nodes by their labels, with whether each follows and precedes a line break.
+struct Beside(&'static [(u32, bool, bool)]);
+
+impl Look for Beside {
+    fn meets(&self, _alloc: Global, arena: &Arena) -> Result<bool, Fail> {
+        for (label, follows, precedes) in self.0 {
+            let node = node_of(arena, *label)?;
+            if follows_break(arena, node) != *follows || precedes_break(arena, node) != *precedes {
+                return Ok(false);
+            }
+        }
+        Ok(true)
+    }
+}
+
+static BREAKS: [Page<Beside>; 12] = [
+    Page(
         "<p>a<br>b</p>",
-        &[(2, true, false), (3, false, true), (4, true, true)],
+        Beside(&[(2, true, false), (3, false, true), (4, true, true)]),
     ),
-    (
+    Page(
         "<p>a<b>b</b></p>",
-        &[(2, true, false), (3, false, true), (4, false, true)],
+        Beside(&[(2, true, false), (3, false, true), (4, false, true)]),
     ),
-    ("<p>a</p>b", &[(1, true, true), (3, true, true)]),
-    (
+    Page("<p>a</p>b", Beside(&[(1, true, true), (3, true, true)])),
+    Page(
         "<p> <b>b</b></p>",
-        &[(2, true, false), (3, true, true), (4, true, true)],
+        Beside(&[(2, true, false), (3, true, true), (4, true, true)]),
     ),
-    ("<i></i><b></b>c", &[(2, true, false), (3, true, true)]),
-    (
+    Page(
+        "<i></i><b></b>c",
+        Beside(&[(2, true, false), (3, true, true)]),
+    ),
+    Page(
         "a<i> </i><p>b</p>",
-        &[(1, true, true), (2, false, true), (4, true, true)],
+        Beside(&[(1, true, true), (2, false, true), (4, true, true)]),
     ),
-    ("<img><!-- c -->b", &[(1, true, false), (3, false, true)]),
-    ("<b>a<br></b>c", &[(3, false, true), (4, false, true)]),
-    (
+    Page(
+        "<img><!-- c -->b",
+        Beside(&[(1, true, false), (3, false, true)]),
+    ),
+    Page(
+        "<b>a<br></b>c",
+        Beside(&[(3, false, true), (4, false, true)]),
+    ),
+    Page(
         "a<p style=\"display: none\">b</p>c",
-        &[(1, true, false), (4, false, true)],
+        Beside(&[(1, true, false), (4, false, true)]),
     ),
-    (
+    Page(
         "<p>a</p><p><b></b>c</p>d",
-        &[
+        Beside(&[
             (0, true, true),
             (2, true, true),
             (4, true, false),
             (5, true, true),
             (6, true, true),
-        ],
+        ]),
     ),
-    (
+    Page(
         "a<br>b<i>c</i>",
-        &[
+        Beside(&[
             (1, true, false),
             (2, false, true),
             (3, true, false),
             (4, false, true),
             (5, false, true),
-        ],
+        ]),
     ),
-    ("<p style=\"display: none\">a</p>b", &[(3, true, true)]),
+    Page(
+        "<p style=\"display: none\">a</p>b",
+        Beside(&[(3, true, true)]),
+    ),
 ];
 
 #[test]
 fn nodes_stand_beside_line_breaks(rt: HostRuntime) -> Result<(), Fail> {
-    for (page, rows) in &BREAKS {
-        let arena = read(rt.alloc(), page)?;
-        for (label, follows, precedes) in *rows {
-            let node = node_of(&arena, *label)?;
-            assert_eq!(rt; follows_break(&arena, node), *follows, "{page} {label}");
-            assert_eq!(rt; precedes_break(&arena, node), *precedes, "{page} {label}");
-        }
-    }
-    Ok(())
+    assert_pages(&rt, rt.alloc(), &BREAKS)
 }

@@ -4,7 +4,7 @@ ghost use Rattle.std.specs.Prelude.{IfOk};
 ghost use Rattle.edit_doc.specs.Held.{Holds};
 ghost use Rattle.edit_doc.specs.Whole.{IsClosed};
 
-use crate::tests::pages::{begin, document_of, range_of};
+use crate::tests::pages::{Trial, begin, found, range_of};
 use edit_doc::{Attributes, Doc, Name, NodeRef};
 use node_tests::{contained_nodes, effective_nodes, resolved};
 use std::alloc::Global;
@@ -25,17 +25,26 @@ fn bold_text(doc: &mut Doc, alloc: Global) -> Result<(NodeRef, NodeRef), Fail>
     Ok((bold, text))
 }
 
+// Whether the tree's style is its own, and ranges in it contain its nodes.
+struct LooseTree;
+
+impl Trial for LooseTree {
+    type Found = bool;
+
+    fn run(&self, alloc: Global, doc: &mut Doc) -> Result<bool, Fail> {
+        let (bold, text) = bold_text(doc, alloc)?;
+        let weight = resolved(alloc, doc, text, Property::FontWeight)?;
+        let range = range_of(doc, (bold.label, 0), (bold.label, 1))?;
+        let contained = contained_nodes(alloc, doc, range)?;
+        let effective = effective_nodes(alloc, doc, range)?;
+        let is_bold = weight.as_slice() == ['7', '0', '0'].as_slice();
+        let has_text = contained.as_slice() == [text].as_slice();
+        Ok(is_bold && has_text && effective.as_slice() == [bold, text].as_slice())
+    }
+}
+
 #[test]
 fn loose_trees_meet_the_tests(rt: HostRuntime) -> Result<(), Fail> {
-    let alloc = rt.alloc();
-    let mut doc = document_of(alloc, "")?;
-    let (bold, text) = bold_text(&mut doc, alloc)?;
-    let weight = resolved(alloc, &doc, text, Property::FontWeight)?;
-    assert_eq!(rt; weight.as_slice(), ['7', '0', '0'].as_slice());
-    let range = range_of(&doc, (bold.label, 0), (bold.label, 1))?;
-    let contained = contained_nodes(alloc, &doc, range)?;
-    assert_eq!(rt; contained.as_slice(), [text].as_slice());
-    let effective = effective_nodes(alloc, &doc, range)?;
-    assert_eq!(rt; effective.as_slice(), [bold, text].as_slice());
+    assert!(rt; found(rt.alloc(), "", &LooseTree)?);
     Ok(())
 }

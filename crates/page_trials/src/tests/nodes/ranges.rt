@@ -3,20 +3,36 @@
 ghost use Rattle.std.specs.Prelude.{◌<◌};
 ghost use Rattle.dom_model.specs.Forest.{count_of};
 
-use crate::tests::pages::{point_of, range_of, read};
+use crate::tests::pages::{Look, Page, assert_pages, labels, point_of, range_of};
 use live_range::Point;
-use node_arena::{Arena, NodeRef};
+use node_arena::Arena;
 use node_tests::*;
 use std::alloc::{AllocError, Global};
-use std::process::Abort;
 use std::test::Fail;
 
-// A page, and points of it, each the label of a node and an offset, with whether it is a block start point and a block end
-// point.
-static POINTS: [(&str, &[(u32, u32, bool, bool)]); 3] = [
-    (
+// Points, each the label of a node and an offset, with whether it is a block start point and a block end point.
+struct Points(&'static [(u32, u32, bool, bool)]);
+
+impl Look for Points {
+    fn meets(&self, _alloc: Global, arena: &Arena) -> Result<bool, Fail> {
+        for (label, offset, starts, ends) in self.0 {
+            let at = point_of(arena, (*label, *offset))?;
+            let is_boundary = is_block_boundary(arena, at) == (*starts || *ends);
+            if is_block_start(arena, at) != *starts
+                || is_block_end(arena, at) != *ends
+                || !is_boundary
+            {
+                return Ok(false);
+            }
+        }
+        Ok(true)
+    }
+}
+
+static POINTS: [Page<Points>; 3] = [
+    Page(
         "<p>a</p><br>b",
-        &[
+        Points(&[
             (0, 0, true, true),
             (0, 1, true, false),
             (0, 2, true, false),
@@ -26,34 +42,89 @@ static POINTS: [(&str, &[(u32, u32, bool, bool)]); 3] = [
             (1, 1, false, false),
             (2, 0, false, false),
             (2, 1, false, false),
-        ],
+        ]),
     ),
-    (
+    Page(
         "<p style=\"display: none\">a</p>",
-        &[
+        Points(&[
             (0, 0, true, false),
             (0, 1, false, true),
             (1, 1, false, false),
-        ],
+        ]),
     ),
-    (
+    Page(
         "a<br><p>b</p>",
-        &[
+        Points(&[
             (0, 1, false, false),
             (0, 2, false, true),
             (0, 3, true, true),
-        ],
+        ]),
     ),
 ];
+
+#[test]
+fn blocks_start_and_end(rt: HostRuntime) -> Result<(), Fail> {
+    assert_pages(&rt, rt.alloc(), &POINTS)
+}
 
 // A start and an end, each the label of a node and an offset, and the labels of the nodes that the range contains, and contains
 // in effect.
 type Row = ((u32, u32), (u32, u32), &'static [u32], &'static [u32]);
 
-static RANGES: [(&str, &[Row]); 4] = [
-    (
+struct Ranges(&'static [Row]);
+
+// Whether the tests of single nodes give these lists.
+fn contains_each(arena: &Arena, range: (Point, Point), lists: (&[u32], &[u32])) -> bool
+    requires start_held { 0 < count_of arena.now.trees range.0.label }
+    requires end_held { 0 < count_of arena.now.trees range.1.label }
+{
+    for label in 0..arena.next_label() {
+        if let Some(node) = arena.find(label) {
+            let contained = is_contained(arena, node, range) == lists.0.contains(&label);
+            let effective = is_effectively_contained(arena, node, range)
+                == lists.1.contains(&label);
+            if !contained || !effective {
+                return false;
+            }
+        }
+    }
+    true
+}
+
+// Whether the lists of nodes are these.
+fn lists_each(
+    alloc: Global,
+    arena: &Arena,
+    range: (Point, Point),
+    lists: (&[u32], &[u32]),
+) -> Result<bool, AllocError>
+    requires start_held { 0 < count_of arena.now.trees range.0.label }
+    requires end_held { 0 < count_of arena.now.trees range.1.label }
+{
+    let contained = contained_nodes(alloc, arena, range)?;
+    let contained = labels(alloc, contained.as_slice())?;
+    let effective = effective_nodes(alloc, arena, range)?;
+    let effective = labels(alloc, effective.as_slice())?;
+    Ok(contained.as_slice() == lists.0 && effective.as_slice() == lists.1)
+}
+
+impl Look for Ranges {
+    fn meets(&self, alloc: Global, arena: &Arena) -> Result<bool, Fail> {
+        for (start, end, contained, effective) in self.0 {
+            let range = range_of(arena, *start, *end)?;
+            let lists = (*contained, *effective);
+            if !contains_each(arena, range, lists) || !lists_each(alloc, arena, range, lists)? {
+                return Ok(false);
+            }
+        }
+        Ok(true)
+    }
+}
+
+static RANGES: [Page<Ranges>; 4] = [
+    Page(
         "<div contenteditable=\"true\"><p>foobar</p></div>",
-        &[
+        Ranges(&[
             ((3, 1), (3, 4), &[], &[3]),
             ((3, 0), (3, 6), &[], &[0, 1, 2, 3]),
             ((3, 2), (3, 2), &[], &[]),
@@ -61,11 +132,11 @@ static RANGES: [(&str, &[Row]); 4] = [
             ((0, 0), (0, 1), &[1, 2, 3], &[0, 1, 2, 3]),
             ((2, 0), (2, 1), &[3], &[0, 1, 2, 3]),
             ((2, 0), (3, 6), &[], &[0, 1, 2, 3]),
-        ],
+        ]),
     ),
-    (
+    Page(
         "<div contenteditable=\"true\"><p>a<b>bc</b></p><p>d</p></div>",
-        &[
+        Ranges(&[
             ((3, 0), (5, 1), &[], &[3, 5]),
             ((3, 1), (5, 1), &[], &[5]),
             ((5, 0), (5, 2), &[], &[4, 5]),
@@ -74,103 +145,62 @@ static RANGES: [(&str, &[Row]); 4] = [
             ((4, 0), (6, 1), &[5, 7], &[4, 5, 6, 7]),
             ((5, 2), (7, 1), &[], &[6, 7]),
             ((2, 1), (6, 0), &[4, 5], &[4, 5]),
-        ],
+        ]),
     ),
-    (
+    Page(
         "<p>a</p><div contenteditable=\"true\"><p>b</p></div>",
-        &[
+        Ranges(&[
             ((2, 0), (5, 1), &[], &[0, 1, 2, 3, 4, 5]),
             ((5, 0), (2, 1), &[], &[]),
-        ],
+        ]),
     ),
-    (
+    Page(
         "<div contenteditable=\"true\">a<u contenteditable=\"false\">b<i contenteditable=\"true\">c</i></u></div>",
-        &[
+        Ranges(&[
             ((2, 0), (6, 1), &[4], &[0, 1, 2, 3, 4, 5, 6]),
             ((4, 0), (4, 1), &[], &[4]),
             ((6, 0), (6, 1), &[], &[5, 6]),
             ((5, 0), (5, 1), &[6], &[5, 6]),
-        ],
+        ]),
     ),
 ];
 
 #[test]
-fn blocks_start_and_end(rt: HostRuntime) -> Result<(), Fail> {
-    for (page, rows) in &POINTS {
-        let arena = read(rt.alloc(), page)?;
-        for (label, offset, starts, ends) in *rows {
-            let at = point_of(&arena, (*label, *offset))?;
-            assert_eq!(rt; is_block_start(&arena, at), *starts);
-            assert_eq!(rt; is_block_end(&arena, at), *ends);
-            assert_eq!(rt; is_block_boundary(&arena, at), *starts || *ends);
-        }
-    }
-    Ok(())
-}
-
-// That the tests of single nodes give the lists too.
-fn check_each(rt: &impl Abort, arena: &Arena, range: (Point, Point), lists: (&[u32], &[u32]))
-    requires start_held { 0 < count_of arena.now.trees range.0.label }
-    requires end_held { 0 < count_of arena.now.trees range.1.label }
-{
-    for label in 0..arena.next_label() {
-        if let Some(node) = arena.find(label) {
-            assert_eq!(rt; is_contained(arena, node, range), lists.0.contains(&label));
-            assert_eq!(rt;
-                is_effectively_contained(arena, node, range),
-                lists.1.contains(&label)
-            );
-        }
-    }
-}
-
-fn labels(alloc: Global, list: &[NodeRef]) -> Result<Vec<u32>, AllocError> {
-    let mut labels = Vec::new(alloc);
-    for node in list {
-        labels.push(node.label)?;
-    }
-    Ok(labels)
-}
-
-#[test]
 fn ranges_contain_nodes(rt: HostRuntime) -> Result<(), Fail> {
-    for (page, rows) in &RANGES {
-        let arena = read(rt.alloc(), page)?;
-        for (start, end, contained, effective) in *rows {
-            let range = range_of(&arena, *start, *end)?;
-            check_each(&rt, &arena, range, (*contained, *effective));
-            let list = contained_nodes(rt.alloc(), &arena, range)?;
-            assert_eq!(rt; labels(rt.alloc(), list.as_slice())?.as_slice(), *contained);
-            let list = effective_nodes(rt.alloc(), &arena, range)?;
-            assert_eq!(rt; labels(rt.alloc(), list.as_slice())?.as_slice(), *effective);
-        }
-    }
-    Ok(())
+    assert_pages(&rt, rt.alloc(), &RANGES)
 }
 
-static ISLAND: &str =
-    "<div contenteditable=\"true\">a<u contenteditable=\"false\">b<i contenteditable=\"true\">c</i></u></div><p>d</p>";
+// The labels of the ends of a range, and that of its host.
+struct Hosts(&'static [(u32, u32, Option<u32>)]);
 
-// The labels of the ends of a range in the page above, and that of its host.
-static HOSTS: [(u32, u32, Option<u32>); 9] = [
-    (2, 2, Some(1)),
-    (1, 2, Some(1)),
-    (2, 6, Some(1)),
-    (6, 6, Some(5)),
-    (5, 6, Some(5)),
-    (4, 4, None),
-    (2, 4, None),
-    (2, 8, None),
-    (8, 8, None),
-];
+impl Look for Hosts {
+    fn meets(&self, _alloc: Global, arena: &Arena) -> Result<bool, Fail> {
+        for (start, end, wanted) in self.0 {
+            let range = range_of(arena, (*start, 0), (*end, 0))?;
+            if affected_host(arena, range).map(|host| host.label) != *wanted {
+                return Ok(false);
+            }
+        }
+        Ok(true)
+    }
+}
+
+static HOSTS: [Page<Hosts>; 1] = [Page(
+    "<div contenteditable=\"true\">a<u contenteditable=\"false\">b<i contenteditable=\"true\">c</i></u></div><p>d</p>",
+    Hosts(&[
+        (2, 2, Some(1)),
+        (1, 2, Some(1)),
+        (2, 6, Some(1)),
+        (6, 6, Some(5)),
+        (5, 6, Some(5)),
+        (4, 4, None),
+        (2, 4, None),
+        (2, 8, None),
+        (8, 8, None),
+    ]),
+)];
 
 #[test]
 fn ranges_have_hosts(rt: HostRuntime) -> Result<(), Fail> {
-    let arena = read(rt.alloc(), ISLAND)?;
-    for (start, end, wanted) in &HOSTS {
-        let range = range_of(&arena, (*start, 0), (*end, 0))?;
-        let host = affected_host(&arena, range).map(|host| host.label);
-        assert_eq!(rt; host, *wanted);
-    }
-    Ok(())
+    assert_pages(&rt, rt.alloc(), &HOSTS)
 }

@@ -2,100 +2,139 @@
 
 ghost use Rattle.node_arena.specs.Held.{Holds};
 
-use crate::tests::pages::{node_of, read};
+use crate::tests::pages::{Look, Page, assert_pages, node_of};
 use node_arena::{Arena, NodeRef};
 use node_tests::*;
 use std::alloc::{AllocError, Global};
 use std::test::Fail;
 
-// A page, and nodes of it by their labels with the letters of the tests that each meets: editable, block, visible, whitespace,
-// collapsed whitespace, extraneous break (x), collapsed break (k), collapsed block prop.
-static NODES: [(&str, &[(u32, &str)]); 54] = [
-    (
+// Nodes by their labels with the letters of the tests that each meets: editable, block, visible, whitespace, collapsed
+// whitespace, extraneous break (x), collapsed break (k), collapsed block prop.
+struct Lettered(&'static [(u32, &'static str)]);
+
+impl Look for Lettered {
+    fn meets(&self, alloc: Global, arena: &Arena) -> Result<bool, Fail> {
+        for (label, wanted) in self.0 {
+            let node = node_of(arena, *label)?;
+            let met = letters(alloc, arena, node)?;
+            if met.as_str() != *wanted {
+                return Ok(false);
+            }
+        }
+        Ok(true)
+    }
+}
+
+static NODES: [Page<Lettered>; 54] = [
+    Page(
         "<div contenteditable=\"true\"><p>a<br></p></div>",
-        &[(0, "bv"), (1, "bv"), (2, "ebv"), (3, "ev"), (4, "ex")],
+        Lettered(&[(0, "bv"), (1, "bv"), (2, "ebv"), (3, "ev"), (4, "ex")]),
     ),
-    (
+    Page(
         "<div contenteditable=\"true\"><p> <b>a</b></p></div>",
-        &[(3, "ewc"), (4, "ev")],
+        Lettered(&[(3, "ewc"), (4, "ev")]),
     ),
-    (
+    Page(
         "<div contenteditable=\"true\"><p><b>a</b> </p></div>",
-        &[(5, "ewc")],
+        Lettered(&[(5, "ewc")]),
     ),
-    (
+    Page(
         "<div contenteditable=\"true\"><p><b>a</b> <i>b</i></p></div>",
-        &[(5, "evw")],
+        Lettered(&[(5, "evw")]),
     ),
-    (
+    Page(
         "<div contenteditable=\"true\"><ul> <li>a</li> <li>b</li> </ul></div>",
-        &[(3, "ewc"), (6, "ewc"), (9, "ewc")],
+        Lettered(&[(3, "ewc"), (6, "ewc"), (9, "ewc")]),
     ),
-    (
+    Page(
         "<table><tr> <td>a</td> </tr></table>",
-        &[(3, "wc"), (6, "wc")],
+        Lettered(&[(3, "wc"), (6, "wc")]),
     ),
-    ("<pre>a\n</pre>", &[(2, "v")]),
-    ("<pre> </pre>", &[(2, "v")]),
-    (
+    Page("<pre>a\n</pre>", Lettered(&[(2, "v")])),
+    Page("<pre> </pre>", Lettered(&[(2, "v")])),
+    Page(
         "<p style=\"white-space: pre-line\">a\n</p><p style=\"white-space: pre-line\"> \t</p><p style=\"white-space: pre-line\">\n</p>",
-        &[(2, "v"), (4, "wc"), (6, "v")],
+        Lettered(&[(2, "v"), (4, "wc"), (6, "v")]),
     ),
-    ("<p style=\"white-space: nowrap\"> \n</p>", &[(2, "wc")]),
-    ("<nobr> </nobr>a", &[(2, "wc")]),
-    ("<p>x</p> <b>y</b>", &[(3, "vw")]),
-    ("<p></p> <b>y</b>", &[(2, "wc")]),
-    ("a<div> </div>b", &[(3, "wc")]),
-    ("a <div>b</div>", &[(1, "v")]),
-    ("a<span> </span><div>b</div>", &[(3, "wc")]),
-    ("<span>a </span>b", &[(2, "v")]),
-    ("a<img> <img>", &[(3, "vw")]),
-    ("a<br> b", &[(3, "v")]),
-    ("<p>a<br>b</p>", &[(3, "v")]),
-    ("<p><br>b</p>", &[(2, "v")]),
-    ("<p><br></p>", &[(2, "vkp")]),
-    ("<p><br><br></p>", &[(2, "v"), (3, "vkp")]),
-    ("<p>a<br><br></p>", &[(3, "v"), (4, "vkp")]),
-    ("<p>a<b><br></b></p>", &[(3, ""), (4, "x")]),
-    ("<p>a<br><div>b</div></p>", &[(3, "x")]),
-    ("<p><div>a</div><br></p>", &[(4, "vkp")]),
-    ("<p>a<br> </p>", &[(3, "x"), (4, "wc")]),
-    ("<p><img><br></p>", &[(2, "v"), (3, "x")]),
-    (
+    Page(
+        "<p style=\"white-space: nowrap\"> \n</p>",
+        Lettered(&[(2, "wc")]),
+    ),
+    Page("<nobr> </nobr>a", Lettered(&[(2, "wc")])),
+    Page("<p>x</p> <b>y</b>", Lettered(&[(3, "vw")])),
+    Page("<p></p> <b>y</b>", Lettered(&[(2, "wc")])),
+    Page("a<div> </div>b", Lettered(&[(3, "wc")])),
+    Page("a <div>b</div>", Lettered(&[(1, "v")])),
+    Page("a<span> </span><div>b</div>", Lettered(&[(3, "wc")])),
+    Page("<span>a </span>b", Lettered(&[(2, "v")])),
+    Page("a<img> <img>", Lettered(&[(3, "vw")])),
+    Page("a<br> b", Lettered(&[(3, "v")])),
+    Page("<p>a<br>b</p>", Lettered(&[(3, "v")])),
+    Page("<p><br>b</p>", Lettered(&[(2, "v")])),
+    Page("<p><br></p>", Lettered(&[(2, "vkp")])),
+    Page("<p><br><br></p>", Lettered(&[(2, "v"), (3, "vkp")])),
+    Page("<p>a<br><br></p>", Lettered(&[(3, "v"), (4, "vkp")])),
+    Page("<p>a<b><br></b></p>", Lettered(&[(3, ""), (4, "x")])),
+    Page("<p>a<br><div>b</div></p>", Lettered(&[(3, "x")])),
+    Page("<p><div>a</div><br></p>", Lettered(&[(4, "vkp")])),
+    Page("<p>a<br> </p>", Lettered(&[(3, "x"), (4, "wc")])),
+    Page("<p><img><br></p>", Lettered(&[(2, "v"), (3, "x")])),
+    Page(
         "<ul><li>a<br></li><li><br></li></ul>",
-        &[(4, "x"), (6, "vkp")],
+        Lettered(&[(4, "x"), (6, "vkp")]),
     ),
-    (
+    Page(
         "<ul><li style=\"display: inline\"><br></li></ul>a",
-        &[(3, "vkp")],
+        Lettered(&[(3, "vkp")]),
     ),
-    ("a<li style=\"display: inline\"><br></li>", &[(3, "v")]),
-    ("<p><span><br></span></p>", &[(2, "vp"), (3, "vkp")]),
-    (
+    Page(
+        "a<li style=\"display: inline\"><br></li>",
+        Lettered(&[(3, "v")]),
+    ),
+    Page(
+        "<p><span><br></span></p>",
+        Lettered(&[(2, "vp"), (3, "vkp")]),
+    ),
+    Page(
         "<p><span><b> </b><br></span> </p>",
-        &[(2, "vp"), (3, ""), (5, "vkp")],
+        Lettered(&[(2, "vp"), (3, ""), (5, "vkp")]),
     ),
-    ("<p><span>a<br></span></p>", &[(2, "v")]),
-    ("<p><span></span></p>", &[(1, "bv"), (2, "")]),
-    (
+    Page("<p><span>a<br></span></p>", Lettered(&[(2, "v")])),
+    Page("<p><span></span></p>", Lettered(&[(1, "bv"), (2, "")])),
+    Page(
         "<p style=\"display: none\">a<br></p>",
-        &[(1, ""), (2, ""), (3, "x")],
+        Lettered(&[(1, ""), (2, ""), (3, "x")]),
     ),
-    ("<b style=\"display: none\"> </b>a", &[(1, ""), (2, "wc")]),
-    ("<span><b style=\"display: none\">a</b></span>", &[(1, "")]),
-    (
+    Page(
+        "<b style=\"display: none\"> </b>a",
+        Lettered(&[(1, ""), (2, "wc")]),
+    ),
+    Page(
+        "<span><b style=\"display: none\">a</b></span>",
+        Lettered(&[(1, "")]),
+    ),
+    Page(
         "<p style=\"display: inline\">a</p><p>b</p>",
-        &[(1, "v"), (3, "bv")],
+        Lettered(&[(1, "v"), (3, "bv")]),
     ),
-    ("<br style=\"display: block\">a", &[(1, "bv")]),
-    ("a<img style=\"display: block\"><br>", &[(3, "vkp")]),
-    ("<p>a</p><!-- c --><p>b</p>", &[(3, "")]),
-    ("<div>a<p>b</p>c</div>", &[(2, "v"), (3, "bv"), (5, "v")]),
-    ("<div><b>a</b><p>b</p><i>c</i></div>", &[(2, "v"), (6, "v")]),
-    ("<p><b> </b><i>a</i></p>", &[(2, ""), (4, "v")]),
-    (
+    Page("<br style=\"display: block\">a", Lettered(&[(1, "bv")])),
+    Page(
+        "a<img style=\"display: block\"><br>",
+        Lettered(&[(3, "vkp")]),
+    ),
+    Page("<p>a</p><!-- c --><p>b</p>", Lettered(&[(3, "")])),
+    Page(
+        "<div>a<p>b</p>c</div>",
+        Lettered(&[(2, "v"), (3, "bv"), (5, "v")]),
+    ),
+    Page(
+        "<div><b>a</b><p>b</p><i>c</i></div>",
+        Lettered(&[(2, "v"), (6, "v")]),
+    ),
+    Page("<p><b> </b><i>a</i></p>", Lettered(&[(2, ""), (4, "v")])),
+    Page(
         "<div contenteditable=\"true\">a<span contenteditable=\"false\">b<i>c</i><u contenteditable=\"true\">d<s>e</s></u></span></div>",
-        &[
+        Lettered(&[
             (2, "ev"),
             (3, "v"),
             (4, "v"),
@@ -103,30 +142,30 @@ static NODES: [(&str, &[(u32, &str)]); 54] = [
             (7, "v"),
             (8, "ev"),
             (9, "ev"),
-        ],
+        ]),
     ),
-    (
+    Page(
         "<div contenteditable=\"true\"><div contenteditable=\"true\">a</div></div>",
-        &[(1, "bv"), (2, "bv"), (3, "ev")],
+        Lettered(&[(1, "bv"), (2, "bv"), (3, "ev")]),
     ),
-    (
+    Page(
         "<p contenteditable=\"TRUE\"><b contenteditable=\"x\">a</b></p>",
-        &[(1, "bv"), (2, "ev"), (3, "ev")],
+        Lettered(&[(1, "bv"), (2, "ev"), (3, "ev")]),
     ),
-    (
+    Page(
         "a<b contenteditable=\"\">c</b>",
-        &[(1, "v"), (2, "v"), (3, "ev")],
+        Lettered(&[(1, "v"), (2, "v"), (3, "ev")]),
     ),
-    (
+    Page(
         "<table><tbody><tr><td><br></td><td>a<br></td></tr></tbody></table>",
-        &[(4, "bv"), (5, "vkp"), (8, "x")],
+        Lettered(&[(4, "bv"), (5, "vkp"), (8, "x")]),
     ),
-    (
+    Page(
         "<blockquote><div><p> a </p></div></blockquote>",
-        &[(3, "bv"), (4, "v")],
+        Lettered(&[(3, "bv"), (4, "v")]),
     ),
-    ("<p>&nbsp;</p>", &[(2, "v")]),
-    ("<hr>a", &[(1, "bv"), (2, "v")]),
+    Page("<p>&nbsp;</p>", Lettered(&[(2, "v")])),
+    Page("<hr>a", Lettered(&[(1, "bv"), (2, "v")])),
 ];
 
 fn mark(text: &mut String, letter: &str, met: bool) -> Result<(), AllocError> {
@@ -174,13 +213,5 @@ fn mark_breaks(text: &mut String, arena: &Arena, node: NodeRef) -> Result<(), Al
 
 #[test]
 fn nodes_meet_their_tests(rt: HostRuntime) -> Result<(), Fail> {
-    for (page, rows) in &NODES {
-        let arena = read(rt.alloc(), page)?;
-        for (label, wanted) in *rows {
-            let node = node_of(&arena, *label)?;
-            let met = letters(rt.alloc(), &arena, node)?;
-            assert_eq!(rt; met.as_str(), *wanted, "{page} {label}");
-        }
-    }
-    Ok(())
+    assert_pages(&rt, rt.alloc(), &NODES)
 }

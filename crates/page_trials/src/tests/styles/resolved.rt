@@ -1,156 +1,189 @@
 //! Resolved styles.
 
-use crate::tests::pages::{node_of, read};
+use crate::tests::pages::{Look, Page, assert_pages, chars, node_of};
+use node_arena::Arena;
 use node_tests::*;
+use std::alloc::Global;
 use std::test::Fail;
 use style_table::Property;
 
-// A property, and its resolved value at nodes of pages, each a page and a label.
-static STYLES: [(Property, &[(&str, u32, &str)]); 10] = [
-    (
-        Property::Display,
-        &[
-            ("<p>a</p>", 1, "block"),
-            ("<p>a</p>", 2, "inline"),
-            ("<li>a</li>", 1, "list-item"),
-            ("<td>a</td>", 1, "block"),
-            ("<input>", 1, "inline-block"),
-            ("<link>", 1, "none"),
-            ("<b style=\"display: table\">a</b>", 1, "table"),
-            ("<p style=\"display: flex\">a</p>", 1, "block"),
-            ("<p style=\"display: BLOCK\">a</p>", 1, "block"),
-            ("<b style=\"display: BLOCK\">a</b>", 1, "inline"),
-            (
-                "<b style=\"DISPLAY: none; display:block\">a</b>",
-                1,
-                "block",
-            ),
-        ],
+// A property, and its resolved value at the node of a label.
+struct Resolved(Property, u32, &'static str);
+
+impl Look for Resolved {
+    fn meets(&self, alloc: Global, arena: &Arena) -> Result<bool, Fail> {
+        let node = node_of(arena, self.1)?;
+        let value = resolved(alloc, arena, node, self.0)?;
+        let wanted = chars(alloc, self.2)?;
+        Ok(value.as_slice() == wanted.as_slice())
+    }
+}
+
+static STYLES: [Page<Resolved>; 50] = [
+    Page("<p>a</p>", Resolved(Property::Display, 1, "block")),
+    Page("<p>a</p>", Resolved(Property::Display, 2, "inline")),
+    Page("<li>a</li>", Resolved(Property::Display, 1, "list-item")),
+    Page("<td>a</td>", Resolved(Property::Display, 1, "block")),
+    Page("<input>", Resolved(Property::Display, 1, "inline-block")),
+    Page("<link>", Resolved(Property::Display, 1, "none")),
+    Page(
+        "<b style=\"display: table\">a</b>",
+        Resolved(Property::Display, 1, "table"),
     ),
-    (
-        Property::WhiteSpace,
-        &[
-            ("<pre><b>a</b></pre>", 3, "pre"),
-            (
-                "<pre style=\"white-space: nowrap\"><b>a</b></pre>",
-                2,
-                "nowrap",
-            ),
-            ("<nobr>a</nobr>", 1, "nowrap"),
-        ],
+    Page(
+        "<p style=\"display: flex\">a</p>",
+        Resolved(Property::Display, 1, "block"),
     ),
-    (
-        Property::FontWeight,
-        &[
-            ("<b><i>a</i></b>", 3, "700"),
-            ("<b style=\"font-weight: normal\"><i>a</i></b>", 2, "400"),
-            ("<span style=\"font-weight: 300\">a</span>", 1, "300"),
-            ("<th style=\"font-weight: 150\">a</th>", 1, "700"),
-        ],
+    Page(
+        "<p style=\"display: BLOCK\">a</p>",
+        Resolved(Property::Display, 1, "block"),
     ),
-    (
-        Property::FontStyle,
-        &[
-            ("<i>a</i>", 2, "italic"),
-            ("<span style=\"font-style: oblique\">a</span>", 2, "oblique"),
-        ],
+    Page(
+        "<b style=\"display: BLOCK\">a</b>",
+        Resolved(Property::Display, 1, "inline"),
     ),
-    (
-        Property::FontFamily,
-        &[
-            ("a", 1, "serif"),
-            ("<code>a</code>", 2, "monospace"),
-            ("<font face=\"Arial, sans\">a</font>", 2, "Arial, sans"),
-            ("<font face=\"\">a</font>", 2, "serif"),
-            (
-                "<code><font face=\"x\" style=\"font-family:  y \">a</font></code>",
-                3,
-                "y",
-            ),
-        ],
+    Page(
+        "<b style=\"DISPLAY: none; display:block\">a</b>",
+        Resolved(Property::Display, 1, "block"),
     ),
-    (
-        Property::FontSize,
-        &[
-            ("a", 1, "16px"),
-            ("<h1>a</h1>", 2, "32px"),
-            ("<font size=\"+1\">a</font>", 2, "18px"),
-            ("<font size=\"-9\">a</font>", 2, "10px"),
-            ("<font size=\" 99 \">a</font>", 2, "48px"),
-            ("<h6><font size=\"x\">a</font></h6>", 3, "11px"),
-            ("<big style=\"font-size: large\">a</big>", 1, "18px"),
-            ("<small style=\"font-size: 9999px\">a</small>", 1, "9999px"),
-        ],
+    Page(
+        "<pre><b>a</b></pre>",
+        Resolved(Property::WhiteSpace, 3, "pre"),
     ),
-    (
-        Property::Color,
-        &[
-            ("<font color=\"Red\">a</font>", 2, "rgb(255, 0, 0)"),
-            ("<a href=\"\">a</a>", 2, "rgb(0, 0, 238)"),
-            ("<a>a</a>", 2, "rgb(0, 0, 0)"),
-            (
-                "<p style=\"color: transparent\"><b>a</b></p>",
-                3,
-                "rgba(0, 0, 0, 0)",
-            ),
-        ],
+    Page(
+        "<pre style=\"white-space: nowrap\"><b>a</b></pre>",
+        Resolved(Property::WhiteSpace, 2, "nowrap"),
     ),
-    (
-        Property::BackgroundColor,
-        &[
-            ("<mark><b>a</b></mark>", 1, "rgb(255, 255, 0)"),
-            ("<mark><b>a</b></mark>", 2, "rgba(0, 0, 0, 0)"),
-        ],
+    Page(
+        "<nobr>a</nobr>",
+        Resolved(Property::WhiteSpace, 1, "nowrap"),
     ),
-    (
-        Property::TextDecoration,
-        &[
-            ("<u>a</u>", 1, "underline"),
-            ("<u>a</u>", 2, "none"),
-            (
-                "<s style=\"text-decoration: overline\">a</s>",
-                1,
-                "overline",
-            ),
-            (
-                "<s style=\"text-decoration: blink\">a</s>",
-                1,
-                "line-through",
-            ),
-            ("<a href=\"u\">a</a>", 1, "underline"),
-        ],
+    Page("<b><i>a</i></b>", Resolved(Property::FontWeight, 3, "700")),
+    Page(
+        "<b style=\"font-weight: normal\"><i>a</i></b>",
+        Resolved(Property::FontWeight, 2, "400"),
     ),
-    (
-        Property::TextAlign,
-        &[
-            ("<p align=\"RIGHT\">a</p>", 2, "right"),
-            ("<p align=\"start\">a</p>", 2, "left"),
-            ("<span align=\"right\">a</span>", 1, "left"),
-            (
-                "<div align=\"right\" style=\"text-align: end\">a</div>",
-                2,
-                "right",
-            ),
-            (
-                "<center><div style=\"text-align: start\">a</div></center>",
-                3,
-                "left",
-            ),
-            ("<th><b>a</b></th>", 2, "center"),
-        ],
+    Page(
+        "<span style=\"font-weight: 300\">a</span>",
+        Resolved(Property::FontWeight, 1, "300"),
+    ),
+    Page(
+        "<th style=\"font-weight: 150\">a</th>",
+        Resolved(Property::FontWeight, 1, "700"),
+    ),
+    Page("<i>a</i>", Resolved(Property::FontStyle, 2, "italic")),
+    Page(
+        "<span style=\"font-style: oblique\">a</span>",
+        Resolved(Property::FontStyle, 2, "oblique"),
+    ),
+    Page("a", Resolved(Property::FontFamily, 1, "serif")),
+    Page(
+        "<code>a</code>",
+        Resolved(Property::FontFamily, 2, "monospace"),
+    ),
+    Page(
+        "<font face=\"Arial, sans\">a</font>",
+        Resolved(Property::FontFamily, 2, "Arial, sans"),
+    ),
+    Page(
+        "<font face=\"\">a</font>",
+        Resolved(Property::FontFamily, 2, "serif"),
+    ),
+    Page(
+        "<code><font face=\"x\" style=\"font-family:  y \">a</font></code>",
+        Resolved(Property::FontFamily, 3, "y"),
+    ),
+    Page("a", Resolved(Property::FontSize, 1, "16px")),
+    Page("<h1>a</h1>", Resolved(Property::FontSize, 2, "32px")),
+    Page(
+        "<font size=\"+1\">a</font>",
+        Resolved(Property::FontSize, 2, "18px"),
+    ),
+    Page(
+        "<font size=\"-9\">a</font>",
+        Resolved(Property::FontSize, 2, "10px"),
+    ),
+    Page(
+        "<font size=\" 99 \">a</font>",
+        Resolved(Property::FontSize, 2, "48px"),
+    ),
+    Page(
+        "<h6><font size=\"x\">a</font></h6>",
+        Resolved(Property::FontSize, 3, "11px"),
+    ),
+    Page(
+        "<big style=\"font-size: large\">a</big>",
+        Resolved(Property::FontSize, 1, "18px"),
+    ),
+    Page(
+        "<small style=\"font-size: 9999px\">a</small>",
+        Resolved(Property::FontSize, 1, "9999px"),
+    ),
+    Page(
+        "<font color=\"Red\">a</font>",
+        Resolved(Property::Color, 2, "rgb(255, 0, 0)"),
+    ),
+    Page(
+        "<a href=\"\">a</a>",
+        Resolved(Property::Color, 2, "rgb(0, 0, 238)"),
+    ),
+    Page("<a>a</a>", Resolved(Property::Color, 2, "rgb(0, 0, 0)")),
+    Page(
+        "<p style=\"color: transparent\"><b>a</b></p>",
+        Resolved(Property::Color, 3, "rgba(0, 0, 0, 0)"),
+    ),
+    Page(
+        "<mark><b>a</b></mark>",
+        Resolved(Property::BackgroundColor, 1, "rgb(255, 255, 0)"),
+    ),
+    Page(
+        "<mark><b>a</b></mark>",
+        Resolved(Property::BackgroundColor, 2, "rgba(0, 0, 0, 0)"),
+    ),
+    Page(
+        "<u>a</u>",
+        Resolved(Property::TextDecoration, 1, "underline"),
+    ),
+    Page("<u>a</u>", Resolved(Property::TextDecoration, 2, "none")),
+    Page(
+        "<s style=\"text-decoration: overline\">a</s>",
+        Resolved(Property::TextDecoration, 1, "overline"),
+    ),
+    Page(
+        "<s style=\"text-decoration: blink\">a</s>",
+        Resolved(Property::TextDecoration, 1, "line-through"),
+    ),
+    Page(
+        "<a href=\"u\">a</a>",
+        Resolved(Property::TextDecoration, 1, "underline"),
+    ),
+    Page(
+        "<p align=\"RIGHT\">a</p>",
+        Resolved(Property::TextAlign, 2, "right"),
+    ),
+    Page(
+        "<p align=\"start\">a</p>",
+        Resolved(Property::TextAlign, 2, "left"),
+    ),
+    Page(
+        "<span align=\"right\">a</span>",
+        Resolved(Property::TextAlign, 1, "left"),
+    ),
+    Page(
+        "<div align=\"right\" style=\"text-align: end\">a</div>",
+        Resolved(Property::TextAlign, 2, "right"),
+    ),
+    Page(
+        "<center><div style=\"text-align: start\">a</div></center>",
+        Resolved(Property::TextAlign, 3, "left"),
+    ),
+    Page(
+        "<th><b>a</b></th>",
+        Resolved(Property::TextAlign, 2, "center"),
     ),
 ];
 
 #[test]
 fn styles_are_resolved(rt: HostRuntime) -> Result<(), Fail> {
-    for (property, rows) in &STYLES {
-        for (page, label, wanted) in *rows {
-            let arena = read(rt.alloc(), page)?;
-            let node = node_of(&arena, *label)?;
-            let value = resolved(rt.alloc(), &arena, node, *property)?;
-            let wanted: Vec<char> = wanted.chars().collect(rt.alloc())?;
-            assert_eq!(rt; value.as_slice(), wanted.as_slice(), "{page} {label}");
-        }
-    }
-    Ok(())
+    assert_pages(&rt, rt.alloc(), &STYLES)
 }

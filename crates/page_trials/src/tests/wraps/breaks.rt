@@ -2,64 +2,57 @@
 
 ghost use Rattle.edit_doc.specs.Whole.{IsOpen};
 
-use super::{Act, gives};
-use crate::tests::pages::node_of;
+use crate::tests::pages::{Act, Row, assert_rows, node_of};
+use std::alloc::Global;
 use std::test::Fail;
 use wrap_split::{Doc, breaks_at_end, breaks_before};
 
-// What the host holds, the label of a node, and what the host holds once the line breaks before the node are removed, and
-// what once those at its end are.
-static BREAKS: [(&str, u32, &str, &str); 5] = [
-    ("a<br><p>b</p>", 4, "a<p>b</p>", "a<br><p>b</p>"),
-    ("<p>a<br></p>", 2, "<p>a<br></p>", "<p>a</p>"),
-    ("<p>a<i><br></i></p>", 2, "<p>a<i><br></i></p>", "<p>a</p>"),
-    (
-        "a<i><br></i> <p>b</p>",
-        6,
-        "a<i></i> <p>b</p>",
-        "a<i><br></i> <p>b</p>",
-    ),
-    ("<br><p><br></p>", 3, "<br><p><br></p>", "<br><p><br></p>"),
+// Removes the line breaks before the node of a label.
+struct ClearBefore(u32);
+
+impl Act for ClearBefore {
+    fn act(&self, _alloc: Global, doc: &mut Doc) -> Result<bool, Fail> {
+        let node = node_of(doc, self.0)?;
+        Ok(breaks_before(doc, node).is_ok())
+    }
+}
+
+// Removes those at the end of it.
+struct ClearAtEnd(u32);
+
+impl Act for ClearAtEnd {
+    fn act(&self, _alloc: Global, doc: &mut Doc) -> Result<bool, Fail> {
+        let node = node_of(doc, self.0)?;
+        Ok(breaks_at_end(doc, node).is_ok())
+    }
+}
+
+static BEFORE: [Row<ClearBefore>; 5] = [
+    Row("a<br><p>b</p>", ClearBefore(4), "a<p>b</p>"),
+    Row("<p>a<br></p>", ClearBefore(2), "<p>a<br></p>"),
+    Row("<p>a<i><br></i></p>", ClearBefore(2), "<p>a<i><br></i></p>"),
+    Row("a<i><br></i> <p>b</p>", ClearBefore(6), "a<i></i> <p>b</p>"),
+    Row("<br><p><br></p>", ClearBefore(3), "<br><p><br></p>"),
 ];
 
-pub(super) fn clears_before(doc: &mut Doc, label: u32) -> Result<bool, Fail>
-    requires { IsOpen doc.old }
-{
-    let node = node_of(doc, label)?;
-    Ok(breaks_before(doc, node).is_ok())
-}
-
-pub(super) fn clears_at_end(doc: &mut Doc, label: u32) -> Result<bool, Fail>
-    requires { IsOpen doc.old }
-{
-    let node = node_of(doc, label)?;
-    Ok(breaks_at_end(doc, node).is_ok())
-}
+static AT_END: [Row<ClearAtEnd>; 5] = [
+    Row("a<br><p>b</p>", ClearAtEnd(4), "a<br><p>b</p>"),
+    Row("<p>a<br></p>", ClearAtEnd(2), "<p>a</p>"),
+    Row("<p>a<i><br></i></p>", ClearAtEnd(2), "<p>a</p>"),
+    Row(
+        "a<i><br></i> <p>b</p>",
+        ClearAtEnd(6),
+        "a<i><br></i> <p>b</p>",
+    ),
+    Row("<br><p><br></p>", ClearAtEnd(3), "<br><p><br></p>"),
+];
 
 #[test]
 fn line_breaks_before_go(rt: HostRuntime) -> Result<(), Fail> {
-    for (inner, label, before, _) in &BREAKS {
-        assert!(rt;
-            gives(
-                rt.alloc(),
-                Act::ClearBefore,
-                inner,
-                (*label, *label),
-                before
-            )?,
-            "{inner}"
-        );
-    }
-    Ok(())
+    assert_rows(&rt, rt.alloc(), &BEFORE)
 }
 
 #[test]
 fn line_breaks_at_the_end_go(rt: HostRuntime) -> Result<(), Fail> {
-    for (inner, label, _, at_end) in &BREAKS {
-        assert!(rt;
-            gives(rt.alloc(), Act::ClearAtEnd, inner, (*label, *label), at_end)?,
-            "{inner}"
-        );
-    }
-    Ok(())
+    assert_rows(&rt, rt.alloc(), &AT_END)
 }
