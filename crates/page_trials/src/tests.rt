@@ -1,3 +1,4 @@
+mod blocks;
 mod commands;
 mod documents;
 mod extending;

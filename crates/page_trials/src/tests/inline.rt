@@ -1,6 +1,10 @@
 //! Values that are cleared, forced, pushed down, restored and set on the selection: each row of a table is what an editing host
 //! holds, what is done to a node of it by its label (1 is the host), and what the host then holds.
 
+mod ends;
+mod locked;
+mod nested;
+
 ghost use Rattle.std.specs.Prelude.{IfOk};
 ghost use Rattle.edit_doc.specs.Held.{EachHeld, Holds};
 ghost use Rattle.edit_doc.specs.Whole.{IsOpen};
@@ -24,6 +28,8 @@ enum How {
     Reorder,
     // its values are recorded, its parent gives way to its children, and its values are restored
     Restore,
+    // the same where it goes into the node before it
+    Adopt,
     FixAncestors,
     // a part of it is selected, and what is selected gets the value
     Set { from: u32, to: u32 },
@@ -359,6 +365,19 @@ fn restores(alloc: Global, doc: &mut Doc, node: NodeRef) -> Result<(), EditFault
     restore_values(alloc, doc, &values)
 }
 
+// Records the values of a node, moves it into the node before it, and restores the values.
+fn adopts(alloc: Global, doc: &mut Doc, node: NodeRef) -> Result<(), EditFault>
+    requires open { IsOpen doc.old }
+    requires held { Holds doc.old node }
+{
+    let list = listed(alloc, doc, node)?;
+    let values = record_values(alloc, doc, &list)?;
+    if let Some(before) = doc.prev(node) {
+        doc.move_keeping(node, before, None)?;
+    }
+    restore_values(alloc, doc, &values)
+}
+
 impl Act for Change {
     fn act(&self, alloc: Global, doc: &mut Doc) -> Result<bool, Fail> {
         let Change(how, label, command, value) = self;
@@ -391,6 +410,7 @@ fn changes(
             None => Ok(()),
         },
         How::Restore => restores(alloc, doc, node),
+        How::Adopt => adopts(alloc, doc, node),
         How::FixAncestors => fix_ancestors(alloc, doc, node),
         How::Set { from, to } => {
             doc.select(point((node.label, from)), point((node.label, to)));

@@ -62,14 +62,22 @@ pub(crate) fn document_of(alloc: Global, page: &str) -> Result<Doc, Fail>
     Ok(Doc::new(alloc, arena, 3)?)
 }
 
-/// Begins a command on the node of the label 1, the editing host of most pages here.
+/// Begins a command on the node of a label.
 #[tactic(auto, unfolding(edit_doc::specs::Whole::opened))]
+pub(crate) fn begin_in(doc: &mut Doc, label: u32) -> Result<(), AllocError>
+    requires { IsClosed doc.old }
+    ensures { IfOk result (λ _. IsOpen doc.new) }
+{
+    let host = doc.find(label);
+    doc.begin(host, false)
+}
+
+/// Begins a command on the node of the label 1, the editing host of most pages here.
 pub(crate) fn begin(doc: &mut Doc) -> Result<(), AllocError>
     requires { IsClosed doc.old }
     ensures { IfOk result (λ _. IsOpen doc.new) }
 {
-    let host = doc.find(1);
-    doc.begin(host, false)
+    begin_in(doc, 1)
 }
 
 /// The page of an editing host that holds this.
@@ -82,7 +90,9 @@ pub(crate) fn page_of(alloc: Global, inner: &str) -> Result<String, AllocError> 
 }
 
 /// The point of a label and an offset.
-pub(crate) fn point(at: (u32, u32)) -> Point {
+pub(crate) fn point(at: (u32, u32)) -> Point
+    ensures { result.label ≡ at.0 }
+{
     Point {
         label: at.0,
         offset: at.1,
