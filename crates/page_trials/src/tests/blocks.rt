@@ -47,7 +47,6 @@ fn takes(alloc: Global, doc: &mut Doc, block: Block) -> Result<bool, EditFault>
 }
 
 // A range, and what is done to its lines.
-#[derive(Clone, Copy)]
 struct Lines((u32, u32), (u32, u32), Block);
 
 impl Act for Lines {
@@ -119,6 +118,7 @@ struct Filled(u32, Block);
 impl Act for Filled {
     fn act(&self, alloc: Global, doc: &mut Doc) -> Result<bool, Fail> {
         fill(alloc, doc, self.0)?;
+        fill(alloc, doc, self.0)?;
         doc.select(point((self.0, 1)), point((self.0, 1)));
         Ok(takes(alloc, doc, self.1)?)
     }
@@ -129,12 +129,9 @@ fn fill(alloc: Global, doc: &mut Doc, label: u32) -> Result<(), Fail>
     ensures { IfOk result (λ _. IsOpen doc.new) }
 {
     let name = Name::from_slice(alloc, b"br")?;
-    let attributes = Attributes::new(alloc);
-    let first = doc.make_element(&name, &attributes)?;
-    let second = doc.make_element(&name, &attributes)?;
+    let made = doc.make_element(&name, &Attributes::new(alloc))?;
     let parent = node_of(doc, label)?;
-    doc.insert(parent, None, first)?;
-    doc.insert(parent, None, second)?;
+    doc.insert(parent, None, made)?;
     Ok(())
 }
 

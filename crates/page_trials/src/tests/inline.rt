@@ -4,6 +4,7 @@
 mod ends;
 mod locked;
 mod nested;
+mod styled;
 
 ghost use Rattle.std.specs.Prelude.{IfOk};
 ghost use Rattle.edit_doc.specs.Held.{EachHeld, Holds};

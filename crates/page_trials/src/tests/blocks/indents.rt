@@ -2,7 +2,10 @@
 
 use super::Block::{Indent, Outdent};
 use super::Lines;
-use crate::tests::pages::{Row, assert_rows};
+use crate::tests::pages::{Act, Row, assert_rows, node_of};
+use edit_doc::{Doc, Flags};
+use list_indent::normalize_sublists;
+use std::alloc::Global;
 use std::test::Fail;
 
 static INDENTED: [Row<Lines>; 37] = [
@@ -437,4 +440,116 @@ static OUTDENTED: [Row<Lines>; 46] = [
 #[test]
 fn lines_are_outdented(rt: HostRuntime) -> Result<(), Fail> {
     assert_rows(&rt, rt.alloc(), &OUTDENTED)
+}
+
+// Brings the lists in the item of a label out of it.
+struct Normalize(u32);
+
+impl Act for Normalize {
+    fn act(&self, alloc: Global, doc: &mut Doc) -> Result<bool, Fail> {
+        let node = node_of(doc, self.0)?;
+        Ok(normalize_sublists(alloc, doc, node).is_ok())
+    }
+}
+
+static NORMALIZED: [Row<Normalize>; 10] = [
+    // lists in an item come after it, and what follows them into new items
+    Row(
+        "<ul><li>a<ul><li>b</li></ul></li></ul>",
+        Normalize(3),
+        "<ul><li>a</li><ul><li>b</li></ul></ul>",
+    ),
+    Row(
+        "<ul><li>a<ul><li>b</li></ul> </li></ul>",
+        Normalize(3),
+        "<ul><li>a</li><ul><li>b</li></ul> </ul>",
+    ),
+    Row(
+        "<ul><li>a<ul><li>b</li></ul>c<ol><li>d</li></ol>e<i>f</i></li><li>g</li></ul>",
+        Normalize(3),
+        "<ul><li>a</li><ul><li>b</li></ul><li>c</li><ol><li>d</li></ol><li>e<i>f</i></li><li>g</li></ul>",
+    ),
+    Row(
+        "<ol><li><ul><li>b</li></ul>c <ul></ul> </li></ol>",
+        Normalize(3),
+        "<ol><li></li><ul><li>b</li></ul><li>c </li><ul></ul> </ol>",
+    ),
+    // an item without a list in it, or not in an editable list, and what is no item
+    Row(
+        "<ul><li>a<p><ul><li>b</li></ul></p></li></ul>",
+        Normalize(3),
+        "<ul><li>a<p><ul><li>b</li></ul></p></li></ul>",
+    ),
+    Row(
+        "<li>a<ul><li>b</li></ul></li>",
+        Normalize(2),
+        "<li>a<ul><li>b</li></ul></li>",
+    ),
+    Row(
+        "<ul><p>a<ul><li>b</li></ul></p></ul>",
+        Normalize(3),
+        "<ul><p>a<ul><li>b</li></ul></p></ul>",
+    ),
+    Row(
+        "<ul contenteditable=\"false\"><li>a<ul><li>b</li></ul></li></ul>",
+        Normalize(3),
+        "<ul contenteditable=\"false\"><li>a<ul><li>b</li></ul></li></ul>",
+    ),
+    Row(
+        "<ul><li contenteditable=\"true\">a<ul><li>b</li></ul></li></ul>",
+        Normalize(3),
+        "<ul><li contenteditable=\"true\">a<ul><li>b</li></ul></li></ul>",
+    ),
+    // a list that is an island or a host is moved too
+    Row(
+        "<ul><li>a<ul contenteditable=\"false\"><li>b</li></ul>c</li></ul>",
+        Normalize(3),
+        "<ul><li>a</li><ul contenteditable=\"false\"><li>b</li></ul><li>c</li></ul>",
+    ),
+];
+
+#[test]
+fn lists_come_out_of_items(rt: HostRuntime) -> Result<(), Fail> {
+    assert_rows(&rt, rt.alloc(), &NORMALIZED)
+}
+
+// Something that is done to lines where p is the default single-line container, and not div.
+struct Paragraphs(Lines);
+
+impl Act for Paragraphs {
+    fn act(&self, alloc: Global, doc: &mut Doc) -> Result<bool, Fail> {
+        doc.set_flags(Flags {
+            css_styling: false,
+            paragraphs: true,
+        });
+        self.0.act(alloc, doc)
+    }
+}
+
+static PARAGRAPHS: [Row<Paragraphs>; 4] = [
+    Row(
+        "<ul><li>a</li></ul>",
+        Paragraphs(Lines((4, 0), (4, 0), Outdent)),
+        "<p>a</p>",
+    ),
+    Row(
+        "<ul><li>a<p>b</p>c</li></ul>",
+        Paragraphs(Lines((4, 0), (7, 1), Outdent)),
+        "<p>a</p><p>b</p><p>c</p>",
+    ),
+    Row(
+        "<ol><li>a</li><li>b</li></ol>",
+        Paragraphs(Lines((6, 0), (6, 0), Outdent)),
+        "<ol><li>a</li></ol><p>b</p>",
+    ),
+    Row(
+        "<ul><li>a<br></li></ul>",
+        Paragraphs(Lines((4, 0), (4, 0), Outdent)),
+        "<p>a</p>",
+    ),
+];
+
+#[test]
+fn items_become_paragraphs(rt: HostRuntime) -> Result<(), Fail> {
+    assert_rows(&rt, rt.alloc(), &PARAGRAPHS)
 }

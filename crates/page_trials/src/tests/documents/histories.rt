@@ -354,7 +354,23 @@ impl Trial for Undone {
     }
 }
 
-// Whether the command that makes the edits leaves all as it was where it is taken back, or the second of two that does.
+// Whether the command that makes all edits leaves the document as it was where it is taken back.
+fn first_is_taken_back(alloc: Global, doc: &mut Doc) -> Result<bool, Fail>
+    requires { IsClosed doc.old }
+{
+    let same = is_taken_back(alloc, doc, &FIRST, &LATER, false)?;
+    Ok(same && has_lengths(doc, 0, 0, 0))
+}
+
+// The same of a second command that joins the entry of the first.
+fn later_is_taken_back(alloc: Global, doc: &mut Doc) -> Result<bool, Fail>
+    requires { IsClosed doc.old }
+{
+    run_to_end(alloc, doc, &FIRST, &[], false)?;
+    let same = is_taken_back(alloc, doc, &LATER, &[], true)?;
+    Ok(same && has_lengths(doc, 1, 0, 9))
+}
+
 #[derive(Clone, Copy)]
 struct TakenBack {
     resumes: bool,
@@ -366,12 +382,9 @@ impl Trial for TakenBack {
     fn run(&self, alloc: Global, doc: &mut Doc) -> Result<bool, Fail> {
         start(alloc, doc)?;
         if self.resumes {
-            run_to_end(alloc, doc, &FIRST, &[], false)?;
-            let same = is_taken_back(alloc, doc, &LATER, &[], true)?;
-            Ok(same && has_lengths(doc, 1, 0, 9))
+            later_is_taken_back(alloc, doc)
         } else {
-            let same = is_taken_back(alloc, doc, &FIRST, &LATER, false)?;
-            Ok(same && has_lengths(doc, 0, 0, 0))
+            first_is_taken_back(alloc, doc)
         }
     }
 }
