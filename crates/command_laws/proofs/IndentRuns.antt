@@ -271,7 +271,7 @@ fit_own : (n : ℕ) → Fit (outdent_own n)
 unfolding outdent_own
 fit_own n = search (fits, fit_unindented, fit_inner)
 
-fit_outdent_node : (n : ℕ) → Fit (outdent_node n)
+pub fit_outdent_node : (n : ℕ) → Fit (outdent_node n)
 unfolding outdent_node
 fit_outdent_node n = search (fits, fit_own)
 

@@ -36,3 +36,5 @@ pub mod BlockRuns
 pub mod Followers
 pub mod SublistRuns
 pub mod IndentRuns
+pub mod ErasingRuns
+pub mod DeleteRuns

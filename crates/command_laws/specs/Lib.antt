@@ -4,3 +4,4 @@ pub mod SplitLaws
 pub mod WrapLaws
 pub mod Blocks
 pub mod Indents
+pub mod Deletion

@@ -2,6 +2,7 @@
 #![tactic(auto)]
 
 mod blocks;
+mod deletion;
 mod indents;
 mod inline;
 mod line_breaks;
@@ -11,6 +12,7 @@ mod wraps;
 pub use blocks::{
     format_block_is_stateless, format_block_keeps_order, justify_is_stateless, justify_keeps_order,
 };
+pub use deletion::{delete_is_stateless, delete_selection_is_stateless};
 pub use indents::{
     indent_is_stateless, indent_keeps_order, outdent_is_stateless, outdent_keeps_order,
 };

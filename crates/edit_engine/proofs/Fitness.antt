@@ -11,6 +11,7 @@ use Rattle.edit_laws.specs.Tame.{Tame}
 use Rattle.edit_laws.proofs.StatelessRuns.{stateless_answer, stateless_bind, stateless_look_at, stateless_if, stateless_given, stateless_perform}
 use Rattle.edit_laws.proofs.Tame.{tame_answer, tame_bind, tame_look, tame_if}
 use Rattle.command_laws.proofs.BlockRuns.{tame_format_block, stateless_format_block, tame_justify, stateless_justify}
+use Rattle.command_laws.proofs.DeleteRuns.{stateless_delete}
 use Rattle.command_laws.proofs.FormatRuns.{tame_remove_format, stateless_remove_format}
 use Rattle.command_laws.proofs.IndentRuns.{tame_indent, stateless_indent, tame_outdent, stateless_outdent}
 use Rattle.command_laws.proofs.LinkingRuns.{tame_create_link, stateless_create_link, tame_unlink, stateless_unlink}
@@ -75,7 +76,7 @@ own_fit command.JustifyRight value = keeper (stateless_justify (codes "right")) 
 own_fit command.JustifyFull value = keeper (stateless_justify (codes "justify")) (tame_justify (codes "justify"))
 own_fit command.Indent value = keeper stateless_indent tame_indent
 own_fit command.Outdent value = keeper stateless_outdent tame_outdent
-own_fit command.Delete value = unbuilt false
+own_fit command.Delete value = other stateless_delete
 own_fit command.InsertText value = unbuilt false
 own_fit command.InsertParagraph value = unbuilt false
 own_fit command.StyleWithCss value = other (stateless_styling (not (is_value value (codes "false"))))

@@ -16,6 +16,8 @@ use Rattle.block_commands.specs.FormatBlock.{block_name, is_formatted, format_li
 use Rattle.block_commands.specs.Gathered.{outermost}
 use Rattle.block_commands.specs.Justify.{clear_alignments, align_range, justify}
 use Rattle.list_indent.specs.Commands.{normalize_range, indent_gathered, indent, outdent_gathered, outdent}
+use Rattle.text_commands.specs.Delete.{delete}
+use Rattle.text_commands.proofs.Taken.{delete_answers_true}
 use Rattle.inline_value.specs.Selections.{split_ends, set_value}
 use Rattle.inline_commands.specs.Linking.{relink_range, link_range, create_link}
 use Rattle.inline_commands.specs.RemovingFormat.{unwrap_candidates, part_nodes, clear_commands, remove_format}
@@ -126,6 +128,9 @@ leaves_outdent : LeavesRefused outdent
 unfolding outdent
 leaves_outdent = leaves_two normalize_range outdent_gathered
 
+leaves_delete : LeavesRefused delete
+leaves_delete = leaves_taken delete delete_answers_true
+
 leaves_css_styling : (on : Bool) → LeavesRefused (set_css_styling on)
 unfolding set_css_styling
 leaves_css_styling on = leaves_look (λ s. flags_taken (record s.flags { css_styling = on })) (λ t. leaves_true (set_flags (record t.flags { css_styling = on })))
@@ -171,6 +176,7 @@ own_refusals command.JustifyRight v = leaves_justify (codes "right")
 own_refusals command.JustifyFull v = leaves_justify (codes "justify")
 own_refusals command.Indent v = leaves_indent
 own_refusals command.Outdent v = leaves_outdent
+own_refusals command.Delete v = leaves_delete
 own_refusals command.StyleWithCss v = leaves_css_styling (not (is_value v (codes "false")))
 own_refusals command.UseCss v = leaves_css_styling (is_value v (codes "false"))
 own_refusals command.DefaultParagraphSeparator v = leaves_separator v

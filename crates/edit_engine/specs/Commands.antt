@@ -18,6 +18,7 @@ use Rattle.inline_commands.specs.Toggling.{toggle_style, toggle_script}
 use Rattle.inline_commands.specs.Unlink.{unlink}
 use Rattle.inline_commands.specs.ValueCommands.{apply_value}
 use Rattle.list_indent.specs.Commands.{indent, outdent}
+use Rattle.text_commands.specs.Delete.{delete}
 
 -- ---- one row a command
 
@@ -104,6 +105,7 @@ action command.JustifyRight = Some (λ value. justify (codes "right"))
 action command.JustifyFull = Some (λ value. justify (codes "justify"))
 action command.Indent = Some (λ value. indent)
 action command.Outdent = Some (λ value. outdent)
+action command.Delete = Some (λ value. delete)
 action command.StyleWithCss = Some (λ value. set_css_styling (not (is_value value (codes "false"))))
 action command.UseCss = Some (λ value. set_css_styling (is_value value (codes "false")))
 action command.DefaultParagraphSeparator = Some set_separator

@@ -20,6 +20,7 @@ use inline_commands::{
 use inline_value::{Overrides, record_overrides};
 use list_indent::{indent, outdent};
 use std::alloc::Global;
+use text_commands::delete;
 
 #[tactic(auto, using(edit_model::proofs::Steps::actions), unfolding(crate::specs::Commands::set_css_styling))]
 // styleWithCSS and useCSS, step 1.
@@ -82,6 +83,7 @@ fn act(alloc: Global, doc: &mut Doc, command: Command, value: &[char]) -> Result
         Command::JustifyFull => justify(alloc, doc, TextAlign::Justify),
         Command::Indent => indent(alloc, doc),
         Command::Outdent => outdent(alloc, doc),
+        Command::Delete => delete(alloc, doc),
         Command::StyleWithCss => set_css_styling(doc, !is_value(value, b"false")),
         Command::UseCss => set_css_styling(doc, is_value(value, b"false")),
         Command::DefaultParagraphSeparator => set_separator(doc, value),

@@ -91,7 +91,8 @@ pub(crate) fn is_supported(command: Command) -> bool
         | Command::JustifyRight
         | Command::JustifyFull
         | Command::Indent
-        | Command::Outdent => true,
+        | Command::Outdent
+        | Command::Delete => true,
         Command::StyleWithCss | Command::UseCss | Command::DefaultParagraphSeparator => true,
         _ => false,
     }

@@ -9,6 +9,8 @@ mod block;
 #[cfg(test)]
 mod block_tests;
 #[cfg(test)]
+mod deletion_tests;
+#[cfg(test)]
 mod editing_tests;
 #[cfg(test)]
 mod formatting_tests;

@@ -1,5 +1,6 @@
 mod blocks;
 mod commands;
+mod deleting;
 mod documents;
 mod extending;
 mod inline;

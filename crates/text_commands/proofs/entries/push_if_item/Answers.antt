@@ -1,0 +1,14 @@
+use Rattle.std.proofs.Common.{◌≡◌, true, sym, ap, ◌∙◌, codes}
+use Rattle.dom_model.specs.Contents.{has_name}
+use Rattle.edit_model.specs.Gives.{labels_of}
+use Rattle.edit_model.proofs.Steps.{labels_of_push_end}
+use Rattle.edit_doc.proofs.Children.{pushed_held}
+use Rattle.text_commands.proofs.entries.push_if_item.Goals as goal
+
+pub returns-in_ok-push-clause-ok : goal.returns-in_ok-push-clause-ok
+returns-in_ok-push-clause-ok c =
+    let t : has_name c.args.doc.now.state.trees c.args.node.label (codes "li") ≡ true = sym c.has_name.ensures ∙ c.if-has_name.true in
+    rw t (ap labels_of c.in_ok-push.ensures.items ∙ labels_of_push_end c.args.list.now.items c.args.node)
+
+pub returns-in_ok-push-clause-held : goal.returns-in_ok-push-clause-held
+returns-in_ok-push-clause-held c = pushed_held c.args.doc.now c.args.list.now.items _ c.args.node c.requires.each_held c.requires.node_held c.in_ok-push.ensures.items

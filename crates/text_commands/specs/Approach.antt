@@ -1,0 +1,120 @@
+-- The ways that the delete command takes back from a caret (HTML Editing APIs, "the delete command", steps 3 and 7). The steps
+-- are those of docs/ALGORITHMS.md.
+use Rattle.std.specs.Prelude.{ℕ, ◌-◌, ◌==◌, Bool, true, false, ◌||◌, ◌&&◌, not, codes, Option, Some, None, if◌then◌else◌}
+use Rattle.std.specs.Option.{option_map, option_map_or}
+use Rattle.dom_model.specs.Contents.{has_name, is_break, is_image}
+use Rattle.dom_model.specs.Forest.{is_label, prev_of}
+use Rattle.live_range.specs.declared.places.Point.{Point}
+use Rattle.node_styles.specs.Blocks.{is_block}
+use Rattle.node_tests.specs.BlockPoints.{child_before}
+use Rattle.node_tests.specs.Visible.{is_visible}
+use Rattle.edit_model.specs.State.{State}
+use Rattle.edit_model.specs.Confined.{is_editable_for}
+use Rattle.edit_model.specs.Run.{Run, ◌>>◌, answer, look, given, while_at_most, remove}
+use Rattle.wrap_split.specs.Split.{remove_keeping_children}
+use Rattle.delete_core.specs.Places.{at, end_in, before_node, turn_bound}
+use Rattle.text_commands.specs.declared.approach.Approach.{Approach}
+
+abbrev pub moved_to : Approach → Point → Approach
+moved_to a p = record a { at = p }
+
+abbrev pub halted : Approach → Approach
+halted a = record a { going = false }
+
+abbrev pub ended : Approach → Approach
+ended a = record a { going = false; unlinked = true }
+
+abbrev pub begun_at : Point → Approach
+begun_at p = record { at = p; going = true; unlinked = false }
+
+abbrev pub goes_on : State → Approach → Bool
+goes_on s a = a.going
+
+abbrev pub is_affected_host : State → ℕ → Bool
+is_affected_host s n = is_label s.host n
+
+-- an editable node that shows nothing, if there is one
+abbrev pub if_hidden : State → Option ℕ → Option ℕ
+if_hidden s None = None
+if_hidden s (Some k) = if is_editable_for s k && not (is_visible s.trees k) then Some k else None
+
+-- steps 3 b and 7: the child before goes, and the point stands where it stood
+unfoldable pub hidden_child : State → Point → Option ℕ
+hidden_child s p = if_hidden s (child_before s.trees p.label p.offset)
+
+unfoldable pub drop_child : Approach → ℕ → Run Approach
+drop_child a k = remove k >> answer (moved_to a (at a.at.label (a.at.offset - 1)))
+
+-- ---- delete, step 3: back to what is deleted
+
+-- step 3 a: the sibling before the node at whose start the point stands
+unfoldable pub hidden_prev : State → Point → Option ℕ
+hidden_prev s p = if not (is_affected_host s p.label) && (p.offset == 0) then if_hidden s (prev_of s.trees p.label) else None
+
+unfoldable pub drop_prev : Approach → ℕ → Run Approach
+drop_prev a k = remove k >> answer a
+
+-- step 3 c: out of an inline node at its start, and out of a node that shows nothing
+unfoldable pub is_left : State → Point → Bool
+is_left s p =
+    not (is_affected_host s p.label) && (((p.offset == 0) && not (is_block s.trees p.label)) || not (is_visible s.trees p.label))
+
+unfoldable pub out_of_node : State → Point → Option Point
+out_of_node s p = if is_left s p then before_node s.trees p.label else None
+
+-- step 3 d: an editable a gives way to its children
+abbrev pub if_link : State → Option ℕ → Option ℕ
+if_link s None = None
+if_link s (Some k) = if is_editable_for s k && has_name s.trees k (codes "a") then Some k else None
+
+unfoldable pub link_before : State → Point → Option ℕ
+link_before s p = if_link s (child_before s.trees p.label p.offset)
+
+unfoldable pub drop_link : Approach → ℕ → Run Approach
+drop_link a k = remove_keeping_children k >> answer (ended a)
+
+-- step 3 e: into a child that is no block, br or img
+abbrev pub if_enterable : State → Option ℕ → Option ℕ
+if_enterable s None = None
+if_enterable s (Some k) = if is_block s.trees k || (is_break s.trees k || is_image s.trees k) then None else Some k
+
+unfoldable pub into_child : State → Point → Option Point
+into_child s p = option_map (end_in s.trees) (if_enterable s (child_before s.trees p.label p.offset))
+
+-- steps 3 e and 3 f
+unfoldable pub enter_or_stop : Approach → Run Approach
+enter_or_stop a = look λ s. answer (option_map_or (moved_to a) (into_child s a.at) (halted a))
+
+-- from step 3 d on
+unfoldable pub unlink_or_enter : Approach → Run Approach
+unlink_or_enter a = look λ s. given (link_before s a.at) (enter_or_stop a) (drop_link a)
+
+-- from step 3 c on
+unfoldable pub leave_or_enter : Approach → Run Approach
+leave_or_enter a = look λ s. given (out_of_node s a.at) (unlink_or_enter a) λ p. answer (moved_to a p)
+
+-- from step 3 b on
+unfoldable pub hide_or_move : Approach → Run Approach
+hide_or_move a = look λ s. given (hidden_child s a.at) (leave_or_enter a) (drop_child a)
+
+-- one turn of step 3
+unfoldable pub back_turn : Approach → Run Approach
+back_turn a = look λ s. given (hidden_prev s a.at) (hide_or_move a) (drop_prev a)
+
+unfoldable pub go_back : Point → Run Approach
+go_back p = look λ s. while_at_most (turn_bound s) goes_on back_turn (begun_at p)
+
+-- ---- delete, step 7: out to where something stands before the point
+
+unfoldable pub out_of_start : State → Point → Option Point
+out_of_start s p = if (p.offset == 0) && not (is_affected_host s p.label) then before_node s.trees p.label else None
+
+unfoldable pub hide_or_stop : Approach → Run Approach
+hide_or_stop a = look λ s. given (hidden_child s a.at) (answer (halted a)) (drop_child a)
+
+-- one turn of step 7
+unfoldable pub climb_turn : Approach → Run Approach
+climb_turn a = look λ s. given (out_of_start s a.at) (hide_or_stop a) λ p. answer (moved_to a p)
+
+unfoldable pub climb : Point → Run Approach
+climb p = look λ s. while_at_most (turn_bound s) goes_on climb_turn (begun_at p)

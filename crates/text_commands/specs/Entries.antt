@@ -1,0 +1,114 @@
+-- What the delete command does at the start of an entry of a list, and of an indented line (HTML Editing APIs, "the delete
+-- command", steps 6, 8 and 11). The steps are those of docs/ALGORITHMS.md.
+use Rattle.std.specs.Prelude.{ℕ, ◌==◌, Bool, true, false, ◌||◌, ◌&&◌, not, List, [], Option, Some, None, is_none, is_some, if◌then◌else◌}
+use Rattle.std.specs.List.{list_any}
+use Rattle.std.specs.Option.{option_map_or}
+use Rattle.dom_model.specs.declared.Content.{Content}
+use Rattle.dom_model.specs.Contents.{is_break}
+use Rattle.dom_model.specs.Forest.{Forest, parent_of, prev_of, first_of, last_of}
+use Rattle.live_range.specs.declared.places.Point.{Point}
+use Rattle.node_styles.specs.NameClasses.{is_indentation}
+use Rattle.node_tests.specs.BlockPoints.{child_before, child_at}
+use Rattle.edit_model.specs.State.{State}
+use Rattle.edit_model.specs.Confined.{is_editable_for}
+use Rattle.edit_model.specs.Compositions.{set_tag_name}
+use Rattle.edit_model.specs.Run.{Run, ◌>>=◌, ◌>>◌, answer, done, look, given, for_each}
+use Rattle.edit_query.specs.Rows.{container_name}
+use Rattle.wrap_split.specs.Wrap.{is_inline, append_break}
+use Rattle.inline_value.specs.Ancestors.{is_description, has_place, split_out, fix_ancestors}
+use Rattle.inline_value.specs.Forcing.{ancestors}
+use Rattle.block_extend.specs.BlockExtend.{block_extend}
+use Rattle.block_extend.specs.Gather.{gathered}
+use Rattle.list_indent.specs.Sublists.{is_item, normalize_sublists}
+use Rattle.list_indent.specs.Commands.{items_over, has_editable_below}
+use Rattle.list_indent.specs.Outdenting.{outdent_node}
+
+-- an li, dt or dd
+unfoldable pub is_entry : State → ℕ → Bool
+is_entry s n = is_item s n || is_description s n
+
+-- ---- delete, step 6: an entry leaves its list
+
+unfoldable pub is_first_child : State → ℕ → Bool
+is_first_child s n = is_some (parent_of s.trees n) && is_none (prev_of s.trees n)
+
+-- the point is the start of an entry that is the first child of its parent
+unfoldable pub starts_entry : State → Point → Bool
+starts_entry s p = (p.offset == 0) && (is_entry s p.label && is_first_child s p.label)
+
+-- the items among its ancestors, in tree order
+abbrev pub items_from : Forest Content → Option ℕ → List ℕ
+items_from f None = []
+items_from f (Some p) = items_over f p
+
+unfoldable pub normalize_around : ℕ → Run (Unit {0})
+normalize_around n = look λ s. for_each (items_from s.trees (parent_of s.trees n)) normalize_sublists
+
+-- a dt or dd that has no place any more
+unfoldable pub is_stray : State → ℕ → Bool
+is_stray s n = is_description s n && not (has_place s n)
+
+unfoldable pub rename_stray : ℕ → Run ℕ
+rename_stray n = look λ s. if is_stray s n then set_tag_name n (container_name s.flags.paragraphs) else answer n
+
+unfoldable pub lift_entry : ℕ → Run Bool
+lift_entry n = do
+  normalize_around n
+  split_out n
+  kept ← rename_stray n
+  fix_ancestors kept
+  answer true
+
+-- ---- delete, step 8: an indented line is outdented
+
+unfoldable pub indents_line : State → ℕ → Bool
+indents_line s n = is_editable_for s n && is_indentation s.trees n
+
+-- an ancestor indents the node
+unfoldable pub has_indenter : State → ℕ → Bool
+has_indenter s n = list_any (indents_line s) (ancestors s.trees n)
+
+unfoldable pub is_indented : State → ℕ → Bool
+is_indented s n = indents_line s n || has_indenter s n
+
+-- the point is the start of a node that is an indentation element or stands in one
+unfoldable pub starts_indented : State → Point → Bool
+starts_indented s p = (p.offset == 0) && is_indented s p.label
+
+unfoldable pub is_bare : State → ℕ → Bool
+is_bare s n = is_editable_for s n && not (has_editable_below s n)
+
+abbrev pub bare_in : State → Point × Point → List ℕ
+bare_in s range = gathered (is_bare s) s.trees range.0 range.1
+
+-- the editable nodes of the line that have no editable descendants
+unfoldable pub bare_nodes : State → Point → List ℕ
+bare_nodes s p = bare_in s (block_extend s.trees p p)
+
+unfoldable pub outdent_line : Point → Run Bool
+outdent_line p = look λ s. for_each (bare_nodes s p) outdent_node >> answer true
+
+-- ---- delete, step 11: the line that the entry before ends with is closed, and an empty one is put after it
+
+abbrev pub opens_inline : State → Option ℕ → Bool
+opens_inline s None = false
+opens_inline s (Some k) = is_entry s k && is_inline s (first_of s.trees k)
+
+-- at the child at the point, which begins with a line of its own
+unfoldable pub opens_entry : State → Point → Bool
+opens_entry s p = not (p.offset == 0) && opens_inline s (child_at s.trees p.label p.offset)
+
+abbrev pub is_open_line : State → Option ℕ → Bool
+is_open_line s z = is_inline s z && option_map_or (λ l. not (is_break s.trees l)) z false
+
+unfoldable pub close_line : ℕ → Run (Unit {0})
+close_line k = look λ s. if is_open_line s (last_of s.trees k) then append_break k else done
+
+unfoldable pub add_line : ℕ → Run (Unit {0})
+add_line k = look λ s. if is_inline s (last_of s.trees k) then append_break k else done
+
+unfoldable pub part_entry : ℕ → Run (Unit {0})
+part_entry k = close_line k >> add_line k
+
+unfoldable pub part_entries : Point → Run (Unit {0})
+part_entries p = look λ s. if opens_entry s p then given (child_before s.trees p.label p.offset) done part_entry else done

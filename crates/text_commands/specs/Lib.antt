@@ -1,0 +1,3 @@
+pub mod Approach
+pub mod Entries
+pub mod Delete

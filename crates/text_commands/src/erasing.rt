@@ -1,0 +1,157 @@
+//! Delete, steps 1, 4, 9 and 10: what goes at once. The steps are those of docs/ALGORITHMS.md.
+
+ghost use Rattle.std.specs.Prelude.{◌≡◌};
+ghost use Rattle.edit_model.specs.Action.{Extend, Scratch, acted};
+ghost use Rattle.edit_model.specs.Action as action;
+ghost use Rattle.edit_model.specs.Gives.{Gives, label_of};
+ghost use Rattle.edit_doc.specs.Whole.{IsOpen, with_state};
+ghost use Rattle.edit_doc.specs.Held.{Holds, IfHeld, Keeps};
+ghost use Rattle.node_tests.specs.CollapsedWhitespace.{is_words};
+ghost use Rattle.text_commands.specs.Delete as command;
+
+use crate::places::{child_before, one_before};
+use delete_core::delete_selection;
+use dom_model::Content;
+use edit_doc::{Doc, EditFault, NodeRef, Pair, Point};
+use inline_commands::restore_states;
+use node_tests::{has_name, is_block, is_break, is_image};
+use std::alloc::Global;
+
+/// Selects from the anchor to the focus, where both stand in the document.
+pub(crate) fn select(doc: &mut Doc, anchor: Point, focus: Point)
+    ensures selected { doc.new ≡ with_state doc.old (acted (action.Select anchor focus) doc.old.state) }
+    ensures keeps { Keeps doc.old doc.new }
+{
+    doc.select(anchor, focus);
+}
+
+// Takes the focus of the selection to another point.
+fn extend(doc: &mut Doc, focus: Point)
+    ensures extended { doc.new ≡ with_state doc.old (acted (Extend focus) doc.old.state) }
+    ensures keeps { Keeps doc.old doc.new }
+{
+    doc.extend(focus);
+}
+
+// Keeps a point that goes along with edits.
+fn keep(doc: &mut Doc, at: Point)
+    requires open { IsOpen doc.old }
+    ensures kept { doc.new ≡ with_state doc.old (acted (Scratch record { anchor = at; focus = at }) doc.old.state) }
+    ensures keeps { Keeps doc.old doc.new }
+{
+    doc.set_scratch(Pair {
+        anchor: at,
+        focus: at,
+    });
+}
+
+// Deletes what is selected, and restores its states and values.
+#[tactic(auto, using(edit_model::proofs::Steps::steps, edit_model::proofs::Steps::exits), unfolding(crate::specs::Delete::erase))]
+fn erase(alloc: Global, doc: &mut Doc, backward: bool) -> Result<(), EditFault>
+    requires open { IsOpen doc.old }
+    ensures gives { Gives result doc.old.state doc.new.state (command.erase backward) }
+    ensures keeps { Keeps doc.old doc.new }
+{
+    let states = delete_selection(alloc, doc, true, true, backward)?;
+    restore_states(alloc, doc, &states)
+}
+
+/// Deletes what is selected, with its states and values restored, and answers true.
+#[tactic(auto, using(edit_model::proofs::Steps::steps, edit_model::proofs::Steps::exits), unfolding(crate::specs::Delete::erased))]
+pub(crate) fn erased(alloc: Global, doc: &mut Doc, backward: bool) -> Result<bool, EditFault>
+    requires open { IsOpen doc.old }
+    ensures gives { Gives result doc.old.state doc.new.state (command.erased backward) }
+    ensures keeps { Keeps doc.old doc.new }
+{
+    erase(alloc, doc, backward)?;
+    Ok(true)
+}
+
+// Step 4: a br, hr or img.
+fn is_single(doc: &Doc, node: Option<NodeRef>) -> bool
+    requires { IfHeld doc.now node }
+    ensures { result ≡ command.is_single doc.now.state (label_of node) }
+{
+    match node {
+        Some(node) => { is_break(doc, node) || has_name(doc, node, b"hr") || is_image(doc, node) }
+        None => false,
+    }
+}
+
+// Whether a node is a text.
+#[tactic(auto, unfolding(node_tests::specs::CollapsedWhitespace::is_words))]
+fn is_words(doc: &Doc, node: NodeRef) -> bool
+    requires { Holds doc.now node }
+    ensures { result ≡ is_words doc.now.state.trees node.label }
+{
+    match doc.content(node) {
+        Content::Words(_) => true,
+        _ => false,
+    }
+}
+
+/// Step 4: whether one character, or a br, hr or img of a block, stands before a point.
+#[tactic(auto, unfolding(crate::specs::Delete::follows_single))]
+pub(crate) fn follows_single(doc: &Doc, node: NodeRef, at: Point) -> bool
+    requires held { Holds doc.now node }
+    requires label { at.label ≡ node.label }
+    ensures { result ≡ command.follows_single doc.now.state at }
+{
+    (is_words(doc, node) && at.offset != 0)
+        || (is_block(doc, node) && is_single(doc, child_before(doc, node, at.offset)))
+}
+
+/// Step 4: deletes it.
+#[tactic(auto, using(edit_model::proofs::Steps::steps, edit_model::proofs::Steps::exits, edit_model::proofs::Steps::actions), unfolding(crate::specs::Delete::erase_single))]
+pub(crate) fn erase_single(alloc: Global, doc: &mut Doc, at: Point) -> Result<bool, EditFault>
+    requires open { IsOpen doc.old }
+    ensures gives { Gives result doc.old.state doc.new.state (command.erase_single at) }
+    ensures keeps { Keeps doc.old doc.new }
+{
+    select(doc, at, at);
+    extend(doc, one_before(at));
+    erased(alloc, doc, false)
+}
+
+/// Step 9: selects the node before a point.
+#[tactic(auto, using(edit_model::proofs::Steps::steps, edit_model::proofs::Steps::exits, edit_model::proofs::Steps::actions), unfolding(crate::specs::Delete::select_before))]
+pub(crate) fn select_before(doc: &mut Doc, at: Point) -> Result<bool, EditFault>
+    requires open { IsOpen doc.old }
+    ensures gives { Gives result doc.old.state doc.new.state (command.select_before at) }
+    ensures keeps { Keeps doc.old doc.new }
+{
+    select(doc, one_before(at), at);
+    Ok(true)
+}
+
+// Step 10: back to the point that was kept.
+#[tactic(auto, using(edit_model::proofs::Steps::actions), unfolding(crate::specs::Delete::collapse_kept))]
+fn collapse_kept(doc: &mut Doc) -> Result<(), EditFault>
+    requires open { IsOpen doc.old }
+    ensures gives { Gives result doc.old.state doc.new.state command.collapse_kept }
+    ensures keeps { Keeps doc.old doc.new }
+{
+    if let Some(pair) = doc.points().scratch() {
+        select(doc, pair.anchor, pair.anchor);
+    }
+    Ok(())
+}
+
+/// Step 10: deletes the node before a point. The caret stays where it is.
+#[tactic(auto, using(edit_model::proofs::Steps::steps, edit_model::proofs::Steps::exits, edit_model::proofs::Steps::actions), unfolding(crate::specs::Delete::erase_line))]
+pub(crate) fn erase_line(
+    alloc: Global,
+    doc: &mut Doc,
+    caret: Point,
+    at: Point,
+) -> Result<bool, EditFault>
+    requires open { IsOpen doc.old }
+    ensures gives { Gives result doc.old.state doc.new.state (command.erase_line caret at) }
+    ensures keeps { Keeps doc.old doc.new }
+{
+    keep(doc, caret);
+    select(doc, one_before(at), at);
+    erase(alloc, doc, false)?;
+    collapse_kept(doc)?;
+    Ok(true)
+}
