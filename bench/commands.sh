@@ -66,6 +66,7 @@ over_all 'formatBlock h1' 79300
 over_all justifyCenter 2700
 over_all indent 1060
 over_all outdent 2020
+over_all delete 11800
 
 # A page of one list of so many items of one text each.
 items() { # COUNT
@@ -129,6 +130,7 @@ at_caret 'formatBlock h1'
 at_caret justifyCenter
 at_caret indent
 at_caret outdent
+at_caret delete
 
 # a caret after so many siblings, whose index among them is counted
 after_siblings() { # COMMAND
