@@ -26,3 +26,4 @@ mod OwnHost
 pub mod Reaching
 mod Above
 mod Gathered
+mod Line

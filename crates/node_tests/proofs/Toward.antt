@@ -12,7 +12,7 @@ use Rattle.dom_model.proofs.Within.{within_parent, within_step, within_up, depth
 use Rattle.point_order.specs.PointOrder.{is_within, child_toward}
 use Rattle.node_tests.proofs.Pieces.{has, hasnt, count_in_tree, tree_in_tree}
 
-no_count : (n : ℕ) → (0 < n → ⊥) → n ≡ 0
+pub no_count : (n : ℕ) → (0 < n → ⊥) → n ≡ 0
 no_count zero h = refl
 no_count (suc n) h = absurd (h (omega arith))
 

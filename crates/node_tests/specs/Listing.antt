@@ -1,5 +1,6 @@
 -- What a walk over a tree looks for. No public clause cites this module.
-use Rattle.std.specs.Prelude.{◌≡◌, ℕ, ◌<◌, ◌≤◌, ◌==◌, ◌⊎◌, Bool, true, false, List, [], ◌∷◌, Option, Some, None, IfSome, if◌then◌else◌}
+use Rattle.std.specs.Prelude.{◌≡◌, ℕ, zero, suc, ◌<◌, ◌≤◌, ◌==◌, ◌⊎◌, Bool, true, false, List, [], ◌∷◌, Option, Some, None, IfSome, if◌then◌else◌}
+use Rattle.std.specs.List.{slice_get}
 use Rattle.dom_model.specs.declared.Content.{Content}
 use Rattle.dom_model.specs.Forest.{Forest, IsWithin, parent_of}
 use Rattle.dom_model.specs.Forest.Forest.{Nil}
@@ -7,6 +8,7 @@ use Rattle.dom_model.specs.Places.{index_of, onward}
 use Rattle.live_range.specs.declared.places.Point.{Point}
 use Rattle.node_arena.specs.declared.NodeRef.{NodeRef}
 use Rattle.node_arena.specs.Held.{label}
+use Rattle.node_tests.specs.declared.listing.Lines.{Lines}
 use Rattle.node_tests.specs.declared.listing.Reach.{Reach}
 use Rattle.node_tests.specs.declared.listing.Sides.{Sides}
 use Rattle.node_tests.specs.declared.listing.Wanted.{Wanted}
@@ -83,3 +85,16 @@ pub record Lies (f : Forest Content) (start end : Point) (sides : Sides) (k : �
   pub before : sides.before ≡ true → LiesBefore f end k
   pub starts : sides.after ≡ false → IsWithin f k start.label
   pub ends : sides.before ≡ false → IsWithin f k end.label
+
+-- so many nodes lead up from a node to one above it: the last of them is a child of that one, and each other a child of the
+-- next
+abbrev pub Leads : (NodeRef → Type 0) → Forest Content → List NodeRef → ℕ → ℕ → ℕ → Type 0
+Leads holds f line l zero top = l ≡ top
+Leads holds f line l (suc n) top =
+    (r : NodeRef) × (slice_get line n ≡ Some r) × holds r × (parent_of f r.label ≡ Some top) × IsWithin f r.label l
+    × Leads holds f line l n r.label
+
+-- where an end of the range stands in the tree of a node, the nodes that are left lead up from it to the node
+pub record Lined (holds : NodeRef → Type 0) (f : Forest Content) (start end : Point) (lines : Lines) (sides : Sides) (k : ℕ) : Type 0 where
+  pub from : sides.after ≡ false → Leads holds f lines.start.items start.label sides.start_left k
+  pub upto : sides.before ≡ false → Leads holds f lines.end.items end.label sides.end_left k

@@ -43,7 +43,7 @@ pub(crate) fn is_partial<N: Nodes>(nodes: &N, node: NodeRef, range: (Point, Poin
 
 // Whether the start of a range cuts Words below a node.
 #[tactic(auto, unfolding(crate::specs::Ranges::start_cuts))]
-fn start_cuts<N: Nodes>(nodes: &N, start: Point, node: NodeRef) -> bool
+pub(crate) fn start_cuts<N: Nodes>(nodes: &N, start: Point, node: NodeRef) -> bool
     requires node_held { N.holds nodes.now node }
     requires start_held { 0 < count_of (N.trees nodes.now) start.label }
     ensures { result ≡ ranges.start_cuts (N.trees nodes.now) start node.label }
@@ -54,7 +54,7 @@ fn start_cuts<N: Nodes>(nodes: &N, start: Point, node: NodeRef) -> bool
 
 // The same of its end.
 #[tactic(auto, unfolding(crate::specs::Ranges::end_cuts))]
-fn end_cuts<N: Nodes>(nodes: &N, end: Point, node: NodeRef) -> bool
+pub(crate) fn end_cuts<N: Nodes>(nodes: &N, end: Point, node: NodeRef) -> bool
     requires node_held { N.holds nodes.now node }
     requires end_held { 0 < count_of (N.trees nodes.now) end.label }
     ensures { result ≡ ranges.end_cuts (N.trees nodes.now) end node.label }
@@ -64,7 +64,7 @@ fn end_cuts<N: Nodes>(nodes: &N, end: Point, node: NodeRef) -> bool
 }
 
 #[tactic(auto, unfolding(crate::specs::Ranges::is_cut))]
-pub(crate) fn is_cut<N: Nodes>(nodes: &N, node: NodeRef, range: (Point, Point)) -> bool
+fn is_cut<N: Nodes>(nodes: &N, node: NodeRef, range: (Point, Point)) -> bool
     requires node_held { N.holds nodes.now node }
     requires start_held { 0 < count_of (N.trees nodes.now) range.0.label }
     requires end_held { 0 < count_of (N.trees nodes.now) range.1.label }

@@ -3,8 +3,9 @@ use Rattle.std.specs.Prelude.{map}
 use Rattle.std.specs.List.{All}
 use Rattle.std.proofs.lemmas.Bool.{and_parts}
 use Rattle.node_arena.specs.Held.{label}
-use Rattle.node_tests.specs.Listing.{is_wanted, Lies}
+use Rattle.node_tests.specs.Listing.{is_wanted, Lies, Lined}
 use Rattle.node_tests.proofs.Gathered.{all_inserted, child_lies, ended, every_effective, every_listed, flag_init, flag_next, flag_stop, from_first, inserted, left_out, listed_above, longer, none_kid, none_left, reached_kid, stands_first, stands_next, stands_none, stop_is}
+use Rattle.node_tests.proofs.Line.{cut_is, inner_lined}
 use Rattle.node_tests.proofs.Kids.{next_kid, next_smaller, tree_smaller}
 use Rattle.node_tests.proofs.Wanting.{listed_next}
 use Rattle.node_tests.proofs.listing.+push_tree.Goals as goal
@@ -72,7 +73,9 @@ push_tree-requires g t c κs within =
     let stands = rw c.in-Some.is at c.loop-child.invariant.stands in
     let lies : Lies f c.args.range.0 c.args.range.1 c.inner_sides-inner.result c.in-Some.at.label =
     child_lies law c.args.range.0 c.args.range.1 c.args.node.label c.in-Some.at.label kid.under c.start_reach-start.result c.end_reach-end.result c.first_after-stop.result c.start_reach-start.ensures.reaches c.end_reach-end.ensures.reaches c.first_after-stop.ensures stands (sym c.is_at.ensures ∙ c.if-is_at.false) c.inner_sides-inner.result c.inner_sides-inner.ensures.after c.inner_sides-inner.ensures.before in
-    (omega (arith, c.decreases, tree_smaller law c.args.node.label c.in-Some.at kid), (within, (kid.held, (c.requires.start_held, (c.requires.end_held, (lies, (c.requires.ordered, c.loop-child.invariant.held)))))))
+    let lined : Lined (g.N.Nodes.holds c.args.nodes.now) f c.args.range.0 c.args.range.1 c.args.lines.now c.inner_sides-inner.result c.in-Some.at.label =
+    inner_lined (g.N.Nodes.holds c.args.nodes.now) f c.args.range.0 c.args.range.1 c.args.lines.now c.args.sides c.in-Some.at.label c.start_reach-start.result c.end_reach-end.result c.deref.result.now c.deref-2.result.now c.deref.ensures.value c.deref-2.ensures.value c.start_reach-start.ensures.leads c.end_reach-end.ensures.leads c.inner_sides-inner.result c.inner_sides-inner.ensures.after c.inner_sides-inner.ensures.before c.inner_sides-inner.ensures.start_left c.inner_sides-inner.ensures.end_left in
+    (omega (arith, c.decreases, tree_smaller law c.args.node.label c.in-Some.at kid), (within, (kid.held, (c.requires.start_held, (c.requires.end_held, (lies, (lined, (c.requires.start_cuts, (c.requires.end_cuts, (c.requires.ordered, c.loop-child.invariant.held))))))))))
 
 pub loop-child-smaller : goal.loop-child-smaller
 loop-child-smaller g t c =
@@ -98,6 +101,11 @@ loop-child-preserved g t c =
       listed = listed_next (is_wanted c.args.wanted f start end) f law.distinct k top kid.under (label c.next-child.result) c.next-child.ensures.is _ _ _ listed c.in_ok-is_effective.ensures.nodes;
       flag = flag_next law top start end c.requires.ordered k kid.under (label c.next-child.result) c.next-child.ensures.is c.loop-child.whole c.in_ok-is_effective.is_effective c.in_ok-is_effective.ensures.effective ∙ flag;
     }
+
+pub is_effective_above-effective-requires-clause-cut : goal.is_effective_above-effective-requires-clause-cut
+is_effective_above-effective-requires-clause-cut g t c =
+    c.is_cut_within-cut.ensures
+    ∙ cut_is (g.N.Nodes.trees c.args.nodes.now) c.lawful.ensures.distinct c.args.range.0 c.args.range.1 c.args.sides c.args.node.label c.requires.sides c.requires.start_held c.requires.end_held c.args.lines.now.start_cuts c.args.lines.now.end_cuts c.requires.start_cuts c.requires.end_cuts
 
 pub put_at-requires : goal.put_at-requires
 put_at-requires g t c =

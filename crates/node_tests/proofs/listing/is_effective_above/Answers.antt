@@ -17,21 +17,21 @@ returns-then-is_partial g c =
     let l = c.args.node.label in
     touched_effective (g.N.Nodes.trees c.args.nodes.now) c.args.range.0 c.args.range.1 law.distinct l (law.here c.args.node c.requires.node_held) (c.args.contained || c.is_partial.result) (touched_by (g.N.Nodes.trees c.args.nodes.now) c.args.range.0 c.args.range.1 l c.args.contained c.is_partial.result c.requires.contained c.is_partial.ensures) (ap (λ v. v || c.is_partial.result) c.if-contained.false ∙ c.if-is_partial.true)
 
-pub returns-then-is_cut : goal.returns-then-is_cut
-returns-then-is_cut g c =
+pub returns-then-cut : goal.returns-then-cut
+returns-then-cut g c =
     let law = c.lawful.ensures in
     let l = c.args.node.label in
-    cut_ineffective (g.N.Nodes.trees c.args.nodes.now) c.args.range.0 c.args.range.1 law.distinct l (law.here c.args.node c.requires.node_held) (c.args.contained || c.is_partial.result) (touched_by (g.N.Nodes.trees c.args.nodes.now) c.args.range.0 c.args.range.1 l c.args.contained c.is_partial.result c.requires.contained c.is_partial.ensures) (ap (λ v. v || c.is_partial.result) c.if-contained.false ∙ c.if-is_partial.false) c.is_cut.result c.is_cut.ensures c.if-is_cut.true
+    cut_ineffective (g.N.Nodes.trees c.args.nodes.now) c.args.range.0 c.args.range.1 law.distinct l (law.here c.args.node c.requires.node_held) (c.args.contained || c.is_partial.result) (touched_by (g.N.Nodes.trees c.args.nodes.now) c.args.range.0 c.args.range.1 l c.args.contained c.is_partial.result c.requires.contained c.is_partial.ensures) (ap (λ v. v || c.is_partial.result) c.if-contained.false ∙ c.if-is_partial.false) c.args.cut c.requires.cut c.if-cut.true
 
 pub returns-then-is_nothing : goal.returns-then-is_nothing
 returns-then-is_nothing g c =
     let law = c.lawful.ensures in
     let l = c.args.node.label in
-    childless_ineffective (g.N.Nodes.trees c.args.nodes.now) c.args.range.0 c.args.range.1 law.distinct l (law.here c.args.node c.requires.node_held) (c.args.contained || c.is_partial.result) (touched_by (g.N.Nodes.trees c.args.nodes.now) c.args.range.0 c.args.range.1 l c.args.contained c.is_partial.result c.requires.contained c.is_partial.ensures) (ap (λ v. v || c.is_partial.result) c.if-contained.false ∙ c.if-is_partial.false) c.is_cut.result c.is_cut.ensures c.if-is_cut.false (label c.args.first) c.requires.first (sym c.is_nothing.ensures ∙ c.if-is_nothing.true)
+    childless_ineffective (g.N.Nodes.trees c.args.nodes.now) c.args.range.0 c.args.range.1 law.distinct l (law.here c.args.node c.requires.node_held) (c.args.contained || c.is_partial.result) (touched_by (g.N.Nodes.trees c.args.nodes.now) c.args.range.0 c.args.range.1 l c.args.contained c.is_partial.result c.requires.contained c.is_partial.ensures) (ap (λ v. v || c.is_partial.result) c.if-contained.false ∙ c.if-is_partial.false) c.args.cut c.requires.cut c.if-cut.false (label c.args.first) c.requires.first (sym c.is_nothing.ensures ∙ c.if-is_nothing.true)
 
 pub returns : goal.returns
 returns g c =
     let law = c.lawful.ensures in
     let l = c.args.node.label in
     c.requires.whole
-    ∙ sym (kids_effective (g.N.Nodes.trees c.args.nodes.now) c.args.range.0 c.args.range.1 law.distinct l (law.here c.args.node c.requires.node_held) (c.args.contained || c.is_partial.result) (touched_by (g.N.Nodes.trees c.args.nodes.now) c.args.range.0 c.args.range.1 l c.args.contained c.is_partial.result c.requires.contained c.is_partial.ensures) (ap (λ v. v || c.is_partial.result) c.if-contained.false ∙ c.if-is_partial.false) c.is_cut.result c.is_cut.ensures c.if-is_cut.false (label c.args.first) c.requires.first (sym c.is_nothing.ensures ∙ c.if-is_nothing.false))
+    ∙ sym (kids_effective (g.N.Nodes.trees c.args.nodes.now) c.args.range.0 c.args.range.1 law.distinct l (law.here c.args.node c.requires.node_held) (c.args.contained || c.is_partial.result) (touched_by (g.N.Nodes.trees c.args.nodes.now) c.args.range.0 c.args.range.1 l c.args.contained c.is_partial.result c.requires.contained c.is_partial.ensures) (ap (λ v. v || c.is_partial.result) c.if-contained.false ∙ c.if-is_partial.false) c.args.cut c.requires.cut c.if-cut.false (label c.args.first) c.requires.first (sym c.is_nothing.ensures ∙ c.if-is_nothing.false))

@@ -7,6 +7,16 @@ use Rattle.node_tests.proofs.Elsewhere.{all_wanted, copied, end_inside}
 use Rattle.node_tests.proofs.Wanting.{passed}
 use Rattle.node_tests.proofs.listing.wanted_nodes.Goals as goal
 
+pub line_to-requires-2-clause-inside : goal.line_to-requires-2-clause-inside
+line_to-requires-2-clause-inside g c =
+    let f = g.N.Nodes.trees c.args.nodes.now in
+    let law = c.lawful.ensures in
+    let root = c.root_of-root.result in
+    let inside : IsWithin f root.label c.args.range.0.label = subst (λ k. IsWithin f root.label k) c.node_of-start.ensures.label c.root_of-root.ensures.within in
+    let ordered = sym c.comes_before.ensures ∙ c.if-not-comes_before.false in
+    subst (λ k. IsWithin f root.label k) (sym c.node_of-end.ensures.label)
+    (end_inside f law.distinct root.label (law.here root c.root_of-root.ensures.held) c.root_of-root.ensures.root c.args.range.0 c.args.range.1 inside c.requires.end_held ordered)
+
 pub push_tree-requires-clause-sides : goal.push_tree-requires-clause-sides
 push_tree-requires-clause-sides g c =
     let f = g.N.Nodes.trees c.args.nodes.now in
@@ -15,8 +25,8 @@ push_tree-requires-clause-sides g c =
     let inside : IsWithin f root.label c.args.range.0.label = subst (λ k. IsWithin f root.label k) c.node_of-start.ensures.label c.root_of-root.ensures.within in
     let ordered = sym c.comes_before.ensures ∙ c.if-not-comes_before.false in
     record {
-      after = λ on. absurd (let t : true ≡ false = sym on ∙ c.no_side.ensures.after in cc);
-      before = λ on. absurd (let t : true ≡ false = sym on ∙ c.no_side.ensures.before in cc);
+      after = λ on. absurd (let t : true ≡ false = sym on ∙ c.root_sides-sides.ensures.after in cc);
+      before = λ on. absurd (let t : true ≡ false = sym on ∙ c.root_sides-sides.ensures.before in cc);
       starts = λ _. inside;
       ends = λ _. end_inside f law.distinct root.label (law.here root c.root_of-root.ensures.held) c.root_of-root.ensures.root c.args.range.0 c.args.range.1 inside c.requires.end_held ordered;
     }
