@@ -20,8 +20,10 @@ use Rattle.edit_model.specs.Lawful.{IsLawful}
 use Rattle.edit_model.specs.Edit.{Edit, is_made_edit, trees_after, points_after, overrides_after, changed, with_change, change_of as edit_change}
 use Rattle.edit_model.specs.Run.{edit}
 use Rattle.edit_model.specs.Gives.{Gives}
-use Rattle.edit_model.proofs.Giving.{after_edit, gives_made, edited-made}
-use Rattle.edit_model.proofs.LawfulRuns.{lawful_edited}
+use Rattle.edit_model.specs.Action.{applied as edit_applied}
+use Rattle.edit_model.specs.Possible.{freed}
+use Rattle.edit_model.proofs.Giving.{gives_made}
+use Rattle.edit_model.proofs.LawfulParts.{lawful_applied}
 use Rattle.edit_parts.specs.declared.Counts.{Counts}
 use Rattle.edit_doc.specs.declared.Doc.TheInside.{Inside}
 use Rattle.edit_doc.specs.declared.command.Command.{Command}
@@ -31,9 +33,16 @@ use Rattle.edit_doc.specs.History.{edits_before, state_of, whole_of}
 use Rattle.edit_doc.specs.Sound.{IsSound}
 use Rattle.edit_doc.proofs.Inner.{seen, seen as seen_of, Ok as OkInside, open_of}
 use Rattle.edit_doc.proofs.SeenNodes.{out_of}
+use Rattle.edit_doc.proofs.Freely.{freed_edit}
 use Rattle.edit_doc.proofs.Changing.{Follows, goes, seen_next, state_next, whole_next, sound_next}
 
--- what the call owes after the edit
+-- what a call that makes an edit without its test owes after it
+pub record Applied (d : Inside) (v : Whole) (e : Edit) (arena : Arena) (points : LivePoints) (overrides : List Setting) (counts : Counts) (c : Command) (log : Log Step) : Type 0 where
+  pub invariant : IsSound arena points overrides d.flags counts c log d.undo_sides.items d.redo_sides.items d.undo_sides.capacity d.redo_sides.capacity
+  pub state : state_of arena points overrides d.flags c log ≡ edit_applied e v.state
+  pub keeps : Keeps v (whole_of arena points overrides d.flags c log d.undo_sides.items d.redo_sides.items)
+
+-- and what a call that makes its test first owes
 pub record Done (d : Inside) (v : Whole) (e : Edit) (arena : Arena) (points : LivePoints) (overrides : List Setting) (counts : Counts) (c : Command) (log : Log Step) : Type 0 where
   pub invariant : IsSound arena points overrides d.flags counts c log d.undo_sides.items d.redo_sides.items d.undo_sides.capacity d.redo_sides.capacity
   pub gives : Gives (Ok true) v.state (state_of arena points overrides d.flags c log) (edit e)
@@ -53,8 +62,13 @@ pub record Makes (d : Inside) (e : Edit) (x : Step) (points : LivePoints) (overr
   pub chars : counts.chars ≡ char_count (applied (change_of x) d.arena.trees)
   pub depth : page_depth (applied (change_of x) d.arena.trees) ≤ counts.depth
 
+-- an edit that is made is applied
+pub gives_applied : (e : Edit) (s t : State) → is_made_edit e s ≡ true → t ≡ edit_applied e s → Gives (Ok true) s t (edit e)
+unfolding edit_applied
+gives_applied e s t may is = gives_made e s t may is
+
 module _ (d : Inside) (v : Whole) (is : seen d ≡ v) (law : IsArena d.arena) (now_open : IsOpen v) (ok : OkInside d) where
-  module _ (e : Edit) (x : Step) (points : LivePoints) (overrides : List Setting) (counts : Counts) (c : Command) (may : is_made_edit e v.state ≡ true) (m : Makes d e x points overrides counts c) where
+  module _ (e : Edit) (x : Step) (points : LivePoints) (overrides : List Setting) (counts : Counts) (c : Command) (may : is_made_edit e (freed v.state) ≡ true) (m : Makes d e x points overrides counts c) where
     opened : IsTrue (is_open d.log.open_entry)
     opened = open_of d v is now_open
 
@@ -64,11 +78,11 @@ module _ (d : Inside) (v : Whole) (is : seen d ≡ v) (law : IsArena d.arena) (n
     abbrev next : State
     next = seen_next d.arena d.points d.overrides.items d.flags d.counts d.command d.log d.undo_sides.items d.redo_sides.items d.undo_sides.capacity d.redo_sides.capacity law opened ok x m.fits m.seen c m.follows points overrides
 
-    may_seen : is_made_edit e (seen d).state ≡ true
-    may_seen = subst (λ (w : Whole). is_made_edit e w.state ≡ true) (sym is) may
+    may_seen : is_made_edit e (freed (seen d).state) ≡ true
+    may_seen = subst (λ (w : Whole). is_made_edit e (freed w.state) ≡ true) (sym is) may
 
-    next_is : next ≡ after_edit e (seen d).state
-    unfolding changed with_change
+    next_is : next ≡ edit_applied e (seen d).state
+    unfolding edit_applied changed with_change
     next_is = λ i. record (seen d).state {
       trees = m.trees i;
       points = m.points_are i;
@@ -77,7 +91,7 @@ module _ (d : Inside) (v : Whole) (is : seen d ≡ v) (law : IsArena d.arena) (n
     }
 
     lawful_next : IsLawful next
-    lawful_next = subst IsLawful (sym (next_is)) (subst IsLawful (edited-made e (seen d).state may_seen) (lawful_edited e (seen d).state ok.lawful))
+    lawful_next = subst IsLawful (sym (next_is)) (lawful_applied e (seen d).state ok.lawful may_seen)
 
     state_is : state_of (record d.arena { trees = f }) points overrides d.flags c (with_step d.log (step_turned x d.arena)) ≡ next
     state_is = state_next d.arena d.points d.overrides.items d.flags d.counts d.command d.log d.undo_sides.items d.redo_sides.items d.undo_sides.capacity d.redo_sides.capacity law opened ok x m.fits m.seen c m.follows points overrides m.names
@@ -98,19 +112,34 @@ module _ (d : Inside) (v : Whole) (is : seen d ≡ v) (law : IsArena d.arena) (n
       cap = refl;
     }
 
-    pub edit_done : Done d v e (record d.arena { trees = f }) points overrides counts c (with_step d.log (step_turned x d.arena))
-    edit_done = record {
+    applied_here : Applied d v e (record d.arena { trees = f }) points overrides counts c (with_step d.log (step_turned x d.arena))
+    applied_here = record {
       invariant = sound_next d.arena d.points d.overrides.items d.flags d.counts d.command d.log d.undo_sides.items d.redo_sides.items d.undo_sides.capacity d.redo_sides.capacity law opened ok x m.fits m.seen c m.follows points overrides m.names counts lawful_next m.nodes m.chars m.depth;
-      gives = gives_made e v.state (state_of (record d.arena { trees = f }) points overrides d.flags c (with_step d.log (step_turned x d.arena))) may
-          (state_is ∙ (next_is ∙ ap (λ (w : Whole). after_edit e w.state) is));
+      state = state_is ∙ (next_is ∙ ap (λ (w : Whole). edit_applied e w.state) is);
       keeps = subst (λ w. Keeps w (whole_of (record d.arena { trees = f }) points overrides d.flags c (with_step d.log (step_turned x d.arena)) d.undo_sides.items d.redo_sides.items)) is (subst (Keeps (seen d)) (sym whole_is) keeps_seen);
     }
 
     -- the same of what the calls that make it leave
-    pub edit_called : (arena : Arena) (log : Log Step) → arena ≡ step_applied x d.arena → log ≡ with_step d.log (step_turned x d.arena) → Done d v e arena points overrides counts c log
+    pub edit_linked : (arena : Arena) (log : Log Step) → arena ≡ step_applied x d.arena → log ≡ with_step d.log (step_turned x d.arena) → Applied d v e arena points overrides counts c log
     unfolding step_applied
+    edit_linked arena log arena_is log_is =
+        subst (λ l. Applied d v e arena points overrides counts c l) (sym log_is) (subst (λ a. Applied d v e a points overrides counts c (with_step d.log (step_turned x d.arena))) (sym arena_is) applied_here)
+
+  -- and where the test was made
+  module _ (e : Edit) (x : Step) (points : LivePoints) (overrides : List Setting) (counts : Counts) (c : Command) (may : is_made_edit e v.state ≡ true) (m : Makes d e x points overrides counts c) where
+    pub edit_called : (arena : Arena) (log : Log Step) → arena ≡ step_applied x d.arena → log ≡ with_step d.log (step_turned x d.arena) → Done d v e arena points overrides counts c log
     edit_called arena log arena_is log_is =
-        subst (λ l. Done d v e arena points overrides counts c l) (sym log_is) (subst (λ a. Done d v e a points overrides counts c (with_step d.log (step_turned x d.arena))) (sym arena_is) edit_done)
+        let a = edit_linked e x points overrides counts c (freed_edit e v.state may) m arena log arena_is log_is in
+        record { invariant = a.invariant; gives = gives_applied e v.state (state_of arena points overrides d.flags c log) may a.state; keeps = a.keeps }
 
 pub keeps_same : (v : Whole) → Keeps v v
 keeps_same v = record { held = λ r h. h; history = refl; began = refl; start = refl; cap = refl }
+
+pub keeps_on : (first old new : Whole) → Keeps first old → Keeps old new → Keeps first new
+keeps_on first old new a b = record {
+  held = λ r h. b.held r (a.held r h);
+  history = b.history ∙ a.history;
+  began = b.began ∙ a.began;
+  start = b.start ∙ a.start;
+  cap = b.cap ∙ a.cap;
+}

@@ -1,4 +1,4 @@
--- An insert that is made.
+-- A loose tree that is linked.
 use Rattle.std.proofs.Common.{◌≡◌, ℕ, ◌<◌, ◌≤◌, ◌^◌, Bool, true, false, List, length, Option, Some, None, refl, sym, ap, subst, ◌∙◌, arith}
 use Rattle.dom_model.specs.declared.Content.{Content}
 use Rattle.dom_model.specs.Contents.{is_parent_at, words_length}
@@ -28,6 +28,8 @@ use Rattle.edit_model.specs.Edit.{Insert, is_made_edit, change_of as edit_change
 use Rattle.edit_model.specs.Confined.{may_insert}
 use Rattle.edit_model.specs.Gives.{label_of}
 use Rattle.edit_model.specs.Lawful.{IsPlaced}
+use Rattle.edit_model.specs.Possible.{freed}
+use Rattle.edit_model.proofs.LawfulParts.{lawful_freed}
 use Rattle.edit_model.proofs.Fitting.{fits-insert}
 use Rattle.edit_model.proofs.Tests.{Inserts, inserts}
 use Rattle.edit_parts.specs.Following.{settled}
@@ -45,7 +47,7 @@ use Rattle.edit_doc.proofs.Linked.{labels_same, inserts_follow, place_seen, link
 use Rattle.edit_doc.proofs.Inserted.{index-link, more_linked, linked_low, chars_bound, nodes_bound}
 use Rattle.edit_doc.proofs.Raised.{linked_depth}
 use Rattle.edit_doc.proofs.Treed.{placed_after, settled_after}
-use Rattle.edit_doc.proofs.Edited.{Makes, Done, edit_called}
+use Rattle.edit_doc.proofs.Edited.{Makes, Applied, edit_linked}
 
 pub index_left : (k : ℕ → Bool) (f : Forest Content) (p : ℕ) (b : Option ℕ) → IsDistinct f → 0 < count_of (shed k f) p → index_before (shed k f) p b ≡ index_before f p b
 unfolding index_before
@@ -56,8 +58,12 @@ pub not_inserted : (s : State) (p : ℕ) (b : Option ℕ) (n : ℕ) → may_inse
 unfolding is_made_edit
 not_inserted s p b n h = h
 
+pub is_inserted : (s : State) (p : ℕ) (b : Option ℕ) (n : ℕ) → may_insert s p b n ≡ true → is_made_edit (Insert p b n) s ≡ true
+unfolding is_made_edit
+is_inserted s p b n h = h
+
 module _ (d : Inside) (v : Whole) (is : seen d ≡ v) (law : IsArena d.arena) (slotted : IsSlotted d.arena) (now_open : IsOpen v) (ok : Ok d) (node parent : NodeRef) (before : Option NodeRef)
-    (node_held : Holds v node) (parent_held : Holds v parent) (before_held : IfHeld v before) (may : may_insert v.state parent.label (label_of before) node.label ≡ true) where
+    (node_held : Holds v node) (parent_held : Holds v parent) (before_held : IfHeld v before) (may : is_made_edit (Insert parent.label (label_of before) node.label) (freed v.state) ≡ true) where
   abbrev f : Forest Content
   f = d.arena.trees
 
@@ -76,18 +82,15 @@ module _ (d : Inside) (v : Whole) (is : seen d ≡ v) (law : IsArena d.arena) (s
   abbrev x : Step
   x = Link node parent before
 
-  may_here : may_insert v.state p b n ≡ true
-  may_here = subst (λ o. may_insert v.state p o n ≡ true) (sym (labels_same before)) may
+  made : is_made_edit (Insert p b n) (freed v.state) ≡ true
+  made = subst (λ o. is_made_edit (Insert p o n) (freed v.state) ≡ true) (sym (labels_same before)) may
 
-  may_seen : may_insert (seen d).state p b n ≡ true
-  may_seen = subst (λ (w : Whole). may_insert w.state p b n ≡ true) (sym is) may_here
-
-  made : is_made_edit (Insert p b n) v.state ≡ true
+  may_seen : may_insert (freed (seen d).state) p b n ≡ true
   unfolding is_made_edit
-  made = may_here
+  may_seen = subst (λ (w : Whole). may_insert (freed w.state) p b n ≡ true) (sym is) made
 
-  told : Inserts (seen d).state p b n
-  told = inserts (seen d).state p b n may_seen
+  told : Inserts (freed (seen d).state) p b n
+  told = inserts (freed (seen d).state) p b n may_seen
 
   bears : is_parent_at f p ≡ true
   bears = sym (is_parent_seen d law (seen d) refl parent (held_seen d v is parent parent_held)) ∙ told.parent
@@ -132,7 +135,7 @@ module _ (d : Inside) (v : Whole) (is : seen d ≡ v) (law : IsArena d.arena) (s
   points_is = refl
 
   fit_here : Fits (range.Inserted p (index_before g p b)) d.points
-  fit_here = fits-insert (seen d).state p b n ok.lawful (omega (arith, law.capped, law.small)) may_seen
+  fit_here = fits-insert (freed (seen d).state) p b n (lawful_freed (seen d).state ok.lawful) (omega (arith, law.capped, law.small)) may_seen
 
   seen_place : Each (IsLeft (out_of d) d.arena.trees) (named (change_of x))
   seen_place = place_seen d v is law slotted node parent before node_held parent_held before_held
@@ -180,5 +183,5 @@ module _ (d : Inside) (v : Whole) (is : seen d ≡ v) (law : IsArena d.arena) (s
           depth = depth_is enters enters_is counts.depth raised;
         }
 
-        pub insert_done : Done d v (Insert p (label_of before) n) arena points overrides counts c log
-        insert_done = subst (λ o. Done d v (Insert p o n) arena points overrides counts c log) (labels_same before) (edit_called d v is law now_open ok (Insert p b n) x points overrides counts c made makes arena log arena_is log_is)
+        pub link_done : Applied d v (Insert p (label_of before) n) arena points overrides counts c log
+        link_done = subst (λ o. Applied d v (Insert p o n) arena points overrides counts c log) (labels_same before) (edit_linked d v is law now_open ok (Insert p b n) x points overrides counts c made makes arena log arena_is log_is)

@@ -13,6 +13,7 @@ pub mod Changing
 pub mod Found
 pub mod Stored
 pub mod Loosened
+pub mod Freely
 pub mod Edited
 pub mod Ordered
 pub mod Rolls
@@ -56,3 +57,4 @@ pub mod Outgone
 pub mod Off
 pub mod Needs
 pub mod KeptNodes
+pub mod Tails

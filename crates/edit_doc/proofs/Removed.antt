@@ -23,6 +23,8 @@ use Rattle.undo_log.specs.Log.{Log, with_step}
 use Rattle.edit_model.specs.declared.settings.Setting.{Setting}
 use Rattle.edit_model.specs.Edit.{Remove, is_made_edit, change_of as edit_change, trees_after, points_after}
 use Rattle.edit_model.specs.Confined.{may_leave, may_remove}
+use Rattle.edit_model.specs.State.{State}
+use Rattle.edit_model.specs.Possible.{freed}
 use Rattle.edit_model.specs.Gives.{label_of}
 use Rattle.edit_parts.specs.declared.Counts.{Counts}
 use Rattle.edit_doc.specs.declared.Doc.TheInside.{Inside}
@@ -31,7 +33,7 @@ use Rattle.edit_doc.specs.Whole.{Whole, IsOpen}
 use Rattle.edit_doc.specs.Held.{Holds, IfHeld}
 use Rattle.edit_doc.specs.Marks.{Marks, IsMarked, AreMarkable, place_labels, has_named}
 use Rattle.edit_doc.proofs.Changing.{Follows, run}
-use Rattle.edit_doc.proofs.Edited.{Makes, Done, edit_called}
+use Rattle.edit_doc.proofs.Edited.{Makes, Applied, edit_linked}
 use Rattle.edit_doc.proofs.Inner.{seen, Ok, open_of}
 use Rattle.edit_doc.proofs.SeenLookUps.{index_left}
 use Rattle.edit_doc.proofs.Rests.{arena_forest}
@@ -75,21 +77,24 @@ module _ (d : Inside) (law : IsArena d.arena) (v : Whole) (is : seen d ≡ v) (n
   place_markable node parent None hn hp ho = (markable node hn, (markable parent hp, tt))
   place_markable node parent (Some r) hn hp ho = (markable node hn, (markable parent hp, (markable r ho, tt)))
 
+pub not_remove_root : (s : State) (n : ℕ) → parent_of s.trees n ≡ None → is_made_edit (Remove n) s ≡ false
+unfolding is_made_edit may_remove
+not_remove_root s n none = rw none refl
+
+pub not_remove_here : (s : State) (n p : ℕ) → parent_of s.trees n ≡ Some p → may_leave s n (Some p) ≡ false → is_made_edit (Remove n) s ≡ false
+unfolding is_made_edit may_remove
+not_remove_here s n p up off = ap (may_leave s n) up ∙ off
+
+pub may_remove_here : (s : State) (n p : ℕ) → parent_of s.trees n ≡ Some p → may_leave s n (Some p) ≡ true → is_made_edit (Remove n) s ≡ true
+unfolding is_made_edit may_remove
+may_remove_here s n p up may = ap (may_leave s n) up ∙ may
+
 module _ (d : Inside) (law : IsArena d.arena) (v : Whole) (is : seen d ≡ v) (node : NodeRef) (holds : Holds v node) where
-  pub not_remove_root : parent_of d.arena.trees node.label ≡ None → is_made_edit (Remove node.label) v.state ≡ false
-  unfolding is_made_edit may_remove
-  not_remove_root none = (let e = parent_seen d law v is node holds ∙ none in rw e refl)
+  module _ (parent : NodeRef) (child : parent_of v.state.trees node.label ≡ Some parent.label) where
+    pub up : parent_of d.arena.trees node.label ≡ Some parent.label
+    up = sym (parent_seen d law v is node holds) ∙ child
 
-  module _ (parent : NodeRef) (up : parent_of d.arena.trees node.label ≡ Some parent.label) where
-    pub not_remove_here : may_leave v.state node.label (Some parent.label) ≡ false → is_made_edit (Remove node.label) v.state ≡ false
-    unfolding is_made_edit may_remove
-    not_remove_here off = ap (may_leave v.state node.label) (parent_seen d law v is node holds ∙ up) ∙ off
-
-    pub may_remove_here : may_leave v.state node.label (Some parent.label) ≡ true → is_made_edit (Remove node.label) v.state ≡ true
-    unfolding is_made_edit may_remove
-    may_remove_here may = ap (may_leave v.state node.label) (parent_seen d law v is node holds ∙ up) ∙ may
-
-    module _ (slotted : IsSlotted d.arena) (now_open : IsOpen v) (ok : Ok d) (may : may_leave v.state node.label (Some parent.label) ≡ true) where
+    module _ (slotted : IsSlotted d.arena) (now_open : IsOpen v) (ok : Ok d) (may : is_made_edit (Remove node.label) (freed v.state) ≡ true) where
       abbrev f : Forest Content
       f = d.arena.trees
 
@@ -136,7 +141,7 @@ module _ (d : Inside) (law : IsArena d.arena) (v : Whole) (is : seen d ≡ v) (n
       module _ (points : LivePoints) (overrides : List Setting) (counts : Counts) (b c : Command) (o : Option NodeRef) (next : label_of o ≡ next_of d.arena.trees node.label)
           (same : record b { left = d.command.left } ≡ d.command) (pushed : b.left.items ≡ d.command.left.items ++ node ∷ []) (m : Marks (place_labels node parent o) b c)
           (points_is : points ≡ mapped (range.Removed (preorder (tree_of d.arena.trees node.label)) parent.label (index_of d.arena.trees node.label)) d.points)
-          (overrides_is : overrides ≡ overrides_next d v is law now_open ok (Remove node.label) (Unlink node) fits left (may_remove_here may) trees)
+          (overrides_is : overrides ≡ overrides_next d v is law now_open ok (Remove node.label) (Unlink node) fits left may trees)
           (nodes : counts.nodes ≡ node_count (unlink d.arena.trees node.label)) (chars : counts.chars ≡ char_count (unlink d.arena.trees node.label)) (depth : counts.depth ≡ d.counts.depth) where
         removes : Makes d (Remove node.label) (Unlink node) points overrides counts c
         unfolding edit_change
@@ -148,12 +153,12 @@ module _ (d : Inside) (law : IsArena d.arena) (v : Whole) (is : seen d ≡ v) (n
           change = refl;
           trees = trees;
           points_are = points_is ∙ points_are;
-          overrides_are = overrides_is ∙ overrides_are d v is law now_open ok (Remove node.label) (Unlink node) fits left (may_remove_here may) trees;
+          overrides_are = overrides_is ∙ overrides_are d v is law now_open ok (Remove node.label) (Unlink node) fits left may trees;
           nodes = nodes ∙ ap node_count unlinked;
           chars = chars ∙ ap char_count unlinked;
           depth = depth_is counts.depth depth;
         }
 
-        pub remove_done : (arena : Arena) (log : Log Step) → arena ≡ step_applied (Unlink node) d.arena → log ≡ with_step d.log (step_turned (Unlink node) d.arena) → Done d v (Remove node.label) arena points overrides counts c log
-        remove_done arena log arena_is log_is =
-            edit_called d v is law now_open ok (Remove node.label) (Unlink node) points overrides counts c (may_remove_here may) removes arena log arena_is log_is
+        pub unlink_done : (arena : Arena) (log : Log Step) → arena ≡ step_applied (Unlink node) d.arena → log ≡ with_step d.log (step_turned (Unlink node) d.arena) → Applied d v (Remove node.label) arena points overrides counts c log
+        unlink_done arena log arena_is log_is =
+            edit_linked d v is law now_open ok (Remove node.label) (Unlink node) points overrides counts c may removes arena log arena_is log_is

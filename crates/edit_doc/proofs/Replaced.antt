@@ -41,6 +41,7 @@ use Rattle.edit_doc.proofs.Attributed.{revised_same}
 use Rattle.edit_doc.proofs.Rests.{arena_forest}
 use Rattle.edit_doc.proofs.Raised.{revised_depth}
 use Rattle.edit_doc.proofs.Changing.{Follows}
+use Rattle.edit_doc.proofs.Freely.{freed_edit}
 use Rattle.edit_doc.proofs.Edited.{Makes, Done, edit_called}
 use Rattle.edit_doc.proofs.Inner.{seen, Ok}
 use Rattle.edit_doc.proofs.Lessened.{Changes, changes}
@@ -149,7 +150,7 @@ module _ (d : Inside) (law : IsArena d.arena) (v : Whole) (is : seen d ≡ v) (n
 
     module _ (points : LivePoints) (overrides : List Setting) (counts : Counts) (c : Command) (m : Marks (node.label ∷ []) d.command c)
         (points_is : points ≡ mapped (range.Replaced node.label at count (length put)) d.points)
-        (overrides_is : overrides ≡ overrides_next d v is law now_open ok (Replace node.label at count put) (Rewords node words) fits left (may_replace_here own change) trees)
+        (overrides_is : overrides ≡ overrides_next d v is law now_open ok (Replace node.label at count put) (Rewords node words) fits left (freed_edit (Replace node.label at count put) v.state (may_replace_here own change)) trees)
         (nodes : counts.nodes ≡ d.counts.nodes) (depth : counts.depth ≡ d.counts.depth) (chars : counts.chars ≡ char_count (revised d.arena.trees node.label (with_replaced at count put))) where
       replaces : Makes d (Replace node.label at count put) (Rewords node words) points overrides counts c
       replaces = record {
@@ -160,7 +161,7 @@ module _ (d : Inside) (law : IsArena d.arena) (v : Whole) (is : seen d ≡ v) (n
         change = change_is;
         trees = trees;
         points_are = points_is ∙ points_are;
-        overrides_are = overrides_is ∙ overrides_are d v is law now_open ok (Replace node.label at count put) (Rewords node words) fits left (may_replace_here own change) trees;
+        overrides_are = overrides_is ∙ overrides_are d v is law now_open ok (Replace node.label at count put) (Rewords node words) fits left (freed_edit (Replace node.label at count put) v.state (may_replace_here own change)) trees;
         nodes = nodes ∙ (ok.nodes ∙ sym nodes_same);
         chars = chars ∙ chars_same;
         depth = (let low = ok.depth in omega (arith, depth_same, low, depth));

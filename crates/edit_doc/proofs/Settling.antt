@@ -18,7 +18,9 @@ use Rattle.edit_model.specs.declared.settings.Setting.{Setting}
 use Rattle.edit_model.specs.Overrides.{no_overrides}
 use Rattle.edit_model.specs.Edit.{Edit, is_made_edit, trees_after, points_after, overrides_after}
 use Rattle.edit_model.specs.Lawful.{IsForest, IsPlaced}
+use Rattle.edit_model.specs.Possible.{freed}
 use Rattle.edit_model.proofs.Made.{made_placed}
+use Rattle.edit_model.proofs.LawfulParts.{lawful_freed}
 use Rattle.edit_parts.specs.declared.overrides.Watch.{Watch}
 use Rattle.edit_parts.specs.Following.{Watches, settled}
 use Rattle.edit_doc.specs.declared.Doc.TheInside.{Inside}
@@ -43,7 +45,7 @@ module _ (d : Inside) (law : IsArena d.arena) (ok : Ok d) where
   points_now = placed-whole d.arena.trees d.arena.next (arena_forest d.arena law) (out_of d) refl d.points ok.lawful.placed
 
 module _ (d : Inside) (v : Whole) (is : seen d ≡ v) (law : IsArena d.arena) (now_open : IsOpen v) (ok : Ok d)
-    (e : Edit) (x : Step) (fits : StepFits x d.arena) (left : Each (IsLeft (out_of d) d.arena.trees) (named (change_of x))) (may : is_made_edit e v.state ≡ true)
+    (e : Edit) (x : Step) (fits : StepFits x d.arena) (left : Each (IsLeft (out_of d) d.arena.trees) (named (change_of x))) (may : is_made_edit e (freed v.state) ≡ true)
     (trees : applied (change_of x) (shed (out_of d) d.arena.trees) ≡ trees_after e (shed (out_of d) d.arena.trees)) where
   abbrev f : Forest Content
   f = d.arena.trees
@@ -60,11 +62,11 @@ module _ (d : Inside) (v : Whole) (is : seen d ≡ v) (law : IsArena d.arena) (n
   shed_is : shed (out_of d) g ≡ trees_after e (shed (out_of d) f)
   shed_is = down.same ∙ trees
 
-  may_seen : is_made_edit e (seen_of d).state ≡ true
-  may_seen = subst (λ (w : Whole). is_made_edit e w.state ≡ true) (sym is) may
+  may_seen : is_made_edit e (freed (seen_of d).state) ≡ true
+  may_seen = subst (λ (w : Whole). is_made_edit e (freed w.state) ≡ true) (sym is) may
 
   placed_seen : IsPlaced (shed (out_of d) g) after
-  placed_seen = subst (λ t. IsPlaced t after) (sym shed_is) (made_placed e (seen_of d).state ok.lawful may_seen)
+  placed_seen = subst (λ t. IsPlaced t after) (sym shed_is) (made_placed e (freed (seen_of d).state) (lawful_freed (seen_of d).state ok.lawful) may_seen)
 
   forest_next : IsForest g d.arena.next
   forest_next = model_forest g (IsForest-applied (change_of x) f fits.fits) d.arena.next (λ l h. law.below l (let same = count_of-applied (change_of x) f fits.fits l in omega (arith, h, same)))

@@ -13,7 +13,9 @@ use Rattle.edit_steps.specs.declared.step.Step.{Step}
 use Rattle.edit_steps.specs.Step.{change_of, StepFits}
 use Rattle.edit_model.specs.Edit.{Edit, is_made_edit, trees_after, points_after, overrides_after}
 use Rattle.edit_model.specs.Lawful.{IsForest, IsPlaced}
+use Rattle.edit_model.specs.Possible.{freed}
 use Rattle.edit_model.proofs.Made.{made_placed}
+use Rattle.edit_model.proofs.LawfulParts.{lawful_freed}
 use Rattle.edit_parts.specs.Following.{settled}
 use Rattle.edit_doc.specs.declared.Doc.TheInside.{Inside}
 use Rattle.edit_doc.specs.Whole.{Whole, IsOpen}
@@ -23,7 +25,7 @@ use Rattle.edit_doc.proofs.HiddenTrees.{model_forest, placed-whole}
 use Rattle.edit_doc.proofs.Settled.{settled_seen}
 use Rattle.edit_doc.proofs.Changing.{seen_sheds}
 
-module _ (d : Inside) (v : Whole) (is : seen d ≡ v) (law : IsArena d.arena) (now_open : IsOpen v) (ok : Ok d) (e : Edit) (x : Step) (may : is_made_edit e v.state ≡ true) (fits : StepFits x d.arena)
+module _ (d : Inside) (v : Whole) (is : seen d ≡ v) (law : IsArena d.arena) (now_open : IsOpen v) (ok : Ok d) (e : Edit) (x : Step) (may : is_made_edit e (freed v.state) ≡ true) (fits : StepFits x d.arena)
     (left : Each (IsLeft (out_of d) d.arena.trees) (named (change_of x)))
     (trees : applied (change_of x) (shed (out_of d) d.arena.trees) ≡ trees_after e (shed (out_of d) d.arena.trees)) where
   abbrev g : Forest Content
@@ -32,8 +34,8 @@ module _ (d : Inside) (v : Whole) (is : seen d ≡ v) (law : IsArena d.arena) (n
   abbrev f' : Forest Content
   f' = applied (change_of x) d.arena.trees
 
-  may_seen : is_made_edit e (seen d).state ≡ true
-  may_seen = subst (λ (w : Whole). is_made_edit e w.state ≡ true) (sym is) may
+  may_seen : is_made_edit e (freed (seen d).state) ≡ true
+  may_seen = subst (λ (w : Whole). is_made_edit e (freed w.state) ≡ true) (sym is) may
 
   goes_down : GoesDown (out_of d) (change_of x) d.arena.trees
   goes_down = down (out_of d) (change_of x) d.arena.trees (seen_sheds d.arena d.points d.overrides.items d.flags d.counts d.command d.log d.undo_sides.items d.redo_sides.items d.undo_sides.capacity d.redo_sides.capacity law (open_of d v is now_open) ok) fits.fits left
@@ -42,7 +44,7 @@ module _ (d : Inside) (v : Whole) (is : seen d ≡ v) (law : IsArena d.arena) (n
   same_after = goes_down.same ∙ trees
 
   placed_seen : IsPlaced (shed (out_of d) f') (points_after e g d.points)
-  placed_seen = subst (λ t. IsPlaced t (points_after e g d.points)) (sym same_after) (made_placed e (seen d).state ok.lawful may_seen)
+  placed_seen = subst (λ t. IsPlaced t (points_after e g d.points)) (sym same_after) (made_placed e (freed (seen d).state) (lawful_freed (seen d).state ok.lawful) may_seen)
 
   forest_after : IsForest f' d.arena.next
   forest_after = model_forest f' (IsForest-applied (change_of x) d.arena.trees fits.fits) d.arena.next (λ l h. law.below l (omega (arith, h, count_of-applied (change_of x) d.arena.trees fits.fits l)))

@@ -7,3 +7,4 @@ pub mod GivingUp
 pub mod Fields
 pub mod Marks
 pub mod Kept
+pub mod Extracting

@@ -69,7 +69,7 @@ impl Doc {
     }
 
     // The place in its parent just after a node.
-    fn index_after(&self, node: NodeRef) -> u32
+    pub(crate) fn index_after(&self, node: NodeRef) -> u32
         requires { Holds self.now node }
         ensures { result ≡ index_of self.now.state.trees node.label + 1 }
     {

@@ -37,7 +37,7 @@ impl Doc {
     }
 
     // The running command drew its label.
-    fn is_made(&self, node: NodeRef) -> bool
+    pub(crate) fn is_made(&self, node: NodeRef) -> bool
         ensures { result ≡ is_made self.now.state node.label }
     {
         self.command.start <= node.label
@@ -57,7 +57,7 @@ impl Doc {
         self.is_made(node) || self.is_editable_for(node)
     }
 
-    fn is_parent(&self, node: NodeRef) -> bool
+    pub(crate) fn is_parent(&self, node: NodeRef) -> bool
         requires { Holds self.now node }
         ensures { result ≡ is_parent_at self.now.state.trees node.label }
     {

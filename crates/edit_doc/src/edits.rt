@@ -1,6 +1,10 @@
 //! The elementary edits.
 
-ghost use Rattle.std.specs.Prelude.{◌≡◌, ℕ, OnErr};
+ghost use Rattle.std.specs.Prelude.{◌≡◌, ℕ, IfErr, OnErr, OnOk, Some, true};
+ghost use Rattle.dom_model.specs.Forest.{parent_of};
+ghost use Rattle.edit_model.specs.Action.{applied};
+ghost use Rattle.edit_model.specs.Edit.{Insert, Remove, is_made_edit};
+ghost use Rattle.edit_model.specs.Possible.{freed};
 ghost use Rattle.edit_model.specs.Gives.{Gives, label_of};
 ghost use Rattle.edit_model.specs.Run.{insert, remove, move, replace, set_attribute, unset_attribute};
 ghost use Rattle.edit_doc.specs.Whole.{IsOpen};
@@ -32,11 +36,32 @@ impl Doc {
         ensures keeps { Keeps self.old self.new }
         ensures err { OnErr result (self.new ≡ self.old) }
     {
-        self.arena.lawful();
-        self.arena.slotted();
         if !self.may_insert(parent, before, node) {
             return Ok(false);
         }
+        self.link(parent, before, node)?;
+        Ok(true)
+    }
+
+    // Links a loose tree under a parent, before one of its children or at the end, where the trees allow it.
+    pub(crate) fn link(
+        &mut self,
+        parent: NodeRef,
+        before: Option<NodeRef>,
+        node: NodeRef,
+    ) -> Result<(), EditFault>
+        requires open { IsOpen self.old }
+        requires parent_held { Holds self.old parent }
+        requires before_held { IfHeld self.old before }
+        requires node_held { Holds self.old node }
+        requires possible { is_made_edit (Insert parent.label (label_of before) node.label) (freed self.old.state) ≡ true }
+        ensures linked { OnOk result (self.new.state ≡ applied (Insert parent.label (label_of before) node.label) self.old.state) }
+        ensures fault { IfErr result (λ fault. fault ≡ EditFault.Memory) }
+        ensures keeps { Keeps self.old self.new }
+        ensures err { OnErr result (self.new ≡ self.old) }
+    {
+        self.arena.lawful();
+        self.arena.slotted();
         let watch = watch_range(&self.arena, &self.points, &self.overrides);
         let enters = is_in_document(&self.arena, parent);
         let counts = counts_with(&self.arena, self.counts, node, parent, enters);
@@ -50,7 +75,7 @@ impl Doc {
         self.command.name_place(node, parent, before);
         adjust_inserted(&self.arena, &mut self.points, parent, node);
         settle(&self.arena, &self.points, &mut self.overrides, watch);
-        Ok(true)
+        Ok(())
     }
 
     /// Removes the tree of a node, which becomes loose. Answers whether it was removed.
@@ -61,14 +86,30 @@ impl Doc {
         ensures keeps { Keeps self.old self.new }
         ensures err { OnErr result (self.new ≡ self.old) }
     {
-        self.arena.lawful();
-        self.arena.slotted();
-        let Some(parent) = self.arena.parent(node) else {
+        let Some(parent) = self.parent(node) else {
             return Ok(false);
         };
         if !self.may_leave(node, parent) {
             return Ok(false);
         }
+        self.unlink(node, parent)?;
+        Ok(true)
+    }
+
+    // Takes the tree of a node off its parent, where the trees allow it; it becomes loose.
+    pub(crate) fn unlink(&mut self, node: NodeRef, parent: NodeRef) -> Result<(), EditFault>
+        requires open { IsOpen self.old }
+        requires node_held { Holds self.old node }
+        requires parent_held { Holds self.old parent }
+        requires child { parent_of self.old.state.trees node.label ≡ Some parent.label }
+        requires possible { is_made_edit (Remove node.label) (freed self.old.state) ≡ true }
+        ensures unlinked { OnOk result (self.new.state ≡ applied (Remove node.label) self.old.state) }
+        ensures fault { IfErr result (λ fault. fault ≡ EditFault.Memory) }
+        ensures keeps { Keeps self.old self.new }
+        ensures err { OnErr result (self.new ≡ self.old) }
+    {
+        self.arena.lawful();
+        self.arena.slotted();
         self.command.left.reserve(1)?;
         let watch = watch_range(&self.arena, &self.points, &self.overrides);
         let removal = removal_of(&self.arena, &self.points, node, parent);
@@ -80,7 +121,7 @@ impl Doc {
         self.command.name_place(node, parent, next);
         removal.adjust(&mut self.points);
         settle(&self.arena, &self.points, &mut self.overrides, watch);
-        Ok(true)
+        Ok(())
     }
 
     /// Moves the tree of a node under a parent, before one of its children or at the end, with the points in it. Answers

@@ -15,6 +15,7 @@ mod commands;
 mod composed;
 mod confined;
 mod edits;
+mod extracting;
 mod giving_up;
 mod making;
 mod nodes;

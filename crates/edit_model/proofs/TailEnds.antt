@@ -22,11 +22,11 @@ use Rattle.edit_model.proofs.TailPlan.{parent_among, find_some}
 use Rattle.edit_model.proofs.TailSteps.{extract_tests}
 
 -- how many nodes the tree of a label has
-abbrev size_at : Forest Content → ℕ → ℕ
+abbrev pub size_at : Forest Content → ℕ → ℕ
 size_at f l = total (λ _ _. 1) (tree_of f l)
 
 module _ (f : Forest Content) (once : IsDistinct f) (from : Point) where
-  size_child : (c k : ℕ) → parent_of f k ≡ Some c → size_at f k < size_at f c
+  pub size_child : (c k : ℕ) → parent_of f k ≡ Some c → size_at f k < size_at f c
   size_child c k child =
       let known = (parent_count f k c once child).1 in
       let t = tree_is f c (omega (arith, once c, known)) in
@@ -61,7 +61,7 @@ module _ (f : Forest Content) (once : IsDistinct f) (from : Point) where
   abbrev Inner : ℕ → ℕ → ℕ → Type 0
   Inner i j n = (k : ℕ) → size_at f k ≤ i → size_at f k ≤ j → tail_steps i f from k n (n + 1) ≡ tail_steps j f from k n (n + 1)
 
-  same_steps : (i j c d n : ℕ) → size_at f c ≤ i → size_at f c ≤ j → tail_steps i f from c d n ≡ tail_steps j f from c d n
+  pub same_steps : (i j c d n : ℕ) → size_at f c ≤ i → size_at f c ≤ j → tail_steps i f from c d n ≡ tail_steps j f from c d n
   unfolding tail_steps
   same_steps zero j c d n low high = sym (none_below j c d n (size_known c low))
   same_steps (suc i) zero c d n low high = none_below (suc i) c d n (size_known c high)

@@ -32,7 +32,7 @@ use Rattle.edit_model.proofs.TailSteps.{Extracts, extract_tests}
 use Rattle.edit_model.proofs.TailRuns.{fit_steps}
 use Rattle.edit_model.proofs.TailForests.{away-unlink, away-link, away-with_leaf}
 
-both : {a b : Bool} → a ≡ true → b ≡ true → (a && b) ≡ true
+pub both : {a b : Bool} → a ≡ true → b ≡ true → (a && b) ≡ true
 both h g = rw (h, g) refl
 
 -- ---- one edit
@@ -41,11 +41,11 @@ or_true : (a b : Bool) → b ≡ true → (a || b) ≡ true
 or_true true b h = refl
 or_true false b h = h
 
-freed_open : (u : State) (l : ℕ) → is_open (freed u) l ≡ true
+pub freed_open : (u : State) (l : ℕ) → is_open (freed u) l ≡ true
 unfolding is_open is_made
 freed_open u l = or_true (is_inside (freed u) l) _ (le-leb 0 l (omega arith))
 
-freed_own : (u : State) (l : ℕ) → is_own (freed u) l ≡ true
+pub freed_own : (u : State) (l : ℕ) → is_own (freed u) l ≡ true
 unfolding is_own is_made
 freed_own u l = or_true _ _ (le-leb 0 l (omega arith))
 

@@ -1,15 +1,10 @@
-use Rattle.std.proofs.Common.{◌≡◌, ℕ, ◌+◌, true, false, not, List, length, refl, sym, ap, subst, ◌∙◌, arith}
-use Rattle.std.specs.Vec.{with_items}
-use Rattle.std.proofs.lemmas.List.{with_items_is}
+use Rattle.std.proofs.Common.{refl, sym, ◌∙◌}
 use Rattle.edit_model.specs.Edit.{Insert}
 use Rattle.edit_model.specs.Gives.{label_of}
 use Rattle.edit_model.proofs.Giving.{gives_left}
-use Rattle.edit_parts.specs.Following.{settled}
-use Rattle.edit_doc.proofs.Edited.{Done}
-use Rattle.edit_doc.proofs.Inserting.{not_inserted, fits, nodes_fit, chars_fit, held_here, points_fit, placed, insert_done}
-use Rattle.edit_doc.proofs.HiddenTrees.{placed-whole}
-use Rattle.edit_doc.proofs.Rests.{arena_forest}
-use Rattle.edit_doc.proofs.SeenNodes.{out_of, held_seen}
+use Rattle.edit_doc.proofs.Edited.{gives_applied}
+use Rattle.edit_doc.proofs.Freely.{freed_edit}
+use Rattle.edit_doc.proofs.Inserting.{not_inserted, is_inserted}
 use Rattle.edit_doc.proofs.Doc.insert.Goals as goal
 
 pub returns-then-not-may_insert-clause-gives : goal.returns-then-not-may_insert-clause-gives
@@ -17,72 +12,12 @@ returns-then-not-may_insert-clause-gives c =
     let a = c.args in
     gives_left (Insert a.parent.label (label_of a.before) a.node.label) a.self.now.state a.self.now.state (not_inserted a.self.now.state a.parent.label (label_of a.before) a.node.label (sym c.may_insert.ensures ∙ c.if-not-may_insert.true)) refl
 
-pub watch_range-watch-requires-clause-placed : goal.watch_range-watch-requires-clause-placed
-watch_range-watch-requires-clause-placed c =
-    let d = c.self.inside in
-    (placed-whole d.arena.trees d.arena.next (arena_forest d.arena c.lawful.ensures) (out_of d) refl d.points c.self.invariant.lawful.placed).selection
-
-pub counts_with-counts-requires-clause-nodes : goal.counts_with-counts-requires-clause-nodes
-counts_with-counts-requires-clause-nodes c =
+pub link-requires-clause-possible : goal.link-requires-clause-possible
+link-requires-clause-possible c =
     let a = c.args in
-    nodes_fit c.self.inside a.self.now c.self.view_is c.lawful.ensures c.slotted.ensures c.requires.open c.self.invariant a.node a.parent a.before c.requires.node_held c.requires.parent_held c.requires.before_held (sym c.may_insert.ensures ∙ c.if-not-may_insert.false)
-    c.is_in_document-enters.result c.is_in_document-enters.ensures
-
-pub counts_with-counts-requires-clause-chars : goal.counts_with-counts-requires-clause-chars
-counts_with-counts-requires-clause-chars c =
-    let a = c.args in
-    chars_fit c.self.inside a.self.now c.self.view_is c.lawful.ensures c.slotted.ensures c.requires.open c.self.invariant a.node a.parent a.before c.requires.node_held c.requires.parent_held c.requires.before_held (sym c.may_insert.ensures ∙ c.if-not-may_insert.false)
-    c.is_in_document-enters.result c.is_in_document-enters.ensures
-
-pub make_change-requires-clause-fits : goal.make_change-requires-clause-fits
-make_change-requires-clause-fits c =
-    let a = c.args in
-    fits c.self.inside a.self.now c.self.view_is c.lawful.ensures c.slotted.ensures c.requires.open c.self.invariant a.node a.parent a.before c.requires.node_held c.requires.parent_held c.requires.before_held (sym c.may_insert.ensures ∙ c.if-not-may_insert.false)
-
-pub adjust_inserted-requires-clause-held : goal.adjust_inserted-requires-clause-held
-adjust_inserted-requires-clause-held c =
-    let a = c.args in
-    let same = held_here c.self.inside a.self.now c.self.view_is c.lawful.ensures c.slotted.ensures c.requires.open c.self.invariant a.node a.parent a.before c.requires.node_held c.requires.parent_held c.requires.before_held (sym c.may_insert.ensures ∙ c.if-not-may_insert.false)
-    c.make_change.new.arena c.in_ok-make_change.ensures.arena in
-    ap (λ h. Rattle.std.specs.Prelude.slice_index_or h a.node.slot Rattle.std.proofs.Common.None) (sym same) ∙ (held_seen c.self.inside a.self.now c.self.view_is a.node c.requires.node_held).slot
-
-pub adjust_inserted-requires-clause-fits : goal.adjust_inserted-requires-clause-fits
-adjust_inserted-requires-clause-fits c =
-    let a = c.args in
-    points_fit c.self.inside a.self.now c.self.view_is c.lawful.ensures c.slotted.ensures c.requires.open c.self.invariant a.node a.parent a.before c.requires.node_held c.requires.parent_held c.requires.before_held (sym c.may_insert.ensures ∙ c.if-not-may_insert.false)
-    c.make_change.new.arena c.in_ok-make_change.ensures.arena
-
-pub settle-requires-clause-placed : goal.settle-requires-clause-placed
-settle-requires-clause-placed c =
-    let a = c.args in
-    (placed c.self.inside a.self.now c.self.view_is c.lawful.ensures c.slotted.ensures c.requires.open c.self.invariant a.node a.parent a.before c.requires.node_held c.requires.parent_held c.requires.before_held (sym c.may_insert.ensures ∙ c.if-not-may_insert.false)
-    c.make_change.new.arena c.in_ok-make_change.ensures.arena c.adjust_inserted.new.points c.adjust_inserted.ensures).selection
-
-overrides_are : (c : goal.After-self-1) → (with_items c.self.inside.overrides c.settle.new.overrides).items ≡ settled c.self.inside.arena.trees c.self.inside.points c.make_change.new.arena.trees c.adjust_inserted.new.points c.self.inside.overrides.items
-overrides_are c =
-    let d = c.self.inside in
-    let watches = subst (λ xs. Rattle.edit_parts.specs.Following.Watches d.arena.trees d.points xs c.watch_range-watch.result) c.deref.ensures.value c.watch_range-watch.ensures in
-    let watches' = subst (λ xs. Rattle.edit_parts.specs.Following.Watches d.arena.trees d.points xs c.watch_range-watch.result) (sym c.deref_mut.ensures.value) watches in
-    let e = c.settle.ensures d.arena.trees d.points watches' in
-    let e' = e ∙ ap (settled d.arena.trees d.points c.make_change.new.arena.trees c.adjust_inserted.new.points) c.deref_mut.ensures.value in
-    let s : length d.overrides.items ≡ 32 = c.self.invariant.lawful.settings in
-    let a = c.settle.auto.overrides in
-    let l = c.deref_mut.ensures.len in
-    let w = ap length c.deref_mut.ensures.value in
-    with_items_is d.overrides c.settle.new.overrides (omega (arith, a, s, l, w)) ∙ e'
-
-done : (c : goal.After-self-1) → Done c.self.inside c.args.self.now (Insert c.args.parent.label (label_of c.args.before) c.args.node.label) c.make_change.new.arena c.adjust_inserted.new.points (with_items c.self.inside.overrides c.settle.new.overrides).items c.counts_with-counts.result c.name_place.new.self c.make_change.new.log
-done c =
-    let a = c.args in
-    insert_done c.self.inside a.self.now c.self.view_is c.lawful.ensures c.slotted.ensures c.requires.open c.self.invariant a.node a.parent a.before c.requires.node_held c.requires.parent_held c.requires.before_held (sym c.may_insert.ensures ∙ c.if-not-may_insert.false)
-    c.make_change.new.arena c.in_ok-make_change.ensures.arena c.adjust_inserted.new.points c.adjust_inserted.ensures (with_items c.self.inside.overrides c.settle.new.overrides).items (overrides_are c)
-    c.is_in_document-enters.result c.is_in_document-enters.ensures c.counts_with-counts.result c.counts_with-counts.ensures.nodes c.counts_with-counts.ensures.chars c.counts_with-counts.ensures.depth c.name_place.new.self c.name_place.ensures c.make_change.new.log c.in_ok-make_change.ensures.log
-
-pub invariant_of-self-2 : goal.invariant_of-self-2
-invariant_of-self-2 c = (done c).invariant
+    freed_edit (Insert a.parent.label (label_of a.before) a.node.label) a.self.now.state (is_inserted a.self.now.state a.parent.label (label_of a.before) a.node.label (sym c.may_insert.ensures ∙ c.if-not-may_insert.false))
 
 pub returns-clause-gives : goal.returns-clause-gives
-returns-clause-gives c = (done c).gives
-
-pub returns-clause-keeps : goal.returns-clause-keeps
-returns-clause-keeps c = (done c).keeps
+returns-clause-gives c =
+    let a = c.args in
+    gives_applied (Insert a.parent.label (label_of a.before) a.node.label) a.self.now.state c.link.new.self.state (is_inserted a.self.now.state a.parent.label (label_of a.before) a.node.label (sym c.may_insert.ensures ∙ c.if-not-may_insert.false)) c.in_ok-link.ensures.linked

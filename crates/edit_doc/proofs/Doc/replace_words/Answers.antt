@@ -9,6 +9,7 @@ use Rattle.edit_model.specs.Confined.{may_change}
 use Rattle.edit_model.specs.Edit.{Replace, with_replaced}
 use Rattle.edit_model.proofs.Giving.{gives_left}
 use Rattle.edit_doc.proofs.Edited.{Done}
+use Rattle.edit_doc.proofs.Freely.{freed_edit}
 use Rattle.edit_doc.proofs.Lessened.{changes}
 use Rattle.edit_doc.proofs.Replaced.{not_own_replace, not_replace_here, may_replace_here, points_fit, fits, left, trees, points_are, replace_done}
 use Rattle.edit_doc.proofs.Settling.{points_now, placed_called, overrides_length, settled_items}
@@ -59,7 +60,7 @@ settle-requires-clause-placed c =
     let l = left d c.lawful.ensures v c.self.view_is a.node c.requires.node_held a.at a.count a.put.now con c.content-content.ensures c.slotted.ensures c.requires.open c.self.invariant own change words words_are short in
     let t = trees d c.lawful.ensures v c.self.view_is a.node c.requires.node_held a.at a.count a.put.now con c.content-content.ensures c.slotted.ensures c.requires.open c.self.invariant own change words words_are short in
     let p = points_are d c.lawful.ensures v c.self.view_is a.node c.requires.node_held a.at a.count a.put.now con c.content-content.ensures c.slotted.ensures c.requires.open c.self.invariant own change words words_are short in
-    let may = may_replace_here d c.lawful.ensures v c.self.view_is a.node c.requires.node_held a.at a.count a.put.now con c.content-content.ensures own change in
+    let may = freed_edit (Replace a.node.label a.at a.count a.put.now) v.state (may_replace_here d c.lawful.ensures v c.self.view_is a.node c.requires.node_held a.at a.count a.put.now con c.content-content.ensures own change) in
     (placed_called d v c.self.view_is c.lawful.ensures c.requires.open c.self.invariant (Replace a.node.label a.at a.count a.put.now) (Rewords a.node words) x l may t c.replaced-2.new.self c.make_change.new.arena (c.replaced-2.ensures ∙ p) c.in_ok-make_change.ensures.arena).selection
 
 done : (c : goal.After-self-2-1) → Done c.self.inside c.args.self.now (Replace c.args.node.label c.args.at c.args.count c.args.put.now) c.make_change.new.arena c.replaced-2.new.self (with_items c.self.inside.overrides c.settle.new.overrides).items (record c.self.inside.counts { chars = c.chars_replaced-chars.result }) c.name.new.self c.make_change.new.log
@@ -77,7 +78,7 @@ done c =
     let l = left d c.lawful.ensures v c.self.view_is a.node c.requires.node_held a.at a.count a.put.now con c.content-content.ensures c.slotted.ensures c.requires.open c.self.invariant own change words words_are short in
     let t = trees d c.lawful.ensures v c.self.view_is a.node c.requires.node_held a.at a.count a.put.now con c.content-content.ensures c.slotted.ensures c.requires.open c.self.invariant own change words words_are short in
     let p = points_are d c.lawful.ensures v c.self.view_is a.node c.requires.node_held a.at a.count a.put.now con c.content-content.ensures c.slotted.ensures c.requires.open c.self.invariant own change words words_are short in
-    let may = may_replace_here d c.lawful.ensures v c.self.view_is a.node c.requires.node_held a.at a.count a.put.now con c.content-content.ensures own change in
+    let may = freed_edit (Replace a.node.label a.at a.count a.put.now) v.state (may_replace_here d c.lawful.ensures v c.self.view_is a.node c.requires.node_held a.at a.count a.put.now con c.content-content.ensures own change) in
     let n = overrides_length d v c.self.view_is c.lawful.ensures c.requires.open c.self.invariant (Replace a.node.label a.at a.count a.put.now) (Rewords a.node words) x l may t in
     let e = settled_items d v c.self.view_is c.lawful.ensures c.requires.open c.self.invariant (Replace a.node.label a.at a.count a.put.now) (Rewords a.node words) x l may t
     c.settle.new.overrides c.deref.result.now c.deref_mut.result.now c.replaced-2.new.self c.make_change.new.arena c.watch_range-watch.result (c.replaced-2.ensures ∙ p) c.in_ok-make_change.ensures.arena c.deref.ensures.value c.deref_mut.ensures.value c.watch_range-watch.ensures c.settle.ensures in

@@ -1,0 +1,174 @@
+//! Extracting the tail of a node. The steps are those of docs/ALGORITHMS.md.
+
+ghost use Rattle.std.specs.Prelude.{◌≡◌, ℕ, ◌&&◌, ◌∷◌, [], IfOk, drop, not, true};
+ghost use Rattle.dom_model.specs.Contents.{is_element_at, is_parent_at};
+ghost use Rattle.edit_model.specs.Gives.{Gives, labels_of};
+ghost use Rattle.edit_model.specs.Action.{may_extract};
+ghost use Rattle.edit_model.specs.Confined.{is_editable_for, is_made};
+ghost use Rattle.edit_model.specs.Possible.{are_possible};
+ghost use Rattle.edit_model.specs.Run.{extract_tail};
+ghost use Rattle.edit_model.specs.Tail.{Copy, carried, copy_of};
+ghost use Rattle.edit_doc.specs.Whole.{IsOpen};
+ghost use Rattle.edit_doc.specs.Held.{Holds, EachHeld, Keeps};
+ghost use Rattle.point_order.specs.PointOrder.{is_in_document, is_within};
+ghost use Rattle.edit_doc.specs.Extracting.{tail_at, MakesSteps};
+
+use crate::{Doc, EditFault, NodeRef, Point};
+use point_order::{child_toward, is_in_document, is_within};
+
+impl Doc {
+    /// Extracts the tail of `end`: what stands in it from a point on goes to the end of `target`. The elements between
+    /// `end` and the point are split: each gets a copy, without its id, that takes what comes after the point in it.
+    ///
+    /// It is one action: where it may not be made as a whole, nothing happens.
+    pub fn extract_tail(
+        &mut self,
+        from: Point,
+        end: NodeRef,
+        target: NodeRef,
+    ) -> Result<(), EditFault>
+        requires open { IsOpen self.old }
+        requires end_held { Holds self.old end }
+        requires target_held { Holds self.old target }
+        ensures gives { Gives result self.old.state self.new.state (extract_tail from end.label target.label) }
+        ensures keeps { Keeps self.old self.new }
+    {
+        self.lawful();
+        let Some(node) = self.find(from.label) else {
+            return Ok(());
+        };
+        if !self.may_extract(from, node, end, target) {
+            return Ok(());
+        }
+        self.extract_into(from, node, end, target)
+    }
+
+    // Whether a tail of `end` may be extracted from a node on: that is `end` or stands below it and can have children.
+    fn has_tail(&self, node: NodeRef, end: NodeRef) -> bool
+        requires node_held { Holds self.now node }
+        requires end_held { Holds self.now end }
+        ensures { result ≡ (is_editable_for self.now.state end.label && (is_in_document self.now.state.trees end.label && (is_editable_for self.now.state node.label && (is_parent_at self.now.state.trees node.label && is_within self.now.state.trees end.label node.label)))) }
+    {
+        if !self.is_editable_for(end) {
+            return false;
+        }
+        if !is_in_document(self, end.label) {
+            return false;
+        }
+        if !self.is_editable_for(node) {
+            return false;
+        }
+        self.is_parent(node) && is_within(self, end, node)
+    }
+
+    // Whether the tail of `end` may go to the target.
+    fn takes_tail(&self, end: NodeRef, target: NodeRef) -> bool
+        requires end_held { Holds self.now end }
+        requires target_held { Holds self.now target }
+        ensures { result ≡ (is_made self.now.state target.label && (is_in_document self.now.state.trees target.label && (is_parent_at self.now.state.trees target.label && not (is_within self.now.state.trees end.label target.label)))) }
+    {
+        if !self.is_made(target) {
+            return false;
+        }
+        if !is_in_document(self, target.label) {
+            return false;
+        }
+        self.is_parent(target) && !is_within(self, end, target)
+    }
+
+    #[tactic(auto, using(crate::proofs::Tails::extract_test))]
+    fn may_extract(&self, from: Point, node: NodeRef, end: NodeRef, target: NodeRef) -> bool
+        requires is { node.label ≡ from.label }
+        requires node_held { Holds self.now node }
+        requires end_held { Holds self.now end }
+        requires target_held { Holds self.now target }
+        ensures { result ≡ may_extract self.now.state from end.label target.label }
+    {
+        self.arena.lawful();
+        if self.command.keeping {
+            return false;
+        }
+        self.has_tail(node, end) && self.takes_tail(end, target)
+    }
+
+    // Extract the tail, steps 1 and 2.
+    fn extract_into(
+        &mut self,
+        from: Point,
+        node: NodeRef,
+        end: NodeRef,
+        target: NodeRef,
+    ) -> Result<(), EditFault>
+        requires open { IsOpen self.old }
+        requires is { node.label ≡ from.label }
+        requires parent { is_parent_at self.old.state.trees from.label ≡ true }
+        requires node_held { Holds self.old node }
+        requires end_held { Holds self.old end }
+        requires target_held { Holds self.old target }
+        requires possible { are_possible (tail_at self.old.state from end.label target.label) self.old.state ≡ true }
+        ensures steps { MakesSteps result self.old.state self.new.state (tail_at self.old.state from end.label target.label) }
+        ensures keeps { Keeps self.old self.new }
+    {
+        self.lawful();
+        let children = self.children_of(end)?;
+        if end.label == from.label {
+            return self.carry_from(&children, from.offset, target);
+        }
+        let Some(child) = child_toward(self, end, node) else {
+            return Ok(());
+        };
+        let after = self.index_after(child);
+        let copy = self.copy_without_id(child)?;
+        self.extract_into(from, node, child, copy)?;
+        self.link(target, None, copy)?;
+        self.carry_from(&children, after, target)
+    }
+
+    // Makes a copy of an element without its id.
+    #[tactic(auto, using(crate::proofs::Tails::copy_steps, crate::proofs::Tails::copy_label))]
+    fn copy_without_id(&mut self, node: NodeRef) -> Result<NodeRef, EditFault>
+        requires open { IsOpen self.old }
+        requires held { Holds self.old node }
+        requires element { is_element_at self.old.state.trees node.label ≡ true }
+        ensures steps { MakesSteps result self.old.state self.new.state (Copy (copy_of self.old.state.trees node.label) ∷ []) }
+        ensures label { IfOk result (λ r. r.label ≡ self.old.state.next) }
+        ensures held { IfOk result (λ r. Holds self.new r) }
+        ensures keeps { Keeps self.old self.new }
+    {
+        let name = self.name(node).clone()?;
+        let mut attributes = self.attributes(node).copy()?;
+        attributes.unset(b"id");
+        self.make_owned_element(name, attributes)
+    }
+
+    // Carries the nodes of a list from an index on, in their order, to the end of another node.
+    fn carry_from(&mut self, list: &[NodeRef], from: u32, target: NodeRef) -> Result<(), EditFault>
+        requires open { IsOpen self.old }
+        requires list_held { EachHeld self.old list.now }
+        requires target_held { Holds self.old target }
+        requires possible { are_possible (carried target.label (drop from (labels_of list.now))) self.old.state ≡ true }
+        ensures steps { MakesSteps result self.old.state self.new.state (carried target.label (drop from (labels_of list.now))) }
+        ensures keeps { Keeps self.old self.new }
+    {
+        for i in from as usize..list.len() {
+            self.carry(list[i], target)?;
+        }
+        Ok(())
+    }
+
+    // Carries a node to the end of another one.
+    fn carry(&mut self, node: NodeRef, target: NodeRef) -> Result<(), EditFault>
+        requires open { IsOpen self.old }
+        requires node_held { Holds self.old node }
+        requires target_held { Holds self.old target }
+        requires possible { are_possible (carried target.label (node.label ∷ [])) self.old.state ≡ true }
+        ensures steps { MakesSteps result self.old.state self.new.state (carried target.label (node.label ∷ [])) }
+        ensures keeps { Keeps self.old self.new }
+    {
+        let Some(parent) = self.parent(node) else {
+            return Ok(());
+        };
+        self.unlink(node, parent)?;
+        self.link(target, None, node)
+    }
+}
