@@ -1,5 +1,5 @@
 mod Above
-mod Counting
-mod Looping
+pub mod Counting
+pub mod Looping
 mod ValueNames
 mod Matching

@@ -57,8 +57,8 @@ pub(crate) fn outermost<C: Choice<Doc>>(
     }
 }
 
-// Of a list, the nodes that pass.
-fn chosen_of<C: Choice<Doc>>(
+/// Of a list, the nodes that pass a test.
+pub fn chosen_of<C: Choice<Doc>>(
     alloc: Global,
     doc: &Doc,
     choice: &C,
@@ -77,8 +77,8 @@ fn chosen_of<C: Choice<Doc>>(
     Ok(kept)
 }
 
-// Of a range, all nodes that pass.
-fn contained_in<C: Choice<Doc>>(
+/// All nodes that a range contains and that pass a test, in tree order.
+pub fn contained_in<C: Choice<Doc>>(
     alloc: Global,
     doc: &Doc,
     range: (Point, Point),

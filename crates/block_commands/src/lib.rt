@@ -12,4 +12,5 @@ mod names;
 mod series;
 
 pub use formatting::format_block;
+pub use gathered::{chosen_of, contained_in};
 pub use justifying::justify;

@@ -3,3 +3,4 @@ pub mod Scripts
 pub mod Throughout
 pub mod Climbing
 pub mod Typing
+pub mod ListsBelow

@@ -4,6 +4,7 @@ pub mod Sought
 pub mod Listed
 pub mod Features
 pub mod BlockTypes
+pub mod ListStates
 pub mod Rows
 pub mod Queries
 pub mod Replies

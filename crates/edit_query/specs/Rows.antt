@@ -1,6 +1,6 @@
 -- What each command answers of its own, where no override does (HTML Editing APIs, "indeterminate", "state", "value"): a row
 -- a command. A host decides what is editable.
-use Rattle.std.specs.Prelude.{ℕ, ◌+◌, Bool, false, ◌||◌, List, [], ◌∷◌, Option, Some, None, codes, if◌then◌else◌}
+use Rattle.std.specs.Prelude.{ℕ, ◌+◌, Bool, true, false, ◌||◌, List, [], ◌∷◌, Option, Some, None, codes, if◌then◌else◌}
 use Rattle.std.specs.List.{list_all}
 use Rattle.std.specs.Option.{option_map_or, option_and_then, option_or, unwrap_or}
 use Rattle.css_value.specs.declared.values.TextAlign.TheVariants as text_align
@@ -14,6 +14,7 @@ use Rattle.edit_model.specs.State.{State}
 use Rattle.edit_query.specs.BlockTypes.{type_of, have_other_types}
 use Rattle.edit_query.specs.Formattable.{formattable_nodes, first_formattable, start_node}
 use Rattle.edit_query.specs.Leaves.{leaves, first_leaf}
+use Rattle.edit_query.specs.ListStates.{list_state, is_list_state, is_mixed_state}
 use Rattle.edit_query.specs.Listed.{is_partly_on, is_partly_aligned, are_aligned, has_mixed, have_other_values}
 
 abbrev pub is_on_at_start : State → Command → Bool
@@ -75,6 +76,8 @@ own_indeterm s host command.JustifyLeft = is_partly_aligned s.trees text_align.L
 own_indeterm s host command.JustifyCenter = is_partly_aligned s.trees text_align.Center (leaves s host)
 own_indeterm s host command.JustifyRight = is_partly_aligned s.trees text_align.Right (leaves s host)
 own_indeterm s host command.JustifyFull = is_partly_aligned s.trees text_align.Justify (leaves s host)
+own_indeterm s host command.InsertOrderedList = is_mixed_state true (list_state s host)
+own_indeterm s host command.InsertUnorderedList = is_mixed_state false (list_state s host)
 own_indeterm s host _ = false
 
 abbrev pub own_state : State → Option ℕ → Command → Bool
@@ -88,6 +91,8 @@ own_state s host command.JustifyLeft = are_aligned s.trees text_align.Left (leav
 own_state s host command.JustifyCenter = are_aligned s.trees text_align.Center (leaves s host)
 own_state s host command.JustifyRight = are_aligned s.trees text_align.Right (leaves s host)
 own_state s host command.JustifyFull = are_aligned s.trees text_align.Justify (leaves s host)
+own_state s host command.InsertOrderedList = is_list_state true (list_state s host)
+own_state s host command.InsertUnorderedList = is_list_state false (list_state s host)
 own_state s host command.StyleWithCss = s.flags.css_styling
 own_state s host _ = false
 

@@ -25,9 +25,9 @@ pub(crate) fn is_leaf(doc: &Doc, host: NodeRef, node: NodeRef) -> bool
     is_editable(doc, host, node) && doc.first_child(node).is_none() && is_visible(doc, node)
 }
 
-// The nodes that a range contains.
+/// The nodes that a range contains, in tree order.
 #[tactic(auto, using(crate::proofs::Lists::labels_mapped, crate::proofs::Lists::each_held))]
-fn nodes_in(alloc: Global, doc: &Doc, range: (Point, Point)) -> Result<NodeList, AllocError>
+pub fn nodes_in(alloc: Global, doc: &Doc, range: (Point, Point)) -> Result<NodeList, AllocError>
     requires start { 0 < count_of doc.now.state.trees range.0.label }
     requires end { 0 < count_of doc.now.state.trees range.1.label }
     ensures held { IfOk result (λ list. EachHeld doc.now list) }

@@ -14,8 +14,8 @@ use std::alloc::{AllocError, Global};
 
 /// The state of a command (HTML Editing APIs, "state"): its state override, or else whether it is on at all formattable
 /// nodes in the active range, and where there is none at the range's start. A justify command is on where there are visible
-/// editable nodes without children in the block-extended range, and all have its alignment. `host` is the running command's
-/// editing host.
+/// editable nodes without children in the block-extended range, and all have its alignment. A list command is on where all list
+/// members of that range stand in its kind of list. `host` is the running command's editing host.
 #[tactic(auto, unfolding(crate::specs::Queries::state_of))]
 pub fn query_state(
     alloc: Global,

@@ -15,6 +15,7 @@ ghost use Rattle.edit_query.specs.Rows.{is_on_at_start, is_on_throughout, is_on,
 use crate::block_types::{have_other_types, type_of};
 use crate::formattable::{effective_between, first_formattable, formattable_nodes, start_node};
 use crate::leaves::{first_leaf, leaves};
+use crate::list_states::list_state;
 use crate::listed::{
     Feature, has_mixed, have_other_values, is_at_all, is_on_at_formattable, is_partly,
 };
@@ -54,7 +55,8 @@ fn is_partly_aligned(
     Ok(is_partly(doc, Feature::Aligned(wanted), &list))
 }
 
-/// Whether a command is on at some and off at other nodes that it formats, or they have different values, types or alignments.
+/// Whether a command is on at some and off at other nodes that it formats, or they have different values, types or
+/// alignments, or stand in lists in part.
 pub(crate) fn own_indeterm(
     alloc: Global,
     doc: &Doc,
@@ -87,6 +89,8 @@ pub(crate) fn own_indeterm(
         Command::JustifyCenter => is_partly_aligned(alloc, doc, host, TextAlign::Center),
         Command::JustifyRight => is_partly_aligned(alloc, doc, host, TextAlign::Right),
         Command::JustifyFull => is_partly_aligned(alloc, doc, host, TextAlign::Justify),
+        Command::InsertOrderedList => Ok(list_state(alloc, doc, host)?.is_mixed_with(true)),
+        Command::InsertUnorderedList => Ok(list_state(alloc, doc, host)?.is_mixed_with(false)),
         _ => Ok(false),
     }
 }
@@ -174,6 +178,8 @@ pub(crate) fn own_state(
         Command::JustifyCenter => are_aligned(alloc, doc, host, TextAlign::Center),
         Command::JustifyRight => are_aligned(alloc, doc, host, TextAlign::Right),
         Command::JustifyFull => are_aligned(alloc, doc, host, TextAlign::Justify),
+        Command::InsertOrderedList => Ok(list_state(alloc, doc, host)?.is_of(true)),
+        Command::InsertUnorderedList => Ok(list_state(alloc, doc, host)?.is_of(false)),
         Command::StyleWithCss => Ok(doc.flags().css_styling),
         _ => Ok(false),
     }

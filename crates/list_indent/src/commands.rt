@@ -36,9 +36,9 @@ fn normalize_each(alloc: Global, doc: &mut Doc, list: &[NodeRef]) -> Result<(), 
     Ok(())
 }
 
-// Indent and outdent, step 1.
+/// Indent and outdent, step 1: normalizes the sublists of the items around the ends of the active range.
 #[tactic(auto, using(edit_model::proofs::Steps::steps, edit_model::proofs::Steps::exits), unfolding(crate::specs::Commands::normalize_range))]
-fn normalize_range(alloc: Global, doc: &mut Doc) -> Result<(), EditFault>
+pub fn normalize_range(alloc: Global, doc: &mut Doc) -> Result<(), EditFault>
     requires open { IsOpen doc.old }
     ensures gives { Gives result doc.old.state doc.new.state normalize_range }
     ensures keeps { Keeps doc.old doc.new }
@@ -199,9 +199,9 @@ impl Link<Doc> for Items {
     }
 }
 
-// Outdent, step 3: items leave their list.
+/// Outdent, step 3: a series of siblings leaves the list that it stands in, and keeps its values.
 #[tactic(auto, using(edit_model::proofs::Steps::steps, edit_model::proofs::Steps::exits), unfolding(crate::specs::Commands::split_items, inline_value::specs::Recording::record_values))]
-fn split_items(alloc: Global, doc: &mut Doc, list: &NodeList) -> Result<(), EditFault>
+pub fn split_items(alloc: Global, doc: &mut Doc, list: &NodeList) -> Result<(), EditFault>
     requires open { IsOpen doc.old }
     requires list_held { EachHeld doc.old list.now }
     ensures gives { Gives result doc.old.state doc.new.state (split_items (labels_of list.now)) }

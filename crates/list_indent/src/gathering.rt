@@ -31,8 +31,8 @@ fn push_if_item(list: &mut Vec<NodeRef>, doc: &Doc, node: NodeRef) -> Result<(),
     Ok(())
 }
 
-// Appends the items among a node and its ancestors, outermost first.
-fn push_items(list: &mut Vec<NodeRef>, doc: &Doc, node: NodeRef) -> Result<(), AllocError>
+/// Appends the items among a node and its ancestors, outermost first.
+pub fn push_items(list: &mut Vec<NodeRef>, doc: &Doc, node: NodeRef) -> Result<(), AllocError>
     requires node_held { Holds doc.now node }
     requires each_held { EachHeld doc.now list.old.items }
     ensures held { EachHeld doc.now list.new.items }
@@ -146,9 +146,9 @@ fn has_editable(doc: &Doc, first: Option<NodeRef>) -> bool
     false
 }
 
-// Whether an editable node stands below a node.
+/// Whether an editable node stands below a node.
 #[tactic(auto, unfolding(crate::specs::Commands::has_editable_below))]
-fn has_editable_below(doc: &Doc, node: NodeRef) -> bool
+pub fn has_editable_below(doc: &Doc, node: NodeRef) -> bool
     requires { Holds doc.now node }
     ensures { result ≡ has_editable_below doc.now.state node.label }
 {

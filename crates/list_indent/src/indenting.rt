@@ -40,8 +40,9 @@ fn nest(alloc: Global, doc: &mut Doc, list: NodeList, parent: NodeRef) -> Result
     Ok(())
 }
 
+/// Fixes the disallowed ancestors of a node, if there is one.
 #[tactic(auto, using(edit_model::proofs::Steps::steps, edit_model::proofs::Steps::exits))]
-fn fix(alloc: Global, doc: &mut Doc, node: Option<NodeRef>) -> Result<(), EditFault>
+pub fn fix(alloc: Global, doc: &mut Doc, node: Option<NodeRef>) -> Result<(), EditFault>
     requires open { IsOpen doc.old }
     requires node_held { IfHeld doc.old node }
     ensures gives { Gives result doc.old.state doc.new.state (fixed (label_of node)) }

@@ -13,34 +13,34 @@ use dom_model::Content;
 use edit_doc::{Doc, NodeRef};
 use node_tests::has_name;
 
-// How many turns a loop takes at most that starts now.
-pub(crate) fn turn_bound(doc: &Doc) -> u128
+/// How many turns a loop takes at most that starts now.
+pub fn turn_bound(doc: &Doc) -> u128
     ensures { result ≡ turn_bound doc.now.state }
 {
     let counts = doc.counts();
     2 * counts.nodes as u128 + counts.chars as u128 + 2
 }
 
-// Whether a node is an ol or ul.
+/// Whether a node is an ol or ul.
 #[tactic(auto, unfolding(crate::specs::Sublists::is_list))]
-pub(crate) fn is_list(doc: &Doc, node: NodeRef) -> bool
+pub fn is_list(doc: &Doc, node: NodeRef) -> bool
     requires { Holds doc.now node }
     ensures { result ≡ is_list doc.now.state node.label }
 {
     has_name(doc, node, b"ol") || has_name(doc, node, b"ul")
 }
 
-// Whether a node is an li.
-pub(crate) fn is_item(doc: &Doc, node: NodeRef) -> bool
+/// Whether a node is an li.
+pub fn is_item(doc: &Doc, node: NodeRef) -> bool
     requires { Holds doc.now node }
     ensures { result ≡ is_item doc.now.state node.label }
 {
     has_name(doc, node, b"li")
 }
 
-// Whether the parent of a node is an ol or ul.
+/// Whether the parent of a node is an ol or ul.
 #[tactic(auto, unfolding(crate::specs::Sublists::is_in_list))]
-pub(crate) fn is_in_list(doc: &Doc, node: NodeRef) -> bool
+pub fn is_in_list(doc: &Doc, node: NodeRef) -> bool
     requires { Holds doc.now node }
     ensures { result ≡ is_in_list doc.now.state node.label }
 {

@@ -1,0 +1,126 @@
+-- The loop that collects items from the first members of a list.
+use Rattle.std.proofs.Common.{◌≡◌, ℕ, ◌+◌, ◌-◌, ◌<◌, ◌≤◌, Bool, true, false, ◌||◌, Option, Some, None, List, [], ◌∷◌, ◌++◌, drop, length, refl, sym, ap, subst, ◌∙◌, arith, codes}
+use Rattle.std.specs.Prelude.{bytes_eq}
+use Rattle.std.specs.Option.{option_map_or, option_and_then}
+use Rattle.dom_model.specs.declared.Content.{Content}
+use Rattle.dom_model.specs.declared.Content.TheVariants.{Document, Element, Words, Remark}
+use Rattle.dom_model.specs.Contents.{name_in, is_element, is_element_at}
+use Rattle.dom_model.specs.Forest.{content_of, first_in}
+use Rattle.node_arena.specs.declared.NodeRef.{NodeRef}
+use Rattle.edit_model.specs.Gives.{label_of, labels_of, Fails}
+use Rattle.edit_model.specs.Run.{Run, ◌>>=◌, final, value, answer, given, while_at_most}
+use Rattle.edit_model.specs.State.{State}
+use Rattle.edit_model.specs.declared.settings.EditFault.{EditFault}
+use Rattle.edit_model.proofs.Steps.{final-bind, value-bind, final-answer, value-answer, final-look, value-look, fails-bind, final_while_turn, value_while_turn, final_while_stop, value_while_stop, while_end}
+use Rattle.wrap_split.specs.Walks.{turn_bound}
+use Rattle.wrap_split.specs.Wrap.{one_of}
+use Rattle.block_commands.proofs.Counting.{drop_more, labels_of_rest}
+use Rattle.list_toggle.specs.Collecting.{Made, Collected, is_container, make_item, next_item, goes_on, collected, collect_next, collect_items}
+
+-- a p or div is an element
+two_names : (a b : List ℕ) (o : Option Content) →
+    (option_map_or (λ own. bytes_eq own a) (option_and_then name_in o) false || option_map_or (λ own. bytes_eq own b) (option_and_then name_in o) false) ≡ true →
+    option_map_or is_element o false ≡ true
+two_names a b None h = absurd (let none = h in cc)
+two_names a b (Some Document) h = absurd (let none = h in cc)
+two_names a b (Some (Element own attributes)) h = refl
+two_names a b (Some (Words chars)) h = absurd (let none = h in cc)
+two_names a b (Some (Remark chars)) h = absurd (let none = h in cc)
+
+pub container_is_element : (s : State) (l : ℕ) → is_container s l ≡ true → is_element_at s.trees l ≡ true
+unfolding is_container
+container_is_element s l h = two_names (codes "p") (codes "div") (content_of s.trees l) h
+
+-- one turn, where the first member has the label l
+module _ (items more xs : List NodeRef) (l : ℕ) (s t : State) (item : Option NodeRef) (count : ℕ) (first : first_in (labels_of xs) ≡ Some l) where
+  abbrev before : Collected
+  before = (labels_of items, labels_of xs)
+
+  takes : next_item (labels_of xs) ≡ make_item (labels_of xs) l
+  unfolding next_item
+  takes = ap (λ o. given o (answer (None, 0)) (make_item (labels_of xs))) first
+
+  pub next_ends : final (make_item (labels_of xs) l) s ≡ t → final (collect_next before) s ≡ t
+  unfolding collect_next
+  next_ends ends =
+      final-bind (next_item (labels_of xs)) (collected before) s
+      ∙ (final-answer _ (final (next_item (labels_of xs)) s)
+      ∙ (ap (λ (m : Run Made). final m s) takes ∙ ends))
+
+  pub next_answers : value (make_item (labels_of xs) l) s ≡ (label_of item, count) → labels_of more ≡ labels_of items ++ one_of (label_of item) → value (collect_next before) s ≡ (labels_of more, labels_of (drop count xs))
+  unfolding collect_next
+  next_answers answers pushed =
+      value-bind (next_item (labels_of xs)) (collected before) s
+      ∙ (value-answer _ (final (next_item (labels_of xs)) s)
+      ∙ (ap (λ (made : Made). (labels_of items ++ one_of made.0, drop made.1 (labels_of xs))) (ap (λ (m : Run Made). value m s) takes ∙ answers)
+      ∙ (ap (λ ls. (ls, drop count (labels_of xs))) (sym pushed) ∙ ap (λ ls. (labels_of more, ls)) (sym (labels_of_rest xs count)))))
+
+-- where it goes on, members are left
+pub goes_on_some : (s : State) (items : List ℕ) (xs : List NodeRef) → goes_on s (items, labels_of xs) ≡ true → 0 < length xs
+unfolding goes_on
+goes_on_some s items [] on = absurd (let o = on in cc)
+goes_on_some s items (x ∷ xs) on = omega arith
+
+module _ (xs : List NodeRef) where
+  abbrev loop : ℕ → Collected → Run Collected
+  loop n c = while_at_most n goes_on collect_next c
+
+  -- the items so far, and the members from a place on
+  abbrev from : List NodeRef → ℕ → Collected
+  from items i = (labels_of items, labels_of (drop i xs))
+
+  abbrev whole : State → Run Collected
+  whole s = loop (turn_bound s) ([], labels_of xs)
+
+  module _ (n i : ℕ) (items : List NodeRef) (s : State) (some : 0 < n) (on : goes_on s (from items i) ≡ true) where
+    turned : final (loop n (from items i)) s ≡ final (collect_next (from items i) >>= loop (n - 1)) s
+    turned = final_while_turn n goes_on collect_next (from items i) s some on
+
+    answered : value (loop n (from items i)) s ≡ value (collect_next (from items i) >>= loop (n - 1)) s
+    answered = value_while_turn n goes_on collect_next (from items i) s some on
+
+    module _ (more : List NodeRef) (count : ℕ) (t : State) (ends : final (collect_next (from items i)) s ≡ t)
+        (answers : value (collect_next (from items i)) s ≡ (labels_of more, labels_of (drop count (drop i xs)))) where
+      next : from more (i + count) ≡ value (collect_next (from items i)) s
+      next = sym (answers ∙ ap (λ (ys : List NodeRef). (labels_of more, labels_of ys)) (drop_more xs i count))
+
+      pub turn_ends : final (loop (n - 1) (from more (i + count))) t ≡ final (loop n (from items i)) s
+      turn_ends =
+          ap (λ c. final (loop (n - 1) c) t) next
+          ∙ (ap (final (loop (n - 1) (value (collect_next (from items i)) s))) (sym ends)
+          ∙ (sym (final-bind (collect_next (from items i)) (loop (n - 1)) s) ∙ sym turned))
+
+      pub turn_answers : value (loop (n - 1) (from more (i + count))) t ≡ value (loop n (from items i)) s
+      turn_answers =
+          ap (λ c. value (loop (n - 1) c) t) next
+          ∙ (ap (value (loop (n - 1) (value (collect_next (from items i)) s))) (sym ends)
+          ∙ (sym (value-bind (collect_next (from items i)) (loop (n - 1)) s) ∙ sym answered))
+
+    -- what ends past the cap in one turn does so in all
+    pub collect_fails : (e : EditFault) (first : State) → final (loop n (from items i)) s ≡ final (whole first) first → Fails e (final (collect_next (from items i)) s) → Fails e (final (collect_items (labels_of xs)) first)
+    unfolding collect_items
+    collect_fails e first same h =
+        let here : Fails e (final (loop n (from items i)) s) = subst (Fails e) (sym turned) (fails-bind e (collect_next (from items i)) (loop (n - 1)) s h) in
+        subst (Fails e) (same ∙ sym (final-look whole first)) here
+
+  module _ (n i : ℕ) (items : List NodeRef) (s first : State) (off : goes_on s (from items i) ≡ false) where
+    pub stop_ends : final (loop n (from items i)) s ≡ final (whole first) first → final (collect_items (labels_of xs)) first ≡ s
+    unfolding collect_items
+    stop_ends same = final-look whole first ∙ (sym same ∙ final_while_stop n goes_on collect_next (from items i) s off)
+
+    pub stop_answers : value (loop n (from items i)) s ≡ value (whole first) first → value (collect_items (labels_of xs)) first ≡ from items i
+    unfolding collect_items
+    stop_answers same = value-look whole first ∙ (sym same ∙ value_while_stop n goes_on collect_next (from items i) s off)
+
+  module _ (n i : ℕ) (items : List NodeRef) (s first : State) (none : n ≤ 0) where
+    pub end_ends : final (loop n (from items i)) s ≡ final (whole first) first → final (collect_items (labels_of xs)) first ≡ s
+    unfolding collect_items
+    end_ends same =
+        final-look whole first
+        ∙ (sym same ∙ (ap (λ (m : Run Collected). final m s) (while_end n goes_on collect_next (from items i) none) ∙ final-answer (from items i) s))
+
+    pub end_answers : value (loop n (from items i)) s ≡ value (whole first) first → value (collect_items (labels_of xs)) first ≡ from items i
+    unfolding collect_items
+    end_answers same =
+        value-look whole first
+        ∙ (sym same ∙ (ap (λ (m : Run Collected). value m s) (while_end n goes_on collect_next (from items i) none) ∙ value-answer (from items i) s))

@@ -1,0 +1,31 @@
+use Rattle.std.proofs.Common.{refl, ◌∙◌, arith, length-drop}
+use Rattle.edit_model.proofs.Steps.{exit}
+use Rattle.block_commands.proofs.Looping.{tail_is, keeps_on, turn, run_fails, run_ends}
+use Rattle.list_toggle.specs.Toggle.{enlist_all, enlist_next}
+use Rattle.list_toggle.proofs.toggling.enlist_all.Goals as goal
+
+pub returns-in_err-at-clause-gives : goal.returns-in_err-at-clause-gives
+unfolding enlist_all
+returns-in_err-at-clause-gives c =
+    let tail = tail_is c.args.list.now c.loop-left.at in
+    let fails = rw tail at c.in_err-at.ensures.gives in
+    exit c.from_residual.result c.in_err-at.field-0.0 c.args.doc.now.state c.enlist_next.new.doc.state (enlist_all c.args.ordered _) c.from_residual.ensures.1
+    (run_fails (enlist_next c.args.ordered) c.args.list.now c.loop-left.left c.loop-left.at c.loop-left.doc.state c.loop-left-test.true c.if-at-list.true c.in_err-at.field-0.0 c.args.doc.now.state c.loop-left.invariant.0 fails)
+
+pub loop-left-preserved : goal.loop-left-preserved
+loop-left-preserved c =
+    let tail = tail_is c.args.list.now c.loop-left.at in
+    let given = c.in_ok-at.ensures in
+    let ended = rw tail at given.gives.0 in
+    let left = rw tail at given.gives.1 in
+    let within = rw tail at given.within in
+    let low = c.if-at-list.true in (
+      turn (enlist_next c.args.ordered) c.args.list.now c.loop-left.left c.loop-left.at c.loop-left.doc.state c.loop-left-test.true c.if-at-list.true c.in_ok-at.field-0 c.enlist_next.new.doc.state ended left ∙ c.loop-left.invariant.0,
+      omega (arith, within, low, length-drop c.loop-left.at c.args.list.now),
+      keeps_on c.args.doc.now c.loop-left.doc c.enlist_next.new.doc c.loop-left.invariant.2 given.keeps,
+    )
+
+pub returns-else-at-list-clause-gives : goal.returns-else-at-list-clause-gives
+unfolding enlist_all
+returns-else-at-list-clause-gives c =
+    (run_ends (enlist_next c.args.ordered) c.args.list.now c.loop-left.left c.loop-left.at c.loop-left.doc.state c.args.doc.now.state c.if-at-list.false c.loop-left.invariant.0, refl)

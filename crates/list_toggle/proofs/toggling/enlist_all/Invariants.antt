@@ -1,0 +1,19 @@
+use Rattle.std.proofs.Common.{◌≡◌, ◌≤◌, length, drop}
+use Rattle.edit_model.specs.Gives.{labels_of}
+use Rattle.edit_model.specs.Run.{final, while_at_most}
+use Rattle.edit_doc.specs.Held.{Keeps}
+use Rattle.wrap_split.specs.Walks.{turn_bound}
+use Rattle.block_commands.specs.Series.{has_members}
+use Rattle.list_toggle.specs.Toggle.{enlist_next}
+use Rattle.list_toggle.proofs.toggling.enlist_all.Given as goal
+
+-- what is left to do ends where the whole ends
+abbrev pub invariant-loop-left : goal.invariant-loop-left
+invariant-loop-left l =
+    (final (while_at_most l.left has_members (enlist_next l.ordered) (labels_of (drop l.at l.list))) l.doc.state
+    ≡ final (while_at_most (turn_bound l.initial.doc.state) has_members (enlist_next l.ordered) (labels_of l.list)) l.initial.doc.state)
+    × (l.at ≤ length l.list)
+    × Keeps l.initial.doc l.doc
+
+abbrev pub decreases-loop-left : goal.decreases-loop-left
+decreases-loop-left l = l.left

@@ -1,0 +1,81 @@
+-- Toggle lists, step 6 a: siblings of a list become items, series by series. The steps are those of docs/ALGORITHMS.md.
+use Rattle.std.specs.Prelude.{ℕ, Bool, true, false, not, ◌&&◌, ◌||◌, List, [], ◌∷◌, ◌++◌, take, drop, codes, Option, Some, None, if◌then◌else◌}
+use Rattle.dom_model.specs.Contents.{has_name, is_break}
+use Rattle.dom_model.specs.Forest.{first_in, last_in}
+use Rattle.node_styles.specs.Blocks.{is_block}
+use Rattle.block_extend.specs.Series.{count_series, is_next}
+use Rattle.edit_model.specs.State.{State}
+use Rattle.edit_model.specs.Compositions.{set_tag_name}
+use Rattle.edit_model.specs.Run.{Run, ◌>>=◌, answer, look, given, while_at_most}
+use Rattle.wrap_split.specs.declared.rule.Criterion.TheVariants.{Never}
+use Rattle.wrap_split.specs.declared.rule.Recipe.TheVariants.{Make}
+use Rattle.wrap_split.specs.Walks.{turn_bound}
+use Rattle.wrap_split.specs.Wrap.{wrap, one_of}
+use Rattle.list_indent.specs.Indenting.{bare}
+use Rattle.list_indent.specs.Sublists.{is_list, is_item}
+
+-- what a turn has made: an item, unless nothing was made, and how many members it took
+abbrev pub Made : Type 0
+Made = Option ℕ × ℕ
+
+-- the items so far, and the members that are left
+abbrev pub Collected : Type 0
+Collected = List ℕ × List ℕ
+
+-- ---- toggle lists, step 6 a: one turn
+
+-- a p or div becomes an item
+unfoldable pub is_container : State → ℕ → Bool
+is_container s l = has_name s.trees l (codes "p") || has_name s.trees l (codes "div")
+
+abbrev pub made_one : ℕ → Run Made
+made_one x = answer (Some x, 1)
+
+unfoldable pub rename_item : ℕ → Run Made
+rename_item l = set_tag_name l (codes "li") >>= made_one
+
+-- other members go into an item line by line: siblings that are inline, up to a br
+unfoldable pub goes_on_line : State → ℕ → ℕ → Bool
+goes_on_line s x y =
+    is_next s.trees x y && (not (is_block s.trees y) && (not (is_block s.trees x) && not (is_break s.trees x)))
+
+unfoldable pub wrap_item : List ℕ → Run (Option ℕ)
+wrap_item line = wrap Never (Make (bare (codes "li"))) line
+
+abbrev pub made_of : ℕ → Option ℕ → Run Made
+made_of count made = answer (made, count)
+
+unfoldable pub wrap_first : ℕ → List ℕ → Run Made
+wrap_first count list = wrap_item (take count list) >>= made_of count
+
+unfoldable pub wrap_line : List ℕ → Run Made
+wrap_line list = look λ s. wrap_first (count_series (goes_on_line s) list) list
+
+-- items and lists stay as they are
+unfoldable pub make_item : List ℕ → ℕ → Run Made
+make_item list x = look λ s.
+    if is_container s x then rename_item x
+    else (if is_item s x || is_list s x then made_one x else wrap_line list)
+
+unfoldable pub next_item : List ℕ → Run Made
+next_item list = given (first_in list) (answer (None, 0)) (make_item list)
+
+-- ---- toggle lists, step 6 a
+
+-- it goes on while members are left and the first of them is the next sibling of the last item
+abbrev pub follows : State → Option ℕ → Option ℕ → Bool
+follows s last None = false
+follows s None (Some x) = true
+follows s (Some z) (Some x) = is_next s.trees z x
+
+unfoldable pub goes_on : State → Collected → Bool
+goes_on s c = follows s (last_in c.0) (first_in c.1)
+
+abbrev pub collected : Collected → Made → Run Collected
+collected c made = answer (c.0 ++ one_of made.0, drop made.1 c.1)
+
+unfoldable pub collect_next : Collected → Run Collected
+collect_next c = next_item c.1 >>= collected c
+
+unfoldable pub collect_items : List ℕ → Run Collected
+collect_items list = look λ s. while_at_most (turn_bound s) goes_on collect_next ([], list)

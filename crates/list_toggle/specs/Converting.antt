@@ -1,0 +1,46 @@
+-- Toggle lists, step 3: the lists of the other kind become lists of the kind, or go into one beside them. The steps are those of
+-- docs/ALGORITHMS.md.
+use Rattle.std.specs.Prelude.{ℕ, Bool, false, ◌&&◌, ◌||◌, List, Option, Some, None, if◌then◌else◌}
+use Rattle.dom_model.specs.Contents.{is_element_at}
+use Rattle.dom_model.specs.Forest.{prev_of, next_of, children_of}
+use Rattle.edit_model.specs.State.{State}
+use Rattle.edit_model.specs.Confined.{is_editable_for}
+use Rattle.edit_model.specs.Compositions.{set_tag_name}
+use Rattle.edit_model.specs.Run.{Run, ◌>>=◌, ◌>>◌, done, look, for_each}
+use Rattle.wrap_split.specs.declared.rule.Criterion.TheVariants.{Named}
+use Rattle.wrap_split.specs.declared.rule.Recipe.TheVariants.{Nothing}
+use Rattle.wrap_split.specs.Split.{split_parent}
+use Rattle.wrap_split.specs.Wrap.{wrap}
+use Rattle.inline_value.specs.Recording.{record_values, restore_values}
+use Rattle.edit_query.specs.ListStates.{list_name, is_list_of}
+use Rattle.list_toggle.specs.Ranges.{other_lists}
+
+-- an editable list of the kind
+abbrev pub is_fit : Bool → State → Option ℕ → Bool
+is_fit ordered s None = false
+is_fit ordered s (Some n) = is_editable_for s n && is_list_of ordered s.trees n
+
+-- one stands beside l
+unfoldable pub is_beside_fit : Bool → State → ℕ → Bool
+is_beside_fit ordered s l = is_fit ordered s (prev_of s.trees l) || is_fit ordered s (next_of s.trees l)
+
+-- toggle lists, step 3: the children of a list go into the one beside it, and keep their values
+unfoldable pub join : Bool → List ℕ → Run (Unit {0})
+join ordered children = do
+  values ← record_values children
+  split_parent children
+  wrap (Named (list_name ordered) false) Nothing children
+  restore_values values
+
+unfoldable pub join_list : Bool → ℕ → Run (Unit {0})
+join_list ordered l = look λ s. join ordered (children_of s.trees l)
+
+-- toggle lists, step 3: a list without such a neighbour takes the name of the kind
+unfoldable pub name_list : Bool → ℕ → Run (Unit {0})
+name_list ordered l = look λ s. if is_element_at s.trees l then set_tag_name l (list_name ordered) >> done else done
+
+unfoldable pub convert_list : Bool → ℕ → Run (Unit {0})
+convert_list ordered l = look λ s. if is_beside_fit ordered s l then join_list ordered l else name_list ordered l
+
+unfoldable pub convert_lists : Bool → Run (Unit {0})
+convert_lists ordered = look λ s. for_each (other_lists ordered s) (convert_list ordered)

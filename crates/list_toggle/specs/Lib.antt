@@ -1,0 +1,4 @@
+pub mod Ranges
+pub mod Converting
+pub mod Collecting
+pub mod Toggle

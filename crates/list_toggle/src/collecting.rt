@@ -1,0 +1,228 @@
+//! Toggle lists, step 6 a: siblings of a list become items, series by series.
+
+ghost use Rattle.std.specs.Prelude.{◌≡◌, ◌≤◌, ◌<◌, ◌++◌, IfOk, OnOk, length, drop, true};
+ghost use Rattle.dom_model.specs.Contents.{is_element_at};
+ghost use Rattle.edit_model.specs.Gives.{GivesAs, GivesMaybe, label_of, labels_of};
+ghost use Rattle.edit_doc.specs.Held.{Holds, IfHeld, EachHeld, Keeps};
+ghost use Rattle.edit_doc.specs.Whole.{IsOpen};
+ghost use Rattle.list_indent.specs.Indenting.{bare};
+ghost use Rattle.wrap_split.specs.Wrap.{one_of};
+ghost use Rattle.list_toggle.specs.Collecting as collect;
+
+use block_extend::{Link, count_series, is_next};
+use edit_doc::{Attributes, Doc, EditFault, Name, NodeList, NodeRef};
+use list_indent::{is_item, is_list, turn_bound};
+use node_tests::{has_name, is_block, is_break};
+use std::alloc::{AllocError, Global};
+use wrap_split::{Blank, CopyMade, NoSibling, WrapRule, wrap};
+
+/// An element of a name without attributes.
+pub(crate) fn bare(alloc: Global, name: &[u8]) -> Result<Blank, AllocError>
+    ensures { IfOk result (λ blank. blank ≡ bare name.now) }
+{
+    let name = Name::from_slice(alloc, name)?;
+    let attributes = Attributes::new(alloc);
+    Ok(Blank { name, attributes })
+}
+
+// Whether a node is a p or div.
+#[tactic(auto, unfolding(crate::specs::Collecting::is_container))]
+fn is_container(doc: &Doc, node: NodeRef) -> bool
+    requires { Holds doc.now node }
+    ensures { result ≡ collect.is_container doc.now.state node.label }
+{
+    has_name(doc, node, b"p") || has_name(doc, node, b"div")
+}
+
+// A p or div becomes an item.
+#[tactic(auto, using(edit_model::proofs::Steps::steps, edit_model::proofs::Steps::exits, crate::proofs::Exits::exit_made), unfolding(crate::specs::Collecting::rename_item))]
+fn rename_item(
+    alloc: Global,
+    doc: &mut Doc,
+    node: NodeRef,
+) -> Result<(Option<NodeRef>, usize), EditFault>
+    requires open { IsOpen doc.old }
+    requires node_held { Holds doc.old node }
+    requires element { is_element_at doc.old.state.trees node.label ≡ true }
+    ensures gives { GivesAs (λ made. (label_of made.0, made.1)) result doc.old.state doc.new.state (collect.rename_item node.label) }
+    ensures held { IfOk result (λ made. IfHeld doc.new made.0) }
+    ensures one { IfOk result (λ made. made.1 ≡ 1) }
+    ensures keeps { Keeps doc.old doc.new }
+{
+    let name = Name::from_slice(alloc, b"li")?;
+    let item = doc.set_tag_name(node, &name)?;
+    Ok((Some(item), 1))
+}
+
+/// Members that go into one item.
+#[derive(Clone, Copy)]
+struct SameLine;
+
+impl Link<Doc> for SameLine {
+    ghost use Rattle.list_toggle.specs.Collecting.{goes_on_line};
+
+    ghost linked = { λ s d x y. goes_on_line d.state x y };
+
+    #[tactic(auto, unfolding(crate::specs::Collecting::goes_on_line))]
+    fn links(&self, doc: &Doc, last: NodeRef, node: NodeRef) -> bool {
+        is_next(doc, last, node)
+            && !is_block(doc, node)
+            && !is_block(doc, last)
+            && !is_break(doc, last)
+    }
+}
+
+// Wraps a line in an item made new.
+#[tactic(auto, using(edit_model::proofs::Steps::steps, edit_model::proofs::Steps::exits), unfolding(crate::specs::Collecting::wrap_item))]
+fn wrap_item(alloc: Global, doc: &mut Doc, line: &[NodeRef]) -> Result<Option<NodeRef>, EditFault>
+    requires open { IsOpen doc.old }
+    requires line_held { EachHeld doc.old line.now }
+    ensures gives { GivesMaybe result doc.old.state doc.new.state (collect.wrap_item (labels_of line.now)) }
+    ensures held { IfOk result (λ made. IfHeld doc.new made) }
+    ensures keeps { Keeps doc.old doc.new }
+{
+    let blank = bare(alloc, b"li")?;
+    let list = NodeList::from_slice(alloc, line)?;
+    let rule = WrapRule::new(NoSibling, CopyMade { blank });
+    wrap(alloc, doc, list, &rule)
+}
+
+// Wraps the first members of a list, so many.
+#[tactic(auto, using(edit_model::proofs::Steps::steps, edit_model::proofs::Steps::exits, crate::proofs::Exits::exit_made, block_commands::proofs::Counting::labels_of_take), unfolding(crate::specs::Collecting::wrap_first))]
+fn wrap_first(
+    alloc: Global,
+    doc: &mut Doc,
+    list: &[NodeRef],
+    count: usize,
+) -> Result<(Option<NodeRef>, usize), EditFault>
+    requires open { IsOpen doc.old }
+    requires list_held { EachHeld doc.old list.now }
+    requires within { count ≤ length list.now }
+    ensures gives { GivesAs (λ made. (label_of made.0, made.1)) result doc.old.state doc.new.state (collect.wrap_first count (labels_of list.now)) }
+    ensures held { IfOk result (λ made. IfHeld doc.new made.0) }
+    ensures same { IfOk result (λ made. made.1 ≡ count) }
+    ensures keeps { Keeps doc.old doc.new }
+{
+    let item = wrap_item(alloc, doc, &list[..count])?;
+    Ok((item, count))
+}
+
+// Wraps the line that a list begins with.
+#[tactic(auto, using(edit_model::proofs::Steps::steps, edit_model::proofs::Steps::exits), unfolding(crate::specs::Collecting::wrap_line))]
+fn wrap_line(
+    alloc: Global,
+    doc: &mut Doc,
+    list: &[NodeRef],
+) -> Result<(Option<NodeRef>, usize), EditFault>
+    requires open { IsOpen doc.old }
+    requires list_held { EachHeld doc.old list.now }
+    ensures gives { GivesAs (λ made. (label_of made.0, made.1)) result doc.old.state doc.new.state (collect.wrap_line (labels_of list.now)) }
+    ensures held { IfOk result (λ made. IfHeld doc.new made.0) }
+    ensures within { IfOk result (λ made. made.1 ≤ length list.now) }
+    ensures keeps { Keeps doc.old doc.new }
+{
+    let count = count_series(doc, list, &SameLine);
+    wrap_first(alloc, doc, list, count)
+}
+
+// One turn, with the first member: the item that is made, and how many members it takes.
+#[tactic(auto, using(edit_model::proofs::Steps::steps, edit_model::proofs::Steps::exits, crate::proofs::Turns::container_is_element), unfolding(crate::specs::Collecting::make_item))]
+fn make_item(
+    alloc: Global,
+    doc: &mut Doc,
+    list: &[NodeRef],
+    first: NodeRef,
+) -> Result<(Option<NodeRef>, usize), EditFault>
+    requires open { IsOpen doc.old }
+    requires list_held { EachHeld doc.old list.now }
+    requires first_held { Holds doc.old first }
+    requires some { 0 < length list.now }
+    ensures gives { GivesAs (λ made. (label_of made.0, made.1)) result doc.old.state doc.new.state (collect.make_item (labels_of list.now) first.label) }
+    ensures held { IfOk result (λ made. IfHeld doc.new made.0) }
+    ensures within { IfOk result (λ made. made.1 ≤ length list.now) }
+    ensures keeps { Keeps doc.old doc.new }
+{
+    if is_container(doc, first) {
+        return rename_item(alloc, doc, first);
+    }
+    if is_item(doc, first) || is_list(doc, first) {
+        return Ok((Some(first), 1));
+    }
+    wrap_line(alloc, doc, list)
+}
+
+// Whether the first of the members that are left is the next sibling of the last item.
+#[tactic(auto, using(edit_model::proofs::Steps::ends), unfolding(crate::specs::Collecting::goes_on))]
+fn goes_on(doc: &Doc, items: &[NodeRef], list: &[NodeRef]) -> bool
+    requires items_held { EachHeld doc.now items.now }
+    requires list_held { EachHeld doc.now list.now }
+    ensures { result ≡ collect.goes_on doc.now.state (labels_of items.now, labels_of list.now) }
+{
+    if list.is_empty() {
+        return false;
+    }
+    if items.is_empty() {
+        return true;
+    }
+    is_next(doc, items[items.len() - 1], list[0])
+}
+
+// Appends an item, if one was made.
+#[tactic(auto, using(edit_model::proofs::Steps::labels_of_push_end, edit_model::proofs::Steps::append_none, edit_doc::proofs::Children::pushed_held))]
+fn push_made(doc: &Doc, items: &mut Vec<NodeRef>, made: Option<NodeRef>) -> Result<(), AllocError>
+    requires items_held { EachHeld doc.now items.old.items }
+    requires made_held { IfHeld doc.now made }
+    ensures held { OnOk result (EachHeld doc.now items.new.items) }
+    ensures nodes { OnOk result (labels_of items.new.items ≡ labels_of items.old.items ++ one_of (label_of made)) }
+{
+    if let Some(item) = made {
+        items.push(item)?;
+    }
+    Ok(())
+}
+
+// One turn: how many members are done with. Their item is appended.
+#[tactic(auto, using(edit_model::proofs::Steps::steps, edit_model::proofs::Steps::exits, edit_model::proofs::Steps::ends), unfolding(crate::specs::Collecting::collect_next, crate::specs::Collecting::next_item))]
+fn collect_next(
+    alloc: Global,
+    doc: &mut Doc,
+    items: &mut Vec<NodeRef>,
+    list: &[NodeRef],
+) -> Result<usize, EditFault>
+    requires open { IsOpen doc.old }
+    requires items_held { EachHeld doc.old items.old.items }
+    requires list_held { EachHeld doc.old list.now }
+    requires some { 0 < length list.now }
+    ensures gives { GivesAs (λ count. (labels_of items.new.items, labels_of (drop count list.now))) result doc.old.state doc.new.state (collect.collect_next (labels_of items.old.items, labels_of list.now)) }
+    ensures held { IfOk result (λ count. EachHeld doc.new items.new.items) }
+    ensures within { IfOk result (λ count. count ≤ length list.now) }
+    ensures keeps { Keeps doc.old doc.new }
+{
+    let (item, count) = make_item(alloc, doc, list, list[0])?;
+    push_made(doc, items, item)?;
+    Ok(count)
+}
+
+/// Step 6 a: takes first members of a list, and answers the items that they come to be or go into, and how many are taken.
+#[tactic(auto, using(edit_model::proofs::Steps::whiles, edit_model::proofs::Steps::exits), unfolding(crate::specs::Collecting::collect_items))]
+pub(crate) fn collect_items(
+    alloc: Global,
+    doc: &mut Doc,
+    list: &[NodeRef],
+) -> Result<(Vec<NodeRef>, usize), EditFault>
+    requires open { IsOpen doc.old }
+    requires list_held { EachHeld doc.old list.now }
+    ensures gives { GivesAs (λ found. (labels_of found.0.items, labels_of (drop found.1 list.now))) result doc.old.state doc.new.state (collect.collect_items (labels_of list.now)) }
+    ensures held { IfOk result (λ found. EachHeld doc.new found.0.items) }
+    ensures within { IfOk result (λ found. found.1 ≤ length list.now) }
+    ensures keeps { Keeps doc.old doc.new }
+{
+    let mut items = Vec::new(alloc);
+    let mut at = 0;
+    let mut left = turn_bound(doc);
+    while left > 0 && goes_on(doc, &items, &list[at..]) {
+        at += collect_next(alloc, doc, &mut items, &list[at..])?;
+        left -= 1;
+    }
+    Ok((items, at))
+}
