@@ -18,7 +18,7 @@ use node_tests::{has_name, is_block, name_allowed_in};
 use std::alloc::Global;
 
 /// Selects from the anchor to the focus, where both stand in the document.
-pub(crate) fn select(doc: &mut Doc, anchor: Point, focus: Point)
+pub fn select(doc: &mut Doc, anchor: Point, focus: Point)
     ensures selected { doc.new ≡ with_state doc.old (acted (Select anchor focus) doc.old.state) }
     ensures keeps { Keeps doc.old doc.new }
 {
@@ -27,7 +27,7 @@ pub(crate) fn select(doc: &mut Doc, anchor: Point, focus: Point)
 
 /// Collapses the active range to its start, or to its end where `backward` is on.
 #[tactic(auto, using(edit_model::proofs::Steps::actions), unfolding(crate::specs::Ends::settle))]
-pub(crate) fn settle(doc: &mut Doc, backward: bool) -> Result<(), EditFault>
+pub fn settle(doc: &mut Doc, backward: bool) -> Result<(), EditFault>
     requires open { IsOpen doc.old }
     ensures gives { Gives result doc.old.state doc.new.state (settle backward) }
     ensures keeps { Keeps doc.old doc.new }
@@ -42,9 +42,9 @@ pub(crate) fn settle(doc: &mut Doc, backward: bool) -> Result<(), EditFault>
     Ok(())
 }
 
-/// Delete the selection, steps 1 and 8: the whitespace at the start of the active range.
+/// Canonicalizes whitespace at the start of the active range.
 #[tactic(auto, using(edit_model::proofs::Steps::steps, edit_model::proofs::Steps::exits), unfolding(crate::specs::Ends::canonicalize_start))]
-pub(crate) fn canonicalize_start(alloc: Global, doc: &mut Doc, fix: bool) -> Result<(), EditFault>
+pub fn canonicalize_start(alloc: Global, doc: &mut Doc, fix: bool) -> Result<(), EditFault>
     requires open { IsOpen doc.old }
     ensures gives { Gives result doc.old.state doc.new.state (canonicalize_start fix) }
     ensures keeps { Keeps doc.old doc.new }
@@ -59,7 +59,7 @@ pub(crate) fn canonicalize_start(alloc: Global, doc: &mut Doc, fix: bool) -> Res
 
 /// The same at its end.
 #[tactic(auto, using(edit_model::proofs::Steps::steps, edit_model::proofs::Steps::exits), unfolding(crate::specs::Ends::canonicalize_end))]
-pub(crate) fn canonicalize_end(alloc: Global, doc: &mut Doc, fix: bool) -> Result<(), EditFault>
+pub fn canonicalize_end(alloc: Global, doc: &mut Doc, fix: bool) -> Result<(), EditFault>
     requires open { IsOpen doc.old }
     ensures gives { Gives result doc.old.state doc.new.state (canonicalize_end fix) }
     ensures keeps { Keeps doc.old doc.new }
@@ -74,7 +74,7 @@ pub(crate) fn canonicalize_end(alloc: Global, doc: &mut Doc, fix: bool) -> Resul
 
 /// Whether a node is a text.
 #[tactic(auto, unfolding(node_tests::specs::CollapsedWhitespace::is_words))]
-pub(crate) fn is_words(doc: &Doc, node: NodeRef) -> bool
+pub fn is_words(doc: &Doc, node: NodeRef) -> bool
     requires { Holds doc.now node }
     ensures { result ≡ is_words doc.now.state.trees node.label }
 {

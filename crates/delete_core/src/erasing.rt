@@ -133,8 +133,8 @@ fn own_block(doc: &Doc, node: NodeRef) -> Option<NodeRef>
     }
 }
 
-// Whether a child of a node is visible.
-fn shows_child(doc: &Doc, node: NodeRef) -> bool
+/// Whether a child of a node is visible.
+pub fn shows_child(doc: &Doc, node: NodeRef) -> bool
     requires { Holds doc.now node }
     ensures { result ≡ shows_child doc.now.state.trees node.label }
 {
@@ -163,7 +163,7 @@ fn is_hollow(doc: &Doc, node: NodeRef) -> bool
 
 /// Puts a new br at the end of a node.
 #[tactic(auto, using(edit_model::proofs::Steps::steps, edit_model::proofs::Steps::exits), unfolding(wrap_split::specs::Wrap::append_break))]
-pub(crate) fn append_break(alloc: Global, doc: &mut Doc, node: NodeRef) -> Result<(), EditFault>
+pub fn append_break(alloc: Global, doc: &mut Doc, node: NodeRef) -> Result<(), EditFault>
     requires open { IsOpen doc.old }
     requires node_held { Holds doc.old node }
     ensures gives { Gives result doc.old.state doc.new.state (wrap.append_break node.label) }

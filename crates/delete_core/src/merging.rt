@@ -61,8 +61,9 @@ fn merged(
     }
 }
 
+/// Puts a new br into a node without children.
 #[tactic(auto, using(edit_model::proofs::Steps::steps, edit_model::proofs::Steps::exits), unfolding(crate::specs::Merging::fill_empty))]
-fn fill_empty(alloc: Global, doc: &mut Doc, block: NodeRef) -> Result<(), EditFault>
+pub fn fill_empty(alloc: Global, doc: &mut Doc, block: NodeRef) -> Result<(), EditFault>
     requires open { IsOpen doc.old }
     requires block_held { Holds doc.old block }
     ensures gives { Gives result doc.old.state doc.new.state (fill_empty block.label) }

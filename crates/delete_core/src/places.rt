@@ -13,7 +13,7 @@ use edit_doc::{Doc, NodeRef, Point};
 use node_arena::Nodes;
 
 /// How many turns a loop takes at most that starts now.
-pub(crate) fn turn_bound(doc: &Doc) -> u128
+pub fn turn_bound(doc: &Doc) -> u128
     ensures { result ≡ turn_bound doc.now.state }
 {
     let counts = doc.counts();
@@ -22,7 +22,7 @@ pub(crate) fn turn_bound(doc: &Doc) -> u128
 
 /// Whether a node is the affected host of the running command, or editable.
 #[tactic(auto, unfolding(edit_model::specs::Confined::is_inside))]
-pub(crate) fn is_inside(doc: &Doc, node: NodeRef) -> bool
+pub fn is_inside(doc: &Doc, node: NodeRef) -> bool
     requires { Holds doc.now node }
     ensures { result ≡ is_inside doc.now.state node.label }
 {
@@ -43,7 +43,7 @@ pub(crate) fn if_inside(doc: &Doc, node: Option<NodeRef>) -> Option<NodeRef>
 }
 
 /// The child at an offset. It counts the children before it.
-pub(crate) fn child_at(doc: &Doc, node: NodeRef, offset: u32) -> Option<NodeRef>
+pub fn child_at(doc: &Doc, node: NodeRef, offset: u32) -> Option<NodeRef>
     requires { Holds doc.now node }
     ensures { Finds doc.now result (points.child_at doc.now.state.trees node.label offset) }
 {
@@ -61,7 +61,7 @@ pub(crate) fn child_at(doc: &Doc, node: NodeRef, offset: u32) -> Option<NodeRef>
 }
 
 /// The child before an offset. At the end of a node it is found at once.
-pub(crate) fn child_before(doc: &Doc, node: NodeRef, offset: u32) -> Option<NodeRef>
+pub fn child_before(doc: &Doc, node: NodeRef, offset: u32) -> Option<NodeRef>
     requires { Holds doc.now node }
     ensures { Finds doc.now result (points.child_before doc.now.state.trees node.label offset) }
 {
@@ -73,7 +73,7 @@ pub(crate) fn child_before(doc: &Doc, node: NodeRef, offset: u32) -> Option<Node
 }
 
 /// The start of a node.
-pub(crate) fn start_in(node: NodeRef) -> Point
+pub fn start_in(node: NodeRef) -> Point
     ensures { result ≡ start_in node.label }
 {
     Point {
@@ -83,7 +83,7 @@ pub(crate) fn start_in(node: NodeRef) -> Point
 }
 
 /// The end of a node.
-pub(crate) fn end_in(doc: &Doc, node: NodeRef) -> Point
+pub fn end_in(doc: &Doc, node: NodeRef) -> Point
     requires { Holds doc.now node }
     ensures { result ≡ end_in doc.now.state.trees node.label }
 {
@@ -124,7 +124,7 @@ pub(crate) fn after_in(doc: &Doc, node: NodeRef, parent: Option<NodeRef>) -> Opt
 
 /// The point just before a node; the root of a tree has none.
 #[tactic(auto, unfolding(crate::specs::Places::before_node))]
-pub(crate) fn before_node(doc: &Doc, node: NodeRef) -> Option<Point>
+pub fn before_node(doc: &Doc, node: NodeRef) -> Option<Point>
     requires { Holds doc.now node }
     ensures gives { result ≡ before_node doc.now.state.trees node.label }
     ensures there { IfSome result (λ at. 0 < count_of doc.now.state.trees at.label) }
@@ -134,7 +134,7 @@ pub(crate) fn before_node(doc: &Doc, node: NodeRef) -> Option<Point>
 
 /// The point just after a node; the root of a tree has none.
 #[tactic(auto, unfolding(crate::specs::Places::after_node))]
-pub(crate) fn after_node(doc: &Doc, node: NodeRef) -> Option<Point>
+pub fn after_node(doc: &Doc, node: NodeRef) -> Option<Point>
     requires { Holds doc.now node }
     ensures gives { result ≡ after_node doc.now.state.trees node.label }
     ensures there { IfSome result (λ at. 0 < count_of doc.now.state.trees at.label) }

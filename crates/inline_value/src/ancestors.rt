@@ -29,9 +29,9 @@ fn turn_bound(doc: &Doc) -> u128
     2 * counts.nodes as u128 + counts.chars as u128 + 2
 }
 
-// Whether a node is an element that may not stand in a paragraph.
+/// Whether a node is an element that may not stand in a paragraph.
 #[tactic(auto, unfolding(crate::specs::Ancestors::is_prohibited))]
-fn is_prohibited(doc: &Doc, node: NodeRef) -> bool
+pub fn is_prohibited(doc: &Doc, node: NodeRef) -> bool
     requires { Holds doc.now node }
     ensures { result ≡ is_prohibited doc.now.state node.label }
 {
@@ -62,8 +62,8 @@ fn takes(doc: &Doc, node: NodeRef, ancestor: NodeRef) -> bool
     is_inside(doc, ancestor) && allowed_in(doc, node, ancestor)
 }
 
-// Whether a node may stand in one of its ancestors that are inside.
-fn has_place(doc: &Doc, node: NodeRef) -> bool
+/// Whether a node may stand in one of its ancestors that are inside.
+pub fn has_place(doc: &Doc, node: NodeRef) -> bool
     requires { Holds doc.now node }
     ensures { result ≡ has_place doc.now.state node.label }
 {
@@ -126,8 +126,9 @@ fn lift(alloc: Global, doc: &mut Doc, node: NodeRef) -> Result<(), EditFault>
 
 // ---- step 2
 
+/// Whether a node is a dd or dt.
 #[tactic(auto, unfolding(crate::specs::Ancestors::is_description))]
-fn is_description(doc: &Doc, node: NodeRef) -> bool
+pub fn is_description(doc: &Doc, node: NodeRef) -> bool
     requires { Holds doc.now node }
     ensures { result ≡ is_description doc.now.state node.label }
 {
@@ -167,9 +168,9 @@ fn hosts_none(doc: &Doc) -> bool
     }
 }
 
-// Fix disallowed ancestors, step 2 d: a child leaves the node.
+/// Splits the parent of a node round it. The node keeps its values.
 #[tactic(auto, using(edit_model::proofs::Steps::steps, edit_model::proofs::Steps::exits), unfolding(crate::specs::Ancestors::split_out, crate::specs::Recording::record_values))]
-fn split_out(alloc: Global, doc: &mut Doc, child: NodeRef) -> Result<(), EditFault>
+pub fn split_out(alloc: Global, doc: &mut Doc, child: NodeRef) -> Result<(), EditFault>
     requires open { IsOpen doc.old }
     requires child_held { Holds doc.old child }
     ensures gives { Gives result doc.old.state doc.new.state (split_out child.label) }
@@ -232,8 +233,8 @@ fn lift_renamed(alloc: Global, doc: &mut Doc, node: NodeRef) -> Result<(), EditF
     part_children(alloc, doc, node)
 }
 
-// The name of the default single-line container.
-fn container_name(alloc: Global, paragraphs: bool) -> Result<Name, AllocError>
+/// The name of the default single-line container.
+pub fn container_name(alloc: Global, paragraphs: bool) -> Result<Name, AllocError>
     ensures { IfOk result (λ name. name ≡ container_name paragraphs) }
 {
     if paragraphs {

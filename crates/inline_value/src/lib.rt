@@ -17,7 +17,9 @@ mod selections;
 mod styling;
 mod wrappers;
 
-pub use ancestors::fix_ancestors;
+pub use ancestors::{
+    container_name, fix_ancestors, has_place, is_description, is_prohibited, split_out,
+};
 pub use clearing::clear_value;
 pub use edit_doc::{Doc, EditFault, NodeList, NodeRef};
 pub use forcing::force;

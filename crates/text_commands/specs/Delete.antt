@@ -13,21 +13,18 @@ use Rattle.node_tests.specs.CollapsedWhitespace.{is_words}
 use Rattle.edit_model.specs.State.{State}
 use Rattle.edit_model.specs.Run.{Run, ◌>>=◌, ◌>>◌, answer, done, look, given, select, collapse, extend, set_scratch}
 use Rattle.edit_actions.specs.ActiveRange.{start_of}
-use Rattle.inline_commands.specs.RestoringStates.{restore_states}
-use Rattle.delete_core.specs.Deletion.{delete_selection}
 use Rattle.delete_core.specs.Ends.{canonicalize_start}
 use Rattle.delete_core.specs.Places.{at, start_in, end_in, walk_points, turn_bound}
 use Rattle.text_commands.specs.declared.approach.Approach.{Approach}
 use Rattle.text_commands.specs.Approach.{is_affected_host, go_back, climb}
-use Rattle.text_commands.specs.Entries.{is_entry, starts_entry, lift_entry, starts_indented, outdent_line, part_entries}
+use Rattle.text_insertion.specs.Entries.{is_entry}
+use Rattle.text_insertion.specs.Start.{erase}
+use Rattle.text_commands.specs.Entries.{starts_entry, lift_entry, starts_indented, outdent_line, part_entries}
 
 -- ---- deleting what is selected, with the states and values of it restored
 
-unfoldable pub erase : Bool → Run (Unit {0})
-erase backward = delete_selection true true backward >>= restore_states
-
 unfoldable pub erased : Bool → Run Bool
-erased backward = erase backward >> answer true
+erased backward = erase true backward >> answer true
 
 -- just before what stands before a point
 abbrev pub one_before : Point → Point
@@ -89,7 +86,7 @@ unfoldable pub erase_line : Point → Point → Run Bool
 erase_line p q = do
   set_scratch (record { anchor = p; focus = p })
   select (one_before q) q
-  erase false
+  erase true false
   collapse_kept
   answer true
 

@@ -11,21 +11,16 @@ use Rattle.node_styles.specs.NameClasses.{is_indentation}
 use Rattle.node_tests.specs.BlockPoints.{child_before, child_at}
 use Rattle.edit_model.specs.State.{State}
 use Rattle.edit_model.specs.Confined.{is_editable_for}
-use Rattle.edit_model.specs.Compositions.{set_tag_name}
 use Rattle.edit_model.specs.Run.{Run, ◌>>=◌, ◌>>◌, answer, done, look, given, for_each}
-use Rattle.edit_query.specs.Rows.{container_name}
 use Rattle.wrap_split.specs.Wrap.{is_inline, append_break}
-use Rattle.inline_value.specs.Ancestors.{is_description, has_place, split_out, fix_ancestors}
+use Rattle.inline_value.specs.Ancestors.{split_out, fix_ancestors}
 use Rattle.inline_value.specs.Forcing.{ancestors}
 use Rattle.block_extend.specs.BlockExtend.{block_extend}
 use Rattle.block_extend.specs.Gather.{gathered}
-use Rattle.list_indent.specs.Sublists.{is_item, normalize_sublists}
+use Rattle.list_indent.specs.Sublists.{normalize_sublists}
 use Rattle.list_indent.specs.Commands.{items_over, has_editable_below}
 use Rattle.list_indent.specs.Outdenting.{outdent_node}
-
--- an li, dt or dd
-unfoldable pub is_entry : State → ℕ → Bool
-is_entry s n = is_item s n || is_description s n
+use Rattle.text_insertion.specs.Entries.{is_entry, rename_stray}
 
 -- ---- delete, step 6: an entry leaves its list
 
@@ -43,13 +38,6 @@ items_from f (Some p) = items_over f p
 
 unfoldable pub normalize_around : ℕ → Run (Unit {0})
 normalize_around n = look λ s. for_each (items_from s.trees (parent_of s.trees n)) normalize_sublists
-
--- a dt or dd that has no place any more
-unfoldable pub is_stray : State → ℕ → Bool
-is_stray s n = is_description s n && not (has_place s n)
-
-unfoldable pub rename_stray : ℕ → Run ℕ
-rename_stray n = look λ s. if is_stray s n then set_tag_name n (container_name s.flags.paragraphs) else answer n
 
 unfoldable pub lift_entry : ℕ → Run Bool
 lift_entry n = do

@@ -7,7 +7,8 @@ ghost use Rattle.edit_doc.specs.Whole.{IsOpen};
 ghost use Rattle.edit_doc.specs.Held.{Holds, IfHeld, Finds, Keeps};
 ghost use Rattle.text_commands.specs.Approach as back;
 
-use crate::places::{before_node, child_before, end_in, is_affected_host, one_before, turn_bound};
+use crate::places::{is_affected_host, one_before};
+use delete_core::{before_node, child_before, end_in, turn_bound};
 use edit_doc::{Doc, EditFault, NodeRef, Point};
 use node_tests::{has_name, is_block, is_break, is_image, is_visible};
 use point_order::node_of;

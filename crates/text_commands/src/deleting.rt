@@ -5,7 +5,6 @@ ghost use Rattle.dom_model.specs.Forest.{count_of};
 ghost use Rattle.edit_model.specs.Gives.{Gives};
 ghost use Rattle.edit_doc.specs.Whole.{IsOpen};
 ghost use Rattle.edit_doc.specs.Held.{Holds, Keeps};
-ghost use Rattle.delete_core.specs.Ends as ends;
 ghost use Rattle.text_commands.specs.Delete as command;
 
 use crate::approach::{Approach, climb, go_back};
@@ -13,7 +12,7 @@ use crate::entries::{lift_entry, starts_entry};
 use crate::erasing::{erase_single, erased, follows_single};
 use crate::joining::select_or_join;
 use crate::outdents::{outdent_line, starts_indented};
-use delete_core::canonicalize;
+use delete_core::canonicalize_start;
 use edit_actions::ends_of;
 use edit_doc::{Doc, EditFault, NodeRef, Point};
 use node_tests::is_block;
@@ -148,21 +147,6 @@ fn delete_at_start(alloc: Global, doc: &mut Doc) -> Result<bool, EditFault>
     delete_from(alloc, doc, start)
 }
 
-// Step 2.
-#[tactic(auto, using(edit_model::proofs::Steps::steps, edit_model::proofs::Steps::exits), unfolding(delete_core::specs::Ends::canonicalize_start))]
-fn canonicalize_start(alloc: Global, doc: &mut Doc) -> Result<(), EditFault>
-    requires open { IsOpen doc.old }
-    ensures gives { Gives result doc.old.state doc.new.state (ends.canonicalize_start true) }
-    ensures keeps { Keeps doc.old doc.new }
-{
-    doc.lawful();
-    let Some(pair) = doc.points().selection() else {
-        return Ok(());
-    };
-    let (start, _) = ends_of(doc, pair);
-    canonicalize(alloc, doc, start, true)
-}
-
 // Steps 2 to 13.
 #[tactic(auto, using(edit_model::proofs::Steps::steps, edit_model::proofs::Steps::exits), unfolding(crate::specs::Delete::delete_at_caret))]
 fn delete_at_caret(alloc: Global, doc: &mut Doc) -> Result<bool, EditFault>
@@ -170,7 +154,7 @@ fn delete_at_caret(alloc: Global, doc: &mut Doc) -> Result<bool, EditFault>
     ensures gives { Gives result doc.old.state doc.new.state command.delete_at_caret }
     ensures keeps { Keeps doc.old doc.new }
 {
-    canonicalize_start(alloc, doc)?;
+    canonicalize_start(alloc, doc, true)?; // step 2
     delete_at_start(alloc, doc)
 }
 

@@ -2,28 +2,17 @@
 
 ghost use Rattle.std.specs.Prelude.{◌≡◌};
 ghost use Rattle.edit_model.specs.Action.{Extend, Scratch, acted};
-ghost use Rattle.edit_model.specs.Action as action;
 ghost use Rattle.edit_model.specs.Gives.{Gives, label_of};
 ghost use Rattle.edit_doc.specs.Whole.{IsOpen, with_state};
 ghost use Rattle.edit_doc.specs.Held.{Holds, IfHeld, Keeps};
-ghost use Rattle.node_tests.specs.CollapsedWhitespace.{is_words};
 ghost use Rattle.text_commands.specs.Delete as command;
 
-use crate::places::{child_before, one_before};
-use delete_core::delete_selection;
-use dom_model::Content;
+use crate::places::one_before;
+use delete_core::{child_before, is_words, select};
 use edit_doc::{Doc, EditFault, NodeRef, Pair, Point};
-use inline_commands::restore_states;
 use node_tests::{has_name, is_block, is_break, is_image};
 use std::alloc::Global;
-
-/// Selects from the anchor to the focus, where both stand in the document.
-pub(crate) fn select(doc: &mut Doc, anchor: Point, focus: Point)
-    ensures selected { doc.new ≡ with_state doc.old (acted (action.Select anchor focus) doc.old.state) }
-    ensures keeps { Keeps doc.old doc.new }
-{
-    doc.select(anchor, focus);
-}
+use text_insertion::erase;
 
 // Takes the focus of the selection to another point.
 fn extend(doc: &mut Doc, focus: Point)
@@ -45,17 +34,6 @@ fn keep(doc: &mut Doc, at: Point)
     });
 }
 
-// Deletes what is selected, and restores its states and values.
-#[tactic(auto, using(edit_model::proofs::Steps::steps, edit_model::proofs::Steps::exits), unfolding(crate::specs::Delete::erase))]
-fn erase(alloc: Global, doc: &mut Doc, backward: bool) -> Result<(), EditFault>
-    requires open { IsOpen doc.old }
-    ensures gives { Gives result doc.old.state doc.new.state (command.erase backward) }
-    ensures keeps { Keeps doc.old doc.new }
-{
-    let states = delete_selection(alloc, doc, true, true, backward)?;
-    restore_states(alloc, doc, &states)
-}
-
 /// Deletes what is selected, with its states and values restored, and answers true.
 #[tactic(auto, using(edit_model::proofs::Steps::steps, edit_model::proofs::Steps::exits), unfolding(crate::specs::Delete::erased))]
 pub(crate) fn erased(alloc: Global, doc: &mut Doc, backward: bool) -> Result<bool, EditFault>
@@ -63,7 +41,7 @@ pub(crate) fn erased(alloc: Global, doc: &mut Doc, backward: bool) -> Result<boo
     ensures gives { Gives result doc.old.state doc.new.state (command.erased backward) }
     ensures keeps { Keeps doc.old doc.new }
 {
-    erase(alloc, doc, backward)?;
+    erase(alloc, doc, true, backward)?;
     Ok(true)
 }
 
@@ -75,18 +53,6 @@ fn is_single(doc: &Doc, node: Option<NodeRef>) -> bool
     match node {
         Some(node) => { is_break(doc, node) || has_name(doc, node, b"hr") || is_image(doc, node) }
         None => false,
-    }
-}
-
-// Whether a node is a text.
-#[tactic(auto, unfolding(node_tests::specs::CollapsedWhitespace::is_words))]
-fn is_words(doc: &Doc, node: NodeRef) -> bool
-    requires { Holds doc.now node }
-    ensures { result ≡ is_words doc.now.state.trees node.label }
-{
-    match doc.content(node) {
-        Content::Words(_) => true,
-        _ => false,
     }
 }
 
@@ -151,7 +117,7 @@ pub(crate) fn erase_line(
 {
     keep(doc, caret);
     select(doc, one_before(at), at);
-    erase(alloc, doc, false)?;
+    erase(alloc, doc, true, false)?;
     collapse_kept(doc)?;
     Ok(true)
 }

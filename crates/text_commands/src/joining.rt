@@ -7,12 +7,14 @@ ghost use Rattle.edit_doc.specs.Whole.{IsOpen};
 ghost use Rattle.edit_doc.specs.Held.{Holds, IfHeld, Keeps};
 ghost use Rattle.text_commands.specs.Delete as command;
 
-use crate::entries::{is_entry, part_entries};
-use crate::erasing::{erase_line, erased, select, select_before};
-use crate::places::{child_at, child_before, end_in, is_affected_host, start_in, turn_bound};
+use crate::entries::part_entries;
+use crate::erasing::{erase_line, erased, select_before};
+use crate::places::is_affected_host;
+use delete_core::{child_at, child_before, end_in, select, start_in, turn_bound};
 use edit_doc::{Doc, EditFault, NodeRef, Point};
 use node_tests::{has_name, is_block, is_break};
 use std::alloc::Global;
+use text_insertion::is_entry;
 
 // Step 9: a node that is a table.
 fn is_table(doc: &Doc, node: Option<NodeRef>) -> bool

@@ -13,3 +13,4 @@ mod outdents;
 mod places;
 
 pub use deleting::delete;
+pub use text_insertion::{insert_paragraph, insert_text};

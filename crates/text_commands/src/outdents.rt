@@ -2,18 +2,16 @@
 
 ghost use Rattle.std.specs.Prelude.{◌≡◌, ◌<◌, IfOk};
 ghost use Rattle.dom_model.specs.Forest.{count_of};
-ghost use Rattle.edit_model.specs.Gives.{Gives, label_of, labels_of};
+ghost use Rattle.edit_model.specs.Gives.{Gives, labels_of};
 ghost use Rattle.edit_model.specs.Run.{for_each};
 ghost use Rattle.edit_doc.specs.Whole.{IsOpen};
-ghost use Rattle.edit_doc.specs.Held.{Holds, IfHeld, EachHeld, Keeps};
-ghost use Rattle.node_paths.specs.Onward.{onward_at, IsInner};
-ghost use Rattle.list_indent.specs.Commands as lists;
+ghost use Rattle.edit_doc.specs.Held.{Holds, EachHeld, Keeps};
 ghost use Rattle.list_indent.specs.Outdenting as outdenting;
 ghost use Rattle.text_commands.specs.Entries as entries;
 
 use block_extend::{Choice, block_extend, gather_in};
 use edit_doc::{Doc, EditFault, NodeList, NodeRef, Point};
-use list_indent::outdent_node;
+use list_indent::{has_editable_below, outdent_node};
 use node_tests::is_indentation;
 use std::alloc::{AllocError, Global};
 
@@ -49,33 +47,6 @@ pub(crate) fn starts_indented(doc: &Doc, node: NodeRef, at: Point) -> bool
     ensures { result ≡ entries.starts_indented doc.now.state at }
 {
     at.offset == 0 && (indents_line(doc, node) || has_indenter(doc, node))
-}
-
-// Whether an editable node stands in the tree of a node or of a later sibling.
-fn has_editable(doc: &Doc, first: Option<NodeRef>) -> bool
-    requires held { IfHeld doc.now first }
-    requires inner { IsInner doc.now.state.trees (label_of first) }
-    ensures { result ≡ lists.has_editable doc.now.state (onward_at doc.now.state.trees (label_of first)) }
-{
-    doc.lawful();
-    let mut at = first;
-    while let Some(node) = at {
-        if doc.is_editable_for(node) || has_editable(doc, doc.first_child(node)) {
-            return true;
-        }
-        at = doc.next(node);
-    }
-    false
-}
-
-// Whether an editable node stands below a node.
-#[tactic(auto, unfolding(list_indent::specs::Commands::has_editable_below))]
-fn has_editable_below(doc: &Doc, node: NodeRef) -> bool
-    requires { Holds doc.now node }
-    ensures { result ≡ lists.has_editable_below doc.now.state node.label }
-{
-    doc.lawful();
-    has_editable(doc, doc.first_child(node))
 }
 
 /// Step 8: what is outdented.

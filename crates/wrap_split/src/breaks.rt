@@ -11,9 +11,9 @@ use edit_actions::is_same;
 use edit_doc::{Doc, EditFault, NodeRef};
 use node_tests::{is_extraneous_break, is_visible};
 
-// Remove line breaks before, step 2, and at the end, step 1: down from a node by last children.
+/// The last node below a node, in tree order: down from it by last children.
 #[tactic(auto, using(crate::proofs::Turns::walks), unfolding(crate::specs::Breaks::last_below))]
-fn last_below(doc: &Doc, node: NodeRef) -> NodeRef
+pub fn last_below(doc: &Doc, node: NodeRef) -> NodeRef
     requires { Holds doc.now node }
     ensures gives { result.label ≡ last_below doc.now.state node.label }
     ensures held { Holds doc.now result }

@@ -15,7 +15,8 @@ use node_tests::{is_block, is_break};
 use point_order::is_earlier;
 use std::alloc::Global;
 
-fn is_inline(doc: &Doc, node: Option<NodeRef>) -> bool
+/// Whether there is a node, and it is inline.
+pub fn is_inline(doc: &Doc, node: Option<NodeRef>) -> bool
     requires { IfHeld doc.now node }
     ensures { result ≡ is_inline doc.now.state (label_of node) }
 {

@@ -19,8 +19,9 @@ mod wrapping;
 pub use answers::{
     CopyMade, IndentationSibling, NamedSibling, NoSibling, NothingMade, SameValueSibling,
 };
-pub use breaks::{breaks_at_end, breaks_before, breaks_from};
+pub use breaks::{breaks_at_end, breaks_before, breaks_from, last_below};
 pub use edit_doc::{Doc, EditFault, NodeList, NodeRef};
+pub use filling::is_inline;
 pub use rule::{Blank, Criterion, Makes, Meets, Recipe, WrapRule};
 pub use split::{remove_keeping_children, split_parent};
 pub use wrapping::wrap;

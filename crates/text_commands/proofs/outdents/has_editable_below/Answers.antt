@@ -1,5 +1,0 @@
-use Rattle.list_indent.proofs.Below.{begins}
-use Rattle.text_commands.proofs.outdents.has_editable_below.Goals as goal
-
-pub has_editable-requires-clause-inner : goal.has_editable-requires-clause-inner
-has_editable-requires-clause-inner c = begins c.args.doc.now c.lawful.ensures c.args.node c.requires c.first_child.result c.first_child.ensures

@@ -1,0 +1,15 @@
+use Rattle.std.proofs.Common.{◌≡◌}
+use Rattle.edit_doc.specs.Held.{Holds}
+use Rattle.wrap_split.specs.Walks.{walk}
+use Rattle.delete_core.specs.Places.{turn_bound}
+use Rattle.text_insertion.specs.Halves.{into_last_block}
+use Rattle.text_insertion.proofs.halves.deepest_last.Given as goal
+
+-- the rest of the walk ends where the whole ends
+abbrev pub invariant-loop-turns : goal.invariant-loop-turns
+invariant-loop-turns l =
+    (walk (into_last_block l.doc.state) l.turns l.at.label ≡ walk (into_last_block l.doc.state) (turn_bound l.doc.state) l.fn.node.label)
+    × Holds l.doc l.at
+
+abbrev pub decreases-loop-turns : goal.decreases-loop-turns
+decreases-loop-turns l = l.turns

@@ -1,0 +1,95 @@
+-- Inserting a paragraph (HTML Editing APIs, "the insertParagraph command"): what is selected goes, and the line is parted there.
+-- The steps are those of docs/ALGORITHMS.md. It answers true.
+use Rattle.std.specs.Prelude.{ℕ, ◌+◌, ◌==◌, Bool, true, false, ◌||◌, ◌&&◌, not, codes, Option, Some, None, if◌then◌else◌, unwrap_or}
+use Rattle.dom_model.specs.declared.Content.{Content}
+use Rattle.dom_model.specs.Contents.{has_name, has_chars_at, length_of}
+use Rattle.dom_model.specs.Forest.{Forest}
+use Rattle.live_range.specs.declared.places.Point.{Point}
+use Rattle.node_tests.specs.CollapsedWhitespace.{is_words}
+use Rattle.edit_model.specs.State.{State}
+use Rattle.edit_model.specs.Compositions.{split_words}
+use Rattle.edit_model.specs.Moves.{make_break}
+use Rattle.edit_model.specs.Run.{Run, ◌>>=◌, ◌>>◌, answer, done, look, given, collapse}
+use Rattle.wrap_split.specs.Breaks.{last_below}
+use Rattle.delete_core.specs.Places.{at, before_node, after_node}
+use Rattle.text_insertion.specs.Containers.{container_of, own_container}
+use Rattle.text_insertion.specs.Entries.{is_empty_entry, leave_list}
+use Rattle.text_insertion.specs.Halves.{part_container}
+use Rattle.text_insertion.specs.Start.{start_inside, insert_at_start, erase}
+
+-- ---- insert a paragraph, step 2: a text is split, and the point leaves a text or a comment
+
+unfoldable pub cuts_text : Forest Content → Point → Bool
+cuts_text f p = is_words f p.label && (not (p.offset == 0) && not (p.offset == length_of f p.label))
+
+unfoldable pub cut_text : Point → Run (Unit {0})
+cut_text p = look λ s. if cuts_text s.trees p then split_words p.label p.offset >> done else done
+
+-- step 2: from the end of a text to after it, and else to before the text or comment
+unfoldable pub out_of_text : Forest Content → Point → Option Point
+out_of_text f p =
+    if is_words f p.label && (p.offset == length_of f p.label) then after_node f p.label
+    else (if has_chars_at f p.label then before_node f p.label else None)
+
+abbrev pub collapsed_at : Point → Run Point
+collapsed_at p = collapse p >> answer p
+
+unfoldable pub left_text : Forest Content → Point → Point
+left_text f p = unwrap_or (out_of_text f p) p
+
+unfoldable pub leave_text : Point → Run Point
+leave_text p = look λ s. collapsed_at (left_text s.trees p)
+
+-- step 2
+unfoldable pub split_text : Point → Run Point
+split_text p = cut_text p >> leave_text p
+
+-- ---- step 5: in an address, listing or pre, a line ends with a br
+
+unfoldable pub holds_lines : State → ℕ → Bool
+holds_lines s c = has_name s.trees c (codes "address") || (has_name s.trees c (codes "listing") || has_name s.trees c (codes "pre"))
+
+-- step 5: a br at the end of c shows a line only with another one after it
+unfoldable pub is_last_below : State → ℕ → ℕ → Bool
+is_last_below s c x = last_below s c == x
+
+unfoldable pub break_again : ℕ → ℕ → Run (Unit {0})
+break_again c x = look λ s. if is_last_below s c x then (make_break >>= insert_at_start) else done
+
+-- step 5, where x is a new br
+unfoldable pub break_with : Point → ℕ → ℕ → Run (Unit {0})
+break_with p c x = do
+  insert_at_start x
+  collapse (at p.label (p.offset + 1))
+  break_again c x
+
+-- step 5
+unfoldable pub break_line : Point → ℕ → Run (Unit {0})
+break_line p c = make_break >>= break_with p c
+
+-- ---- the whole
+
+-- step 5 or 6, or from 7 on
+unfoldable pub part_line : Point → ℕ → Run (Unit {0})
+part_line p c = look λ s. if holds_lines s c then break_line p c else (if is_empty_entry s c then leave_list c else part_container c)
+
+abbrev pub part_line_if : Point → Option ℕ → Run (Unit {0})
+part_line_if p c = given c done (part_line p)
+
+-- step 3, and then from 4 on
+unfoldable pub part_paragraph : Point → Run (Unit {0})
+part_paragraph p = look λ s. own_container (container_of s p.label) >>= part_line_if p
+
+-- from step 2 on
+unfoldable pub insert_paragraph_at : Point → Run (Unit {0})
+insert_paragraph_at p = split_text p >>= part_paragraph
+
+unfoldable pub insert_paragraph_inside : Run (Unit {0})
+insert_paragraph_inside = look λ s. given (start_inside s) done insert_paragraph_at
+
+-- step 1, and then from 2 on
+unfoldable pub insert_paragraph : Run Bool
+insert_paragraph = do
+  erase true false
+  insert_paragraph_inside
+  answer true

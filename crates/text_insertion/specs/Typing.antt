@@ -1,0 +1,112 @@
+-- Inserting text (HTML Editing APIs, "the insertText command"): what is selected goes, and the characters come there one by one,
+-- with the overrides that are set. The steps are those of docs/ALGORITHMS.md. It answers true.
+use Rattle.std.specs.Prelude.{ℕ, ◌+◌, ◌==◌, Bool, true, false, ◌&&◌, List, [], ◌∷◌, Option, Some, None, is_none, if◌then◌else◌, unwrap_or}
+use Rattle.std.specs.Option.{option_map}
+use Rattle.dom_model.specs.declared.Content.{Content}
+use Rattle.dom_model.specs.Forest.{Forest, either, next_of, first_of}
+use Rattle.live_range.specs.declared.places.Point.{Point}
+use Rattle.node_tests.specs.BlockPoints.{child_before, child_at}
+use Rattle.node_tests.specs.CollapsedWhitespace.{is_words}
+use Rattle.node_tests.specs.SolidNeighbours.{is_collapsed_break}
+use Rattle.edit_model.specs.State.{State}
+use Rattle.edit_model.specs.Run.{Run, ◌>>=◌, ◌>>◌, answer, done, look, given, for_each, remove, replace, make_words, select, collapse}
+use Rattle.inline_commands.specs.RestoringStates.{restore_states}
+use Rattle.inline_value.specs.declared.overrides.Override.{Override}
+use Rattle.inline_value.specs.Overrides.{overrides_of}
+use Rattle.delete_core.specs.Ends.{settle, canonicalize_start, canonicalize_end}
+use Rattle.delete_core.specs.Places.{at, start_in, end_in}
+use Rattle.delete_core.specs.Whitespace.{canonicalize}
+use Rattle.text_insertion.specs.Paragraph.{insert_paragraph}
+use Rattle.text_insertion.specs.Start.{active_start, start_inside, insert_at_start, erase}
+
+-- ---- insert text, step 3: into a text before the point, or one after it
+
+abbrev pub if_words : Forest Content → Option ℕ → Option ℕ
+if_words f None = None
+if_words f (Some k) = if is_words f k then Some k else None
+
+unfoldable pub end_before : Forest Content → Point → Option Point
+end_before f p = option_map (end_in f) (if_words f (child_before f p.label p.offset))
+
+unfoldable pub start_after : Forest Content → Point → Option Point
+start_after f p = option_map start_in (if_words f (child_at f p.label p.offset))
+
+unfoldable pub into_text : Forest Content → Point → Point
+into_text f p = unwrap_or (either (end_before f p) (start_after f p)) p
+
+-- ---- step 5: the character goes into the text at the start of the active range, or into a new one there
+
+unfoldable pub put_in_text : ℕ → Point → Run (Unit {0})
+put_in_text c p = replace p.label p.offset 0 (c ∷ []) >> select p (at p.label (p.offset + 1))
+
+-- step 5: the one child of n goes, where it is a collapsed line break
+unfoldable pub drop_sole_break : ℕ → Run (Unit {0})
+drop_sole_break n = look λ s. given (first_of s.trees n) done λ k.
+    if is_none (next_of s.trees k) && is_collapsed_break s.trees k then remove k >> done else done
+
+unfoldable pub select_whole : ℕ → Run (Unit {0})
+select_whole x = look λ s. select (start_in x) (end_in s.trees x)
+
+unfoldable pub put_text : ℕ → Run (Unit {0})
+put_text c = do
+  x ← make_words (c ∷ [])
+  insert_at_start x
+  select_whole x
+
+unfoldable pub put_at : ℕ → Point → Run (Unit {0})
+put_at c p = look λ s. if is_words s.trees p.label then put_in_text c p else (drop_sole_break p.label >> put_text c)
+
+-- step 5
+unfoldable pub put_char : ℕ → Run (Unit {0})
+put_char c = look λ s. given (active_start s) done (put_at c)
+
+-- ---- step 7: the whitespace round what was put, and the caret after it
+
+unfoldable pub close_text : Run (Unit {0})
+close_text = do
+  canonicalize_start false
+  canonicalize_end false
+  settle true
+
+-- steps 4 to 7, with the overrides that were set
+unfoldable pub type_with : ℕ → Point → List Override → Run (Unit {0})
+type_with c p overrides = do
+  collapse p
+  canonicalize true p
+  put_char c
+  restore_states overrides  -- step 6
+  close_text
+
+-- steps 3 to 7
+unfoldable pub type_char : ℕ → Point → Run (Unit {0})
+type_char c p = look λ s. type_with c (into_text s.trees p) (overrides_of s)
+
+-- ---- the whole
+
+-- step 2: a line feed begins a paragraph
+unfoldable pub insert_char_at : ℕ → Point → Run (Unit {0})
+insert_char_at c p = if c == 10 then insert_paragraph >> done else type_char c p
+
+unfoldable pub insert_char_inside : ℕ → Run (Unit {0})
+insert_char_inside c = look λ s. given (start_inside s) done (insert_char_at c)
+
+-- insert text, of one character
+unfoldable pub insert_char : ℕ → Run (Unit {0})
+insert_char c = erase false false >> insert_char_inside c
+
+-- step 2: each of several characters in order
+unfoldable pub insert_several : List ℕ → Run (Unit {0})
+insert_several value = look λ s. if is_none (start_inside s) then done else for_each value insert_char
+
+-- step 2: several characters, none, or one
+unfoldable pub insert_chars : List ℕ → Run (Unit {0})
+insert_chars [] = done
+insert_chars (c ∷ []) = insert_char_inside c
+insert_chars (c ∷ d ∷ rest) = insert_several (c ∷ d ∷ rest)
+
+-- insert text, step 1, and then from 2 on
+unfoldable pub insert_text : List ℕ → Run Bool
+insert_text value = do
+  erase false false
+  insert_chars value
+  answer true

@@ -1,0 +1,119 @@
+//! Insert a paragraph, step 3: the single-line container of a line. The steps are those of docs/ALGORITHMS.md.
+
+ghost use Rattle.std.specs.Prelude.{◌≡◌};
+ghost use Rattle.edit_model.specs.Gives.{label_of};
+ghost use Rattle.edit_doc.specs.Held.{Holds, IfHeld, Finds};
+ghost use Rattle.text_insertion.specs.Containers as containers;
+
+use crate::entries::is_entry;
+use delete_core::turn_bound;
+use edit_doc::{Doc, NodeRef};
+use node_tests::{has_name, is_single_line};
+
+// A node, if there is one, that is editable.
+fn if_editable(doc: &Doc, node: Option<NodeRef>) -> Option<NodeRef>
+    requires { IfHeld doc.now node }
+    ensures { Finds doc.now result (containers.if_editable doc.now.state (label_of node)) }
+{
+    let node = node?;
+    if doc.is_editable_for(node) {
+        Some(node)
+    } else {
+        None
+    }
+}
+
+// One turn up to a single-line container.
+#[tactic(auto, unfolding(crate::specs::Containers::up_to_container))]
+fn up_to_container(doc: &Doc, node: NodeRef) -> Option<NodeRef>
+    requires { Holds doc.now node }
+    ensures { Finds doc.now result (containers.up_to_container doc.now.state node.label) }
+{
+    if is_single_line(doc, node) {
+        None
+    } else {
+        if_editable(doc, doc.parent(node))
+    }
+}
+
+#[tactic(auto, using(wrap_split::proofs::Turns::walks), unfolding(crate::specs::Containers::nearest_container))]
+fn nearest_container(doc: &Doc, node: NodeRef) -> NodeRef
+    requires { Holds doc.now node }
+    ensures gives { result.label ≡ containers.nearest_container doc.now.state node.label }
+    ensures held { Holds doc.now result }
+{
+    let mut at = node;
+    let mut turns = turn_bound(doc);
+    while turns > 0 {
+        let Some(next) = up_to_container(doc, at) else {
+            return at;
+        };
+        at = next;
+        turns -= 1;
+    }
+    at
+}
+
+// One turn up to an entry.
+#[tactic(auto, unfolding(crate::specs::Containers::up_to_entry))]
+fn up_to_entry(doc: &Doc, node: NodeRef) -> Option<NodeRef>
+    requires { Holds doc.now node }
+    ensures { Finds doc.now result (containers.up_to_entry doc.now.state node.label) }
+{
+    if is_entry(doc, node) {
+        None
+    } else {
+        if_editable(doc, doc.parent(node))
+    }
+}
+
+#[tactic(auto, using(wrap_split::proofs::Turns::walks), unfolding(crate::specs::Containers::nearest_entry))]
+fn nearest_entry(doc: &Doc, node: NodeRef) -> NodeRef
+    requires { Holds doc.now node }
+    ensures gives { result.label ≡ containers.nearest_entry doc.now.state node.label }
+    ensures held { Holds doc.now result }
+{
+    let mut at = node;
+    let mut turns = turn_bound(doc);
+    while turns > 0 {
+        let Some(next) = up_to_entry(doc, at) else {
+            return at;
+        };
+        at = next;
+        turns -= 1;
+    }
+    at
+}
+
+// Whether a node is an editable p or div.
+#[tactic(auto, unfolding(crate::specs::Containers::is_plain_block))]
+fn is_plain_block(doc: &Doc, node: NodeRef) -> bool
+    requires { Holds doc.now node }
+    ensures { result ≡ containers.is_plain_block doc.now.state node.label }
+{
+    doc.is_editable_for(node) && (has_name(doc, node, b"p") || has_name(doc, node, b"div"))
+}
+
+// In place of a p or div, the entry in which it stands.
+#[tactic(auto, unfolding(crate::specs::Containers::entry_over))]
+fn entry_over(doc: &Doc, node: NodeRef) -> NodeRef
+    requires { Holds doc.now node }
+    ensures gives { result.label ≡ containers.entry_over doc.now.state node.label }
+    ensures held { Holds doc.now result }
+{
+    if !is_plain_block(doc, node) {
+        return node;
+    }
+    let entry = nearest_entry(doc, node);
+    if is_entry(doc, entry) { entry } else { node }
+}
+
+/// The container in which a node stands, or the topmost editable node above it where that is none.
+#[tactic(auto, unfolding(crate::specs::Containers::container_of))]
+pub(crate) fn container_of(doc: &Doc, node: NodeRef) -> NodeRef
+    requires { Holds doc.now node }
+    ensures gives { result.label ≡ containers.container_of doc.now.state node.label }
+    ensures held { Holds doc.now result }
+{
+    entry_over(doc, nearest_container(doc, node))
+}
