@@ -1,0 +1,15 @@
+use Rattle.std.proofs.Common.{◌≡◌, ◌<◌}
+use Rattle.dom_model.specs.Forest.{count_of}
+use Rattle.delete_core.specs.Places.{turn_bound, walk_points}
+use Rattle.insert_objects.specs.Rule.{out_of_end}
+use Rattle.insert_objects.proofs.rule.outermost_end.Given as goal
+
+-- the rest of the walk ends where the whole ends
+abbrev pub invariant-loop-turns : goal.invariant-loop-turns
+invariant-loop-turns l = record {
+  here : 0 < count_of l.doc.state.trees l.at.label;
+  rest : walk_points (out_of_end l.doc.state) l.turns l.at ≡ walk_points (out_of_end l.doc.state) (turn_bound l.doc.state) l.fn.at;
+}
+
+abbrev pub decreases-loop-turns : goal.decreases-loop-turns
+decreases-loop-turns l = l.turns

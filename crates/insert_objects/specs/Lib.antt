@@ -1,0 +1,4 @@
+pub mod Putting
+pub mod LineBreak
+pub mod Rule
+pub mod Image

@@ -1,0 +1,167 @@
+//! What is selected goes, and a new element is put at the start of the active range. The steps are those of docs/ALGORITHMS.md.
+
+ghost use Rattle.std.specs.Prelude.{◌≡◌, IfOk};
+ghost use Rattle.dom_model.specs.Contents.{has_chars_at};
+ghost use Rattle.edit_model.specs.Gives.{Gives, GivesNode};
+ghost use Rattle.edit_doc.specs.Whole.{IsOpen};
+ghost use Rattle.edit_doc.specs.Held.{Holds, Keeps};
+ghost use Rattle.insert_objects.specs.Putting as putting;
+
+use delete_core::{after_node, before_node, delete_selection, is_words, select};
+use dom_model::Content;
+use edit_actions::ends_of;
+use edit_doc::{Attributes, Doc, EditFault, Name, NodeRef, Point};
+use inline_commands::restore_states;
+use point_order::node_of;
+use std::alloc::Global;
+use text_insertion::insert_at_start;
+
+/// Deletes what is selected, and restores its states and values.
+#[tactic(auto, using(edit_model::proofs::Steps::steps, edit_model::proofs::Steps::exits), unfolding(crate::specs::Putting::erase))]
+pub(crate) fn erase(alloc: Global, doc: &mut Doc, merge: bool, strip: bool) -> Result<(), EditFault>
+    requires open { IsOpen doc.old }
+    ensures gives { Gives result doc.old.state doc.new.state (putting.erase merge strip) }
+    ensures keeps { Keeps doc.old doc.new }
+{
+    let states = delete_selection(alloc, doc, merge, strip, false)?;
+    restore_states(alloc, doc, &states)
+}
+
+// Collapses the active range to just before a node.
+#[tactic(auto, using(edit_model::proofs::Steps::actions), unfolding(crate::specs::Putting::collapse_before))]
+fn collapse_before(doc: &mut Doc, node: NodeRef) -> Result<(), EditFault>
+    requires open { IsOpen doc.old }
+    requires node_held { Holds doc.old node }
+    ensures gives { Gives result doc.old.state doc.new.state (putting.collapse_before node.label) }
+    ensures keeps { Keeps doc.old doc.new }
+{
+    if let Some(at) = before_node(doc, node) {
+        select(doc, at, at);
+    }
+    Ok(())
+}
+
+/// Collapses the active range to just after a node.
+#[tactic(auto, using(edit_model::proofs::Steps::actions), unfolding(crate::specs::Putting::collapse_after))]
+pub(crate) fn collapse_after(doc: &mut Doc, node: NodeRef) -> Result<(), EditFault>
+    requires open { IsOpen doc.old }
+    requires node_held { Holds doc.old node }
+    ensures gives { Gives result doc.old.state doc.new.state (putting.collapse_after node.label) }
+    ensures keeps { Keeps doc.old doc.new }
+{
+    if let Some(at) = after_node(doc, node) {
+        select(doc, at, at);
+    }
+    Ok(())
+}
+
+// Put an element, step 2: whether a point is inside a text, and at neither end of it.
+#[tactic(auto, unfolding(crate::specs::Putting::is_inner))]
+fn is_inner(doc: &Doc, node: NodeRef, at: Point) -> bool
+    requires held { Holds doc.now node }
+    requires label { at.label ≡ node.label }
+    ensures { result ≡ putting.is_inner doc.now.state at }
+{
+    is_words(doc, node) && at.offset != 0 && at.offset != doc.length(node)
+}
+
+// Step 2: a text is split at a point.
+#[tactic(auto, using(edit_model::proofs::Steps::steps, edit_model::proofs::Steps::exits), unfolding(crate::specs::Putting::split_at))]
+fn split_at(doc: &mut Doc, node: NodeRef, at: Point) -> Result<(), EditFault>
+    requires open { IsOpen doc.old }
+    requires node_held { Holds doc.old node }
+    requires label { at.label ≡ node.label }
+    ensures gives { Gives result doc.old.state doc.new.state (putting.split_at at) }
+    ensures keeps { Keeps doc.old doc.new }
+{
+    doc.split_words(node, at.offset)?;
+    collapse_after(doc, node)
+}
+
+// Step 3: whether a point is the end of a node that isn't empty.
+#[tactic(auto, unfolding(crate::specs::Putting::is_past))]
+fn is_past(doc: &Doc, node: NodeRef, at: Point) -> bool
+    requires held { Holds doc.now node }
+    requires label { at.label ≡ node.label }
+    ensures { result ≡ putting.is_past doc.now.state at }
+{
+    at.offset == doc.length(node) && at.offset != 0
+}
+
+// Step 3: out of a text or a comment.
+#[tactic(auto, using(edit_model::proofs::Steps::steps, edit_model::proofs::Steps::exits), unfolding(crate::specs::Putting::leave_text))]
+fn leave_text(doc: &mut Doc, node: NodeRef, at: Point) -> Result<(), EditFault>
+    requires open { IsOpen doc.old }
+    requires node_held { Holds doc.old node }
+    requires label { at.label ≡ node.label }
+    ensures gives { Gives result doc.old.state doc.new.state (putting.leave_text at) }
+    ensures keeps { Keeps doc.old doc.new }
+{
+    if is_past(doc, node, at) {
+        collapse_after(doc, node)
+    } else {
+        collapse_before(doc, node)
+    }
+}
+
+// Whether a node is a text or a comment.
+fn has_chars(doc: &Doc, node: NodeRef) -> bool
+    requires { Holds doc.now node }
+    ensures { result ≡ has_chars_at doc.now.state.trees node.label }
+{
+    matches!(doc.content(node), Content::Words(_) | Content::Remark(_))
+}
+
+// Steps 2 and 3.
+#[tactic(auto, using(edit_model::proofs::Steps::steps, edit_model::proofs::Steps::exits), unfolding(crate::specs::Putting::part_text))]
+fn part_text(doc: &mut Doc, node: NodeRef, at: Point) -> Result<(), EditFault>
+    requires open { IsOpen doc.old }
+    requires node_held { Holds doc.old node }
+    requires label { at.label ≡ node.label }
+    ensures gives { Gives result doc.old.state doc.new.state (putting.part_text at) }
+    ensures keeps { Keeps doc.old doc.new }
+{
+    if is_inner(doc, node, at) {
+        split_at(doc, node, at)
+    } else if has_chars(doc, node) {
+        leave_text(doc, node, at)
+    } else {
+        Ok(())
+    }
+}
+
+// Steps 2 and 3 at the start of the active range.
+#[tactic(auto, using(edit_model::proofs::Steps::steps, edit_model::proofs::Steps::exits, edit_actions::proofs::Placed::placed_here), unfolding(crate::specs::Putting::part_start))]
+fn part_start(doc: &mut Doc) -> Result<(), EditFault>
+    requires open { IsOpen doc.old }
+    ensures gives { Gives result doc.old.state doc.new.state putting.part_start }
+    ensures keeps { Keeps doc.old doc.new }
+{
+    doc.lawful();
+    let Some(pair) = doc.points().selection() else {
+        return Ok(());
+    };
+    let (start, _) = ends_of(doc, pair);
+    let node = node_of(doc, start);
+    part_text(doc, node, start)
+}
+
+/// Puts a new element at the start of the active range, and answers it. A text around that is split.
+#[tactic(auto, using(edit_model::proofs::Steps::steps, edit_model::proofs::Steps::exits), unfolding(crate::specs::Putting::put))]
+pub(crate) fn put(
+    alloc: Global,
+    doc: &mut Doc,
+    name: &[u8],
+    attributes: &Attributes,
+) -> Result<NodeRef, EditFault>
+    requires open { IsOpen doc.old }
+    ensures gives { GivesNode result doc.old.state doc.new.state (putting.put name.now attributes.now) }
+    ensures held { IfOk result (λ made. Holds doc.new made) }
+    ensures keeps { Keeps doc.old doc.new }
+{
+    let name = Name::from_slice(alloc, name)?;
+    let made = doc.make_element(&name, attributes)?;
+    part_start(doc)?;
+    insert_at_start(doc, made)?;
+    Ok(made)
+}
