@@ -129,7 +129,7 @@ alike_unset o name s = elim (cases_Bool (may_unset s o name)) [
 
 -- ---- the copy
 
-all_seven : {a b c d e f g : Bool} → a ≡ true → b ≡ true → c ≡ true → d ≡ true → e ≡ true → f ≡ true → g ≡ true → (a && (b && (c && (d && (e && (f && g)))))) ≡ true
+pub all_seven : {a b c d e f g : Bool} → a ≡ true → b ≡ true → c ≡ true → d ≡ true → e ≡ true → f ≡ true → g ≡ true → (a && (b && (c && (d && (e && (f && g)))))) ≡ true
 all_seven a b c d e f g = rw (a, b, c, d, e, f, g) refl
 
 module _ (s : State) (is : IsKeeping s) (o q : ℕ) (up : parent_of s.trees o ≡ Some q) (bare : IsBare s o) where

@@ -7,8 +7,10 @@ use Rattle.inline_value.specs.Ancestors.{split_out}
 use Rattle.list_indent.specs.Outdenting.{outdent_node}
 use Rattle.list_indent.specs.Sublists.{normalize_sublists}
 use Rattle.text_commands.specs.Approach.{drop_child, drop_prev, drop_link, enter_or_stop, unlink_or_enter, leave_or_enter, hide_or_move, back_turn, go_back, hide_or_stop, climb_turn, climb}
-use Rattle.text_commands.specs.Entries.{normalize_around, rename_stray, lift_entry, outdent_line, close_line, add_line, part_entry, part_entries}
-use Rattle.text_commands.specs.Delete.{erase, erased, erase_single, select_before, collapse_kept, erase_line, join_entries, join_lines, join_from, join, erase_or_join, select_or_join, outdent_or_join, delete_across, lift_or_cross, delete_before, delete_approached, delete_from, delete_at_start, delete_at_caret, delete}
+use Rattle.text_insertion.specs.Entries.{rename_stray}
+use Rattle.text_insertion.specs.Start.{erase}
+use Rattle.text_commands.specs.Entries.{normalize_around, lift_entry, outdent_line, close_line, add_line, part_entry, part_entries}
+use Rattle.text_commands.specs.Delete.{erased, erase_single, select_before, collapse_kept, erase_line, join_entries, join_lines, join_from, join, erase_or_join, select_or_join, outdent_or_join, delete_across, lift_or_cross, delete_before, delete_approached, delete_from, delete_at_start, delete_at_caret, delete}
 use Rattle.command_laws.proofs.AncestorRuns.{stateless_fix_ancestors}
 use Rattle.command_laws.proofs.ErasingRuns.{stateless_canonicalize_start, stateless_append_break, stateless_delete_selection}
 use Rattle.command_laws.proofs.IndentRuns.{fit_outdent_node}
@@ -80,7 +82,7 @@ stateless_split_out : (n : ℕ) → Stateless (split_out n)
 unfolding split_out
 stateless_split_out n = search (stateless_parts, stateless_record_values, stateless_split, stateless_restore_values)
 
-stateless_rename_stray : (n : ℕ) → Stateless (rename_stray n)
+pub stateless_rename_stray : (n : ℕ) → Stateless (rename_stray n)
 unfolding rename_stray
 stateless_rename_stray n = search stateless_parts
 
@@ -113,9 +115,9 @@ stateless_part_entries p = search (stateless_parts, stateless_part_entry)
 
 -- ---- what goes, and what is joined
 
-stateless_erase : (backward : Bool) → Stateless (erase backward)
+pub stateless_erase : (strip backward : Bool) → Stateless (erase strip backward)
 unfolding erase
-stateless_erase backward = search (stateless_parts, stateless_delete_selection, stateless_restore_states)
+stateless_erase strip backward = search (stateless_parts, stateless_delete_selection, stateless_restore_states)
 
 stateless_erased : (backward : Bool) → Stateless (erased backward)
 unfolding erased

@@ -80,7 +80,7 @@ stateless_canonicalize_from : (fix : Bool) (p : Point) → Stateless (canonicali
 unfolding canonicalize_from
 stateless_canonicalize_from fix p = search (stateless_parts, stateless_scan_blanks, stateless_trimmed_if, stateless_laid_between)
 
-stateless_canonicalize : (fix : Bool) (p : Point) → Stateless (canonicalize fix p)
+pub stateless_canonicalize : (fix : Bool) (p : Point) → Stateless (canonicalize fix p)
 unfolding canonicalize
 stateless_canonicalize fix p = search (stateless_parts, stateless_canonicalize_from)
 
@@ -90,11 +90,11 @@ pub stateless_canonicalize_start : (fix : Bool) → Stateless (canonicalize_star
 unfolding canonicalize_start
 stateless_canonicalize_start fix = search (stateless_parts, stateless_canonicalize)
 
-stateless_canonicalize_end : (fix : Bool) → Stateless (canonicalize_end fix)
+pub stateless_canonicalize_end : (fix : Bool) → Stateless (canonicalize_end fix)
 unfolding canonicalize_end
 stateless_canonicalize_end fix = search (stateless_parts, stateless_canonicalize)
 
-stateless_settle : (backward : Bool) → Stateless (settle backward)
+pub stateless_settle : (backward : Bool) → Stateless (settle backward)
 unfolding settle
 stateless_settle backward = search stateless_parts
 
@@ -250,7 +250,7 @@ stateless_join_lists : (b : ℕ) → Stateless (join_lists b)
 unfolding join_lists
 stateless_join_lists b = search (stateless_parts, stateless_join_once)
 
-stateless_fill_empty : (b : ℕ) → Stateless (fill_empty b)
+pub stateless_fill_empty : (b : ℕ) → Stateless (fill_empty b)
 unfolding fill_empty
 stateless_fill_empty b = search (stateless_parts, stateless_append_break)
 

@@ -48,7 +48,7 @@ list_bare s n h = by_name (has_name s.trees n (codes "ol")) refl h
     by_name true e k = named_bare s n (codes "ol") refl e
     by_name false e k = named_bare s n (codes "ul") refl k
 
-fit_fixed : (o : Option ℕ) → Fit (fixed o)
+pub fit_fixed : (o : Option ℕ) → Fit (fixed o)
 fit_fixed o = search (fits, fit_fix)
 
 quoted_fits : (s : State) (list : List ℕ) → IsLawful s → Consecutive s list → FitAt s (quoted list)
@@ -84,7 +84,7 @@ indent_list_fits s list is k = by_first (first_in list)
 
 -- ---- indent
 
-fit_range : Fit normalize_range
+pub fit_range : Fit normalize_range
 unfolding normalize_range
 fit_range = search (fits, fit_normalize)
 
@@ -277,14 +277,14 @@ fit_outdent_node n = search (fits, fit_own)
 
 -- ---- outdent
 
-recorded_same : (list : List ℕ) (s : State) → final (record_values list) s ≡ s
+pub recorded_same : (list : List ℕ) (s : State) → final (record_values list) s ≡ s
 unfolding record_values
 recorded_same list s = rw (final-look, final-answer) refl
 
 fit_after_split : (list : List ℕ) (values : List Recorded) → Fit (for_each list fix_ancestors >> restore_values values)
 fit_after_split list values = search (fits, fit_fix, fit_restore)
 
-split_items_fits : (s : State) (list : List ℕ) → IsLawful s → Consecutive s list → FitAt s (split_items list)
+pub split_items_fits : (s : State) (list : List ℕ) → IsLawful s → Consecutive s list → FitAt s (split_items list)
 unfolding split_items
 split_items_fits s list is k =
     onwards (record_values list) (λ values. split_parent list >> (for_each list fix_ancestors >> restore_values values)) s

@@ -24,17 +24,17 @@ use Rattle.command_laws.proofs.Widening.{last_parted}
 
 -- ---- what is known of the state and the answer that a run ends with
 
-record Ends {A : Type 0} (s : State) (P : State → A → Type 0) (m : Run A) : Type 0 where
-  order : KeepsOrder s (final m s)
-  holds : P (final m s) (value m s)
+pub record Ends {A : Type 0} (s : State) (P : State → A → Type 0) (m : Run A) : Type 0 where
+  pub order : KeepsOrder s (final m s)
+  pub holds : P (final m s) (value m s)
 
-ends_answer : {A : Type 0} (P : State → A → Type 0) (a : A) (s : State) → P s a → Ends s P (answer a)
+pub ends_answer : {A : Type 0} (P : State → A → Type 0) (a : A) (s : State) → P s a → Ends s P (answer a)
 ends_answer P a s h = record { order = rw (final-answer a s) (keeps_refl _); holds = rw (final-answer a s, value-answer a s) h }
 
-ends_look : {A : Type 0} (P : State → A → Type 0) (k : State → Run A) (s : State) → Ends s P (k s) → Ends s P (look k)
+pub ends_look : {A : Type 0} (P : State → A → Type 0) (k : State → Run A) (s : State) → Ends s P (k s) → Ends s P (look k)
 ends_look P k s h = record { order = rw (final-look k s) h.order; holds = rw (final-look k s, value-look k s) h.holds }
 
-ends_bind : {A B : Type 0} (Q : State → A → Type 0) (P : State → B → Type 0) (m : Run A) (k : A → Run B) (s : State) → IsKeeping s → Ends s Q m
+pub ends_bind : {A B : Type 0} (Q : State → A → Type 0) (P : State → B → Type 0) (m : Run A) (k : A → Run B) (s : State) → IsKeeping s → Ends s Q m
     → ((t : State) → IsKeeping t → (a : A) → Q t a → Ends t P (k a)) → Ends s P (m >>= k)
 ends_bind Q P m k s is h more =
     let g = more (final m s) (keeping_final m s is) (value m s) h.holds in

@@ -1,33 +1,28 @@
 -- Lists of nodes that stay together: of the members that have one parent, all stand side by side among its children, in order.
-use Rattle.std.proofs.Common.{◌≡◌, ◌≢◌, ℕ, ◌<◌, ◌≤◌, ◌⊎◌, zero, suc, Bool, true, false, ◌&&◌, not, cond, eqb, if◌then◌else◌, List, [], ◌∷◌, ◌++◌, Option, Some, None, refl, sym, ap, subst, ◌∙◌, inl, inr, arith, append_assoc}
-use Rattle.std.specs.Prelude.{codes}
+use Rattle.std.proofs.Common.{◌≡◌, ◌≢◌, ℕ, ◌<◌, ◌≤◌, ◌⊎◌, zero, suc, Bool, true, false, cond, eqb, if◌then◌else◌, List, [], ◌∷◌, ◌++◌, Option, Some, None, refl, sym, ap, subst, ◌∙◌, inl, inr, arith, append_assoc}
 use Rattle.std.specs.Option.{option_map, option_and_then}
 use Rattle.std.proofs.lemmas.Bool.{cases_Bool, ne_eqb}
 use Rattle.std.proofs.lemmas.Bool.Decides.{eqb_tells}
 use Rattle.std.proofs.lemmas.List.{append-nil}
 use Rattle.dom_model.specs.declared.Content.{Content}
-use Rattle.dom_model.specs.declared.Content.TheVariants.{Element}
-use Rattle.dom_model.specs.Forest.{Forest, Seen, is_label, times, taken_from, put_in, first_in, after_in, count_of, IsDistinct, CanPut, seek, parent_of, children_of, next_of, link, unlink, relinked, unlinked}
-use Rattle.dom_model.proofs.Lists.{times-append, after_in-middle}
+use Rattle.dom_model.specs.Forest.{Forest, Seen, is_label, times, taken_from, put_in, first_in, count_of, IsDistinct, CanPut, seek, parent_of, children_of, link, unlink, relinked, unlinked}
+use Rattle.dom_model.proofs.Lists.{times-append}
 use Rattle.dom_model.proofs.Links.{missing_count, seek-link, seek-unlink, times-children_of, parent_of-with_leaf, children_of-link, children_of-unlink, children_of-with_leaf, eqb_refl_true}
-use Rattle.node_tests.specs.LineBreaks.{follows_break, precedes_break}
 use Rattle.edit_model.specs.State.{State}
 use Rattle.edit_model.specs.Edit.{Edit, Insert, Remove, is_made_edit, trees_after, edited}
 use Rattle.edit_model.specs.Confined.{may_insert, may_remove}
 use Rattle.edit_model.specs.Lawful.{IsLawful}
 use Rattle.edit_model.specs.Action.{made}
-use Rattle.edit_model.specs.Moves.{make_break, insert_before, insert_after}
-use Rattle.edit_model.specs.Run.{Run, final, value, ◌>>=◌, answer, look, given, edit, remove, make_element}
+use Rattle.edit_model.specs.Moves.{insert_before}
+use Rattle.edit_model.specs.Run.{Run, final, value, ◌>>=◌, answer, look, given, edit, remove}
 use Rattle.edit_model.proofs.Forests.{fresh}
 use Rattle.edit_model.proofs.IslandRuns.{trees_made, trees_left}
-use Rattle.edit_model.proofs.Steps.{final-answer, final-bind, final-look, final-edit, final-make_element, value-make_element, final_next}
+use Rattle.edit_model.proofs.Steps.{final-answer, final-bind, final-look, final-edit, final_next}
 use Rattle.edit_model.proofs.Tests.{inserts, removes}
-use Rattle.edit_laws.proofs.Adopting.{final_insert_before, final_insert_after, after_nothing}
 use Rattle.edit_laws.proofs.Around.{self_one, off_by}
 use Rattle.edit_laws.proofs.Fronts.{child_by}
 use Rattle.edit_laws.proofs.Renaming.{made_trees}
 use Rattle.edit_actions.specs.Siblings.{members}
-use Rattle.wrap_split.specs.Split.{break_before, break_after}
 use Rattle.command_laws.proofs.StatelessSplits.{lawful_final}
 use Rattle.command_laws.proofs.Widening.{Siblings}
 use Rattle.command_laws.proofs.Wrapping.{put_in-middle}
@@ -154,7 +149,7 @@ together-same s t list same more w = record {
       record { front = k.front; rest = k.rest; is = ap (λ f. children_of f o) same ∙ (k.is ∙ ap (λ m. k.front ++ (m ++ k.rest)) (sym (members-same s t o list (λ l _. ap (λ f. parent_of f l) same)))) });
 }
 
-next_edited : (e : Edit) (s : State) → s.next ≤ (edited e s).next
+pub next_edited : (e : Edit) (s : State) → s.next ≤ (edited e s).next
 next_edited e s = subst (λ t. s.next ≤ t.next) (final-edit e s) (final_next (edit e) s)
 
 -- ---- a node that goes
@@ -277,17 +272,10 @@ holding_remove list n = record { holds = λ s is w. rw (final-edit (Remove n) s)
 
 pub ruleset holding = (holding_answer, holding_bind, holding_look, holding_if, holding_given, holding_remove)
 
--- ---- a br before the first member
+-- ---- places beside the members
 
-holding_made : (list : List ℕ) (k : ℕ → Run (Unit {0})) → ((x : ℕ) (s : State) → IsLawful s → times list x ≡ 0 → Together s list → Together (final (k x) s) list) → Holding list (make_element (codes "br") [] >>= k)
-holding_made list k puts = record {
-  holds = λ s is w.
-      rw (final-bind, value-make_element)
-      (puts s.next (final (make_element (codes "br") []) s) (lawful_final (make_element (codes "br") []) s is) (next_no_member (Element (codes "br") []) list s is w)
-      (rw (final-make_element (codes "br") [] s) (together_made (Element (codes "br") []) list s is w)));
-}
-
-first_beside : (s : State) → IsLawful s → (a x q : ℕ) (l front rest : List ℕ) → parent_of s.trees a ≡ Some q → children_of s.trees q ≡ front ++ (members s q (a ∷ l) ++ rest)
+-- before the first one
+pub first_beside : (s : State) → IsLawful s → (a x q : ℕ) (l front rest : List ℕ) → parent_of s.trees a ≡ Some q → children_of s.trees q ≡ front ++ (members s q (a ∷ l) ++ rest)
     → (first : List ℕ) × (last : List ℕ) × (put_in (children_of s.trees q) (Some a) x ≡ first ++ (members s q (a ∷ l) ++ last))
 first_beside s is a x q l front rest up kids =
     let m = members s q l in
@@ -297,56 +285,16 @@ first_beside s is a x q l front rest up kids =
     let none : times front a ≡ 0 = omega (arith, k, times-append front (a ∷ (m ++ rest)) a, self_one a, times-children_of s.trees q a is.forest.distinct) in
     (front ++ x ∷ [], rest, ap (λ c. put_in c (Some a) x) shape ∙ (put_in-middle front (m ++ rest) a x none ∙ (sym (append_assoc front (x ∷ []) (a ∷ (m ++ rest))) ∙ ap (λ k. (front ++ x ∷ []) ++ (k ++ rest)) (sym own))))
 
-before_nothing : (o x : ℕ) (s : State) → parent_of s.trees o ≡ None → final (insert_before o x) s ≡ s
+pub before_nothing : (o x : ℕ) (s : State) → parent_of s.trees o ≡ None → final (insert_before o x) s ≡ s
 unfolding insert_before
 before_nothing o x s root = rw (final-look, root, final-answer) refl
 
-before_first : (a : ℕ) (l : List ℕ) (x : ℕ) (s : State) → IsLawful s → times (a ∷ l) x ≡ 0 → Together s (a ∷ l) → Together (final (insert_before a x) s) (a ∷ l)
-before_first a l x s is apart w = by_parent (parent_of s.trees a) refl
-  where
-    by_parent : (o : Option ℕ) → parent_of s.trees a ≡ o → Together (final (insert_before a x) s) (a ∷ l)
-    by_parent None root = rw (before_nothing a x s root) w
-    by_parent (Some q) up = rw (final_insert_before a x q s up) (together_put (a ∷ l) x q (Some a) s is apart w (λ front rest kids. first_beside s is a x q l front rest up kids))
+-- ---- lists with a node put in
 
-pub holding_before : (a : ℕ) (l : List ℕ) (wanted : Bool) → Holding (a ∷ l) (break_before wanted a)
-unfolding break_before make_break
-holding_before a l wanted =
-    holding_look (a ∷ l) _ (λ s. holding_if (a ∷ l) (wanted && not (follows_break s.trees a)) _ _ (holding_made (a ∷ l) (insert_before a) (before_first a l)) (holding_answer (a ∷ l) tt))
-
--- ---- a br after the last one
-
-put_in-end : (xs : List ℕ) (x : ℕ) → put_in xs None x ≡ xs ++ x ∷ []
+pub put_in-end : (xs : List ℕ) (x : ℕ) → put_in xs None x ≡ xs ++ x ∷ []
 put_in-end [] x = refl
 put_in-end (y ∷ xs) x = ap (λ k. y ∷ k) (put_in-end xs x)
 
-put_in-seam : (xs rest : List ℕ) (x : ℕ) → ((n : ℕ) → times (xs ++ rest) n ≤ 1) → put_in (xs ++ rest) (first_in rest) x ≡ xs ++ x ∷ rest
+pub put_in-seam : (xs rest : List ℕ) (x : ℕ) → ((n : ℕ) → times (xs ++ rest) n ≤ 1) → put_in (xs ++ rest) (first_in rest) x ≡ xs ++ x ∷ rest
 put_in-seam xs [] x once = put_in-end (xs ++ []) x ∙ ap (λ k. k ++ x ∷ []) (append-nil xs)
 put_in-seam xs (y ∷ rest) x once = put_in-middle xs rest y x (omega (arith, once y, times-append xs (y ∷ rest) y, self_one y))
-
-last_beside : (s : State) → IsLawful s → (z x q : ℕ) (l front rest : List ℕ) → parent_of s.trees z ≡ Some q → children_of s.trees q ≡ front ++ (members s q (l ++ z ∷ []) ++ rest)
-    → (first : List ℕ) × (last : List ℕ) × (put_in (children_of s.trees q) (next_of s.trees z) x ≡ first ++ (members s q (l ++ z ∷ []) ++ last))
-last_beside s is z x q l front rest up kids =
-    let m = members s q l in
-    let all = members s q (l ++ z ∷ []) in
-    let own : all ≡ m ++ z ∷ [] = members-append s q l (z ∷ []) ∙ ap (λ k. m ++ k) (members-one s q z up) in
-    let shape : children_of s.trees q ≡ (front ++ m) ++ z ∷ rest =
-    kids ∙ (ap (λ k. front ++ (k ++ rest)) own ∙ (ap (λ k. front ++ k) (append_assoc m (z ∷ []) rest) ∙ sym (append_assoc front m (z ∷ rest)))) in
-    let k = ap (λ c. times c z) shape in
-    let none : times (front ++ m) z ≡ 0 = omega (arith, k, times-append (front ++ m) (z ∷ rest) z, self_one z, times-children_of s.trees q z is.forest.distinct) in
-    let next : next_of s.trees z ≡ first_in rest = ap (λ o. option_and_then (λ p. after_in (children_of s.trees p) z) o) up ∙ (ap (λ c. after_in c z) shape ∙ after_in-middle (front ++ m) z rest none) in
-    let parts : children_of s.trees q ≡ (front ++ all) ++ rest = kids ∙ sym (append_assoc front all rest) in
-    let once : (n : ℕ) → times ((front ++ all) ++ rest) n ≤ 1 = λ n. subst (λ c. times c n ≤ 1) parts (times-children_of s.trees q n is.forest.distinct) in
-    (front, x ∷ rest, ap (λ b. put_in (children_of s.trees q) b x) next ∙ (ap (λ c. put_in c (first_in rest) x) parts ∙ (put_in-seam (front ++ all) rest x once ∙ append_assoc front all (x ∷ rest))))
-
-after_last : (z : ℕ) (l : List ℕ) (x : ℕ) (s : State) → IsLawful s → times (l ++ z ∷ []) x ≡ 0 → Together s (l ++ z ∷ []) → Together (final (insert_after z x) s) (l ++ z ∷ [])
-after_last z l x s is apart w = by_parent (parent_of s.trees z) refl
-  where
-    by_parent : (o : Option ℕ) → parent_of s.trees z ≡ o → Together (final (insert_after z x) s) (l ++ z ∷ [])
-    by_parent None root = rw (after_nothing z x s root) w
-    by_parent (Some q) up = rw (final_insert_after z x q s up) (together_put (l ++ z ∷ []) x q (next_of s.trees z) s is apart w (λ front rest kids. last_beside s is z x q l front rest up kids))
-
-pub holding_after : (z : ℕ) (l : List ℕ) (wanted : Bool) → Holding (l ++ z ∷ []) (break_after wanted z)
-unfolding break_after make_break
-holding_after z l wanted =
-    holding_look (l ++ z ∷ []) _
-    (λ s. holding_if (l ++ z ∷ []) (wanted && not (precedes_break s.trees z)) _ _ (holding_made (l ++ z ∷ []) (insert_after z) (after_last z l)) (holding_answer (l ++ z ∷ []) tt))

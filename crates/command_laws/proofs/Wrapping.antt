@@ -79,7 +79,7 @@ module _ (c : Criterion) (s : State) (is : IsKeeping s) (plain : NamesNoThing c)
 
 -- ---- a new element
 
-grown_trees : (p : ℕ) (s : State) → (final (grow_at p) s).trees ≡ s.trees
+pub grown_trees : (p : ℕ) (s : State) → (final (grow_at p) s).trees ≡ s.trees
 unfolding grow_at acted
 grown_trees p s = rw final-look (by_parent (parent_of s.trees p))
   where

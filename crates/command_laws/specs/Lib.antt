@@ -5,3 +5,6 @@ pub mod WrapLaws
 pub mod Blocks
 pub mod Indents
 pub mod Deletion
+pub mod Typing
+pub mod Objects
+pub mod ListToggles

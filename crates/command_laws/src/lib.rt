@@ -6,7 +6,10 @@ mod deletion;
 mod indents;
 mod inline;
 mod line_breaks;
+mod list_toggles;
+mod objects;
 mod splits;
+mod typing;
 mod wraps;
 
 pub use blocks::{
@@ -24,7 +27,12 @@ pub use inline::{
     toggle_style_is_stateless, toggle_style_keeps_order, unlink_is_stateless, unlink_keeps_order,
 };
 pub use line_breaks::{breaks_at_end_go, breaks_before_go, breaks_from_go};
+pub use list_toggles::{toggle_lists_is_stateless, toggle_lists_keeps_order};
+pub use objects::{
+    insert_horizontal_rule_is_stateless, insert_image_is_stateless, insert_line_break_is_stateless,
+};
 pub use splits::{
     nodes_go_and_children_stay, parent_of_one_splits, parents_split, splits_stateless,
 };
+pub use typing::{insert_paragraph_is_stateless, insert_text_is_stateless};
 pub use wraps::{lists_wrap, one_wraps, taken_wrap, wraps_stateless};

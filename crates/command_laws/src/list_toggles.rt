@@ -1,0 +1,13 @@
+//! The laws of toggling lists.
+
+ghost use Rattle.command_laws.specs.ListToggles.{ListTogglesKeepOrder, ListTogglesAreStateless};
+
+/// Toggling lists keeps the order of characters, images and rules.
+pub fn toggle_lists_keeps_order()
+    ensures { ListTogglesKeepOrder }
+{}
+
+/// It gives no node a state of contenteditable, and takes none away.
+pub fn toggle_lists_is_stateless()
+    ensures { ListTogglesAreStateless }
+{}

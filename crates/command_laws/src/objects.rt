@@ -1,0 +1,18 @@
+//! The laws of inserting line breaks, rules and images.
+
+ghost use Rattle.command_laws.specs.Objects.{InsertLineBreakIsStateless, InsertHorizontalRuleIsStateless, InsertImageIsStateless};
+
+/// Inserting a line break gives no node a state of contenteditable, and takes none away.
+pub fn insert_line_break_is_stateless()
+    ensures { InsertLineBreakIsStateless }
+{}
+
+/// Inserting a rule gives and takes no state of contenteditable.
+pub fn insert_horizontal_rule_is_stateless()
+    ensures { InsertHorizontalRuleIsStateless }
+{}
+
+/// An image has a source, and no state of contenteditable.
+pub fn insert_image_is_stateless()
+    ensures { InsertImageIsStateless }
+{}

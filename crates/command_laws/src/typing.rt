@@ -1,0 +1,13 @@
+//! The laws of inserting text and paragraphs.
+
+ghost use Rattle.command_laws.specs.Typing.{InsertTextIsStateless, InsertParagraphIsStateless};
+
+/// Inserting text gives no node a state of contenteditable, and takes none away.
+pub fn insert_text_is_stateless()
+    ensures { InsertTextIsStateless }
+{}
+
+/// Nor does inserting a paragraph: its second half takes the attributes of a container that has no state.
+pub fn insert_paragraph_is_stateless()
+    ensures { InsertParagraphIsStateless }
+{}
