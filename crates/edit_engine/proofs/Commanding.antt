@@ -1,29 +1,38 @@
 -- One command, from its begin to its end, whatever its run.
-use Rattle.std.proofs.Common.{◌≡◌, ℕ, Bool, true, false, Option, Some, None, IsSome, refl, sym, ap, ◌∙◌, subst, arith}
+use Rattle.std.proofs.Common.{◌≡◌, ◌↔◌, ℕ, zero, suc, ◌<◌, Bool, true, false, length, Option, Some, None, IsSome, refl, sym, ap, ◌∙◌, subst, arith}
+use Rattle.std.specs.Prelude.{nat_lt}
+use Rattle.std.proofs.lemmas.Bool.Decides.{nat_tests}
+use Rattle.undo_log.specs.declared.log.Committed.{Committed}
+use Rattle.undo_log.specs.declared.log.Committed.TheVariants as committed
 use Rattle.edit_model.specs.declared.settings.EditFault.{EditFault}
-use Rattle.edit_model.specs.State.{IsOver}
+use Rattle.edit_model.specs.State.{State, IsOver}
 use Rattle.edit_model.specs.Gives.{Fails}
-use Rattle.edit_model.specs.History.{begun, rested}
+use Rattle.edit_model.specs.History.{rested}
 use Rattle.edit_model.specs.Run.{Run, final, value}
 use Rattle.edit_doc.specs.Whole.{Whole, IsOpen, IsDoc, opened, history_committed, state_rolled_back}
 use Rattle.edit_doc.specs.Held.{Keeps}
 use Rattle.edit_engine.specs.Execution.{began, ran, answered}
 use Rattle.edit_actions.specs.ActiveRange.{affected_host}
-use Rattle.edit_engine.specs.Running.{IsMade, IsTakenBack, IsRefused}
+use Rattle.edit_engine.specs.Running.{IsMade, IsTakenBack, IsRefused, has_entry, TellsEdits}
 
-pub opened_open : (d new : Whole) (h : Option ℕ) (k : Bool) → new ≡ opened h k false d → IsOpen new
+pub opened_open : (d new : Whole) (h : Option ℕ) (k j : Bool) → new ≡ opened h k j d → IsOpen new
 unfolding opened
-opened_open d new h k is = rw is refl
+opened_open d new h k j is = rw is refl
 
 pub kept_open : (d new : Whole) → IsOpen d → Keeps d new → IsOpen new
 kept_open d new is_open keeps = subst (λ o. IsSome o) (sym keeps.began) is_open
 
-module _ (old one two : Whole) (h : Option ℕ) (k : Bool) (m : Run Bool) (host : h ≡ affected_host old.state) (begins : one ≡ opened h k false old) (keeps : Keeps one two) where
+by_length : (c : Committed) (n : ℕ) → ((c ≡ committed.Entry) ↔ (0 < n)) → has_entry c ≡ nat_lt 0 n
+by_length committed.Entry n h = let some : 0 < n = h.0 refl in grind (arith, nat_tests, some)
+by_length committed.Nothing zero h = refl
+by_length committed.Nothing (suc n) h = absurd (let e : committed.Nothing ≡ committed.Entry = h.1 (omega arith) in cc)
+
+module _ (old one two : Whole) (j k : Bool) (m : Run Bool) (begins : one ≡ opened (affected_host old.state) k j old) (keeps : Keeps one two) where
   began_state : one.state ≡ began old.state k
   unfolding opened
-  began_state = ap (λ (w : Whole). w.state) begins ∙ ap (λ o. begun o k old.state) host
+  began_state = ap (λ (w : Whole). w.state) begins
 
-  began_is : two.began ≡ Some (record { state = old.state; resumed = false })
+  began_is : two.began ≡ Some (record { state = old.state; resumed = j })
   unfolding opened
   began_is = keeps.began ∙ ap (λ (w : Whole). w.began) begins
 
@@ -48,7 +57,7 @@ module _ (old one two : Whole) (h : Option ℕ) (k : Bool) (m : Run Bool) (host 
   unfolding state_rolled_back
   taken_back three state history closed = record { state = state ∙ rw began_is refl; history = history ∙ history_is; closed = closed }
 
-  pub made : (three : Whole) → final m one.state ≡ two.state → value m one.state ≡ true → IsDoc two → three.state ≡ rested two.state → three.history ≡ history_committed two → three.began ≡ None → IsMade old three k m
+  pub made : (three : Whole) → final m one.state ≡ two.state → value m one.state ≡ true → IsDoc two → three.state ≡ rested two.state → three.history ≡ history_committed two → three.began ≡ None → IsMade old three j k m
   unfolding history_committed
   made three ends is law state history closed =
       let at = ends_at ends in
@@ -59,6 +68,9 @@ module _ (old one two : Whole) (h : Option ℕ) (k : Bool) (m : Run Bool) (host 
         answer = answers true is;
         within = within ends law;
       }
+
+  pub tells_edits : (c : Committed) → final m one.state ≡ two.state → ((c ≡ committed.Entry) ↔ (0 < length two.state.edits)) → TellsEdits c (ran old.state k m)
+  tells_edits c ends answer = subst (λ (s : State). TellsEdits c s) (ends_at ends) (by_length c (length two.state.edits) answer)
 
   pub refused : (three : Whole) → final m one.state ≡ two.state → value m one.state ≡ false → IsDoc two → three.state ≡ state_rolled_back two → three.history ≡ two.history → three.began ≡ None → IsRefused old three k m
   refused three ends is law state history closed = record { back = taken_back three state history closed; answer = answers false is; within = within ends law }

@@ -3,7 +3,7 @@ use Rattle.std.proofs.Common.{◌≡◌, ◌⊎◌, ℕ, zero, suc, ◌<◌, Boo
 use Rattle.std.specs.Prelude.{nat_lt}
 use Rattle.std.specs.List.{AllZip}
 use Rattle.std.specs.Option.{option_map_or}
-use Rattle.std.proofs.lemmas.Bool.{ne_eqb}
+use Rattle.std.proofs.lemmas.Bool.{ne_eqb, and_parts}
 use Rattle.html_names.specs.Commands.{command_named}
 use Rattle.html_names.specs.declared.commands.Command.{Command}
 use Rattle.dom_model.specs.Change.{Loosen}
@@ -11,7 +11,7 @@ use Rattle.dom_model.specs.Document.{page_depth}
 use Rattle.dom_model.specs.Forest.{tree_of}
 use Rattle.live_range.specs.declared.places.Pair.{Pair}
 use Rattle.edit_model.specs.State.{State}
-use Rattle.edit_model.specs.History.{Entry, begun, rested, entry_of, with_entry, recorded}
+use Rattle.edit_model.specs.History.{Entry, begun, rested, entry_of, with_entry, joined, joined_in, recorded}
 use Rattle.edit_model.specs.Laws.{KeepsMark}
 use Rattle.edit_model.specs.Lawful.{IsLawful}
 use Rattle.edit_model.specs.Outside.{outside_by, is_island}
@@ -24,15 +24,15 @@ use Rattle.edit_laws.specs.Tame.{Tame}
 use Rattle.edit_laws.proofs.Resting.{island_inside, outside_at_rest, marks_at_rest, islands_at_rest, order_at_rest}
 use Rattle.edit_laws.proofs.Subsequences.{keeps_refl}
 use Rattle.edit_actions.specs.ActiveRange.{affected_host}
-use Rattle.edit_doc.specs.Whole.{Whole, IsClosed, IsDoc}
+use Rattle.edit_doc.specs.Whole.{Whole, IsDoc}
 use Rattle.edit_engine.specs.declared.answers.Answer.{Answer}
 use Rattle.edit_engine.specs.declared.answers.Answer.TheVariants.{Yes, No}
 use Rattle.edit_engine.specs.declared.answers.ExecFault.{ExecFault}
 use Rattle.edit_engine.specs.declared.answers.ExecFault.TheVariants as fault
-use Rattle.edit_engine.specs.Commands.{row_of, action_of, is_enabled}
-use Rattle.edit_engine.specs.Confinement.{KeepsOutside, KeepsMarks, IsGone, KeepsIslands, KeepsCharacters}
-use Rattle.edit_engine.specs.Editing.{Editing}
-use Rattle.edit_engine.specs.Execution.{Refused, Deep, Full, Acted, depth_limit, began, ran, answered, after_run, run_outcome, command_outcome, outcome, Tells}
+use Rattle.edit_engine.specs.Commands.{row_of, types_text, action_of, is_enabled}
+use Rattle.edit_engine.specs.Confinement.{KeepsOutside, KeepsMarks, HasEntry, HasJoined, IsGone, KeepsIslands, KeepsCharacters}
+use Rattle.edit_engine.specs.Editing.{Editing, IsJoinable, IsResting}
+use Rattle.edit_engine.specs.Execution.{Refused, Deep, Full, Acted, depth_limit, began, ran, answered, joins, after_run, run_outcome, command_outcome, outcome, Tells}
 use Rattle.edit_engine.proofs.AffectedHosts.{host_is_host}
 use Rattle.edit_engine.proofs.Fitness.{fit}
 use Rattle.edit_engine.proofs.Outcomes.{shown}
@@ -49,18 +49,18 @@ acted_by false false true answer x y z e = absurd (let t : Full ≡ Acted true z
 acted_by false false false true x y z e = same_after x z e
 acted_by false false false false x y z e = absurd (let t : Acted false y ≡ Acted true z = e in cc)
 
-run_of : (old : Editing) (v : List ℕ) (c : Command) (new : Editing) → command_outcome old v c ≡ Acted true new → after_run old (ran old.state (row_of c).keeping (action_of c v)) ≡ new
+run_of : (old : Editing) (v : List ℕ) (c : Command) (new : Editing) → command_outcome old v c ≡ Acted true new → after_run old c (ran old.state (row_of c).keeping (action_of c v)) ≡ new
 unfolding command_outcome run_outcome
 run_of old v c new e =
     acted_by (not (is_enabled old.state c)) (nat_lt depth_limit (page_depth old.state.trees))
     (nat_lt old.state.cap (ran old.state (row_of c).keeping (action_of c v)).next) (answered old.state (row_of c).keeping (action_of c v))
-    (after_run old (ran old.state (row_of c).keeping (action_of c v))) old new e
+    (after_run old c (ran old.state (row_of c).keeping (action_of c v))) old new e
 
 -- the run of a command that the name names made the new editor
 pub record IsRun (old new : Editing) (name v : List ℕ) : Type 0 where
   pub command : Command
   pub named : command_named name ≡ Some command
-  pub is : after_run old (ran old.state (row_of command).keeping (action_of command v)) ≡ new
+  pub is : after_run old command (ran old.state (row_of command).keeping (action_of command v)) ≡ new
 
 made_run : (old new : Editing) (name v : List ℕ) → outcome old name v ≡ Acted true new → IsRun old new name v
 unfolding outcome
@@ -88,9 +88,11 @@ pub record Standing (e : Editing) : Type 0 where
   pub lawful : IsLawful e.state
   pub resting : rested e.state ≡ e.state
   pub depth : 0 < e.history.depth
+  pub joinable : e.typing ≡ true → IsJoinable e.history
 
-pub standing : (w : Whole) (e : Editing) → shown w ≡ e → IsClosed w → IsDoc w → Standing e
-standing w e view closed law = subst Standing view (record { lawful = law.lawful; resting = law.resting closed; depth = law.some_depth })
+pub standing : (w : Whole) (typing : Bool) (e : Editing) → shown w typing ≡ e → IsResting w typing → IsDoc w → Standing e
+standing w typing e view rests law =
+    subst Standing view (record { lawful = law.lawful; resting = law.resting rests.closed; depth = law.some_depth; joinable = rests.joinable })
 
 same_marks : (host : Option ℕ) (s : State) (ms : List (List ℕ × Pair)) → AllZip (KeepsMark host s.trees) ms ms
 same_marks host s [] = tt
@@ -127,28 +129,46 @@ module _ (old new : Editing) (name v : List ℕ) (stands : Standing old) where
   still_there h l host island =
       record { inside = island_inside old.state h l law (host_is_host old.state law.forest.distinct h host) island; same = refl }
 
-  -- a list with an edit makes an entry
+  -- a list with an edit makes an entry, or joins the last one
   entry_there : (n : ℕ) (e : Entry) (es : List Entry) → 0 < n → (rest : List Entry) × (take n (e ∷ es) ≡ e ∷ rest)
   entry_there zero e es some = absurd (omega (arith, some))
   entry_there (suc n) e es some = (take n es, refl)
 
-  recorded_entry : (t : State) → 0 < length t.edits → (rest : List Entry) × ((recorded false old.state t old.history).undo ≡ entry_of old.state t ∷ rest)
-  unfolding recorded with_entry
-  recorded_entry t some =
-      let off : eqb (length t.edits) 0 ≡ false = ne_eqb (length t.edits) 0 (λ e. omega (arith, some, e)) in
-      rw off (entry_there old.history.depth (entry_of old.state t) old.history.undo stands.depth)
+  last_there : (es : List Entry) → 0 < length es → (e : Entry) × (rest : List Entry) × (es ≡ e ∷ rest)
+  last_there [] some = absurd (omega (arith, some))
+  last_there (e ∷ es) some = (e, es, refl)
+
+  recorded_entry : (c : Command) (t : State) → 0 < length t.edits → HasEntry old (after_run old c t) t ⊎ HasJoined old (after_run old c t) t
+  unfolding recorded with_entry joined
+  recorded_entry c t some = by_joining (joins old c) refl
+    where
+      off : eqb (length t.edits) 0 ≡ false
+      off = ne_eqb (length t.edits) 0 (λ e. omega (arith, some, e))
+
+      own : (rest : List Entry) × ((recorded false old.state t old.history).undo ≡ entry_of old.state t ∷ rest)
+      own = rw off (entry_there old.history.depth (entry_of old.state t) old.history.undo stands.depth)
+
+      theirs : (recorded true old.state t old.history).undo ≡ joined_in t old.history.undo
+      theirs = rw off refl
+
+      by_joining : (j : Bool) → joins old c ≡ j → HasEntry old (after_run old c t) t ⊎ HasJoined old (after_run old c t) t
+      by_joining false is = inl (record { older = own.0; is = rw is own.1 })
+      by_joining true is =
+          let typing = (and_parts old.typing (types_text c) is).0 in
+          let last = last_there old.history.undo (stands.joinable typing).some in
+          inr (record { typing = typing; last = last.0; older = last.1; was = last.2; is = rw is (theirs ∙ ap (joined_in t) last.2) })
 
   some_edit : (b t : State) (l : ℕ) → IsTakenOut b t l → 0 < length t.edits
   some_edit b t l k =
       let same : length t.edits ≡ length (k.then_at.edits ++ (Loosen k.root ∷ k.later)) = ap length k.listed in
       omega (arith, same, length-append k.then_at.edits (Loosen k.root ∷ k.later))
 
-  island_of : (h l : ℕ) (k : Bool) (m : Run Bool) → IslandKept (begun (Some h) k old.state) (final m (begun (Some h) k old.state)) old.state.trees (rested (final m (begun (Some h) k old.state))).trees h l → StaysBelow old.state.trees (after_run old (final m (begun (Some h) k old.state))).state.trees h l ⊎ IsGone old (after_run old (final m (begun (Some h) k old.state))) h l
-  island_of h l k m (inl stays) = inl stays
-  island_of h l k m (inr gone) =
+  island_of : (h l : ℕ) (c : Command) (k : Bool) (m : Run Bool) → IslandKept (begun (Some h) k old.state) (final m (begun (Some h) k old.state)) old.state.trees (rested (final m (begun (Some h) k old.state))).trees h l → StaysBelow old.state.trees (after_run old c (final m (begun (Some h) k old.state))).state.trees h l ⊎ IsGone old (after_run old c (final m (begun (Some h) k old.state))) h l
+  island_of h l c k m (inl stays) = inl stays
+  island_of h l c k m (inr gone) =
       let t = final m (begun (Some h) k old.state) in
-      let r = recorded_entry t (some_edit (begun (Some h) k old.state) t l gone.1) in
-      inr (record { out = gone.0; keeping = k; ended = t; older = r.0; entry = r.1; taken = gone.1 })
+      let r = recorded_entry c t (some_edit (begun (Some h) k old.state) t l gone.1) in
+      inr (record { out = gone.0; keeping = k; ended = t; entry = r; taken = gone.1 })
 
   pub islands_kept : (new ≡ old) ⊎ IsRun old new name v → KeepsIslands old new
   unfolding final
@@ -158,10 +178,10 @@ module _ (old new : Editing) (name v : List ℕ) (stands : Standing old) where
       let m = action_of run.command v in
       let b = begun (Some h) k old.state in
       let hosted = host_is_host old.state law.forest.distinct h host in
-      let at_host : after_run old (final m b) ≡ new = ap (λ o. after_run old (final m (begun o k old.state))) (sym host) ∙ run.is in
+      let at_host : after_run old run.command (final m b) ≡ new = ap (λ o. after_run old run.command (final m (begun o k old.state))) (sym host) ∙ run.is in
       let leaves = (fit run.command v).stateless.leaves b (lawful_begun (Some h) k old.state law) in
       subst (λ (e : Editing). StaysBelow old.state.trees e.state.trees h l ⊎ IsGone old e h l) at_host
-      (island_of h l k m (islands_at_rest old.state (final m b) h k law whole hosted (m.by_actions b) leaves l island))
+      (island_of h l run.command k m (islands_at_rest old.state (final m b) h k law whole hosted (m.by_actions b) leaves l island))
 
   -- ---- characters
 
@@ -178,6 +198,6 @@ module _ (old new : Editing) (name v : List ℕ) (stands : Standing old) where
       let keeping : k ≡ true = ap (λ x. (row_of x).keeping) same ∙ keeps in
       let b = begun (Some h) k old.state in
       let hosted = host_is_host old.state law.forest.distinct h host in
-      let at_host : after_run old (final m b) ≡ new = ap (λ o. after_run old (final m (begun o k old.state))) (sym host) ∙ run.is in
+      let at_host : after_run old run.command (final m b) ≡ new = ap (λ o. after_run old run.command (final m (begun o k old.state))) (sym host) ∙ run.is in
       subst (λ (e : Editing). KeepsLeaves (below old.state.trees h) (below e.state.trees h)) at_host
       (order_at_rest old.state (final m b) h k law whole hosted (reaches m b) (kept_along h k m keeping ((fit run.command v).tame keeping)))

@@ -15,8 +15,11 @@ use Rattle.command_laws.proofs.DeleteRuns.{stateless_delete}
 use Rattle.command_laws.proofs.FormatRuns.{tame_remove_format, stateless_remove_format}
 use Rattle.command_laws.proofs.IndentRuns.{tame_indent, stateless_indent, tame_outdent, stateless_outdent}
 use Rattle.command_laws.proofs.LinkingRuns.{tame_create_link, stateless_create_link, tame_unlink, stateless_unlink}
+use Rattle.command_laws.proofs.ListToggleRuns.{tame_toggle_lists, stateless_toggle_lists}
+use Rattle.command_laws.proofs.ObjectRuns.{stateless_insert_line_break, stateless_insert_horizontal_rule, stateless_insert_image}
 use Rattle.command_laws.proofs.RestoringRuns.{tame_restore_states, stateless_restore_states}
 use Rattle.command_laws.proofs.TogglingRuns.{tame_toggle_style, stateless_toggle_style, tame_toggle_script, stateless_toggle_script, tame_apply_value, stateless_apply_value}
+use Rattle.command_laws.proofs.TypingRuns.{stateless_insert_text, stateless_insert_paragraph}
 use Rattle.inline_value.specs.Overrides.{overrides_of}
 use Rattle.inline_value.specs.declared.overrides.Override.{Override}
 use Rattle.inline_commands.specs.RestoringStates.{restore_states}
@@ -27,9 +30,6 @@ use Rattle.edit_engine.specs.Commands.{row_of, own_action, action_of, is_value, 
 pub record IsFit (keeping : Bool) (m : Run Bool) : Type 0 where
   pub stateless : Stateless m
   pub tame : keeping ≡ true → Tame m
-
-unbuilt : (keeping : Bool) → IsFit keeping (answer false)
-unbuilt keeping = record { stateless = stateless_answer false; tame = λ _. tame_answer false }
 
 other : {m : Run Bool} → Stateless m → IsFit false m
 other h = record { stateless = h; tame = λ keeps. absurd (true≢false (sym keeps)) }
@@ -77,16 +77,16 @@ own_fit command.JustifyFull value = keeper (stateless_justify (codes "justify"))
 own_fit command.Indent value = keeper stateless_indent tame_indent
 own_fit command.Outdent value = keeper stateless_outdent tame_outdent
 own_fit command.Delete value = other stateless_delete
-own_fit command.InsertText value = unbuilt false
-own_fit command.InsertParagraph value = unbuilt false
+own_fit command.InsertText value = other (stateless_insert_text value)
+own_fit command.InsertParagraph value = other stateless_insert_paragraph
 own_fit command.StyleWithCss value = other (stateless_styling (not (is_value value (codes "false"))))
 own_fit command.UseCss value = other (stateless_styling (is_value value (codes "false")))
 own_fit command.DefaultParagraphSeparator value = other (stateless_separator value)
-own_fit command.InsertOrderedList value = unbuilt true
-own_fit command.InsertUnorderedList value = unbuilt true
-own_fit command.InsertLineBreak value = unbuilt false
-own_fit command.InsertHorizontalRule value = unbuilt false
-own_fit command.InsertImage value = unbuilt false
+own_fit command.InsertOrderedList value = keeper (stateless_toggle_lists true) (tame_toggle_lists true)
+own_fit command.InsertUnorderedList value = keeper (stateless_toggle_lists false) (tame_toggle_lists false)
+own_fit command.InsertLineBreak value = other stateless_insert_line_break
+own_fit command.InsertHorizontalRule value = other stateless_insert_horizontal_rule
+own_fit command.InsertImage value = other (stateless_insert_image value)
 
 -- ---- with the overrides recorded and restored
 

@@ -5,6 +5,8 @@ pub mod Keeping
 pub mod Outcomes
 pub mod Refusing
 pub mod Seeing
+pub mod Typing
 pub mod AffectedHosts
 pub mod Fitness
 pub mod Confining
+pub mod ObjectsTaken

@@ -1,7 +1,8 @@
 -- What a run comes to, told of an editor's document, and which of the outcomes comes first.
 use Rattle.std.proofs.Common.{◌≡◌, ℕ, Bool, true, false, List, Some, None, Err, refl, arith}
-use Rattle.std.specs.Prelude.{nat_lt}
+use Rattle.std.specs.Prelude.{nat_lt, ◌&&◌}
 use Rattle.std.proofs.lemmas.Bool.Decides.{nat_tests}
+use Rattle.command_gate.specs.Denied.{is_denied}
 use Rattle.html_names.specs.Commands.{command_named}
 use Rattle.html_names.specs.declared.commands.Command.{Command}
 use Rattle.dom_model.specs.Document.{page_depth}
@@ -13,15 +14,15 @@ use Rattle.edit_model.specs.History.{begun}
 use Rattle.edit_model.specs.Run.{Run}
 use Rattle.edit_model.proofs.Steps.{final_cap}
 use Rattle.edit_doc.specs.Whole.{Whole}
-use Rattle.edit_engine.specs.Commands.{row_of, action_of, is_enabled}
+use Rattle.edit_engine.specs.Commands.{row_of, types_text, action_of, is_enabled}
 use Rattle.edit_engine.specs.Editing.{Editing}
-use Rattle.edit_engine.specs.Execution.{Refused, Deep, Acted, began, ran, run_outcome, command_outcome, outcome, Tells}
+use Rattle.edit_engine.specs.Execution.{Refused, Deep, Acted, began, ran, typing_after, run_outcome, command_outcome, outcome, gated_outcome, Tells}
 use Rattle.edit_engine.specs.Faults.{exec_fault}
 use Rattle.edit_engine.specs.Running.{IsMade, IsTakenBack, IsRefused}
 
 -- the editor of a document
-abbrev pub shown : Whole → Editing
-shown w = record { state = w.state; history = w.history; typing = false }
+abbrev pub shown : Whole → Bool → Editing
+shown w typing = record { state = w.state; history = w.history; typing = typing }
 
 -- ---- runs
 
@@ -39,24 +40,25 @@ not_over s k m off = by_test (nat_lt s.cap (ran s k m).next) refl
 over : (s : State) (k : Bool) (m : Run Bool) → IsOver (ran s k m) → nat_lt s.cap (ran s k m).next ≡ true
 over s k m is = let c = ran_cap s k m in let past = is.past in grind (arith, nat_tests, c, past)
 
-same_editor : (old new : Whole) → IsTakenBack old new → shown new ≡ shown old
-same_editor old new back = rw (back.state, back.history) refl
+same_editor : (old new : Whole) (typing : Bool) → IsTakenBack old new → shown new typing ≡ shown old typing
+same_editor old new typing back = rw (back.state, back.history) refl
 
-pub made_outcome : (old new : Whole) (k : Bool) (m : Run Bool) → IsMade old new k m → run_outcome (shown old) k m ≡ Acted true (shown new)
-unfolding run_outcome
-made_outcome old new k m is = let n = not_over old.state k m is.within in rw (n, is.answer, is.state, is.history) refl
+module _ (old new : Whole) (typing : Bool) (c : Command) (m : Run Bool) where
+  pub made_outcome : (after : Bool) → IsMade old new (typing && types_text c) (row_of c).keeping m → after ≡ typing_after (shown old typing) c (ran old.state (row_of c).keeping m) → run_outcome (shown old typing) c m ≡ Acted true (shown new after)
+  unfolding run_outcome
+  made_outcome after is types = let n = not_over old.state (row_of c).keeping m is.within in rw (n, is.answer, is.state, is.history, types) refl
 
-pub refused_tells : (old new : Whole) (k : Bool) (m : Run Bool) → IsRefused old new k m → (run_outcome (shown old) k m ≡ Acted false (shown new)) × (shown new ≡ shown old)
-unfolding run_outcome
-refused_tells old new k m is =
-    let n = not_over old.state k m is.within in
-    let same = same_editor old new is.back in
-    (rw (n, is.answer, same) refl, same)
+  pub refused_tells : IsRefused old new (row_of c).keeping m → (run_outcome (shown old typing) c m ≡ Acted false (shown new typing)) × (shown new typing ≡ shown old typing)
+  unfolding run_outcome
+  refused_tells is =
+      let n = not_over old.state (row_of c).keeping m is.within in
+      let same = same_editor old new typing is.back in
+      (rw (n, is.answer, same) refl, same)
 
-pub failed_tells : (old new : Whole) (k : Bool) (m : Run Bool) (fault : EditFault) → IsTakenBack old new → Fails fault (ran old.state k m) → Tells (Err (exec_fault fault)) (shown old) (shown new) (run_outcome (shown old) k m)
-unfolding run_outcome
-failed_tells old new k m edit.Full back fails = (let o = over old.state k m fails in rw o refl, same_editor old new back)
-failed_tells old new k m edit.Memory back fails = same_editor old new back
+  pub failed_tells : (fault : EditFault) → IsTakenBack old new → Fails fault (ran old.state (row_of c).keeping m) → Tells (Err (exec_fault fault)) (shown old typing) (shown new typing) (run_outcome (shown old typing) c m)
+  unfolding run_outcome
+  failed_tells edit.Full back fails = (let o = over old.state (row_of c).keeping m fails in rw o refl, same_editor old new typing back)
+  failed_tells edit.Memory back fails = same_editor old new typing back
 
 -- ---- which comes first
 
@@ -68,7 +70,7 @@ pub deep_outcome : (e : Editing) (v : List ℕ) (c : Command) → is_enabled e.s
 unfolding command_outcome
 deep_outcome e v c on deep = rw (on, deep) refl
 
-pub runs_outcome : (e : Editing) (v : List ℕ) (c : Command) → is_enabled e.state c ≡ true → nat_lt 250 (page_depth e.state.trees) ≡ false → command_outcome e v c ≡ run_outcome e (row_of c).keeping (action_of c v)
+pub runs_outcome : (e : Editing) (v : List ℕ) (c : Command) → is_enabled e.state c ≡ true → nat_lt 250 (page_depth e.state.trees) ≡ false → command_outcome e v c ≡ run_outcome e c (action_of c v)
 unfolding command_outcome
 runs_outcome e v c on shallow = rw (on, shallow) refl
 
@@ -79,3 +81,13 @@ named_outcome e name v c is = rw is refl
 pub unnamed_outcome : (e : Editing) (name v : List ℕ) → command_named name ≡ None → outcome e name v ≡ Refused
 unfolding outcome
 unnamed_outcome e name v is = rw is refl
+
+-- ---- with names that are denied
+
+pub denied_outcome : (denied : List (List ℕ)) (e : Editing) (name v : List ℕ) → is_denied denied name ≡ true → gated_outcome denied e name v ≡ Refused
+unfolding gated_outcome
+denied_outcome denied e name v is = rw is refl
+
+pub allowed_outcome : (denied : List (List ℕ)) (e : Editing) (name v : List ℕ) → is_denied denied name ≡ false → gated_outcome denied e name v ≡ outcome e name v
+unfolding gated_outcome
+allowed_outcome denied e name v is = rw is refl

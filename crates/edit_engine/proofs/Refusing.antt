@@ -10,14 +10,24 @@ use Rattle.inline_value.specs.Overrides.{overrides_of}
 use Rattle.inline_value.specs.declared.overrides.Override.{Override}
 use Rattle.edit_engine.specs.Commands.{row_of, own_action, flags_taken, is_value, separator_set, set_css_styling, set_separator}
 use Rattle.edit_engine.specs.Refusals.{LeavesRefused, RefusalsLeave}
+use Rattle.edit_query.specs.ListStates.{is_list_state, list_state}
 use Rattle.edit_query.specs.Queries.{state_of}
 use Rattle.html_names.specs.ElementNames as names
 use Rattle.block_commands.specs.FormatBlock.{block_name, is_formatted, format_list, format_to, format_block}
 use Rattle.block_commands.specs.Gathered.{outermost}
 use Rattle.block_commands.specs.Justify.{clear_alignments, align_range, justify}
 use Rattle.list_indent.specs.Commands.{normalize_range, indent_gathered, indent, outdent_gathered, outdent}
+use Rattle.list_toggle.specs.Ranges.{keep_range}
+use Rattle.list_toggle.specs.Toggle.{toggle_range, toggle_from, toggle_lists}
+use Rattle.text_insertion.specs.Paragraph.{insert_paragraph_inside, insert_paragraph}
+use Rattle.text_insertion.specs.Start.{erase}
+use Rattle.text_insertion.specs.Typing.{insert_chars, insert_text}
 use Rattle.text_commands.specs.Delete.{delete}
 use Rattle.text_commands.proofs.Taken.{delete_answers_true}
+use Rattle.insert_objects.specs.LineBreak.{insert_line_break}
+use Rattle.insert_objects.specs.Rule.{insert_horizontal_rule}
+use Rattle.insert_objects.specs.Image.{insert_source, insert_image}
+use Rattle.edit_engine.proofs.ObjectsTaken.{line_break_answers_true, rule_answers_true, image_answers_true}
 use Rattle.inline_value.specs.Selections.{split_ends, set_value}
 use Rattle.inline_commands.specs.Linking.{relink_range, link_range, create_link}
 use Rattle.inline_commands.specs.RemovingFormat.{unwrap_candidates, part_nodes, clear_commands, remove_format}
@@ -131,6 +141,32 @@ leaves_outdent = leaves_two normalize_range outdent_gathered
 leaves_delete : LeavesRefused delete
 leaves_delete = leaves_taken delete delete_answers_true
 
+leaves_text : (v : List ℕ) → LeavesRefused (insert_text v)
+unfolding insert_text
+leaves_text v = leaves_two (erase false false) (insert_chars v)
+
+leaves_paragraph : LeavesRefused insert_paragraph
+unfolding insert_paragraph
+leaves_paragraph = leaves_two (erase true false) insert_paragraph_inside
+
+leaves_lists : (ordered : Bool) → LeavesRefused (toggle_lists ordered)
+unfolding toggle_lists toggle_from
+leaves_lists ordered = leaves_look (λ s. toggle_from ordered (is_list_state ordered (list_state s s.host))) λ s.
+    let off = is_list_state ordered (list_state s s.host) in
+    let range = toggle_range ordered off >> answer true in
+    leaves_taken (normalize_range >> (keep_range >> range)) (true_after normalize_range (keep_range >> range) (true_after keep_range range (true_last (toggle_range ordered off))))
+
+leaves_line_break : LeavesRefused insert_line_break
+leaves_line_break = leaves_taken insert_line_break line_break_answers_true
+
+leaves_rule : LeavesRefused insert_horizontal_rule
+leaves_rule = leaves_taken insert_horizontal_rule rule_answers_true
+
+leaves_image : (v : List ℕ) → LeavesRefused (insert_image v)
+unfolding insert_image
+leaves_image [] = leaves_false
+leaves_image (c ∷ v) = leaves_taken (insert_source (c ∷ v)) (image_answers_true (c ∷ v))
+
 leaves_css_styling : (on : Bool) → LeavesRefused (set_css_styling on)
 unfolding set_css_styling
 leaves_css_styling on = leaves_look (λ s. flags_taken (record s.flags { css_styling = on })) (λ t. leaves_true (set_flags (record t.flags { css_styling = on })))
@@ -177,10 +213,16 @@ own_refusals command.JustifyFull v = leaves_justify (codes "justify")
 own_refusals command.Indent v = leaves_indent
 own_refusals command.Outdent v = leaves_outdent
 own_refusals command.Delete v = leaves_delete
+own_refusals command.InsertLineBreak v = leaves_line_break
+own_refusals command.InsertHorizontalRule v = leaves_rule
+own_refusals command.InsertImage v = leaves_image v
 own_refusals command.StyleWithCss v = leaves_css_styling (not (is_value v (codes "false")))
 own_refusals command.UseCss v = leaves_css_styling (is_value v (codes "false"))
 own_refusals command.DefaultParagraphSeparator v = leaves_separator v
-own_refusals _ v = leaves_false
+own_refusals command.InsertText v = leaves_text v
+own_refusals command.InsertParagraph v = leaves_paragraph
+own_refusals command.InsertOrderedList v = leaves_lists true
+own_refusals command.InsertUnorderedList v = leaves_lists false
 
 pub refusals_leave : RefusalsLeave
 refusals_leave c v = leaves_framed (row_of c).recording (own_action c v) (own_refusals c v)

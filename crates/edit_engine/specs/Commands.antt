@@ -1,6 +1,5 @@
--- The commands: one row of facts for each, when they are enabled, and the actions of those that are built.
+-- The commands: one row of facts for each, its action, and when it is enabled.
 use Rattle.std.specs.Prelude.{ℕ, Bool, true, false, not, ◌&&◌, ◌||◌, List, map, codes, bytes_eq, is_some, Option, Some, None, if◌then◌else◌}
-use Rattle.std.specs.Option.{option_map_or}
 use Rattle.std.specs.Char.{to_ascii_lowercase}
 use Rattle.html_names.specs.declared.commands.Command.{Command}
 use Rattle.html_names.specs.declared.commands.Command.TheVariants as command
@@ -17,8 +16,14 @@ use Rattle.inline_commands.specs.RemovingFormat.{remove_format}
 use Rattle.inline_commands.specs.Toggling.{toggle_style, toggle_script}
 use Rattle.inline_commands.specs.Unlink.{unlink}
 use Rattle.inline_commands.specs.ValueCommands.{apply_value}
+use Rattle.insert_objects.specs.LineBreak.{insert_line_break}
+use Rattle.insert_objects.specs.Rule.{insert_horizontal_rule}
+use Rattle.insert_objects.specs.Image.{insert_image}
 use Rattle.list_indent.specs.Commands.{indent, outdent}
+use Rattle.list_toggle.specs.Toggle.{toggle_lists}
 use Rattle.text_commands.specs.Delete.{delete}
+use Rattle.text_insertion.specs.Paragraph.{insert_paragraph}
+use Rattle.text_insertion.specs.Typing.{insert_text}
 
 -- ---- one row a command
 
@@ -59,6 +64,11 @@ row_of command.InsertLineBreak = facts false true true
 row_of command.InsertHorizontalRule = facts false true true
 row_of command.InsertImage = facts false true false
 
+-- the command that types: its edits join the last entry while the editor is typing
+abbrev pub types_text : Command → Bool
+types_text command.InsertText = true
+types_text _ = false
+
 -- ---- the commands on flags
 
 abbrev pub is_value : List ℕ → List ℕ → Bool
@@ -81,42 +91,41 @@ separator_set flags value =
 unfoldable pub set_separator : List ℕ → Run Bool
 set_separator value = look λ s. given (separator_set s.flags value) (answer false) flags_taken
 
--- ---- the actions: a command is supported where there is one
+-- ---- the action of each command, with a value
 
-abbrev pub action : Command → Option (List ℕ → Run Bool)
-action command.Bold = Some (λ value. toggle_style command.Bold)
-action command.Italic = Some (λ value. toggle_style command.Italic)
-action command.Underline = Some (λ value. toggle_style command.Underline)
-action command.Strikethrough = Some (λ value. toggle_style command.Strikethrough)
-action command.Subscript = Some (λ value. toggle_script command.Subscript)
-action command.Superscript = Some (λ value. toggle_script command.Superscript)
-action command.CreateLink = Some create_link
-action command.Unlink = Some (λ value. unlink)
-action command.FontName = Some (apply_value command.FontName)
-action command.FontSize = Some (apply_value command.FontSize)
-action command.ForeColor = Some (apply_value command.ForeColor)
-action command.BackColor = Some (apply_value command.BackColor)
-action command.HiliteColor = Some (apply_value command.HiliteColor)
-action command.RemoveFormat = Some (λ value. remove_format)
-action command.FormatBlock = Some format_block
-action command.JustifyLeft = Some (λ value. justify (codes "left"))
-action command.JustifyCenter = Some (λ value. justify (codes "center"))
-action command.JustifyRight = Some (λ value. justify (codes "right"))
-action command.JustifyFull = Some (λ value. justify (codes "justify"))
-action command.Indent = Some (λ value. indent)
-action command.Outdent = Some (λ value. outdent)
-action command.Delete = Some (λ value. delete)
-action command.StyleWithCss = Some (λ value. set_css_styling (not (is_value value (codes "false"))))
-action command.UseCss = Some (λ value. set_css_styling (is_value value (codes "false")))
-action command.DefaultParagraphSeparator = Some set_separator
-action _ = None
-
-abbrev pub is_supported : Command → Bool
-is_supported c = is_some (action c)
-
--- the command's own action with a value; one that isn't supported answers false
 abbrev pub own_action : Command → List ℕ → Run Bool
-own_action c value = option_map_or (λ act. act value) (action c) (answer false)
+own_action command.Bold value = toggle_style command.Bold
+own_action command.Italic value = toggle_style command.Italic
+own_action command.Underline value = toggle_style command.Underline
+own_action command.Strikethrough value = toggle_style command.Strikethrough
+own_action command.Subscript value = toggle_script command.Subscript
+own_action command.Superscript value = toggle_script command.Superscript
+own_action command.CreateLink value = create_link value
+own_action command.Unlink value = unlink
+own_action command.FontName value = apply_value command.FontName value
+own_action command.FontSize value = apply_value command.FontSize value
+own_action command.ForeColor value = apply_value command.ForeColor value
+own_action command.BackColor value = apply_value command.BackColor value
+own_action command.HiliteColor value = apply_value command.HiliteColor value
+own_action command.RemoveFormat value = remove_format
+own_action command.FormatBlock value = format_block value
+own_action command.JustifyLeft value = justify (codes "left")
+own_action command.JustifyCenter value = justify (codes "center")
+own_action command.JustifyRight value = justify (codes "right")
+own_action command.JustifyFull value = justify (codes "justify")
+own_action command.Indent value = indent
+own_action command.Outdent value = outdent
+own_action command.Delete value = delete
+own_action command.InsertText value = insert_text value
+own_action command.InsertParagraph value = insert_paragraph
+own_action command.StyleWithCss value = set_css_styling (not (is_value value (codes "false")))
+own_action command.UseCss value = set_css_styling (is_value value (codes "false"))
+own_action command.DefaultParagraphSeparator value = set_separator value
+own_action command.InsertOrderedList value = toggle_lists true
+own_action command.InsertUnorderedList value = toggle_lists false
+own_action command.InsertLineBreak value = insert_line_break
+own_action command.InsertHorizontalRule value = insert_horizontal_rule
+own_action command.InsertImage value = insert_image value
 
 -- the action as it is taken, with the overrides recorded before and restored after it where the command does so
 abbrev pub action_of : Command → List ℕ → Run Bool
@@ -124,4 +133,4 @@ action_of c value = framed (row_of c).recording (own_action c value)
 
 -- a command that needs a host is enabled only where there is an affected editing host
 unfoldable pub is_enabled : State → Command → Bool
-is_enabled s c = is_supported c && (not (row_of c).needs_host || is_some (affected_host s))
+is_enabled s c = not (row_of c).needs_host || is_some (affected_host s)

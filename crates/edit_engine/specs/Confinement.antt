@@ -5,7 +5,7 @@ use Rattle.html_names.specs.Commands.{command_named}
 use Rattle.html_names.specs.declared.commands.Command.{Command}
 use Rattle.dom_model.specs.Forest.{IsWithin}
 use Rattle.edit_model.specs.State.{State}
-use Rattle.edit_model.specs.History.{Entry, begun, entry_of}
+use Rattle.edit_model.specs.History.{Entry, begun, entry_of, joined_in}
 use Rattle.edit_model.specs.Laws.{KeepsMark}
 use Rattle.edit_model.specs.Outside.{outside_by, is_island}
 use Rattle.edit_actions.specs.ActiveRange.{affected_host}
@@ -23,14 +23,26 @@ KeepsOutside old new = outside_by (affected_host old.state) new.state.trees ≡ 
 abbrev pub KeepsMarks : Editing → Editing → Type 0
 KeepsMarks old new = AllZip (KeepsMark (affected_host old.state) old.state.trees) old.state.points.marks new.state.points.marks
 
+-- the last entry is now one more, with the edits of the state in which a command ended
+pub record HasEntry (old new : Editing) (ended : State) : Type 0 where
+  pub older : List Entry
+  pub is : new.history.undo ≡ entry_of old.state ended ∷ older
+
+-- these edits have joined those of the last entry, as the editor was typing
+pub record HasJoined (old new : Editing) (ended : State) : Type 0 where
+  pub typing : old.typing ≡ true
+  pub last : Entry
+  pub older : List Entry
+  pub was : old.history.undo ≡ last ∷ older
+  pub is : new.history.undo ≡ joined_in ended (last ∷ older)
+
 -- The node isn't in the document any more: a command took it out, with a tree whose root was editable for the host or made by
--- the command. The removal is one of the edits of the new entry, which are those of the state in which the command ended.
+-- the command. The removal is one of the edits of the last entry: those of the state in which the command ended are there.
 pub record IsGone (old new : Editing) (h l : ℕ) : Type 0 where
   pub out : IsWithin new.state.trees 0 l → ⊥
   pub keeping : Bool
   pub ended : State
-  pub older : List Entry
-  pub entry : new.history.undo ≡ entry_of old.state ended ∷ older
+  pub entry : HasEntry old new ended ⊎ HasJoined old new ended
   pub taken : IsTakenOut (begun (Some h) keeping old.state) ended l
 
 -- each island of the affected host stands below it, with an equal tree, or is gone

@@ -1,11 +1,11 @@
 -- An editor: the state of its document, the history that undo goes through, and whether it is typing.
-use Rattle.std.specs.Prelude.{ℕ, Bool, false, [], zero, suc, refl}
+use Rattle.std.specs.Prelude.{◌≡◌, ℕ, ◌<◌, Bool, true, false, List, [], ◌∷◌, length, zero, suc, refl}
 use Rattle.std.specs.Coded.{Coded, code_by, coded×, coded_bool}
 use Rattle.dom_model.specs.State.{State as Arena}
 use Rattle.edit_model.specs.State.{State}
-use Rattle.edit_model.specs.History.{History, undone_state, undone_history, redone_state, redone_history}
+use Rattle.edit_model.specs.History.{Entry, History, undone_state, undone_history, redone_state, redone_history}
 use Rattle.edit_model.specs.Codes.{state_code, history_code}
-use Rattle.edit_doc.specs.Whole.{first_state}
+use Rattle.edit_doc.specs.Whole.{Whole, IsClosed, first_state}
 
 pub record Editing : Type 0 where
   pub state : State
@@ -19,16 +19,41 @@ editing_code = code_by (State × (History × Bool)) (coded× state_code (coded×
 abbrev pub new_editing : Arena → ℕ → Editing
 new_editing a depth = record { state = first_state a; history = record { undo = []; redo = []; depth = depth; dropped = false }; typing = false }
 
-abbrev pub with_state : Editing → State → Editing
-with_state e s = record e { state = s }
+-- in another state, where it isn't typing any more
+abbrev pub stopped_at : Editing → State → Editing
+stopped_at e s = record e { state = s; typing = false }
 
--- ---- through the history; nothing changes where no entry lies that way
+-- ---- what holds of an editor between its calls
+
+-- there is a last entry for more edits to join, and redo would take none
+pub record IsJoinable (h : History) : Type 0 where
+  pub some : 0 < length h.undo
+  pub last : h.redo ≡ []
+
+-- no command is running, and while the editor is typing the last entry can be joined
+pub record IsResting (doc : Whole) (typing : Bool) : Type 0 where
+  pub closed : IsClosed doc
+  pub joinable : typing ≡ true → IsJoinable doc.history
+
+-- ---- through the history; nothing changes where no entry lies that way, and one that is taken ends the typing
+
+abbrev pub typing_past : List Entry → Bool → Bool
+typing_past [] typing = typing
+typing_past (e ∷ es) typing = false
 
 abbrev pub undone : Editing → Editing
-undone e = record e { state = undone_state e.history e.state; history = undone_history e.history }
+undone e = record {
+  state = undone_state e.history e.state;
+  history = undone_history e.history;
+  typing = typing_past e.history.undo e.typing;
+}
 
 abbrev pub redone : Editing → Editing
-redone e = record e { state = redone_state e.history e.state; history = redone_history e.history }
+redone e = record {
+  state = redone_state e.history e.state;
+  history = redone_history e.history;
+  typing = typing_past e.history.redo e.typing;
+}
 
 -- so many times
 unfoldable pub turned : ℕ → (Editing → Editing) → Editing → Editing

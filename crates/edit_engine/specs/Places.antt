@@ -10,7 +10,7 @@ use Rattle.live_range.specs.declared.places.Pair.{Pair}
 use Rattle.node_paths.specs.Paths.{label_at}
 use Rattle.script_read.specs.declared.act.Place.{Place}
 use Rattle.edit_model.specs.Action.{Select, Unselect, acted}
-use Rattle.edit_engine.specs.Editing.{Editing, with_state}
+use Rattle.edit_engine.specs.Editing.{Editing, stopped_at}
 
 abbrev pub point_in : Forest Content → ℕ → ℕ → Option Point
 point_in f offset l = if nat_le offset (length_of f l) then Some (record { label = l; offset = offset }) else None
@@ -26,19 +26,19 @@ pair_of (Some anchor) focus = option_map (λ p. record { anchor = anchor; focus 
 unfoldable pub pair_at : Forest Content → Place → Place → Option Pair
 pair_at f anchor focus = pair_of (point_at f anchor) (point_at f focus)
 
--- ---- the editor after a selecting act
+-- ---- the editor after a selecting act, which ends the typing
 
 abbrev pub selecting : Editing → Pair → Editing
-selecting e pair = with_state e (acted (Select pair.anchor pair.focus) e.state)
+selecting e pair = stopped_at e (acted (Select pair.anchor pair.focus) e.state)
 
 abbrev pub unselecting : Editing → Editing
-unselecting e = with_state e (acted Unselect e.state)
+unselecting e = stopped_at e (acted Unselect e.state)
 
 abbrev pub marking : Editing → List ℕ → Pair → Editing
-marking e name pair = with_state e (record e.state { points = with_mark name pair e.state.points })
+marking e name pair = stopped_at e (record e.state { points = with_mark name pair e.state.points })
 
 abbrev pub unmarking : Editing → List ℕ → Editing
-unmarking e name = with_state e (record e.state { points = without_mark name e.state.points })
+unmarking e name = stopped_at e (record e.state { points = without_mark name e.state.points })
 
 -- 16 other marks are there
 pub record IsCrowded (e : Editing) (name : List ℕ) : Type 0 where

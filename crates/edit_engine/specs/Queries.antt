@@ -1,6 +1,6 @@
--- The questions that can be asked of a command (HTML Editing APIs, "queryCommandState()" and the like): the gate before what
--- a command itself answers.
-use Rattle.std.specs.Prelude.{ℕ, List, if◌then◌else◌}
+-- The questions that can be asked of a command (HTML Editing APIs, "queryCommandState()" and the like): when the
+-- command itself is asked.
+use Rattle.std.specs.Prelude.{ℕ, true, List, if◌then◌else◌}
 use Rattle.std.specs.Option.{option_map_or}
 use Rattle.html_names.specs.Commands.{command_named}
 use Rattle.html_names.specs.declared.commands.Command.{Command}
@@ -11,17 +11,17 @@ use Rattle.edit_query.specs.declared.reply.Reply.{Reply}
 use Rattle.edit_query.specs.declared.reply.Reply.TheVariants as reply
 use Rattle.edit_query.specs.Queries.{query_in}
 use Rattle.edit_query.specs.Replies.{no_reply}
-use Rattle.edit_engine.specs.Commands.{is_supported, is_enabled}
+use Rattle.edit_engine.specs.Commands.{is_enabled}
 use Rattle.edit_actions.specs.ActiveRange.{affected_host}
 
 -- a command that isn't enabled isn't asked
-unfoldable pub gated : State → QueryKind → Command → Reply
-gated s kind c = if is_enabled s c then query_in s (affected_host s) kind c else no_reply kind
+unfoldable pub asked_if_enabled : State → QueryKind → Command → Reply
+asked_if_enabled s kind c = if is_enabled s c then query_in s (affected_host s) kind c else no_reply kind
 
 abbrev pub reply_for : State → QueryKind → Command → Reply
-reply_for s Supported c = reply.Flag (is_supported c)
+reply_for s Supported c = reply.Flag true
 reply_for s Enabled c = reply.Flag (is_enabled s c)
-reply_for s kind c = gated s kind c
+reply_for s kind c = asked_if_enabled s kind c
 
 unfoldable pub reply_of : State → QueryKind → List ℕ → Reply
 reply_of s kind name = option_map_or (reply_for s kind) (command_named name) (no_reply kind)

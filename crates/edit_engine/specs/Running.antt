@@ -1,6 +1,8 @@
 -- A document after one command on it.
-use Rattle.std.specs.Prelude.{◌≡◌, Bool, true, false, Result, Ok, Err, None}
-use Rattle.edit_model.specs.State.{IsOver}
+use Rattle.std.specs.Prelude.{◌≡◌, nat_lt, Bool, true, false, length, Result, Ok, Err, Option, Some, None}
+use Rattle.undo_log.specs.declared.log.Committed.{Committed}
+use Rattle.undo_log.specs.declared.log.Committed.TheVariants as committed
+use Rattle.edit_model.specs.State.{State, IsOver}
 use Rattle.edit_model.specs.History.{rested, recorded}
 use Rattle.edit_model.specs.Run.{Run}
 use Rattle.edit_model.specs.declared.settings.EditFault.{EditFault}
@@ -8,10 +10,10 @@ use Rattle.edit_model.specs.Gives.{Fails}
 use Rattle.edit_doc.specs.Whole.{Whole}
 use Rattle.edit_engine.specs.Execution.{ran, answered}
 
--- the run is made, within the cap, and answers true
-pub record IsMade (old new : Whole) (keeping : Bool) (m : Run Bool) : Type 0 where
+-- the run is made, within the cap, and answers true; it has an entry of its own, or joins the last one
+pub record IsMade (old new : Whole) (joining keeping : Bool) (m : Run Bool) : Type 0 where
   pub state : new.state ≡ rested (ran old.state keeping m)
-  pub history : new.history ≡ recorded false old.state (ran old.state keeping m) old.history
+  pub history : new.history ≡ recorded joining old.state (ran old.state keeping m) old.history
   pub closed : new.began ≡ None
   pub answer : answered old.state keeping m ≡ true
   pub within : IsOver (ran old.state keeping m) → ⊥
@@ -28,8 +30,16 @@ pub record IsRefused (old new : Whole) (keeping : Bool) (m : Run Bool) : Type 0 
   pub answer : answered old.state keeping m ≡ false
   pub within : IsOver (ran old.state keeping m) → ⊥
 
+abbrev pub has_entry : Committed → Bool
+has_entry committed.Nothing = false
+has_entry committed.Entry = true
+
+-- a commit tells whether the run made an edit
+abbrev pub TellsEdits : Committed → State → Type 0
+TellsEdits c t = has_entry c ≡ nat_lt 0 (length t.edits)
+
 -- what a call leaves that makes a run as one command, whatever the run
-abbrev pub Ran : Result Bool EditFault → Whole → Whole → Bool → Run Bool → Type 0
-Ran (Ok true) old new keeping m = IsMade old new keeping m
-Ran (Ok false) old new keeping m = IsRefused old new keeping m
-Ran (Err fault) old new keeping m = IsTakenBack old new × Fails fault (ran old.state keeping m)
+abbrev pub Ran : Result (Option Committed) EditFault → Whole → Whole → (joining keeping : Bool) → Run Bool → Type 0
+Ran (Ok (Some c)) old new joining keeping m = IsMade old new joining keeping m × TellsEdits c (ran old.state keeping m)
+Ran (Ok None) old new joining keeping m = IsRefused old new keeping m
+Ran (Err fault) old new joining keeping m = IsTakenBack old new × Fails fault (ran old.state keeping m)

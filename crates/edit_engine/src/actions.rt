@@ -1,26 +1,30 @@
 //! The actions of commands, and the one frame in which they run.
 
-ghost use Rattle.std.specs.Prelude.{◌≡◌, ◌≢◌, not, codes};
+ghost use Rattle.std.specs.Prelude.{◌≡◌, ◌≢◌, ◌&&◌, ◌||◌, not, codes, true, false, IfOk, OnErr};
 ghost use Rattle.edit_model.specs.Gives.{Gives};
 ghost use Rattle.edit_doc.specs.Held.{Keeps};
-ghost use Rattle.edit_doc.specs.Whole.{IsOpen, IsClosed};
-ghost use Rattle.edit_engine.specs.Commands.{is_value, set_css_styling, set_separator, own_action, action_of, row_of};
+ghost use Rattle.edit_doc.specs.Whole.{IsOpen, IsClosed, opened};
+ghost use Rattle.edit_actions.specs.ActiveRange.{affected_host};
+ghost use Rattle.edit_engine.specs.Commands.{is_value, set_css_styling, set_separator, own_action, action_of, row_of, types_text};
+ghost use Rattle.edit_engine.specs.Editing.{IsJoinable};
 ghost use Rattle.edit_engine.specs.Framing.{is_collapsed, restore_collapsed, give_back, recorded_action};
-ghost use Rattle.edit_engine.specs.Running.{Ran};
+ghost use Rattle.edit_engine.specs.Running.{Ran, has_entry};
 
-use crate::commands::{is_value, row_of};
+use crate::commands::{is_value, row_of, types_text};
 use block_commands::{format_block, justify};
 use css_value::TextAlign;
 use edit_actions::affected_host;
-use edit_doc::{Doc, EditFault, Flags};
+use edit_doc::{Committed, Doc, EditFault, Flags};
 use html_names::Command;
 use inline_commands::{
     apply_value, create_link, remove_format, restore_states, toggle_script, toggle_style, unlink,
 };
 use inline_value::{Overrides, record_overrides};
+use insert_objects::{insert_image, insert_line_break, insert_rule};
 use list_indent::{indent, outdent};
-use std::alloc::Global;
-use text_commands::delete;
+use list_toggle::toggle_lists;
+use std::alloc::{AllocError, Global};
+use text_commands::{delete, insert_paragraph, insert_text};
 
 #[tactic(auto, using(edit_model::proofs::Steps::actions), unfolding(crate::specs::Commands::set_css_styling))]
 // styleWithCSS and useCSS, step 1.
@@ -56,7 +60,7 @@ fn set_separator(doc: &mut Doc, value: &[char]) -> Result<bool, EditFault>
     Ok(true)
 }
 
-// The action of a command, an arm for each that is supported.
+// The action of a command, an arm for each.
 #[tactic(auto, using(edit_model::proofs::Steps::steps))]
 fn act(alloc: Global, doc: &mut Doc, command: Command, value: &[char]) -> Result<bool, EditFault>
     requires open { IsOpen doc.old }
@@ -84,10 +88,16 @@ fn act(alloc: Global, doc: &mut Doc, command: Command, value: &[char]) -> Result
         Command::Indent => indent(alloc, doc),
         Command::Outdent => outdent(alloc, doc),
         Command::Delete => delete(alloc, doc),
+        Command::InsertText => insert_text(alloc, doc, value),
+        Command::InsertParagraph => insert_paragraph(alloc, doc),
+        Command::InsertOrderedList => toggle_lists(alloc, doc, true),
+        Command::InsertUnorderedList => toggle_lists(alloc, doc, false),
+        Command::InsertLineBreak => insert_line_break(alloc, doc),
+        Command::InsertHorizontalRule => insert_rule(alloc, doc),
+        Command::InsertImage => insert_image(alloc, doc, value),
         Command::StyleWithCss => set_css_styling(doc, !is_value(value, b"false")),
         Command::UseCss => set_css_styling(doc, is_value(value, b"false")),
         Command::DefaultParagraphSeparator => set_separator(doc, value),
-        _ => Ok(false),
     }
 }
 
@@ -171,28 +181,58 @@ fn take_action(
     }
 }
 
-/// Execute a command, steps 4 to 6: one command, from its begin to its end. It is taken back where its action answers false or can't be taken.
+/// Whether the edits of a command join the last entry.
+pub(crate) fn joins(typing: bool, command: Command) -> bool
+    ensures { result ≡ (typing && types_text command) }
+{
+    typing && types_text(command)
+}
+
+/// Whether the editor is typing after the command: an insertText begins it by an edit, and goes on without one.
+pub(crate) fn types_on(typing: bool, command: Command, committed: Committed) -> bool
+    ensures { result ≡ (types_text command && (typing || has_entry committed)) }
+{
+    types_text(command) && (typing || matches!(committed, Committed::Entry))
+}
+
+// Execute a command, step 4. The edits of a command that joins the last entry go there.
+fn open(doc: &mut Doc, joining: bool, keeping: bool) -> Result<(), AllocError>
+    requires closed { IsClosed doc.old }
+    requires joinable { joining ≡ true → IsJoinable doc.old.history × (keeping ≡ false) }
+    ensures opened { IfOk result (λ _. doc.new ≡ opened (affected_host doc.old.state) keeping joining doc.old) }
+    ensures err { OnErr result (doc.new ≡ doc.old) }
+{
+    let host = affected_host(doc);
+    if joining {
+        doc.resume(host)?;
+        return Ok(());
+    }
+    doc.begin(host, keeping)
+}
+
+/// Execute a command, steps 4 to 6: one command, from its begin to its end. It is taken back where its action answers false,
+/// which is answered by None, and where it can't be taken.
 pub(crate) fn run_command(
     alloc: Global,
     doc: &mut Doc,
+    joining: bool,
     command: Command,
     value: &[char],
-) -> Result<bool, EditFault>
+) -> Result<Option<Committed>, EditFault>
     requires closed { IsClosed doc.old }
-    ensures { Ran result doc.old doc.new (row_of command).keeping (action_of command value.now) }
+    requires joinable { joining ≡ true → IsJoinable doc.old.history × ((row_of command).keeping ≡ false) }
+    ensures { Ran result doc.old doc.new joining (row_of command).keeping (action_of command value.now) }
 {
-    let host = affected_host(doc);
-    doc.begin(host, row_of(command).keeping)?;
+    open(doc, joining, row_of(command).keeping)?;
     match take_action(alloc, doc, command, value) {
         Ok(true) => {
             doc.lawful();
-            doc.commit();
-            Ok(true)
+            Ok(Some(doc.commit()))
         }
         Ok(false) => {
             doc.lawful();
             doc.roll_back();
-            Ok(false)
+            Ok(None)
         }
         Err(fault) => {
             doc.roll_back();

@@ -2,7 +2,7 @@
 
 ghost use Rattle.std.specs.Prelude.{◌≡◌};
 ghost use Rattle.std.specs.Char.{to_ascii_lowercase};
-ghost use Rattle.edit_engine.specs.Commands.{facts, row_of, is_supported, is_value};
+ghost use Rattle.edit_engine.specs.Commands.{facts, row_of, types_text, is_value};
 
 use html_names::Command;
 use std::marker::Copy;
@@ -66,36 +66,11 @@ pub(crate) fn row_of(command: Command) -> Row
     }
 }
 
-/// Whether the command has an action.
-pub(crate) fn is_supported(command: Command) -> bool
-    ensures { result ≡ is_supported command }
+/// Whether it is the command that types.
+pub(crate) fn types_text(command: Command) -> bool
+    ensures { result ≡ types_text command }
 {
-    match command {
-        Command::Bold
-        | Command::Italic
-        | Command::Underline
-        | Command::Strikethrough
-        | Command::Subscript
-        | Command::Superscript
-        | Command::CreateLink
-        | Command::Unlink
-        | Command::FontName
-        | Command::FontSize
-        | Command::ForeColor
-        | Command::BackColor
-        | Command::HiliteColor
-        | Command::RemoveFormat => true,
-        Command::FormatBlock
-        | Command::JustifyLeft
-        | Command::JustifyCenter
-        | Command::JustifyRight
-        | Command::JustifyFull
-        | Command::Indent
-        | Command::Outdent
-        | Command::Delete => true,
-        Command::StyleWithCss | Command::UseCss | Command::DefaultParagraphSeparator => true,
-        _ => false,
-    }
+    matches!(command, Command::InsertText)
 }
 
 // Whether a value is a word, in any case.

@@ -5,20 +5,22 @@ ghost use Rattle.live_range.specs.LivePoints.{has_mark};
 ghost use Rattle.live_range.specs.declared.places.Pair.{Pair};
 ghost use Rattle.edit_doc.specs.Kept.{HoldsOnlyNeeded};
 ghost use Rattle.edit_doc.specs.Whole.{HasNoLoose, IsClosed, first_edits};
-ghost use Rattle.edit_engine.specs.Commands.{row_of, action_of};
+ghost use Rattle.command_gate.specs.Denied.{is_denied};
+ghost use Rattle.edit_engine.specs.Commands.{action_of};
 ghost use Rattle.edit_engine.specs.Confinement.{KeepsOutside, KeepsMarks, KeepsIslands, KeepsCharacters};
-ghost use Rattle.edit_engine.specs.Editing.{Editing, new_editing, undone, redone};
-ghost use Rattle.edit_engine.specs.Execution.{outcome, command_outcome, run_outcome, Tells};
+ghost use Rattle.edit_engine.specs.Editing.{Editing, IsJoinable, new_editing, undone, redone};
+ghost use Rattle.edit_engine.specs.Execution.{gated_outcome, outcome, command_outcome, run_outcome, Tells};
 ghost use Rattle.edit_engine.specs.Places.{pair_at, selecting, unselecting, marking, unmarking, IsCrowded};
 ghost use Rattle.edit_engine.specs.Queries.{reply_of};
 ghost use Rattle.edit_engine.specs.Views.{view_text};
 
-use crate::actions::run_command;
+use crate::actions::{joins, run_command, types_on};
 use crate::answers::{Answer, ExecFault, PlaceFault, ViewFault, ViewKind};
 use crate::places::{node_at, pair_at};
 use crate::probe::probe_line;
 use crate::queries::{ask, is_enabled};
 use crate::views::{html_line, points_lines, stat_line, tree_lines};
+use command_gate::{Asks, Gate};
 use dom_model::Name;
 use edit_doc::{Arena, Doc};
 use edit_query::Reply;
@@ -36,20 +38,20 @@ const DEPTH_LIMIT: u32 = 250;
 #[derive(Drop)]
 pub struct Editor {
     doc: Doc,
+    // whether the edits of an insertText join the last entry
+    typing: bool,
 }
 
 impl Model for Editor {
-    ghost use Rattle.std.specs.Prelude.{false};
-    ghost use Rattle.edit_engine.specs.Editing.{Editing, editing_code};
-    ghost use Rattle.edit_doc.specs.Whole.{IsClosed};
+    ghost use Rattle.edit_engine.specs.Editing.{Editing, editing_code, IsResting};
 
     ghost Value = { Editing };
 
     ghost coded = { editing_code };
 
-    ghost view = { λ e. record { state = e.doc.state; history = e.doc.history; typing = false } };
+    ghost view = { λ e. record { state = e.doc.state; history = e.doc.history; typing = e.typing } };
 
-    ghost invariant = { λ e. IsClosed e.doc };
+    ghost invariant = { λ e. IsResting e.doc e.typing };
 }
 
 impl Editor {
@@ -61,7 +63,7 @@ impl Editor {
         ensures { IfOk result (λ e. e ≡ new_editing arena undo_depth) }
     {
         let doc = Doc::new(alloc, arena, undo_depth)?;
-        Ok(Editor { doc })
+        Ok(Editor { doc, typing: false })
     }
 
     /// Executes the command that a name names, in any case. It is taken whole, or the editor is as before.
@@ -79,7 +81,30 @@ impl Editor {
         }
     }
 
-    // The same of a command.
+    /// Executes the command that a name names, in any case, unless a gate denies the name. Actions that a command takes inside
+    /// itself are not asked for.
+    pub fn exec_gated<A: Asks>(
+        &mut self,
+        alloc: Global,
+        gate: &Gate<A>,
+        name: &str,
+        value: &[char],
+    ) -> Result<Answer, ExecFault>
+        ensures denied { is_denied gate.now name.now ≡ true → (result ≡ Ok Answer.No) × (self.new ≡ self.old) }
+        ensures tells { Tells result self.old self.new (gated_outcome gate.now self.old name.now value.now) }
+        ensures confined { KeepsOutside self.old self.new }
+        ensures marks { KeepsMarks self.old self.new }
+        ensures islands { KeepsIslands self.old self.new }
+        ensures characters { KeepsCharacters name.now self.old self.new }
+    {
+        self.doc.lawful();
+        if gate.denies(name.as_bytes()) {
+            return Ok(Answer::No);
+        }
+        self.exec(alloc, name, value)
+    }
+
+    // Executes a command.
     fn exec_command(
         &mut self,
         alloc: Global,
@@ -99,12 +124,16 @@ impl Editor {
 
     // Runs a command.
     fn run(&mut self, alloc: Global, command: Command, value: &[char]) -> Result<Answer, ExecFault>
-        ensures { Tells result self.old self.new (run_outcome self.old (row_of command).keeping (action_of command value.now)) }
+        ensures { Tells result self.old self.new (run_outcome self.old command (action_of command value.now)) }
     {
         self.doc.lawful();
-        match run_command(alloc, &mut self.doc, command, value) {
-            Ok(true) => Ok(Answer::Yes),
-            Ok(false) => Ok(Answer::No),
+        let joining = joins(self.typing, command);
+        match run_command(alloc, &mut self.doc, joining, command, value) {
+            Ok(Some(committed)) => {
+                self.typing = types_on(self.typing, command, committed);
+                Ok(Answer::Yes)
+            }
+            Ok(None) => Ok(Answer::No),
             Err(fault) => Err(ExecFault::from(fault)),
         }
     }
@@ -123,6 +152,7 @@ impl Editor {
         match pair_at(&self.doc, anchor, focus) {
             Some(pair) => {
                 self.doc.select(pair.anchor, pair.focus);
+                self.typing = false;
                 Ok(())
             }
             None => Err(PlaceFault::BadPlace),
@@ -134,6 +164,7 @@ impl Editor {
         ensures { self.new ≡ unselecting self.old }
     {
         self.doc.unselect();
+        self.typing = false;
     }
 
     /// Gives a name to a pair of points. A mark of that name keeps its place, and a new one goes last.
@@ -145,7 +176,11 @@ impl Editor {
         ensures err { OnErr result (self.new ≡ self.old) }
     {
         match pair_at(&self.doc, anchor, focus) {
-            Some(pair) => Ok(self.doc.set_mark(name.as_slice(), pair)?),
+            Some(pair) => {
+                self.doc.set_mark(name.as_slice(), pair)?;
+                self.typing = false;
+                Ok(())
+            }
             None => Err(PlaceFault::BadPlace),
         }
     }
@@ -155,6 +190,7 @@ impl Editor {
         ensures answer { result ≡ has_mark name.now self.old.state.points }
         ensures unmarked { self.new ≡ unmarking self.old name.now }
     {
+        self.typing = false;
         self.doc.unset_mark(name.as_slice())
     }
 
@@ -164,7 +200,9 @@ impl Editor {
         ensures undone { self.new ≡ undone self.old }
         ensures count { steps.new ≡ steps.old + first_edits self.old.history.undo }
     {
-        self.doc.undo(steps)
+        let taken = self.doc.undo(steps);
+        self.typing &= !taken;
+        taken
     }
 
     /// Takes the entry after the cursor forth again. False where there is none. It takes no memory.
@@ -173,7 +211,9 @@ impl Editor {
         ensures redone { self.new ≡ redone self.old }
         ensures count { steps.new ≡ steps.old + first_edits self.old.history.redo }
     {
-        self.doc.redo(steps)
+        let taken = self.doc.redo(steps);
+        self.typing &= !taken;
+        taken
     }
 
     #[tactic(auto, unfolding(crate::specs::Views::stat_line))]
@@ -201,6 +241,7 @@ impl Editor {
         ensures state { result.now.state ≡ self.now.state }
         ensures history { result.now.history ≡ self.now.history }
         ensures needed { HoldsOnlyNeeded result.now }
+        ensures joinable { self.now.typing ≡ true → IsJoinable result.now.history }
     {
         self.doc.kept_nodes();
         &self.doc

@@ -1,10 +1,10 @@
-//! Questions about commands: the gate before what a command itself answers.
+//! Questions about commands: when a command itself is asked.
 
 ghost use Rattle.std.specs.Prelude.{◌≡◌, IfOk};
 ghost use Rattle.edit_engine.specs.Commands.{is_enabled};
-ghost use Rattle.edit_engine.specs.Queries.{gated, reply_for, reply_of};
+ghost use Rattle.edit_engine.specs.Queries.{asked_if_enabled, reply_for, reply_of};
 
-use crate::commands::{is_supported, row_of};
+use crate::commands::row_of;
 use edit_actions::affected_host;
 use edit_doc::Doc;
 use edit_query::{Reply, no_reply, query};
@@ -15,13 +15,18 @@ use std::alloc::{AllocError, Global};
 pub(crate) fn is_enabled(doc: &Doc, command: Command) -> bool
     ensures { result ≡ is_enabled doc.now.state command }
 {
-    is_supported(command) && (!row_of(command).needs_host || affected_host(doc).is_some())
+    !row_of(command).needs_host || affected_host(doc).is_some()
 }
 
 // The answer of a command that is looked at first.
-#[tactic(auto, unfolding(crate::specs::Queries::gated))]
-fn gated(alloc: Global, doc: &Doc, kind: QueryKind, command: Command) -> Result<Reply, AllocError>
-    ensures { IfOk result (λ reply. reply ≡ gated doc.now.state kind command) }
+#[tactic(auto, unfolding(crate::specs::Queries::asked_if_enabled))]
+fn asked_if_enabled(
+    alloc: Global,
+    doc: &Doc,
+    kind: QueryKind,
+    command: Command,
+) -> Result<Reply, AllocError>
+    ensures { IfOk result (λ reply. reply ≡ asked_if_enabled doc.now.state kind command) }
 {
     if is_enabled(doc, command) {
         query(alloc, doc, affected_host(doc), kind, command)
@@ -39,9 +44,9 @@ fn reply_for(
     ensures { IfOk result (λ reply. reply ≡ reply_for doc.now.state kind command) }
 {
     match kind {
-        QueryKind::Supported => Ok(Reply::Flag(is_supported(command))),
+        QueryKind::Supported => Ok(Reply::Flag(true)),
         QueryKind::Enabled => Ok(Reply::Flag(is_enabled(doc, command))),
-        kind => gated(alloc, doc, kind, command),
+        kind => asked_if_enabled(alloc, doc, kind, command),
     }
 }
 

@@ -1,0 +1,92 @@
+-- What holds of an editor that is typing: there is a last entry to join.
+use Rattle.std.proofs.Common.{◌≡◌, ℕ, zero, suc, ◌<◌, Bool, true, false, not, eqb, true≢false, List, [], ◌∷◌, length, take, Option, Some, Ok, refl, sym, ap, subst, ◌∙◌, arith}
+use Rattle.std.specs.Prelude.{nat_lt, ◌&&◌, ◌||◌}
+use Rattle.std.proofs.lemmas.Bool.{and_parts}
+use Rattle.std.proofs.lemmas.Bool.Decides.{nat_tests}
+use Rattle.html_names.specs.declared.commands.Command.{Command}
+use Rattle.html_names.specs.declared.commands.Command.TheVariants.{InsertText}
+use Rattle.undo_log.specs.declared.log.Committed.{Committed}
+use Rattle.edit_model.specs.State.{State}
+use Rattle.edit_model.specs.History.{Entry, History, entry_of, with_entry, joined, joined_in, recorded, redone_state, redone_history, redone_history_by}
+use Rattle.edit_model.specs.Run.{Run}
+use Rattle.edit_doc.specs.Whole.{Whole, IsDoc}
+use Rattle.edit_engine.specs.Commands.{row_of, types_text}
+use Rattle.edit_engine.specs.Editing.{IsJoinable, IsResting}
+use Rattle.edit_engine.specs.Execution.{ran, typing_after}
+use Rattle.edit_engine.specs.Running.{IsMade, has_entry, Ran}
+use Rattle.edit_engine.proofs.Outcomes.{shown}
+
+-- the command that types is no keeping one
+pub typing_keeps_none : (c : Command) → types_text c ≡ true → (row_of c).keeping ≡ false
+typing_keeps_none InsertText is = refl
+typing_keeps_none _ is = absurd (true≢false (sym is))
+
+taken_some : (n : ℕ) (e : Entry) (es : List Entry) → 0 < n → 0 < length (take n (e ∷ es))
+taken_some zero e es some = absurd (omega (arith, some))
+taken_some (suc n) e es some = omega arith
+
+joined_some : (s : State) (es : List Entry) → 0 < length es → 0 < length (joined_in s es)
+joined_some s [] some = some
+joined_some s (e ∷ es) some = omega arith
+
+module _ (h : History) (began s : State) (depth : 0 < h.depth) where
+  with_edits : (j : Bool) → eqb (length s.edits) 0 ≡ false → (j ≡ true → IsJoinable h) → IsJoinable (recorded j began s h)
+  unfolding recorded joined with_entry
+  with_edits true some joinable = rw some (record { some = joined_some s h.undo (joinable refl).some; last = (joinable refl).last })
+  with_edits false some joinable = rw some (record { some = taken_some h.depth (entry_of began s) h.undo depth; last = refl })
+
+  without_edits : (j : Bool) → eqb (length s.edits) 0 ≡ true → IsJoinable h → IsJoinable (recorded j began s h)
+  unfolding recorded
+  without_edits j none joinable = rw none joinable
+
+  pub recorded_joinable : (typing types : Bool) → (typing ≡ true → IsJoinable h) → (types && (typing || nat_lt 0 (length s.edits))) ≡ true → IsJoinable (recorded (typing && types) began s h)
+  recorded_joinable typing types joinable is = by_edits (eqb (length s.edits) 0) refl
+    where
+      still : (t : Bool) → typing ≡ t → eqb (length s.edits) 0 ≡ true → t ≡ true
+      still true e none = refl
+      still false e none =
+          let some : (typing || nat_lt 0 (length s.edits)) ≡ true = (and_parts types (typing || nat_lt 0 (length s.edits)) is).1 in
+          let some' : nat_lt 0 (length s.edits) ≡ true = rw e at some in
+          absurd (grind (arith, nat_tests, none, some'))
+
+      by_edits : (b : Bool) → eqb (length s.edits) 0 ≡ b → IsJoinable (recorded (typing && types) began s h)
+      by_edits true none = without_edits (typing && types) none (joinable (still typing refl none))
+      by_edits false some = with_edits (typing && types) some (λ j. joinable (and_parts typing types j).0)
+
+-- ---- through the history
+
+redone_joinable : (h : History) → IsJoinable h → IsJoinable (redone_history h)
+unfolding redone_history
+redone_joinable h j = subst (λ (es : List Entry). IsJoinable (redone_history_by es h)) (sym j.last) j
+
+pub rests_redone : (old new : Whole) (typing taken : Bool) → new ≡ record old { state = redone_state old.history old.state; history = redone_history old.history } → IsResting old typing → IsResting new (typing && not taken)
+rests_redone old new typing taken is rests = record {
+  closed = ap (λ (w : Whole). w.began) is ∙ rests.closed;
+  joinable = λ on. subst IsJoinable (sym (ap (λ (w : Whole). w.history) is)) (redone_joinable old.history (rests.joinable (and_parts typing (not taken) on).0));
+}
+
+-- ---- a command
+
+module _ (old new : Whole) (typing : Bool) (c : Command) (m : Run Bool) where
+  -- the run is made, and this is whether the editor is typing afterwards
+  pub record IsTaken (after : Bool) : Type 0 where
+    pub made : IsMade old new (typing && types_text c) (row_of c).keeping m
+    pub on : after ≡ typing_after (shown old typing) c (ran old.state (row_of c).keeping m)
+
+  pub taken : (joining after : Bool) (o : Option Committed) (committed : Committed) → joining ≡ (typing && types_text c) → o ≡ Some committed → Ran (Ok o) old new joining (row_of c).keeping m → after ≡ (types_text c && (typing || has_entry committed)) → IsTaken after
+  taken joining after o committed joins is ran is_on =
+      let k = (row_of c).keeping in
+      let r : Ran (Ok (Some committed)) old new (typing && types_text c) k m = subst (λ (x : Option Committed). Ran (Ok x) old new (typing && types_text c) k m) is (subst (λ (j : Bool). Ran (Ok o) old new j k m) joins ran) in
+      record { made = r.0; on = is_on ∙ ap (λ b. types_text c && (typing || b)) r.1 }
+
+  pub joining_is : (joining : Bool) → joining ≡ (typing && types_text c) → IsResting old typing → joining ≡ true → IsJoinable old.history × ((row_of c).keeping ≡ false)
+  joining_is joining joins rests on =
+      let parts = and_parts typing (types_text c) (sym joins ∙ on) in
+      (rests.joinable parts.0, typing_keeps_none c parts.1)
+
+  pub rests_after : (after : Bool) → IsDoc old → IsResting old typing → IsTaken after → IsResting new after
+  rests_after after law rests t = record {
+    closed = t.made.closed;
+    joinable = λ on. subst IsJoinable (sym t.made.history)
+        (recorded_joinable old.history old.state (ran old.state (row_of c).keeping m) law.some_depth typing (types_text c) rests.joinable (sym t.on ∙ on));
+  }

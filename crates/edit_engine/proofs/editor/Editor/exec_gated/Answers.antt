@@ -1,0 +1,37 @@
+use Rattle.std.proofs.Common.{◌≡◌, true, false, true≢false, sym, ap, ◌∙◌, inl, refl}
+use Rattle.command_gate.specs.Denied.{is_denied}
+use Rattle.edit_engine.proofs.Confining.{standing, outside_kept, marks_kept, islands_kept, characters_kept}
+use Rattle.edit_engine.proofs.Outcomes.{denied_outcome, allowed_outcome}
+use Rattle.edit_engine.proofs.editor.Editor.exec_gated.Goals as goal
+
+pub returns-then-denies : goal.returns-then-denies
+returns-then-denies g c =
+    let old = c.args.self.now in
+    let name = c.args.name.now in
+    let v = c.args.value.now in
+    let denied = c.args.gate.now in
+    let stands = standing c.self.inside.doc c.self.inside.typing old c.self.view_is c.self.invariant c.lawful.ensures in
+    let is : is_denied denied name ≡ true = ap (is_denied denied) (sym c.as_bytes.ensures.value) ∙ (sym c.denies.ensures ∙ c.if-denies.true) in
+    record {
+      denied = λ _. (refl, refl);
+      tells = (inl (denied_outcome denied old name v is), refl);
+      confined = outside_kept old old name v stands (inl refl);
+      marks = marks_kept old old name v stands (inl refl);
+      islands = islands_kept old old name v stands (inl refl);
+      characters = characters_kept old old name v stands (inl refl);
+    }
+
+pub returns : goal.returns
+returns g c =
+    let old = c.args.self.now in
+    let name = c.args.name.now in
+    let denied = c.args.gate.now in
+    let is : is_denied denied name ≡ false = ap (is_denied denied) (sym c.as_bytes.ensures.value) ∙ (sym c.denies.ensures ∙ c.if-denies.false) in
+    record {
+      denied = λ yes. absurd (true≢false (sym yes ∙ is));
+      tells = rw (allowed_outcome denied old name c.args.value.now is) c.exec.ensures.tells;
+      confined = c.exec.ensures.confined;
+      marks = c.exec.ensures.marks;
+      islands = c.exec.ensures.islands;
+      characters = c.exec.ensures.characters;
+    }
