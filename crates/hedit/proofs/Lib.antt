@@ -1,3 +1,4 @@
+pub mod DeniedNames
 pub mod WordsLemmas
 pub mod BlockLemmas
 pub mod BlockGrammar

@@ -29,9 +29,7 @@ use Rattle.hedit.specs.Transcript.{Transcript, transcript_of, refused, page_edit
 use Rattle.hedit.specs.Following.{Follows, IsWanted, Answered}
 use Rattle.hedit.specs.declared.session.Status.{Status}
 use Rattle.hedit.specs.declared.session.Status.TheVariants.{Done, WriteFault, Memory}
-use Rattle.hedit.specs.declared.words.Limits.{Limits}
-use Rattle.hedit.specs.declared.words.Order.{Order}
-use Rattle.hedit.specs.declared.words.Order.TheVariants.{Run, Check}
+use Rattle.hedit.specs.Words.{Limits, Order, Run, Check}
 
 -- ---- statuses that no transcript gives
 
@@ -110,13 +108,13 @@ wanted_line place kinds.Memory want other e = absurd (other refl)
 
 -- ---- acts one after another
 
-pub replies_to-cons : (e : Editing) (line : List ℕ) (lines : List (List ℕ)) → replies_to e (line ∷ lines) ≡ (line_reply e line).text ++ replies_to (line_reply e line).after lines
+pub replies_to-cons : (denied : List (List ℕ)) (e : Editing) (line : List ℕ) (lines : List (List ℕ)) → replies_to denied e (line ∷ lines) ≡ (line_reply denied e line).text ++ replies_to denied (line_reply denied e line).after lines
 unfolding replies_to
-replies_to-cons e line lines = refl
+replies_to-cons denied e line lines = refl
 
-pub replies_to-nil : (e : Editing) → replies_to e [] ≡ []
+pub replies_to-nil : (denied : List (List ℕ)) (e : Editing) → replies_to denied e [] ≡ []
 unfolding replies_to
-replies_to-nil e = refl
+replies_to-nil denied e = refl
 
 -- What the acts so far had to write is written, and rest is still to be written.
 pub record SoFar (start now : Option (List ℕ)) (rest whole : List ℕ) : Type 0 where
@@ -163,21 +161,21 @@ so_far-whole start now rest whole c0 c1 s none less =
     }
 
 -- the replies to some lines are that to the first, and then those to the others by the editor that it leaves
-pub acts_parted : (e : Editing) (text line later : List ℕ) → 0 < length text → (0 < length text → lines_of text ≡ line ∷ lines_of later) → replies_to e (lines_of text) ≡ (line_reply e line).text ++ replies_to (line_reply e line).after (lines_of later)
-acts_parted e text line later some parts = ap (replies_to e) (parts some) ∙ replies_to-cons e line (lines_of later)
+pub acts_parted : (denied : List (List ℕ)) (e : Editing) (text line later : List ℕ) → 0 < length text → (0 < length text → lines_of text ≡ line ∷ lines_of later) → replies_to denied e (lines_of text) ≡ (line_reply denied e line).text ++ replies_to denied (line_reply denied e line).after (lines_of later)
+acts_parted denied e text line later some parts = ap (replies_to denied e) (parts some) ∙ replies_to-cons denied e line (lines_of later)
 
 pub some_left : (empty : Bool) (text : List ℕ) → empty ≡ (length text == 0) → empty ≡ false → 0 < length text
 some_left empty text is none = grind (arith, nat_tests)
 
-pub none_left : (e : Editing) (empty : Bool) (text : List ℕ) → empty ≡ (length text == 0) → empty ≡ true → replies_to e (lines_of text) ≡ []
-none_left e empty [] is so = replies_to-nil e
-none_left e empty (b ∷ text) is so = absurd (let z : (length (b ∷ text) == 0) ≡ true = sym is ∙ so in grind (arith, nat_tests))
+pub none_left : (denied : List (List ℕ)) (e : Editing) (empty : Bool) (text : List ℕ) → empty ≡ (length text == 0) → empty ≡ true → replies_to denied e (lines_of text) ≡ []
+none_left denied e empty [] is so = replies_to-nil denied e
+none_left denied e empty (b ∷ text) is so = absurd (let z : (length (b ∷ text) == 0) ≡ true = sym is ∙ so in grind (arith, nat_tests))
 
 -- ---- a page's editor
 
-pub page_replies : (a : State) (cap undo : ℕ) (f : Siblings) (lines : List (List ℕ)) → IsDocument a cap f → replies_to (new_editing a undo) lines ≡ replies_to (page_editing cap undo f) lines
+pub page_replies : (denied : List (List ℕ)) (a : State) (cap undo : ℕ) (f : Siblings) (lines : List (List ℕ)) → IsDocument a cap f → replies_to denied (new_editing a undo) lines ≡ replies_to denied (page_editing cap undo f) lines
 unfolding first_state
-page_replies a cap undo f lines d = ap (λ e. replies_to e lines) (by_parts a.trees a.next a.cap d.trees d.next d.cap)
+page_replies denied a cap undo f lines d = ap (λ e. replies_to denied e lines) (by_parts a.trees a.next a.cap d.trees d.next d.cap)
   where
     by_parts : (t : Forest Content) (n k : ℕ) → t ≡ document_of f → n ≡ suc (size f) → k ≡ cap → new_editing (record { trees = t; next = n; cap = k; held = [] }) undo ≡ page_editing cap undo f
     by_parts t n k et en ek = rw (et, en, ek) refl

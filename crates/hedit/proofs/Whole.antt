@@ -7,18 +7,14 @@ use Rattle.edit_io.specs.Faults.{Rose}
 use Rattle.edit_io.specs.Told.{with_front, with_end, IsAtEnd}
 use Rattle.edit_io.proofs.Told.{with_end-nil, with_front-some, with_front-none}
 use Rattle.script_read.specs.Reading.{number_of}
-use Rattle.hedit.specs.Words.{order_of, amount_of, choice_of, greatest_cap, greatest_undo, usual_undo, with_choice, AreSettings, IsOrder, none_given}
+use Rattle.hedit.specs.Words.{Order, Run, Check, Choice, CapAt, UndoUpTo, Denying, Given, order_of, amount_of, choice_of, greatest_cap, greatest_undo, usual_undo, with_choice, AreSettings, IsOrder, none_given}
 use Rattle.hedit.specs.Transcript.{Transcript, transcript_of, transcript, order_transcript, reads_input, gives}
 use Rattle.hedit.specs.Following.{Follows, RunFollows, IsAnswered, HasCap, Answered}
 use Rattle.hedit.specs.declared.session.Status.{Status}
 use Rattle.hedit.specs.declared.session.Status.TheVariants.{Done, Usage, ReadFault, WriteFault, Memory, PageRefused, TooLong}
-use Rattle.hedit.specs.declared.words.Order.{Order}
-use Rattle.hedit.specs.declared.words.Order.TheVariants.{Run, Check}
 use Rattle.hedit.specs.declared.words.Setting.{Setting}
-use Rattle.hedit.specs.declared.words.Setting.TheVariants.{Cap, Undo}
-use Rattle.hedit.specs.declared.words.Choice.{Choice}
-use Rattle.hedit.specs.declared.words.Choice.TheVariants as choices
-use Rattle.hedit.specs.declared.words.Options.{Options}
+use Rattle.hedit.specs.declared.words.Setting.TheVariants.{Cap, Undo, Deny}
+use Rattle.hedit.specs.Denials.{names_of}
 use Rattle.hedit.proofs.Runs.{nothing_taken, gives_answered}
 
 -- ---- an order's cap is a label, and it keeps entries
@@ -40,32 +36,35 @@ amount_above greatest (Some k) n e =
     rw (← p.1) above
 
 abbrev IsAbove : Choice → Type 0
-IsAbove (choices.Cap n) = 0 < n
-IsAbove (choices.Undo n) = 0 < n
+IsAbove (CapAt n) = 0 < n
+IsAbove (UndoUpTo n) = 0 < n
+IsAbove (Denying names) = Unit {0}
 
-mapped : (f : ℕ → Choice) (o : Option ℕ) (x : Choice) → option_map f o ≡ Some x → (n : ℕ) × (o ≡ Some n) × (f n ≡ x)
+mapped : {A : Type 0} (f : A → Choice) (o : Option A) (x : Choice) → option_map f o ≡ Some x → (n : A) × (o ≡ Some n) × (f n ≡ x)
 mapped f None x e = absurd (let e' = e in cc)
 mapped f (Some n) x e = (n, refl, let e' = e in cc)
 
 choice_above : (s : Setting) (text : List ℕ) (x : Choice) → choice_of s text ≡ Some x → IsAbove x
 choice_above Cap text x e =
-    let m = mapped choices.Cap (amount_of greatest_cap text) x e in
+    let m = mapped CapAt (amount_of greatest_cap text) x e in
     subst IsAbove m.2 (amount_above greatest_cap (number_of text) m.0 m.1)
 choice_above Undo text x e =
-    let m = mapped choices.Undo (amount_of greatest_undo text) x e in
+    let m = mapped UndoUpTo (amount_of greatest_undo text) x e in
     subst IsAbove m.2 (amount_above greatest_undo (number_of text) m.0 m.1)
+choice_above Deny text x e = subst IsAbove (mapped Denying (names_of text) x e).2 tt
 
-abbrev AmountsAbove : Options → Type 0
+abbrev AmountsAbove : Given → Type 0
 AmountsAbove o = IfSome o.cap (λ n. 0 < n) × IfSome o.undo (λ n. 0 < n)
 
-settings_above : (xs : List (Setting × Choice)) (words : List (List ℕ)) (before after : Options) → AreSettings xs words before after → AmountsAbove before → AmountsAbove after
+settings_above : (xs : List (Setting × Choice)) (words : List (List ℕ)) (before after : Given) → AreSettings xs words before after → AmountsAbove before → AmountsAbove after
 settings_above [] words before after s above = subst AmountsAbove s.1 above
 settings_above (x ∷ xs) words before after s above =
     settings_above xs s.0 (with_choice before x.1) after s.3 (one x.1 (choice_above x.0 s.1.0 x.1 s.1.1))
   where
     one : (c : Choice) → IsAbove c → AmountsAbove (with_choice before c)
-    one (choices.Cap n) some = (some, above.1)
-    one (choices.Undo n) some = (above.0, some)
+    one (CapAt n) some = (some, above.1)
+    one (UndoUpTo n) some = (above.0, some)
+    one (Denying names) some = above
 
 picked_above : (o : Option ℕ) (usual : ℕ) → 0 < usual → IfSome o (λ k. 0 < k) → 0 < unwrap_or o usual
 picked_above None usual some above = some

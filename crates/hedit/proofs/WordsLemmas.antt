@@ -6,17 +6,13 @@ use Rattle.std.specs.Option.{option_map, option_and_then, option_map_or}
 use Rattle.std.specs.Str.{bytes_eq}
 use Rattle.std.proofs.lemmas.List.{take-append-drop}
 use Rattle.std.proofs.lemmas.Slice.Eq.{bytes_eq-Decides}
-use Rattle.hedit.specs.declared.words.Order.{Order}
-use Rattle.hedit.specs.declared.words.Order.TheVariants.{Run, Check}
 use Rattle.hedit.specs.declared.words.Setting.{Setting}
-use Rattle.hedit.specs.declared.words.Setting.TheVariants.{Cap, Undo}
-use Rattle.hedit.specs.declared.words.Choice.{Choice}
-use Rattle.hedit.specs.declared.words.Options.{Options}
-use Rattle.hedit.specs.Words.{name_of, choice_of, is_given, with_choice, none_given, setting_named, setting_joined, setting_read, joined_read, options_read, run_of, order_of, is_empty, IsSetting, AreSettings, IsOrder}
+use Rattle.hedit.specs.declared.words.Setting.TheVariants.{Cap, Undo, Deny}
+use Rattle.hedit.specs.Words.{Order, Run, Check, Choice, Given, name_of, choice_of, is_given, with_choice, none_given, setting_named, setting_joined, setting_read, joined_read, options_read, run_of, order_of, is_empty, IsSetting, AreSettings, IsOrder}
 
 -- ---- the two first words
 
-pub named_first : {W : Type 0} (f : W → List ℕ) (o p : Options) (s : Setting) (words rest : List W) (word text : W) (w t : List ℕ)
+pub named_first : {W : Type 0} (f : W → List ℕ) (o p : Given) (s : Setting) (words rest : List W) (word text : W) (w t : List ℕ)
     → 2 ≤ length words → word ≡ get_or words 0 word → text ≡ get_or words 1 text → rest ≡ drop 2 words → w ≡ f word → t ≡ f text
     → Some s ≡ setting_named w → Some p ≡ setting_read o s t → options_read p (map f rest) ≡ options_read o (map f words)
 named_first f o p s [] rest word text w t some h0 h1 er ew et es ep = absurd (omega arith)
@@ -26,7 +22,7 @@ named_first f o p s (x ∷ (y ∷ ws)) rest word text w t some h0 h1 er ew et es
     let b : f y ≡ t = ap f (sym h1) ∙ sym et in
     rw (a, b, ← es) (rw (← ep, er) refl)
 
-pub joined_first : {W : Type 0} (f : W → List ℕ) (o p : Options) (words rest : List W) (word : W) (w v : List ℕ)
+pub joined_first : {W : Type 0} (f : W → List ℕ) (o p : Given) (words rest : List W) (word : W) (w v : List ℕ)
     → 2 ≤ length words → word ≡ get_or words 0 word → rest ≡ drop 1 words → w ≡ f word → v ≡ f word
     → None ≡ setting_named w → Some p ≡ joined_read o v → options_read p (map f rest) ≡ options_read o (map f words)
 joined_first f o p [] rest word w v some h0 er ew ev es ep = absurd (omega arith)
@@ -51,53 +47,56 @@ and_then-some : {A B : Type 0} (f : A → Option B) (o : Option A) (b : B) → o
 and_then-some f None b e = absurd (cc)
 and_then-some f (Some a) b e = record { first = a; was = refl; then_b = e }
 
-name-by : (w : List ℕ) (s : Setting) (a b : Bool) → Decides a (w ≡ codes "--cap") → Decides b (w ≡ codes "--undo")
-    → cond a (Some Cap) (cond b (Some Undo) None) ≡ Some s → w ≡ name_of s
-name-by w Cap true b da db e = da.0 refl
-name-by w Undo true b da db e = absurd (cc)
-name-by w Cap false true da db e = absurd (cc)
-name-by w Undo false true da db e = db.0 refl
-name-by w s false false da db e = absurd (cc)
+name-by : (w : List ℕ) (s : Setting) (a b d : Bool) → Decides a (w ≡ codes "--cap") → Decides b (w ≡ codes "--undo") → Decides d (w ≡ codes "--deny")
+    → cond a (Some Cap) (cond b (Some Undo) (cond d (Some Deny) None)) ≡ Some s → w ≡ name_of s
+name-by w s true b d da db dd e = da.0 refl ∙ ap name_of (some-is e)
+name-by w s false true d da db dd e = db.0 refl ∙ ap name_of (some-is e)
+name-by w s false false true da db dd e = dd.0 refl ∙ ap name_of (some-is e)
+name-by w s false false false da db dd e = absurd (cc)
 
 name-is : (w : List ℕ) (s : Setting) → setting_named w ≡ Some s → w ≡ name_of s
-name-is w s e = let d = bytes_eq-Decides w (codes "--cap") in let u = bytes_eq-Decides w (codes "--undo") in
-    name-by w s (bytes_eq w (codes "--cap")) (bytes_eq w (codes "--undo")) d u e
+name-is w s e =
+    name-by w s (bytes_eq w (codes "--cap")) (bytes_eq w (codes "--undo")) (bytes_eq w (codes "--deny"))
+    (bytes_eq-Decides w (codes "--cap")) (bytes_eq-Decides w (codes "--undo")) (bytes_eq-Decides w (codes "--deny")) e
 
 begins : (w name : List ℕ) → starts_with nat_eq w name ≡ true → w ≡ name ++ drop (length name) w
 begins w name is =
     let e : name ≡ take (length name) w = (bytes_eq-Decides name (take (length name) w)).0 is in
     subst (λ h. w ≡ h ++ drop (length name) w) (sym e) (sym (take-append-drop (length name) w))
 
-joined-by : (w : List ℕ) (q : Setting × List ℕ) (a b : Bool) → (a ≡ true → w ≡ codes "--cap=" ++ drop 6 w) → (b ≡ true → w ≡ codes "--undo=" ++ drop 7 w)
-    → cond a (Some (Cap, drop 6 w)) (cond b (Some (Undo, drop 7 w)) None) ≡ Some q → w ≡ name_of q.0 ++ codes "=" ++ q.1
-joined-by w q true b da db e =
+joined-by : (w : List ℕ) (q : Setting × List ℕ) (a b d : Bool) → (a ≡ true → w ≡ codes "--cap=" ++ drop 6 w) → (b ≡ true → w ≡ codes "--undo=" ++ drop 7 w) → (d ≡ true → w ≡ codes "--deny=" ++ drop 7 w)
+    → cond a (Some (Cap, drop 6 w)) (cond b (Some (Undo, drop 7 w)) (cond d (Some (Deny, drop 7 w)) None)) ≡ Some q → w ≡ name_of q.0 ++ codes "=" ++ q.1
+joined-by w q true b d da db dd e =
     let f : (Cap, drop 6 w) ≡ q = some-is e in
     subst (λ (q : Setting × List ℕ). w ≡ name_of q.0 ++ codes "=" ++ q.1) f (da refl)
-joined-by w q false true da db e =
+joined-by w q false true d da db dd e =
     let f : (Undo, drop 7 w) ≡ q = some-is e in
     subst (λ (q : Setting × List ℕ). w ≡ name_of q.0 ++ codes "=" ++ q.1) f (db refl)
-joined-by w q false false da db e = absurd (cc)
+joined-by w q false false true da db dd e =
+    let f : (Deny, drop 7 w) ≡ q = some-is e in
+    subst (λ (q : Setting × List ℕ). w ≡ name_of q.0 ++ codes "=" ++ q.1) f (dd refl)
+joined-by w q false false false da db dd e = absurd (cc)
 
 joined-is : (w : List ℕ) (q : Setting × List ℕ) → setting_joined w ≡ Some q → w ≡ name_of q.0 ++ codes "=" ++ q.1
 joined-is w q e =
-    joined-by w q _ _ (begins w (codes "--cap=")) (begins w (codes "--undo=")) e
+    joined-by w q _ _ _ (begins w (codes "--cap=")) (begins w (codes "--undo=")) (begins w (codes "--deny=")) e
 
-pub record Reads (o : Options) (s : Setting) (text : List ℕ) (p : Options) : Type 0 where
+pub record Reads (o : Given) (s : Setting) (text : List ℕ) (p : Given) : Type 0 where
   pub choice : Choice
   pub is : choice_of s text ≡ Some choice
   pub new : is_given o s ≡ false
   pub then_p : with_choice o choice ≡ p
 
-reads-by : (o : Options) (s : Setting) (text : List ℕ) (p : Options) (g : Bool) (a : Option Choice) → is_given o s ≡ g → choice_of s text ≡ a
+reads-by : (o : Given) (s : Setting) (text : List ℕ) (p : Given) (g : Bool) (a : Option Choice) → is_given o s ≡ g → choice_of s text ≡ a
     → cond g None (option_map (with_choice o) a) ≡ Some p → Reads o s text p
 reads-by o s text p true a eg ea e = absurd (cc)
 reads-by o s text p false None eg ea e = absurd (cc)
 reads-by o s text p false (Some x) eg ea e = record { choice = x; is = ea; new = eg; then_p = some-is e }
 
-reads-is : (o : Options) (s : Setting) (text : List ℕ) (p : Options) → setting_read o s text ≡ Some p → Reads o s text p
+reads-is : (o : Given) (s : Setting) (text : List ℕ) (p : Given) → setting_read o s text ≡ Some p → Reads o s text p
 reads-is o s text p e = reads-by o s text p (is_given o s) (choice_of s text) refl refl e
 
-reads-back : (o : Options) (s : Setting) (text : List ℕ) (x : Choice) → choice_of s text ≡ Some x → is_given o s ≡ false → setting_read o s text ≡ Some (with_choice o x)
+reads-back : (o : Given) (s : Setting) (text : List ℕ) (x : Choice) → choice_of s text ≡ Some x → is_given o s ≡ false → setting_read o s text ≡ Some (with_choice o x)
 reads-back o s text x amount new = rw (new, amount) refl
 
 -- ---- the options
@@ -105,29 +104,32 @@ reads-back o s text x amount new = rw (new, amount) refl
 name-named : (s : Setting) → setting_named (name_of s) ≡ Some s
 name-named Cap = refl
 name-named Undo = refl
+name-named Deny = refl
 
 joined-not_named : (s : Setting) (text : List ℕ) → setting_named (name_of s ++ codes "=" ++ text) ≡ None
 joined-not_named Cap text = refl
 joined-not_named Undo text = refl
+joined-not_named Deny text = refl
 
 joined-joined : (s : Setting) (text : List ℕ) → setting_joined (name_of s ++ codes "=" ++ text) ≡ Some (s, text)
 joined-joined Cap text = refl
 joined-joined Undo text = refl
+joined-joined Deny text = refl
 
-joined-back : (o : Options) (s : Setting) (text : List ℕ) (x : Choice) → choice_of s text ≡ Some x → is_given o s ≡ false
+joined-back : (o : Given) (s : Setting) (text : List ℕ) (x : Choice) → choice_of s text ≡ Some x → is_given o s ≡ false
     → joined_read o (name_of s ++ codes "=" ++ text) ≡ Some (with_choice o x)
 joined-back o s text x amount new = rw (joined-joined s text) (reads-back o s text x amount new)
 
-two-back : (o p : Options) (s : Setting) (text : List ℕ) (x : Choice) (rest : List (List ℕ)) → choice_of s text ≡ Some x → is_given o s ≡ false
+two-back : (o p : Given) (s : Setting) (text : List ℕ) (x : Choice) (rest : List (List ℕ)) → choice_of s text ≡ Some x → is_given o s ≡ false
     → options_read (with_choice o x) rest ≡ Some p → options_read o (name_of s ∷ (text ∷ rest)) ≡ Some p
 two-back o p s text x rest amount new more = rw (name-named s) (rw (reads-back o s text x amount new) more)
 
-one-back : (o p : Options) (s : Setting) (text : List ℕ) (x : Choice) (rest : List (List ℕ)) → choice_of s text ≡ Some x → is_given o s ≡ false
+one-back : (o p : Given) (s : Setting) (text : List ℕ) (x : Choice) (rest : List (List ℕ)) → choice_of s text ≡ Some x → is_given o s ≡ false
     → options_read (with_choice o x) rest ≡ Some p → options_read o ((name_of s ++ codes "=" ++ text) ∷ rest) ≡ Some p
 one-back o p s text x [] amount new more = joined-back o s text x amount new ∙ more
 one-back o p s text x (next ∷ rest) amount new more = rw (joined-not_named s text) (rw (joined-back o s text x amount new) more)
 
-settings-read : (xs : List (Setting × Choice)) (words : List (List ℕ)) (o p : Options) → AreSettings xs words o p → options_read o words ≡ Some p
+settings-read : (xs : List (Setting × Choice)) (words : List (List ℕ)) (o p : Given) → AreSettings xs words o p → options_read o words ≡ Some p
 settings-read [] words o p are = rw are.0 (ap Some are.1)
 settings-read (x ∷ xs) words o p (rest, is, new, more) =
     let tail = settings-read xs rest (with_choice o x.1) p more in
@@ -136,15 +138,15 @@ settings-read (x ∷ xs) words o p (rest, is, new, more) =
       | inr e ↦ rw e (one-back o p x.0 is.0 x.1 rest is.1 new tail)
     ]
 
-pub record Settings (words : List (List ℕ)) (o p : Options) : Type 0 where
+pub record Settings (words : List (List ℕ)) (o p : Given) : Type 0 where
   pub list : List (Setting × Choice)
   pub are : AreSettings list words o p
 
-settings-more : (o p : Options) (s : Setting) (x : Choice) (words rest : List (List ℕ)) → IsSetting s x words rest → is_given o s ≡ false
+settings-more : (o p : Given) (s : Setting) (x : Choice) (words rest : List (List ℕ)) → IsSetting s x words rest → is_given o s ≡ false
     → Settings rest (with_choice o x) p → Settings words o p
 settings-more o p s x words rest is new more = record { list = (s, x) ∷ more.list; are = (rest, is, new, more.are) }
 
-read-settings : (o p : Options) (words : List (List ℕ)) → options_read o words ≡ Some p → Settings words o p
+read-settings : (o p : Given) (words : List (List ℕ)) → options_read o words ≡ Some p → Settings words o p
 read-settings o p [] e = record { list = []; are = (refl, some-is e) }
 read-settings o p (word ∷ []) e =
     let j = and_then-some (λ q. setting_read o q.0 q.1) (setting_joined word) p e in
@@ -159,18 +161,18 @@ read-settings o p (word ∷ (text ∷ words)) e =
           let t = and_then-some (λ q. options_read q words) (setting_read o s text) p e in
           let r = reads-is o s text t.first t.was in
           settings-more o p s r.choice (word ∷ (text ∷ words)) words (text, r.is, inl (ap (λ w. w ∷ (text ∷ words)) (name-is word s was))) r.new
-          (read-settings (with_choice o r.choice) p words (subst (λ (q : Options). options_read q words ≡ Some p) (sym r.then_p) t.then_b))
+          (read-settings (with_choice o r.choice) p words (subst (λ (q : Given). options_read q words ≡ Some p) (sym r.then_p) t.then_b))
       | None ↦ λ was e.
           let t = and_then-some (λ q. options_read q (text ∷ words)) (joined_read o word) p e in
           let j = and_then-some (λ q. setting_read o q.0 q.1) (setting_joined word) t.first t.was in
           let r = reads-is o j.first.0 j.first.1 t.first j.then_b in
           settings-more o p j.first.0 r.choice (word ∷ (text ∷ words)) (text ∷ words) (j.first.1, r.is, inr (ap (λ w. w ∷ (text ∷ words)) (joined-is word j.first j.was))) r.new
-          (read-settings (with_choice o r.choice) p (text ∷ words) (subst (λ (q : Options). options_read q (text ∷ words) ≡ Some p) (sym r.then_p) t.then_b))
+          (read-settings (with_choice o r.choice) p (text ∷ words) (subst (λ (q : Given). options_read q (text ∷ words) ≡ Some p) (sym r.then_p) t.then_b))
     ] refl e
 
 -- ---- the order
 
-is_run : (word : List ℕ) (words : List (List ℕ)) (o : Order) (p : Options) → word ≡ codes "run" → options_read none_given words ≡ Some p → run_of p ≡ o
+is_run : (word : List ℕ) (words : List (List ℕ)) (o : Order) (p : Given) → word ≡ codes "run" → options_read none_given words ≡ Some p → run_of p ≡ o
     → IsOrder (word ∷ words) o
 is_run word words o p w r e =
     let s = read-settings none_given p words r in
@@ -180,7 +182,7 @@ is_check : (word : List ℕ) (words : List (List ℕ)) (o : Order) → word ≡ 
 is_check word [] o w e = subst (λ (o : Order). IsOrder (word ∷ []) o) (some-is e) (ap (λ x. x ∷ []) w)
 is_check word (next ∷ words) o w e = absurd (cc)
 
-run-by : (word : List ℕ) (words : List (List ℕ)) (o : Order) (r : Option Options) → options_read none_given words ≡ r → word ≡ codes "run"
+run-by : (word : List ℕ) (words : List (List ℕ)) (o : Order) (r : Option Given) → options_read none_given words ≡ r → word ≡ codes "run"
     → option_map run_of r ≡ Some o → IsOrder (word ∷ words) o
 run-by word words o None er w e = absurd (cc)
 run-by word words o (Some p) er w e = is_run word words o p w er (some-is e)

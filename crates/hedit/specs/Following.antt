@@ -3,12 +3,10 @@ use Rattle.std.specs.Prelude.{◌≡◌, ◌⊎◌, ℕ, ◌<◌, ◌≤◌, Boo
 use Rattle.edit_io.specs.Faults.{Rose}
 use Rattle.edit_io.specs.Told.{with_front, with_end, IsAtEnd, TakesPrefix}
 use Rattle.page_grammar.specs.Kind.{Kind}
-use Rattle.hedit.specs.Words.{IsOrder}
+use Rattle.hedit.specs.Words.{Order, Run, Check, IsOrder}
 use Rattle.hedit.specs.Transcript.{Transcript, refused, word_of, transcript, reads_input}
 use Rattle.hedit.specs.declared.session.Status.{Status}
 use Rattle.hedit.specs.declared.session.Status.TheVariants.{Done, Usage, ReadFault, WriteFault, Memory, PageRefused, TooLong}
-use Rattle.hedit.specs.declared.words.Order.{Order}
-use Rattle.hedit.specs.declared.words.Order.TheVariants.{Run, Check}
 
 -- The status and what a sink took, where this was to be answered: a prefix of the text, all of it with the status that was to be
 -- answered, and any other status for a cause. A sink's count of faults is looked at before and after.

@@ -2,10 +2,9 @@
 use Rattle.std.specs.Prelude.{◌≡◌, ◌↔◌, ℕ, List, Some}
 use Rattle.page_grammar.specs.Reading.{Reading, page_reading, IsReading}
 use Rattle.script_read.specs.Reading.{Line, line_of, IsLine}
-use Rattle.hedit.specs.Words.{order_of, IsOrder}
+use Rattle.hedit.specs.Words.{Order, order_of, IsOrder}
 use Rattle.hedit.specs.Block.{Block, block_in, IsBlock}
 use Rattle.hedit.specs.Transcript.{depth_limit}
-use Rattle.hedit.specs.declared.words.Order.{Order}
 
 pub record RestsOnGrammars : Type 0 where
   pub orders : (words : List (List ℕ)) (order : Order)

@@ -1,3 +1,4 @@
+pub mod Denials
 pub mod Words
 pub mod Block
 pub mod Replies

@@ -14,7 +14,7 @@ use Rattle.edit_query.specs.declared.reply.Reply.TheVariants as reply
 use Rattle.edit_engine.specs.declared.answers.ViewKind.{ViewKind}
 use Rattle.edit_engine.specs.declared.answers.ViewKind.TheVariants as view
 use Rattle.edit_engine.specs.Editing.{Editing, undone, redone, turned}
-use Rattle.edit_engine.specs.Execution.{Outcome, Refused, Deep, Full, Acted, outcome}
+use Rattle.edit_engine.specs.Execution.{Outcome, Refused, Deep, Full, Acted, gated_outcome}
 use Rattle.edit_engine.specs.Places.{pair_at, selecting, unselecting, marking, unmarking}
 use Rattle.edit_engine.specs.Queries.{reply_of}
 use Rattle.edit_engine.specs.Views.{view_text}
@@ -84,46 +84,46 @@ shown text = unwrap_or text bad_place
 abbrev pub view_reply : Editing → ViewKind → Replied
 view_reply e kind = replied (shown (view_text e kind)) e
 
--- ---- acts
+-- ---- acts; the commands of some names are denied
 
 abbrev pub unknown_act : List ℕ
 unknown_act = codes "! 2 unknown act\n"
 
-abbrev pub act_reply : Editing → Act → Replied
-act_reply e (Select anchor focus) = select_reply e (pair_at e.state.trees anchor focus)
-act_reply e Unselect = replied (codes "ok\n") (unselecting e)
-act_reply e (Mark name anchor focus) = mark_reply e name (pair_at e.state.trees anchor focus)
-act_reply e (Unmark name) = unmark_reply e name
-act_reply e (Exec name value) = exec_reply e (outcome e name value)
-act_reply e (Query kind name) = replied (query_text (reply_of e.state kind name)) e
-act_reply e (Undo count) = undo_reply e count
-act_reply e (Redo count) = redo_reply e count
-act_reply e (Probe path) = view_reply e (view.Probe path)
-act_reply e Html = view_reply e view.Html
-act_reply e Tree = view_reply e view.Tree
-act_reply e Points = view_reply e view.Points
-act_reply e Stat = view_reply e view.Stat
+abbrev pub act_reply : List (List ℕ) → Editing → Act → Replied
+act_reply denied e (Select anchor focus) = select_reply e (pair_at e.state.trees anchor focus)
+act_reply denied e Unselect = replied (codes "ok\n") (unselecting e)
+act_reply denied e (Mark name anchor focus) = mark_reply e name (pair_at e.state.trees anchor focus)
+act_reply denied e (Unmark name) = unmark_reply e name
+act_reply denied e (Exec name value) = exec_reply e (gated_outcome denied e name value)
+act_reply denied e (Query kind name) = replied (query_text (reply_of e.state kind name)) e
+act_reply denied e (Undo count) = undo_reply e count
+act_reply denied e (Redo count) = redo_reply e count
+act_reply denied e (Probe path) = view_reply e (view.Probe path)
+act_reply denied e Html = view_reply e view.Html
+act_reply denied e Tree = view_reply e view.Tree
+act_reply denied e Points = view_reply e view.Points
+act_reply denied e Stat = view_reply e view.Stat
 
 -- ---- lines
 
-abbrev pub known_reply : Editing → Option Act → Replied
-known_reply e None = replied (codes "! 1 syntax\n") e
-known_reply e (Some act) = act_reply e act
+abbrev pub known_reply : List (List ℕ) → Editing → Option Act → Replied
+known_reply denied e None = replied (codes "! 1 syntax\n") e
+known_reply denied e (Some act) = act_reply denied e act
 
-abbrev pub read_reply : Editing → Line → Replied
-read_reply e Long = replied (codes "! 3 long line\n") e
-read_reply e Unknown = replied unknown_act e
-read_reply e (Known act) = known_reply e act
+abbrev pub read_reply : List (List ℕ) → Editing → Line → Replied
+read_reply denied e Long = replied (codes "! 3 long line\n") e
+read_reply denied e Unknown = replied unknown_act e
+read_reply denied e (Known act) = known_reply denied e act
 
 -- an empty line is no act
-unfoldable pub line_reply : Editing → List ℕ → Replied
-line_reply e line =
-    if bytes_eq line [] then replied [] e else read_reply e (line_of line)
+unfoldable pub line_reply : List (List ℕ) → Editing → List ℕ → Replied
+line_reply denied e line =
+    if bytes_eq line [] then replied [] e else read_reply denied e (line_of line)
 
 -- each line is answered by the editor that the earlier lines left
-unfoldable pub replies_to : Editing → List (List ℕ) → List ℕ
-replies_to e [] = []
-replies_to e (line ∷ lines) = (line_reply e line).text ++ replies_to (line_reply e line).after lines
+unfoldable pub replies_to : List (List ℕ) → Editing → List (List ℕ) → List ℕ
+replies_to denied e [] = []
+replies_to denied e (line ∷ lines) = (line_reply denied e line).text ++ replies_to denied (line_reply denied e line).after lines
 
 -- the name of a command in an act is one of letters, digits and `-`
 abbrev pub IsNamed : Act → Type 0

@@ -11,11 +11,8 @@ use Rattle.page_grammar.specs.Reading.{Reading, Children, Refused, page_reading}
 use Rattle.page_grammar.specs.Page.{Siblings, size}
 use Rattle.edit_engine.specs.Editing.{Editing, new_editing}
 use Rattle.hedit.specs.Replies.{replies_to}
-use Rattle.hedit.specs.Words.{order_of, greatest_cap}
+use Rattle.hedit.specs.Words.{Limits, Order, Run, Check, order_of, greatest_cap}
 use Rattle.hedit.specs.Block.{Block, NoOpening, NoClosing, Whole, block_of}
-use Rattle.hedit.specs.declared.words.Limits.{Limits}
-use Rattle.hedit.specs.declared.words.Order.{Order}
-use Rattle.hedit.specs.declared.words.Order.TheVariants.{Run, Check}
 use Rattle.hedit.specs.declared.session.Status.{Status}
 use Rattle.hedit.specs.declared.session.Status.TheVariants.{Done, Usage, PageRefused, TooLong}
 
@@ -75,7 +72,8 @@ checked (Refused place kind) = refused place (word_of kind)
 
 -- `run`: the page of the block, and then the acts
 abbrev pub acted : Limits → List (List ℕ) → Reading → Transcript
-acted limits acts (Children children) = transcript_of Done (replies_to (page_editing limits.cap limits.undo children) acts)
+acted limits acts (Children children) =
+    transcript_of Done (replies_to limits.denied (page_editing limits.cap limits.undo children) acts)
 acted limits acts (Refused place kind) = refused place (word_of kind)
 
 abbrev pub run_block : Limits → (size : ℕ) → Block → Transcript

@@ -1,16 +1,27 @@
 -- The words of the command line, after the program's name: `check`, or `run` and its options.
 use Rattle.std.specs.Prelude.{◌≡◌, ◌⊎◌, ℕ, Bool, true, false, ◌&&◌, nat_lt, nat_le, nat_eq, List, [], ◌∷◌, ◌++◌, drop, codes, bytes_eq, Option, Some, None, is_some, unwrap_or, if◌then◌else◌}
+use denote.Ref.{Bor}
 use Rattle.std.specs.Option.{option_map, option_and_then, option_map_or}
 use Rattle.std.specs.List.{starts_with}
 use Rattle.script_read.specs.Reading.{number_of}
-use Rattle.hedit.specs.declared.words.Order.{Order}
-use Rattle.hedit.specs.declared.words.Order.TheVariants.{Run, Check}
+use Rattle.hedit.specs.Denials.{names_of, names_in}
+use Rattle.hedit.specs.declared.words.Order as read_order
+use Rattle.hedit.specs.declared.words.Order.TheVariants as orders
 use Rattle.hedit.specs.declared.words.Setting.{Setting}
-use Rattle.hedit.specs.declared.words.Setting.TheVariants.{Cap, Undo}
-use Rattle.hedit.specs.declared.words.Choice.{Choice}
-use Rattle.hedit.specs.declared.words.Choice.TheVariants as choices
+use Rattle.hedit.specs.declared.words.Setting.TheVariants.{Cap, Undo, Deny}
 use Rattle.hedit.specs.declared.words.Options.{Options}
-use Rattle.hedit.specs.declared.words.Limits.{Limits}
+use Rattle.hedit.specs.declared.words.Limits as read_limits
+
+-- What bounds a session: labels stay below the cap, so many entries are kept for undo, and these names of commands are denied.
+pub record Limits : Type 0 where
+  pub cap : ℕ
+  pub undo : ℕ
+  pub denied : List (List ℕ)
+
+-- what the program is asked to do
+pub data Order : Type 0 where
+  Run : (limits : Limits) → Order
+  Check : Order
 
 abbrev pub is_empty : List (List ℕ) → Bool
 is_empty [] = true
@@ -22,6 +33,7 @@ is_empty (word ∷ words) = false
 abbrev pub name_of : Setting → List ℕ
 name_of Cap = codes "--cap"
 name_of Undo = codes "--undo"
+name_of Deny = codes "--deny"
 
 -- the greatest cap, which holds where none is given
 abbrev pub greatest_cap : ℕ
@@ -38,25 +50,55 @@ usual_undo = 100
 abbrev pub amount_of : ℕ → List ℕ → Option ℕ
 amount_of greatest text = option_and_then (λ n. if nat_lt 0 n && nat_le n greatest then Some n else None) (number_of text)
 
+-- an option with its value
+pub data Choice : Type 0 where
+  CapAt : (amount : ℕ) → Choice
+  UndoUpTo : (amount : ℕ) → Choice
+  Denying : (names : List (List ℕ)) → Choice
+
 -- what the text of its value chooses for an option
 abbrev pub choice_of : Setting → List ℕ → Option Choice
-choice_of Cap text = option_map choices.Cap (amount_of greatest_cap text)
-choice_of Undo text = option_map choices.Undo (amount_of greatest_undo text)
+choice_of Cap text = option_map CapAt (amount_of greatest_cap text)
+choice_of Undo text = option_map UndoUpTo (amount_of greatest_undo text)
+choice_of Deny text = option_map Denying (names_of text)
 
-abbrev pub is_given : Options → Setting → Bool
-is_given o Cap = is_some o.cap
-is_given o Undo = is_some o.undo
+-- the options that are given so far
+pub record Given : Type 0 where
+  pub cap : Option ℕ
+  pub undo : Option ℕ
+  pub deny : Option (List (List ℕ))
 
-abbrev pub with_choice : Options → Choice → Options
-with_choice o (choices.Cap n) = record o { cap = Some n }
-with_choice o (choices.Undo n) = record o { undo = Some n }
+abbrev pub given_in : Options → Given
+given_in o = record { cap = o.cap; undo = o.undo; deny = option_map (λ text. names_in text.now) o.deny }
 
-abbrev pub none_given : Options
-none_given = record { cap = None; undo = None }
+abbrev pub is_given : Given → Setting → Bool
+is_given g Cap = is_some g.cap
+is_given g Undo = is_some g.undo
+is_given g Deny = is_some g.deny
+
+abbrev pub with_choice : Given → Choice → Given
+with_choice g (CapAt n) = record g { cap = Some n }
+with_choice g (UndoUpTo n) = record g { undo = Some n }
+with_choice g (Denying names) = record g { deny = Some names }
+
+abbrev pub none_given : Given
+none_given = record { cap = None; undo = None; deny = None }
 
 -- what holds in a session: what is given, and else what is usual
-abbrev pub limits_of : Options → Limits
-limits_of o = record { cap = unwrap_or o.cap greatest_cap; undo = unwrap_or o.undo usual_undo }
+abbrev pub limits_of : Given → Limits
+limits_of g =
+    record { cap = unwrap_or g.cap greatest_cap; undo = unwrap_or g.undo usual_undo; denied = unwrap_or g.deny [] }
+
+-- what the program keeps of the words shows these, where names are kept as their text
+abbrev pub denied_in : Option (Bor (List ℕ)) → List (List ℕ)
+denied_in text = option_map_or (λ text. names_in text.now) text []
+
+abbrev pub limits_in : read_limits.Limits → Limits
+limits_in l = record { cap = l.cap; undo = l.undo; denied = denied_in l.denied }
+
+abbrev pub order_in : read_order.Order → Order
+order_in (orders.Run limits) = Run (limits_in limits)
+order_in orders.Check = Check
 
 -- ---- the grammar: which words ask for which order
 
@@ -67,7 +109,7 @@ IsSetting s choice words rest =
     × ((words ≡ name_of s ∷ text ∷ rest) ⊎ (words ≡ (name_of s ++ codes "=" ++ text) ∷ rest))
 
 -- options in any order, each at most once: `before` are given before them, and `after` when they are
-abbrev pub AreSettings : List (Setting × Choice) → List (List ℕ) → Options → Options → Type 0
+abbrev pub AreSettings : List (Setting × Choice) → List (List ℕ) → Given → Given → Type 0
 AreSettings [] words before after = (words ≡ []) × (before ≡ after)
 AreSettings (x ∷ xs) words before after =
     (rest : List (List ℕ)) × IsSetting x.0 x.1 words rest × (is_given before x.0 ≡ false)
@@ -76,36 +118,40 @@ AreSettings (x ∷ xs) words before after =
 abbrev pub IsOrder : List (List ℕ) → Order → Type 0
 IsOrder words Check = words ≡ codes "check" ∷ []
 IsOrder words (Run limits) =
-    (xs : List (Setting × Choice)) × (rest : List (List ℕ)) × (options : Options)
-    × (words ≡ codes "run" ∷ rest) × AreSettings xs rest none_given options × (limits ≡ limits_of options)
+    (xs : List (Setting × Choice)) × (rest : List (List ℕ)) × (given : Given)
+    × (words ≡ codes "run" ∷ rest) × AreSettings xs rest none_given given × (limits ≡ limits_of given)
 
 -- ---- the order that words ask for, computed
 
 -- the option that a word names alone, and the one that a word gives with the text of its value
 abbrev pub setting_named : List ℕ → Option Setting
-setting_named word = if bytes_eq word (codes "--cap") then Some Cap else (if bytes_eq word (codes "--undo") then Some Undo else None)
+setting_named word =
+    if bytes_eq word (codes "--cap") then Some Cap
+    else (if bytes_eq word (codes "--undo") then Some Undo
+    else (if bytes_eq word (codes "--deny") then Some Deny else None))
 
 abbrev pub setting_joined : List ℕ → Option (Setting × List ℕ)
 setting_joined word =
     if starts_with nat_eq word (codes "--cap=") then Some (Cap, drop 6 word)
-    else (if starts_with nat_eq word (codes "--undo=") then Some (Undo, drop 7 word) else None)
+    else (if starts_with nat_eq word (codes "--undo=") then Some (Undo, drop 7 word)
+    else (if starts_with nat_eq word (codes "--deny=") then Some (Deny, drop 7 word) else None))
 
 -- one option more, if it isn't given yet and the text is one of its values
-abbrev pub setting_read : Options → Setting → List ℕ → Option Options
-setting_read o s text = if is_given o s then None else option_map (with_choice o) (choice_of s text)
+abbrev pub setting_read : Given → Setting → List ℕ → Option Given
+setting_read g s text = if is_given g s then None else option_map (with_choice g) (choice_of s text)
 
-abbrev pub joined_read : Options → List ℕ → Option Options
-joined_read o word = option_and_then (λ p. setting_read o p.0 p.1) (setting_joined word)
+abbrev pub joined_read : Given → List ℕ → Option Given
+joined_read g word = option_and_then (λ p. setting_read g p.0 p.1) (setting_joined word)
 
-abbrev pub options_read : Options → List (List ℕ) → Option Options
-options_read o [] = Some o
-options_read o (word ∷ []) = joined_read o word
-options_read o (word ∷ (text ∷ words)) =
-    option_map_or (λ s. option_and_then (λ p. options_read p words) (setting_read o s text)) (setting_named word)
-    (option_and_then (λ p. options_read p (text ∷ words)) (joined_read o word))
+abbrev pub options_read : Given → List (List ℕ) → Option Given
+options_read g [] = Some g
+options_read g (word ∷ []) = joined_read g word
+options_read g (word ∷ (text ∷ words)) =
+    option_map_or (λ s. option_and_then (λ more. options_read more words) (setting_read g s text)) (setting_named word)
+    (option_and_then (λ more. options_read more (text ∷ words)) (joined_read g word))
 
-abbrev pub run_of : Options → Order
-run_of o = Run (limits_of o)
+abbrev pub run_of : Given → Order
+run_of g = Run (limits_of g)
 
 abbrev pub order_of : List (List ℕ) → Option Order
 order_of [] = None

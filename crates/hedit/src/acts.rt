@@ -5,12 +5,13 @@ ghost use Rattle.std.specs.List.{starts_with};
 ghost use Rattle.script_read.specs.Acts.{is_name};
 ghost use Rattle.script_read.specs.Reading.{line_of};
 ghost use Rattle.edit_engine.specs.Editing.{undone, redone, turned};
-ghost use Rattle.edit_engine.specs.Execution.{outcome};
+ghost use Rattle.edit_engine.specs.Execution.{gated_outcome};
 ghost use Rattle.edit_engine.specs.Places.{pair_at};
 ghost use Rattle.edit_engine.specs.Queries.{reply_of};
 ghost use Rattle.edit_engine.specs.Views.{view_text};
 ghost use Rattle.hedit.specs.Replies.{truth, bad_place, select_reply, mark_reply, unmark_reply, exec_reply, query_text, taken, undo_reply, redo_reply, shown, act_reply, read_reply, line_reply, IsNamed};
 
+use command_gate::{Gate, NameList};
 use dom_model::{Chars, Name};
 use edit_engine::{Answer, Editor, ExecFault, PlaceFault, Reply, ViewFault, ViewKind};
 use escaped_text::push_escaped;
@@ -67,15 +68,16 @@ fn text_of(name: &Name) -> &str
 
 fn exec(
     alloc: Global,
+    gate: &Gate<NameList>,
     editor: &mut Editor,
     name: &Name,
     value: &Chars,
 ) -> Result<&'static [u8], AllocError>
     requires { is_name name.now ≡ true }
-    ensures text { IfOk result (λ text. text.now ≡ (exec_reply editor.old (outcome editor.old name.now value.now)).text) }
-    ensures after { OnOk result (editor.new ≡ (exec_reply editor.old (outcome editor.old name.now value.now)).after) }
+    ensures text { IfOk result (λ text. text.now ≡ (exec_reply editor.old (gated_outcome gate.now editor.old name.now value.now)).text) }
+    ensures after { OnOk result (editor.new ≡ (exec_reply editor.old (gated_outcome gate.now editor.old name.now value.now)).after) }
 {
-    match editor.exec(alloc, text_of(name), value.as_slice()) {
+    match editor.exec_gated(alloc, gate, text_of(name), value.as_slice()) {
         Ok(Answer::Yes) => Ok(b"true\n"),
         Ok(Answer::No) => Ok(b"false\n"),
         Err(ExecFault::Full) => Ok(b"! 6 full\n"),
@@ -197,10 +199,15 @@ fn view(alloc: Global, editor: &Editor, kind: &ViewKind) -> Result<Vec<u8>, Allo
 }
 
 // Takes an act, and answers it.
-fn take(alloc: Global, editor: &mut Editor, act: Act) -> Result<Vec<u8>, AllocError>
+fn take(
+    alloc: Global,
+    gate: &Gate<NameList>,
+    editor: &mut Editor,
+    act: Act,
+) -> Result<Vec<u8>, AllocError>
     requires { IsNamed act }
-    ensures text { IfOk result (λ bytes. bytes.items ≡ (act_reply editor.old act).text) }
-    ensures after { OnOk result (editor.new ≡ (act_reply editor.old act).after) }
+    ensures text { IfOk result (λ bytes. bytes.items ≡ (act_reply gate.now editor.old act).text) }
+    ensures after { OnOk result (editor.new ≡ (act_reply gate.now editor.old act).after) }
 {
     match act {
         Act::Select { anchor, focus } => select(editor, &anchor, &focus).to_vec(alloc),
@@ -214,7 +221,7 @@ fn take(alloc: Global, editor: &mut Editor, act: Act) -> Result<Vec<u8>, AllocEr
             focus,
         } => mark(editor, &name, &anchor, &focus)?.to_vec(alloc),
         Act::Unmark { name } => truth(editor.unmark(&name)).to_vec(alloc),
-        Act::Exec { name, value } => exec(alloc, editor, &name, &value)?.to_vec(alloc),
+        Act::Exec { name, value } => exec(alloc, gate, editor, &name, &value)?.to_vec(alloc),
         Act::Query { kind, name } => query(alloc, editor, kind, &name),
         Act::Undo { count } => answer_undo(alloc, editor, count),
         Act::Redo { count } => answer_redo(alloc, editor, count),
@@ -227,12 +234,17 @@ fn take(alloc: Global, editor: &mut Editor, act: Act) -> Result<Vec<u8>, AllocEr
 }
 
 // Answers a line that may be an act.
-fn answer_act(alloc: Global, editor: &mut Editor, line: &[u8]) -> Result<Vec<u8>, AllocError>
-    ensures text { IfOk result (λ bytes. bytes.items ≡ (read_reply editor.old (line_of line.now)).text) }
-    ensures after { OnOk result (editor.new ≡ (read_reply editor.old (line_of line.now)).after) }
+fn answer_act(
+    alloc: Global,
+    gate: &Gate<NameList>,
+    editor: &mut Editor,
+    line: &[u8],
+) -> Result<Vec<u8>, AllocError>
+    ensures text { IfOk result (λ bytes. bytes.items ≡ (read_reply gate.now editor.old (line_of line.now)).text) }
+    ensures after { OnOk result (editor.new ≡ (read_reply gate.now editor.old (line_of line.now)).after) }
 {
     match read_line(alloc, line) {
-        Ok(act) => take(alloc, editor, act),
+        Ok(act) => take(alloc, gate, editor, act),
         Err(LineFault::Syntax) => b"! 1 syntax\n".to_vec(alloc),
         Err(LineFault::UnknownAct) => b"! 2 unknown act\n".to_vec(alloc),
         Err(LineFault::LongLine) => b"! 3 long line\n".to_vec(alloc),
@@ -240,14 +252,19 @@ fn answer_act(alloc: Global, editor: &mut Editor, line: &[u8]) -> Result<Vec<u8>
     }
 }
 
-/// Answers a line of a session. An empty line is no act, and has an empty reply.
+/// Answers a line of a session, in which a command that the gate denies is refused. An empty line is no act, and has an empty reply.
 #[tactic(auto, unfolding(crate::specs::Replies::line_reply))]
-pub fn answer_line(alloc: Global, editor: &mut Editor, line: &[u8]) -> Result<Vec<u8>, AllocError>
-    ensures text { IfOk result (λ bytes. bytes.items ≡ (line_reply editor.old line.now).text) }
-    ensures after { OnOk result (editor.new ≡ (line_reply editor.old line.now).after) }
+pub fn answer_line(
+    alloc: Global,
+    gate: &Gate<NameList>,
+    editor: &mut Editor,
+    line: &[u8],
+) -> Result<Vec<u8>, AllocError>
+    ensures text { IfOk result (λ bytes. bytes.items ≡ (line_reply gate.now editor.old line.now).text) }
+    ensures after { OnOk result (editor.new ≡ (line_reply gate.now editor.old line.now).after) }
 {
     if line.is_empty() {
         return Ok(Vec::new(alloc));
     }
-    answer_act(alloc, editor, line)
+    answer_act(alloc, gate, editor, line)
 }

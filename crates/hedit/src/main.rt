@@ -10,14 +10,19 @@ mod block;
 mod block_tests;
 #[cfg(test)]
 mod deletion_tests;
+mod denials;
 #[cfg(test)]
 mod editing_tests;
 #[cfg(test)]
 mod formatting_tests;
+#[cfg(test)]
+mod object_tests;
 mod reply;
 mod session;
 #[cfg(test)]
 mod tests;
+#[cfg(test)]
+mod typing_tests;
 mod words;
 
 use edit_io::{ReadSource, WriteSink};

@@ -1,10 +1,11 @@
 //! The run of the program over any source and sink.
 
-ghost use Rattle.std.specs.Prelude.{◌≡◌, ◌<◌, ◌≤◌, ◌↔◌, length, map, string_bytes, IfSome, Some, None};
+ghost use Rattle.std.specs.Prelude.{◌≡◌, ◌<◌, ◌≤◌, ◌↔◌, length, map, string_bytes, IfOk, IfSome, Some, None};
 ghost use Rattle.edit_io.specs.Faults.{Rose};
 ghost use Rattle.page_grammar.specs.Reading.{page_reading};
 ghost use Rattle.page_read.specs.Faults.{kind_of};
-ghost use Rattle.hedit.specs.Words.{order_of};
+ghost use Rattle.command_gate.specs.Denied.{AsksFor};
+ghost use Rattle.hedit.specs.Words.{denied_in, limits_in, order_in, order_of};
 ghost use Rattle.hedit.specs.Block.{lines_of, block_of};
 ghost use Rattle.edit_doc.specs.Whole.{HasNoLoose};
 ghost use Rattle.edit_engine.specs.Editing.{new_editing};
@@ -15,13 +16,15 @@ ghost use Rattle.hedit.specs.Following.{Follows, IsWanted, HasCap, IsAnswered, R
 
 use crate::acts::answer_line;
 use crate::block::{PageBlock, after_line, line_end, read_block};
+use crate::denials::read_names;
 use crate::reply::{numbers, refusal};
 use crate::words::{Limits, Order, read_words};
+use command_gate::{Gate, NameList, Policy};
 use edit_engine::Editor;
 use edit_io::{ReadAllFault, Sink, SinkFault, Source, read_all, write_all};
 use node_arena::Arena;
 use page_read::{PageFault, PageKind, read_page};
-use std::alloc::Global;
+use std::alloc::{AllocError, Global};
 
 /// How a run ended. The number is the exit status of the program.
 #[derive(Clone, Copy, PartialEq, Eq, Debug)]
@@ -99,26 +102,38 @@ fn check<O: Sink>(alloc: Global, input: &[u8], output: &mut O) -> Status
 }
 
 // Answers one line.
-fn act<O: Sink>(alloc: Global, editor: &mut Editor, line: &[u8], output: &mut O) -> Status
-    ensures follows { Follows (transcript_of Status.Done (line_reply editor.old line.now).text)
+fn act<O: Sink>(
+    alloc: Global,
+    gate: &Gate<NameList>,
+    editor: &mut Editor,
+    line: &[u8],
+    output: &mut O,
+) -> Status
+    ensures follows { Follows (transcript_of Status.Done (line_reply gate.now editor.old line.now).text)
         (O.taken output.old) (O.taken output.new) (O.faults output.old) (O.faults output.new) result }
-    ensures after { result ≡ Status.Done → editor.new ≡ (line_reply editor.old line.now).after }
+    ensures after { result ≡ Status.Done → editor.new ≡ (line_reply gate.now editor.old line.now).after }
 {
-    match answer_line(alloc, editor, line) {
+    match answer_line(alloc, gate, editor, line) {
         Ok(text) => answer(output, &text, Status::Done),
         Err(_) => Status::Memory,
     }
 }
 
 // Answers the lines of the acts, as far as memory and the output go.
-fn run_acts<O: Sink>(alloc: Global, editor: &mut Editor, acts: &[u8], output: &mut O) -> Status
-    ensures { Follows (transcript_of Status.Done (replies_to editor.old (lines_of acts.now)))
+fn run_acts<O: Sink>(
+    alloc: Global,
+    gate: &Gate<NameList>,
+    editor: &mut Editor,
+    acts: &[u8],
+    output: &mut O,
+) -> Status
+    ensures { Follows (transcript_of Status.Done (replies_to gate.now editor.old (lines_of acts.now)))
         (O.taken output.old) (O.taken output.new) (O.faults output.old) (O.faults output.new) result }
 {
     let mut rest = acts;
     while !rest.is_empty() {
         let end = line_end(rest);
-        match act(alloc, editor, &rest[..end], output) {
+        match act(alloc, gate, editor, &rest[..end], output) {
             Status::Done => {}
             status => return status,
         }
@@ -127,15 +142,59 @@ fn run_acts<O: Sink>(alloc: Global, editor: &mut Editor, acts: &[u8], output: &m
     Status::Done
 }
 
-// `run` over the nodes of a page and the lines of its acts.
-fn edit_page<O: Sink>(alloc: Global, arena: Arena, undo: u32, acts: &[u8], output: &mut O) -> Status
+fn denied_names(alloc: Global, denied: Option<&str>) -> Result<NameList, AllocError>
+    ensures { IfOk result (λ list. list ≡ denied_in denied.entry) }
+{
+    match denied {
+        Some(text) => read_names(alloc, text.as_bytes()),
+        None => Ok(NameList::new(alloc)),
+    }
+}
+
+// The gate of a session, whose question is asked of the list of the names that are denied.
+fn make_gate(alloc: Global, denied: Option<&str>) -> Result<Gate<NameList>, AllocError>
+    ensures { IfOk result (λ gate. gate ≡ denied_in denied.entry) }
+{
+    let denied = denied_names(alloc, denied)?;
+    let question = denied.copy(alloc)?;
+    Ok(Gate::new(Policy { denied }, question))
+}
+
+// `run` past a gate, over the nodes of a page and the lines of its acts.
+fn edit_gated<O: Sink>(
+    alloc: Global,
+    gate: &Gate<NameList>,
+    arena: Arena,
+    undo: u32,
+    acts: &[u8],
+    output: &mut O,
+) -> Status
     requires depth { 0 < undo }
     requires loose { HasNoLoose arena }
-    ensures { Follows (transcript_of Status.Done (replies_to (new_editing arena undo) (lines_of acts.now)))
+    ensures { Follows (transcript_of Status.Done (replies_to gate.now (new_editing arena undo) (lines_of acts.now)))
         (O.taken output.old) (O.taken output.new) (O.faults output.old) (O.faults output.new) result }
 {
     match Editor::new(alloc, arena, undo as usize) {
-        Ok(mut editor) => run_acts(alloc, &mut editor, acts, output),
+        Ok(mut editor) => run_acts(alloc, gate, &mut editor, acts, output),
+        Err(_) => Status::Memory,
+    }
+}
+
+// `run` over the nodes of a page and the lines of its acts.
+fn edit_page<O: Sink>(
+    alloc: Global,
+    arena: Arena,
+    limits: Limits,
+    acts: &[u8],
+    output: &mut O,
+) -> Status
+    requires depth { 0 < limits.undo }
+    requires loose { HasNoLoose arena }
+    ensures { Follows (transcript_of Status.Done (replies_to (denied_in limits.entry.denied) (new_editing arena limits.entry.undo) (lines_of acts.now)))
+        (O.taken output.old) (O.taken output.new) (O.faults output.old) (O.faults output.new) result }
+{
+    match make_gate(alloc, limits.denied) {
+        Ok(gate) => edit_gated(alloc, &gate, arena, limits.undo, acts, output),
         Err(_) => Status::Memory,
     }
 }
@@ -150,11 +209,11 @@ fn run_page<O: Sink>(
 ) -> Status
     requires cap { 0 < limits.cap }
     requires undo { 0 < limits.undo }
-    ensures { Follows (acted limits (lines_of acts.now) (page_reading 200 limits.cap page.now))
+    ensures { Follows (acted (limits_in limits.entry) (lines_of acts.now) (page_reading 200 limits.entry.cap page.now))
         (O.taken output.old) (O.taken output.new) (O.faults output.old) (O.faults output.new) result }
 {
     match read_page(alloc, page, limits.cap) {
-        Ok(arena) => edit_page(alloc, arena, limits.undo, acts, output),
+        Ok(arena) => edit_page(alloc, arena, limits, acts, output),
         Err(fault) => refuse_page(alloc, output, fault),
     }
 }
@@ -163,7 +222,7 @@ fn run_page<O: Sink>(
 fn run<O: Sink>(alloc: Global, input: &[u8], limits: Limits, output: &mut O) -> Status
     requires cap { 0 < limits.cap }
     requires undo { 0 < limits.undo }
-    ensures { Follows (run_block limits (length input.now) (block_of input.now))
+    ensures { Follows (run_block (limits_in limits.entry) (length input.now) (block_of input.now))
         (O.taken output.old) (O.taken output.new) (O.faults output.old) (O.faults output.new) result }
 {
     match read_block(input) {
@@ -175,8 +234,8 @@ fn run<O: Sink>(alloc: Global, input: &[u8], limits: Limits, output: &mut O) -> 
 
 // What was ordered, over an input that is read.
 fn obey<O: Sink>(alloc: Global, order: Order, input: &[u8], output: &mut O) -> Status
-    requires { HasCap order }
-    ensures { Follows (gives order input.now)
+    requires { HasCap (order_in order) }
+    ensures { Follows (gives (order_in order.entry) input.now)
         (O.taken output.old) (O.taken output.new) (O.faults output.old) (O.faults output.new) result }
 {
     match order {

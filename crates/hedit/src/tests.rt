@@ -79,6 +79,18 @@ fn answers_sessions(rt: HostRuntime) -> Result<(), Fail> {
         ),
         (["run", "--cap", "0"].as_slice(), SESSION, Status::Usage, ""),
         (
+            ["run", "--deny", ","].as_slice(),
+            SESSION,
+            Status::Usage,
+            "",
+        ),
+        (
+            ["run", "--deny=bold", "--deny=bold"].as_slice(),
+            SESSION,
+            Status::Usage,
+            "",
+        ),
+        (
             ["run", "--cap", "1", "--cap", "2"].as_slice(),
             SESSION,
             Status::Usage,

@@ -1,25 +1,31 @@
 //! The words of the command line, after the program's name.
 
-ghost use Rattle.std.specs.Prelude.{◌≡◌, ◌↔◌, map, string_bytes};
-ghost use Rattle.hedit.specs.Words.{amount_of, choice_of, is_given, with_choice, limits_of, setting_named, setting_read, joined_read, options_read, order_of, IsOrder};
+ghost use Rattle.std.specs.Prelude.{◌≡◌, ◌↔◌, map, string_bytes, Some};
+ghost use Rattle.std.specs.Option.{option_map};
+ghost use Rattle.hedit.specs.Denials.{names_in, names_of};
+ghost use Rattle.hedit.specs.Words as grammar;
+ghost use Rattle.hedit.specs.Words.{amount_of, is_given, given_in, limits_of, limits_in, order_in, choice_of, with_choice, setting_named, setting_read, joined_read, options_read, order_of, IsOrder};
 
+use crate::denials::are_names;
 use script_read::read_number;
 use std::marker::Copy;
 
 /// What the program is asked to do.
 #[derive(Clone, Copy, PartialEq, Eq, Debug)]
-pub enum Order {
+pub enum Order<'a> {
     /// To run a session.
-    Run(Limits),
+    Run(Limits<'a>),
     /// To read a page and write its numbers.
     Check,
 }
 
-/// What bounds a session: labels stay below `cap`, and `undo` entries are kept for undo.
+/// What bounds a session: labels stay below `cap`, `undo` entries are kept for undo, and the commands are denied whose names
+/// `denied` lists, with a comma between.
 #[derive(Clone, Copy, PartialEq, Eq, Debug)]
-pub struct Limits {
+pub struct Limits<'a> {
     pub cap: u32,
     pub undo: u32,
+    pub denied: Option<&'a str>,
 }
 
 /// An option of `run`.
@@ -27,20 +33,15 @@ pub struct Limits {
 pub enum Setting {
     Cap,
     Undo,
-}
-
-/// An option with its value.
-#[derive(Clone, Copy, PartialEq, Eq, Debug)]
-pub enum Choice {
-    Cap(u32),
-    Undo(u32),
+    Deny,
 }
 
 /// The options that are given so far.
 #[derive(Clone, Copy, PartialEq, Eq, Debug)]
-pub struct Options {
+pub struct Options<'a> {
     pub cap: Option<u32>,
     pub undo: Option<u32>,
+    pub deny: Option<&'a str>,
 }
 
 const GREATEST_CAP: u32 = 2_000_000;
@@ -49,37 +50,24 @@ const GREATEST_UNDO: u32 = 1000;
 
 const USUAL_UNDO: u32 = 100;
 
-impl Options {
+impl<'a> Options<'a> {
     fn has(&self, setting: Setting) -> bool
-        ensures { result ≡ is_given self.now setting }
+        ensures { result ≡ is_given (given_in self.now) setting }
     {
         match setting {
             Setting::Cap => self.cap.is_some(),
             Setting::Undo => self.undo.is_some(),
+            Setting::Deny => self.deny.is_some(),
         }
     }
 
-    fn with(self, choice: Choice) -> Options
-        ensures { result ≡ with_choice self choice }
-    {
-        match choice {
-            Choice::Cap(amount) => Options {
-                cap: Some(amount),
-                undo: self.undo,
-            },
-            Choice::Undo(amount) => Options {
-                cap: self.cap,
-                undo: Some(amount),
-            },
-        }
-    }
-
-    fn limits(self) -> Limits
-        ensures { result ≡ limits_of self }
+    fn limits(self) -> Limits<'a>
+        ensures { limits_in result ≡ limits_of (given_in self.entry) }
     {
         Limits {
             cap: self.cap.unwrap_or(GREATEST_CAP),
             undo: self.undo.unwrap_or(USUAL_UNDO),
+            denied: self.deny,
         }
     }
 }
@@ -95,13 +83,14 @@ fn read_amount(text: &str, greatest: u32) -> Option<u32>
     }
 }
 
-// What the text of its value chooses for an option.
-fn read_choice(setting: Setting, text: &str) -> Option<Choice>
-    ensures { result ≡ choice_of setting text.now }
+// Names of commands, if the text lists some.
+fn read_names(text: &str) -> Option<&str>
+    ensures { option_map (λ names. names_in names.now) result ≡ names_of text.now }
 {
-    match setting {
-        Setting::Cap => Some(Choice::Cap(read_amount(text, GREATEST_CAP)?)),
-        Setting::Undo => Some(Choice::Undo(read_amount(text, GREATEST_UNDO)?)),
+    if are_names(text.as_bytes()) {
+        Some(text)
+    } else {
+        None
     }
 }
 
@@ -111,23 +100,43 @@ fn setting_named(word: &str) -> Option<Setting>
     match word {
         "--cap" => Some(Setting::Cap),
         "--undo" => Some(Setting::Undo),
+        "--deny" => Some(Setting::Deny),
         _ => None,
     }
 }
 
-fn read_setting(options: Options, setting: Setting, text: &str) -> Option<Options>
-    ensures { result ≡ setting_read options setting text.now }
+// The options with what the text of its value chooses for one of them.
+fn choose<'a>(options: Options<'a>, setting: Setting, text: &'a str) -> Option<Options<'a>>
+    ensures { option_map given_in result ≡ option_map (with_choice (given_in options.entry)) (choice_of setting text.now) }
+{
+    match setting {
+        Setting::Cap => Some(Options {
+            cap: Some(read_amount(text, GREATEST_CAP)?),
+            ..options
+        }),
+        Setting::Undo => Some(Options {
+            undo: Some(read_amount(text, GREATEST_UNDO)?),
+            ..options
+        }),
+        Setting::Deny => Some(Options {
+            deny: Some(read_names(text)?),
+            ..options
+        }),
+    }
+}
+
+fn read_setting<'a>(options: Options<'a>, setting: Setting, text: &'a str) -> Option<Options<'a>>
+    ensures { option_map given_in result ≡ setting_read (given_in options.entry) setting text.now }
 {
     if options.has(setting) {
         return None;
     }
-    let choice = read_choice(setting, text)?;
-    Some(options.with(choice))
+    choose(options, setting, text)
 }
 
 // An option and its value in one word.
-fn read_joined(options: Options, word: &str) -> Option<Options>
-    ensures { result ≡ joined_read options word.now }
+fn read_joined<'a>(options: Options<'a>, word: &'a str) -> Option<Options<'a>>
+    ensures { option_map given_in result ≡ joined_read (given_in options.entry) word.now }
 {
     if let Some(text) = word.strip_prefix("--cap=") {
         return read_setting(options, Setting::Cap, text);
@@ -135,12 +144,15 @@ fn read_joined(options: Options, word: &str) -> Option<Options>
     if let Some(text) = word.strip_prefix("--undo=") {
         return read_setting(options, Setting::Undo, text);
     }
+    if let Some(text) = word.strip_prefix("--deny=") {
+        return read_setting(options, Setting::Deny, text);
+    }
     None
 }
 
-// Each option is given at most once, so this goes at most three calls deep.
-fn read_options(options: Options, words: &[String]) -> Option<Options>
-    ensures { result ≡ options_read options (map string_bytes words.now) }
+// Each option is given at most once, so this goes at most four calls deep.
+fn read_options<'a>(options: Options<'a>, words: &'a [String]) -> Option<Options<'a>>
+    ensures { option_map given_in result ≡ options_read (given_in options.entry) (map string_bytes words.now) }
 {
     match words {
         [] => Some(options),
@@ -152,12 +164,12 @@ fn read_options(options: Options, words: &[String]) -> Option<Options>
     }
 }
 
-/// The order that the words ask for, or None where they are not in the grammar.
+/// The order that the words ask for, or None where they are not in the grammar. It takes no memory.
 #[tactic(auto, using(crate::proofs::WordsLemmas::grammar_of, crate::proofs::WordsLemmas::one_order))]
-pub fn read_words(words: &[String]) -> Option<Order>
-    ensures computed { result ≡ order_of (map string_bytes words.now) }
-    ensures grammar { (o : Order) → (result ≡ Some o) ↔ IsOrder (map string_bytes words.now) o }
-    ensures one_order { (o p : Order) → IsOrder (map string_bytes words.now) o → IsOrder (map string_bytes words.now) p → o ≡ p }
+pub fn read_words(words: &[String]) -> Option<Order<'_>>
+    ensures computed { option_map order_in result ≡ order_of (map string_bytes words.now) }
+    ensures grammar { (o : grammar.Order) → (option_map order_in result ≡ Some o) ↔ IsOrder (map string_bytes words.now) o }
+    ensures one_order { (o p : grammar.Order) → IsOrder (map string_bytes words.now) o → IsOrder (map string_bytes words.now) p → o ≡ p }
 {
     match words {
         [first, rest @ ..] if first.as_str() == "run" => {
@@ -165,6 +177,7 @@ pub fn read_words(words: &[String]) -> Option<Order>
                 Options {
                     cap: None,
                     undo: None,
+                    deny: None,
                 },
                 rest,
             )?;
@@ -180,8 +193,20 @@ mod tests {
     use super::*;
     use std::test::Fail;
 
-    fn order(cap: u32, undo: u32) -> Option<Order> {
-        Some(Order::Run(Limits { cap, undo }))
+    fn order(cap: u32, undo: u32) -> Option<Order<'static>> {
+        Some(Order::Run(Limits {
+            cap,
+            undo,
+            denied: None,
+        }))
+    }
+
+    fn denying<'a>(names: &'a str) -> Option<Order<'a>> {
+        Some(Order::Run(Limits {
+            cap: 2_000_000,
+            undo: 100,
+            denied: Some(names),
+        }))
     }
 
     #[test]
@@ -194,6 +219,13 @@ mod tests {
             ("run --cap=7 --undo=1000", order(7, 1000)),
             ("run --undo 000000001 --cap 2000000", order(2_000_000, 1)),
             ("run --undo=3 --cap 9", order(9, 3)),
+            ("run --deny bold", denying("bold")),
+            ("run --deny=bold,paste", denying("bold,paste")),
+            ("run --deny=x-1,X-1,x-1", denying("x-1,X-1,x-1")),
+            (
+                "run --deny a,b,c,d,e,f,g,h,i,j,k,l,m,n,o,p,A,P",
+                denying("a,b,c,d,e,f,g,h,i,j,k,l,m,n,o,p,A,P"),
+            ),
             ("", None),
             ("--", None),
             ("--help", None),
@@ -209,6 +241,15 @@ mod tests {
             ("run --cap 0000000001", None),
             ("run --cap +1", None),
             ("run --undo 1001", None),
+            ("run --deny", None),
+            ("run --deny=", None),
+            ("run --deny ,", None),
+            ("run --deny bold,", None),
+            ("run --deny bold,,paste", None),
+            ("run --deny bo_ld", None),
+            ("run --deny a,b,c,d,e,f,g,h,i,j,k,l,m,n,o,p,q", None),
+            ("run --deny bold --deny=bold", None),
+            ("check --deny bold", None),
             ("run --undo=1 --", None),
         ];
         for (line, want) in cases {
