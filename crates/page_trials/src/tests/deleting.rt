@@ -3,23 +3,13 @@
 
 ghost use Rattle.edit_doc.specs.Whole.{IsOpen};
 
-use super::pages::{Act, Row, assert_rows, point};
+use super::pages::{Act, At, Row, assert_rows, point, selects};
 use delete_core::{canonicalize, delete_selection, first_equivalent, last_equivalent};
 use edit_doc::{Doc, Setting};
 use html_names::Command;
 use std::alloc::Global;
 use std::test::Fail;
 use text_commands::delete;
-
-type At = (u32, u32);
-
-// Whether the selection goes from one point to another.
-fn selects(doc: &Doc, anchor: At, focus: At) -> bool {
-    match doc.points().selection() {
-        Some(pair) => pair.anchor == point(anchor) && pair.focus == point(focus),
-        None => false,
-    }
-}
 
 // The command with an anchor and a focus, and those that it leaves.
 struct Delete(At, At, At, At);

@@ -4,3 +4,4 @@
 mod acts;
 mod histories;
 mod points;
+mod tails;

@@ -99,6 +99,17 @@ pub(crate) fn point(at: (u32, u32)) -> Point
     }
 }
 
+/// A label and an offset.
+pub(crate) type At = (u32, u32);
+
+/// Whether the selection goes from one point to another.
+pub(crate) fn selects(doc: &Doc, anchor: At, focus: At) -> bool {
+    match doc.points().selection() {
+        Some(pair) => pair.anchor == point(anchor) && pair.focus == point(focus),
+        None => false,
+    }
+}
+
 /// The characters of a text.
 pub(crate) fn chars(alloc: Global, text: &str) -> Result<Vec<char>, AllocError> {
     text.chars().collect(alloc)
