@@ -12,5 +12,5 @@ mod verb;
 pub use act::{Act, LineFault, Path, Place};
 pub use laws::printed_texts_are_read_back;
 pub use line::read_line;
-pub use parts::read_number;
+pub use parts::{cut, is_name, read_number};
 pub use verb::Verb;
