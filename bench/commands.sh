@@ -67,6 +67,10 @@ over_all justifyCenter 2700
 over_all indent 1060
 over_all outdent 2020
 over_all delete 11800
+over_all 'insertText x' 11800
+over_all insertParagraph 11800
+over_all insertHorizontalRule 11800
+over_all insertOrderedList 4700
 
 # A page of one list of so many items of one text each.
 items() { # COUNT
@@ -100,6 +104,32 @@ large=$(cost "$(whole 2000)\nexec bold" 'undo 1')
 echo "undo of bold: $small instructions over 500 paragraphs, $large over 2,000"
 told "growth at four times as many" "$(ratio "$large" "$small")" 4.5
 
+# lists taken off again
+paragraphs 500 > "$work/page"
+small=$(cost "$(whole 500)\nexec insertOrderedList" 'exec insertOrderedList')
+paragraphs 2000 > "$work/page"
+large=$(cost "$(whole 2000)\nexec insertOrderedList" 'exec insertOrderedList')
+echo "insertOrderedList off: $small instructions over 500 items, $large over 2,000"
+told "growth at four times as many" "$(ratio "$large" "$small")" 4.5
+
+# so many characters typed one after another
+typed() { # COUNT
+  printf 'exec insertText x\\n%.0s' $(seq "$1")
+}
+
+paragraphs 10 > "$work/page"
+small=$(cost 'select 0/3/0:1 0/3/0:1' "$(typed 2500)")
+large=$(cost 'select 0/3/0:1 0/3/0:1' "$(typed 10000)")
+echo "typing in one text: $small instructions for 2,500 characters, $large for 10,000"
+told "growth at four times as many" "$(ratio "$large" "$small")" 4.5
+
+paragraphs 500 > "$work/page"
+small=$(cost "select 0/3/0:1 0/3/0:1\n$(typed 1000)" 'undo 1')
+paragraphs 150000 > "$work/page"
+large=$(cost "select 0/3/0:1 0/3/0:1\n$(typed 1000)" 'undo 1')
+echo "undo of 1,000 typed characters: $small instructions in a page of 1,000 nodes, $large in one of 300,000"
+told "growth" "$(ratio "$large" "$small")" 1.3
+
 # one word in a small and in a large page
 one_word() { # ACT
   local small large
@@ -131,6 +161,20 @@ at_caret justifyCenter
 at_caret indent
 at_caret outdent
 at_caret delete
+at_caret 'insertText x'
+at_caret insertParagraph
+at_caret insertOrderedList
+at_caret insertLineBreak
+at_caret insertHorizontalRule
+at_caret 'insertImage u'
+
+# the end of a paragraph in a small and in a large page
+paragraphs 500 > "$work/page"
+small=$(cost "select 0/3/0:6 0/3/0:6" 'exec insertParagraph')
+paragraphs 150000 > "$work/page"
+large=$(cost "select 0/3/0:6 0/3/0:6" 'exec insertParagraph')
+echo "insertParagraph at the end of a paragraph: $small instructions in a page of 1,000 nodes, $large in one of 300,000"
+told "growth" "$(ratio "$large" "$small")" 1.3
 
 # a caret after so many siblings, whose index among them is counted
 after_siblings() { # COMMAND
@@ -146,6 +190,9 @@ after_siblings 'formatBlock h1'
 after_siblings justifyCenter
 after_siblings indent
 after_siblings outdent
+after_siblings 'insertText x'
+after_siblings insertParagraph
+after_siblings insertOrderedList
 
 # one word below so many elements
 nested() { # DEPTH
