@@ -39,7 +39,7 @@ unfoldable pub gives_alignment : State → ℕ → Bool
 gives_alignment s e = has_alignment (attribute_list_of s.trees e) || has_name s.trees e (codes "center")
 
 unfoldable pub is_aligning : State → ℕ → Bool
-is_aligning s e = is_editable_for s e && gives_alignment s e
+is_aligning s e = gives_alignment s e && is_editable_for s e
 
 -- a div, span or center without attributes
 unfoldable pub is_plain : Forest Content → ℕ → Bool

@@ -12,12 +12,12 @@ ghost use Rattle.wrap_split.specs.Target as target;
 ghost use Rattle.wrap_split.specs.declared.rule.Criterion.TheVariants.{Aligned};
 ghost use Rattle.block_commands.specs.Justify as justify;
 
-use block_extend::Choice;
+use block_extend::{Choice, allowed_in_div};
 use command_value::alignment;
 use css_value::{Only, TextAlign, find, sets_only};
 use dom_model::{Attributes, Chars, Content, Name};
 use edit_doc::{Doc, NodeRef};
-use node_tests::{allowed_in_name, has_name};
+use node_tests::has_name;
 use std::alloc::{AllocError, Global};
 use wrap_split::{Blank, Meets};
 
@@ -167,7 +167,7 @@ impl Choice<Doc> for Aligning {
 
     #[tactic(auto, unfolding(crate::specs::Justify::is_aligning))]
     fn chooses(&self, doc: &Doc, node: NodeRef) -> bool {
-        doc.is_editable_for(node) && gives_alignment(doc, node)
+        gives_alignment(doc, node) && doc.is_editable_for(node)
     }
 }
 
@@ -186,7 +186,7 @@ impl Choice<Doc> for Misaligned {
     #[tactic(auto, unfolding(crate::specs::Justify::is_misaligned, command_value::specs::Alignment::alignment_value))]
     fn chooses(&self, doc: &Doc, node: NodeRef) -> bool {
         doc.is_editable_for(node)
-            && allowed_in_name(doc, node, b"div")
+            && allowed_in_div(doc, node)
             && alignment(doc, node).keyword() != self.alignment.keyword()
     }
 }

@@ -1,3 +1,4 @@
+mod Paragraphs
 mod Kids
 mod Stepping
 mod Walking

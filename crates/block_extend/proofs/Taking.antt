@@ -1,7 +1,7 @@
 -- Members of a list that are taken one by one.
-use Rattle.std.proofs.Common.{◌≡◌, ℕ, ◌+◌, ◌<◌, true, false, cond, List, [], ◌∷◌, ◌++◌, length, drop, get_or, Option, Some, refl, sym, ap, ◌∙◌, subst, add-one, drop-cons}
+use Rattle.std.proofs.Common.{◌≡◌, ℕ, ◌+◌, ◌<◌, Bool, true, false, cond, not, ◌&&◌, List, [], ◌∷◌, ◌++◌, length, drop, get_or, Option, Some, refl, sym, ap, ◌∙◌, subst, add-one, drop-cons}
 use Rattle.std.specs.Prelude.{map}
-use Rattle.std.specs.List.{All}
+use Rattle.std.specs.List.{All, filter}
 use Rattle.std.proofs.lemmas.List.Elements.{All-append, All-cons, All-nil}
 use Rattle.dom_model.specs.declared.Content.{Content}
 use Rattle.dom_model.specs.Forest.{Forest}
@@ -26,21 +26,42 @@ pushed (y ∷ xs) x rest = ap (λ r. y.label ∷ r) (pushed xs x rest)
 pub pushed_held : (holds : NodeRef → Type 0) (xs new : List NodeRef) (x : NodeRef) → All holds xs → holds x → new ≡ xs ++ x ∷ [] → All holds new
 pushed_held holds xs new x h k e = subst (All holds) (sym e) (All-append holds xs (x ∷ []) h (All-cons holds x [] k (All-nil holds)))
 
--- ---- those that are no descendant of the last one taken
+-- ---- those that pass a test and are no descendant of the last one taken
 
-module _ (f : Forest Content) (xs : List NodeRef) (i : ℕ) (low : i < length xs) (last : Option NodeRef) (kept : List NodeRef) (whole : List ℕ) (so_far : labels kept ++ gather_after f (label last) (labels (drop i xs)) ≡ whole) where
+module _ (f : Forest Content) (test : ℕ → Bool) (last : Option ℕ) (x : ℕ) (xs : List ℕ) where
+  takes : (not (is_below f last x) && test x) ≡ true → gather_after f last (filter test (x ∷ xs)) ≡ x ∷ gather_after f (Some x) (filter test xs)
+  takes h = by_tests (is_below f last x) (test x) refl refl h
+    where
+      by_tests : (b c : Bool) → is_below f last x ≡ b → test x ≡ c → (not b && c) ≡ true → gather_after f last (filter test (x ∷ xs)) ≡ x ∷ gather_after f (Some x) (filter test xs)
+      by_tests true c below passes h = absurd (let u : false ≡ true = h in cc)
+      by_tests false false below passes h = absurd (let u : false ≡ true = h in cc)
+      by_tests false true below passes h = rw (passes, below) refl
+
+  leaves : (not (is_below f last x) && test x) ≡ false → gather_after f last (filter test (x ∷ xs)) ≡ gather_after f last (filter test xs)
+  leaves h = by_tests (is_below f last x) (test x) refl refl h
+    where
+      by_tests : (b c : Bool) → is_below f last x ≡ b → test x ≡ c → (not b && c) ≡ false → gather_after f last (filter test (x ∷ xs)) ≡ gather_after f last (filter test xs)
+      by_tests true true below passes h = rw (passes, below) refl
+      by_tests true false below passes h = rw passes refl
+      by_tests false false below passes h = rw passes refl
+      by_tests false true below passes h = absurd (let u : true ≡ false = h in cc)
+
+module _ (f : Forest Content) (test : ℕ → Bool) (xs : List NodeRef) (i : ℕ) (low : i < length xs) (last : Option NodeRef) (kept : List NodeRef) (whole : List ℕ) (so_far : labels kept ++ gather_after f (label last) (filter test (labels (drop i xs))) ≡ whole) where
   abbrev rest : List ℕ
   rest = labels (drop (i + 1) xs)
 
-  next_is : labels kept ++ cond (is_below f (label last) (member xs i).label) (gather_after f (label last) rest) ((member xs i).label ∷ gather_after f (Some (member xs i).label) rest) ≡ whole
-  next_is = ap (λ ys. labels kept ++ gather_after f (label last) ys) (sym (rest_is xs i low)) ∙ so_far
+  next_is : labels kept ++ gather_after f (label last) (filter test ((member xs i).label ∷ rest)) ≡ whole
+  next_is = ap (λ ys. labels kept ++ gather_after f (label last) (filter test ys)) (sym (rest_is xs i low)) ∙ so_far
 
-  pub passed_over : is_below f (label last) (member xs i).label ≡ true → labels kept ++ gather_after f (label last) rest ≡ whole
-  passed_over e = ap (λ b. labels kept ++ cond b (gather_after f (label last) rest) ((member xs i).label ∷ gather_after f (Some (member xs i).label) rest)) (sym e) ∙ next_is
+  abbrev IsTaken : Bool → Type 0
+  IsTaken b = (not (is_below f (label last) (member xs i).label) && test (member xs i).label) ≡ b
 
-  pub taken_in : (new : List NodeRef) → new ≡ kept ++ member xs i ∷ [] → is_below f (label last) (member xs i).label ≡ false → labels new ++ gather_after f (Some (member xs i).label) rest ≡ whole
+  pub passed_over : IsTaken false → labels kept ++ gather_after f (label last) (filter test rest) ≡ whole
+  passed_over e = ap (λ ys. labels kept ++ ys) (sym (leaves f test (label last) (member xs i).label rest e)) ∙ next_is
+
+  pub taken_in : (new : List NodeRef) → new ≡ kept ++ member xs i ∷ [] → IsTaken true → labels new ++ gather_after f (Some (member xs i).label) (filter test rest) ≡ whole
   taken_in new is e =
-      ap (λ ys. labels ys ++ gather_after f (Some (member xs i).label) rest) is
-      ∙ pushed kept (member xs i) (gather_after f (Some (member xs i).label) rest)
-      ∙ ap (λ b. labels kept ++ cond b (gather_after f (label last) rest) ((member xs i).label ∷ gather_after f (Some (member xs i).label) rest)) (sym e)
+      ap (λ ys. labels ys ++ gather_after f (Some (member xs i).label) (filter test rest)) is
+      ∙ pushed kept (member xs i) (gather_after f (Some (member xs i).label) (filter test rest))
+      ∙ ap (λ ys. labels kept ++ ys) (sym (takes f test (label last) (member xs i).label rest e))
       ∙ next_is

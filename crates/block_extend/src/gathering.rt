@@ -1,6 +1,6 @@
 //! The outermost nodes of a list.
 
-ghost use Rattle.std.specs.Prelude.{◌≡◌, ◌<◌, IfOk, IfSome, filter, map};
+ghost use Rattle.std.specs.Prelude.{◌≡◌, ◌<◌, ◌&&◌, IfOk, IfSome, filter, map, not};
 ghost use Rattle.std.specs.List.{All};
 ghost use Rattle.dom_model.specs.Forest.{count_of};
 ghost use Rattle.node_arena.specs.Held.{label};
@@ -39,19 +39,39 @@ fn is_below<N: Nodes>(nodes: &N, last: Option<NodeRef>, node: NodeRef) -> bool
     }
 }
 
-/// The members of a list that have no ancestor among those taken before them. The list is in tree order, so only the
-/// member that was taken last can be an ancestor of the next one.
-pub fn gather<N: Nodes>(alloc: Global, nodes: &N, list: &NodeList) -> Result<NodeList, AllocError>
+// Whether a node is taken after the one that was taken last: it doesn't stand below that one, which is looked at first, and
+// passes the test.
+fn is_taken<N: Nodes, C: Choice<N>>(
+    nodes: &N,
+    last: Option<NodeRef>,
+    node: NodeRef,
+    choice: &C,
+) -> bool
+    requires last_held { IfSome last (N.holds nodes.now) }
+    requires node_held { N.holds nodes.now node }
+    ensures { result ≡ (not (is_below (N.trees nodes.now) (label last) node.label) && C.chosen choice.now nodes.now node.label) }
+{
+    !is_below(nodes, last, node) && choice.chooses(nodes, node)
+}
+
+// The members of a list that pass a test, without those that have an ancestor among them. They are in tree order, so only the
+// member that was taken last can be an ancestor of the next one.
+fn gather<N: Nodes, C: Choice<N>>(
+    alloc: Global,
+    nodes: &N,
+    list: &[NodeRef],
+    choice: &C,
+) -> Result<NodeList, AllocError>
     requires held { All (N.holds nodes.now) list.now }
-    requires order { IsInOrder (N.trees nodes.now) (map (λ r. r.label) list.now) }
-    ensures nodes { IfOk result (λ kept. map (λ r. r.label) kept ≡ gather (N.trees nodes.now) (map (λ r. r.label) list.now)) }
+    requires order { IsInOrder (N.trees nodes.now) (filter (C.chosen choice.now nodes.now) (map (λ r. r.label) list.now)) }
+    ensures nodes { IfOk result (λ kept. map (λ r. r.label) kept ≡ gather (N.trees nodes.now) (filter (C.chosen choice.now nodes.now) (map (λ r. r.label) list.now))) }
     ensures held { IfOk result (λ kept. All (N.holds nodes.now) kept) }
 {
     nodes.lawful();
     let mut kept = Vec::new(alloc);
     let mut last = None;
-    for node in list.as_slice() {
-        if !is_below(nodes, last, *node) {
+    for node in list {
+        if is_taken(nodes, last, *node, choice) {
             kept.push(*node)?;
             last = Some(*node);
         }
@@ -59,27 +79,8 @@ pub fn gather<N: Nodes>(alloc: Global, nodes: &N, list: &NodeList) -> Result<Nod
     NodeList::from_slice(alloc, &kept)
 }
 
-// The members of a list that pass a test.
-fn chosen_of<N: Nodes, C: Choice<N>>(
-    alloc: Global,
-    nodes: &N,
-    list: &[NodeRef],
-    choice: &C,
-) -> Result<Vec<NodeRef>, AllocError>
-    requires { All (N.holds nodes.now) list.now }
-    ensures nodes { IfOk result (λ chosen. map (λ r. r.label) chosen.items ≡ filter (C.chosen choice.now nodes.now) (map (λ r. r.label) list.now)) }
-    ensures held { IfOk result (λ chosen. All (N.holds nodes.now) chosen.items) }
-{
-    let mut chosen = Vec::new(alloc);
-    for node in list {
-        if choice.chooses(nodes, *node) {
-            chosen.push(*node)?;
-        }
-    }
-    Ok(chosen)
-}
-
-/// The nodes that a range contains and that pass a test, in tree order, without those that have an ancestor among them.
+/// The nodes that a range contains and that pass a test, in tree order, without those that have an ancestor among them. Nodes
+/// below one of them aren't tested.
 #[tactic(auto, unfolding(crate::specs::Gather::gathered))]
 pub fn gather_in<N: Nodes, C: Choice<N>>(
     alloc: Global,
@@ -93,6 +94,5 @@ pub fn gather_in<N: Nodes, C: Choice<N>>(
     ensures held { IfOk result (λ list. All (N.holds nodes.now) list) }
 {
     let contained = contained_nodes(alloc, nodes, range)?;
-    let chosen = chosen_of(alloc, nodes, contained.as_slice(), choice)?;
-    gather(alloc, nodes, &NodeList::from_slice(alloc, &chosen)?)
+    gather(alloc, nodes, contained.as_slice(), choice)
 }

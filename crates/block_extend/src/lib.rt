@@ -3,12 +3,14 @@
 #![tactic(auto)]
 
 mod extending;
+mod fitting;
 mod gathering;
 mod places;
 mod prohibited;
 mod series;
 
 pub use extending::block_extend;
-pub use gathering::{Choice, gather, gather_in};
+pub use fitting::{allowed_in_div, allowed_in_item, allowed_in_span};
+pub use gathering::{Choice, gather_in};
 pub use prohibited::is_above_prohibited;
 pub use series::{Link, count_series, is_next};

@@ -11,10 +11,10 @@ ghost use Rattle.edit_model.specs.Lawful.{IsPlacedPair};
 ghost use Rattle.edit_doc.specs.Held.{Holds, IfHeld, EachHeld};
 ghost use Rattle.edit_query.specs.ListStates as lists;
 
-use block_extend::{Choice, block_extend, gather_in};
+use block_extend::{Choice, allowed_in_item, block_extend, gather_in};
 use edit_actions::ends_of;
 use edit_doc::{Doc, NodeList, NodeRef, Pair, Point};
-use node_tests::{allowed_in_name, editing_host, has_name, is_indentation};
+use node_tests::{editing_host, has_name, is_indentation};
 use std::alloc::{AllocError, Global};
 
 /// Which kind of list the lines of a range stand in (HTML Editing APIs, "selection's list state").
@@ -119,9 +119,7 @@ impl Choice<Doc> for Member {
     fn chooses(&self, doc: &Doc, node: NodeRef) -> bool {
         is_editable_with(doc, self.host, node)
             && !is_indentation(doc, node)
-            && (is_any_list(doc, node)
-                || is_in_any_list(doc, node)
-                || allowed_in_name(doc, node, b"li"))
+            && (is_any_list(doc, node) || is_in_any_list(doc, node) || allowed_in_item(doc, node))
     }
 }
 

@@ -18,13 +18,14 @@ ghost use Rattle.inline_value.specs.Selections.{is_amid, at_least, with_start, s
 use crate::clearing::clear_value;
 use crate::forcing::force;
 use crate::pushing::push_down;
+use block_extend::allowed_in_span;
 use css_value::has_codes;
 use dom_model::Chars;
 use edit_actions::ends_of;
 use edit_doc::{Doc, EditFault, Kind, NodeRef, Pair, Point, Setting};
 use edit_query::first_formattable;
 use html_names::{Command, activated_values};
-use node_tests::{allowed_in_name, effective_nodes};
+use node_tests::effective_nodes;
 use point_order::{comes_before, node_of};
 use std::alloc::{AllocError, Global};
 
@@ -416,7 +417,7 @@ fn force_phrase(
     ensures gives { Gives result doc.old.state doc.new.state (force_phrase command (option_copied value.entry) node.label) }
     ensures keeps { Keeps doc.old doc.new }
 {
-    if allowed_in_name(doc, node, b"span") {
+    if allowed_in_span(doc, node) {
         force(alloc, doc, value, node, command)?;
     }
     Ok(())

@@ -11,7 +11,7 @@ ghost use Rattle.edit_doc.specs.Held.{Holds, IfHeld, EachHeld};
 ghost use Rattle.list_indent.specs.Commands.{items_over, items_around, items_by, range_items, range_nodes, gathered_by, is_indentable, is_outdentable, has_editable, has_editable_below};
 
 use crate::lists::{is_in_list, is_item, is_list};
-use block_extend::{Choice, block_extend, gather_in};
+use block_extend::{Choice, allowed_in_div, block_extend, gather_in};
 use edit_actions::ends_of;
 use edit_doc::{Doc, NodeList, NodeRef, Pair};
 use node_tests::{allowed_in_name, is_within};
@@ -125,7 +125,7 @@ impl Choice<Doc> for Indentable {
     #[tactic(auto, unfolding(crate::specs::Commands::is_indentable))]
     fn chooses(&self, doc: &Doc, node: NodeRef) -> bool {
         doc.is_editable_for(node)
-            && (allowed_in_name(doc, node, b"div") || allowed_in_name(doc, node, b"ol"))
+            && (allowed_in_div(doc, node) || allowed_in_name(doc, node, b"ol"))
     }
 }
 

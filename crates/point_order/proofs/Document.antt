@@ -18,9 +18,9 @@ pub inside : (f : Forest Content) (b : Bool) (top l m : ℕ) → top ≡ 0 → l
 inside f b top l m at is both = let both' = rw (at, is) at both in ltb_from_iff both'
 
 module _ (f : Forest Content) (p : Point) where
-  pub placed : (b : Bool) (n : ℕ) → b ≡ is_in_document f p.label → n ≡ length_of f p.label → (b && nat_le p.offset n) ≡ is_placed f p
+  pub placed : (b t : Bool) → b ≡ is_in_document f p.label → t ≡ nat_le p.offset (length_of f p.label) → (b && t) ≡ is_placed f p
   unfolding is_placed
-  placed b n e at = rw (e, at) refl
+  placed b t e at = rw (e, at) refl
 
   pub not_placed : (b : Bool) → b ≡ is_in_document f p.label → b ≡ false → b ≡ is_placed f p
   unfolding is_placed

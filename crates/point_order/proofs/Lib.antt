@@ -1,4 +1,5 @@
 mod Finds
 mod Toward
+mod Children
 mod Order
 mod Document

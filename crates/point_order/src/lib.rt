@@ -4,13 +4,14 @@
 //! one boundary point relative to another.
 #![tactic(auto)]
 
-ghost use Rattle.std.specs.Prelude.{◌≡◌, ◌<◌};
-ghost use Rattle.dom_model.specs.Forest.{count_of};
+ghost use Rattle.std.specs.Prelude.{◌≡◌, ◌<◌, length, nat_le};
+ghost use Rattle.dom_model.specs.Contents.{length_of};
+ghost use Rattle.dom_model.specs.Forest.{children_of, count_of};
 ghost use Rattle.node_arena.specs.Reads.{Names};
 ghost use Rattle.point_order.specs.PointOrder.{child_toward, is_ancestor, is_before, is_earlier, is_in_document, is_placed, is_within};
 
 use live_range::Point;
-use node_arena::{NodeRef, Nodes};
+use node_arena::{Content, NodeRef, Nodes};
 
 /// The child of `top` that the node is, or stands below; `None` where the node is `top` or isn't in its tree.
 pub fn child_toward<N: Nodes>(nodes: &N, top: NodeRef, node: NodeRef) -> Option<NodeRef>
@@ -102,6 +103,35 @@ pub fn is_in_document<N: Nodes>(nodes: &N, label: u32) -> bool
     }
 }
 
+// Whether a node has at least this many children. It takes a step for each, and none for those after them.
+fn has_children<N: Nodes>(nodes: &N, node: NodeRef, count: u32) -> bool
+    requires { N.holds nodes.now node }
+    ensures { result ≡ nat_le count (length (children_of (N.trees nodes.now) node.label)) }
+{
+    nodes.lawful();
+    let mut child = nodes.first_child(node);
+    let mut left = count;
+    while left > 0 {
+        match child {
+            Some(at) => child = nodes.next(at),
+            None => return false,
+        }
+        left -= 1;
+    }
+    true
+}
+
+// Whether an offset is at most the length of a node.
+fn has_place<N: Nodes>(nodes: &N, node: NodeRef, offset: u32) -> bool
+    requires { N.holds nodes.now node }
+    ensures { result ≡ nat_le offset (length_of (N.trees nodes.now) node.label) }
+{
+    match nodes.content(node) {
+        Content::Words(_) | Content::Remark(_) => offset <= nodes.length(node),
+        _ => has_children(nodes, node, offset),
+    }
+}
+
 /// Whether a point stands in the document, at an offset of its node.
 pub fn is_placed<N: Nodes>(nodes: &N, point: Point) -> bool
     ensures { result ≡ is_placed (N.trees nodes.now) point }
@@ -109,7 +139,7 @@ pub fn is_placed<N: Nodes>(nodes: &N, point: Point) -> bool
     nodes.lawful();
     match nodes.find(point.label) {
         Some(node) => {
-            nodes.is_within(nodes.document(), node) && point.offset <= nodes.length(node)
+            nodes.is_within(nodes.document(), node) && has_place(nodes, node, point.offset)
         }
         None => false,
     }

@@ -1,54 +1,55 @@
-use Rattle.std.proofs.Common.{◌≡◌, ◌+◌, ◌++◌, ◌<◌, length, drop, [], ◌∷◌, Some, None, true, false, sym, ap, ◌∙◌, subst, arith}
-use Rattle.std.specs.List.{All}
+use Rattle.std.proofs.Common.{◌≡◌, ◌+◌, ◌++◌, ◌<◌, ◌&&◌, not, length, drop, [], ◌∷◌, Some, None, true, false, sym, ap, ◌∙◌, subst, arith}
+use Rattle.std.specs.List.{All, filter}
 use Rattle.node_arena.specs.Held.{label}
 use Rattle.block_extend.specs.Gaps.{is_below}
 use Rattle.block_extend.specs.Gather.{gather}
 use Rattle.block_extend.proofs.Nesting.{gather_after, gather_in_order}
 use Rattle.block_extend.proofs.Taking.{labels, member, pushed_held, passed_over, taken_in}
 use Rattle.block_extend.proofs.gathering.gather.Goals as goal
-use Rattle.block_extend.proofs.gathering.gather.Goals.{then-not-is_below+in_ok-push, else-not-is_below}
+use Rattle.block_extend.proofs.gathering.gather.Goals.{then-is_taken+in_ok-push, else-is_taken}
 
 pub loop-node-init : goal.loop-node-init
 unfolding gather
 loop-node-init g c =
     let f = g.N.Nodes.trees c.args.nodes.now in
+    let test = g.C.Choice.chosen c.args.choice.now c.args.nodes.now in
+    let chosen = filter test (labels c.args.list.now) in
     let empty : c.new-kept.result.items ≡ [] = c.new-kept.ensures.items in
     record {
       held = λ k d low. absurd (omega (arith, ap length empty, low));
       last = tt;
-      same = ap (λ ys. labels ys ++ gather_after f None (labels c.args.list.now)) empty ∙ sym (gather_in_order f c.lawful.ensures.distinct (labels c.args.list.now) c.requires.order.among);
+      same = ap (λ ys. labels ys ++ gather_after f None chosen) empty ∙ sym (gather_in_order f c.lawful.ensures.distinct chosen c.requires.order.among);
     }
 
 pub loop-node-preserved : goal.loop-node-preserved
 loop-node-preserved g c =
     let f = g.N.Nodes.trees c.args.nodes.now in
+    let test = g.C.Choice.chosen c.args.choice.now c.args.nodes.now in
     let xs = c.args.list.now in
     let i = c.loop-node.node-index in
-    let same : c.as_slice-node-items.result.now ≡ xs = c.as_slice-node-items.ensures in
-    let node : member c.as_slice-node-items.result.now i ≡ member xs i = ap (λ ys. member ys i) same in
-    let low : i < length xs = subst (λ ys. i < length ys) same c.loop-node-test.true in
-    let tells : is_below f (label c.loop-node.last) (member xs i).label ≡ c.is_below.result = ap (λ r. is_below f (label c.loop-node.last) r.label) (sym node) ∙ sym c.is_below.ensures in
+    let low : i < length xs = c.loop-node-test.true in
+    let tells : (not (is_below f (label c.loop-node.last) (member xs i).label) && test (member xs i).label) ≡ c.is_taken.result = sym c.is_taken.ensures in
     let before = c.loop-node.invariant in
     let kept = c.loop-node.kept.items in
-    let whole = gather f (labels xs) in
-    elim c.if-not-is_below.branch [
-      | then-not-is_below+in_ok-push w ↦ (
-          let new : c.if-not-is_below.kept.items ≡ kept ++ member xs i ∷ [] = ap (λ v. v.items) w.kept-is ∙ w.in_ok-push.ensures.items ∙ ap (λ r. kept ++ r ∷ []) node in
-          let last : c.if-not-is_below.last ≡ Some (member xs i) = w.last-is ∙ ap Some node in
-          let off : c.is_below.result ≡ false = w.if-not-is_below.true in
+    let whole = gather f (filter test (labels xs)) in
+    elim c.if-is_taken.branch [
+      | then-is_taken+in_ok-push w ↦ (
+          let new : c.if-is_taken.kept.items ≡ kept ++ member xs i ∷ [] = ap (λ v. v.items) w.kept-is ∙ w.in_ok-push.ensures.items in
+          let last : c.if-is_taken.last ≡ Some (member xs i) = w.last-is in
+          let on : c.is_taken.result ≡ true = w.if-is_taken.true in
           record {
-            held = pushed_held (g.N.Nodes.holds c.args.nodes.now) kept c.if-not-is_below.kept.items (member xs i) before.held (c.requires.held i _ low) new;
+            held = pushed_held (g.N.Nodes.holds c.args.nodes.now) kept c.if-is_taken.kept.items (member xs i) before.held (c.requires.held i _ low) new;
             last = rw last (c.requires.held i _ low);
-            same = ap (λ o. labels c.if-not-is_below.kept.items ++ gather_after f (label o) (labels (drop (i + 1) xs))) last ∙ taken_in f xs i low c.loop-node.last kept whole before.same c.if-not-is_below.kept.items new (tells ∙ off);
+            same = ap (λ o. labels c.if-is_taken.kept.items ++ gather_after f (label o) (filter test (labels (drop (i + 1) xs)))) last ∙ taken_in f test xs i low c.loop-node.last kept whole before.same c.if-is_taken.kept.items new (tells ∙ on);
           })
-      | else-not-is_below w ↦ (
-          let on : c.is_below.result ≡ true = w.if-not-is_below.false in
+      | else-is_taken w ↦ (
+          let off : c.is_taken.result ≡ false = w.if-is_taken.false in
           record {
             held = subst (λ v. All (g.N.Nodes.holds c.args.nodes.now) v.items) (sym w.kept-is) before.held;
             last = rw w.last-is before.last;
             same =
-                ap (λ v. labels v.items ++ gather_after f (label c.if-not-is_below.last) (labels (drop (i + 1) xs))) w.kept-is
-                ∙ ap (λ o. labels kept ++ gather_after f (label o) (labels (drop (i + 1) xs))) w.last-is
-                ∙ passed_over f xs i low c.loop-node.last kept whole before.same (tells ∙ on);
+                ap (λ v. labels v.items ++ gather_after f (label c.if-is_taken.last) (filter test (labels (drop (i + 1) xs)))) w.kept-is
+                ∙ ap (λ o. labels kept ++ gather_after f (label o) (filter test (labels (drop (i + 1) xs)))) w.last-is
+                ∙ passed_over f test xs i low c.loop-node.last kept whole before.same (tells ∙ off);
           })
     ]

@@ -10,9 +10,6 @@ pub gather-requires-clause-order : goal.gather-requires-clause-order
 gather-requires-clause-order g c =
     let f = g.N.Nodes.trees c.args.nodes.now in
     let test = g.C.Choice.chosen c.args.choice.now c.args.nodes.now in
-    let is : labels c.in_ok-from_slice.field-0 ≡ filter test (contained_nodes f c.args.range.0 c.args.range.1) =
-    ap labels (c.in_ok-from_slice.ensures ∙ c.deref.ensures.value)
-    ∙ c.in_ok-chosen.ensures.nodes
-    ∙ ap (λ xs. filter test (labels xs)) c.as_slice.ensures
-    ∙ ap (filter test) c.in_ok-contained.ensures.nodes in
+    let is : filter test (labels c.as_slice.result.now) ≡ filter test (contained_nodes f c.args.range.0 c.args.range.1) =
+    ap (λ xs. filter test (labels xs)) c.as_slice.ensures ∙ ap (filter test) c.in_ok-contained.ensures.nodes in
     subst (IsInOrder f) (sym is) (chosen_in_order test f c.args.range.0 c.args.range.1)

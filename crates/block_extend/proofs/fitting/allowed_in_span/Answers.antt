@@ -1,0 +1,7 @@
+use Rattle.std.proofs.Common.{sym, ◌∙◌, false}
+use Rattle.std.specs.Prelude.{codes}
+use Rattle.block_extend.proofs.Paragraphs.{paragraph_fits, paragraph_in_span}
+use Rattle.block_extend.proofs.fitting.allowed_in_span.Goals as goal
+
+pub returns-then-has_name : goal.returns-then-has_name
+returns-then-has_name g c = sym (paragraph_fits (g.N.Nodes.trees c.args.nodes.now) c.args.node.label (codes "span") false paragraph_in_span (sym c.has_name.ensures ∙ c.if-has_name.true))
