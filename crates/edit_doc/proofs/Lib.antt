@@ -58,3 +58,10 @@ pub mod Off
 pub mod Needs
 pub mod KeptNodes
 pub mod Tails
+pub mod LoggedNodes
+pub mod StepNodes
+pub mod LoggedDocs
+pub mod LoggedNext
+pub mod Onwards
+pub mod MadeApart
+pub mod Leading

@@ -1,11 +1,11 @@
 -- The nodes that commands made, as a forest has them in loose trees.
-use Rattle.std.proofs.Common.{◌≡◌, ◌≢◌, ◌⊎◌, ℕ, ◌+◌, ◌<◌, ◌≤◌, Bool, true, false, true≢false, cond, eqb, List, [], ◌∷◌, ◌++◌, filter, length, suc, Option, refl, sym, ap, subst, ◌∙◌, inl, inr, arith, append-nil, append_assoc}
+use Rattle.std.proofs.Common.{◌≡◌, ◌⊎◌, ℕ, ◌+◌, ◌<◌, ◌≤◌, Bool, true, false, true≢false, cond, eqb, List, [], ◌∷◌, ◌++◌, length, suc, Option, refl, sym, ap, subst, ◌∙◌, inl, inr, arith, append-nil, append_assoc}
 use Rattle.std.specs.Prelude.{nat_le, nat_lt, ◌||◌, ◌==◌}
 use Rattle.std.proofs.lemmas.Bool.Decides.{eqb_tells, nat_tests}
 use Rattle.std.proofs.lemmas.List.Elements.{filter-append}
 use Rattle.dom_model.specs.declared.Content.{Content}
 use Rattle.dom_model.specs.Contents.{with_chars, with_attributes}
-use Rattle.dom_model.specs.Forest.{Forest, join, tops, times, count_of, tree_of, without, put_before, put_under, put_rising, link, unlink, with_leaf, is_label, RisesFrom}
+use Rattle.dom_model.specs.Forest.{Forest, join, tops, times, count_of, tree_of, without, put_under, put_rising, link, unlink, with_leaf, RisesFrom}
 use Rattle.dom_model.specs.Forest.Forest.{Nil, Tree}
 use Rattle.dom_model.specs.Revised.{revised}
 use Rattle.dom_model.specs.Shed.{shed}
@@ -61,19 +61,19 @@ roots-none n (Tree l c ks rest) h =
 
 -- ---- those of them that changes name
 
-abbrev pick : Bool → Bool → ℕ × Content → Nodes → Nodes
+abbrev pub pick : Bool → Bool → ℕ × Content → Nodes → Nodes
 pick b h x r = cond b (cond h (x ∷ r) r) r
 
 pick_none : (b : Bool) (x : ℕ × Content) (r : Nodes) → pick b false x r ≡ r
 pick_none true x r = refl
 pick_none false x r = refl
 
-used_one : (xs : List Change) (b : Bool) (x : ℕ × Content) (r : Nodes) → used xs (cond b (x ∷ r) r) ≡ pick b (has_label (named_in xs) x.0) x (used xs r)
+pub used_one : (xs : List Change) (b : Bool) (x : ℕ × Content) (r : Nodes) → used xs (cond b (x ∷ r) r) ≡ pick b (has_label (named_in xs) x.0) x (used xs r)
 unfolding used
 used_one xs true x r = refl
 used_one xs false x r = refl
 
-used_nil : (xs : List Change) → used xs [] ≡ []
+pub used_nil : (xs : List Change) → used xs [] ≡ []
 unfolding used
 used_nil xs = refl
 
@@ -82,7 +82,7 @@ unfolding used
 used-append xs a b = filter-append (λ (n : ℕ × Content). has_label (named_in xs) n.0) a b
 
 -- a root that no change names
-skips : (xs : List Change) (b : Bool) (l : ℕ) (c : Content) (r : Nodes) → has_label (named_in xs) l ≡ false → used xs (cond b ((l, c) ∷ r) r) ≡ used xs r
+pub skips : (xs : List Change) (b : Bool) (l : ℕ) (c : Content) (r : Nodes) → has_label (named_in xs) l ≡ false → used xs (cond b ((l, c) ∷ r) r) ≡ used xs r
 skips xs b l c r off = used_one xs b (l, c) r ∙ (ap (λ h. pick b h (l, c) (used xs r)) off ∙ pick_none b (l, c) (used xs r))
 
 -- trees that are shed have no root that is named

@@ -8,3 +8,5 @@ pub mod Fields
 pub mod Marks
 pub mod Kept
 pub mod Extracting
+pub mod Logged
+pub mod Onward

@@ -200,6 +200,13 @@ impl Doc {
     {
         self.log.entry_len()
     }
+
+    /// Whether a commit ever dropped the oldest entry.
+    pub fn has_dropped(&self) -> bool
+        ensures { result ≡ self.now.history.dropped }
+    {
+        self.log.has_dropped()
+    }
 }
 
 // Exchanges the left trees of the command with those of the entry that undo would take.

@@ -8,6 +8,7 @@ ghost use Rattle.dom_model.specs.Places.{index_of};
 ghost use Rattle.edit_model.specs.Gives.{label_of};
 ghost use Rattle.edit_doc.specs.Whole.{IsDoc, IsClosed};
 ghost use Rattle.edit_doc.specs.Kept.{HoldsOnlyNeeded};
+ghost use Rattle.edit_doc.specs.Onward.{HasLedOnward};
 ghost use Rattle.edit_doc.specs.Held.{Holds, Finds, IfHeld, IsPart};
 ghost use Rattle.node_arena.specs.Kinds.{kind_of};
 ghost use Rattle.point_order.specs.PointOrder.{is_before, is_placed};
@@ -34,6 +35,15 @@ impl Doc {
     {
         self.arena.lawful();
         self.arena.slotted();
+    }
+
+    /// How the entries before the cursor led from the page to the document, for proofs: the edits of each fit the document
+    /// before it, beside the nodes that its commands made, and give the document after it. It does nothing.
+    pub fn led_onward(&self)
+        requires closed { IsClosed self.now }
+        ensures { HasLedOnward self.now }
+    {
+        self.arena.lawful();
     }
 
     /// The nodes: those of the state, and loose trees of kept entries beside them, which no definition sees.

@@ -14,6 +14,7 @@ pub mod CountsOk
 pub mod DropOk
 pub mod ReviseOk
 pub mod RewindOk
+pub mod SkipOk
 pub mod DropTreeOk
 pub mod BeforeOk
 pub mod GiveUp

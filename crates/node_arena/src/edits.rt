@@ -1,6 +1,6 @@
 //! Changes of the tree that make no node.
 
-ghost use Rattle.std.specs.Prelude.{◌≡◌, ◌≢◌, ℕ, ◌+◌, ◌≤◌, ◌<◌, ◌^◌, Some, None, true, false, length, IsSome, IfSome, nat_le};
+ghost use Rattle.std.specs.Prelude.{◌≡◌, ◌≢◌, ℕ, ◌+◌, ◌≤◌, ◌<◌, ◌^◌, Some, None, true, false, length, IsSome, IfSome, nat_le, OnOk, OnErr};
 ghost use Rattle.std.specs.Option.{option_map_or, option_and_then};
 ghost use Rattle.slab.specs.Slab.{get};
 ghost use Rattle.dom_model.specs.Forest.{count_of, parent_of, first_of, link, unlink};
@@ -16,6 +16,7 @@ ghost use Rattle.node_arena.specs.Sound.{IsIndexed};
 use crate::links::{link_in, take_in};
 use crate::{Arena, Attributes, Chars, Content, Node, NodeRef};
 use slab::Slab;
+use std::alloc::AllocError;
 use std::marker::Brand;
 use std::mem::swap;
 use std::sync::ledger::{Blank, Ledger};
@@ -160,6 +161,19 @@ impl Arena {
     {
         self.index.truncate(label as usize);
         self.next = label;
+    }
+
+    /// Sets the next label on. The labels before it that were not drawn yet never name a node. It takes memory for the place
+    /// of each of them; without that nothing changes.
+    pub fn skip_to(&mut self, label: u32) -> Result<(), AllocError>
+        requires low { self.old.next ≤ label }
+        requires high { label ≤ self.old.cap }
+        ensures ok { OnOk result (self.new ≡ record self.old { next = label }) }
+        ensures err { OnErr result (self.new ≡ self.old) }
+    {
+        self.index.resize(label as usize, 0)?;
+        self.next = label;
+        Ok(())
     }
 }
 

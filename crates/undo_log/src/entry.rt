@@ -65,6 +65,12 @@ impl<T> Entry<T> {
         self.steps.len()
     }
 
+    pub(crate) fn as_slice(&self) -> &[T]
+        ensures { result.now ≡ self.now }
+    {
+        self.steps.as_slice()
+    }
+
     pub(crate) fn into_steps(self) -> Vec<T>
         ensures { result.items ≡ self }
     {

@@ -1,5 +1,5 @@
 //! The log: entries around a cursor, and one open entry at most.
-ghost use Rattle.std.specs.Prelude.{◌≡◌, ◌+◌, ◌-◌, ◌<◌, ◌↔◌, IsTrue, IsFalse, [], length, IsNone, IfOk, OnOk, IfErr, if◌then◌else◌};
+ghost use Rattle.std.specs.Prelude.{◌≡◌, ◌+◌, ◌-◌, ◌<◌, ◌↔◌, IsTrue, IsFalse, [], length, slice_get, IsNone, IfOk, OnOk, IfErr, if◌then◌else◌};
 ghost use Rattle.std.specs.Option.{option_map};
 ghost use Rattle.undo_log.specs.Turning.{back, FitsBack};
 ghost use Rattle.undo_log.specs.Log.{Log, IsLog, is_open, is_resumed, noted, entries, cursor, empty, begun, resumed, with_step, committed, abandoned, undone, undone_state, redone, redone_state, without_newest, without_oldest, first_length, FitsUndo, FitsRedo};
@@ -227,6 +227,20 @@ impl<T: Drop> UndoLog<T> {
         ensures entries { cursor self.now + result ≡ length (entries self.now) }
     {
         self.redo.len()
+    }
+
+    /// The steps of the entry that redo would take. None where there is none.
+    pub fn next_entry(&self) -> Option<&[T]>
+        ensures { option_map (λ steps. steps.now) result ≡ slice_get self.now.redo 0 }
+    {
+        self.redo.front().map(Entry::as_slice)
+    }
+
+    /// Whether a commit ever dropped the oldest entry.
+    pub fn has_dropped(&self) -> bool
+        ensures { result ≡ self.now.dropped }
+    {
+        self.dropped
     }
 
     /// How many steps the entry has that undo would take, 0 if there is none. Of an entry that is

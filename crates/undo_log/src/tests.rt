@@ -240,6 +240,9 @@ static ROWS: [Row; 44] = [
     (Call::PopOldest, 1, [4, 7, 9, 3], [0, 0, 0]),
 ];
 
+// The row that drops the first entry.
+const THIRD_ENTRY: usize = 29;
+
 // An array's length is a number here, and a list's in what `edit` requires.
 fn has(numbers: &[u32], at: usize) -> bool
     ensures { IsTrue result ↔ (at < length numbers.now) }
@@ -289,7 +292,7 @@ fn run<L: Ledger, R: Abort>(rt: &R, alloc: Global, blank: Blank) -> Result<(), F
 {
     let steps = Steps::<L>::open(blank);
     let mut session = Session::<Edit, Numbers, L>::new(alloc, 2, [1, 2, 3, 4], steps)?;
-    for (call, wanted, numbers, lens) in &ROWS {
+    for (at, (call, wanted, numbers, lens)) in ROWS.iter().enumerate() {
         let got = answer(&mut session, *call)?;
         let log = &session.log;
         assert_eq!(rt; got, *wanted, "{call:?}");
@@ -299,6 +302,12 @@ fn run<L: Ledger, R: Abort>(rt: &R, alloc: Global, blank: Blank) -> Result<(), F
             *lens,
             "after {call:?}"
         );
+        assert_eq!(rt;
+            log.next_entry().is_some_and(|steps| !steps.is_empty()),
+            log.redo_len() > 0,
+            "after {call:?}"
+        );
+        assert_eq!(rt; log.has_dropped(), THIRD_ENTRY <= at, "after {call:?}");
     }
     Ok(())
 }

@@ -1,0 +1,79 @@
+-- The entry that redo would take, read from the fields of a document.
+use Rattle.std.proofs.Common.{◌≡◌, ℕ, ◌<◌, ◌≤◌, List, [], ◌∷◌, drop, map, Option, Some, None, Bor, sym, ap, subst, ◌∙◌}
+use Rattle.std.specs.Prelude.{slice_get}
+use Rattle.std.specs.Option.{option_map, option_copied}
+use Rattle.dom_model.specs.declared.Content.{Content}
+use Rattle.dom_model.specs.Forest.{Forest, content_of}
+use Rattle.dom_model.specs.State.{IsLawful as IsArena}
+use Rattle.node_arena.specs.Held.{Holds}
+use Rattle.undo_log.specs.Log.{noted}
+use Rattle.undo_log.specs.Log.Open.{Closed}
+use Rattle.forest_changes.specs.Named.{Each, named_in}
+use Rattle.forest_changes.proofs.Twice.{forest_of}
+use Rattle.edit_steps.specs.declared.step.Step.{Step}
+use Rattle.edit_steps.specs.Step.{changes_of, nodes_in}
+use Rattle.edit_model.specs.History.{used}
+use Rattle.edit_doc.specs.declared.Doc.TheInside.{Inside}
+use Rattle.edit_doc.specs.declared.command.Beside.{Beside}
+use Rattle.edit_doc.specs.History.{roots_from, redo_entries}
+use Rattle.edit_doc.specs.Logged.{Logged, made_node, logged_with, logged_entry}
+use Rattle.edit_doc.specs.Sound.{AreFresh, RedoSound, next_first}
+use Rattle.edit_doc.specs.Whole.{Whole}
+use Rattle.edit_doc.proofs.Inner.{seen, Ok}
+use Rattle.edit_doc.proofs.LoggedNodes.{contents_seen, edits_same}
+use Rattle.edit_doc.proofs.Rests.{AtRest, rest_of, none_noted}
+
+module _ (d : Inside) (v : Whole) (sees : seen d ≡ v) (law : IsArena d.arena) (closed : d.log.open_entry ≡ Closed) (ok : Ok d) where
+  abbrev f : Forest Content
+  f = d.arena.trees
+
+  rests : AtRest d.arena d.points d.overrides.items d.flags d.counts d.command d.log d.undo_sides.items d.redo_sides.items d.undo_sides.capacity d.redo_sides.capacity
+  rests = rest_of d.arena d.points d.overrides.items d.flags d.counts d.command d.log d.undo_sides.items d.redo_sides.items d.undo_sides.capacity d.redo_sides.capacity law closed ok
+
+  entries_are : v.history.redo ≡ redo_entries d.points.names f d.log.redo d.redo_sides.items
+  entries_are =
+      ap (λ (w : Whole). w.history.redo) (sym sees)
+      ∙ ap (λ g. redo_entries d.points.names g d.log.redo d.redo_sides.items) (none_noted d.log f (ap noted closed))
+
+  -- what reading the entry needs, and what it then is
+  pub record Next (e : List Step) (first end : ℕ) : Type 0 where
+    pub order : first ≤ end
+    pub fresh : AreFresh f first
+    pub within : Each (λ l. l < end) (named_in (changes_of e))
+    pub held : Each (λ r. Holds d.arena r) (nodes_in e)
+    pub value : (entry : Logged) → entry ≡ logged_with (content_of f) (used (changes_of e) (roots_from first f)) (changes_of e) → option_map logged_entry (slice_get v.history.redo 0) ≡ Some entry
+
+  next_in : (es : List (List Step)) (bs : List Beside) → RedoSound d.arena.held d.points.names d.command f es bs → v.history.redo ≡ redo_entries d.points.names f es bs →
+      (e : List Step) (b : Beside) → slice_get es 0 ≡ Some e → slice_get bs 0 ≡ Some b → Next e b.sides.first_label (next_first d.command.start (drop 1 bs))
+  next_in [] bs h is e b at beside = absurd (let t : None ≡ Some e = at in cc)
+  next_in (x ∷ es) [] h is e b at beside = absurd h
+  next_in (x ∷ es) (y ∷ bs) h is e b at beside =
+      let here : Some x ≡ Some e = at in
+      let there : Some y ≡ Some b = beside in
+      let same : x ≡ e = cc in
+      let same' : y ≡ b = cc in
+      subst (λ z. Next z b.sides.first_label (next_first d.command.start bs)) same (subst (λ (z : Beside). Next x z.sides.first_label (next_first d.command.start bs)) same' own)
+    where
+      own : Next x y.sides.first_label (next_first d.command.start bs)
+      own = record {
+        order = h.1.0.drawn;
+        fresh = h.1.0.fresh;
+        within = h.1.0.names_old;
+        held = h.0.1;
+        value = λ entry eq. (
+            let made = used (changes_of x) (roots_from y.sides.first_label f) in
+            let seen = contents_seen f (forest_of d.arena law) d.arena.next y.sides.first_label law.below h.1.0.fresh (changes_of x) h.1.0.names_seen in
+            ap (λ es. option_map logged_entry (slice_get es 0)) is
+            ∙ ap Some (ap (λ es. record { made = map made_node made; edits = es }) (edits_same _ (content_of f) (changes_of x) seen) ∙ sym eq));
+      }
+
+  pub next_of : (e : List Step) (b : Beside) → slice_get d.log.redo 0 ≡ Some e → slice_get d.redo_sides.items 0 ≡ Some b → Next e b.sides.first_label (next_first d.command.start (drop 1 d.redo_sides.items))
+  next_of e b = next_in d.log.redo d.redo_sides.items rests.redo entries_are e b
+
+  -- where the code has looked both up
+  pub next_read : (o : Option (Bor (List Step))) (e : Bor (List Step)) (q : Option (Bor Beside)) (b : Bor Beside) (end : ℕ) →
+      option_map (λ r. r.now) o ≡ slice_get d.log.redo 0 → o ≡ Some e → option_copied q ≡ slice_get d.redo_sides.items 0 → q ≡ Some b → end ≡ next_first d.command.start (drop 1 d.redo_sides.items) →
+      Next e.now b.now.sides.first_label end
+  next_read o e q b end at is beside there last =
+      subst (λ n. Next e.now b.now.sides.first_label n) (sym last)
+      (next_of e.now b.now (sym at ∙ ap (option_map (λ (r : Bor (List Step)). r.now)) is) (sym beside ∙ ap (λ (r : Option (Bor Beside)). option_copied r) there))

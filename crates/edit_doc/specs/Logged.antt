@@ -1,0 +1,70 @@
+-- The entries of the history as forward edits.
+use Rattle.std.specs.Prelude.{◌≡◌, ℕ, ◌+◌, ◌<◌, Bool, false, List, [], ◌∷◌, length, slice_index_or, map, Option, Some, None, unwrap_or, if◌then◌else◌, ◌==◌}
+use Rattle.std.specs.Option.{option_map_or, option_and_then}
+use Rattle.dom_model.specs.declared.Content.{Content}
+use Rattle.dom_model.specs.Change.{Change, Loosen, Attach, Shift, Rewrite, Redress}
+use Rattle.dom_model.specs.Contents.{name_in}
+use Rattle.dom_model.specs.Forest.{Forest, content_of, either}
+use Rattle.live_range.specs.Edit.{has_label}
+use Rattle.edit_model.specs.History.{Entry}
+use Rattle.edit_doc.specs.Whole.{Whole}
+use Rattle.edit_doc.specs.declared.logged.LoggedEdit.{LoggedEdit}
+use Rattle.edit_doc.specs.declared.logged.LoggedEdit.TheVariants.{Remove, Insert, Move, Words, Attributes}
+use Rattle.edit_doc.specs.declared.logged.MadeNode.{MadeNode}
+
+-- the nodes that the commands of an entry made and its edits name, each as made, and its edits, from the first to the last
+pub record Logged : Type 0 where
+  pub made : List MadeNode
+  pub edits : List LoggedEdit
+
+-- the content with which a node was made
+abbrev pub content_made : List (ℕ × Content) → ℕ → Option Content
+content_made [] l = None
+content_made (n ∷ ns) l = if n.0 == l then Some n.1 else content_made ns l
+
+-- the content of a node before the edits of an entry: that in the document before it, or that with which it was made
+abbrev pub content_in : Entry → ℕ → Option Content
+content_in e l = either (content_of e.before.document l) (content_made e.made l)
+
+-- the name of the element with this content
+abbrev pub element_name : Option Content → List ℕ
+element_name o = unwrap_or (option_and_then name_in o) []
+
+-- an edit, where each node has the content that is told
+abbrev pub logged_edit : (ℕ → Option Content) → Change → LoggedEdit
+logged_edit content (Loosen n) = Remove n
+logged_edit content (Attach n p b) = Insert n p b
+logged_edit content (Shift n p b) = Move n p b
+logged_edit content (Rewrite n words) = Words n words
+logged_edit content (Redress n list) = Attributes n (element_name (content n)) list
+
+abbrev pub made_node : ℕ × Content → MadeNode
+made_node n = record { label = n.0; content = n.1 }
+
+abbrev pub logged_with : (ℕ → Option Content) → List (ℕ × Content) → List Change → Logged
+logged_with content made edits = record { made = map made_node made; edits = map (logged_edit content) edits }
+
+abbrev pub logged_entry : Entry → Logged
+logged_entry e = logged_with (content_in e) e.made e.edits
+
+-- the node of a label with its content, if there is one
+abbrev pub node_at : Forest Content → ℕ → List (ℕ × Content)
+node_at f l = option_map_or (λ c. (l, c) ∷ []) (content_of f l) []
+
+-- there are marks of labels from `first` on, each of which tells whether the list has the label
+abbrev pub TellNamed : ℕ → List ℕ → List Bool → Type 0
+TellNamed first ls marks = (i : ℕ) → i < length marks → slice_index_or marks i false ≡ has_label ls (first + i)
+
+-- These are the entries that undo and redo would take, and all else but the document and the points and overrides at it is as
+-- it was.
+pub record HasMoved (old new : Whole) (us rs : List Entry) : Type 0 where
+  pub undo : new.history.undo ≡ us
+  pub redo : new.history.redo ≡ rs
+  pub rest : new ≡ record old {
+    state = record old.state {
+      trees = new.state.trees;
+      points = record old.state.points { selection = new.state.points.selection; scratch = new.state.points.scratch; marks = new.state.points.marks };
+      overrides = new.state.overrides;
+    };
+    history = record old.history { undo = us; redo = rs };
+  }
