@@ -86,11 +86,8 @@ fn push_attributes(bytes: &mut Vec<u8>, list: &Attributes) -> Result<(), AllocEr
     Ok(())
 }
 
-pub(crate) fn push_start_tag(
-    bytes: &mut Vec<u8>,
-    name: &Name,
-    list: &Attributes,
-) -> Result<(), AllocError>
+/// Appends a start tag, in which each attribute has its value in `"`. After an `Err` a part of it stands in the bytes.
+pub fn push_start_tag(bytes: &mut Vec<u8>, name: &Name, list: &Attributes) -> Result<(), AllocError>
     ensures ok { OnOk result (bytes.new.items ≡ bytes.old.items ++ start_tag name.now list.now) }
 {
     bytes.extend_from_slice(b"<")?;

@@ -5,7 +5,7 @@ mod html;
 mod listing;
 mod points;
 
-pub use html::write_html;
+pub use html::{push_start_tag, write_html};
 pub use listing::write_tree;
 pub use points::write_points;
 

@@ -91,11 +91,11 @@ cut-none c (x ∷ a) lacks = rw (lacks.0, cut-none c a lacks.1) refl
 
 -- ---- texts joined and split again
 
-split-found : (c : ℕ) (a r : List ℕ) → Avoids c a → split c (a ++ c ∷ r) ≡ a ∷ split c r
+pub split-found : (c : ℕ) (a r : List ℕ) → Avoids c a → split c (a ++ c ∷ r) ≡ a ∷ split c r
 split-found c [] r lacks = rw (same c) refl
 split-found c (x ∷ a) r lacks = rw (lacks.0, split-found c a r lacks.1) refl
 
-split-alone : (c : ℕ) (a : List ℕ) → Avoids c a → split c a ≡ a ∷ []
+pub split-alone : (c : ℕ) (a : List ℕ) → Avoids c a → split c a ≡ a ∷ []
 split-alone c [] lacks = refl
 split-alone c (x ∷ a) lacks = rw (lacks.0, split-alone c a lacks.1) refl
 

@@ -10,7 +10,7 @@ use Rattle.html_names.specs.declared.query.QueryKind.{QueryKind}
 use Rattle.html_names.specs.declared.query.QueryKind.TheVariants as kinds
 use Rattle.html_names.specs.Queries.{query_word, query_kind_of}
 use Rattle.script_read.specs.declared.act.Act.{Act}
-use Rattle.script_read.specs.declared.act.Act.TheVariants.{Select, Unselect, Mark, Unmark, Exec, Query, Undo, Redo, Probe, Html, Tree, Points, Stat}
+use Rattle.script_read.specs.declared.act.Act.TheVariants.{Select, Unselect, Mark, Unmark, Exec, Query, Undo, Redo, Probe, Html, Tree, Points, Stat, Log}
 use Rattle.script_read.specs.declared.act.LineFault.{LineFault}
 use Rattle.script_read.specs.declared.act.LineFault.TheVariants.{Syntax, UnknownAct, LongLine, Memory}
 use Rattle.script_read.specs.declared.act.Place.{Place}
@@ -23,7 +23,7 @@ use Rattle.script_read.proofs.Tests.{some-is, chosen, differs, bound}
 use Rattle.script_read.proofs.Cutting.{Avoids, cut-found, cut-none, cut-parts}
 use Rattle.script_read.proofs.Numbers.{number_back, number_sound, name_back, name_sound, name_avoids_space}
 use Rattle.script_read.proofs.Places.{path_back, path_sound, point_back, point_sound, point_avoids_space}
-use Rattle.script_read.proofs.Values.{value_back, value_sound}
+use Rattle.script_read.proofs.Values.{text_back, text_sound}
 
 -- ---- what is in the grammar is read
 
@@ -69,7 +69,7 @@ exec_back name n = rw (cut-none 32 name (name_avoids_space name n)) (rw (name_ba
 exec_with_back : (name bytes value : List ℕ) → IsName name → IsValue bytes value → exec_of (name ++ 32 ∷ bytes) ≡ Some (Exec name value)
 unfolding exec_of
 exec_with_back name bytes value n v =
-    rw (cut-found 32 name bytes (name_avoids_space name n)) (rw (name_back name n) (rw (value_back bytes value v) refl))
+    rw (cut-found 32 name bytes (name_avoids_space name n)) (rw (name_back name n) (rw (text_back false bytes value v) refl))
 
 query_back : (kind : QueryKind) (name : List ℕ) → IsName name → query_of (query_word kind ++ 32 ∷ name) ≡ Some (Query kind name)
 unfolding query_of
@@ -104,6 +104,7 @@ word_back verbs.Html = refl
 word_back verbs.Tree = refl
 word_back verbs.Points = refl
 word_back verbs.Stat = refl
+word_back verbs.Log = refl
 
 word_alone : (v : Verb) → cut 32 (word_of v) ≡ None
 word_alone verbs.Select = refl
@@ -119,6 +120,7 @@ word_alone verbs.Html = refl
 word_alone verbs.Tree = refl
 word_alone verbs.Points = refl
 word_alone verbs.Stat = refl
+word_alone verbs.Log = refl
 
 word_cut : (v : Verb) (rest : List ℕ) → cut 32 (word_of v ++ 32 ∷ rest) ≡ Some (word_of v, rest)
 word_cut verbs.Select rest = refl
@@ -134,6 +136,7 @@ word_cut verbs.Html rest = refl
 word_cut verbs.Tree rest = refl
 word_cut verbs.Points rest = refl
 word_cut verbs.Stat rest = refl
+word_cut verbs.Log rest = refl
 
 found_word : (text : List ℕ) (vs : List Verb) (v : Verb) → find (λ v. bytes_eq (word_of v) text) vs ≡ Some v → text ≡ word_of v
 found_word text [] v e = absurd (cc)
@@ -145,7 +148,7 @@ found_word text (w ∷ vs) v e =
 
 verb_sound : (text : List ℕ) (v : Verb) → verb_of text ≡ Some v → text ≡ word_of v
 verb_sound text v e =
-    found_word text (verbs.Select ∷ verbs.Unselect ∷ verbs.Mark ∷ verbs.Unmark ∷ verbs.Exec ∷ verbs.Query ∷ verbs.Undo ∷ verbs.Redo ∷ verbs.Probe ∷ verbs.Html ∷ verbs.Tree ∷ verbs.Points ∷ verbs.Stat ∷ []) v e
+    found_word text (verbs.Select ∷ verbs.Unselect ∷ verbs.Mark ∷ verbs.Unmark ∷ verbs.Exec ∷ verbs.Query ∷ verbs.Undo ∷ verbs.Redo ∷ verbs.Probe ∷ verbs.Html ∷ verbs.Tree ∷ verbs.Points ∷ verbs.Stat ∷ verbs.Log ∷ []) v e
 
 line_of_word : (line : List ℕ) (v : Verb) → line ≡ word_of v → line_parts line (cut 32 line) ≡ Known (word_act v)
 line_of_word line v e = rw e (rw (word_alone v) (rw (word_back v) refl))
@@ -174,6 +177,7 @@ spelled_line line Html e = line_of_word line verbs.Html e
 spelled_line line Tree e = line_of_word line verbs.Tree e
 spelled_line line Points e = line_of_word line verbs.Points e
 spelled_line line Stat e = line_of_word line verbs.Stat e
+spelled_line line Log e = line_of_word line verbs.Log e
 
 known-is : {a b : Option Act} → Known a ≡ Known b → a ≡ b
 known-is e = cc
@@ -249,7 +253,7 @@ exec_by line text act (Some p) follows c e =
     let v = bound (value_of p.1) (λ value. Some (Exec n.value value)) act n.gives in
     let name = name_sound p.0 n.value n.was in
     subst (Spells line) (ap (λ x. Exec x v.value) name.1 ∙ some-is v.gives)
-    (name.0, inr (p.1, two_parts line (codes "exec") text p follows c, value_sound p.1 v.value v.was))
+    (name.0, inr (p.1, two_parts line (codes "exec") text p follows c, text_sound false p.1 v.value v.was))
 
 exec_sound : (line text : List ℕ) (act : Act) → Follows line (codes "exec") text → exec_of text ≡ Some act → Spells line act
 unfolding exec_of
@@ -300,6 +304,7 @@ word_sound line verbs.Html act is e = subst (Spells line) (some-is e) is
 word_sound line verbs.Tree act is e = subst (Spells line) (some-is e) is
 word_sound line verbs.Points act is e = subst (Spells line) (some-is e) is
 word_sound line verbs.Stat act is e = subst (Spells line) (some-is e) is
+word_sound line verbs.Log act is e = subst (Spells line) (some-is e) is
 
 arguments_sound : (line : List ℕ) (v : Verb) (text : List ℕ) (act : Act) → Follows line (word_of v) text → arguments_act v text ≡ Some act → Spells line act
 arguments_sound line verbs.Select text act is e = select_sound line text act is e
@@ -315,6 +320,7 @@ arguments_sound line verbs.Html text act is e = absurd (cc)
 arguments_sound line verbs.Tree text act is e = absurd (cc)
 arguments_sound line verbs.Points text act is e = absurd (cc)
 arguments_sound line verbs.Stat text act is e = absurd (cc)
+arguments_sound line verbs.Log text act is e = absurd (cc)
 
 -- ---- what a line is
 

@@ -14,8 +14,8 @@ use Rattle.std.proofs.lemmas.Option.{cond_some}
 use Rattle.std.proofs.lemmas.Str.{chars-encodes, encodes-chars, scalars-chars, is_utf8-from_IsUtf8, IsUtf8-from_is_utf8}
 use Rattle.script_read.specs.declared.value.Escape.{Escape}
 use Rattle.script_read.specs.declared.value.Escape.TheVariants.{Outside, Backslash as After, Letter, Digits}
-use Rattle.script_read.specs.Acts.{Piece, Itself, LineFeed, Tab, Backslash, Quote, Return, Scalar, spelling, meaning, is_hex_digit, IsPiece, ArePieces, SpellsChars, IsValue}
-use Rattle.script_read.specs.Reading.{◌>>=◌, Step, letter_read, closed, digit_read, stepped, is_outside, value_from, value_of}
+use Rattle.script_read.specs.Acts.{Piece, Itself, LineFeed, Tab, Backslash, Quote, Return, Scalar, spelling, meaning, is_hex_digit, IsPiece, ArePieces, SpellsChars, SpellsBytes}
+use Rattle.script_read.specs.Reading.{◌>>=◌, Step, letter_read, closed, digit_read, stepped, is_outside, value_from, text_of}
 use Rattle.script_read.proofs.Tests.{some-is, and-true, chosen, equal, differs, unequal, bound, mapped}
 use Rattle.script_read.proofs.Cutting.{passing_avoids}
 
@@ -99,12 +99,12 @@ pieces_back printed (p ∷ ps) are = piece_step printed p (flat_map spelling ps)
 pub spelled_back : (printed : Bool) (text value : List ℕ) → SpellsChars printed text value → value_from printed Outside text ≡ Some value
 spelled_back printed text value (ps, are, t, v) = rw (t, v) (pieces_back printed ps are)
 
-pub value_back : (bytes value : List ℕ) → IsValue bytes value → value_of bytes ≡ Some value
-unfolding value_of
-value_back bytes value (text, all, encoded, spells) =
+pub text_back : (printed : Bool) (bytes value : List ℕ) → SpellsBytes printed bytes value → text_of printed bytes ≡ Some value
+unfolding text_of
+text_back printed bytes value (text, all, encoded, spells) =
     let utf8 : is_utf8 bytes ≡ true = is_utf8-from_IsUtf8 bytes (text, (all, encoded)) in
     let is : chars bytes ≡ text = ap chars (sym encoded) ∙ chars-encodes text all in
-    rw (utf8, is) (spelled_back false text value spells)
+    rw (utf8, is) (spelled_back printed text value spells)
 
 -- ---- what is read is in the grammar
 
@@ -247,50 +247,67 @@ sound printed (c ∷ cs) state value all e =
     subst (Sound printed state (c ∷ cs)) m.gives
     (turn printed state c cs m.value b.value h.0 b.was (sound printed cs b.value.0 m.value h.1 m.was))
 
-pub value_sound : (bytes value : List ℕ) → value_of bytes ≡ Some value → IsValue bytes value
-unfolding value_of
-value_sound bytes value e =
-    elim (chosen (is_utf8 bytes) (value_from false Outside (chars bytes)) None (Some value) e) [
+pub text_sound : (printed : Bool) (bytes value : List ℕ) → text_of printed bytes ≡ Some value → SpellsBytes printed bytes value
+unfolding text_of
+text_sound printed bytes value e =
+    elim (chosen (is_utf8 bytes) (value_from printed Outside (chars bytes)) None (Some value) e) [
       | inl h ↦ let utf8 = IsUtf8-from_is_utf8 bytes h.0 in
-          (chars bytes, scalars-chars bytes utf8, encodes-chars bytes utf8, sound false (chars bytes) Outside value (scalars-chars bytes utf8) h.1)
+          (chars bytes, scalars-chars bytes utf8, encodes-chars bytes utf8, sound printed (chars bytes) Outside value (scalars-chars bytes utf8) h.1)
       | inr h ↦ absurd (let f = h.1 in cc)
     ]
+
+meaning_scalar : (printed : Bool) (p : Piece) → IsPiece printed p → scalar (meaning p) ≡ true
+meaning_scalar printed (Itself c) is = is.0
+meaning_scalar printed LineFeed is = refl
+meaning_scalar printed Tab is = refl
+meaning_scalar printed Backslash is = refl
+meaning_scalar printed Quote is = refl
+meaning_scalar printed Return is = refl
+meaning_scalar printed (Scalar digits) is = is.3
+
+meanings_scalar : (printed : Bool) (ps : List Piece) → ArePieces printed ps → scalars (map meaning ps) ≡ true
+meanings_scalar printed [] are = refl
+meanings_scalar printed (p ∷ ps) are = rw (meaning_scalar printed p are.0, meanings_scalar printed ps are.1) refl
+
+-- what is spelled are characters
+pub spelled_scalars : (printed : Bool) (bytes value : List ℕ) → SpellsBytes printed bytes value → scalars value ≡ true
+spelled_scalars printed bytes value (text, all, encoded, (ps, are, t, v)) = ap scalars v ∙ meanings_scalar printed ps are
 
 -- ---- characters, one after the other
 
 -- what is read, followed by what the state makes of the rest
-abbrev pub Follows : List ℕ → Escape → List ℕ → Option (List ℕ) → Type 0
-Follows value state rest total = option_map (λ later. value ++ later) (value_from false state rest) ≡ total
+abbrev pub Follows : Bool → List ℕ → Escape → List ℕ → Option (List ℕ) → Type 0
+Follows printed value state rest total = option_map (λ later. value ++ later) (value_from printed state rest) ≡ total
 
-pub Follows-first : (text : List ℕ) → Follows [] Outside text (value_from false Outside text)
-Follows-first text = nothing_before (value_from false Outside text)
+pub Follows-first : (printed : Bool) (text : List ℕ) → Follows printed [] Outside text (value_from printed Outside text)
+Follows-first printed text = nothing_before (value_from printed Outside text)
 
 regroup : (value piece : List ℕ) (o : Option (List ℕ)) → option_map (λ later. value ++ later) (option_map (λ v. piece ++ v) o) ≡ option_map (λ later. (value ++ piece) ++ later) o
 regroup value piece None = refl
 regroup value piece (Some later) = ap Some (sym (append_assoc value piece later))
 
-pub Follows-more : (value : List ℕ) (state : Escape) (c : ℕ) (rest all : List ℕ) (total : Option (List ℕ)) (step : Step) → all ≡ c ∷ rest → Some step ≡ stepped false state c → Follows value state all total → Follows (value ++ option_to_list step.1) step.0 rest total
-Follows-more value state c rest all total step is e follows =
-    let one : value_from false state all ≡ option_map (λ v. option_to_list step.1 ++ v) (value_from false step.0 rest) = ap (value_from false state) is ∙ value_from-cons false state c rest ∙ rw (← e) refl in
-    sym (regroup value (option_to_list step.1) (value_from false step.0 rest)) ∙ ap (option_map (λ later. value ++ later)) (sym one) ∙ follows
+pub Follows-more : (printed : Bool) (value : List ℕ) (state : Escape) (c : ℕ) (rest all : List ℕ) (total : Option (List ℕ)) (step : Step) → all ≡ c ∷ rest → Some step ≡ stepped printed state c → Follows printed value state all total → Follows printed (value ++ option_to_list step.1) step.0 rest total
+Follows-more printed value state c rest all total step is e follows =
+    let one : value_from printed state all ≡ option_map (λ v. option_to_list step.1 ++ v) (value_from printed step.0 rest) = ap (value_from printed state) is ∙ value_from-cons printed state c rest ∙ rw (← e) refl in
+    sym (regroup value (option_to_list step.1) (value_from printed step.0 rest)) ∙ ap (option_map (λ later. value ++ later)) (sym one) ∙ follows
 
-pub Follows-bad : (value : List ℕ) (state : Escape) (c : ℕ) (rest all : List ℕ) (total : Option (List ℕ)) → all ≡ c ∷ rest → None ≡ stepped false state c → Follows value state all total → total ≡ None
-Follows-bad value state c rest all total is e follows =
-    let one : value_from false state all ≡ None = ap (value_from false state) is ∙ value_from-cons false state c rest ∙ rw (← e) refl in
+pub Follows-bad : (printed : Bool) (value : List ℕ) (state : Escape) (c : ℕ) (rest all : List ℕ) (total : Option (List ℕ)) → all ≡ c ∷ rest → None ≡ stepped printed state c → Follows printed value state all total → total ≡ None
+Follows-bad printed value state c rest all total is e follows =
+    let one : value_from printed state all ≡ None = ap (value_from printed state) is ∙ value_from-cons printed state c rest ∙ rw (← e) refl in
     sym follows ∙ ap (option_map (λ later. value ++ later)) one
 
-pub Follows-end : (value : List ℕ) (state : Escape) (all : List ℕ) (total : Option (List ℕ)) → all ≡ [] → state ≡ Outside → Follows value state all total → total ≡ Some value
-Follows-end value state all total is outside follows =
-    let one : value_from false state all ≡ Some [] = ap (value_from false state) is ∙ ap (λ s. value_from false s []) outside ∙ no_more false in
+pub Follows-end : (printed : Bool) (value : List ℕ) (state : Escape) (all : List ℕ) (total : Option (List ℕ)) → all ≡ [] → state ≡ Outside → Follows printed value state all total → total ≡ Some value
+Follows-end printed value state all total is outside follows =
+    let one : value_from printed state all ≡ Some [] = ap (value_from printed state) is ∙ ap (λ s. value_from printed s []) outside ∙ no_more printed in
     sym follows ∙ ap (option_map (λ later. value ++ later)) one ∙ ap Some (append-nil value)
 
-unfinished : (state : Escape) → is_outside state ≡ false → value_from false state [] ≡ None
+unfinished : (printed : Bool) (state : Escape) → is_outside state ≡ false → value_from printed state [] ≡ None
 unfolding value_from
-unfinished state open_still = rw open_still refl
+unfinished printed state open_still = rw open_still refl
 
-pub Follows-open : (value : List ℕ) (state : Escape) (all : List ℕ) (total : Option (List ℕ)) → all ≡ [] → is_outside state ≡ false → Follows value state all total → total ≡ None
-Follows-open value state all total is open_still follows =
-    let one : value_from false state all ≡ None = ap (value_from false state) is ∙ unfinished state open_still in
+pub Follows-open : (printed : Bool) (value : List ℕ) (state : Escape) (all : List ℕ) (total : Option (List ℕ)) → all ≡ [] → is_outside state ≡ false → Follows printed value state all total → total ≡ None
+Follows-open printed value state all total is open_still follows =
+    let one : value_from printed state all ≡ None = ap (value_from printed state) is ∙ unfinished printed state open_still in
     sym follows ∙ ap (option_map (λ later. value ++ later)) one
 
 pub still_open : (state : Escape) → (state ≡ Outside → ⊥) → is_outside state ≡ false
@@ -299,14 +316,14 @@ still_open After other = refl
 still_open Letter other = refl
 still_open (Digits count number) other = refl
 
-pub is_value : (bytes text : List ℕ) → text ≡ bytes → IsUtf8 bytes → value_of bytes ≡ value_from false Outside (chars text)
-unfolding value_of
-is_value bytes text e utf8 = rw (is_utf8-from_IsUtf8 bytes utf8) (ap (λ t. value_from false Outside (chars t)) (sym e))
+pub is_text : (printed : Bool) (bytes text : List ℕ) → text ≡ bytes → IsUtf8 bytes → text_of printed bytes ≡ value_from printed Outside (chars text)
+unfolding text_of
+is_text printed bytes text e utf8 = rw (is_utf8-from_IsUtf8 bytes utf8) (ap (λ t. value_from printed Outside (chars t)) (sym e))
 
-pub no_value : (bytes : List ℕ) → ¬ (IsUtf8 bytes) → value_of bytes ≡ None
-unfolding value_of
-no_value bytes lacks =
-    elim (is_utf8 bytes) as (λ (t : Bool). (t ≡ true → IsUtf8 bytes) → cond t (value_from false Outside (chars bytes)) None ≡ None) [
+pub no_text : (printed : Bool) (bytes : List ℕ) → ¬ (IsUtf8 bytes) → text_of printed bytes ≡ None
+unfolding text_of
+no_text printed bytes lacks =
+    elim (is_utf8 bytes) as (λ (t : Bool). (t ≡ true → IsUtf8 bytes) → cond t (value_from printed Outside (chars bytes)) None ≡ None) [
       | true ↦ λ from. absurd (lacks (from refl))
       | false ↦ λ from. refl
     ] (IsUtf8-from_is_utf8 bytes)

@@ -6,7 +6,7 @@ use Rattle.std.specs.Str.{all_scalars}
 use Rattle.std.specs.Str.Parse.{digits_value}
 use Rattle.html_names.specs.Queries.{query_word}
 use Rattle.script_read.specs.declared.act.Act.{Act}
-use Rattle.script_read.specs.declared.act.Act.TheVariants.{Select, Unselect, Mark, Unmark, Exec, Query, Undo, Redo, Probe, Html, Tree, Points, Stat}
+use Rattle.script_read.specs.declared.act.Act.TheVariants.{Select, Unselect, Mark, Unmark, Exec, Query, Undo, Redo, Probe, Html, Tree, Points, Stat, Log}
 use Rattle.script_read.specs.declared.act.Place.{Place}
 use Rattle.script_read.specs.declared.verb.Verb.{Verb}
 use Rattle.script_read.specs.declared.verb.Verb.TheVariants as verbs
@@ -27,6 +27,7 @@ word_of verbs.Html = codes "html"
 word_of verbs.Tree = codes "tree"
 word_of verbs.Points = codes "points"
 word_of verbs.Stat = codes "stat"
+word_of verbs.Log = codes "log"
 
 -- up to its first space, or as a whole where it has none, the line is this word
 abbrev pub BeginsWith : List ℕ → Verb → Type 0
@@ -121,9 +122,13 @@ abbrev pub SpellsChars : (printed : Bool) → (text chars : List ℕ) → Type 0
 SpellsChars printed text chars =
     (pieces : List Piece) × ArePieces printed pieces × (text ≡ flat_map spelling pieces) × (chars ≡ map meaning pieces)
 
--- the bytes of a value, which are UTF-8
+-- the bytes of such a text, which are UTF-8
+abbrev pub SpellsBytes : (printed : Bool) → (bytes chars : List ℕ) → Type 0
+SpellsBytes printed bytes chars =
+    (text : List ℕ) × (all_scalars text ≡ true) × (encode_utf8_all text ≡ bytes) × SpellsChars printed text chars
+
 abbrev pub IsValue : List ℕ → List ℕ → Type 0
-IsValue bytes value = (text : List ℕ) × (all_scalars text ≡ true) × (encode_utf8_all text ≡ bytes) × SpellsChars false text value
+IsValue bytes value = SpellsBytes false bytes value
 
 -- ---- acts
 
@@ -151,6 +156,7 @@ Spells line Html = line ≡ codes "html"
 Spells line Tree = line ≡ codes "tree"
 Spells line Points = line ≡ codes "points"
 Spells line Stat = line ≡ codes "stat"
+Spells line Log = line ≡ codes "log"
 
 -- ---- faults
 

@@ -9,7 +9,7 @@ use Rattle.std.specs.Str.Parse.{digits_value}
 use Rattle.std.proofs.Math.Utf8.{scalar}
 use Rattle.html_names.specs.Queries.{query_kind_of}
 use Rattle.script_read.specs.declared.act.Act.{Act}
-use Rattle.script_read.specs.declared.act.Act.TheVariants.{Select, Unselect, Mark, Unmark, Exec, Query, Undo, Redo, Probe, Html, Tree, Points, Stat}
+use Rattle.script_read.specs.declared.act.Act.TheVariants.{Select, Unselect, Mark, Unmark, Exec, Query, Undo, Redo, Probe, Html, Tree, Points, Stat, Log}
 use Rattle.script_read.specs.declared.act.Place.{Place}
 use Rattle.script_read.specs.declared.verb.Verb.{Verb}
 use Rattle.script_read.specs.declared.verb.Verb.TheVariants as verbs
@@ -121,8 +121,14 @@ value_from printed state [] = if is_outside state then Some [] else None
 value_from printed state (c ∷ cs) =
     stepped printed state c >>= λ step. option_map (λ value. option_to_list step.1 ++ value) (value_from printed step.0 cs)
 
-unfoldable pub value_of : List ℕ → Option (List ℕ)
-value_of bytes = if is_utf8 bytes then value_from false escapes.Outside (chars bytes) else None
+unfoldable pub text_of : Bool → List ℕ → Option (List ℕ)
+text_of printed bytes = if is_utf8 bytes then value_from printed escapes.Outside (chars bytes) else None
+
+abbrev pub value_of : List ℕ → Option (List ℕ)
+value_of bytes = text_of false bytes
+
+abbrev pub printed_of : List ℕ → Option (List ℕ)
+printed_of bytes = text_of true bytes
 
 -- ---- acts
 
@@ -159,6 +165,7 @@ word_act verbs.Html = Some Html
 word_act verbs.Tree = Some Tree
 word_act verbs.Points = Some Points
 word_act verbs.Stat = Some Stat
+word_act verbs.Log = Some Log
 
 unfoldable pub unmark_of : List ℕ → Option Act
 unmark_of text = name_of text >>= λ name. Some (Unmark name)
@@ -187,6 +194,7 @@ arguments_act verbs.Html text = None
 arguments_act verbs.Tree text = None
 arguments_act verbs.Points text = None
 arguments_act verbs.Stat text = None
+arguments_act verbs.Log text = None
 
 abbrev pub act_of : Verb → Option (List ℕ) → Option Act
 act_of verb None = word_act verb
@@ -197,7 +205,7 @@ act_of verb (Some text) = arguments_act verb text
 abbrev pub verb_of : List ℕ → Option Verb
 verb_of word =
     find (λ verb. bytes_eq (word_of verb) word)
-    (verbs.Select ∷ verbs.Unselect ∷ verbs.Mark ∷ verbs.Unmark ∷ verbs.Exec ∷ verbs.Query ∷ verbs.Undo ∷ verbs.Redo ∷ verbs.Probe ∷ verbs.Html ∷ verbs.Tree ∷ verbs.Points ∷ verbs.Stat ∷ [])
+    (verbs.Select ∷ verbs.Unselect ∷ verbs.Mark ∷ verbs.Unmark ∷ verbs.Exec ∷ verbs.Query ∷ verbs.Undo ∷ verbs.Redo ∷ verbs.Probe ∷ verbs.Html ∷ verbs.Tree ∷ verbs.Points ∷ verbs.Stat ∷ verbs.Log ∷ [])
 
 -- what stands before the first space of a line, and what after it
 abbrev pub first_word : List ℕ → Option (List ℕ × List ℕ) → List ℕ

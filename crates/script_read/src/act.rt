@@ -103,6 +103,8 @@ pub enum Act {
     Points,
     /// `stat`
     Stat,
+    /// `log`
+    Log,
 }
 
 /// Why a line is no act. The number is the one that is printed.

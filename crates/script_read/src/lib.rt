@@ -13,4 +13,5 @@ pub use act::{Act, LineFault, Path, Place};
 pub use laws::printed_texts_are_read_back;
 pub use line::read_line;
 pub use parts::{cut, is_name, read_number};
+pub use value::read_printed;
 pub use verb::Verb;

@@ -130,6 +130,7 @@ fn read_word(verb: Verb) -> Option<Act>
         Verb::Tree => Some(Act::Tree),
         Verb::Points => Some(Act::Points),
         Verb::Stat => Some(Act::Stat),
+        Verb::Log => Some(Act::Log),
         Verb::Select | Verb::Mark | Verb::Unmark | Verb::Exec => None,
         Verb::Query | Verb::Undo | Verb::Redo | Verb::Probe => None,
     }
@@ -148,9 +149,8 @@ fn read_arguments(alloc: Global, verb: Verb, text: &[u8]) -> Result<Act, LineFau
         Verb::Undo => read_undo(text),
         Verb::Redo => read_redo(text),
         Verb::Probe => read_probe(alloc, text),
-        Verb::Unselect | Verb::Html | Verb::Tree | Verb::Points | Verb::Stat => {
-            Err(LineFault::Syntax)
-        }
+        Verb::Unselect | Verb::Html | Verb::Tree => Err(LineFault::Syntax),
+        Verb::Points | Verb::Stat | Verb::Log => Err(LineFault::Syntax),
     }
 }
 

@@ -24,9 +24,10 @@ pub enum Verb {
     Tree,
     Points,
     Stat,
+    Log,
 }
 
-static VERBS: [Verb; 13] = [
+static VERBS: [Verb; 14] = [
     Verb::Select,
     Verb::Unselect,
     Verb::Mark,
@@ -40,6 +41,7 @@ static VERBS: [Verb; 13] = [
     Verb::Tree,
     Verb::Points,
     Verb::Stat,
+    Verb::Log,
 ];
 
 impl Verb {
@@ -61,6 +63,7 @@ impl Verb {
             Verb::Tree => b"tree",
             Verb::Points => b"points",
             Verb::Stat => b"stat",
+            Verb::Log => b"log",
         }
     }
 

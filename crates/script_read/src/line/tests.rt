@@ -73,6 +73,7 @@ fn push_act(text: &mut String, act: &Act) -> Result<(), Fail> {
         Act::Tree => text.push_str("tree")?,
         Act::Points => text.push_str("points")?,
         Act::Stat => text.push_str("stat")?,
+        Act::Log => text.push_str("log")?,
     }
     Ok(())
 }
@@ -191,7 +192,7 @@ static CASES: [(&[u8], &str); 86] = [
     (b"probe ..", "syntax"),
 ];
 
-static SHORT_CASES: [(&[u8], &str); 14] = [
+static SHORT_CASES: [(&[u8], &str); 18] = [
     (b"probe", "syntax"),
     (b"probe 0 ", "syntax"),
     (b"html", "html"),
@@ -202,6 +203,10 @@ static SHORT_CASES: [(&[u8], &str); 14] = [
     (b"points", "points"),
     (b"stat", "stat"),
     (b"stat x", "syntax"),
+    (b"log", "log"),
+    (b"log ", "syntax"),
+    (b"log 1", "syntax"),
+    (b"Log", "unknown act"),
     (b"", "unknown act"),
     (b" ", "unknown act"),
     (b"\xff", "unknown act"),
