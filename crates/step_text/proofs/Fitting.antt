@@ -1,0 +1,272 @@
+-- What the tests of step lines tell, and the steps of the arena that lines stand for.
+use Rattle.std.proofs.Common.{◌≡◌, ◌≢◌, ℕ, ◌<◌, ◌^◌, Bool, true, false, true≢false, not, ◌&&◌, eqb, List, length, Option, Some, None, IfSome, unwrap_or, Result, Err, refl, sym, ap, subst, ◌∙◌, arith}
+use Rattle.std.specs.Prelude.{is_some, is_none}
+use Rattle.std.specs.Option.{option_map_or, option_and_then}
+use Rattle.std.proofs.lemmas.Bool.{and_parts, not-true, ltb-true, eqb-false}
+use Rattle.dom_model.specs.declared.attributes.Attribute.{Attribute}
+use Rattle.dom_model.specs.declared.Content.{Content}
+use Rattle.dom_model.specs.declared.Content.TheVariants as content
+use Rattle.dom_model.specs.Contents.{has_chars, has_name, is_element, is_parent_at, name_in}
+use Rattle.dom_model.specs.Forest.{Forest, is_label, count_of, parent_of, content_of, tree_of}
+use Rattle.dom_model.specs.State.{State, IsLawful, IsSlotted}
+use Rattle.edit_model.specs.Confined.{is_there, is_place}
+use Rattle.edit_model.proofs.Tests.{label_is, none_is, not_zero, not_within, parent_there}
+use Rattle.edit_steps.specs.declared.step.Step.{Step}
+use Rattle.edit_steps.specs.declared.step.Step.TheVariants as step
+use Rattle.forest_changes.specs.Change.{Fits, IsForest, Attach, Shift}
+use Rattle.forest_changes.specs.Named.{Each, listed}
+use Rattle.forest_changes.proofs.Twice.{forest_of, given_parent, can_shift}
+use Rattle.node_arena.specs.declared.NodeRef.{NodeRef}
+use Rattle.node_arena.specs.Held.{Holds, label}
+use Rattle.point_order.specs.PointOrder.{is_within}
+use Rattle.step_text.specs.declared.apply.Placing.{Placing}
+use Rattle.step_text.specs.declared.line.StepFault.{StepFault}
+use Rattle.step_text.specs.declared.line.StepFault.TheVariants.{BadLabel, BadPlace, TooDeep}
+use Rattle.step_text.specs.declared.line.StepLine.{StepLine}
+use Rattle.step_text.specs.declared.line.StepLine.TheVariants.{Insert, Remove, Move, Words, Tag}
+use Rattle.step_text.specs.Applying.{Labelled, labelled, can_stand, fault_of, has_labels, has_place, has_room, has_room_under, is_loose, is_text, is_text_at, is_there_or_end, trees_after}
+use Rattle.step_text.specs.Planning.{IsStepOf, Places, Plans}
+
+-- ---- faults
+
+module _ (x : StepLine) (d : Labelled) where
+  pub bad_label : has_labels x d ≡ false → fault_of x d ≡ Some BadLabel
+  unfolding fault_of
+  bad_label h = rw h refl
+
+  pub bad_place : has_labels x d ≡ true → has_place x d.trees ≡ false → fault_of x d ≡ Some BadPlace
+  unfolding fault_of
+  bad_place h k = rw (h, k) refl
+
+  pub too_deep : has_labels x d ≡ true → has_place x d.trees ≡ true → has_room x d.trees ≡ false → fault_of x d ≡ Some TooDeep
+  unfolding fault_of
+  too_deep h k r = rw (h, k, r) refl
+
+  pub fine : has_labels x d ≡ true → has_place x d.trees ≡ true → has_room x d.trees ≡ true → fault_of x d ≡ None
+  unfolding fault_of
+  fine h k r = rw (h, k, r) refl
+
+-- a refused line at the exit of a `?`
+pub exit : (x : StepLine) (a : State) (r : Result Step StepFault) (fault : StepFault) → r ≡ Err fault → fault ≡ BadLabel → fault_of x (labelled a) ≡ Some BadLabel → Plans x a r
+exit x a r fault is same h = subst (λ r. Plans x a r) (sym is) (h ∙ ap Some (sym same))
+
+-- ---- tests of places
+
+pub both : (a b : Bool) → a ≡ true → b ≡ true → (a && b) ≡ true
+both a b h k = rw (h, k) refl
+
+pub second_off : (a b : Bool) → a ≡ true → b ≡ false → (a && b) ≡ false
+second_off a b h k = rw (h, k) refl
+
+pub first_off : (a b : Bool) → a ≡ false → (a && b) ≡ false
+first_off a b h = rw h refl
+
+place_is : (f : Forest Content) (p : ℕ) (b : Option ℕ) (l : ℕ) → is_place f p b l ≡ true → IfSome b (λ m. (parent_of f m ≡ Some p) × (m ≢ l))
+place_is f p None l h = tt
+place_is f p (Some m) l h =
+    let parts = and_parts (is_label (parent_of f m) p) (not (eqb m l)) h in
+    (label_is (parent_of f m) p parts.0, λ e. eqb-false m l (not-true (eqb m l) parts.1) e)
+
+place_child : (f : Forest Content) (p : ℕ) (b : Option ℕ) (l : ℕ) → IfSome b (λ m. (parent_of f m ≡ Some p) × (m ≢ l)) → IfSome b (λ m. parent_of f m ≡ Some p)
+place_child f p None l h = tt
+place_child f p (Some m) l h = h.0
+
+-- what holds where the tree of l can stand under p, before b
+record Stands (f : Forest Content) (l p : ℕ) (b : Option ℕ) : Type 0 where
+  parent : is_parent_at f p ≡ true
+  apart : count_of (tree_of f l) p ≡ 0
+  before : IfSome b (λ m. (parent_of f m ≡ Some p) × (m ≢ l))
+
+stands : (f : Forest Content) (l p : ℕ) (b : Option ℕ) → can_stand f l p b ≡ true → Stands f l p b
+unfolding can_stand
+stands f l p b h =
+    let h1 = and_parts (is_parent_at f p) _ h in
+    let h2 = and_parts (not (is_within f l p)) (is_place f p b l) h1.1 in
+    record { parent = h1.0; apart = not_within f l p h2.0; before = place_is f p b l h2.1 }
+
+-- ---- the changes that lines stand for fit
+
+pub attach_fits : (f : Forest Content) (l p : ℕ) (b : Option ℕ) → IsForest f → 0 < count_of f l → is_loose f l ≡ true → can_stand f l p b ≡ true → Fits (Attach l p b) f
+attach_fits f l p b ok there loose can =
+    let s = stands f l p b can in
+    let h = and_parts (is_none (parent_of f l)) (not (eqb l 0)) loose in
+    record {
+      forest = ok;
+      here = record {
+        place = record {
+          parent = parent_there f p s.parent;
+          node = there;
+          inner = not_zero l h.1;
+          loose = none_is (parent_of f l) h.0;
+          apart = s.apart;
+          before = place_child f p b l s.before;
+        };
+        parent = s.parent;
+      };
+    }
+
+pub shift_fits : (f : Forest Content) (l p : ℕ) (b : Option ℕ) → IsForest f → is_some (parent_of f l) ≡ true → can_stand f l p b ≡ true → Fits (Shift l p b) f
+shift_fits f l p b ok child can =
+    let s = stands f l p b can in
+    can_shift f l (unwrap_or (parent_of f l) 0) p b ok (given_parent f l child) s.parent (λ w. let none = s.apart in omega (arith, w, none)) s.before
+
+has_text : (o : Option Content) → option_map_or is_text o false ≡ true → option_map_or has_chars o false ≡ true
+has_text None h = h
+has_text (Some content.Document) h = h
+has_text (Some (content.Element name attributes)) h = h
+has_text (Some (content.Words words)) h = refl
+has_text (Some (content.Remark words)) h = absurd (true≢false (sym h))
+
+has_tag : (o : Option Content) (f : List ℕ → Bool) → option_map_or f (option_and_then name_in o) false ≡ true → option_map_or is_element o false ≡ true
+has_tag None f h = h
+has_tag (Some content.Document) f h = h
+has_tag (Some (content.Element name attributes)) f h = refl
+has_tag (Some (content.Words words)) f h = h
+has_tag (Some (content.Remark words)) f h = h
+
+-- ---- lines of one label
+
+module _ (d : Labelled) (l : ℕ) where
+  pub remove_unfound : is_there d.trees l ≡ false → fault_of (Remove l) d ≡ Some BadLabel
+  unfolding has_labels
+  remove_unfound off = bad_label (Remove l) d off
+
+  pub words_unfound : (words : List ℕ) → is_there d.trees l ≡ false → fault_of (Words l words) d ≡ Some BadLabel
+  unfolding has_labels
+  words_unfound words off = bad_label (Words l words) d off
+
+  pub tag_unfound : (name : List ℕ) (list : List Attribute) → is_there d.trees l ≡ false → fault_of (Tag l name list) d ≡ Some BadLabel
+  unfolding has_labels
+  tag_unfound name list off = bad_label (Tag l name list) d off
+
+  pub remove_loose : is_there d.trees l ≡ true → is_some (parent_of d.trees l) ≡ false → fault_of (Remove l) d ≡ Some BadPlace
+  unfolding has_labels has_place
+  remove_loose there off = bad_place (Remove l) d there off
+
+  pub words_of_other : (words : List ℕ) → is_there d.trees l ≡ true → is_text_at d.trees l ≡ false → fault_of (Words l words) d ≡ Some BadPlace
+  unfolding has_labels has_place
+  words_of_other words there off = bad_place (Words l words) d there off
+
+  pub tag_of_other : (name : List ℕ) (list : List Attribute) → is_there d.trees l ≡ true → has_name d.trees l name ≡ false → fault_of (Tag l name list) d ≡ Some BadPlace
+  unfolding has_labels has_place
+  tag_of_other name list there off = bad_place (Tag l name list) d there off
+
+-- ---- the steps of lines
+
+each_held : (a : State) (b : Option NodeRef) → IfSome b (λ r. Holds a r) → Each (Holds a) (listed b)
+each_held a None h = tt
+each_held a (Some r) h = (h, tt)
+
+module _ (a : State) (law : IsLawful a) (slotted : IsSlotted a) where
+  here : (l : ℕ) → is_there a.trees l ≡ true → 0 < count_of a.trees l
+  here l h = ltb-true 0 (count_of a.trees l) h
+
+  pub remove_step : (l : ℕ) (r : NodeRef) → r.label ≡ l → Holds a r → is_there a.trees l ≡ true → is_some (parent_of a.trees r.label) ≡ true → IsStepOf (Remove l) a (step.Unlink r)
+  unfolding has_labels has_place has_room trees_after
+  remove_step l r same held there child = subst (λ k. is_there a.trees k ≡ true → IsStepOf (Remove k) a (step.Unlink r)) same
+      (λ there. record {
+        fine = fine (Remove r.label) (labelled a) there child refl;
+        fits = record { fits = record { forest = forest_of a law; here = child }; slotted = slotted; held = (held, tt) };
+        trees = refl;
+        next = refl;
+      }) there
+
+  pub words_step : (l : ℕ) (r : NodeRef) (words : List ℕ) → r.label ≡ l → Holds a r → is_there a.trees l ≡ true → is_text_at a.trees r.label ≡ true → length words < 2 ^ 32 → IsStepOf (Words l words) a (step.Words r words)
+  unfolding has_labels has_place has_room trees_after
+  words_step l r words same held there text short = subst (λ k. is_there a.trees k ≡ true → IsStepOf (Words k words) a (step.Words r words)) same
+      (λ there. record {
+        fine = fine (Words r.label words) (labelled a) there text refl;
+        fits = record { fits = record { forest = forest_of a law; here = (has_text (content_of a.trees r.label) text, short) }; slotted = slotted; held = (held, tt) };
+        trees = refl;
+        next = refl;
+      }) there
+
+  pub tag_step : (l : ℕ) (r : NodeRef) (name : List ℕ) (list : List Attribute) → r.label ≡ l → Holds a r → is_there a.trees l ≡ true → has_name a.trees r.label name ≡ true → IsStepOf (Tag l name list) a (step.Attributes r list)
+  unfolding has_labels has_place has_room trees_after
+  tag_step l r name list same held there named = subst (λ k. is_there a.trees k ≡ true → IsStepOf (Tag k name list) a (step.Attributes r list)) same
+      (λ there. record {
+        fine = fine (Tag r.label name list) (labelled a) there named refl;
+        fits = record { fits = record { forest = forest_of a law; here = has_tag (content_of a.trees r.label) _ named }; slotted = slotted; held = (held, tt) };
+        trees = refl;
+        next = refl;
+      }) there
+
+  -- the labels of a line that puts a tree somewhere
+  abbrev are_there : ℕ → ℕ → Option ℕ → Bool
+  are_there l p b = is_there a.trees l && (is_there a.trees p && is_there_or_end a.trees b)
+
+  -- what holds of all labels that are the found ones
+  at_found : (l p : ℕ) (b : Option ℕ) (at : Placing) → Places a l p b at → (P : ℕ → ℕ → Option ℕ → Type 0) → P at.node.label at.parent.label (label at.before) → P l p b
+  at_found l p b at found P h =
+      subst (λ k. P k p b) found.node (subst (λ k. P at.node.label k b) found.parent (subst (λ k. P at.node.label at.parent.label k) found.before h))
+
+  -- what is known of the found labels
+  at_labels : (l p : ℕ) (b : Option ℕ) (at : Placing) → Places a l p b at → (P : ℕ → ℕ → Option ℕ → Type 0) → P l p b → P at.node.label at.parent.label (label at.before)
+  at_labels l p b at found P h =
+      subst (λ k. P k at.parent.label (label at.before)) (sym found.node) (subst (λ k. P l k (label at.before)) (sym found.parent) (subst (λ k. P l p k) (sym found.before) h))
+
+  pub insert_unfound : (l p : ℕ) (b : Option ℕ) → are_there l p b ≡ false → fault_of (Insert l p b) (labelled a) ≡ Some BadLabel
+  unfolding has_labels
+  insert_unfound l p b off = bad_label (Insert l p b) (labelled a) off
+
+  pub move_unfound : (l p : ℕ) (b : Option ℕ) → are_there l p b ≡ false → fault_of (Move l p b) (labelled a) ≡ Some BadLabel
+  unfolding has_labels
+  move_unfound l p b off = bad_label (Move l p b) (labelled a) off
+
+  module _ (l p : ℕ) (b : Option ℕ) (at : Placing) (found : Places a l p b at) (there : are_there l p b ≡ true) where
+    there_found : are_there at.node.label at.parent.label (label at.before) ≡ true
+    there_found = at_labels l p b at found (λ l p b. are_there l p b ≡ true) there
+
+    pub insert_misplaced : (is_loose a.trees at.node.label && can_stand a.trees at.node.label at.parent.label (label at.before)) ≡ false → fault_of (Insert l p b) (labelled a) ≡ Some BadPlace
+    unfolding has_labels has_place
+    insert_misplaced off = at_found l p b at found (λ l p b. fault_of (Insert l p b) (labelled a) ≡ Some BadPlace)
+        (bad_place (Insert at.node.label at.parent.label (label at.before)) (labelled a) there_found off)
+
+    pub move_misplaced : (is_some (parent_of a.trees at.node.label) && can_stand a.trees at.node.label at.parent.label (label at.before)) ≡ false → fault_of (Move l p b) (labelled a) ≡ Some BadPlace
+    unfolding has_labels has_place
+    move_misplaced off = at_found l p b at found (λ l p b. fault_of (Move l p b) (labelled a) ≡ Some BadPlace)
+        (bad_place (Move at.node.label at.parent.label (label at.before)) (labelled a) there_found off)
+
+    pub insert_deep : (is_loose a.trees at.node.label && can_stand a.trees at.node.label at.parent.label (label at.before)) ≡ true → has_room_under a.trees at.node.label at.parent.label ≡ false → fault_of (Insert l p b) (labelled a) ≡ Some TooDeep
+    unfolding has_labels has_place has_room
+    insert_deep may off = at_found l p b at found (λ l p b. fault_of (Insert l p b) (labelled a) ≡ Some TooDeep)
+        (too_deep (Insert at.node.label at.parent.label (label at.before)) (labelled a) there_found may off)
+
+    pub move_deep : (is_some (parent_of a.trees at.node.label) && can_stand a.trees at.node.label at.parent.label (label at.before)) ≡ true → has_room_under a.trees at.node.label at.parent.label ≡ false → fault_of (Move l p b) (labelled a) ≡ Some TooDeep
+    unfolding has_labels has_place has_room
+    move_deep may off = at_found l p b at found (λ l p b. fault_of (Move l p b) (labelled a) ≡ Some TooDeep)
+        (too_deep (Move at.node.label at.parent.label (label at.before)) (labelled a) there_found may off)
+
+    pub insert_step : (is_loose a.trees at.node.label && can_stand a.trees at.node.label at.parent.label (label at.before)) ≡ true → has_room_under a.trees at.node.label at.parent.label ≡ true
+        → IsStepOf (Insert l p b) a (step.Link at.node at.parent at.before)
+    unfolding has_labels has_place has_room trees_after
+    insert_step may room =
+        let n = at.node.label in
+        let h = and_parts (is_loose a.trees n) _ may in
+        at_found l p b at found (λ l p b. IsStepOf (Insert l p b) a (step.Link at.node at.parent at.before)) (record {
+          fine = fine (Insert n at.parent.label (label at.before)) (labelled a) there_found may room;
+          fits = record {
+            fits = attach_fits a.trees n at.parent.label (label at.before) (forest_of a law) (here n (and_parts (is_there a.trees n) _ there_found).0) h.0 h.1;
+            slotted = slotted;
+            held = (found.node_held, (found.parent_held, each_held a at.before found.before_held));
+          };
+          trees = refl;
+          next = refl;
+        })
+
+    pub move_step : (is_some (parent_of a.trees at.node.label) && can_stand a.trees at.node.label at.parent.label (label at.before)) ≡ true → has_room_under a.trees at.node.label at.parent.label ≡ true
+        → IsStepOf (Move l p b) a (step.Place at.node at.parent at.before)
+    unfolding has_labels has_place has_room trees_after
+    move_step may room =
+        let n = at.node.label in
+        let h = and_parts (is_some (parent_of a.trees n)) _ may in
+        at_found l p b at found (λ l p b. IsStepOf (Move l p b) a (step.Place at.node at.parent at.before)) (record {
+          fine = fine (Move n at.parent.label (label at.before)) (labelled a) there_found may room;
+          fits = record {
+            fits = shift_fits a.trees n at.parent.label (label at.before) (forest_of a law) h.0 h.1;
+            slotted = slotted;
+            held = (found.node_held, (found.parent_held, each_held a at.before found.before_held));
+          };
+          trees = refl;
+          next = refl;
+        })

@@ -1,0 +1,9 @@
+pub mod Fitting
+pub mod Taken
+pub mod Deep
+pub mod Replays
+pub mod Bytes
+pub mod Tags
+pub mod Steps
+pub mod Loops
+pub mod SoundSteps

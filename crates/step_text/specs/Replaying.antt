@@ -1,0 +1,28 @@
+-- The lines that stand for changes of the trees, as a log has them.
+use Rattle.std.specs.Prelude.{◌≡◌, ℕ, List, true, Some, None}
+use Rattle.dom_model.specs.declared.Content.{Content}
+use Rattle.dom_model.specs.Contents.{name_of}
+use Rattle.dom_model.specs.Forest.{Forest}
+use Rattle.forest_changes.specs.Change.{Change, Loosen, Attach, Shift, Rewrite, Redress}
+use Rattle.step_text.specs.Applying.{Labelled, fault_of, is_text_at, line_applied}
+use Rattle.step_text.specs.declared.line.StepLine.{StepLine}
+use Rattle.step_text.specs.declared.line.StepLine.TheVariants.{Insert, Remove, Move, Words, Tag}
+
+-- the line of a change, where the name is that of the element whose attributes change
+abbrev pub line_of : Change → List ℕ → StepLine
+line_of (Loosen n) name = Remove n
+line_of (Attach n p b) name = Insert n p b
+line_of (Shift n p b) name = Move n p b
+line_of (Rewrite n words) name = Words n words
+line_of (Redress n list) name = Tag n name list
+
+-- a line can say the change: it is one of the characters of a Text node, or the name is that of the element
+abbrev pub CanSay : Change → List ℕ → Forest Content → Type 0
+CanSay (Rewrite n words) name f = is_text_at f n ≡ true
+CanSay (Redress n list) name f = name_of f n ≡ Some name
+CanSay _ name f = Unit {0}
+
+-- the line fits one document and makes another of it
+pub record LeadsTo (x : StepLine) (d e : Labelled) : Type 0 where
+  pub fine : fault_of x d ≡ None
+  pub applied : line_applied x d ≡ e

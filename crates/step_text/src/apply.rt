@@ -1,0 +1,349 @@
+//! Step lines applied to the nodes of an arena.
+
+ghost use Rattle.std.specs.Prelude.{◌≡◌, ◌^◌, ◌<◌, ◌&&◌, nat_le, nat_lt, IfOk, IfSome, IfNone, IsOkUnless, OnOk, OnErr, is_ok, is_some, length, Err};
+ghost use Rattle.dom_model.specs.Contents.{has_name, is_parent_at};
+ghost use Rattle.dom_model.specs.Forest.{parent_of};
+ghost use Rattle.edit_model.specs.Confined.{is_there, is_place};
+ghost use Rattle.edit_steps.specs.Step.{StepFits};
+ghost use Rattle.node_arena.specs.Held.{Holds, KeepsHeld, Makes, label};
+ghost use Rattle.step_text.specs.Applying.{labelled, fault_of, line_applied, made_content, made_length, text_length, is_text_at, is_there_or_end, can_stand, has_room_under, is_loose};
+ghost use Rattle.step_text.specs.Planning.{Applies, Places, Plans};
+
+use crate::line::{Made, StepFault, StepLine};
+use dom_model::{Attributes, Chars, Name};
+use edit_parts::tree_counts;
+use edit_steps::Step;
+use node_arena::{Arena, Content, Kind, MakeFault, NodeRef, has_name};
+use point_order::{is_in_document, is_within};
+use undo_log::Invertible;
+
+// No node of a document may be deeper.
+const DEEPEST: u64 = 1_000;
+
+/// Does to the nodes of an arena what a step line says. The line is taken by value, since its contents become those of
+/// the node. Whether it fits is looked at before memory; a line that changes nothing fits too. It takes time for the way
+/// up from the new place, and where that is in the document, for the tree that comes there.
+pub fn apply_step(arena: &mut Arena, step: StepLine) -> Result<(), StepFault>
+    requires { text_length step < 2 ^ 32 }
+    ensures refused { IfSome (fault_of step (labelled arena.old)) (λ fault. result ≡ Err fault) }
+    ensures taken { IfNone (fault_of step (labelled arena.old)) (IsOkUnless result StepFault.Memory) }
+    ensures applied { OnOk result (labelled arena.new ≡ line_applied step (labelled arena.old)) }
+    ensures held { OnOk result (KeepsHeld arena.old arena.new) }
+    ensures err { OnErr result (arena.new ≡ arena.old) }
+{
+    match step {
+        StepLine::Entry => Ok(()),
+        StepLine::Make { label, made } => make(arena, label, made),
+        StepLine::Insert {
+            label,
+            parent,
+            before,
+        } => take(insertion(arena, label, parent, before), arena),
+        StepLine::Remove { label } => take(removal(arena, label), arena),
+        StepLine::Move {
+            label,
+            parent,
+            before,
+        } => take(shift(arena, label, parent, before), arena),
+        StepLine::Words { label, words } => take(rewriting(arena, label, words), arena),
+        StepLine::Tag {
+            label,
+            name,
+            attributes,
+        } => take(redressing(arena, label, name, attributes), arena),
+    }
+}
+
+// Makes a loose node.
+fn make_node(arena: &mut Arena, made: Made) -> Result<NodeRef, MakeFault>
+    requires { made_length made < 2 ^ 32 }
+    ensures made { IfOk result (λ r. Makes arena.old arena.new r (made_content made)) }
+    ensures err { OnErr result (arena.new ≡ arena.old) }
+{
+    match made {
+        Made::Element { name, attributes } => arena.make_element(name, attributes),
+        Made::Words { words } => arena.make_words(words),
+    }
+}
+
+// Whether a label can be drawn: it isn't drawn yet, and below the cap.
+fn can_draw(arena: &Arena, label: u32) -> bool
+    ensures { result ≡ (nat_le arena.now.next label && nat_lt label arena.now.cap) }
+{
+    arena.next_label() <= label && label < arena.cap()
+}
+
+// Makes a loose node of this label.
+fn make(arena: &mut Arena, label: u32, made: Made) -> Result<(), StepFault>
+    requires { made_length made < 2 ^ 32 }
+    ensures { Applies (StepLine.Make label made) arena.old arena.new result }
+{
+    if !can_draw(arena, label) {
+        return Err(StepFault::BadLabel);
+    }
+    arena.lawful();
+    let next = arena.next_label();
+    if arena.skip_to(label).is_err() {
+        return Err(StepFault::Memory);
+    }
+    if make_node(arena, made).is_err() {
+        arena.rewind(next);
+        return Err(StepFault::Memory);
+    }
+    Ok(())
+}
+
+// Applies a step, if there is one.
+fn take(planned: Result<Step, StepFault>, arena: &mut Arena) -> Result<(), StepFault>
+    requires { IfOk planned (λ step. StepFits step arena.old) }
+    ensures { (x : StepLine) → Plans x arena.old planned → Applies x arena.old arena.new result }
+{
+    let mut step = planned?;
+    step.apply(arena);
+    Ok(())
+}
+
+// The node of a label.
+fn find(arena: &Arena, label: u32) -> Result<NodeRef, StepFault>
+    ensures there { is_ok result ≡ is_there arena.now.trees label }
+    ensures found { IfOk result (λ r. (r.label ≡ label) × Holds arena.now r) }
+    ensures absent { IsOkUnless result StepFault.BadLabel }
+{
+    arena.find(label).ok_or(StepFault::BadLabel)
+}
+
+// The node of a label, if one is given.
+fn find_before(arena: &Arena, before: Option<u32>) -> Result<Option<NodeRef>, StepFault>
+    ensures there { is_ok result ≡ is_there_or_end arena.now.trees before }
+    ensures found { IfOk result (λ found. (label found ≡ before) × IfSome found (λ r. Holds arena.now r)) }
+    ensures absent { IsOkUnless result StepFault.BadLabel }
+{
+    match before {
+        None => Ok(None),
+        Some(label) => Ok(Some(find(arena, label)?)),
+    }
+}
+
+// The nodes that a line puts, under which and before which.
+#[derive(Clone, Copy)]
+struct Placing {
+    node: NodeRef,
+    parent: NodeRef,
+    before: Option<NodeRef>,
+}
+
+fn find_placing(
+    arena: &Arena,
+    label: u32,
+    parent: u32,
+    before: Option<u32>,
+) -> Result<Placing, StepFault>
+    ensures there { is_ok result ≡ (is_there arena.now.trees label &&
+        (is_there arena.now.trees parent && is_there_or_end arena.now.trees before)) }
+    ensures found { IfOk result (Places arena.now label parent before) }
+    ensures absent { IsOkUnless result StepFault.BadLabel }
+{
+    arena.lawful();
+    arena.slotted();
+    let node = find(arena, label)?;
+    let parent = find(arena, parent)?;
+    let before = find_before(arena, before)?;
+    Ok(Placing {
+        node,
+        parent,
+        before,
+    })
+}
+
+// Whether the node before which another one is put is a child of the parent, and not that one itself.
+fn is_place(arena: &Arena, parent: NodeRef, before: Option<NodeRef>, node: NodeRef) -> bool
+    requires { IfSome before (λ r. Holds arena.now r) }
+    ensures { result ≡ is_place arena.now.trees parent.label (label before) node.label }
+{
+    let Some(before) = before else {
+        return true;
+    };
+    match arena.parent(before) {
+        Some(own) => own.label == parent.label && before.label != node.label,
+        None => false,
+    }
+}
+
+// Whether a node may have children.
+fn is_parent(arena: &Arena, node: NodeRef) -> bool
+    requires { Holds arena.now node }
+    ensures { result ≡ is_parent_at arena.now.trees node.label }
+{
+    matches!(arena.kind(node), Kind::Document | Kind::Element)
+}
+
+// Whether a node has a parent.
+fn has_parent(arena: &Arena, node: NodeRef) -> bool
+    requires { Holds arena.now node }
+    ensures { result ≡ is_some (parent_of arena.now.trees node.label) }
+{
+    arena.parent(node).is_some()
+}
+
+// Whether a node is the root of a loose tree.
+fn is_loose(arena: &Arena, node: NodeRef) -> bool
+    requires { Holds arena.now node }
+    ensures { result ≡ is_loose arena.now.trees node.label }
+{
+    !has_parent(arena, node) && node.label != 0
+}
+
+// Whether a tree can stand under a node, before a child or at the end.
+fn can_stand(arena: &Arena, at: Placing) -> bool
+    requires node_held { Holds arena.now at.node }
+    requires parent_held { Holds arena.now at.parent }
+    requires before_held { IfSome at.before (λ r. Holds arena.now r) }
+    ensures { result ≡ can_stand arena.now.trees at.node.label at.parent.label (label at.before) }
+{
+    is_parent(arena, at.parent)
+        && !is_within(arena, at.node, at.parent)
+        && is_place(arena, at.parent, at.before, at.node)
+}
+
+// Whether a tree is loose and can stand there.
+fn may_insert(arena: &Arena, at: Placing) -> bool
+    requires node_held { Holds arena.now at.node }
+    requires parent_held { Holds arena.now at.parent }
+    requires before_held { IfSome at.before (λ r. Holds arena.now r) }
+    ensures { result ≡ (is_loose arena.now.trees at.node.label &&
+        can_stand arena.now.trees at.node.label at.parent.label (label at.before)) }
+{
+    is_loose(arena, at.node) && can_stand(arena, at)
+}
+
+// Whether a tree has a parent and can stand there.
+fn may_move(arena: &Arena, at: Placing) -> bool
+    requires node_held { Holds arena.now at.node }
+    requires parent_held { Holds arena.now at.parent }
+    requires before_held { IfSome at.before (λ r. Holds arena.now r) }
+    ensures { result ≡ (is_some (parent_of arena.now.trees at.node.label) &&
+        can_stand arena.now.trees at.node.label at.parent.label (label at.before)) }
+{
+    has_parent(arena, at.node) && can_stand(arena, at)
+}
+
+// Whether no node comes to be too deep in the document where a tree comes to stand under a parent.
+fn has_room_under(arena: &Arena, node: NodeRef, parent: NodeRef) -> bool
+    requires node_held { Holds arena.now node }
+    requires parent_held { Holds arena.now parent }
+    ensures { result ≡ has_room_under arena.now.trees node.label parent.label }
+{
+    if !is_in_document(arena, parent.label) {
+        return true;
+    }
+    let above = u64::from(arena.depth(parent));
+    let height = u64::from(tree_counts(arena, node).depth);
+    above + height + 1 <= DEEPEST
+}
+
+// Whether a node is a Text node.
+fn is_text(arena: &Arena, node: NodeRef) -> bool
+    requires { Holds arena.now node }
+    ensures { result ≡ is_text_at arena.now.trees node.label }
+{
+    matches!(arena.content(node), Content::Words(_))
+}
+
+// Whether a node is an element of this name.
+fn is_named(arena: &Arena, node: NodeRef, name: &Name) -> bool
+    requires { Holds arena.now node }
+    ensures { result ≡ has_name arena.now.trees node.label name.now }
+{
+    has_name(arena, node, name.as_slice())
+}
+
+// The step that links a loose tree.
+fn insertion(arena: &Arena, label: u32, parent: u32, before: Option<u32>) -> Result<Step, StepFault>
+    ensures { Plans (StepLine.Insert label parent before) arena.now result }
+{
+    arena.lawful();
+    arena.slotted();
+    let at = find_placing(arena, label, parent, before)?;
+    if !may_insert(arena, at) {
+        return Err(StepFault::BadPlace);
+    }
+    if !has_room_under(arena, at.node, at.parent) {
+        return Err(StepFault::TooDeep);
+    }
+    Ok(Step::Link {
+        node: at.node,
+        parent: at.parent,
+        before: at.before,
+    })
+}
+
+// The step that makes a tree loose.
+fn removal(arena: &Arena, label: u32) -> Result<Step, StepFault>
+    ensures { Plans (StepLine.Remove label) arena.now result }
+{
+    arena.lawful();
+    arena.slotted();
+    let node = find(arena, label)?;
+    if !has_parent(arena, node) {
+        return Err(StepFault::BadPlace);
+    }
+    Ok(Step::Unlink { node })
+}
+
+// The step that moves a tree.
+fn shift(arena: &Arena, label: u32, parent: u32, before: Option<u32>) -> Result<Step, StepFault>
+    ensures { Plans (StepLine.Move label parent before) arena.now result }
+{
+    arena.lawful();
+    arena.slotted();
+    let at = find_placing(arena, label, parent, before)?;
+    if !may_move(arena, at) {
+        return Err(StepFault::BadPlace);
+    }
+    if !has_room_under(arena, at.node, at.parent) {
+        return Err(StepFault::TooDeep);
+    }
+    Ok(Step::Place {
+        node: at.node,
+        parent: at.parent,
+        before: at.before,
+    })
+}
+
+// The step that gives a text other characters.
+fn rewriting(arena: &Arena, label: u32, words: Chars) -> Result<Step, StepFault>
+    requires { length words < 2 ^ 32 }
+    ensures { Plans (StepLine.Words label words) arena.now result }
+{
+    arena.lawful();
+    arena.slotted();
+    let node = find(arena, label)?;
+    if !is_text(arena, node) {
+        return Err(StepFault::BadPlace);
+    }
+    Ok(Step::Words { node, words })
+}
+
+// The step that gives an element of this name other attributes.
+fn redressing(
+    arena: &Arena,
+    label: u32,
+    name: Name,
+    attributes: Attributes,
+) -> Result<Step, StepFault>
+    ensures { Plans (StepLine.Tag label name attributes) arena.now result }
+{
+    arena.lawful();
+    arena.slotted();
+    let node = find(arena, label)?;
+    if !is_named(arena, node, &name) {
+        return Err(StepFault::BadPlace);
+    }
+    Ok(Step::Attributes {
+        node,
+        list: attributes,
+    })
+}
+
+#[cfg(test)]
+mod tests;

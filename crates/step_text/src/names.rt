@@ -1,0 +1,121 @@
+//! Names of elements and attributes in the grammar of pages, in lower case.
+
+ghost use Rattle.std.specs.Prelude.{◌≡◌, ◌&&◌, IfOk, true};
+ghost use Rattle.std.specs.List.{list_all};
+ghost use Rattle.std.specs.Str.{chars};
+ghost use Rattle.page_grammar.specs.Chars as classes;
+ghost use Rattle.step_text.specs.StepLine as names;
+ghost use Rattle.step_text.specs.StepReading.{Reads, element_name_of, attribute_name_of};
+
+use crate::line::StepFault;
+use dom_model::Name;
+use std::alloc::Global;
+
+#[tactic(auto, unfolding(page_grammar::specs::Chars::lower))]
+fn is_lowered(c: char) -> bool
+    ensures { result ≡ names.is_lowered c }
+{
+    !c.is_ascii_uppercase()
+}
+
+#[tactic(auto, unfolding(page_grammar::specs::Chars::is_letter, page_grammar::specs::Chars::lower))]
+fn is_first_byte(b: u8) -> bool
+    ensures { result ≡ (classes.is_letter b && names.is_lowered b) }
+{
+    b.is_ascii_lowercase()
+}
+
+#[tactic(auto, unfolding(page_grammar::specs::Chars::is_name_char, page_grammar::specs::Chars::is_letter, page_grammar::specs::Chars::is_digit, page_grammar::specs::Chars::lower))]
+fn is_name_byte(b: u8) -> bool
+    ensures { result ≡ (classes.is_name_char b && names.is_lowered b) }
+{
+    b.is_ascii_lowercase() || b.is_ascii_digit() || b == b'-'
+}
+
+fn all_name_bytes(bytes: &[u8]) -> bool
+    ensures { result ≡ list_all (λ b. classes.is_name_char b && names.is_lowered b) bytes.now }
+{
+    bytes.iter().all(|b| is_name_byte(*b))
+}
+
+#[tactic(auto, unfolding(crate::specs::StepLine::is_element_name))]
+fn is_element_name(name: &[u8]) -> bool
+    ensures { result ≡ names.is_element_name name.now }
+{
+    match name {
+        [first, others @ ..] => is_first_byte(*first) && all_name_bytes(others),
+        [] => false,
+    }
+}
+
+#[tactic(auto, unfolding(page_grammar::specs::Chars::is_control))]
+fn is_control(c: char) -> bool
+    ensures { result ≡ classes.is_control c }
+{
+    c < ' ' || '\x7F' <= c && c < '\u{a0}'
+}
+
+#[tactic(auto, unfolding(page_grammar::specs::Chars::is_space))]
+fn is_space(c: char) -> bool
+    ensures { result ≡ classes.is_space c }
+{
+    c == '\t' || c == '\n' || c == '\x0C' || c == '\r' || c == ' '
+}
+
+#[tactic(auto, unfolding(page_grammar::specs::Chars::is_attribute_name_char))]
+fn is_attribute_name_char(c: char) -> bool
+    ensures { result ≡ classes.is_attribute_name_char c }
+{
+    !(is_space(c)
+        || is_control(c)
+        || c == '"'
+        || c == '\''
+        || c == '<'
+        || c == '>'
+        || c == '/'
+        || c == '=')
+}
+
+fn all_attribute_name_chars(text: &str) -> bool
+    ensures { result ≡ list_all (λ c. classes.is_attribute_name_char c && names.is_lowered c) (chars text.now) }
+{
+    text.chars()
+        .all(|c| is_attribute_name_char(c) && is_lowered(c))
+}
+
+fn is_attribute_text(text: &str) -> bool
+    ensures { result ≡ names.is_attribute_text text.now }
+{
+    !text.is_empty() && all_attribute_name_chars(text)
+}
+
+fn is_attribute_name(name: &[u8]) -> bool
+    ensures { result ≡ names.is_attribute_name name.now }
+{
+    match str::from_utf8(name) {
+        Ok(text) => is_attribute_text(text),
+        Err(_) => false,
+    }
+}
+
+/// A copy of an element's name.
+pub(crate) fn read_element_name(alloc: Global, name: &[u8]) -> Result<Name, StepFault>
+    ensures read { Reads result (element_name_of name.now) }
+    ensures sound { IfOk result (λ n. names.is_element_name n ≡ true) }
+{
+    if !is_element_name(name) {
+        return Err(StepFault::Syntax);
+    }
+    Ok(Name::from_slice(alloc, name)?)
+}
+
+/// A copy of an attribute's name.
+pub(crate) fn read_attribute_name(alloc: Global, name: &[u8]) -> Result<Name, StepFault>
+    ensures read { Reads result (attribute_name_of name.now) }
+    ensures sound { IfOk result (λ n. names.is_attribute_name n ≡ true) }
+{
+    if !is_attribute_name(name) {
+        return Err(StepFault::Syntax);
+    }
+    Ok(Name::from_slice(alloc, name)?)
+}
