@@ -10,3 +10,7 @@ pub mod AffectedHosts
 pub mod Fitness
 pub mod Confining
 pub mod ObjectsTaken
+pub mod ReplayedSteps
+pub mod ReplayedEntries
+pub mod Logging
+pub mod PlainRuns

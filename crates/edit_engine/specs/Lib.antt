@@ -6,8 +6,11 @@ pub mod Queries
 pub mod Places
 pub mod Probe
 pub mod Views
+pub mod Logs
 pub mod Faults
 pub mod Running
 pub mod Confinement
 pub mod Refusals
 pub mod WorkedIslands
+pub mod Replaying
+pub mod PlainRuns

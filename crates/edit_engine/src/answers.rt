@@ -49,6 +49,26 @@ impl From<EditFault> for ExecFault {
     }
 }
 
+/// Why the log of an editor was not told.
+#[derive(Clone, Copy, PartialEq, Eq, Debug)]
+pub enum LogFault {
+    /// An entry was dropped as the oldest since the editor was made.
+    LogCut = 1,
+    /// There is no memory for it.
+    Memory = 2,
+}
+
+impl From<AllocError> for LogFault {
+    ghost use Rattle.std.specs.Prelude.{◌≡◌};
+    ghost use Rattle.edit_engine.specs.declared.answers.LogFault.TheVariants.{Memory};
+
+    ghost from_gives = { λ _ fault. fault ≡ Memory };
+
+    fn from(_: AllocError) -> LogFault {
+        LogFault::Memory
+    }
+}
+
 /// Why a pair of points was not selected or marked.
 #[derive(Clone, Copy, PartialEq, Eq, Debug)]
 pub enum PlaceFault {

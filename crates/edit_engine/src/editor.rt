@@ -10,12 +10,15 @@ ghost use Rattle.edit_engine.specs.Commands.{action_of};
 ghost use Rattle.edit_engine.specs.Confinement.{KeepsOutside, KeepsMarks, KeepsIslands, KeepsCharacters};
 ghost use Rattle.edit_engine.specs.Editing.{Editing, IsJoinable, new_editing, undone, redone};
 ghost use Rattle.edit_engine.specs.Execution.{gated_outcome, outcome, command_outcome, run_outcome, Tells};
+ghost use Rattle.edit_engine.specs.Logs.{log_text};
 ghost use Rattle.edit_engine.specs.Places.{pair_at, selecting, unselecting, marking, unmarking, IsCrowded};
 ghost use Rattle.edit_engine.specs.Queries.{reply_of};
+ghost use Rattle.edit_engine.specs.Replaying.{LogReplays};
 ghost use Rattle.edit_engine.specs.Views.{view_text};
 
 use crate::actions::{joins, run_command, types_on};
-use crate::answers::{Answer, ExecFault, PlaceFault, ViewFault, ViewKind};
+use crate::answers::{Answer, ExecFault, LogFault, PlaceFault, ViewFault, ViewKind};
+use crate::log::entry_lines;
 use crate::places::{node_at, pair_at};
 use crate::probe::probe_line;
 use crate::queries::{ask, is_enabled};
@@ -232,6 +235,30 @@ impl Editor {
                 None => Err(ViewFault::BadPlace),
             },
         }
+    }
+
+    /// The entries that undo would take, from the first to the last, each as the line `entry`, a line for each node that its
+    /// commands made and its edits name, and a line for each edit.
+    #[tactic(auto, unfolding(crate::specs::Logs::log_steps))]
+    pub fn log(&mut self, alloc: Global) -> Result<Vec<u8>, LogFault>
+        ensures text { IfOk result (λ text. text.items ≡ log_text self.old.history) }
+        ensures cut { (result ≡ Err LogFault.LogCut) ↔ (self.old.history.dropped ≡ true) }
+        ensures stays { self.new ≡ self.old }
+    {
+        if self.doc.has_dropped() {
+            return Err(LogFault::LogCut);
+        }
+        let entries = self.doc.logged(alloc)?;
+        Ok(entry_lines(alloc, entries)?)
+    }
+
+    /// How the log replays, for proofs: on the page of before the first entry its lines are refused nowhere and give the
+    /// document, where the commands made elements and texts alone and changed the characters of no comment, as every run does,
+    /// and left the document at no step deeper than 1,000. It does nothing.
+    pub fn log_replays(&self)
+        ensures { LogReplays self.now }
+    {
+        self.doc.led_onward();
     }
 
     /// The document. Between the calls of an editor each node that is held is in the document, or in a loose tree with a node

@@ -1,5 +1,6 @@
 //! The laws of commands. Each is the contract of a function that does nothing.
 
+ghost use Rattle.edit_engine.specs.PlainRuns.{RunsArePlain};
 ghost use Rattle.edit_engine.specs.Refusals.{RefusalsLeave};
 ghost use Rattle.edit_engine.specs.WorkedIslands.{LockedSpanIsIsland};
 
@@ -12,4 +13,9 @@ pub fn refusals_leave_the_state()
 /// affected host is the div, and the span is an island of it.
 pub fn locked_span_is_island()
     ensures { LockedSpanIsIsland }
+{}
+
+/// What a run makes are elements and texts, and each of its edits of characters is one of a text.
+pub fn runs_are_plain()
+    ensures { RunsArePlain }
 {}

@@ -9,12 +9,13 @@ mod answers;
 mod commands;
 mod editor;
 mod laws;
+mod log;
 mod places;
 mod probe;
 mod queries;
 mod views;
 
-pub use answers::{Answer, ExecFault, PlaceFault, ViewFault, ViewKind};
+pub use answers::{Answer, ExecFault, LogFault, PlaceFault, ViewFault, ViewKind};
 pub use edit_query::Reply;
 pub use editor::Editor;
 pub use laws::{locked_span_is_island, refusals_leave_the_state};
