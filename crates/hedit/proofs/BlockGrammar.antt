@@ -1,12 +1,14 @@
 -- `block_in` decides the grammar of blocks.
-use Rattle.std.proofs.Common.{◌+◌, ◌<◌, ◌≡◌, ◌≢◌, ◌↔◌, ℕ, suc, Bool, true, false, ◌&&◌, cond, nat_eq, List, [], ◌∷◌, ◌++◌, length, take, drop, codes, Option, Some, None, refl, ap, subst, sym, ◌∙◌, arith}
+use Rattle.std.proofs.Common.{◌+◌, ◌<◌, ◌≤◌, ◌≡◌, ◌≢◌, ◌↔◌, ℕ, suc, Bool, true, false, ◌&&◌, cond, nat_eq, List, [], ◌∷◌, ◌++◌, length, take, drop, codes, Option, Some, None, refl, ap, subst, sym, ◌∙◌, arith}
 use Rattle.std.specs.List.{starts_with}
 use Rattle.std.specs.Option.{option_map}
 use Rattle.std.specs.Str.{bytes_eq}
 use Rattle.std.proofs.lemmas.List.{take-append-drop, take_all}
 use Rattle.std.proofs.lemmas.List.Elements.{All-cons, All-nil}
 use Rattle.std.proofs.lemmas.Slice.Eq.{bytes_eq-Decides}
-use Rattle.hedit.specs.Block.{Block, NoOpening, NoClosing, Whole, Cut, IsOpening, NoneIs, IsBlock, is_word, opening_word, cut_at, with_line, block_cut, block_opened, block_in, block_of, lines_of}
+use Rattle.hedit.specs.Block.{Block, NoOpening, NoClosing, Whole, Cut, IsOpening, NoneIs, IsBlock, is_word, opening_word, cut_at, with_line, block_cut, block_opened, block_in, block_of, lines_of, ActsWithin}
+use Rattle.hedit.specs.declared.block.PageBlock.{PageBlock}
+use Rattle.hedit.specs.declared.block.PageBlock.TheVariants as parted
 
 -- ---- the opening line
 
@@ -135,3 +137,9 @@ unopened-is [] end first opens = refl
 unopened-is (x ∷ xs) end first opens =
     let parts = first (omega arith) in
     sym (ap block_in parts ∙ ap (λ o. block_opened o (lines_of (drop (end + 1) (x ∷ xs)))) (sym opens))
+
+-- the acts of a part of the input
+pub within_longer : (b : PageBlock) (m n : ℕ) → m ≤ n → ActsWithin m b → ActsWithin n b
+within_longer parted.NoOpening m n le within = tt
+within_longer parted.NoClosing m n le within = tt
+within_longer (parted.Whole page acts) m n le within = omega (arith, le, within)

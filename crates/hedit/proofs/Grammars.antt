@@ -2,6 +2,7 @@
 use Rattle.std.proofs.Common.{refl, sym, subst}
 use Rattle.page_grammar.proofs.Telling.{reading_is, only_reading}
 use Rattle.script_read.proofs.Lines.{means, one_meaning}
+use Rattle.step_text.proofs.SoundSteps.{step_of_line}
 use Rattle.page_grammar.specs.Reading.{IsReading}
 use Rattle.script_read.specs.Reading.{IsLine}
 use Rattle.hedit.specs.Words.{order_of}
@@ -16,4 +17,5 @@ rests = record {
   blocks = λ lines block. block_grammar (block_in lines) lines refl block;
   pages = λ cap bytes reading. (λ e. subst (IsReading 200 cap bytes) e (reading_is 200 cap bytes), λ is. sym (only_reading 200 cap bytes reading is));
   acts = λ line meaning. (λ e. subst (IsLine line) e (means line), one_meaning line meaning);
+  steps = step_of_line;
 }

@@ -3,6 +3,8 @@ pub mod WordsLemmas
 pub mod BlockLemmas
 pub mod BlockGrammar
 pub mod Names
+pub mod ReplayLines
+pub mod BulkTexts
 pub mod Runs
 pub mod Turns
 pub mod Whole

@@ -1,5 +1,5 @@
 -- How the parts of a run follow their transcripts.
-use Rattle.std.proofs.Common.{◌≡◌, ◌≢◌, ◌==◌, Bool, true, false, ℕ, suc, ◌<◌, ◌≤◌, List, [], ◌∷◌, ◌++◌, length, Option, Some, None, refl, sym, ap, ◌∙◌, subst, inl, inr, arith, append_assoc}
+use Rattle.std.proofs.Common.{◌≡◌, ◌≢◌, ◌==◌, Bool, true, false, ℕ, suc, ◌<◌, ◌≤◌, List, [], ◌∷◌, ◌++◌, length, Option, Some, None, Result, Ok, Err, refl, sym, ap, ◌∙◌, subst, inl, inr, arith, append_assoc}
 use Rattle.std.proofs.lemmas.Bool.Decides.{nat_tests}
 use Rattle.std.proofs.lemmas.List.{append-nil}
 use Rattle.edit_io.specs.Faults.{Rose}
@@ -25,11 +25,17 @@ use Rattle.page_grammar.specs.Page.{size}
 use Rattle.dom_model.specs.Forest.{tops}
 use Rattle.page_read.specs.Answer.{IsDocument}
 use Rattle.hedit.specs.Replies.{line_reply, replies_to}
-use Rattle.hedit.specs.Transcript.{Transcript, transcript_of, refused, page_editing, checked, acted, run_block, gives}
+use Rattle.hedit.specs.Transcript.{Transcript, transcript_of, refused, page_editing, page_document, checked, acted, run_block, step_refused, replay_ended, replayed_on, replay_block, gives}
 use Rattle.hedit.specs.Following.{Follows, IsWanted, Answered}
 use Rattle.hedit.specs.declared.session.Status.{Status}
 use Rattle.hedit.specs.declared.session.Status.TheVariants.{Done, WriteFault, Memory}
-use Rattle.hedit.specs.Words.{Limits, Order, Run, Check}
+use Rattle.hedit.specs.Bulk.{bulk_text}
+use Rattle.hedit.specs.Words.{Limits, Order, Run, Check, Replay, Bulk, usual_limits}
+use Rattle.hedit.specs.Replay.{Replayed, replay, IsFault}
+use Rattle.hedit.specs.declared.replay.Refusal.{Refusal}
+use Rattle.step_text.specs.Applying.{labelled}
+use Rattle.step_text.specs.declared.line.StepFault.{StepFault}
+use Rattle.step_text.specs.declared.line.StepFault.TheVariants as faults
 
 -- ---- statuses that no transcript gives
 
@@ -79,9 +85,24 @@ block_answered limits size NoOpening = tt
 block_answered limits size NoClosing = tt
 block_answered limits size (Whole page acts) = acted_answered limits acts (page_reading 200 limits.cap page)
 
+pub ended_answered : (r : Result Replayed Refusal) → Answered (replay_ended r).status
+ended_answered (Ok r) = tt
+ended_answered (Err refusal) = tt
+
+pub replayed_answered : (lines : List (List ℕ)) (r : Reading) → Answered (replayed_on lines r).status
+replayed_answered lines (Children f) = ended_answered (replay lines (page_document f))
+replayed_answered lines (Refused place kind) = tt
+
+pub replay_answered : (size : ℕ) (b : Block) → Answered (replay_block size b).status
+replay_answered size NoOpening = tt
+replay_answered size NoClosing = tt
+replay_answered size (Whole page lines) = replayed_answered lines (page_reading 200 2000000 page)
+
 pub gives_answered : (order : Order) (text : List ℕ) → Answered (gives order text).status
 gives_answered Check text = checked_answered (page_reading 200 2000000 text)
 gives_answered (Run limits) text = block_answered limits (length text) (block_of text)
+gives_answered Replay text = replay_answered (length text) (block_of text)
+gives_answered (Bulk count) text = block_answered usual_limits (length (bulk_text count)) (block_of (bulk_text count))
 
 pub checked_wanted : (cap : ℕ) (bytes : List ℕ) (fault : PageFault) (o : Option Kind) → IsFaultAnswer cap bytes fault o → IsWanted fault.at o (checked (page_reading 200 cap bytes))
 checked_wanted cap bytes fault None e = tt
@@ -90,6 +111,18 @@ checked_wanted cap bytes fault (Some kind) e = ap checked e
 pub acted_wanted : (limits : Limits) (acts : List (List ℕ)) (bytes : List ℕ) (fault : PageFault) (o : Option Kind) → IsFaultAnswer limits.cap bytes fault o → IsWanted fault.at o (acted limits acts (page_reading 200 limits.cap bytes))
 acted_wanted limits acts bytes fault None e = tt
 acted_wanted limits acts bytes fault (Some kind) e = ap (acted limits acts) e
+
+pub replayed_wanted : (lines : List (List ℕ)) (bytes : List ℕ) (fault : PageFault) (o : Option Kind) → IsFaultAnswer 2000000 bytes fault o → IsWanted fault.at o (replayed_on lines (page_reading 200 2000000 bytes))
+replayed_wanted lines bytes fault None e = tt
+replayed_wanted lines bytes fault (Some kind) e = ap (replayed_on lines) e
+
+-- the line of a fault is the line that is wanted
+pub step_wanted : (refusal : Refusal) (want : Result Replayed Refusal) (fault : StepFault) → fault ≢ faults.Memory → IsFault refusal fault want → step_refused refusal ≡ replay_ended want
+step_wanted refusal want faults.Syntax other e = sym (ap replay_ended e)
+step_wanted refusal want faults.BadLabel other e = sym (ap replay_ended e)
+step_wanted refusal want faults.BadPlace other e = sym (ap replay_ended e)
+step_wanted refusal want faults.TooDeep other e = sym (ap replay_ended e)
+step_wanted refusal want faults.Memory other e = absurd (other refl)
 
 -- the line of a kind is the line that is wanted
 pub wanted_line : (place : ℕ) (k : PageKind) (want : Transcript) → k ≢ kinds.Memory → IsWanted place (kind_of k) want → refused place (kind_word k) ≡ want
@@ -182,3 +215,6 @@ page_replies denied a cap undo f lines d = ap (λ e. replies_to denied e lines) 
 
 pub alone : (a : State) (cap : ℕ) (f : Siblings) → IsDocument a cap f → tops a.trees ≡ 0 ∷ []
 alone a cap f d = rw d.trees refl
+
+pub page_labelled : (a : State) (f : Siblings) → IsDocument a 2000000 f → labelled a ≡ page_document f
+page_labelled a f d = rw (d.trees, d.next, d.cap) refl

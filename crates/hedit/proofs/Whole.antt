@@ -7,11 +7,11 @@ use Rattle.edit_io.specs.Faults.{Rose}
 use Rattle.edit_io.specs.Told.{with_front, with_end, IsAtEnd}
 use Rattle.edit_io.proofs.Told.{with_end-nil, with_front-some, with_front-none}
 use Rattle.script_read.specs.Reading.{number_of}
-use Rattle.hedit.specs.Words.{Order, Run, Check, Choice, CapAt, UndoUpTo, Denying, Given, order_of, amount_of, choice_of, greatest_cap, greatest_undo, usual_undo, with_choice, AreSettings, IsOrder, none_given}
-use Rattle.hedit.specs.Transcript.{Transcript, transcript_of, transcript, order_transcript, reads_input, gives}
+use Rattle.hedit.specs.Words.{Order, Run, Check, Replay, Bulk, reads_input, Choice, CapAt, UndoUpTo, Denying, Given, order_of, amount_of, choice_of, greatest_cap, greatest_undo, usual_undo, with_choice, AreSettings, IsOrder, none_given}
+use Rattle.hedit.specs.Transcript.{Transcript, transcript_of, transcript, order_transcript, gives}
 use Rattle.hedit.specs.Following.{Follows, RunFollows, IsAnswered, HasCap, Answered}
 use Rattle.hedit.specs.declared.session.Status.{Status}
-use Rattle.hedit.specs.declared.session.Status.TheVariants.{Done, Usage, ReadFault, WriteFault, Memory, PageRefused, TooLong}
+use Rattle.hedit.specs.declared.session.Status.TheVariants.{Done, Usage, ReadFault, WriteFault, Memory, PageRefused, TooLong, StepRefused}
 use Rattle.hedit.specs.declared.words.Setting.{Setting}
 use Rattle.hedit.specs.declared.words.Setting.TheVariants.{Cap, Undo, Deny}
 use Rattle.hedit.specs.Denials.{names_of}
@@ -72,6 +72,8 @@ picked_above (Some k) usual some above = above
 
 pub order_has_cap : (words : List (List ℕ)) (order : Order) → IsOrder words order → HasCap order
 order_has_cap words Check is = tt
+order_has_cap words Replay is = tt
+order_has_cap words (Bulk count) is = tt
 order_has_cap words (Run limits) is =
     let above = settings_above is.0 is.1 none_given is.2 is.4 (tt, tt) in
     rw (is.5) (picked_above is.2.cap greatest_cap (lit< tt) above.0, picked_above is.2.undo usual_undo (lit< tt) above.1)
@@ -102,31 +104,35 @@ and_false : (b : Bool) → (b && false) ≡ false
 and_false true = refl
 and_false false = refl
 
--- each order reads the input
-all_read : (order : Order) → reads_input order ≡ true
-all_read Check = refl
-all_read (Run limits) = refl
-
 short_transcript : (words : List (List ℕ)) (bytes : List ℕ) (order : Order) → order_of words ≡ Some order → length bytes ≤ 8388608 → transcript words bytes ≡ gives order bytes
 short_transcript words bytes order is short =
     let t : nat_lt 8388608 (length bytes) ≡ false = grind (arith, nat_tests) in
     rw (is, t, and_false (reads_input order)) refl
 
-long_transcript : (words : List (List ℕ)) (bytes : List ℕ) (order : Order) → order_of words ≡ Some order → 8388608 < length bytes → transcript words bytes ≡ transcript_of TooLong []
-long_transcript words bytes order is long =
+long_transcript : (words : List (List ℕ)) (bytes : List ℕ) (order : Order) → order_of words ≡ Some order → reads_input order ≡ true → 8388608 < length bytes → transcript words bytes ≡ transcript_of TooLong []
+long_transcript words bytes order is reads long =
     let t : nat_lt 8388608 (length bytes) ≡ true = grind (arith, nat_tests) in
-    rw (is, all_read order, t) refl
+    rw (is, reads, t) refl
+
+-- an order that reads no input has one transcript
+unread_transcript : (words : List (List ℕ)) (bytes : List ℕ) (order : Order) → order_of words ≡ Some order → reads_input order ≡ false → transcript words bytes ≡ gives order []
+unread_transcript words bytes Check is unread = absurd (let e = unread in cc)
+unread_transcript words bytes (Run limits) is unread = absurd (let e = unread in cc)
+unread_transcript words bytes Replay is unread = absurd (let e = unread in cc)
+unread_transcript words bytes (Bulk count) is unread = rw is refl
 
 -- the statuses of the transcripts of orders
 abbrev IsGiven : Status → Type 0
 IsGiven Done = Unit {0}
 IsGiven PageRefused = Unit {0}
 IsGiven TooLong = Unit {0}
+IsGiven StepRefused = Unit {0}
 IsGiven s = ⊥
 
 answered_given : (s : Status) → Answered s → IsGiven s
 answered_given Done h = tt
 answered_given PageRefused h = tt
+answered_given StepRefused h = tt
 answered_given Usage h = absurd h
 answered_given ReadFault h = absurd h
 answered_given WriteFault h = absurd h
@@ -182,10 +188,10 @@ told_memory left words order told r0 r1 w is =
     let given = transcript_given words bytes order is in
     silent (transcript words bytes) told r0 r1 w Memory given (λ e. absurd (subst IsGiven (sym e) given)) (inr (inr refl)))
 
-pub told_long : (left : Option (List ℕ)) (words : List (List ℕ)) (order : Order) (told : Option (List ℕ)) (r0 r1 w : ℕ) → order_of words ≡ Some order → IfSome left (λ bytes. 8388608 < length bytes) → IfSome left (λ bytes. RunFollows (transcript words bytes) told told r0 r1 w w TooLong)
-told_long left words order told r0 r1 w is long =
+pub told_long : (left : Option (List ℕ)) (words : List (List ℕ)) (order : Order) (told : Option (List ℕ)) (r0 r1 w : ℕ) → order_of words ≡ Some order → reads_input order ≡ true → IfSome left (λ bytes. 8388608 < length bytes) → IfSome left (λ bytes. RunFollows (transcript words bytes) told told r0 r1 w w TooLong)
+told_long left words order told r0 r1 w is reads long =
     told_each left _ _ (λ bytes more.
-    let e = long_transcript words bytes order is more in
+    let e = long_transcript words bytes order is reads more in
     silent (transcript words bytes) told r0 r1 w TooLong (transcript_given words bytes order is) (λ _. ap (λ (t : Transcript). t.text) e) (inl (ap (λ (t : Transcript). t.status) (sym e)))) long
 
 run_follows : (want : Transcript) (before after : Option (List ℕ)) (r0 r1 w0 w1 : ℕ) (status : Status) → Answered want.status → Follows want before after w0 w1 status → RunFollows want before after r0 r1 w0 w1 status
@@ -216,16 +222,39 @@ answered_whole want before after w0 w1 status answered f = elim f.cause [
   | inr (inr e) ↦ absurd (subst Answered e answered)
 ]
 
-pub answered_run : (old new : Option (List ℕ)) (bytes : List ℕ) (words : List (List ℕ)) (order : Order) (before after : Option (List ℕ)) (w0 w1 : ℕ) (status : Status) → IsOrder words order → order_of words ≡ Some order → old ≡ with_front bytes new → IsAtEnd new → length bytes ≤ 8388608 → Follows (gives order bytes) before after w0 w1 status
+pub answered_run : (old new : Option (List ℕ)) (bytes : List ℕ) (words : List (List ℕ)) (order : Order) (before after : Option (List ℕ)) (w0 w1 : ℕ) (status : Status) → IsOrder words order → order_of words ≡ Some order → reads_input order ≡ true → old ≡ with_front bytes new → IsAtEnd new → length bytes ≤ 8388608 → Follows (gives order bytes) before after w0 w1 status
     → Answered status → IsAnswered words old new before after status
-answered_run old new bytes words order before after w0 w1 status asked is read end short f answered =
+answered_run old new bytes words order before after w0 w1 status asked is reads read end short f answered =
     let e = short_transcript words bytes order is short in
     let same = answered_whole (gives order bytes) before after w0 w1 status answered f in
     record {
       order = order;
       ordered = asked;
       text = bytes;
-      read = rw (all_read order) (read, end);
+      read = rw reads (read, end);
+      given = rw e (sym same);
+      written = rw e (f.whole same);
+    }
+
+-- ---- an order that reads no input
+
+pub told_unread : (left : Option (List ℕ)) (words : List (List ℕ)) (order : Order) (before after : Option (List ℕ)) (r w0 w1 : ℕ) (status : Status) → order_of words ≡ Some order → reads_input order ≡ false → Follows (gives order []) before after w0 w1 status
+    → IfSome left (λ bytes. RunFollows (transcript words bytes) before after r r w0 w1 status)
+told_unread left words order before after r w0 w1 status is unread f =
+    told_all left _ (λ bytes.
+    let e = unread_transcript words bytes order is unread in
+    rw e (run_follows (gives order []) before after r r w0 w1 status (gives_answered order []) f))
+
+pub answered_unread : (left : Option (List ℕ)) (words : List (List ℕ)) (order : Order) (before after : Option (List ℕ)) (w0 w1 : ℕ) (status : Status) → IsOrder words order → order_of words ≡ Some order → reads_input order ≡ false → Follows (gives order []) before after w0 w1 status
+    → Answered status → IsAnswered words left left before after status
+answered_unread left words order before after w0 w1 status asked is unread f answered =
+    let e = unread_transcript words [] order is unread in
+    let same = answered_whole (gives order []) before after w0 w1 status answered f in
+    record {
+      order = order;
+      ordered = asked;
+      text = [];
+      read = rw unread (refl, refl);
       given = rw e (sym same);
       written = rw e (f.whole same);
     }

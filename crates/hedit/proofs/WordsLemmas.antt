@@ -1,5 +1,5 @@
 -- The two first words of the options, and that `order_of` decides the grammar.
-use Rattle.std.proofs.Common.{◌≡◌, ◌↔◌, ℕ, ◌≤◌, Bool, true, false, ◌&&◌, cond, List, [], ◌∷◌, ◌++◌, length, take, drop, map, get_or, codes, Option, Some, None, nat_eq, refl, sym, ◌∙◌, ap, subst, inl, inr, arith}
+use Rattle.std.proofs.Common.{◌≡◌, ◌↔◌, ℕ, ◌≤◌, Bool, true, false, cond, List, [], ◌∷◌, ◌++◌, length, take, drop, map, get_or, codes, Option, Some, None, nat_eq, refl, sym, ◌∙◌, ap, subst, inl, inr, arith}
 use Rattle.std.specs.Bool.{Decides}
 use Rattle.std.specs.List.{starts_with}
 use Rattle.std.specs.Option.{option_map, option_and_then, option_map_or}
@@ -8,7 +8,7 @@ use Rattle.std.proofs.lemmas.List.{take-append-drop}
 use Rattle.std.proofs.lemmas.Slice.Eq.{bytes_eq-Decides}
 use Rattle.hedit.specs.declared.words.Setting.{Setting}
 use Rattle.hedit.specs.declared.words.Setting.TheVariants.{Cap, Undo, Deny}
-use Rattle.hedit.specs.Words.{Order, Run, Check, Choice, Given, name_of, choice_of, is_given, with_choice, none_given, setting_named, setting_joined, setting_read, joined_read, options_read, run_of, order_of, is_empty, IsSetting, AreSettings, IsOrder}
+use Rattle.hedit.specs.Words.{Order, Run, Check, Replay, Bulk, Choice, Given, name_of, choice_of, is_given, with_choice, none_given, setting_named, setting_joined, setting_read, joined_read, options_read, run_of, order_of, plain_order, bulk_count_of, IsSetting, AreSettings, IsOrder}
 
 -- ---- the two first words
 
@@ -178,29 +178,44 @@ is_run word words o p w r e =
     let s = read-settings none_given p words r in
     subst (λ (o : Order). IsOrder (word ∷ words) o) e (s.list, words, p, ap (λ x. x ∷ words) w, s.are, refl)
 
-is_check : (word : List ℕ) (words : List (List ℕ)) (o : Order) → word ≡ codes "check" → cond (is_empty words) (Some Check) None ≡ Some o → IsOrder (word ∷ words) o
-is_check word [] o w e = subst (λ (o : Order). IsOrder (word ∷ []) o) (some-is e) (ap (λ x. x ∷ []) w)
-is_check word (next ∷ words) o w e = absurd (cc)
+lone-by : (word : List ℕ) (o : Order) (a b : Bool) → Decides a (word ≡ codes "check") → Decides b (word ≡ codes "replay")
+    → cond a (Some Check) (cond b (Some Replay) None) ≡ Some o → IsOrder (word ∷ []) o
+lone-by word o true b da db e = subst (λ (o : Order). IsOrder (word ∷ []) o) (some-is e) (ap (λ x. x ∷ []) (da.0 refl))
+lone-by word o false true da db e = subst (λ (o : Order). IsOrder (word ∷ []) o) (some-is e) (ap (λ x. x ∷ []) (db.0 refl))
+lone-by word o false false da db e = absurd (cc)
+
+bulk-by : (word text : List ℕ) (o : Order) (a : Bool) (n : Option ℕ) → Decides a (word ≡ codes "bulk") → bulk_count_of text ≡ n
+    → cond a (option_map Bulk n) None ≡ Some o → IsOrder (word ∷ (text ∷ [])) o
+bulk-by word text o true None da is e = absurd (cc)
+bulk-by word text o true (Some n) da is e =
+    subst (λ (o : Order). IsOrder (word ∷ (text ∷ [])) o) (some-is e) (text, ap (λ x. x ∷ (text ∷ [])) (da.0 refl), is)
+bulk-by word text o false n da is e = absurd (cc)
+
+plain-sound : (word : List ℕ) (words : List (List ℕ)) (o : Order) → plain_order word words ≡ Some o → IsOrder (word ∷ words) o
+plain-sound word [] o e =
+    lone-by word o (bytes_eq word (codes "check")) (bytes_eq word (codes "replay")) (bytes_eq-Decides word (codes "check")) (bytes_eq-Decides word (codes "replay")) e
+plain-sound word (text ∷ []) o e =
+    bulk-by word text o (bytes_eq word (codes "bulk")) (bulk_count_of text) (bytes_eq-Decides word (codes "bulk")) refl e
+plain-sound word (text ∷ (more ∷ words)) o e = absurd (cc)
 
 run-by : (word : List ℕ) (words : List (List ℕ)) (o : Order) (r : Option Given) → options_read none_given words ≡ r → word ≡ codes "run"
     → option_map run_of r ≡ Some o → IsOrder (word ∷ words) o
 run-by word words o None er w e = absurd (cc)
 run-by word words o (Some p) er w e = is_run word words o p w er (some-is e)
 
-order-by : (word : List ℕ) (words : List (List ℕ)) (o : Order) (a b : Bool) → Decides a (word ≡ codes "run") → Decides b (word ≡ codes "check")
-    → cond a (option_map run_of (options_read none_given words)) (cond (b && is_empty words) (Some Check) None) ≡ Some o → IsOrder (word ∷ words) o
-order-by word words o true b da db e =
-    run-by word words o (options_read none_given words) refl (da.0 refl) e
-order-by word words o false true da db e = is_check word words o (db.0 refl) e
-order-by word words o false false da db e = absurd (cc)
+order-by : (word : List ℕ) (words : List (List ℕ)) (o : Order) (a : Bool) → Decides a (word ≡ codes "run")
+    → cond a (option_map run_of (options_read none_given words)) (plain_order word words) ≡ Some o → IsOrder (word ∷ words) o
+order-by word words o true da e = run-by word words o (options_read none_given words) refl (da.0 refl) e
+order-by word words o false da e = plain-sound word words o e
 
 order-sound : (words : List (List ℕ)) (o : Order) → order_of words ≡ Some o → IsOrder words o
 order-sound [] o e = absurd (cc)
-order-sound (word ∷ words) o e =
-    order-by word words o (bytes_eq word (codes "run")) (bytes_eq word (codes "check")) (bytes_eq-Decides word (codes "run")) (bytes_eq-Decides word (codes "check")) e
+order-sound (word ∷ words) o e = order-by word words o (bytes_eq word (codes "run")) (bytes_eq-Decides word (codes "run")) e
 
 order-complete : (words : List (List ℕ)) (o : Order) → IsOrder words o → order_of words ≡ Some o
 order-complete words Check is = rw is refl
+order-complete words Replay is = rw is refl
+order-complete words (Bulk count) (text, e, is) = rw e (rw is refl)
 order-complete words (Run limits) (xs, rest, options, e, are, l) =
     rw e (rw (settings-read xs rest none_given options are) (rw l refl))
 

@@ -1,5 +1,5 @@
 -- The page block that opens a session: a line `page <<WORD`, the lines of the page, and a line WORD. The acts follow.
-use Rattle.std.specs.Prelude.{◌≡◌, ◌≢◌, ◌++◌, All, true, ℕ, Bool, ◌&&◌, nat_lt, nat_le, nat_eq, ◌==◌, List, [], ◌∷◌, length, drop, codes, bytes_eq, Option, Some, None, unwrap_or, if◌then◌else◌}
+use Rattle.std.specs.Prelude.{◌≡◌, ◌≢◌, ◌++◌, ◌≤◌, All, true, ℕ, Bool, ◌&&◌, nat_lt, nat_le, nat_eq, ◌==◌, List, [], ◌∷◌, length, drop, codes, bytes_eq, Option, Some, None, unwrap_or, if◌then◌else◌}
 use Rattle.std.specs.Char.{is_ascii_alphanumeric}
 use Rattle.hedit.specs.declared.block.PageBlock.{PageBlock}
 use Rattle.hedit.specs.declared.block.PageBlock.TheVariants as parted
@@ -79,6 +79,12 @@ block_in (line ∷ lines) = block_opened (opening_word line) lines
 
 abbrev pub block_of : List ℕ → Block
 block_of input = block_in (lines_of input)
+
+-- the acts are no longer than this
+abbrev pub ActsWithin : ℕ → PageBlock → Type 0
+ActsWithin n parted.NoOpening = Unit {0}
+ActsWithin n parted.NoClosing = Unit {0}
+ActsWithin n (parted.Whole page acts) = length acts.now ≤ n
 
 -- what the program's value shows
 abbrev pub shown : PageBlock → Block

@@ -3,10 +3,10 @@ use Rattle.std.specs.Prelude.{◌≡◌, ◌⊎◌, ℕ, ◌<◌, ◌≤◌, Boo
 use Rattle.edit_io.specs.Faults.{Rose}
 use Rattle.edit_io.specs.Told.{with_front, with_end, IsAtEnd, TakesPrefix}
 use Rattle.page_grammar.specs.Kind.{Kind}
-use Rattle.hedit.specs.Words.{Order, Run, Check, IsOrder}
-use Rattle.hedit.specs.Transcript.{Transcript, refused, word_of, transcript, reads_input}
+use Rattle.hedit.specs.Words.{Order, Run, Check, Replay, Bulk, reads_input, IsOrder}
+use Rattle.hedit.specs.Transcript.{Transcript, refused, word_of, transcript}
 use Rattle.hedit.specs.declared.session.Status.{Status}
-use Rattle.hedit.specs.declared.session.Status.TheVariants.{Done, Usage, ReadFault, WriteFault, Memory, PageRefused, TooLong}
+use Rattle.hedit.specs.declared.session.Status.TheVariants.{Done, Usage, ReadFault, WriteFault, Memory, PageRefused, TooLong, StepRefused}
 
 -- The status and what a sink took, where this was to be answered: a prefix of the text, all of it with the status that was to be
 -- answered, and any other status for a cause. A sink's count of faults is looked at before and after.
@@ -25,11 +25,14 @@ IsWanted place (Some kind) want = want ≡ refused place (word_of kind)
 abbrev pub HasCap : Order → Type 0
 HasCap Check = Unit {0}
 HasCap (Run limits) = (0 < limits.cap) × (0 < limits.undo)
+HasCap Replay = Unit {0}
+HasCap (Bulk count) = Unit {0}
 
 -- the statuses that the transcript of an input gives
 abbrev pub Answered : Status → Type 0
 Answered Done = Unit {0}
 Answered PageRefused = Unit {0}
+Answered StepRefused = Unit {0}
 Answered s = ⊥
 
 -- the statuses with which nothing is written

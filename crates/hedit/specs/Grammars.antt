@@ -2,6 +2,9 @@
 use Rattle.std.specs.Prelude.{◌≡◌, ◌↔◌, ℕ, List, Some}
 use Rattle.page_grammar.specs.Reading.{Reading, page_reading, IsReading}
 use Rattle.script_read.specs.Reading.{Line, line_of, IsLine}
+use Rattle.step_text.specs.declared.line.StepLine.{StepLine}
+use Rattle.step_text.specs.StepLine.{IsStepLine, line_text}
+use Rattle.step_text.specs.StepReading.{step_in}
 use Rattle.hedit.specs.Words.{Order, order_of, IsOrder}
 use Rattle.hedit.specs.Block.{Block, block_in, IsBlock}
 use Rattle.hedit.specs.Transcript.{depth_limit}
@@ -13,3 +16,4 @@ pub record RestsOnGrammars : Type 0 where
   pub pages : (cap : ℕ) (bytes : List ℕ) (reading : Reading)
       → (page_reading depth_limit cap bytes ≡ reading) ↔ IsReading depth_limit cap bytes reading
   pub acts : (line : List ℕ) (meaning : Line) → (line_of line ≡ meaning) ↔ IsLine line meaning
+  pub steps : (line : List ℕ) (step : StepLine) → (step_in line ≡ Some step) ↔ (IsStepLine step × (line_text step ≡ line))

@@ -2,6 +2,8 @@ pub mod Denials
 pub mod Words
 pub mod Block
 pub mod Replies
+pub mod Bulk
+pub mod Replay
 pub mod Transcript
 pub mod Following
 pub mod Grammars

@@ -6,7 +6,7 @@ use Rattle.live_range.specs.LivePoints.{has_mark}
 use Rattle.live_range.specs.declared.places.Pair.{Pair}
 use Rattle.escaped_text.specs.Escaped.{escaped_bytes}
 use Rattle.script_read.specs.declared.act.Act.{Act}
-use Rattle.script_read.specs.declared.act.Act.TheVariants.{Select, Unselect, Mark, Unmark, Exec, Query, Undo, Redo, Probe, Html, Tree, Points, Stat}
+use Rattle.script_read.specs.declared.act.Act.TheVariants.{Select, Unselect, Mark, Unmark, Exec, Query, Undo, Redo, Probe, Html, Tree, Points, Stat, Log}
 use Rattle.script_read.specs.Acts.{is_name}
 use Rattle.script_read.specs.Reading.{Line, Long, Unknown, Known, line_of}
 use Rattle.edit_query.specs.declared.reply.Reply.{Reply}
@@ -15,6 +15,7 @@ use Rattle.edit_engine.specs.declared.answers.ViewKind.{ViewKind}
 use Rattle.edit_engine.specs.declared.answers.ViewKind.TheVariants as view
 use Rattle.edit_engine.specs.Editing.{Editing, undone, redone, turned}
 use Rattle.edit_engine.specs.Execution.{Outcome, Refused, Deep, Full, Acted, gated_outcome}
+use Rattle.edit_engine.specs.Logs.{log_text}
 use Rattle.edit_engine.specs.Places.{pair_at, selecting, unselecting, marking, unmarking}
 use Rattle.edit_engine.specs.Queries.{reply_of}
 use Rattle.edit_engine.specs.Views.{view_text}
@@ -84,6 +85,11 @@ shown text = unwrap_or text bad_place
 abbrev pub view_reply : Editing → ViewKind → Replied
 view_reply e kind = replied (shown (view_text e kind)) e
 
+-- ---- the log, which is whole where no entry was dropped
+
+unfoldable pub log_reply : Editing → List ℕ
+log_reply e = if e.history.dropped then codes "! 8 log cut\n" else log_text e.history
+
 -- ---- acts; the commands of some names are denied
 
 abbrev pub unknown_act : List ℕ
@@ -103,6 +109,7 @@ act_reply denied e Html = view_reply e view.Html
 act_reply denied e Tree = view_reply e view.Tree
 act_reply denied e Points = view_reply e view.Points
 act_reply denied e Stat = view_reply e view.Stat
+act_reply denied e Log = replied (log_reply e) e
 
 -- ---- lines
 

@@ -1,5 +1,5 @@
 -- What a run of the program answers: a status, and the text that it writes.
-use Rattle.std.specs.Prelude.{ℕ, suc, Bool, true, ◌&&◌, nat_lt, List, [], ◌++◌, length, codes, if◌then◌else◌}
+use Rattle.std.specs.Prelude.{ℕ, suc, ◌&&◌, nat_lt, List, [], ◌++◌, length, codes, Result, Ok, Err, if◌then◌else◌}
 use Rattle.std.specs.Option.{option_map_or}
 use Rattle.std.specs.Fmt.{decimal}
 use Rattle.dom_model.specs.declared.Content.{Content}
@@ -9,12 +9,21 @@ use Rattle.page_grammar.specs.Kind.{Kind, TooLong as PageTooLong, Unclosed, NotU
 use Rattle.page_grammar.specs.Nodes.{document_of}
 use Rattle.page_grammar.specs.Reading.{Reading, Children, Refused, page_reading}
 use Rattle.page_grammar.specs.Page.{Siblings, size}
+use Rattle.page_write.specs.Html.{document_html}
+use Rattle.step_text.specs.Applying.{Labelled}
+use Rattle.step_text.specs.declared.line.StepFault.{StepFault}
+use Rattle.step_text.specs.declared.line.StepFault.TheVariants as steps
 use Rattle.edit_engine.specs.Editing.{Editing, new_editing}
+use Rattle.edit_engine.specs.Views.{document_numbers}
 use Rattle.hedit.specs.Replies.{replies_to}
-use Rattle.hedit.specs.Words.{Limits, Order, Run, Check, order_of, greatest_cap}
+use Rattle.hedit.specs.Replay.{Replayed, replay}
+use Rattle.hedit.specs.declared.replay.Refusal.{Refusal}
+use Rattle.hedit.specs.declared.replay.Tally.{Tally}
+use Rattle.hedit.specs.Words.{Limits, Order, Run, Check, Replay, Bulk, reads_input, order_of, greatest_cap, usual_limits}
+use Rattle.hedit.specs.Bulk.{bulk_text}
 use Rattle.hedit.specs.Block.{Block, NoOpening, NoClosing, Whole, block_of}
 use Rattle.hedit.specs.declared.session.Status.{Status}
-use Rattle.hedit.specs.declared.session.Status.TheVariants.{Done, Usage, PageRefused, TooLong}
+use Rattle.hedit.specs.declared.session.Status.TheVariants.{Done, Usage, PageRefused, TooLong, StepRefused}
 
 pub record Transcript : Type 0 where
   pub status : Status
@@ -70,7 +79,7 @@ abbrev pub checked : Reading → Transcript
 checked (Children children) = transcript_of Done (numbers_line (document_of children))
 checked (Refused place kind) = refused place (word_of kind)
 
--- `run`: the page of the block, and then the acts
+-- `run`: the page, and then the acts
 abbrev pub acted : Limits → List (List ℕ) → Reading → Transcript
 acted limits acts (Children children) =
     transcript_of Done (replies_to limits.denied (page_editing limits.cap limits.undo children) acts)
@@ -81,17 +90,59 @@ run_block limits size NoOpening = refused 0 (codes "no-opening")
 run_block limits size NoClosing = refused size (codes "no-closing")
 run_block limits size (Whole page acts) = acted limits acts (page_reading depth_limit limits.cap page)
 
--- ---- orders: a row for each, what it reads and what it gives
+-- ---- step lines
 
--- whether an order reads the input
-abbrev pub reads_input : Order → Bool
-reads_input Check = true
-reads_input (Run limits) = true
+abbrev pub page_document : Siblings → Labelled
+page_document children = record { trees = document_of children; next = suc (size children); cap = greatest_cap }
+
+-- how a fault of a line is printed
+abbrev pub fault_word : StepFault → List ℕ
+fault_word steps.Syntax = codes "syntax"
+fault_word steps.BadLabel = codes "bad-label"
+fault_word steps.BadPlace = codes "bad-place"
+fault_word steps.TooDeep = codes "too-deep"
+fault_word steps.Memory = codes "memory"
+
+-- `! step NUMBER KIND`
+abbrev pub step_text : ℕ → List ℕ → List ℕ
+step_text number word = codes "! step " ++ decimal number ++ codes " " ++ word ++ codes "\n"
+
+abbrev pub step_refused : Refusal → Transcript
+step_refused r = transcript_of StepRefused (step_text r.number (fault_word r.fault))
+
+-- `replayed E S`, the numbers of the document, and its HTML
+abbrev pub tally_text : Tally → List ℕ
+tally_text t = codes "replayed " ++ decimal t.entries ++ codes " " ++ decimal t.steps ++ codes "\n"
+
+abbrev pub document_line : (nodes chars next : ℕ) → List ℕ
+document_line nodes chars next = document_numbers nodes chars next ++ codes "\n"
+
+abbrev pub replayed_text : Tally → (trees : Forest Content) (next : ℕ) → List ℕ
+replayed_text t trees next =
+    tally_text t ++ document_line (node_count trees) (char_count trees) next ++ document_html trees ++ codes "\n"
+
+abbrev pub replay_ended : Result Replayed Refusal → Transcript
+replay_ended (Ok r) = transcript_of Done (replayed_text r.tally r.document.trees r.document.next)
+replay_ended (Err refusal) = step_refused refusal
+
+-- `replay`: the page, and then the step lines
+abbrev pub replayed_on : List (List ℕ) → Reading → Transcript
+replayed_on lines (Children children) = replay_ended (replay lines (page_document children))
+replayed_on lines (Refused place kind) = refused place (word_of kind)
+
+abbrev pub replay_block : (size : ℕ) → Block → Transcript
+replay_block size NoOpening = refused 0 (codes "no-opening")
+replay_block size NoClosing = refused size (codes "no-closing")
+replay_block size (Whole page lines) = replayed_on lines (page_reading depth_limit greatest_cap page)
+
+-- ---- orders: a row for each
 
 -- the transcript of an order on its text, which is the input where it reads that
 abbrev pub gives : Order → List ℕ → Transcript
 gives Check text = checked (page_reading depth_limit greatest_cap text)
 gives (Run limits) text = run_block limits (length text) (block_of text)
+gives Replay text = replay_block (length text) (block_of text)
+gives (Bulk count) text = run_block usual_limits (length (bulk_text count)) (block_of (bulk_text count))
 
 -- ---- the whole
 

@@ -1,5 +1,5 @@
--- The words of the command line, after the program's name: `check`, or `run` and its options.
-use Rattle.std.specs.Prelude.{◌≡◌, ◌⊎◌, ℕ, Bool, true, false, ◌&&◌, nat_lt, nat_le, nat_eq, List, [], ◌∷◌, ◌++◌, drop, codes, bytes_eq, Option, Some, None, is_some, unwrap_or, if◌then◌else◌}
+-- The words of the command line, after the program's name: `check`, `replay`, `bulk` and a number, or `run` and its options.
+use Rattle.std.specs.Prelude.{◌≡◌, ◌⊎◌, ℕ, Bool, true, false, ◌&&◌, nat_lt, nat_le, nat_eq, List, [], ◌∷◌, ◌++◌, length, drop, codes, bytes_eq, Option, Some, None, is_some, unwrap_or, if◌then◌else◌}
 use denote.Ref.{Bor}
 use Rattle.std.specs.Option.{option_map, option_and_then, option_map_or}
 use Rattle.std.specs.List.{starts_with}
@@ -22,10 +22,15 @@ pub record Limits : Type 0 where
 pub data Order : Type 0 where
   Run : (limits : Limits) → Order
   Check : Order
+  Replay : Order
+  Bulk : (count : ℕ) → Order
 
-abbrev pub is_empty : List (List ℕ) → Bool
-is_empty [] = true
-is_empty (word ∷ words) = false
+-- whether an order reads the input
+abbrev pub reads_input : Order → Bool
+reads_input Check = true
+reads_input (Run limits) = true
+reads_input Replay = true
+reads_input (Bulk count) = false
 
 -- ---- settings
 
@@ -89,6 +94,10 @@ abbrev pub limits_of : Given → Limits
 limits_of g =
     record { cap = unwrap_or g.cap greatest_cap; undo = unwrap_or g.undo usual_undo; denied = unwrap_or g.deny [] }
 
+-- what holds where nothing is given
+abbrev pub usual_limits : Limits
+usual_limits = limits_of none_given
+
 -- what the program keeps of the words shows these, where names are kept as their text
 abbrev pub denied_in : Option (Bor (List ℕ)) → List (List ℕ)
 denied_in text = option_map_or (λ text. names_in text.now) text []
@@ -99,6 +108,16 @@ limits_in l = record { cap = l.cap; undo = l.undo; denied = denied_in l.denied }
 abbrev pub order_in : read_order.Order → Order
 order_in (orders.Run limits) = Run (limits_in limits)
 order_in orders.Check = Check
+order_in orders.Replay = Replay
+order_in (orders.Bulk count) = Bulk count
+
+-- how many paragraphs a session of `bulk` may have
+abbrev pub greatest_bulk : ℕ
+greatest_bulk = 5000
+
+-- the number of paragraphs that a text says: 1 to 4 digits
+abbrev pub bulk_count_of : List ℕ → Option ℕ
+bulk_count_of text = if nat_le (length text) 4 then amount_of greatest_bulk text else None
 
 -- ---- the grammar: which words ask for which order
 
@@ -117,6 +136,8 @@ AreSettings (x ∷ xs) words before after =
 
 abbrev pub IsOrder : List (List ℕ) → Order → Type 0
 IsOrder words Check = words ≡ codes "check" ∷ []
+IsOrder words Replay = words ≡ codes "replay" ∷ []
+IsOrder words (Bulk count) = (text : List ℕ) × (words ≡ codes "bulk" ∷ text ∷ []) × (bulk_count_of text ≡ Some count)
 IsOrder words (Run limits) =
     (xs : List (Setting × Choice)) × (rest : List (List ℕ)) × (given : Given)
     × (words ≡ codes "run" ∷ rest) × AreSettings xs rest none_given given × (limits ≡ limits_of given)
@@ -153,8 +174,22 @@ options_read g (word ∷ (text ∷ words)) =
 abbrev pub run_of : Given → Order
 run_of g = Run (limits_of g)
 
+-- an order of one word, and the one that takes a number
+abbrev pub lone_order : List ℕ → Option Order
+lone_order word =
+    if bytes_eq word (codes "check") then Some Check
+    else (if bytes_eq word (codes "replay") then Some Replay else None)
+
+abbrev pub bulk_order : List ℕ → List ℕ → Option Order
+bulk_order word text = if bytes_eq word (codes "bulk") then option_map Bulk (bulk_count_of text) else None
+
+-- an order without options
+abbrev pub plain_order : List ℕ → List (List ℕ) → Option Order
+plain_order word [] = lone_order word
+plain_order word (text ∷ []) = bulk_order word text
+plain_order word (text ∷ (more ∷ words)) = None
+
 abbrev pub order_of : List (List ℕ) → Option Order
 order_of [] = None
 order_of (word ∷ words) =
-    if bytes_eq word (codes "run") then option_map run_of (options_read none_given words)
-    else (if bytes_eq word (codes "check") && is_empty words then Some Check else None)
+    if bytes_eq word (codes "run") then option_map run_of (options_read none_given words) else plain_order word words

@@ -9,11 +9,11 @@ ghost use Rattle.edit_engine.specs.Execution.{gated_outcome};
 ghost use Rattle.edit_engine.specs.Places.{pair_at};
 ghost use Rattle.edit_engine.specs.Queries.{reply_of};
 ghost use Rattle.edit_engine.specs.Views.{view_text};
-ghost use Rattle.hedit.specs.Replies.{truth, bad_place, select_reply, mark_reply, unmark_reply, exec_reply, query_text, taken, undo_reply, redo_reply, shown, act_reply, read_reply, line_reply, IsNamed};
+ghost use Rattle.hedit.specs.Replies.{truth, bad_place, select_reply, mark_reply, unmark_reply, exec_reply, query_text, taken, undo_reply, redo_reply, log_reply, shown, act_reply, read_reply, line_reply, IsNamed};
 
 use command_gate::{Gate, NameList};
 use dom_model::{Chars, Name};
-use edit_engine::{Answer, Editor, ExecFault, PlaceFault, Reply, ViewFault, ViewKind};
+use edit_engine::{Answer, Editor, ExecFault, LogFault, PlaceFault, Reply, ViewFault, ViewKind};
 use escaped_text::push_escaped;
 use html_names::QueryKind;
 use script_read::{Act, LineFault, Place, read_line};
@@ -198,6 +198,18 @@ fn view(alloc: Global, editor: &Editor, kind: &ViewKind) -> Result<Vec<u8>, Allo
     }
 }
 
+#[tactic(auto, unfolding(crate::specs::Replies::log_reply))]
+fn log(alloc: Global, editor: &mut Editor) -> Result<Vec<u8>, AllocError>
+    ensures text { IfOk result (λ bytes. bytes.items ≡ log_reply editor.old) }
+    ensures after { editor.new ≡ editor.old }
+{
+    match editor.log(alloc) {
+        Ok(text) => Ok(text),
+        Err(LogFault::LogCut) => b"! 8 log cut\n".to_vec(alloc),
+        Err(LogFault::Memory) => Err(AllocError),
+    }
+}
+
 // Takes an act, and answers it.
 fn take(
     alloc: Global,
@@ -230,6 +242,7 @@ fn take(
         Act::Tree => view(alloc, editor, &ViewKind::Tree),
         Act::Points => view(alloc, editor, &ViewKind::Points),
         Act::Stat => view(alloc, editor, &ViewKind::Stat),
+        Act::Log => log(alloc, editor),
     }
 }
 

@@ -4,7 +4,7 @@ ghost use Rattle.std.specs.Prelude.{◌≡◌, ◌↔◌, ◌==◌, IfSome, posi
 ghost use Rattle.std.specs.Option.{option_map};
 ghost use Rattle.std.specs.Char.{is_ascii_alphanumeric};
 ghost use Rattle.std.specs.List.{list_all};
-ghost use Rattle.hedit.specs.Block.{lines_of, end_of, is_word, opening_word, cut_at, block_cut, block_of, Block, IsBlock, shown};
+ghost use Rattle.hedit.specs.Block.{lines_of, end_of, is_word, opening_word, cut_at, block_cut, block_of, Block, IsBlock, ActsWithin, shown};
 
 use std::marker::Copy;
 
@@ -42,6 +42,7 @@ pub fn line_end(text: &[u8]) -> usize
 pub fn after_line(text: &[u8], end: usize) -> &[u8]
     ensures value { result.now ≡ drop (end + 1) text.now }
     ensures shorter { 0 < length text.now → length result.now < length text.now }
+    ensures within { length result.now ≤ length text.now }
 {
     if end < text.len() {
         &text[end + 1..]
@@ -72,7 +73,8 @@ fn read_opening(line: &[u8]) -> Option<&[u8]>
 
 // Parts the lines after the opening one at the first that equals the word.
 fn part_lines<'a>(lines: &'a [u8], word: &[u8]) -> PageBlock<'a>
-    ensures { shown result ≡ block_cut (cut_at word.now (lines_of lines.now)) }
+    ensures shown { shown result ≡ block_cut (cut_at word.now (lines_of lines.now)) }
+    ensures within { ActsWithin (length lines.now) result }
 {
     let mut at = 0;
     while at < lines.len() {
@@ -94,6 +96,7 @@ fn part_lines<'a>(lines: &'a [u8], word: &[u8]) -> PageBlock<'a>
 pub fn read_block(input: &[u8]) -> PageBlock<'_>
     ensures computed { shown result ≡ block_of input.now }
     ensures grammar { (block : Block) → (shown result ≡ block) ↔ IsBlock (lines_of input.now) block }
+    ensures within { ActsWithin (length input.now) result }
 {
     let end = line_end(input);
     match read_opening(&input[..end]) {

@@ -1,6 +1,7 @@
 //! hedit: reads an HTML page and a session of acts on it, and answers them.
 //!
-//! `hedit run` reads a session from standard input, and `hedit check` a bare page. What is written and which status ends
+//! `hedit run` reads a session from standard input, `hedit replay` a page and the steps of a log, and `hedit check` a bare page;
+//! `hedit bulk N` reads nothing, and makes a session of its own. What is written and which status ends
 //! the program is proved at [`session::run_session`].
 #![tactic(auto)]
 
@@ -8,6 +9,7 @@ mod acts;
 mod block;
 #[cfg(test)]
 mod block_tests;
+mod bulk;
 #[cfg(test)]
 mod deletion_tests;
 mod denials;
@@ -17,6 +19,9 @@ mod editing_tests;
 mod formatting_tests;
 #[cfg(test)]
 mod object_tests;
+mod replay;
+#[cfg(test)]
+mod replay_tests;
 mod reply;
 mod session;
 #[cfg(test)]

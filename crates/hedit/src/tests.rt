@@ -231,15 +231,23 @@ const EDITING: &str =
 const EDITED: &str =
     "ok\nok\ntrue\nanchor 0/0/0:1\nfocus 0/0/0:1\nmark m 0/0/0:0 0/0/0:1\ntrue\nundo 1\nanchor 0/0/0/0:1\nfocus 0/0/0/0:1\nmark m 0/0/0/0:0 0/0/0/0:1\nredo 1\nanchor 0/0/0:1\nfocus 0/0/0:1\nmark m 0/0/0:0 0/0/0:1\n";
 
-// The session from a source of pieces of seven bytes that fails at one call, into a sink of pieces of five that does so.
+// The stored session: bold in the middle of a text, and all that is printed of it.
+const BOLD: &str =
+    "page <<END\n<div contenteditable=\"true\"><p>foobar</p></div>\nEND\nselect 0/0/0:1 0/0/0:4\nexec bold\nhtml\ntree\npoints\nstat\n";
+
+const MADE_BOLD: &str =
+    "ok\ntrue\n<div contenteditable=\"true\"><p>f<b>oob</b>ar</p></div>\n<div contenteditable=\"true\">\n  <p>\n    \"f\"\n    <b>\n      \"oob\"\n    \"ar\"\nanchor 0/0/1/0:0\nfocus 0/0/1/0:3\nnodes 7 chars 6 next 7 edits 6 undo 1 redo 0\n";
+
+// A session from a source of pieces of seven bytes that fails at one call, into a sink of pieces of five that does so.
 fn answer_failing(
     alloc: Global,
+    session: &str,
     read: u64,
     write: u64,
 ) -> Result<(Status, MemorySource, MemorySink), AllocError> {
     let words = words_of(alloc, ["run"].as_slice())?;
     let mut source = MemorySource {
-        bytes: EDITING.as_bytes().to_vec(alloc)?,
+        bytes: session.as_bytes().to_vec(alloc)?,
         at: 0,
         piece: 7,
         failing: [read].to_vec(alloc)?,
@@ -257,18 +265,20 @@ fn answer_failing(
 
 #[test]
 fn answers_at_each_failing_call(rt: HostRuntime) -> Result<(), Fail> {
-    let (status, source, sink) = answer_failing(rt.alloc(), 1000, 1000)?;
-    assert_eq!(rt; status, Status::Done);
-    assert_eq!(rt; sink.taken.as_slice(), EDITED.as_bytes());
-    for k in 0..source.calls {
-        let (status, _, sink) = answer_failing(rt.alloc(), k, 1000)?;
-        assert_eq!(rt; status, Status::ReadFault, "reading {k}");
-        assert_eq!(rt; sink.taken.len(), 0, "reading {k}");
-    }
-    for k in 0..sink.calls {
-        let (status, _, failed) = answer_failing(rt.alloc(), 1000, k)?;
-        assert_eq!(rt; status, Status::WriteFault, "writing {k}");
-        assert!(rt; EDITED.as_bytes().starts_with(&failed.taken), "writing {k}");
+    for (session, answer) in [(EDITING, EDITED), (BOLD, MADE_BOLD)] {
+        let (status, source, sink) = answer_failing(rt.alloc(), session, 1000, 1000)?;
+        assert_eq!(rt; status, Status::Done);
+        assert_eq!(rt; sink.taken.as_slice(), answer.as_bytes());
+        for k in 0..source.calls {
+            let (status, _, sink) = answer_failing(rt.alloc(), session, k, 1000)?;
+            assert_eq!(rt; status, Status::ReadFault, "reading {k}");
+            assert_eq!(rt; sink.taken.len(), 0, "reading {k}");
+        }
+        for k in 0..sink.calls {
+            let (status, _, failed) = answer_failing(rt.alloc(), session, 1000, k)?;
+            assert_eq!(rt; status, Status::WriteFault, "writing {k}");
+            assert!(rt; answer.as_bytes().starts_with(&failed.taken), "writing {k}");
+        }
     }
     Ok(())
 }

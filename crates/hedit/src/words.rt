@@ -4,7 +4,7 @@ ghost use Rattle.std.specs.Prelude.{◌≡◌, ◌↔◌, map, string_bytes, Som
 ghost use Rattle.std.specs.Option.{option_map};
 ghost use Rattle.hedit.specs.Denials.{names_in, names_of};
 ghost use Rattle.hedit.specs.Words as grammar;
-ghost use Rattle.hedit.specs.Words.{amount_of, is_given, given_in, limits_of, limits_in, order_in, choice_of, with_choice, setting_named, setting_read, joined_read, options_read, order_of, IsOrder};
+ghost use Rattle.hedit.specs.Words.{reads_input, amount_of, is_given, given_in, limits_of, limits_in, order_in, bulk_count_of, usual_limits, none_given, lone_order, bulk_order, plain_order, choice_of, with_choice, setting_named, setting_read, joined_read, options_read, order_of, IsOrder};
 
 use crate::denials::are_names;
 use script_read::read_number;
@@ -17,6 +17,10 @@ pub enum Order<'a> {
     Run(Limits<'a>),
     /// To read a page and write its numbers.
     Check,
+    /// To apply step lines to a page.
+    Replay,
+    /// To run a session on a page of so many paragraphs, which isn't read.
+    Bulk(u32),
 }
 
 /// What bounds a session: labels stay below `cap`, `undo` entries are kept for undo, and the commands are denied whose names
@@ -50,6 +54,27 @@ const GREATEST_UNDO: u32 = 1000;
 
 const USUAL_UNDO: u32 = 100;
 
+const GREATEST_BULK: u32 = 5000;
+
+impl Order<'_> {
+    /// Whether it reads the input.
+    pub fn reads_input(self) -> bool
+        ensures { result ≡ reads_input (order_in self.entry) }
+    {
+        match self {
+            Order::Run(_) | Order::Check | Order::Replay => true,
+            Order::Bulk(_) => false,
+        }
+    }
+}
+
+/// The limits of a session without options.
+pub(crate) fn usual_limits() -> Limits<'static>
+    ensures { limits_in result ≡ usual_limits }
+{
+    Options::none().limits()
+}
+
 impl<'a> Options<'a> {
     fn has(&self, setting: Setting) -> bool
         ensures { result ≡ is_given (given_in self.now) setting }
@@ -58,6 +83,16 @@ impl<'a> Options<'a> {
             Setting::Cap => self.cap.is_some(),
             Setting::Undo => self.undo.is_some(),
             Setting::Deny => self.deny.is_some(),
+        }
+    }
+
+    fn none() -> Options<'a>
+        ensures { given_in result ≡ none_given }
+    {
+        Options {
+            cap: None,
+            undo: None,
+            deny: None,
         }
     }
 
@@ -164,6 +199,48 @@ fn read_options<'a>(options: Options<'a>, words: &'a [String]) -> Option<Options
     }
 }
 
+// How many paragraphs a text asks for.
+fn read_bulk_count(text: &str) -> Option<u32>
+    ensures { result ≡ bulk_count_of text.now }
+{
+    if text.len() <= 4 {
+        read_amount(text, GREATEST_BULK)
+    } else {
+        None
+    }
+}
+
+// The order of one word.
+fn lone_order<'a>(word: &str) -> Option<Order<'a>>
+    ensures { option_map order_in result ≡ lone_order word.now }
+{
+    match word {
+        "check" => Some(Order::Check),
+        "replay" => Some(Order::Replay),
+        _ => None,
+    }
+}
+
+fn bulk_order<'a>(word: &str, text: &str) -> Option<Order<'a>>
+    ensures { option_map order_in result ≡ bulk_order word.now text.now }
+{
+    if word != "bulk" {
+        return None;
+    }
+    Some(Order::Bulk(read_bulk_count(text)?))
+}
+
+// The order of a first word that takes no options, and the words after it.
+fn plain_order<'a>(word: &str, words: &'a [String]) -> Option<Order<'a>>
+    ensures { option_map order_in result ≡ plain_order word.now (map string_bytes words.now) }
+{
+    match words {
+        [] => lone_order(word),
+        [text] => bulk_order(word, text.as_str()),
+        _ => None,
+    }
+}
+
 /// The order that the words ask for, or None where they are not in the grammar. It takes no memory.
 #[tactic(auto, using(crate::proofs::WordsLemmas::grammar_of, crate::proofs::WordsLemmas::one_order))]
 pub fn read_words(words: &[String]) -> Option<Order<'_>>
@@ -173,18 +250,11 @@ pub fn read_words(words: &[String]) -> Option<Order<'_>>
 {
     match words {
         [first, rest @ ..] if first.as_str() == "run" => {
-            let options = read_options(
-                Options {
-                    cap: None,
-                    undo: None,
-                    deny: None,
-                },
-                rest,
-            )?;
+            let options = read_options(Options::none(), rest)?;
             Some(Order::Run(options.limits()))
         }
-        [only] if only.as_str() == "check" => Some(Order::Check),
-        _ => None,
+        [first, rest @ ..] => plain_order(first.as_str(), rest),
+        [] => None,
     }
 }
 
@@ -215,6 +285,20 @@ mod tests {
         let cases = [
             ("run", order(2_000_000, 100)),
             ("check", Some(Order::Check)),
+            ("replay", Some(Order::Replay)),
+            ("bulk 1", Some(Order::Bulk(1))),
+            ("bulk 5000", Some(Order::Bulk(5000))),
+            ("bulk 0042", Some(Order::Bulk(42))),
+            ("replay replay", None),
+            ("replay --cap 7", None),
+            ("bulk", None),
+            ("bulk 0", None),
+            ("bulk 5001", None),
+            ("bulk 00042", None),
+            ("bulk -1", None),
+            ("bulk 3 3", None),
+            ("bulk --undo=3 3", None),
+            ("check 3", None),
             ("run --cap 7", order(7, 100)),
             ("run --cap=7 --undo=1000", order(7, 1000)),
             ("run --undo 000000001 --cap 2000000", order(2_000_000, 1)),

@@ -2,8 +2,8 @@ use Rattle.std.proofs.lemmas.List.{take_rest}
 use Rattle.hedit.proofs.BlockLemmas.{step-found, step-more}
 use Rattle.hedit.proofs.block.part_lines.Goals as goal
 
-pub returns-then-eq : goal.returns-then-eq
-returns-then-eq c =
+pub returns-then-eq-clause-shown : goal.returns-then-eq-clause-shown
+returns-then-eq-clause-shown c =
     step-found c.args.word.now c.args.lines.now _ c.after_line-next.result.now c.loop-at.at c.line_end-end.result c.saturating_sub.result c.loop-at.invariant
     (record {
       inside = c.loop-at-test.true;

@@ -9,5 +9,5 @@ returns-in_err-options-in-len1-up-clause-grammar c = grammar_of _ (map string_by
 pub returns-in_ok-options-in-len1-up-clause-grammar : goal.returns-in_ok-options-in-len1-up-clause-grammar
 returns-in_ok-options-in-len1-up-clause-grammar c = grammar_of _ (map string_bytes c.args.words.now) (grind (arith, common_steps))
 
-pub returns-in-len1-clause-grammar : goal.returns-in-len1-clause-grammar
-returns-in-len1-clause-grammar c = grammar_of _ (map string_bytes c.args.words.now) (grind (arith, common_steps))
+pub returns-in-len1-up-2-clause-grammar : goal.returns-in-len1-up-2-clause-grammar
+returns-in-len1-up-2-clause-grammar c = grammar_of _ (map string_bytes c.args.words.now) (grind (arith, common_steps))
