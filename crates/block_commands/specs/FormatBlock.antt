@@ -8,7 +8,7 @@ use Rattle.dom_model.specs.Contents.{has_name}
 use Rattle.dom_model.specs.Forest.{Forest, parent_of, children_of, first_in}
 use Rattle.html_names.specs.ElementNames as names
 use Rattle.node_styles.specs.Allowed.{allowed_in_name}
-use Rattle.node_styles.specs.Lineage.{Kin, lineage}
+use Rattle.node_styles.specs.Lineage.{Ancestor, lineage}
 use Rattle.node_styles.specs.NameClasses.{is_formattable_block, is_non_list_single_line, is_single_line}
 use Rattle.edit_model.specs.State.{State}
 use Rattle.edit_model.specs.Confined.{is_editable_for}
@@ -52,7 +52,7 @@ is_formatted s l = is_editable_for s l && (is_line s.trees l && not (is_above_pr
 unfoldable pub is_outer_block : State → ℕ → Bool
 is_outer_block s e = is_editable_for s e && (is_formattable_block s.trees e && not (is_above_prohibited s.trees e))
 
-abbrev pub lineage_at : Forest Content → Option ℕ → List Kin
+abbrev pub lineage_at : Forest Content → Option ℕ → List Ancestor
 lineage_at f None = []
 lineage_at f (Some p) = lineage f p
 

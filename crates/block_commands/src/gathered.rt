@@ -3,7 +3,7 @@
 ghost use Rattle.std.specs.Prelude.{◌≡◌, ◌<◌, IfOk, filter};
 ghost use Rattle.dom_model.specs.Forest.{count_of};
 ghost use Rattle.edit_model.specs.Gives.{labels_of};
-ghost use Rattle.edit_model.specs.Lawful.{IsPlacedPair};
+ghost use Rattle.edit_model.specs.Valid.{IsPlacedPair};
 ghost use Rattle.edit_doc.specs.Held.{EachHeld};
 ghost use Rattle.block_commands.specs.Gathered as gathered;
 
@@ -50,7 +50,7 @@ pub(crate) fn outermost<C: Choice<Doc>>(
     ensures held { IfOk result (λ list. EachHeld doc.now list) }
     ensures nodes { IfOk result (λ list. labels_of list ≡ gathered.outermost (C.chosen choice.now doc.now) doc.now.state) }
 {
-    doc.lawful();
+    doc.valid();
     match doc.points().selection() {
         Some(pair) => outermost_in(alloc, doc, extended(doc, pair), choice),
         None => NodeList::from_slice(alloc, &[]),
@@ -104,7 +104,7 @@ pub(crate) fn contained<C: Choice<Doc>>(
     ensures held { IfOk result (λ list. EachHeld doc.now list.items) }
     ensures nodes { IfOk result (λ list. labels_of list.items ≡ gathered.contained (C.chosen choice.now doc.now) doc.now.state) }
 {
-    doc.lawful();
+    doc.valid();
     match doc.points().selection() {
         Some(pair) => contained_in(alloc, doc, extended(doc, pair), choice),
         None => Ok(Vec::new(alloc)),

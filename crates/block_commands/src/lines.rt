@@ -49,7 +49,7 @@ pub(crate) fn has_outer_block(doc: &Doc, node: NodeRef) -> bool
     requires { Holds doc.now node }
     ensures { result ≡ format.has_outer_block doc.now.state node.label }
 {
-    doc.lawful();
+    doc.valid();
     let mut at = doc.parent(node);
     while let Some(above) = at {
         if is_outer_block(doc, above) {

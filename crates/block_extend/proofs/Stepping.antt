@@ -8,14 +8,14 @@ use Rattle.dom_model.proofs.Few.{some_nodes}
 use Rattle.dom_model.proofs.Indexes.{index_of_low}
 use Rattle.node_arena.specs.declared.NodeRef.{NodeRef}
 use Rattle.node_arena.specs.Held.{label}
-use Rattle.node_arena.specs.Reads.{IsLawful, Names}
+use Rattle.node_arena.specs.Reads.{IsValid, Names}
 use Rattle.node_tests.specs.BlockPoints.{child_before, child_at}
 use Rattle.block_extend.specs.Gaps.{Stands}
 use Rattle.block_extend.specs.declared.places.Place.{Place}
 use Rattle.node_tests.proofs.Reaching.{at_child}
 use Rattle.block_extend.proofs.Kids.{kid_next, kid_prev, own_index, before_at}
 
-module _ {holds : NodeRef → Type 0} {f : Forest Content} {upper : ℕ} (law : IsLawful holds f upper) where
+module _ {holds : NodeRef → Type 0} {f : Forest Content} {upper : ℕ} (law : IsValid holds f upper) where
   -- the index of a node and one more are numbers of 32 bits
   pub index_fits : (r : NodeRef) → holds r → index_of f r.label + 1 < 2 ^ 32
   index_fits r held =

@@ -4,7 +4,7 @@ use Rattle.dom_model.specs.declared.Content.{Content}
 use Rattle.dom_model.specs.Forest.{Forest, content_of, first_of, next_of}
 use Rattle.node_arena.specs.declared.NodeRef.{NodeRef}
 use Rattle.node_arena.specs.Held.{label}
-use Rattle.node_arena.specs.Reads.{IsLawful, Names}
+use Rattle.node_arena.specs.Reads.{IsValid, Names}
 use Rattle.node_paths.specs.Onward.{onward_at, IsInner}
 use Rattle.node_paths.proofs.Visiting.{Visit, visit, size_from}
 use Rattle.block_extend.specs.Prohibited.{is_prohibited, has_prohibited}
@@ -14,7 +14,7 @@ pub record At (holds : NodeRef → Type 0) (f : Forest Content) (o : Option Node
   pub held : IfSome o holds
   pub inner : IsInner f (label o)
 
-module _ {holds : NodeRef → Type 0} {f : Forest Content} {upper : ℕ} (law : IsLawful holds f upper) where
+module _ {holds : NodeRef → Type 0} {f : Forest Content} {upper : ℕ} (law : IsValid holds f upper) where
   pub visited : (r : NodeRef) → At holds f (Some r) → (c : Content) → content_of f r.label ≡ Some c → Visit f r.label c
   visited r at c content = visit f r.label c law.distinct (law.here r at.held) at.inner content
 

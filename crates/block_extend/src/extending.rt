@@ -136,7 +136,7 @@ fn extended_start<N: Nodes>(nodes: &N, point: Point) -> Point
     ensures point { result ≡ extend.extended_start (N.trees nodes.now) point }
     ensures here { 0 < count_of (N.trees nodes.now) result.label }
 {
-    nodes.lawful();
+    nodes.valid();
     let start = to_block_start(nodes, before_item(nodes, point));
     let at = walk(nodes, Way::OutBefore, start);
     point_of(at)
@@ -149,7 +149,7 @@ fn extended_end<N: Nodes>(nodes: &N, point: Point) -> Point
     ensures point { result ≡ extend.extended_end (N.trees nodes.now) point }
     ensures here { 0 < count_of (N.trees nodes.now) result.label }
 {
-    nodes.lawful();
+    nodes.valid();
     let end = to_block_end(nodes, after_item(nodes, point));
     let at = walk(nodes, Way::OutAfter, end);
     point_of(at)

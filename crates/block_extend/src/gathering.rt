@@ -67,7 +67,7 @@ fn gather<N: Nodes, C: Choice<N>>(
     ensures nodes { IfOk result (λ kept. map (λ r. r.label) kept ≡ gather (N.trees nodes.now) (filter (C.chosen choice.now nodes.now) (map (λ r. r.label) list.now))) }
     ensures held { IfOk result (λ kept. All (N.holds nodes.now) kept) }
 {
-    nodes.lawful();
+    nodes.valid();
     let mut kept = Vec::new(alloc);
     let mut last = None;
     for node in list {

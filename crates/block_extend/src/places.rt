@@ -47,7 +47,7 @@ fn child_at<N: Nodes>(nodes: &N, node: NodeRef, offset: u32) -> Option<NodeRef>
     requires { N.holds nodes.now node }
     ensures { Names (N.holds nodes.now) result (points.child_at (N.trees nodes.now) node.label offset) }
 {
-    nodes.lawful();
+    nodes.valid();
     let mut child = nodes.first_child(node);
     let mut index: u32 = 0;
     while index < offset {
@@ -92,7 +92,7 @@ pub(crate) fn place_before<N: Nodes>(nodes: &N, node: NodeRef) -> Option<Place>
     requires { N.holds nodes.now node }
     ensures { Leads (N.holds nodes.now) (N.trees nodes.now) result (extend.out_of (N.trees nodes.now) node.label 0) }
 {
-    nodes.lawful();
+    nodes.valid();
     match nodes.parent(node) {
         Some(parent) => Some(Place {
             node: parent,
@@ -109,7 +109,7 @@ pub(crate) fn place_after<N: Nodes>(nodes: &N, node: NodeRef) -> Option<Place>
     requires { N.holds nodes.now node }
     ensures { Leads (N.holds nodes.now) (N.trees nodes.now) result (extend.out_of (N.trees nodes.now) node.label 1) }
 {
-    nodes.lawful();
+    nodes.valid();
     match nodes.parent(node) {
         Some(parent) => Some(Place {
             node: parent,
@@ -129,7 +129,7 @@ fn one_back<N: Nodes>(nodes: &N, at: Place) -> Place
     ensures node { result.node ≡ at.node }
     ensures offset { result.offset ≡ at.offset - 1 }
 {
-    nodes.lawful();
+    nodes.valid();
     match at.before {
         Some(child) => Place {
             node: at.node,
@@ -149,7 +149,7 @@ fn one_forth<N: Nodes>(nodes: &N, at: Place) -> Place
     ensures node { result.node ≡ at.node }
     ensures offset { result.offset ≡ at.offset + 1 }
 {
-    nodes.lawful();
+    nodes.valid();
     match at.after {
         Some(child) => Place {
             node: at.node,
@@ -169,7 +169,7 @@ fn is_before_end<N: Nodes>(nodes: &N, at: Place) -> bool
     requires { Stands (N.holds nodes.now) (N.trees nodes.now) at }
     ensures { IsTrue result ↔ (at.offset < length_of (N.trees nodes.now) at.node.label) }
 {
-    nodes.lawful();
+    nodes.valid();
     match at.after {
         Some(_) => true,
         None => at.offset < nodes.length(at.node),

@@ -23,7 +23,7 @@ fn has_prohibited<N: Nodes>(nodes: &N, first: Option<NodeRef>) -> bool
     requires inner { IsInner (N.trees nodes.now) (label first) }
     ensures { result ≡ has_prohibited (onward_at (N.trees nodes.now) (label first)) }
 {
-    nodes.lawful();
+    nodes.valid();
     let mut at = first;
     while let Some(node) = at {
         if is_prohibited(nodes.content(node)) {
@@ -43,6 +43,6 @@ pub fn is_above_prohibited<N: Nodes>(nodes: &N, node: NodeRef) -> bool
     requires { N.holds nodes.now node }
     ensures { result ≡ is_above_prohibited (N.trees nodes.now) node.label }
 {
-    nodes.lawful();
+    nodes.valid();
     has_prohibited(nodes, nodes.first_child(node))
 }

@@ -17,27 +17,27 @@ use Rattle.edit_model.specs.State.{State}
 use Rattle.edit_model.specs.Compositions.{set_tag_name}
 use Rattle.edit_model.specs.Confined.{is_editable_for, is_inside}
 use Rattle.edit_model.specs.Kept.{borne_by, is_thing}
-use Rattle.edit_model.specs.Lawful.{IsLawful}
+use Rattle.edit_model.specs.Valid.{IsValid}
 use Rattle.edit_model.specs.Run.{final, done}
 use Rattle.edit_model.proofs.Steps.{final-look}
 use Rattle.edit_laws.specs.MoveLaws.{IsBare}
 use Rattle.edit_laws.specs.Order.{KeepsOrder, IsKeeping}
 use Rattle.edit_laws.specs.Stateless.{Stateless}
-use Rattle.edit_laws.specs.Tame.{Tame}
+use Rattle.edit_laws.specs.OrderPreserving.{OrderPreserving}
 use Rattle.edit_laws.proofs.Renaming.{tag_name_keeps}
 use Rattle.edit_laws.proofs.StatelessRuns.{stateless_parts, stateless_bind, stateless_answer}
-use Rattle.edit_laws.proofs.Tame.{tame, tame_answer, tame_bind}
+use Rattle.edit_laws.proofs.OrderPreserving.{order_preserving, order_preserving_answer, order_preserving_bind}
 use Rattle.wrap_split.specs.declared.rule.Criterion.TheVariants.{Named}
 use Rattle.wrap_split.specs.declared.rule.Recipe.TheVariants.{Make}
 use Rattle.edit_query.specs.Rows.{container_name}
 use Rattle.inline_value.specs.Ancestors.{is_prohibited, has_place, lifted, lift, is_description, description_list, wrap_description, hosts_none, split_out, part_child, part_children, lift_renamed, rename, replace_misplaced, fix_ancestors}
-use Rattle.command_laws.proofs.FormatRuns.{tame_split_once, stateless_split_once}
+use Rattle.command_laws.proofs.FormatRuns.{order_preserving_split_once, stateless_split_once}
 use Rattle.command_laws.proofs.HostLine.{host_among}
-use Rattle.command_laws.proofs.PushingRuns.{tame_record_values, tame_restore_values, stateless_record_values, stateless_restore_values}
-use Rattle.command_laws.proofs.Splitting.{then_tame_on, tame_split_one}
+use Rattle.command_laws.proofs.PushingRuns.{order_preserving_record_values, order_preserving_restore_values, stateless_record_values, stateless_restore_values}
+use Rattle.command_laws.proofs.Splitting.{then_order_preserving_on, order_preserving_split_one}
 use Rattle.command_laws.proofs.StatelessSplits.{stateless_split}
 use Rattle.command_laws.proofs.StatelessWraps.{stateless_wrap}
-use Rattle.command_laws.proofs.Wrapping.{tame_wrap_one}
+use Rattle.command_laws.proofs.Wrapping.{order_preserving_wrap_one}
 
 -- ---- where a paragraph may stand, a rule may
 
@@ -90,7 +90,7 @@ prohibited_img : is_prohibited_child (codes "img") ≡ false
 unfolding is_prohibited_child prohibited_child_names
 prohibited_img = refl
 
-module _ (s : State) (is : IsLawful s) (n : ℕ) (editable : is_editable_for s n ≡ true) (placeless : has_place s n ≡ false) (hosts : hosts_none s ≡ false) where
+module _ (s : State) (is : IsValid s) (n : ℕ) (editable : is_editable_for s n ≡ true) (placeless : has_place s n ≡ false) (hosts : hosts_none s ≡ false) where
   -- a rule has a place, since a paragraph may stand in the host
   rule_placed : (attributes : List Attribute) → content_of s.trees n ≡ Some (Element (codes "hr") attributes) → has_place s n ≡ true
   unfolding has_place is_inside hosts_none allowed_in
@@ -126,33 +126,33 @@ module _ (s : State) (is : IsLawful s) (n : ℕ) (editable : is_editable_for s n
 
 -- ---- the order
 
-tame_lifted : (n : ℕ) → Tame (lifted n)
+order_preserving_lifted : (n : ℕ) → OrderPreserving (lifted n)
 unfolding lifted
-tame_lifted n = search (tame, tame_split_once)
+order_preserving_lifted n = search (order_preserving, order_preserving_split_once)
 
-tame_lift : (n : ℕ) → Tame (lift n)
+order_preserving_lift : (n : ℕ) → OrderPreserving (lift n)
 unfolding lift
-tame_lift n = search (tame, tame_record_values, tame_lifted, tame_restore_values)
+order_preserving_lift n = search (order_preserving, order_preserving_record_values, order_preserving_lifted, order_preserving_restore_values)
 
-tame_description : (n : ℕ) → Tame (wrap_description n)
+order_preserving_description : (n : ℕ) → OrderPreserving (wrap_description n)
 unfolding wrap_description
-tame_description n = tame_bind _ (λ _. done) (tame_wrap_one (Named (codes "dl") true) (Make description_list) n refl refl) (λ _. tame_answer tt)
+order_preserving_description n = order_preserving_bind _ (λ _. done) (order_preserving_wrap_one (Named (codes "dl") true) (Make description_list) n refl refl) (λ _. order_preserving_answer tt)
 
-tame_split_out : (k : ℕ) → Tame (split_out k)
+order_preserving_split_out : (k : ℕ) → OrderPreserving (split_out k)
 unfolding split_out
-tame_split_out k = search (tame, tame_record_values, tame_split_one, tame_restore_values)
+order_preserving_split_out k = search (order_preserving, order_preserving_record_values, order_preserving_split_one, order_preserving_restore_values)
 
-tame_part_child : (k : ℕ) → Tame (part_child k)
+order_preserving_part_child : (k : ℕ) → OrderPreserving (part_child k)
 unfolding part_child
-tame_part_child k = search (tame, tame_split_out)
+order_preserving_part_child k = search (order_preserving, order_preserving_split_out)
 
-tame_part_children : (n : ℕ) → Tame (part_children n)
+order_preserving_part_children : (n : ℕ) → OrderPreserving (part_children n)
 unfolding part_children
-tame_part_children n = search (tame, tame_part_child)
+order_preserving_part_children n = search (order_preserving, order_preserving_part_child)
 
-tame_lift_renamed : (n : ℕ) → Tame (lift_renamed n)
+order_preserving_lift_renamed : (n : ℕ) → OrderPreserving (lift_renamed n)
 unfolding lift_renamed
-tame_lift_renamed n = search (tame, tame_lift, tame_part_children)
+order_preserving_lift_renamed n = search (order_preserving, order_preserving_lift, order_preserving_part_children)
 
 container_plain : (v : Bool) → is_thing (container_name v) ≡ false
 container_plain true = refl
@@ -162,25 +162,25 @@ rename_keeps : (n : ℕ) (s : State) → IsKeeping s → IsBare s n → KeepsOrd
 unfolding rename
 rename_keeps n s is bare =
     rw final-look
-    (then_tame_on (set_tag_name n (container_name s.flags.paragraphs)) lift_renamed s is (tag_name_keeps n (container_name s.flags.paragraphs) s is bare (container_plain s.flags.paragraphs)) tame_lift_renamed)
+    (then_order_preserving_on (set_tag_name n (container_name s.flags.paragraphs)) lift_renamed s is (tag_name_keeps n (container_name s.flags.paragraphs) s is bare (container_plain s.flags.paragraphs)) order_preserving_lift_renamed)
 
 replace_keeps : (n : ℕ) (s : State) → IsKeeping s → is_editable_for s n ≡ true → has_place s n ≡ false → KeepsOrder s (final (replace_misplaced n) s)
 unfolding replace_misplaced
 replace_keeps n s is editable placeless = rw final-look (by_test (is_description s n) (hosts_none s) (is_prohibited s n) refl refl)
   where
     by_test : (u v w : Bool) → hosts_none s ≡ v → is_prohibited s n ≡ w → KeepsOrder s (final (if u then wrap_description n else (if v || not w then done else rename n)) s)
-    by_test true v w e k = (tame_description n).keeps s is
-    by_test false true w e k = (tame_answer tt).keeps s is
-    by_test false false false e k = (tame_answer tt).keeps s is
-    by_test false false true e k = rename_keeps n s is (renamed_bare s is.lawful n editable placeless e k)
+    by_test true v w e k = (order_preserving_description n).keeps s is
+    by_test false true w e k = (order_preserving_answer tt).keeps s is
+    by_test false false false e k = (order_preserving_answer tt).keeps s is
+    by_test false false true e k = rename_keeps n s is (renamed_bare s is.valid n editable placeless e k)
 
-pub tame_fix_ancestors : (n : ℕ) → Tame (fix_ancestors n)
+pub order_preserving_fix_ancestors : (n : ℕ) → OrderPreserving (fix_ancestors n)
 unfolding fix_ancestors
-tame_fix_ancestors n = record { keeps = λ s is. rw final-look (by_test s is (is_editable_for s n) (has_place s n) refl refl) }
+order_preserving_fix_ancestors n = record { keeps = λ s is. rw final-look (by_test s is (is_editable_for s n) (has_place s n) refl refl) }
   where
     by_test : (s : State) → IsKeeping s → (v w : Bool) → is_editable_for s n ≡ v → has_place s n ≡ w → KeepsOrder s (final (if not v then done else (if w then lift n else replace_misplaced n)) s)
-    by_test s is false w e k = (tame_answer tt).keeps s is
-    by_test s is true true e k = (tame_lift n).keeps s is
+    by_test s is false w e k = (order_preserving_answer tt).keeps s is
+    by_test s is true true e k = (order_preserving_lift n).keeps s is
     by_test s is true false e k = replace_keeps n s is e k
 
 -- ---- the states of contenteditable

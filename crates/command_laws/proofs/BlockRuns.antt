@@ -12,12 +12,12 @@ use Rattle.edit_model.specs.Run.{final, ◌>>◌, done, answer}
 use Rattle.edit_model.proofs.Steps.{final-answer, final-bind, final-look}
 use Rattle.edit_laws.specs.Order.{KeepsOrder, IsKeeping}
 use Rattle.edit_laws.specs.Stateless.{Stateless}
-use Rattle.edit_laws.specs.Tame.{Tame}
+use Rattle.edit_laws.specs.OrderPreserving.{OrderPreserving}
 use Rattle.edit_laws.proofs.QuietActions.{keeping_final}
 use Rattle.edit_laws.proofs.Renaming.{tag_name_keeps}
 use Rattle.edit_laws.proofs.StatelessRuns.{stateless_parts, stateless_answer, stateless_bind, stateless_if, stateless_look_at}
 use Rattle.edit_laws.proofs.Subsequences.{keeps_trans}
-use Rattle.edit_laws.proofs.Tame.{tame_answer}
+use Rattle.edit_laws.proofs.OrderPreserving.{order_preserving_answer}
 use Rattle.wrap_split.specs.declared.rule.Criterion.{Criterion}
 use Rattle.wrap_split.specs.declared.rule.Criterion.TheVariants.{Never, Named, Aligned}
 use Rattle.wrap_split.specs.declared.rule.Recipe.TheVariants.{Make}
@@ -31,9 +31,9 @@ use Rattle.block_commands.specs.Justify.{name_div, drop_plain, clear_alignment, 
 use Rattle.block_commands.specs.Series.{count_series, is_next, is_next_on_line}
 use Rattle.command_laws.specs.WrapLaws.{NamesNoThing}
 use Rattle.command_laws.proofs.Criteria.{no_thing, named_bare}
-use Rattle.command_laws.proofs.PushingRuns.{tame_restore_values, stateless_record_values, stateless_restore_values}
+use Rattle.command_laws.proofs.PushingRuns.{order_preserving_restore_values, stateless_record_values, stateless_restore_values}
 use Rattle.command_laws.proofs.Series.{next_is, next_on_line, series_keeps}
-use Rattle.command_laws.proofs.Splitting.{then_tame, then_tame_on, tame_unwrap}
+use Rattle.command_laws.proofs.Splitting.{then_order_preserving, then_order_preserving_on, order_preserving_unwrap}
 use Rattle.command_laws.proofs.StatelessSplits.{stateless_keeping_children}
 use Rattle.command_laws.proofs.StatelessWraps.{stateless_wrap}
 use Rattle.command_laws.proofs.Unwrapped.{children_stay_together}
@@ -80,7 +80,7 @@ module _ (name : List ℕ) (plain : is_thing name ≡ false) where
   -- a series is wrapped, or the children of a container that went
   wrapped_keeps : (s : State) → IsKeeping s → (list : List ℕ) → ((c : Criterion) → NamesNoThing c → KeepsOrder s (final (wrap c (Make (block name)) list) s)) → KeepsOrder s (final (made_block name list) s)
   unfolding made_block blocks.wrapped
-  wrapped_keeps s is list keeps = then_tame_on (blocks.wrapped name list) fixed s is (by_name (is_apart name)) (λ made. (fit_fixed made).order)
+  wrapped_keeps s is list keeps = then_order_preserving_on (blocks.wrapped name list) fixed s is (by_name (is_apart name)) (λ made. (fit_fixed made).order)
     where
       by_name : (v : Bool) → KeepsOrder s (final (if v then wrap Never (Make (block name)) list else wrap (Named name true) (Make (block name)) list) s)
       by_name true = keeps Never tt
@@ -99,10 +99,10 @@ module _ (name : List ℕ) (plain : is_thing name ≡ false) where
       let children = children_of s.trees n in
       let t : State = final (remove_keeping_children n) s in
       let is_t = keeping_final (remove_keeping_children n) s is in
-      let stay = children_stay_together n s is.lawful in
+      let stay = children_stay_together n s is.valid in
       let made = wrapped_keeps t is_t children (λ c named. together_keeps c (Make (block name)) named plain t is_t children stay.siblings) in
       rw (final-bind, final-look, final-answer, final-bind)
-      (keeps_trans ((tame_unwrap n).keeps s is) (then_tame (made_block name children) _ t is_t made (tame_restore_values _)))
+      (keeps_trans ((order_preserving_unwrap n).keeps s is) (then_order_preserving (made_block name children) _ t is_t made (order_preserving_restore_values _)))
 
   stateless_children : (n : ℕ) (children : List ℕ) → Stateless (format_children name n children)
   unfolding format_children
@@ -119,7 +119,7 @@ module _ (name : List ℕ) (plain : is_thing name ≡ false) where
   fit_series : (list : List ℕ) → Fit (format_series name list)
   unfolding format_series
   fit_series list =
-      fit (record { keeps = λ s is. rw final-look (then_tame _ _ s is (series_block_keeps list s is) (tame_answer _)) })
+      fit (record { keeps = λ s is. rw final-look (then_order_preserving _ _ s is (series_block_keeps list s is) (order_preserving_answer _)) })
       (stateless_look_at _ (λ s. stateless_bind _ _ (stateless_made (take (count_series (is_next_on_line s) list) list)) (λ _. stateless_answer _)))
 
   fit_first : (list : List ℕ) (x : ℕ) → Fit (format_first name list x)
@@ -150,8 +150,8 @@ fit_format_block v = by_name (names.is_formattable_block (block_name v)) refl
     by_name true h = fit_to (block_name v) (block_no_thing (block_name v) h)
     by_name false h = fit_answer false
 
-pub tame_format_block : (v : List ℕ) → Tame (format_block v)
-tame_format_block v = (fit_format_block v).order
+pub order_preserving_format_block : (v : List ℕ) → OrderPreserving (format_block v)
+order_preserving_format_block v = (fit_format_block v).order
 
 pub stateless_format_block : (v : List ℕ) → Stateless (format_block v)
 stateless_format_block v = (fit_format_block v).states
@@ -159,8 +159,8 @@ stateless_format_block v = (fit_format_block v).states
 -- ---- justify, step 1
 
 named_div_keeps : (e : ℕ) (s : State) → IsKeeping s → (v : Bool) → has_name s.trees e (codes "center") ≡ v → KeepsOrder s (final (if v then set_tag_name e (codes "div") >> done else done) s)
-named_div_keeps e s is true h = then_tame (set_tag_name e (codes "div")) done s is (tag_name_keeps e (codes "div") s is (named_bare s e (codes "center") refl h) refl) (tame_answer tt)
-named_div_keeps e s is false h = (tame_answer tt).keeps s is
+named_div_keeps e s is true h = then_order_preserving (set_tag_name e (codes "div")) done s is (tag_name_keeps e (codes "div") s is (named_bare s e (codes "center") refl h) refl) (order_preserving_answer tt)
+named_div_keeps e s is false h = (order_preserving_answer tt).keeps s is
 
 fit_name_div : (e : ℕ) → Fit (name_div e)
 unfolding name_div
@@ -191,7 +191,7 @@ stateless_aligned alignment list = stateless_wrap (Aligned alignment) (Make (ali
 fit_align : (alignment list : List ℕ) → Fit (align_series alignment list)
 unfolding align_series
 fit_align alignment list =
-    fit (record { keeps = λ s is. rw final-look (then_tame _ _ s is (align_keeps alignment list s is) (tame_answer _)) })
+    fit (record { keeps = λ s is. rw final-look (then_order_preserving _ _ s is (align_keeps alignment list s is) (order_preserving_answer _)) })
     (stateless_look_at _ (λ s. stateless_bind _ _ (stateless_aligned alignment (take (count_series (is_next s) list) list)) (λ _. stateless_answer _)))
 
 fit_align_all : (alignment list : List ℕ) → Fit (align_all alignment list)
@@ -206,8 +206,8 @@ fit_justify : (alignment : List ℕ) → Fit (justify alignment)
 unfolding justify
 fit_justify alignment = search (fits, fit_clear_all, fit_align_range)
 
-pub tame_justify : (alignment : List ℕ) → Tame (justify alignment)
-tame_justify alignment = (fit_justify alignment).order
+pub order_preserving_justify : (alignment : List ℕ) → OrderPreserving (justify alignment)
+order_preserving_justify alignment = (fit_justify alignment).order
 
 pub stateless_justify : (alignment : List ℕ) → Stateless (justify alignment)
 stateless_justify alignment = (fit_justify alignment).states

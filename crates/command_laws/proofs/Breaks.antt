@@ -1,17 +1,17 @@
 -- Removing line breaks keeps the order.
 use Rattle.std.proofs.Common.{ℕ}
-use Rattle.edit_laws.specs.Tame.{Tame}
-use Rattle.edit_laws.proofs.Tame.{tame, tame_bind}
+use Rattle.edit_laws.specs.OrderPreserving.{OrderPreserving}
+use Rattle.edit_laws.proofs.OrderPreserving.{order_preserving, order_preserving_bind}
 use Rattle.wrap_split.specs.Breaks.{breaks_before, breaks_at_end, breaks_from}
 
-pub tame_breaks_before : (n : ℕ) → Tame (breaks_before n)
+pub order_preserving_breaks_before : (n : ℕ) → OrderPreserving (breaks_before n)
 unfolding breaks_before
-tame_breaks_before n = search tame
+order_preserving_breaks_before n = search order_preserving
 
-pub tame_breaks_at_end : (n : ℕ) → Tame (breaks_at_end n)
+pub order_preserving_breaks_at_end : (n : ℕ) → OrderPreserving (breaks_at_end n)
 unfolding breaks_at_end
-tame_breaks_at_end n = search tame
+order_preserving_breaks_at_end n = search order_preserving
 
-pub tame_breaks_from : (n : ℕ) → Tame (breaks_from n)
+pub order_preserving_breaks_from : (n : ℕ) → OrderPreserving (breaks_from n)
 unfolding breaks_from
-tame_breaks_from n = search (tame_bind, tame_breaks_before, tame_breaks_at_end)
+order_preserving_breaks_from n = search (order_preserving_bind, order_preserving_breaks_before, order_preserving_breaks_at_end)

@@ -14,7 +14,7 @@ use Rattle.node_tests.specs.SolidNeighbours.{is_extraneous_break}
 use Rattle.edit_model.specs.State.{State}
 use Rattle.edit_model.specs.Confined.{is_editable_for, may_remove}
 use Rattle.edit_model.specs.Edit.{Remove, is_made_edit, trees_after, edited}
-use Rattle.edit_model.specs.Lawful.{IsLawful}
+use Rattle.edit_model.specs.Valid.{IsValid}
 use Rattle.edit_model.specs.Run.{final, ◌>>◌, done, given, remove}
 use Rattle.edit_model.proofs.IslandRuns.{trees_made, trees_left}
 use Rattle.edit_model.proofs.Steps.{final-bind, final-answer, final-look, final-edit}
@@ -73,7 +73,7 @@ module _ (f : Forest Content) (once : IsDistinct f) where
   lower_inside b r m here h e = within_child f b once here m r (parent_of-last f once r m e) h
 
 -- what is removed before o isn't a child of o
-module _ (s : State) (is : IsLawful s) (o p : ℕ) (prev : prev_of s.trees o ≡ Some p) (known : 0 < count_of s.trees p) where
+module _ (s : State) (is : IsValid s) (o p : ℕ) (prev : prev_of s.trees o ≡ Some p) (known : 0 < count_of s.trees p) where
   low_earlier : position s.trees (last_below s p) < position s.trees o
   unfolding last_below
   low_earlier =
@@ -113,7 +113,7 @@ pub undisturbed : (s : State) (o : ℕ) → Undisturbed s s o
 undisturbed s o = record { parent = λ q up. up; children = refl; content = refl }
 
 -- where a node goes that isn't its child
-pub removed_other : (r o : ℕ) (s : State) → IsLawful s → r ≢ o → (parent_of s.trees r ≡ Some o → ⊥) → Undisturbed s (edited (Remove r) s) o
+pub removed_other : (r o : ℕ) (s : State) → IsValid s → r ≢ o → (parent_of s.trees r ≡ Some o → ⊥) → Undisturbed s (edited (Remove r) s) o
 unfolding is_made_edit trees_after
 removed_other r o s is apart other = elim (cases_Bool (may_remove s r)) [
   | inr off ↦ (let e = trees_left (Remove r) s off in record { parent = λ q up. ap (λ f. parent_of f o) e ∙ up; children = ap (λ f. children_of f o) e; content = ap (λ f. content_of f o) e })
@@ -131,10 +131,10 @@ removed_other r o s is apart other = elim (cases_Bool (may_remove s r)) [
       })
 ]
 
-prev_known : (s : State) → IsLawful s → (o p : ℕ) → prev_of s.trees o ≡ Some p → 0 < count_of s.trees p
+prev_known : (s : State) → IsValid s → (o p : ℕ) → prev_of s.trees o ≡ Some p → 0 < count_of s.trees p
 prev_known s is o p e = subst (λ v. IfSome v (λ k. 0 < count_of s.trees k)) e (prev_here s.trees o is.forest.distinct)
 
-pub cleared : (o : ℕ) (s : State) → IsLawful s → Undisturbed s (final (breaks_before o) s) o
+pub cleared : (o : ℕ) (s : State) → IsValid s → Undisturbed s (final (breaks_before o) s) o
 unfolding breaks_before
 cleared o s is = rw final-look (by_prev (prev_of s.trees o) refl)
   where

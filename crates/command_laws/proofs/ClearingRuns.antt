@@ -24,62 +24,62 @@ use Rattle.edit_model.proofs.Steps.{final-look}
 use Rattle.edit_laws.specs.MoveLaws.{IsBare}
 use Rattle.edit_laws.specs.Order.{KeepsOrder, IsKeeping}
 use Rattle.edit_laws.specs.Stateless.{Stateless}
-use Rattle.edit_laws.specs.Tame.{Tame}
+use Rattle.edit_laws.specs.OrderPreserving.{OrderPreserving}
 use Rattle.edit_laws.proofs.Renaming.{tag_name_keeps}
 use Rattle.edit_laws.proofs.StatelessRuns.{stateless_parts, stateless_bind, stateless_answer, stateless_edit, stateless_if, stateless_look_at}
-use Rattle.edit_laws.proofs.Tame.{tame, tame_answer}
+use Rattle.edit_laws.proofs.OrderPreserving.{order_preserving, order_preserving_answer}
 use Rattle.edit_laws.proofs.Unwrapping.{unwrap_keeps, stateless_unwrap}
 use Rattle.wrap_split.specs.Split.{is_void_thing}
 use Rattle.inline_value.specs.Clearing.{write_words, drop_line, drop_word, drop_property, hint_of, drop_attribute, drop_hint, drop_link, span_for, stripped, unwrapped, clear_value}
 use Rattle.command_laws.proofs.Criteria.{modifiable_bare}
-use Rattle.command_laws.proofs.Splitting.{then_tame, then_tame_on}
-use Rattle.command_laws.proofs.StylingRuns.{tame_set_style, tame_unset_style, stateless_set_style, stateless_unset_style}
+use Rattle.command_laws.proofs.Splitting.{then_order_preserving, then_order_preserving_on}
+use Rattle.command_laws.proofs.StylingRuns.{order_preserving_set_style, order_preserving_unset_style, stateless_set_style, stateless_unset_style}
 
 -- ---- the order
 
-tame_words : (e : ℕ) (text : List ℕ) → Tame (write_words e text)
+order_preserving_words : (e : ℕ) (text : List ℕ) → OrderPreserving (write_words e text)
 unfolding write_words
-tame_words e text = search (tame, tame_set_style, tame_unset_style)
+order_preserving_words e text = search (order_preserving, order_preserving_set_style, order_preserving_unset_style)
 
-tame_line : (line : DecorationLine) (e : ℕ) → Tame (drop_line line e)
+order_preserving_line : (line : DecorationLine) (e : ℕ) → OrderPreserving (drop_line line e)
 unfolding drop_line
-tame_line line e = search (tame, tame_words)
+order_preserving_line line e = search (order_preserving, order_preserving_words)
 
-tame_word : (u : Subject) (e : ℕ) → Tame (drop_word u e)
-tame_word Link e = tame_answer tt
-tame_word Background e = tame_answer tt
-tame_word Script e = tame_answer tt
-tame_word (Line line) e = tame_line line e
-tame_word Weight e = tame_answer tt
-tame_word Slant e = tame_answer tt
-tame_word Family e = tame_answer tt
-tame_word Size e = tame_answer tt
-tame_word Foreground e = tame_answer tt
-tame_word Nothing e = tame_answer tt
+order_preserving_word : (u : Subject) (e : ℕ) → OrderPreserving (drop_word u e)
+order_preserving_word Link e = order_preserving_answer tt
+order_preserving_word Background e = order_preserving_answer tt
+order_preserving_word Script e = order_preserving_answer tt
+order_preserving_word (Line line) e = order_preserving_line line e
+order_preserving_word Weight e = order_preserving_answer tt
+order_preserving_word Slant e = order_preserving_answer tt
+order_preserving_word Family e = order_preserving_answer tt
+order_preserving_word Size e = order_preserving_answer tt
+order_preserving_word Foreground e = order_preserving_answer tt
+order_preserving_word Nothing e = order_preserving_answer tt
 
-tame_property : (command : Command) (e : ℕ) → Tame (drop_property command e)
+order_preserving_property : (command : Command) (e : ℕ) → OrderPreserving (drop_property command e)
 unfolding drop_property
-tame_property command e = search (tame, tame_unset_style)
+order_preserving_property command e = search (order_preserving, order_preserving_unset_style)
 
-tame_attribute : (name attribute : List ℕ) (e : ℕ) → Tame (drop_attribute name attribute e)
+order_preserving_attribute : (name attribute : List ℕ) (e : ℕ) → OrderPreserving (drop_attribute name attribute e)
 unfolding drop_attribute
-tame_attribute name attribute e = search tame
+order_preserving_attribute name attribute e = search order_preserving
 
-tame_hint : (command : Command) (e : ℕ) → Tame (drop_hint command e)
+order_preserving_hint : (command : Command) (e : ℕ) → OrderPreserving (drop_hint command e)
 unfolding drop_hint
-tame_hint command e = search (tame, tame_attribute)
+order_preserving_hint command e = search (order_preserving, order_preserving_attribute)
 
-tame_link : (u : Subject) (e : ℕ) → Tame (drop_link u e)
-tame_link Link e = tame_attribute (codes "a") (codes "href") e
-tame_link Background e = tame_answer tt
-tame_link Script e = tame_answer tt
-tame_link (Line line) e = tame_answer tt
-tame_link Weight e = tame_answer tt
-tame_link Slant e = tame_answer tt
-tame_link Family e = tame_answer tt
-tame_link Size e = tame_answer tt
-tame_link Foreground e = tame_answer tt
-tame_link Nothing e = tame_answer tt
+order_preserving_link : (u : Subject) (e : ℕ) → OrderPreserving (drop_link u e)
+order_preserving_link Link e = order_preserving_attribute (codes "a") (codes "href") e
+order_preserving_link Background e = order_preserving_answer tt
+order_preserving_link Script e = order_preserving_answer tt
+order_preserving_link (Line line) e = order_preserving_answer tt
+order_preserving_link Weight e = order_preserving_answer tt
+order_preserving_link Slant e = order_preserving_answer tt
+order_preserving_link Family e = order_preserving_answer tt
+order_preserving_link Size e = order_preserving_answer tt
+order_preserving_link Foreground e = order_preserving_answer tt
+order_preserving_link Nothing e = order_preserving_answer tt
 
 -- an element that gives a value, and is no image and no rule, bears nothing itself
 specified_bare : (s : State) (e : ℕ) (command : Command) → is_none (specified s.trees e command) ≡ false → is_void_thing s e ≡ false → IsBare s e
@@ -91,33 +91,33 @@ specified_bare s e command some plain (Element name attributes) h =
 specified_bare s e command some plain (Words chars) h = absurd (true≢false (sym (ap (λ (o : Option Content). is_none (option_and_then (λ c. specified_in c command) o)) h) ∙ some))
 specified_bare s e command some plain (Remark chars) h = refl
 
-tame_span : (command : Command) (e : ℕ) → Tame (span_for command e)
+order_preserving_span : (command : Command) (e : ℕ) → OrderPreserving (span_for command e)
 unfolding span_for
-tame_span command e = record { keeps = λ s is. rw final-look (by_test s is (is_none (specified s.trees e command)) (is_void_thing s e) refl refl) }
+order_preserving_span command e = record { keeps = λ s is. rw final-look (by_test s is (is_none (specified s.trees e command)) (is_void_thing s e) refl refl) }
   where
     by_test : (s : State) → IsKeeping s → (v w : Bool) → is_none (specified s.trees e command) ≡ v → is_void_thing s e ≡ w
         → KeepsOrder s (final (if v || w then answer [] else (set_tag_name e (codes "span") >>= (λ x. answer (x ∷ [])))) s)
-    by_test s is true w h k = (tame_answer []).keeps s is
-    by_test s is false true h k = (tame_answer []).keeps s is
+    by_test s is true w h k = (order_preserving_answer []).keeps s is
+    by_test s is false true h k = (order_preserving_answer []).keeps s is
     by_test s is false false h k =
-        then_tame_on (set_tag_name e (codes "span")) (λ x. answer (x ∷ [])) s is (tag_name_keeps e (codes "span") s is (specified_bare s e command h k) refl) (λ x. tame_answer (x ∷ []))
+        then_order_preserving_on (set_tag_name e (codes "span")) (λ x. answer (x ∷ [])) s is (tag_name_keeps e (codes "span") s is (specified_bare s e command h k) refl) (λ x. order_preserving_answer (x ∷ []))
 
-tame_stripped : (command : Command) (e : ℕ) → Tame (stripped command e)
+order_preserving_stripped : (command : Command) (e : ℕ) → OrderPreserving (stripped command e)
 unfolding stripped
-tame_stripped command e = search (tame, tame_word, tame_property, tame_hint, tame_link, tame_span)
+order_preserving_stripped command e = search (order_preserving, order_preserving_word, order_preserving_property, order_preserving_hint, order_preserving_link, order_preserving_span)
 
 unwrapped_keeps : (e : ℕ) (s : State) → IsKeeping s → IsBare s e → KeepsOrder s (final (unwrapped e) s)
 unfolding unwrapped
-unwrapped_keeps e s is bare = rw final-look (then_tame (unwrap e) (answer (children_of s.trees e)) s is (unwrap_keeps e s is bare) (tame_answer (children_of s.trees e)))
+unwrapped_keeps e s is bare = rw final-look (then_order_preserving (unwrap e) (answer (children_of s.trees e)) s is (unwrap_keeps e s is bare) (order_preserving_answer (children_of s.trees e)))
 
-pub tame_clear_value : (command : Command) (e : ℕ) → Tame (clear_value command e)
+pub order_preserving_clear_value : (command : Command) (e : ℕ) → OrderPreserving (clear_value command e)
 unfolding clear_value
-tame_clear_value command e = record { keeps = λ s is. rw final-look (by_test s is (not (is_editable_for s e) || is_none (specified s.trees e command)) (is_simple_modifiable s.trees e) refl) }
+order_preserving_clear_value command e = record { keeps = λ s is. rw final-look (by_test s is (not (is_editable_for s e) || is_none (specified s.trees e command)) (is_simple_modifiable s.trees e) refl) }
   where
     by_test : (s : State) → IsKeeping s → (v w : Bool) → is_simple_modifiable s.trees e ≡ w → KeepsOrder s (final (if v then answer [] else (if w then unwrapped e else stripped command e)) s)
-    by_test s is true w h = (tame_answer []).keeps s is
+    by_test s is true w h = (order_preserving_answer []).keeps s is
     by_test s is false true h = unwrapped_keeps e s is (modifiable_bare s e h)
-    by_test s is false false h = (tame_stripped command e).keeps s is
+    by_test s is false false h = (order_preserving_stripped command e).keeps s is
 
 -- ---- the states of contenteditable
 

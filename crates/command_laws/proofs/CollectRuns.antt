@@ -7,7 +7,7 @@ use Rattle.dom_model.specs.Forest.{times, first_in, last_in, parent_of, next_of}
 use Rattle.dom_model.proofs.Links.{parent_count}
 use Rattle.edit_model.specs.State.{State}
 use Rattle.edit_model.specs.Compositions.{set_tag_name}
-use Rattle.edit_model.specs.Lawful.{IsLawful}
+use Rattle.edit_model.specs.Valid.{IsValid}
 use Rattle.edit_model.specs.Run.{final, value, ◌>>=◌, answer, while_at_most}
 use Rattle.edit_model.proofs.Steps.{final-answer, final-look, value-answer, value-look, final_next}
 use Rattle.edit_model.proofs.Tests.{label_is}
@@ -44,7 +44,7 @@ use Rattle.command_laws.proofs.SublistRuns.{Ends, ends_answer, ends_look, ends_b
 pub Grew : List ℕ → State → Option ℕ → Type 0
 Grew items t made = (q : ℕ) × (n : ℕ) × Grown t (items ++ one_of made) q n
 
-fresh_grown : (s : State) → IsLawful s → (q : ℕ) → Grown s [] q s.next
+fresh_grown : (s : State) → IsValid s → (q : ℕ) → Grown s [] q s.next
 fresh_grown s is q = record {
   together = together_none s;
   below = omega arith;
@@ -54,7 +54,7 @@ fresh_grown s is q = record {
 }
 
 -- one node without a parent
-root_grown : (s : State) → IsLawful s → (x : ℕ) → x < s.next → parent_of s.trees x ≡ None → Grown s (x ∷ []) 0 s.next
+root_grown : (s : State) → IsValid s → (x : ℕ) → x < s.next → parent_of s.trees x ≡ None → Grown s (x ∷ []) 0 s.next
 root_grown s is x known root = record {
   together = together_one s is x known;
   below = omega arith;
@@ -75,7 +75,7 @@ no_last : (items : List ℕ) → last_in items ≡ None → items ≡ []
 no_last [] e = refl
 no_last (x ∷ xs) e = absurd (let z = last_some None x xs in let k : None ≡ Some z.0 = sym e ∙ z.1 in cc)
 
-next_of_items : (s : State) → IsLawful s → (items : List ℕ) (x q n : ℕ) → Grown s items q n → x < s.next → follows s (last_in items) (Some x) ≡ true → Next s items x
+next_of_items : (s : State) → IsValid s → (items : List ℕ) (x q n : ℕ) → Grown s items q n → x < s.next → follows s (last_in items) (Some x) ≡ true → Next s items x
 unfolding is_next
 next_of_items s is items x q n g known goes = by_last (last_in items) refl goes
   where
@@ -131,7 +131,7 @@ module _ (s : State) (is : IsKeeping s) (items : List ℕ) (x : ℕ) (known : x 
   keeps_one = ends_answer (λ t made. Grew items t made.0) (Some x, 1) s (by next)
     where
       by : Next s items x → (q : ℕ) × (n : ℕ) × Grown s (items ++ x ∷ []) q n
-      by (rooted none root) = (0, s.next, subst (λ l. Grown s (l ++ x ∷ []) 0 s.next) (sym none) (root_grown s is.lawful x known root))
+      by (rooted none root) = (0, s.next, subst (λ l. Grown s (l ++ x ∷ []) 0 s.next) (sym none) (root_grown s is.valid x known root))
       by (turned q n w) = (q, n, kept_grown s items x q n w)
 
   renames : is_container s x ≡ true → Ends s Told (rename_item x)
@@ -142,7 +142,7 @@ module _ (s : State) (is : IsKeeping s) (items : List ℕ) (x : ℕ) (known : x 
       (λ t is_t y h. ends_answer (λ t made. (q : ℕ) × (n : ℕ) × Grown t (items ++ one_of made.0) q n) (Some y, 1) t h)
     where
       by : Next s items x → (q : ℕ) × (n : ℕ) × Grown (final (set_tag_name x (codes "li")) s) (items ++ value (set_tag_name x (codes "li")) s ∷ []) q n
-      by (rooted none root) = let r = rootless x s root in rw (r.0, r.1) (0, s.next, subst (λ l. Grown s (l ++ x ∷ []) 0 s.next) (sym none) (root_grown s is.lawful x known root))
+      by (rooted none root) = let r = rootless x s root in rw (r.0, r.1) (0, s.next, subst (λ l. Grown s (l ++ x ∷ []) 0 s.next) (sym none) (root_grown s is.valid x known root))
       by (turned q n w) = (q, n, renamed_grown s items x q n w container)
 
   wraps : (count : ℕ) (line : List ℕ) → Consecutive s (x ∷ line) → Ends s Told (wrap_item (x ∷ line) >>= made_of count)
@@ -159,20 +159,20 @@ module _ (s : State) (is : IsKeeping s) (items : List ℕ) (x : ℕ) (known : x 
 
       siblings_of : (q : ℕ) → parent_of s.trees x ≡ Some q → Consecutive s (x ∷ line) → Siblings s q (x ∷ line)
       siblings_of q up (alone y e) =
-          let p = child_parted s is.lawful x q up in
+          let p = child_parted s is.valid x q up in
           let same : x ≡ y = (let k : Some x ≡ Some y = ap first_in e in let k' = k in cc) in
           subst (λ l. Siblings s q l) (ap (λ m. m ∷ []) same ∙ sym e) (record { front = p.0; rest = p.1; is = p.2 })
       siblings_of q up (among o w) =
-          let own : parent_of s.trees x ≡ Some o = member s is.lawful o w.front (x ∷ line) w.rest w.is x (omega (arith, self_one x)) in
+          let own : parent_of s.trees x ≡ Some o = member s is.valid o w.front (x ∷ line) w.rest w.is x (omega (arith, self_one x)) in
           let same : o ≡ q = (let k : Some o ≡ Some q = sym own ∙ up in let k' = k in cc) in
           subst (λ r. Siblings s r (x ∷ line)) same w
 
       no_parent : parent_of s.trees x ≡ None → Consecutive s (x ∷ line) → first_parent s (x ∷ line) ≡ None
       no_parent root (alone y e) = single_root s x line root (ap tail_of e)
-      no_parent root (among o w) = absurd (let k : None ≡ Some o = sym root ∙ member s is.lawful o w.front (x ∷ line) w.rest w.is x (omega (arith, self_one x)) in cc)
+      no_parent root (among o w) = absurd (let k : None ≡ Some o = sym root ∙ member s is.valid o w.front (x ∷ line) w.rest w.is x (omega (arith, self_one x)) in cc)
 
       by : Next s items x → Consecutive s (x ∷ line) → (q : ℕ) × (n : ℕ) × Grown (final (wrap Never (Make (bare (codes "li"))) (x ∷ line)) s) (items ++ one_of (value (wrap Never (Make (bare (codes "li"))) (x ∷ line)) s)) q n
-      by (rooted none root) k = unchanged (no_parent root k) 0 s.next (subst (λ l. Grown s l 0 s.next) (sym none) (fresh_grown s is.lawful 0))
+      by (rooted none root) k = unchanged (no_parent root k) 0 s.next (subst (λ l. Grown s l 0 s.next) (sym none) (fresh_grown s is.valid 0))
       by (turned q n w) k = (q, n, wrapped_grown s items x q n w line (siblings_of q w.up k))
 
   turn_ends : (xs : List ℕ) → Ends s Told (make_item (x ∷ xs) x)
@@ -185,7 +185,7 @@ module _ (s : State) (is : IsKeeping s) (items : List ℕ) (x : ℕ) (known : x 
           let on = goes_on_line s in
           let k = count_after on x xs in
           ends_look (λ t made. (q : ℕ) × (n : ℕ) × Grown t (items ++ one_of made.0) q n) _ s
-          (rw (add-one) (wraps (suc k) (take k xs) (series_consecutive s is.lawful on (λ y z h. next_on_line s y z h) x xs)))
+          (rw (add-one) (wraps (suc k) (take k xs) (series_consecutive s is.valid on (λ y z h. next_on_line s y z h) x xs)))
 
       by_container : (v : Bool) → is_container s x ≡ v → Ends s (λ t made. (q : ℕ) × (n : ℕ) × Grown t (items ++ one_of made.0) q n) (if v then rename_item x else (if is_item s x || is_list s x then made_one x else wrap_line (x ∷ xs)))
       by_container true e = renames e
@@ -213,7 +213,7 @@ next_ends s is (items, []) w goes = absurd (no_more (last_in items) goes)
     no_more (Some z) h = true≢false (sym h)
 next_ends s is (items, x ∷ xs) w goes =
     let known : x < s.next = w.known x (omega (arith, self_one x)) in
-    let turn = turn_ends s is items x known (next_of_items s is.lawful items x w.q w.n w.grown known goes) xs in
+    let turn = turn_ends s is items x known (next_of_items s is.valid items x w.q w.n w.grown known goes) xs in
     ends_bind (λ t made. Grew items t made.0 × (s.next ≤ t.next)) Items (make_item (x ∷ xs) x) (collected (items, x ∷ xs)) s is
     (record { order = turn.order; holds = (turn.holds, final_next (make_item (x ∷ xs) x) s) })
     (λ t is_t made h. ends_answer Items (items ++ one_of made.0, drop made.1 (x ∷ xs)) t
@@ -230,7 +230,7 @@ collect_turns (suc bound) s is c w = ends_look Items _ s (by_test (goes_on s c) 
 
 pub collect_ends : (s : State) → IsKeeping s → (list : List ℕ) → ((l : ℕ) → 0 < times list l → l < s.next) → Ends s Items (collect_items list)
 unfolding collect_items
-collect_ends s is list known = ends_look Items _ s (collect_turns (turn_bound s) s is ([], list) (record { q = 0; n = s.next; grown = fresh_grown s is.lawful 0; known = known }))
+collect_ends s is list known = ends_look Items _ s (collect_turns (turn_bound s) s is ([], list) (record { q = 0; n = s.next; grown = fresh_grown s is.valid 0; known = known }))
 
 -- ---- the states of contenteditable
 

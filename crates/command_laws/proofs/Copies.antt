@@ -176,10 +176,10 @@ module _ (s : State) (is : IsKeeping s) (o q : ℕ) (up : parent_of s.trees o �
   other_o = new_other s is c o q up
 
   other_q : x ≢ q
-  other_q = λ e. (let k = ap (count_of s.trees) e in omega (arith, k, absent, (parent_count s.trees o q is.lawful.forest.distinct up).1))
+  other_q = λ e. (let k = ap (count_of s.trees) e in omega (arith, k, absent, (parent_count s.trees o q is.valid.forest.distinct up).1))
 
   not_itself : o ≢ q
-  not_itself = λ e. parent_other s.trees is.lawful.forest.distinct o q up (sym e)
+  not_itself = λ e. parent_other s.trees is.valid.forest.distinct o q up (sym e)
 
   tree1 : tree_of s1.trees x ≡ Tree x c Nil Nil
   unfolding s1 x
@@ -217,7 +217,7 @@ module _ (s : State) (is : IsKeeping s) (o q : ℕ) (up : parent_of s.trees o �
   loose2 = λ h. elim (cases_Bool (may_unset s1 o (codes "id"))) [
     | inr off ↦ new_loose s is c (subst (λ f. IsWithin f 0 x) (trees_left (Unset o (codes "id")) s1 off) h)
     | inl may ↦ (
-        let e = ap (λ f. tree_of f 0) (trees_made (Unset o (codes "id")) s1 may) ∙ document-revised s1.trees s1.next is1.lawful.forest o (with_unset (codes "id")) in
+        let e = ap (λ f. tree_of f 0) (trees_made (Unset o (codes "id")) s1 may) ∙ document-revised s1.trees s1.next is1.valid.forest o (with_unset (codes "id")) in
         let k = ap (λ f. count_of f x) e in
         let same = total-revised o (with_unset (codes "id")) (λ m. cond (eqb m x) 1 0) (tree_of s1.trees 0) in
         new_loose s is c (omega (arith, h, k, same)))
@@ -228,15 +228,15 @@ module _ (s : State) (is : IsKeeping s) (o q : ℕ) (up : parent_of s.trees o �
   parent_may = by (may_have_children above.0.content) refl
     where
       above : (r : Seen Content) × Stands None s.trees q r × (seek None s.trees q ≡ Some r) × (0 < times r.children o)
-      above = child_of_parent s.trees o q is.lawful.forest.distinct up
+      above = child_of_parent s.trees o q is.valid.forest.distinct up
 
       by : (v : Bool) → may_have_children above.0.content ≡ v → is_parent_at s.trees q ≡ true
       by true e = ap (λ (k : Option (Seen Content)). option_map_or may_have_children (option_map (λ (y : Seen Content). y.content) k) false) above.2 ∙ e
-      by false e = absurd (let k = ap (λ l. times l o) ((is.lawful.forest.nodes q above.0 above.2).leaf e) in omega (arith, k, above.3))
+      by false e = absurd (let k = ap (λ l. times l o) ((is.valid.forest.nodes q above.0 above.2).leaf e) in omega (arith, k, above.3))
 
   not_zero : x ≢ 0
   unfolding x
-  not_zero = λ e. (let k = is.lawful.forest.below 0 is.lawful.forest.document in omega (arith, k, e))
+  not_zero = λ e. (let k = is.valid.forest.below 0 is.valid.forest.document in omega (arith, k, e))
 
   leaf_out : nat_lt 0 (count_of (Tree x c Nil Nil) q) ≡ false
   leaf_out = rw (ne_eqb x q other_q) refl
@@ -287,7 +287,7 @@ module _ (s : State) (is : IsKeeping s) (o q : ℕ) (up : parent_of s.trees o �
       ap (λ n. nat_le n s.next)
       ((command_acted (action.Change (Insert q (Some o) s.next)) s2).start
       ∙ ((command_acted (action.Change (Unset o (codes "id"))) s1).start ∙ (command_acted (action.MakeElement (tag_of s.trees o) (attribute_list_of s.trees o)) s).start))
-      ∙ le-leb s.start s.next is.lawful.started
+      ∙ le-leb s.start s.next is.valid.started
 
   module _ (front list rest : List ℕ) (kids : children_of s.trees o ≡ front ++ (list ++ rest)) where
     where_made : may_insert s2 q (Some o) x ≡ true → KeepsOrder s3 (final (move_each_last front x >> move_all_before list o) s3)
@@ -295,7 +295,7 @@ module _ (s : State) (is : IsKeeping s) (o q : ℕ) (up : parent_of s.trees o �
     where_made = λ may. (
         let now : s3.trees ≡ link s2.trees q (Some o) x = trees_made (Insert q (Some o) x) s2 may in
         let can = (inserts s2 q (Some o) x may).can in
-        let once = is2.lawful.forest.distinct in
+        let once = is2.valid.forest.distinct in
         let w = seen s2.trees x once known in
         let next : next_of s3.trees x ≡ Some o = ap (λ f. next_of f x) now ∙ (next_of-link s2.trees q (Some o) x once can x w.0 w.2 ∙ rw (eqb_refl_true x) refl) in
         let off : eqb q o ≡ false = ne_eqb q o (λ e. not_itself (sym e)) in
@@ -324,7 +324,7 @@ module _ (s : State) (is : IsKeeping s) (o q : ℕ) (up : parent_of s.trees o �
   unfolding copied s1 s2 s3 x c
   copied_keeps front l rest a kids =
       let count = ap (λ k. times k a) kids in
-      let none : times front a ≡ 0 = omega (arith, count, times-append front (a ∷ (l ++ rest)) a, self_one a, times-children_of s.trees o a is.lawful.forest.distinct) in
+      let none : times front a ≡ 0 = omega (arith, count, times-append front (a ∷ (l ++ rest)) a, self_one a, times-children_of s.trees o a is.valid.forest.distinct) in
       let upto : until a (children_of s.trees o) ≡ front = ap (until a) kids ∙ until_front front (l ++ rest) a none in
       rw (final-look, final-bind, final-make_element, value-make_element, final-bind, final-edit, final-bind, final_insert_before o s.next q s2 up2, upto)
       (copy_keeps front (a ∷ l) rest kids)

@@ -54,7 +54,7 @@ over : (s : State) → IsKeeping s → (q : ℕ) (pre : Forest Content) (o : ℕ
     → Slide s (edited (Move n x (first_in (tops g))) s) q (join pre (Tree o c k (Tree x e (Tree n d j g) post))) (may_move s n x (first_in (tops g)))
 over s is q pre o c n d j k x e g post bare spot =
     let f = document_of s.trees in
-    let once = document_distinct s.trees is.lawful.forest.distinct in
+    let once = document_distinct s.trees is.valid.forest.distinct in
     let kids = join pre (Tree o c (join k (Tree n d j Nil)) (Tree x e g post)) in
     let others = join pre (Tree o c k (Tree x e (Tree n d j g) post)) in
     let left = join pre (Tree o c k (Tree x e g post)) in
@@ -90,8 +90,8 @@ module _ (s : State) (is : IsKeeping s) (q : ℕ) (pre : Forest Content) (o : �
   -- two trees, one after the other
   follows_there : borne_by x e ≡ [] → Follows s o x
   follows_there bare =
-      let found = node_found s is.lawful q (join pre (Tree o c k Nil)) x e g post second_spot in
-      beside (next_is s is.lawful q pre o c k (Tree x e g post) spot)
+      let found = node_found s is.valid q (join pre (Tree o c k Nil)) x e g post second_spot in
+      beside (next_is s is.valid q pre o c k (Tree x e g post) spot)
       (λ d h. (let same : Some d ≡ Some e = sym h ∙ ap (option_map (λ (y : Seen Content). y.content)) found in let is_e : d ≡ e = (let w = same in cc) in ap (borne_by x) is_e ∙ bare))
 
 module _ (s : State) (is : IsKeeping s) (o x n : ℕ) where
@@ -119,7 +119,7 @@ module _ (s : State) (is : IsKeeping s) (o x n : ℕ) where
 
   seated : last_of s.trees o ≡ Some n → next_of s.trees o ≡ Some x → IsBare s x → (q : ℕ) → Seat s o q → Goes (final (move_first x n) s)
   seated last next bare q w =
-      let after : first_in (tops w.post) ≡ Some x = sym (next_is s is.lawful q w.pre o w.content w.kids w.post w.spot) ∙ next in
+      let after : first_in (tops w.post) ≡ Some x = sym (next_is s is.valid q w.pre o w.content w.kids w.post w.spot) ∙ next in
       let h = headed_first w.post x after in
       let l = last_parted (children_of s.trees o) n last in
       let p = parts_of w.kids l.0 (n ∷ []) (sym w.children ∙ l.1) in
@@ -131,7 +131,7 @@ module _ (s : State) (is : IsKeeping s) (o x n : ℕ) where
       (ap (λ r. join w.pre (Tree o w.content w.kids r)) h.is ∙ ap (λ r. join w.pre (Tree o w.content r (Tree x h.content h.kids h.post))) own) w.spot in
       let deeper = second_spot s is q w.pre o w.content (join p.first (Tree n m.content m.kids Nil)) x h.content h.kids h.post spot in
       let around = join w.pre (Tree o w.content (join p.first (Tree n m.content m.kids Nil)) Nil) in
-      let found = node_found s is.lawful q around x h.content h.kids h.post deeper in
+      let found = node_found s is.valid q around x h.content h.kids h.post deeper in
       let none = bare h.content (ap (option_map (λ (y : Seen Content). y.content)) found) in
       let place : first_of s.trees x ≡ first_in (tops h.kids) = first_is s is q around x h.content h.kids h.post deeper in
       rw (final_move_first x n s, place)
@@ -143,11 +143,11 @@ module _ (s : State) (is : IsKeeping s) (o x n : ℕ) where
   goes_on last (beside next bare) = by_parent (parent_of s.trees o) refl
     where
       next_up : (q : ℕ) → parent_of s.trees o ≡ Some q → parent_of s.trees x ≡ Some q
-      next_up q up = parent_of-next s.trees is.lawful.forest.distinct o x q up next
+      next_up q up = parent_of-next s.trees is.valid.forest.distinct o x q up next
 
       by_count : (q : ℕ) → parent_of s.trees o ≡ Some q → (k : ℕ) → count_of (document_of s.trees) q ≡ k → KeepsOrder s (final (move_first x n) s) × Follows (final (move_first x n) s) o x
-      by_count q up zero e = loose_first (loose_parent s is.lawful x q (next_up q up) e)
-      by_count q up (suc k) e = seated last next bare q (seat s is.lawful o q up (omega (arith, e)))
+      by_count q up zero e = loose_first (loose_parent s is.valid x q (next_up q up) e)
+      by_count q up (suc k) e = seated last next bare q (seat s is.valid o q up (omega (arith, e)))
 
       by_parent : (p : Option ℕ) → parent_of s.trees o ≡ p → KeepsOrder s (final (move_first x n) s) × Follows (final (move_first x n) s) o x
       by_parent None root = absurd (let k : None ≡ Some x = sym (ap (λ p. option_and_then (λ k. after_in (children_of s.trees k) o) p) root) ∙ next in cc)
@@ -203,15 +203,15 @@ module _ (s : State) (is : IsKeeping s) (name : List ℕ) (plain : is_thing name
       | inr off ↦ ap (λ f. children_of f o) (trees_left (Insert q (next_of s1.trees o) x) s1 off) ∙ children1
       | inl may ↦
           ap (λ f. children_of f o) (trees_made (Insert q (next_of s1.trees o) x) s1 may)
-          ∙ (children_of-link s1.trees q (next_of s1.trees o) x is1.lawful.forest.distinct (inserts s1 q (next_of s1.trees o) x may).can o
-          ∙ rw (ne_eqb q o (parent_other s1.trees is1.lawful.forest.distinct o q up)) children1)
+          ∙ (children_of-link s1.trees q (next_of s1.trees o) x is1.valid.forest.distinct (inserts s1 q (next_of s1.trees o) x may).can o
+          ∙ rw (ne_eqb q o (parent_other s1.trees is1.valid.forest.distinct o q up)) children1)
     ]
 
     linked : may_insert s1 q (next_of s1.trees o) x ≡ true → document_of s2.trees ≡ put_under (document_of s1.trees) q (next_of s1.trees o) (tree_of s1.trees x)
     unfolding s2 is_made_edit trees_after
     linked may =
         ap (λ f. tree_of f 0) (trees_made (Insert q (next_of s1.trees o) x) s1 may)
-        ∙ document-link s1.trees s1.next is1.lawful.forest q (next_of s1.trees o) x (inserts s1 q (next_of s1.trees o) x may).can
+        ∙ document-link s1.trees s1.next is1.valid.forest q (next_of s1.trees o) x (inserts s1 q (next_of s1.trees o) x may).can
 
     tree1 : tree_of s1.trees x ≡ Tree x new Nil Nil
     unfolding s1 x
@@ -220,10 +220,10 @@ module _ (s : State) (is : IsKeeping s) (name : List ℕ) (plain : is_thing name
     seated2 : may_insert s1 q (next_of s1.trees o) x ≡ true → Seat s1 o q → Follows s2 o x
     seated2 may w =
         let f = document_of s1.trees in
-        let once = document_distinct s1.trees is1.lawful.forest.distinct in
+        let once = document_distinct s1.trees is1.valid.forest.distinct in
         let kids = join w.pre (Tree o w.content w.kids w.post) in
         let others = join w.pre (Tree o w.content w.kids (Tree x new Nil w.post)) in
-        let place : next_of s1.trees o ≡ first_in (tops w.post) = next_is s1 is1.lawful q w.pre o w.content w.kids w.post w.spot in
+        let place : next_of s1.trees o ≡ first_in (tops w.post) = next_is s1 is1.valid q w.pre o w.content w.kids w.post w.spot in
         let put =
         ap (λ g. put_under g q (next_of s1.trees o) (tree_of s1.trees x)) w.spot.is
         ∙ (ap (λ b. put_under (fill w.spot.around (Tree q w.spot.content kids w.spot.rest)) q b (tree_of s1.trees x)) place
@@ -242,7 +242,7 @@ module _ (s : State) (is : IsKeeping s) (name : List ℕ) (plain : is_thing name
       where
         by_count : may_insert s1 q (next_of s1.trees o) x ≡ true → (k : ℕ) → count_of (document_of s1.trees) q ≡ k → Follows s2 o x
         by_count may zero none = loose (ap (λ g. count_of g x) (linked may ∙ put_under_nowhere (document_of s1.trees) q (next_of s1.trees o) (tree_of s1.trees x) none) ∙ loose1)
-        by_count may (suc k) some = seated2 may (seat s1 is1.lawful o q up (omega (arith, some)))
+        by_count may (suc k) some = seated2 may (seat s1 is1.valid o q up (omega (arith, some)))
 
   pub stands_after : KeepsOrder s (final (insert_after o s.next) (made (Element name []) s))
       × (Follows (final (insert_after o s.next) (made (Element name []) s)) o s.next × (children_of (final (insert_after o s.next) (made (Element name []) s)).trees o ≡ children_of s.trees o))

@@ -18,88 +18,88 @@ use Rattle.edit_model.specs.Run.{Run, final, ◌>>=◌, ◌>>◌, answer, done, 
 use Rattle.edit_model.proofs.Steps.{final-bind, final-look, final-make_element, value-bind, value-look, value-make_element}
 use Rattle.edit_laws.specs.Order.{KeepsOrder, IsKeeping}
 use Rattle.edit_laws.specs.Stateless.{Stateless}
-use Rattle.edit_laws.specs.Tame.{Tame}
+use Rattle.edit_laws.specs.OrderPreserving.{OrderPreserving}
 use Rattle.edit_laws.proofs.Nesting.{Held, put_near, near_shaped, goes_in, goes_out}
 use Rattle.edit_laws.proofs.QuietActions.{keeping_final}
 use Rattle.edit_laws.proofs.Renaming.{tag_name_keeps, keeping_made}
 use Rattle.edit_laws.proofs.StatelessRuns.{stateless_parts, stateless_answer, stateless_bind, stateless_each, stateless_if, stateless_look_at, stateless_make_element}
 use Rattle.edit_laws.proofs.Subsequences.{keeps_trans}
-use Rattle.edit_laws.proofs.Tame.{tame, tame_answer, tame_bind, tame_each, tame_if, tame_look, tame_remove}
+use Rattle.edit_laws.proofs.OrderPreserving.{order_preserving, order_preserving_answer, order_preserving_bind, order_preserving_each, order_preserving_if, order_preserving_look, order_preserving_remove}
 use Rattle.wrap_split.specs.declared.rule.Criterion.TheVariants.{SameValue}
 use Rattle.wrap_split.specs.declared.rule.Recipe.TheVariants.{Nothing as NoNode}
 use Rattle.wrap_split.specs.Wrap.{wrap}
 use Rattle.inline_value.specs.Forcing.{lacks, reorder_prev, reorder_next, joined, rename_link, rename_links, clear_way, make_wrapper, style_by, style_wrapper, taken_back, settled, put_in, wrapped, unless_alike, force_node, force_self, heirs, force_child, force_heirs, forced, force_value, force}
 use Rattle.inline_value.specs.Wrappers.{wrapper_for}
 use Rattle.command_laws.proofs.Criteria.{named_bare}
-use Rattle.command_laws.proofs.ReorderRuns.{tame_reorder, stateless_reorder}
-use Rattle.command_laws.proofs.Splitting.{then_tame}
+use Rattle.command_laws.proofs.ReorderRuns.{order_preserving_reorder, stateless_reorder}
+use Rattle.command_laws.proofs.Splitting.{then_order_preserving}
 use Rattle.command_laws.proofs.StatelessMoves.{stateless_moves}
 use Rattle.command_laws.proofs.StatelessWraps.{stateless_wrap_found}
-use Rattle.command_laws.proofs.StylingRuns.{Shaping, shaping, shaping_set_style, tame_set_style, stateless_set_style}
+use Rattle.command_laws.proofs.StylingRuns.{Shaping, shaping, shaping_set_style, order_preserving_set_style, stateless_set_style}
 use Rattle.command_laws.proofs.WrapperNames.{plain_wrapper}
-use Rattle.command_laws.proofs.Wrapping.{tame_wrap_one}
+use Rattle.command_laws.proofs.Wrapping.{order_preserving_wrap_one}
 
 -- ---- siblings that give the value take the node in
 
-tame_reorder_prev : (command : Command) (v : List ℕ) (n : ℕ) → Tame (reorder_prev command v n)
+order_preserving_reorder_prev : (command : Command) (v : List ℕ) (n : ℕ) → OrderPreserving (reorder_prev command v n)
 unfolding reorder_prev
-tame_reorder_prev command v n = search (tame, tame_reorder)
+order_preserving_reorder_prev command v n = search (order_preserving, order_preserving_reorder)
 
-tame_reorder_next : (command : Command) (v : List ℕ) (n : ℕ) → Tame (reorder_next command v n)
+order_preserving_reorder_next : (command : Command) (v : List ℕ) (n : ℕ) → OrderPreserving (reorder_next command v n)
 unfolding reorder_next
-tame_reorder_next command v n = search (tame, tame_reorder)
+order_preserving_reorder_next command v n = search (order_preserving, order_preserving_reorder)
 
-tame_joining : (command : Command) (v : List ℕ) (n : ℕ) → Tame (wrap (SameValue command v) NoNode (n ∷ []))
-tame_joining command v n = tame_wrap_one (SameValue command v) NoNode n tt tt
+order_preserving_joining : (command : Command) (v : List ℕ) (n : ℕ) → OrderPreserving (wrap (SameValue command v) NoNode (n ∷ []))
+order_preserving_joining command v n = order_preserving_wrap_one (SameValue command v) NoNode n tt tt
 
-tame_joined : (command : Command) (v : List ℕ) (n : ℕ) → Tame (joined command v n)
+order_preserving_joined : (command : Command) (v : List ℕ) (n : ℕ) → OrderPreserving (joined command v n)
 unfolding joined
-tame_joined command v n = search (tame, tame_reorder_prev, tame_reorder_next, tame_joining)
+order_preserving_joined command v n = search (order_preserving, order_preserving_reorder_prev, order_preserving_reorder_next, order_preserving_joining)
 
 -- ---- links around the node
 
 renamed_keeps : (e : ℕ) (s : State) → IsKeeping s → (v w : Bool) → has_name s.trees e (codes "a") ≡ w → KeepsOrder s (final (if v && w then (set_tag_name e (codes "span") >> done) else done) s)
-renamed_keeps e s is true true h = then_tame (set_tag_name e (codes "span")) done s is (tag_name_keeps e (codes "span") s is (named_bare s e (codes "a") refl h) refl) (tame_answer tt)
-renamed_keeps e s is true false h = (tame_answer tt).keeps s is
-renamed_keeps e s is false w h = (tame_answer tt).keeps s is
+renamed_keeps e s is true true h = then_order_preserving (set_tag_name e (codes "span")) done s is (tag_name_keeps e (codes "span") s is (named_bare s e (codes "a") refl h) refl) (order_preserving_answer tt)
+renamed_keeps e s is true false h = (order_preserving_answer tt).keeps s is
+renamed_keeps e s is false w h = (order_preserving_answer tt).keeps s is
 
-tame_rename_link : (e : ℕ) → Tame (rename_link e)
+order_preserving_rename_link : (e : ℕ) → OrderPreserving (rename_link e)
 unfolding rename_link
-tame_rename_link e = record { keeps = λ s is. rw final-look (renamed_keeps e s is (is_editable_for s e) (has_name s.trees e (codes "a")) refl) }
+order_preserving_rename_link e = record { keeps = λ s is. rw final-look (renamed_keeps e s is (is_editable_for s e) (has_name s.trees e (codes "a")) refl) }
 
-tame_rename_links : (n : ℕ) → Tame (rename_links n)
+order_preserving_rename_links : (n : ℕ) → OrderPreserving (rename_links n)
 unfolding rename_links
-tame_rename_links n = search (tame, tame_rename_link)
+order_preserving_rename_links n = search (order_preserving, order_preserving_rename_link)
 
-tame_clear_way : (u : Subject) (n : ℕ) → Tame (clear_way u n)
-tame_clear_way Link n = tame_rename_links n
-tame_clear_way Background n = tame_answer tt
-tame_clear_way Script n = tame_answer tt
-tame_clear_way (Line line) n = tame_answer tt
-tame_clear_way Weight n = tame_answer tt
-tame_clear_way Slant n = tame_answer tt
-tame_clear_way Family n = tame_answer tt
-tame_clear_way Size n = tame_answer tt
-tame_clear_way Foreground n = tame_answer tt
-tame_clear_way Nothing n = tame_answer tt
+order_preserving_clear_way : (u : Subject) (n : ℕ) → OrderPreserving (clear_way u n)
+order_preserving_clear_way Link n = order_preserving_rename_links n
+order_preserving_clear_way Background n = order_preserving_answer tt
+order_preserving_clear_way Script n = order_preserving_answer tt
+order_preserving_clear_way (Line line) n = order_preserving_answer tt
+order_preserving_clear_way Weight n = order_preserving_answer tt
+order_preserving_clear_way Slant n = order_preserving_answer tt
+order_preserving_clear_way Family n = order_preserving_answer tt
+order_preserving_clear_way Size n = order_preserving_answer tt
+order_preserving_clear_way Foreground n = order_preserving_answer tt
+order_preserving_clear_way Nothing n = order_preserving_answer tt
 
 -- ---- the style of what is made
 
-tame_style_by : (u : Subject) (command : Command) (v : List ℕ) (p : ℕ) → Tame (style_by u command v p)
-tame_style_by Link command v p = search (tame, tame_set_style)
-tame_style_by Background command v p = search (tame, tame_set_style)
-tame_style_by Script command v p = search (tame, tame_set_style)
-tame_style_by (Line line) command v p = tame_set_style p (codes "text-decoration") v
-tame_style_by Weight command v p = search (tame, tame_set_style)
-tame_style_by Slant command v p = search (tame, tame_set_style)
-tame_style_by Family command v p = search (tame, tame_set_style)
-tame_style_by Size command v p = search (tame, tame_set_style)
-tame_style_by Foreground command v p = search (tame, tame_set_style)
-tame_style_by Nothing command v p = search (tame, tame_set_style)
+order_preserving_style_by : (u : Subject) (command : Command) (v : List ℕ) (p : ℕ) → OrderPreserving (style_by u command v p)
+order_preserving_style_by Link command v p = search (order_preserving, order_preserving_set_style)
+order_preserving_style_by Background command v p = search (order_preserving, order_preserving_set_style)
+order_preserving_style_by Script command v p = search (order_preserving, order_preserving_set_style)
+order_preserving_style_by (Line line) command v p = order_preserving_set_style p (codes "text-decoration") v
+order_preserving_style_by Weight command v p = search (order_preserving, order_preserving_set_style)
+order_preserving_style_by Slant command v p = search (order_preserving, order_preserving_set_style)
+order_preserving_style_by Family command v p = search (order_preserving, order_preserving_set_style)
+order_preserving_style_by Size command v p = search (order_preserving, order_preserving_set_style)
+order_preserving_style_by Foreground command v p = search (order_preserving, order_preserving_set_style)
+order_preserving_style_by Nothing command v p = search (order_preserving, order_preserving_set_style)
 
-tame_style_wrapper : (command : Command) (v : List ℕ) (p : ℕ) → Tame (style_wrapper command v p)
+order_preserving_style_wrapper : (command : Command) (v : List ℕ) (p : ℕ) → OrderPreserving (style_wrapper command v p)
 unfolding style_wrapper
-tame_style_wrapper command v p = search (tame, tame_style_by)
+order_preserving_style_wrapper command v p = search (order_preserving, order_preserving_style_by)
 
 shaping_style_by : (u : Subject) (command : Command) (v : List ℕ) (p : ℕ) → Shaping (style_by u command v p)
 shaping_style_by Link command v p = search (shaping, shaping_set_style)
@@ -123,12 +123,12 @@ settled_keeps : (command : Command) (v : List ℕ) (n p : ℕ) (s : State) → I
 unfolding settled taken_back
 settled_keeps command v n p s is held = rw final-look (by_test (lacks s n command v))
   where
-    rest : Tame (remove p >>= (λ _. answer true))
-    rest = tame_bind (remove p) (λ _. answer true) (tame_remove p) (λ _. tame_answer true)
+    rest : OrderPreserving (remove p >>= (λ _. answer true))
+    rest = order_preserving_bind (remove p) (λ _. answer true) (order_preserving_remove p) (λ _. order_preserving_answer true)
 
     by_test : (w : Bool) → KeepsOrder s (final (if w then taken_back n p else answer false) s)
-    by_test true = then_tame (move_before p n) (remove p >>= (λ _. answer true)) s is (goes_out s is p n held) rest
-    by_test false = (tame_answer false).keeps s is
+    by_test true = then_order_preserving (move_before p n) (remove p >>= (λ _. answer true)) s is (goes_out s is p n held) rest
+    by_test false = (order_preserving_answer false).keeps s is
 
 put_in_keeps : (command : Command) (v : List ℕ) (n : ℕ) (s : State) → IsKeeping s → (name : List ℕ) (attributes : List Attribute) → is_thing name ≡ false
     → KeepsOrder s (final (put_in command v n s.next) (made (Element name attributes) s))
@@ -142,61 +142,61 @@ put_in_keeps command v n s is name attributes plain =
     let is2 : IsKeeping s2 = keeping_final (insert_before n p) s1 (keeping_made name attributes s is) in
     let is3 : IsKeeping s3 = keeping_final (style_wrapper command v p) s2 is2 in
     let put = put_near s is name attributes plain n in
-    let into = goes_in s3 is3 p n (near_shaped s2 s3 p n ((shaping_style_wrapper command v p).shapes s2 is2.lawful) put.1) in
+    let into = goes_in s3 is3 p n (near_shaped s2 s3 p n ((shaping_style_wrapper command v p).shapes s2 is2.valid) put.1) in
     rw (final-bind, final-bind, final-bind)
     (keeps_trans put.0
-    (keeps_trans ((tame_style_wrapper command v p).keeps s2 is2)
+    (keeps_trans ((order_preserving_style_wrapper command v p).keeps s2 is2)
     (keeps_trans into.0 (settled_keeps command v n p s4 (keeping_final (move_last p n) s3 is3) into.1))))
 
-tame_wrapped : (command : Command) (v : List ℕ) (n : ℕ) → Tame (wrapped command v n)
+order_preserving_wrapped : (command : Command) (v : List ℕ) (n : ℕ) → OrderPreserving (wrapped command v n)
 unfolding wrapped make_wrapper
-tame_wrapped command v n = record {
+order_preserving_wrapped command v n = record {
   keeps = λ s is. (
       let way : Run (Unit {0}) = clear_way (subject command) n in
       let t : State = final way s in
       let w = wrapper_for t.flags.css_styling command v in
       rw (final-bind, final-bind, final-look, final-make_element, value-bind, value-look, value-make_element)
-      (keeps_trans ((tame_clear_way (subject command) n).keeps s is)
+      (keeps_trans ((order_preserving_clear_way (subject command) n).keeps s is)
       (put_in_keeps command v n t (keeping_final way s is) w.name w.attributes (plain_wrapper t.flags.css_styling command v).named)));
 }
 
 -- ---- the whole
 
-tame_unless : (command : Command) (v : List ℕ) (n : ℕ) → Tame (unless_alike command v n)
+order_preserving_unless : (command : Command) (v : List ℕ) (n : ℕ) → OrderPreserving (unless_alike command v n)
 unfolding unless_alike
-tame_unless command v n = search (tame, tame_wrapped)
+order_preserving_unless command v n = search (order_preserving, order_preserving_wrapped)
 
-tame_node : (command : Command) (v : List ℕ) (n : ℕ) → Tame (force_node command v n)
+order_preserving_node : (command : Command) (v : List ℕ) (n : ℕ) → OrderPreserving (force_node command v n)
 unfolding force_node
-tame_node command v n = search (tame, tame_joined, tame_unless)
+order_preserving_node command v n = search (order_preserving, order_preserving_joined, order_preserving_unless)
 
-tame_self : (command : Command) (v : List ℕ) (n : ℕ) → Tame (force_self command v n)
+order_preserving_self : (command : Command) (v : List ℕ) (n : ℕ) → OrderPreserving (force_self command v n)
 unfolding force_self
-tame_self command v n = search (tame, tame_node)
+order_preserving_self command v n = search (order_preserving, order_preserving_node)
 
-tame_child : (again : ℕ → Run (Unit {0})) → ((k : ℕ) → Tame (again k)) → (command : Command) (v : List ℕ) (k : ℕ) → Tame (force_child again command v k)
+order_preserving_child : (again : ℕ → Run (Unit {0})) → ((k : ℕ) → OrderPreserving (again k)) → (command : Command) (v : List ℕ) (k : ℕ) → OrderPreserving (force_child again command v k)
 unfolding force_child
-tame_child again t command v k = tame_look _ (λ s. tame_if _ done (again k) (tame_answer tt) (t k))
+order_preserving_child again t command v k = order_preserving_look _ (λ s. order_preserving_if _ done (again k) (order_preserving_answer tt) (t k))
 
-tame_heirs : (again : ℕ → Run (Unit {0})) → ((k : ℕ) → Tame (again k)) → (command : Command) (v : List ℕ) (n : ℕ) (wanted : Bool) → Tame (force_heirs again command v n wanted)
+order_preserving_heirs : (again : ℕ → Run (Unit {0})) → ((k : ℕ) → OrderPreserving (again k)) → (command : Command) (v : List ℕ) (n : ℕ) (wanted : Bool) → OrderPreserving (force_heirs again command v n wanted)
 unfolding force_heirs
-tame_heirs again t command v n wanted =
-    tame_if wanted _ done (tame_look _ (λ s. tame_each (heirs s n) (force_child again command v) (λ k. tame_child again t command v k))) (tame_answer tt)
+order_preserving_heirs again t command v n wanted =
+    order_preserving_if wanted _ done (order_preserving_look _ (λ s. order_preserving_each (heirs s n) (force_child again command v) (λ k. order_preserving_child again t command v k))) (order_preserving_answer tt)
 
-tame_forced : (fuel : ℕ) (command : Command) (v : List ℕ) (n : ℕ) → Tame (forced fuel command v n)
+order_preserving_forced : (fuel : ℕ) (command : Command) (v : List ℕ) (n : ℕ) → OrderPreserving (forced fuel command v n)
 unfolding forced
-tame_forced zero command v n = tame_answer tt
-tame_forced (suc fuel) command v n =
-    tame_bind (force_self command v n) (force_heirs (forced fuel command v) command v n) (tame_self command v n)
-    (λ wanted. tame_heirs (forced fuel command v) (λ k. tame_forced fuel command v k) command v n wanted)
+order_preserving_forced zero command v n = order_preserving_answer tt
+order_preserving_forced (suc fuel) command v n =
+    order_preserving_bind (force_self command v n) (force_heirs (forced fuel command v) command v n) (order_preserving_self command v n)
+    (λ wanted. order_preserving_heirs (forced fuel command v) (λ k. order_preserving_forced fuel command v k) command v n wanted)
 
-tame_force_value : (command : Command) (v : List ℕ) (n : ℕ) → Tame (force_value command v n)
+order_preserving_force_value : (command : Command) (v : List ℕ) (n : ℕ) → OrderPreserving (force_value command v n)
 unfolding force_value
-tame_force_value command v n = search (tame, tame_forced)
+order_preserving_force_value command v n = search (order_preserving, order_preserving_forced)
 
-pub tame_force : (command : Command) (v : Option (List ℕ)) (n : ℕ) → Tame (force command v n)
+pub order_preserving_force : (command : Command) (v : Option (List ℕ)) (n : ℕ) → OrderPreserving (force command v n)
 unfolding force
-tame_force command v n = search (tame, tame_force_value)
+order_preserving_force command v n = search (order_preserving, order_preserving_force_value)
 
 -- ---- the states of contenteditable
 

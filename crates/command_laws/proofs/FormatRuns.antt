@@ -15,7 +15,7 @@ use Rattle.edit_model.specs.State.{State}
 use Rattle.edit_model.specs.Confined.{may_move, may_remove}
 use Rattle.edit_model.specs.Edit.{Move, Remove, is_made_edit, trees_after, edited}
 use Rattle.edit_model.specs.Kept.{borne_by, is_thing}
-use Rattle.edit_model.specs.Lawful.{IsLawful}
+use Rattle.edit_model.specs.Valid.{IsValid}
 use Rattle.edit_model.specs.Moves.{move_before, move_all_before, unwrap}
 use Rattle.edit_model.specs.Run.{final, for_each}
 use Rattle.edit_model.proofs.Forests.{forest-unlink, can_go}
@@ -25,25 +25,25 @@ use Rattle.edit_model.proofs.Tests.{goes, removes, parent_there}
 use Rattle.edit_laws.specs.MoveLaws.{IsBare}
 use Rattle.edit_laws.specs.Order.{KeepsOrder, IsKeeping}
 use Rattle.edit_laws.specs.Stateless.{Stateless}
-use Rattle.edit_laws.specs.Tame.{Tame}
+use Rattle.edit_laws.specs.OrderPreserving.{OrderPreserving}
 use Rattle.edit_laws.proofs.Lifting.{final_move_before}
 use Rattle.edit_laws.proofs.Loose.{before_root}
 use Rattle.edit_laws.proofs.QuietActions.{keeping_final}
 use Rattle.edit_laws.proofs.StatelessRuns.{stateless_parts}
 use Rattle.edit_laws.proofs.Subsequences.{keeps_trans}
-use Rattle.edit_laws.proofs.Tame.{tame, tame_answer}
+use Rattle.edit_laws.proofs.OrderPreserving.{order_preserving, order_preserving_answer}
 use Rattle.edit_laws.proofs.Unwrapping.{unwrap_keeps, stateless_unwrap}
 use Rattle.inline_value.specs.Ancestors.{split_once}
 use Rattle.inline_commands.specs.RemovingFormat.{is_candidate, candidates_in_range, unwrap_candidates, part_from_format, part_nodes, clear_command, clear_commands, remove_format}
 use Rattle.inline_value.specs.Selections.{nodes_in_range}
 use Rattle.command_laws.proofs.Criteria.{no_thing}
-use Rattle.command_laws.proofs.SelectionRuns.{tame_set_value, tame_split_ends, stateless_set_value, stateless_split_ends}
-use Rattle.command_laws.proofs.Splitting.{tame_split_one}
+use Rattle.command_laws.proofs.SelectionRuns.{order_preserving_set_value, order_preserving_split_ends, stateless_set_value, stateless_split_ends}
+use Rattle.command_laws.proofs.Splitting.{order_preserving_split_one}
 use Rattle.command_laws.proofs.StatelessSplits.{stateless_split}
 
 -- ---- what nodes have stays where others move and go
 
-content_moved : (k p : ℕ) (b : Option ℕ) (s : State) → IsLawful s → (l : ℕ) → content_of (edited (Move k p b) s).trees l ≡ content_of s.trees l
+content_moved : (k p : ℕ) (b : Option ℕ) (s : State) → IsValid s → (l : ℕ) → content_of (edited (Move k p b) s).trees l ≡ content_of s.trees l
 unfolding is_made_edit trees_after
 content_moved k p b s is l = elim (cases_Bool (may_move s k p b)) [
   | inr left ↦ ap (λ f. content_of f l) (trees_left (Move k p b) s left)
@@ -56,14 +56,14 @@ content_moved k p b s is l = elim (cases_Bool (may_move s k p b)) [
       ∙ (content_of-link (unlink f k) p b k l loose.distinct can ∙ content_of-unlink f t.from k l is.forest.distinct t.child))
 ]
 
-content_removed : (r : ℕ) (s : State) → IsLawful s → (l : ℕ) → content_of (edited (Remove r) s).trees l ≡ content_of s.trees l
+content_removed : (r : ℕ) (s : State) → IsValid s → (l : ℕ) → content_of (edited (Remove r) s).trees l ≡ content_of s.trees l
 unfolding is_made_edit trees_after
 content_removed r s is l = elim (cases_Bool (may_remove s r)) [
   | inr left ↦ ap (λ f. content_of f l) (trees_left (Remove r) s left)
   | inl may ↦ (let t = removes s r may in ap (λ f. content_of f l) (trees_made (Remove r) s may) ∙ content_of-unlink s.trees t.from r l is.forest.distinct t.child)
 ]
 
-content_before : (o k : ℕ) (s : State) → IsLawful s → (l : ℕ) → content_of (final (move_before o k) s).trees l ≡ content_of s.trees l
+content_before : (o k : ℕ) (s : State) → IsValid s → (l : ℕ) → content_of (final (move_before o k) s).trees l ≡ content_of s.trees l
 content_before o k s is l = by_parent (parent_of s.trees o) refl
   where
     by_parent : (p : Option ℕ) → parent_of s.trees o ≡ p → content_of (final (move_before o k) s).trees l ≡ content_of s.trees l
@@ -73,14 +73,14 @@ content_before o k s is l = by_parent (parent_of s.trees o) refl
 content_each : (list : List ℕ) (o : ℕ) (s : State) → IsKeeping s → (l : ℕ) → content_of (final (for_each list (move_before o)) s).trees l ≡ content_of s.trees l
 content_each [] o s is l = rw (for_each-nil, final-answer) refl
 content_each (k ∷ list) o s is l =
-    rw (for_each-cons, final-bind) (content_each list o (final (move_before o k) s) (keeping_final (move_before o k) s is) l ∙ content_before o k s is.lawful l)
+    rw (for_each-cons, final-bind) (content_each list o (final (move_before o k) s) (keeping_final (move_before o k) s is) l ∙ content_before o k s is.valid l)
 
 content_unwrapped : (e : ℕ) (s : State) → IsKeeping s → (l : ℕ) → content_of (final (unwrap e) s).trees l ≡ content_of s.trees l
 unfolding unwrap move_all_before
 content_unwrapped e s is l =
     let t : State = final (for_each (children_of s.trees e) (move_before e)) s in
     rw (final-look, final-bind, final-bind, final-edit, final-answer)
-    (content_removed e t (keeping_final (for_each (children_of s.trees e) (move_before e)) s is).lawful l ∙ content_each (children_of s.trees e) e s is l)
+    (content_removed e t (keeping_final (for_each (children_of s.trees e) (move_before e)) s is).valid l ∙ content_each (children_of s.trees e) e s is l)
 
 -- ---- elements that bear nothing themselves, one after the other
 
@@ -94,7 +94,7 @@ bare_after e s is (l ∷ list) all = ((λ c h. all.0 c (sym (content_unwrapped e
 
 unwrap_each : (list : List ℕ) (s : State) → IsKeeping s → AllBare s list → KeepsOrder s (final (for_each list unwrap) s)
 unfolding AllBare
-unwrap_each [] s is all = rw for_each-nil ((tame_answer tt).keeps s is)
+unwrap_each [] s is all = rw for_each-nil ((order_preserving_answer tt).keeps s is)
 unwrap_each (e ∷ list) s is all =
     let t : State = final (unwrap e) s in
     rw (for_each-cons, final-bind)
@@ -145,29 +145,29 @@ all_candidates s (l ∷ list) = by_test (is_candidate s l) refl (all_candidates 
 
 -- ---- the order
 
-tame_unwrap_candidates : Tame unwrap_candidates
+order_preserving_unwrap_candidates : OrderPreserving unwrap_candidates
 unfolding unwrap_candidates candidates_in_range
-tame_unwrap_candidates = record { keeps = λ s is. rw final-look (unwrap_each (filter (is_candidate s) (nodes_in_range s)) s is (all_candidates s (nodes_in_range s))) }
+order_preserving_unwrap_candidates = record { keeps = λ s is. rw final-look (unwrap_each (filter (is_candidate s) (nodes_in_range s)) s is (all_candidates s (nodes_in_range s))) }
 
-pub tame_split_once : (n : ℕ) → Tame (split_once n)
+pub order_preserving_split_once : (n : ℕ) → OrderPreserving (split_once n)
 unfolding split_once
-tame_split_once n = search (tame, tame_split_one)
+order_preserving_split_once n = search (order_preserving, order_preserving_split_one)
 
-tame_part : (n : ℕ) → Tame (part_from_format n)
+order_preserving_part : (n : ℕ) → OrderPreserving (part_from_format n)
 unfolding part_from_format
-tame_part n = search (tame, tame_split_once)
+order_preserving_part n = search (order_preserving, order_preserving_split_once)
 
-tame_part_nodes : Tame part_nodes
+order_preserving_part_nodes : OrderPreserving part_nodes
 unfolding part_nodes
-tame_part_nodes = search (tame, tame_part)
+order_preserving_part_nodes = search (order_preserving, order_preserving_part)
 
-tame_clear_commands : Tame clear_commands
+order_preserving_clear_commands : OrderPreserving clear_commands
 unfolding clear_commands clear_command
-tame_clear_commands = search (tame, tame_set_value)
+order_preserving_clear_commands = search (order_preserving, order_preserving_set_value)
 
-pub tame_remove_format : Tame remove_format
+pub order_preserving_remove_format : OrderPreserving remove_format
 unfolding remove_format
-tame_remove_format = search (tame, tame_unwrap_candidates, tame_split_ends, tame_part_nodes, tame_clear_commands)
+order_preserving_remove_format = search (order_preserving, order_preserving_unwrap_candidates, order_preserving_split_ends, order_preserving_part_nodes, order_preserving_clear_commands)
 
 -- ---- the states of contenteditable
 

@@ -14,7 +14,7 @@ use Rattle.point_order.specs.PointOrder.{is_within, is_in_document}
 use Rattle.edit_model.specs.State.{State}
 use Rattle.edit_model.specs.Confined.{is_open, may_go, may_move}
 use Rattle.edit_model.specs.Edit.{Move, edited}
-use Rattle.edit_model.specs.Lawful.{IsLawful}
+use Rattle.edit_model.specs.Valid.{IsValid}
 use Rattle.edit_model.specs.Moves.{move_last}
 use Rattle.edit_model.specs.Run.{final, edit, for_each}
 use Rattle.edit_model.proofs.CommandParts.{SameCommand, final_command}
@@ -24,14 +24,14 @@ use Rattle.edit_laws.proofs.Around.{self_one}
 use Rattle.edit_laws.proofs.Fronts.{child_by}
 use Rattle.edit_laws.proofs.Handing.{final_move_last}
 use Rattle.edit_laws.proofs.Slides.{parent_other, not_within_beside}
-use Rattle.command_laws.proofs.StatelessSplits.{lawful_final}
+use Rattle.command_laws.proofs.StatelessSplits.{valid_final}
 use Rattle.command_laws.proofs.Together.{dropped, dropped-append, dropped-absent, put_in-end}
 use Rattle.command_laws.proofs.Growing.{moved_to, only}
 use Rattle.command_laws.proofs.Openness.{open_same}
 use Rattle.command_laws.proofs.Copies.{all_seven}
 
 pub record Gone (s t : State) (q p : ℕ) (front list rest : List ℕ) : Type 0 where
-  pub lawful : IsLawful t
+  pub valid : IsValid t
   pub above : children_of t.trees q ≡ front ++ rest
   pub inner : children_of t.trees p ≡ children_of s.trees p ++ list
   pub others : (o : ℕ) → q ≢ o → p ≢ o → children_of t.trees o ≡ children_of s.trees o
@@ -41,7 +41,7 @@ pub record Gone (s t : State) (q p : ℕ) (front list rest : List ℕ) : Type 0 
 
 -- both stand under q, and are open
 record Beside (s : State) (q p : ℕ) : Type 0 where
-  is : IsLawful s
+  is : IsValid s
   up : parent_of s.trees p ≡ Some q
   above : is_open s q ≡ true
   own : is_open s p ≡ true
@@ -72,8 +72,8 @@ module _ (s : State) (q p : ℕ) (w : Beside s q p) (front : List ℕ) (k : ℕ)
       ap (λ o. may_go s k o p None) child
       ∙ all_seven w.above w.own w.kind (ap not outside) refl inside (ap (λ v. not (v && is_none (next_of s.trees k))) (ne_eqb q p (parent_other s.trees w.is.forest.distinct p q w.up)))
 
-  lawful_t : IsLawful (edited (Move k p None) s)
-  lawful_t = subst IsLawful (final-edit (Move k p None) s) (lawful_final (edit (Move k p None)) s w.is)
+  valid_t : IsValid (edited (Move k p None) s)
+  valid_t = subst IsValid (final-edit (Move k p None) s) (valid_final (edit (Move k p None)) s w.is)
 
   gone_one : Gone s (edited (Move k p None) s) q p front (k ∷ []) rest
   gone_one =
@@ -91,7 +91,7 @@ module _ (s : State) (q p : ℕ) (w : Beside s q p) (front : List ℕ) (k : ℕ)
       let out : dropped (children_of s.trees q) k ≡ front ++ rest =
       ap (λ m. dropped m k) kids ∙ (dropped-append front (k ∷ rest) k ∙ (ap (λ m. m ++ dropped (k ∷ rest) k) (dropped-absent front k no_front) ∙ ap (λ m. front ++ m) first)) in
       record {
-        lawful = lawful_t;
+        valid = valid_t;
         above = children q ∙ rw (ne_eqb p q (λ e. apart (sym e)), eqb_refl_true q) out;
         inner = children p ∙ rw (eqb_refl_true p, ne_eqb q p apart) (put_in-end (children_of s.trees p) k);
         others = λ o no_q no_p. children o ∙ rw (ne_eqb p o no_p, ne_eqb q o no_q) refl;
@@ -108,10 +108,10 @@ module _ (s : State) (q p : ℕ) (w : Beside s q p) (front : List ℕ) (k : ℕ)
       let command : SameCommand s t = subst (SameCommand s) (final-edit (Move k p None) s) (final_command (edit (Move k p None)) s) in
       let known : 0 < count_of s.trees k = (parent_count s.trees k q w.is.forest.distinct child).0 in
       record {
-        is = lawful_t;
+        is = valid_t;
         up = g.parent p off ∙ w.up;
-        above = open_same s t w.is lawful_t command k known g.parent g.content q (parent_apart s.trees k q w.is.forest.distinct child) ∙ w.above;
-        own = open_same s t w.is lawful_t command k known g.parent g.content p (not_within_beside s.trees w.is.forest.distinct k q p child w.up off) ∙ w.own;
+        above = open_same s t w.is valid_t command k known g.parent g.content q (parent_apart s.trees k q w.is.forest.distinct child) ∙ w.above;
+        own = open_same s t w.is valid_t command k known g.parent g.content p (not_within_beside s.trees w.is.forest.distinct k q p child w.up off) ∙ w.own;
         kind = ap (λ (c : Option Content). option_map_or may_have_children c false) (g.content p) ∙ w.kind;
       }
 
@@ -119,7 +119,7 @@ gone_each : (list front rest : List ℕ) (q p : ℕ) (s : State) → Beside s q 
 gone_each [] front rest q p s w kids none =
     rw (for_each-nil, final-answer)
     (record {
-      lawful = w.is;
+      valid = w.is;
       above = kids;
       inner = sym (append-nil (children_of s.trees p));
       others = λ o no_q no_p. refl;
@@ -134,7 +134,7 @@ gone_each (k ∷ list) front rest q p s w kids none =
     let more = gone_each list front rest q p t (beside_t s q p w front k (list ++ rest) kids off) one.above (omega (arith, none)) in
     rw (for_each-cons, final-bind, final_move_last p k s)
     (record {
-      lawful = more.lawful;
+      valid = more.valid;
       above = more.above;
       inner = more.inner ∙ (ap (λ m. m ++ list) one.inner ∙ append_assoc (children_of s.trees p) (k ∷ []) list);
       others = λ o no_q no_p. more.others o no_q no_p ∙ one.others o no_q no_p;
@@ -149,6 +149,6 @@ gone_each (k ∷ list) front rest q p s w kids none =
     by_count l zero e h moved stays own = stays e ∙ own (omega (arith, e, h))
     by_count l (suc m) e h moved stays own = moved (omega (arith, e))
 
-pub gone_all : (list front rest : List ℕ) (q p : ℕ) (s : State) → IsLawful s → parent_of s.trees p ≡ Some q → is_open s q ≡ true → is_open s p ≡ true → is_parent_at s.trees p ≡ true → children_of s.trees q ≡ front ++ (list ++ rest) → times list p ≡ 0
+pub gone_all : (list front rest : List ℕ) (q p : ℕ) (s : State) → IsValid s → parent_of s.trees p ≡ Some q → is_open s q ≡ true → is_open s p ≡ true → is_parent_at s.trees p ≡ true → children_of s.trees q ≡ front ++ (list ++ rest) → times list p ≡ 0
     → Gone s (final (for_each list (move_last p)) s) q p front list rest
 gone_all list front rest q p s is up above own kind kids none = gone_each list front rest q p s (record { is = is; up = up; above = above; own = own; kind = kind }) kids none

@@ -15,7 +15,7 @@ use Rattle.dom_model.proofs.Kept.{content_of-link, content_of-unlink}
 use Rattle.edit_model.specs.State.{State}
 use Rattle.edit_model.specs.Confined.{may_remove, may_move}
 use Rattle.edit_model.specs.Edit.{Insert, Remove, Move, is_made_edit, trees_after, edited}
-use Rattle.edit_model.specs.Lawful.{IsLawful}
+use Rattle.edit_model.specs.Valid.{IsValid}
 use Rattle.edit_model.specs.Moves.{move_last}
 use Rattle.edit_model.specs.Run.{Run, final, value, ◌>>=◌, answer, look, given, remove, for_each}
 use Rattle.edit_model.proofs.Forests.{forest-unlink, can_go}
@@ -27,7 +27,7 @@ use Rattle.edit_laws.proofs.Handing.{final_move_last}
 use Rattle.edit_laws.proofs.Lifting.{move_stays}
 use Rattle.edit_actions.specs.Siblings.{members}
 use Rattle.command_laws.proofs.Splitting.{parted}
-use Rattle.command_laws.proofs.StatelessSplits.{lawful_final}
+use Rattle.command_laws.proofs.StatelessSplits.{valid_final}
 use Rattle.command_laws.proofs.Together.{dropped, dropped-append, dropped-absent, taken-dropped, parent-unlinked, parent-linked, members-append, members-one, members-other, members-same, members-few, Together, together-same, together_removed, together_put, put_in-end, next_edited}
 use Rattle.command_laws.proofs.Widening.{Siblings, last_parted, pushed-last, one_after}
 
@@ -84,14 +84,14 @@ pub members-loose : (s : State) (o x : ℕ) → parent_of s.trees x ≡ None →
 unfolding members
 members-loose s o x root = rw root refl
 
-pub child_parted : (s : State) → IsLawful s → (x o : ℕ) → parent_of s.trees x ≡ Some o → (front : List ℕ) × (rest : List ℕ) × (children_of s.trees o ≡ front ++ x ∷ rest)
+pub child_parted : (s : State) → IsValid s → (x o : ℕ) → parent_of s.trees x ≡ Some o → (front : List ℕ) × (rest : List ℕ) × (children_of s.trees o ≡ front ++ x ∷ rest)
 child_parted s is x o up =
     let w = child_of_parent s.trees x o is.forest.distinct up in
     let own : children_of s.trees o ≡ w.0.children = ap (λ (k : Option (Seen Content)). option_map_or (λ (y : Seen Content). y.children) k []) w.2 in
     let p = parted w.0.children x w.3 in
     (p.0, p.1, own ∙ p.2)
 
-pub together_one : (s : State) → IsLawful s → (x : ℕ) → x < s.next → Together s (x ∷ [])
+pub together_one : (s : State) → IsValid s → (x : ℕ) → x < s.next → Together s (x ∷ [])
 together_one s is x known = record { known = λ l h. subst (λ k. k < s.next) (only x l h) known; siblings = λ o. by_parent o (parent_of s.trees x) refl }
   where
     by_parent : (o : ℕ) (p : Option ℕ) → parent_of s.trees x ≡ p → Siblings s o (members s o (x ∷ []))
@@ -109,14 +109,14 @@ together_one s is x known = record { known = λ l h. subst (λ k. k < s.next) (o
 
 -- ---- one more, the next sibling of the last
 
-pub next_parent : (s : State) → IsLawful s → (z x : ℕ) → next_of s.trees z ≡ Some x → (q : ℕ) × (parent_of s.trees z ≡ Some q) × (parent_of s.trees x ≡ Some q)
+pub next_parent : (s : State) → IsValid s → (z x : ℕ) → next_of s.trees z ≡ Some x → (q : ℕ) × (parent_of s.trees z ≡ Some q) × (parent_of s.trees x ≡ Some q)
 next_parent s is z x next = by_parent (parent_of s.trees z) refl
   where
     by_parent : (o : Option ℕ) → parent_of s.trees z ≡ o → (q : ℕ) × (parent_of s.trees z ≡ Some q) × (parent_of s.trees x ≡ Some q)
     by_parent None root = absurd (let k : None ≡ Some x = sym (ap (λ p. option_and_then (λ q. after_in (children_of s.trees q) z) p) root) ∙ next in cc)
     by_parent (Some q) up = (q, up, parent_of-next s.trees is.forest.distinct z x q up next)
 
-pub together_next : (s : State) → IsLawful s → (list : List ℕ) (z x : ℕ) → last_in list ≡ Some z → next_of s.trees z ≡ Some x → Together s list → Together s (list ++ x ∷ [])
+pub together_next : (s : State) → IsValid s → (list : List ℕ) (z x : ℕ) → last_in list ≡ Some z → next_of s.trees z ≡ Some x → Together s list → Together s (list ++ x ∷ [])
 together_next s is list z x last next w =
     let up = next_parent s is z x next in
     let q = up.0 in
@@ -155,7 +155,7 @@ together_shaped s t list more parent children w = record {
 }
 
 -- a new node comes to stand where none of the list stands
-pub together_apart : (list : List ℕ) (x q : ℕ) (b : Option ℕ) (s : State) → IsLawful s → times list x ≡ 0 → members s q list ≡ [] → Together s list → Together (edited (Insert q b x) s) list
+pub together_apart : (list : List ℕ) (x q : ℕ) (b : Option ℕ) (s : State) → IsValid s → times list x ≡ 0 → members s q list ≡ [] → Together s list → Together (edited (Insert q b x) s) list
 together_apart list x q b s is apart none w =
     together_put list x q b s is apart w
     (λ front rest kids. (put_in (children_of s.trees q) b x, [], sym (append-nil (put_in (children_of s.trees q) b x)) ∙ ap (λ m. put_in (children_of s.trees q) b x ++ (m ++ [])) (sym none)))
@@ -169,7 +169,7 @@ pub record MovedTo (s t : State) (k p : ℕ) (b : Option ℕ) : Type 0 where
   pub children : (o : ℕ) → children_of t.trees o ≡ cond (eqb p o) (put_in (cond (eqb from o) (dropped (children_of s.trees o) k) (children_of s.trees o)) b k) (cond (eqb from o) (dropped (children_of s.trees o) k) (children_of s.trees o))
   pub content : (l : ℕ) → content_of t.trees l ≡ content_of s.trees l
 
-pub moved_to : (k p : ℕ) (b : Option ℕ) (s : State) → IsLawful s → may_move s k p b ≡ true → MovedTo s (edited (Move k p b) s) k p b
+pub moved_to : (k p : ℕ) (b : Option ℕ) (s : State) → IsValid s → may_move s k p b ≡ true → MovedTo s (edited (Move k p b) s) k p b
 unfolding is_made_edit trees_after
 moved_to k p b s is may =
     let t : State = edited (Move k p b) s in
@@ -194,7 +194,7 @@ moved_to k p b s is may =
     }
 
 -- a node that is none of the list goes to the end of another one
-pub together_moved : (list : List ℕ) (k p : ℕ) (s : State) → IsLawful s → times list k ≡ 0 → Together s list → Together (edited (Move k p None) s) list
+pub together_moved : (list : List ℕ) (k p : ℕ) (s : State) → IsValid s → times list k ≡ 0 → Together s list → Together (edited (Move k p None) s) list
 together_moved list k p s is none w = elim (cases_Bool (may_move s k p None)) [
   | inr off ↦ subst (λ t. Together t list) (sym (move_stays k p None s off)) w
   | inl may ↦ (
@@ -247,7 +247,7 @@ grown_same s t list q n same more w =
     grown_by s t list q n more (together-same s t list same more w.together) (λ r up. sym (ap (λ f. parent_of f q) same) ∙ up) (λ l r _ up. sym (ap (λ f. parent_of f l) same) ∙ up)
     (λ r h. ap (λ f. has_name f r (codes "li")) same ∙ h) w
 
-pub grown_removed : (list : List ℕ) (q n k : ℕ) (s : State) → IsLawful s → Grown s list q n → Grown (edited (Remove k) s) list q n
+pub grown_removed : (list : List ℕ) (q n k : ℕ) (s : State) → IsValid s → Grown s list q n → Grown (edited (Remove k) s) list q n
 unfolding is_made_edit trees_after
 grown_removed list q n k s is w = elim (cases_Bool (may_remove s k)) [
   | inr off ↦ grown_same s (edited (Remove k) s) list q n (trees_left (Remove k) s off) (next_edited (Remove k) s) w
@@ -268,13 +268,13 @@ grown_removed list q n k s is w = elim (cases_Bool (may_remove s k)) [
 -- ---- runs that keep it grown
 
 pub record Growing (list : List ℕ) (q n : ℕ) {T : Type 0} (m : Run T) : Type 0 where
-  pub grows : (s : State) → IsLawful s → Grown s list q n → Grown (final m s) list q n
+  pub grows : (s : State) → IsValid s → Grown s list q n → Grown (final m s) list q n
 
 pub growing_answer : (list : List ℕ) (q n : ℕ) {A : Type 0} (a : A) → Growing list q n (answer a)
 growing_answer list q n a = record { grows = λ s is w. rw (final-answer a s) w }
 
 pub growing_bind : (list : List ℕ) (q n : ℕ) {A B : Type 0} (m : Run A) (k : A → Run B) → Growing list q n m → ((a : A) → Growing list q n (k a)) → Growing list q n (m >>= k)
-growing_bind list q n m k h g = record { grows = λ s is w. rw (final-bind m k s) ((g (value m s)).grows (final m s) (lawful_final m s is) (h.grows s is w)) }
+growing_bind list q n m k h g = record { grows = λ s is w. rw (final-bind m k s) ((g (value m s)).grows (final m s) (valid_final m s is) (h.grows s is w)) }
 
 pub growing_look : (list : List ℕ) (q n : ℕ) {A : Type 0} (k : State → Run A) → ((s : State) → Growing list q n (k s)) → Growing list q n (look k)
 growing_look list q n k h = record { grows = λ s is w. rw (final-look k s) ((h s).grows s is w) }
@@ -294,7 +294,7 @@ pub ruleset growing = (growing_answer, growing_bind, growing_look, growing_if, g
 
 -- ---- nodes that are none of the list, nor q, go to the end of another one
 
-grown_moved : (list : List ℕ) (q n k p : ℕ) (s : State) → IsLawful s → times list k ≡ 0 → k ≢ q → Grown s list q n → Grown (edited (Move k p None) s) list q n
+grown_moved : (list : List ℕ) (q n k p : ℕ) (s : State) → IsValid s → times list k ≡ 0 → k ≢ q → Grown s list q n → Grown (edited (Move k p None) s) list q n
 grown_moved list q n k p s is none off w = elim (cases_Bool (may_move s k p None)) [
   | inr shut ↦ subst (λ t. Grown t list q n) (sym (move_stays k p None s shut)) w
   | inl may ↦ (
@@ -311,6 +311,6 @@ growing_moves list q n p (k ∷ nodes) apart = record {
   grows = λ s is w. (
       let a = apart k (omega (arith, self_one k)) in
       rw (for_each-cons, final-bind)
-      ((growing_moves list q n p nodes (λ l h. apart l (omega (arith, h)))).grows (final (move_last p k) s) (lawful_final (move_last p k) s is)
+      ((growing_moves list q n p nodes (λ l h. apart l (omega (arith, h)))).grows (final (move_last p k) s) (valid_final (move_last p k) s is)
       (rw (final_move_last p k s) (grown_moved list q n k p s is a.0 a.1 w))));
 }

@@ -9,11 +9,11 @@ use Rattle.dom_model.specs.Forest.{Forest, count_of, IsDistinct, parent_of, dept
 use Rattle.dom_model.proofs.Hosts.{editing_host-root, editing_host-child}
 use Rattle.dom_model.proofs.Links.{parent_count}
 use Rattle.dom_model.proofs.Within.{depth_of-parent}
-use Rattle.node_styles.specs.Lineage.{Kin, lineage}
+use Rattle.node_styles.specs.Lineage.{Ancestor, lineage}
 use Rattle.node_styles.proofs.Lineages.{lineage-root, lineage-child}
 use Rattle.edit_model.specs.State.{State}
 use Rattle.edit_model.specs.Confined.{is_editable_for}
-use Rattle.edit_model.specs.Lawful.{IsLawful}
+use Rattle.edit_model.specs.Valid.{IsValid}
 use Rattle.edit_model.proofs.IslandRuns.{content_at}
 use Rattle.edit_model.proofs.Tests.{label_is}
 use Rattle.inline_value.specs.Forcing.{above, ancestors}
@@ -26,7 +26,7 @@ offered_is false false o h e = absurd (let t : None ≡ Some h = e in cc)
 -- a lineage begins with its node
 record Begun (f : Forest Content) (l : ℕ) : Type 0 where
   content : Content
-  rest : List Kin
+  rest : List Ancestor
   is : lineage f l ≡ record { label = l; content = content } ∷ rest
 
 module _ (f : Forest Content) (once : IsDistinct f) where
@@ -77,7 +77,7 @@ module _ (f : Forest Content) (once : IsDistinct f) where
         by_state false e more = by_parent e more (parent_of f p) refl
 
 -- some ancestor of an editable node passes a test that the host passes
-pub host_among : (s : State) → IsLawful s → (n : ℕ) → is_editable_for s n ≡ true → (test : ℕ → Bool) → ((h : ℕ) → s.host ≡ Some h → test h ≡ true) → list_any test (ancestors s.trees n) ≡ true
+pub host_among : (s : State) → IsValid s → (n : ℕ) → is_editable_for s n ≡ true → (test : ℕ → Bool) → ((h : ℕ) → s.host ≡ Some h → test h ≡ true) → list_any test (ancestors s.trees n) ≡ true
 unfolding is_editable_for ancestors Found
 host_among s is n editable test passes = by_host s.host refl editable
   where

@@ -9,12 +9,12 @@ use Rattle.html_names.specs.BoxNames.{box_names}
 use Rattle.node_styles.specs.NameClasses.{is_indentation, is_simple_indentation}
 use Rattle.edit_model.specs.State.{State}
 use Rattle.edit_model.specs.Compositions.{tag_of, set_tag_name}
-use Rattle.edit_model.specs.Lawful.{IsLawful}
+use Rattle.edit_model.specs.Valid.{IsValid}
 use Rattle.edit_model.specs.Run.{Run, final, value, ◌>>◌, done, given, for_each, unset_attribute}
 use Rattle.edit_model.proofs.Steps.{final-answer, final-look}
 use Rattle.edit_laws.specs.MoveLaws.{IsBare}
 use Rattle.edit_laws.specs.Stateless.{Stateless}
-use Rattle.edit_laws.specs.Tame.{Tame}
+use Rattle.edit_laws.specs.OrderPreserving.{OrderPreserving}
 use Rattle.edit_laws.proofs.Renaming.{tag_name_keeps}
 use Rattle.edit_laws.proofs.StatelessRuns.{stateless_tag_name}
 use Rattle.edit_actions.specs.Siblings.{until}
@@ -33,7 +33,7 @@ use Rattle.list_indent.specs.Commands.{normalize_range, normalize_before, normal
 use Rattle.command_laws.proofs.Copies.{plain_tag}
 use Rattle.command_laws.proofs.Criteria.{first_part, named_bare, indentation_bare}
 use Rattle.command_laws.proofs.ListWalks.{FitAt, at_once, looking, onwards, then_fit, fit_seen, Consecutive, among, wrap_fits, split_fits, fit_series}
-use Rattle.command_laws.proofs.StatelessSplits.{lawful_final}
+use Rattle.command_laws.proofs.StatelessSplits.{valid_final}
 use Rattle.command_laws.proofs.StylingRuns.{Shaping, shaping, shaping_unset_style}
 use Rattle.command_laws.proofs.SublistRuns.{fit_normalize}
 use Rattle.command_laws.proofs.Walks.{Fit, fits, fit_answer, fit_bind, fit_record, fit_restore, fit_unwrap, fit_fix, fit_unset_style}
@@ -51,18 +51,18 @@ list_bare s n h = by_name (has_name s.trees n (codes "ol")) refl h
 pub fit_fixed : (o : Option ℕ) → Fit (fixed o)
 fit_fixed o = search (fits, fit_fix)
 
-quoted_fits : (s : State) (list : List ℕ) → IsLawful s → Consecutive s list → FitAt s (quoted list)
+quoted_fits : (s : State) (list : List ℕ) → IsValid s → Consecutive s list → FitAt s (quoted list)
 unfolding quoted wrap_quote
 quoted_fits s list is k =
     then_fit (wrap_quote list) fixed s is (wrap_fits SimpleIndentation (Make (bare (codes "blockquote"))) tt refl refl s list is k) fit_fixed
 
-nested_fits : (s : State) (list : List ℕ) (p : ℕ) → is_list s p ≡ true → IsLawful s → Consecutive s list → FitAt s (nested list p)
+nested_fits : (s : State) (list : List ℕ) (p : ℕ) → is_list s p ≡ true → IsValid s → Consecutive s list → FitAt s (nested list p)
 unfolding nested
 nested_fits s list p h is k =
     let plain = plain_tag s p (list_bare s p h) in
     looking _ s (then_fit _ (λ _. done) s is (wrap_fits (Named (tag_of s.trees p) false) (Make (bare (tag_of s.trees p))) plain plain refl s list is k) (λ _. fit_answer tt))
 
-indent_from_fits : (s : State) (list : List ℕ) (a : ℕ) → IsLawful s → Consecutive s list → FitAt s (indent_from list a)
+indent_from_fits : (s : State) (list : List ℕ) (a : ℕ) → IsValid s → Consecutive s list → FitAt s (indent_from list a)
 unfolding indent_from
 indent_from_fits s list a is k = looking _ s (by_parent (parent_of s.trees a))
   where
@@ -74,7 +74,7 @@ indent_from_fits s list a is k = looking _ s (by_parent (parent_of s.trees a))
     by_parent None = quoted_fits s list is k
     by_parent (Some p) = by_test p (is_list s p) refl
 
-indent_list_fits : (s : State) (list : List ℕ) → IsLawful s → Consecutive s list → FitAt s (indent_list list)
+indent_list_fits : (s : State) (list : List ℕ) → IsValid s → Consecutive s list → FitAt s (indent_list list)
 unfolding indent_list
 indent_list_fits s list is k = by_first (first_in list)
   where
@@ -110,7 +110,7 @@ fit_indent = search (fits, fit_range, fit_indent_gathered)
 
 -- ---- outdenting a node: an indentation element
 
-to_div_fits : (s : State) (n : ℕ) → IsLawful s → IsBare s n → FitAt s (to_div n)
+to_div_fits : (s : State) (n : ℕ) → IsValid s → IsBare s n → FitAt s (to_div n)
 unfolding to_div
 to_div_fits s n is plain = looking _ s (by_test (is_element_at s.trees n))
   where
@@ -122,13 +122,13 @@ to_div_fits s n is plain = looking _ s (by_test (is_element_at s.trees n))
         (λ _. fit_answer tt)
 
 -- a node is bare after attributes were set
-still_bare : {T : Type 0} (m : Run T) (s : State) (n : ℕ) → IsLawful s → Shaping m → IsBare s n → IsBare (final m s) n
+still_bare : {T : Type 0} (m : Run T) (s : State) (n : ℕ) → IsValid s → Shaping m → IsBare s n → IsBare (final m s) n
 still_bare m s n is shapes plain = (shapes.shapes s is).bare n plain
 
 -- what leaves the shape of the trees, and then what is fit where the node is bare
-shaped_first : {T : Type 0} (m : Run T) (k : Run (Unit {0})) (s : State) (n : ℕ) → IsLawful s → IsBare s n → Fit m → Shaping m → ((t : State) → IsLawful t → IsBare t n → FitAt t k) → FitAt s (m >> k)
+shaped_first : {T : Type 0} (m : Run T) (k : Run (Unit {0})) (s : State) (n : ℕ) → IsValid s → IsBare s n → Fit m → Shaping m → ((t : State) → IsValid t → IsBare t n → FitAt t k) → FitAt s (m >> k)
 shaped_first m k s n is plain h shapes more =
-    onwards m (λ _. k) s (at_once m s is h) (more (final m s) (lawful_final m s is) (still_bare m s n is shapes plain))
+    onwards m (λ _. k) s (at_once m s is h) (more (final m s) (valid_final m s is) (still_bare m s n is shapes plain))
 
 fit_dir : (n : ℕ) → Fit (unset_attribute n (codes "dir"))
 fit_dir n = search fits
@@ -139,7 +139,7 @@ fit_boxes n = search (fits, fit_unset_style)
 shaping_boxes : (n : ℕ) → Shaping (for_each box_names (unset_style n))
 shaping_boxes n = search (shaping, shaping_unset_style)
 
-unboxed_fits : (s : State) (n : ℕ) → IsLawful s → IsBare s n → FitAt s (unboxed n)
+unboxed_fits : (s : State) (n : ℕ) → IsValid s → IsBare s n → FitAt s (unboxed n)
 unfolding unboxed
 unboxed_fits s n is plain =
     shaped_first (unset_attribute n (codes "dir")) (for_each box_names (unset_style n) >> to_div n) s n is plain (fit_dir n) (search shaping)
@@ -149,7 +149,7 @@ fit_unindented : (n : ℕ) → Fit (unindented n)
 unfolding unindented
 fit_unindented n = fit_seen _ (λ s is. by_test s is (is_simple_indentation s.trees n) (is_indentation s.trees n) refl)
   where
-    by_test : (s : State) → IsLawful s → (v w : Bool) → is_indentation s.trees n ≡ w → FitAt s (if v then remove_keeping_children n else (if w then unboxed n else done))
+    by_test : (s : State) → IsValid s → (v w : Bool) → is_indentation s.trees n ≡ w → FitAt s (if v then remove_keeping_children n else (if w then unboxed n else done))
     by_test s is true w e = at_once _ s is (fit_unwrap n)
     by_test s is false true e = unboxed_fits s n is (indentation_bare s n e)
     by_test s is false false e = at_once done s is (fit_answer tt)
@@ -160,7 +160,7 @@ fit_unwrapped : (n : ℕ) (children : List ℕ) → Fit (unwrapped n children)
 unfolding unwrapped
 fit_unwrapped n children = search (fits, fit_record, fit_unwrap, fit_restore)
 
-released_fits : (children : List ℕ) (s : State) (n : ℕ) → IsLawful s → IsBare s n → FitAt s (released n children)
+released_fits : (children : List ℕ) (s : State) (n : ℕ) → IsValid s → IsBare s n → FitAt s (released n children)
 unfolding released
 released_fits children s n is plain = looking _ s (by_test (not (is_without_attributes s.trees n) && not (is_in_list s n)))
   where
@@ -171,7 +171,7 @@ released_fits children s n is plain = looking _ s (by_test (not (is_without_attr
 fit_each_fixed : (list : List ℕ) → Fit (for_each list fix_ancestors)
 fit_each_fixed list = search (fits, fit_fix)
 
-dissolve_fits : (s : State) (n : ℕ) → IsLawful s → IsBare s n → FitAt s (dissolve n)
+dissolve_fits : (s : State) (n : ℕ) → IsValid s → IsBare s n → FitAt s (dissolve n)
 unfolding dissolve dissolved
 dissolve_fits s n is plain =
     let children = children_of s.trees n in
@@ -186,7 +186,7 @@ fit_start n = search fits
 fit_type : (n : ℕ) → Fit (unset_attribute n (codes "type"))
 fit_type n = search fits
 
-outdent_list_fits : (s : State) (n : ℕ) → IsLawful s → IsBare s n → FitAt s (outdent_list n)
+outdent_list_fits : (s : State) (n : ℕ) → IsValid s → IsBare s n → FitAt s (outdent_list n)
 unfolding outdent_list
 outdent_list_fits s n is plain =
     shaped_first (unset_attribute n (codes "reversed")) (unset_attribute n (codes "start") >> (unset_attribute n (codes "type") >> dissolve n)) s n is plain (fit_reversed n) (search shaping)
@@ -259,7 +259,7 @@ fit_alone : (n : ℕ) → Fit (outdent_alone n)
 unfolding outdent_alone
 fit_alone n = fit_seen _ (λ s is. by_test s is (is_list s n) refl)
   where
-    by_test : (s : State) → IsLawful s → (v : Bool) → is_list s n ≡ v → FitAt s (if v then outdent_list n else done)
+    by_test : (s : State) → IsValid s → (v : Bool) → is_list s n ≡ v → FitAt s (if v then outdent_list n else done)
     by_test s is true e = outdent_list_fits s n is (list_bare s n e)
     by_test s is false e = at_once done s is (fit_answer tt)
 
@@ -284,7 +284,7 @@ recorded_same list s = rw (final-look, final-answer) refl
 fit_after_split : (list : List ℕ) (values : List Recorded) → Fit (for_each list fix_ancestors >> restore_values values)
 fit_after_split list values = search (fits, fit_fix, fit_restore)
 
-pub split_items_fits : (s : State) (list : List ℕ) → IsLawful s → Consecutive s list → FitAt s (split_items list)
+pub split_items_fits : (s : State) (list : List ℕ) → IsValid s → Consecutive s list → FitAt s (split_items list)
 unfolding split_items
 split_items_fits s list is k =
     onwards (record_values list) (λ values. split_parent list >> (for_each list fix_ancestors >> restore_values values)) s
@@ -292,7 +292,7 @@ split_items_fits s list is k =
     (subst (λ t. FitAt t (split_parent list >> (for_each list fix_ancestors >> restore_values (value (record_values list) s)))) (sym (recorded_same list s))
     (then_fit (split_parent list) (λ _. for_each list fix_ancestors >> restore_values (value (record_values list) s)) s is (split_fits s list is k) (λ _. fit_after_split list (value (record_values list) s))))
 
-outdent_from_fits : (s : State) (list : List ℕ) (x : ℕ) → IsLawful s → Consecutive s list → FitAt s (outdent_from list x)
+outdent_from_fits : (s : State) (list : List ℕ) (x : ℕ) → IsValid s → Consecutive s list → FitAt s (outdent_from list x)
 unfolding outdent_from
 outdent_from_fits s list x is k = looking _ s (by_test (is_lone s x))
   where
@@ -300,7 +300,7 @@ outdent_from_fits s list x is k = looking _ s (by_test (is_lone s x))
     by_test true = at_once _ s is (fit_outdent_node x)
     by_test false = split_items_fits s list is k
 
-outdent_series_fits : (s : State) (list : List ℕ) → IsLawful s → Consecutive s list → FitAt s (outdent_series list)
+outdent_series_fits : (s : State) (list : List ℕ) → IsValid s → Consecutive s list → FitAt s (outdent_series list)
 unfolding outdent_series
 outdent_series_fits s list is k = by_first (first_in list)
   where
@@ -322,14 +322,14 @@ fit_outdent = search (fits, fit_range, fit_outdent_gathered)
 
 -- ---- the certificates
 
-pub tame_indent : Tame indent
-tame_indent = fit_indent.order
+pub order_preserving_indent : OrderPreserving indent
+order_preserving_indent = fit_indent.order
 
 pub stateless_indent : Stateless indent
 stateless_indent = fit_indent.states
 
-pub tame_outdent : Tame outdent
-tame_outdent = fit_outdent.order
+pub order_preserving_outdent : OrderPreserving outdent
+order_preserving_outdent = fit_outdent.order
 
 pub stateless_outdent : Stateless outdent
 stateless_outdent = fit_outdent.states

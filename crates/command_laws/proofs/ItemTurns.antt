@@ -18,7 +18,7 @@ use Rattle.edit_model.specs.Confined.{is_editable_for, is_inside, is_open}
 use Rattle.edit_model.specs.Compositions.{attribute_list_of, renamed, set_tag_name}
 use Rattle.edit_model.specs.Edit.{Insert, edited}
 use Rattle.edit_model.specs.Action.{made}
-use Rattle.edit_model.specs.Lawful.{IsLawful}
+use Rattle.edit_model.specs.Valid.{IsValid}
 use Rattle.edit_model.specs.Moves.{move_last, move_each_last}
 use Rattle.edit_model.specs.Run.{final, value, ◌>>=◌, answer, remove, for_each}
 use Rattle.edit_model.proofs.Steps.{final-bind, final-answer, final-look, final-edit, final-make_element, value-bind, value-answer, value-look, value-make_element}
@@ -35,7 +35,7 @@ use Rattle.command_laws.proofs.Swallowing.{taken_grown}
 
 -- x, a child of q, comes next
 pub record Turn (s : State) (items : List ℕ) (x q n : ℕ) : Type 0 where
-  pub is : IsLawful s
+  pub is : IsValid s
   pub grown : Grown s items q n
   pub up : parent_of s.trees x ≡ Some q
   pub with : Together s (items ++ x ∷ [])
@@ -183,4 +183,4 @@ module _ (s : State) (items : List ℕ) (x q n : ℕ) (w : Turn s items x q n) (
           let opened = inside_open s q (parent_inside s w.is x q w.up editable) in
           let put = put_new s w.is (codes "li") attributes x q (p.front ++ members s q items) p.rest w.up p.is opened in
           rw (final-bind, value-bind, final-make_element, value-make_element, final-bind, value-bind, final-edit)
-          (rw (value-bind, value-bind, value-answer) (growing_rest.grows u put.lawful (new_item attributes editable)))
+          (rw (value-bind, value-bind, value-answer) (growing_rest.grows u put.valid (new_item attributes editable)))

@@ -16,7 +16,7 @@ use Rattle.edit_model.specs.State.{State}
 use Rattle.edit_model.specs.Confined.{is_editable_for, is_inside, is_made, is_open, may_move}
 use Rattle.edit_model.specs.Edit.{Insert, Move, edited}
 use Rattle.edit_model.specs.Action.{made}
-use Rattle.edit_model.specs.Lawful.{IsLawful}
+use Rattle.edit_model.specs.Valid.{IsValid}
 use Rattle.edit_model.specs.Moves.{move_first, move_last, move_all_first, move_each_last}
 use Rattle.edit_model.specs.Run.{Run, final, value, ◌>>◌, answer, done, given, for_each}
 use Rattle.edit_model.proofs.CommandParts.{SameCommand, final_command}
@@ -33,16 +33,16 @@ use Rattle.wrap_split.specs.declared.rule.Recipe.TheVariants.{Make}
 use Rattle.wrap_split.specs.Breaks.{breaks_before, breaks_at_end, breaks_from}
 use Rattle.wrap_split.specs.Target.{meets, if_fits, beside, blank_of, made_of, made_by, target}
 use Rattle.wrap_split.specs.Walks.{turn_bound}
-use Rattle.wrap_split.specs.Wrap.{all_hidden, if_hidden, list_on, extended_front, hidden_after, one_of, break_next, with_break, extended, extended_back, widened, first_visible, last_visible, append_break, prepend_break, joins_end, joins_front, parted_end, to_end, parted_front, to_front, moved_in, grow_at, stood, drop_empty, drop_parent, merged, merge_next, filled_from, filled, into_target, wrap_ends, wrap_list, wrap_members, wrap}
+use Rattle.wrap_split.specs.Wrap.{all_hidden, if_hidden, list_on, extended_front, hidden_after, one_of, break_next, with_break, extended, extended_back, widened, first_visible, last_visible, append_break, prepend_break, needs_br, joins_front, separate_with_br, append_all, parted_front, prepend_all, moved_in, grow_at, insert_if_loose, drop_empty, drop_parent, merged, merge_next, filled_from, filled, into_target, wrap_ends, wrap_list, wrap_members, wrap}
 use Rattle.list_indent.specs.Indenting.{bare}
 use Rattle.command_laws.proofs.Sides.{before_list}
 use Rattle.command_laws.proofs.Splitting.{last_some, all_members}
-use Rattle.command_laws.proofs.StatelessSplits.{lawful_final}
+use Rattle.command_laws.proofs.StatelessSplits.{valid_final}
 use Rattle.command_laws.proofs.Widening.{Siblings, first_parted, member, widened_siblings}
 use Rattle.command_laws.proofs.Gone.{gone_all}
 use Rattle.command_laws.proofs.Growing.{Grown, Growing, growing, growing_answer, growing_look}
 use Rattle.command_laws.proofs.ItemTurns.{Turn, Place, place_of, not_above, item_name}
-use Rattle.command_laws.proofs.Putting.{lawful_new, next_new, parent_new, children_new, root_new, empty_new, content_old, open_new, new_child, new_parent, shut_put, put_new}
+use Rattle.command_laws.proofs.Putting.{valid_new, next_new, parent_new, children_new, root_new, empty_new, content_old, open_new, new_child, new_parent, shut_put, put_new}
 use Rattle.command_laws.proofs.SplitLists.{times-reverse}
 use Rattle.command_laws.proofs.Swallowing.{before_same, taken_grown, loose_grown}
 use Rattle.command_laws.proofs.Wrapping.{grown_trees}
@@ -93,8 +93,8 @@ never_fits s (Some p) = by (is_editable_for s p)
     by true = refl
     by false = refl
 
-none_parted : (p : ℕ) (after : Option ℕ) (s : State) → final (parted_end p (last_visible s []) after) s ≡ s
-unfolding parted_end joins_end last_visible
+none_parted : (p : ℕ) (after : Option ℕ) (s : State) → final (separate_with_br p (last_visible s []) after) s ≡ s
+unfolding separate_with_br needs_br last_visible
 none_parted p after s = rw final-look (by (is_block s.trees p))
   where
     by : (v : Bool) → final (if v && false then append_break p else done) s ≡ s
@@ -191,8 +191,8 @@ module _ (s : State) (items : List ℕ) (x q n : ℕ) (w : Turn s items x q n) w
       s3 : State
       s3 = final (grow_at s.next) s2
 
-      stands : final (stood s.next a) s1 ≡ s3
-      unfolding stood s1 s2 s3
+      stands : final (insert_if_loose s.next a) s1 ≡ s3
+      unfolding insert_if_loose s1 s2 s3
       stands = rw (final-look, root_new s w.is (codes "li") [], final-bind, final_insert_before a s.next q s1 (parent_new s w.is (codes "li") [] a ∙ up_a)) refl
 
       trees3 : s3.trees ≡ s2.trees
@@ -200,10 +200,10 @@ module _ (s : State) (items : List ℕ) (x q n : ℕ) (w : Turn s items x q n) w
       trees3 = grown_trees s.next s2
 
       goes_in : Grown (final (moved_in s.next (ahead ++ behind) a) s3) (items ++ s.next ∷ []) q n
-      unfolding moved_in to_end move_each_last s1 s2 s3 more
+      unfolding moved_in append_all move_each_last s1 s2 s3 more
       goes_in =
           let put = put_new s w.is (codes "li") [] a q front (more ++ rest) up_a shape opened in
-          let is3 : IsLawful s3 = lawful_final (grow_at s.next) s2 put.lawful in
+          let is3 : IsValid s3 = valid_final (grow_at s.next) s2 put.valid in
           let command : SameCommand s2 s3 = final_command (grow_at s.next) s2 in
           let inner : children_of s3.trees s.next ≡ [] = ap (λ f. children_of f s.next) trees3 ∙ put.inner in
           let above : children_of s3.trees q ≡ front ++ s.next ∷ ((ahead ++ behind) ++ rest) =
@@ -246,8 +246,8 @@ module _ (s : State) (items : List ℕ) (x q n : ℕ) (w : Turn s items x q n) w
       unfolding s1
       up1 l h = parent_new s w.is (codes "li") [] l ∙ under l h
 
-      stays_loose : final (stood s.next a) s1 ≡ s1
-      unfolding stood s1 grow_at
+      stays_loose : final (insert_if_loose s.next a) s1 ≡ s1
+      unfolding insert_if_loose s1 grow_at
       stays_loose =
           rw (final-look, root_new s w.is (codes "li") [], final-bind, final_insert_before a s.next q (made (Element (codes "li") []) s) (parent_new s w.is (codes "li") [] a ∙ up_a), shut_put s w.is (codes "li") [] a q up_a shut)
           (rw (final-look, root_new s w.is (codes "li") [], final-answer) refl)
@@ -265,10 +265,10 @@ module _ (s : State) (items : List ℕ) (x q n : ℕ) (w : Turn s items x q n) w
       empty1 = empty_new s w.is (codes "li") []
 
       nothing_goes : final (moved_in s.next (ahead ++ behind) a) s1 ≡ s1
-      unfolding moved_in to_end to_front move_each_last move_all_first
+      unfolding moved_in append_all prepend_all move_each_last move_all_first
       nothing_goes = rw final-look (by_side (is_earlier s1.trees s.next a))
         where
-          by_side : (v : Bool) → final (if v then to_end s.next (ahead ++ behind) else to_front s.next (ahead ++ behind)) s1 ≡ s1
+          by_side : (v : Bool) → final (if v then append_all s.next (ahead ++ behind) else prepend_all s.next (ahead ++ behind)) s1 ≡ s1
           by_side true =
               rw (final-look, final-bind, empty1, none_parted s.next (first_visible s1 (ahead ++ behind)) s1)
               (each_stays (ahead ++ behind) (move_last s.next) s1 (λ l h. final_move_last s.next l s1 ∙ no_move l None h))
@@ -286,32 +286,32 @@ module _ (s : State) (items : List ℕ) (x q n : ℕ) (w : Turn s items x q n) w
     Fits : Run (Option ℕ) → State → Type 0
     Fits m t = Grown (final m t) (items ++ one_of (value m t)) q n
 
-    after_moves : (t : State) → IsLawful t → (o : Option ℕ) → Grown (final (moved_in s.next (ahead ++ behind) a) t) (items ++ s.next ∷ []) q n → Fits (moved_in s.next (ahead ++ behind) a >> rest_run o) t
+    after_moves : (t : State) → IsValid t → (o : Option ℕ) → Grown (final (moved_in s.next (ahead ++ behind) a) t) (items ++ s.next ∷ []) q n → Fits (moved_in s.next (ahead ++ behind) a >> rest_run o) t
     unfolding Fits
     after_moves t is_t o g =
         let u : State = final (moved_in s.next (ahead ++ behind) a) t in
-        rw (final-bind, value-bind, rest_value o u) ((growing_rest o).grows u (lawful_final (moved_in s.next (ahead ++ behind) a) t is_t) g)
+        rw (final-bind, value-bind, rest_value o u) ((growing_rest o).grows u (valid_final (moved_in s.next (ahead ++ behind) a) t is_t) g)
 
-    from_stood : (t : State) → IsLawful t → Grown (final (moved_in s.next (ahead ++ behind) a) t) (items ++ s.next ∷ []) q n → Fits (filled_from Never s.next (ahead ++ behind) a (parent_of t.trees a)) t
+    from_insert_if_loose : (t : State) → IsValid t → Grown (final (moved_in s.next (ahead ++ behind) a) t) (items ++ s.next ∷ []) q n → Fits (filled_from Never s.next (ahead ++ behind) a (parent_of t.trees a)) t
     unfolding filled_from rest_run
-    from_stood t is_t g = after_moves t is_t (parent_of t.trees a) g
+    from_insert_if_loose t is_t g = after_moves t is_t (parent_of t.trees a) g
 
-    lawful_one : IsLawful s1
+    valid_one : IsValid s1
     unfolding s1
-    lawful_one = lawful_new s w.is (codes "li") []
+    valid_one = valid_new s w.is (codes "li") []
 
-    lawful_three : (opened : is_open s q ≡ true) → IsLawful (s3 opened)
+    valid_three : (opened : is_open s q ≡ true) → IsValid (s3 opened)
     unfolding s3 s2 s1
-    lawful_three opened = lawful_final (grow_at s.next) (edited (Insert q (Some a) s.next) (made (Element (codes "li") []) s)) (put_new s w.is (codes "li") [] a q front (more ++ rest) up_a shape opened).lawful
+    valid_three opened = valid_final (grow_at s.next) (edited (Insert q (Some a) s.next) (made (Element (codes "li") []) s)) (put_new s w.is (codes "li") [] a q front (more ++ rest) up_a shape opened).valid
 
     filled_grown : Fits (filled Never s.next (ahead ++ behind) a) s1
     unfolding filled Fits
     filled_grown =
-        let is1 : IsLawful s1 = lawful_one in
+        let is1 : IsValid s1 = valid_one in
         rw (final-bind, value-bind, final-look, value-look)
         (elim (cases_Bool (is_open s q)) [
-          | inl opened ↦ rw (stands opened) (from_stood (s3 opened) (lawful_three opened) (goes_in opened))
-          | inr shut ↦ rw (stays_loose shut) (from_stood s1 is1 (rw (nothing_goes shut) (loose_item shut)))
+          | inl opened ↦ rw (stands opened) (from_insert_if_loose (s3 opened) (valid_three opened) (goes_in opened))
+          | inr shut ↦ rw (stays_loose shut) (from_insert_if_loose s1 is1 (rw (nothing_goes shut) (loose_item shut)))
         ])
 
     -- what follows the choice

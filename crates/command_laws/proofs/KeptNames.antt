@@ -16,11 +16,11 @@ use Rattle.edit_model.specs.Edit.{Edit, Insert, Remove, Move, Replace, Set, Unse
 use Rattle.edit_model.specs.Action as action
 use Rattle.edit_model.specs.Action.{Action, made, words_content, extended, acted}
 use Rattle.edit_model.specs.Run.{Reaches, here, onward, Run, final}
-use Rattle.edit_model.specs.Lawful.{IsLawful}
+use Rattle.edit_model.specs.Valid.{IsValid}
 use Rattle.edit_model.proofs.CommandParts.{command_along}
 use Rattle.edit_model.proofs.Forests.{forest-unlink, can_go, fresh}
 use Rattle.edit_model.proofs.IslandRuns.{trees_made, trees_left}
-use Rattle.edit_model.proofs.LawfulRuns.{lawful_along}
+use Rattle.edit_model.proofs.ValidRuns.{valid_along}
 use Rattle.edit_model.proofs.OutsideRuns.{trees-extended, trees-selected, trees-grown, trees-sent, trees-scratched}
 use Rattle.edit_model.proofs.TailSteps.{extracted_off}
 use Rattle.edit_model.proofs.Tests.{inserts, removes, goes, parent_there}
@@ -63,7 +63,7 @@ module _ (l : ℕ) (name : List ℕ) where
   Named : Forest Content → Type 0
   Named f = name_of f l ≡ Some name
 
-  named_after : (e : Edit) (s : State) → IsLawful s → is_made_edit e s ≡ true → Named s.trees → Named (trees_after e s.trees)
+  named_after : (e : Edit) (s : State) → IsValid s → is_made_edit e s ≡ true → Named s.trees → Named (trees_after e s.trees)
   unfolding is_made_edit trees_after Named
   named_after (Insert p b n) s is may h = ap (option_and_then name_in) (content_of-link s.trees p b n l is.forest.distinct (inserts s p b n may).can) ∙ h
   named_after (Remove n) s is may h = let t = removes s n may in ap (option_and_then name_in) (content_of-unlink s.trees t.from n l is.forest.distinct t.child) ∙ h
@@ -77,13 +77,13 @@ module _ (l : ℕ) (name : List ℕ) where
   named_after (Set n own value) s is may h = name_of-revised s.trees n l (with_set own value) (name-set own value) ∙ h
   named_after (Unset n own) s is may h = name_of-revised s.trees n l (with_unset own) (name-unset own) ∙ h
 
-  named_made : (c : Content) (s : State) → IsLawful s → Named s.trees → Named (with_leaf s.trees s.next c)
+  named_made : (c : Content) (s : State) → IsValid s → Named s.trees → Named (with_leaf s.trees s.next c)
   unfolding Named
   named_made c s is h =
       let off : s.next ≢ l = λ e. (let b = is.forest.below l (named_there s.trees l name h) in omega (arith, b, e)) in
       ap (option_and_then name_in) (content_of-with_leaf_other s.trees s.next c l (fresh s.trees s.next is.forest) off) ∙ h
 
-  named_acted : (a : Action) (s : State) → IsLawful s → s.keeping ≡ true → Named s.trees → Named (acted a s).trees
+  named_acted : (a : Action) (s : State) → IsValid s → s.keeping ≡ true → Named s.trees → Named (acted a s).trees
   unfolding acted made extended changed
   named_acted (action.Change e) s is keeps h = elim (cases_Bool (is_made_edit e s)) [
     | inl may ↦ subst Named (sym (trees_made e s may)) (named_after e s is may h)
@@ -101,10 +101,10 @@ module _ (l : ℕ) (name : List ℕ) where
   named_acted (action.Flag flags) s is keeps h = h
   named_acted (action.Extract from end target) s is keeps h = subst (λ t. Named t.trees) (sym (extracted_off from end target s keeps)) h
 
-  named_along : {s t : State} → Reaches s t → IsLawful s → s.keeping ≡ true → name_of s.trees l ≡ Some name → name_of t.trees l ≡ Some name
+  named_along : {s t : State} → Reaches s t → IsValid s → s.keeping ≡ true → name_of s.trees l ≡ Some name → name_of t.trees l ≡ Some name
   unfolding Named
   named_along here is keeps named = named
-  named_along (onward {t = t} q a) is keeps named = named_acted a t (lawful_along q is) ((command_along q).keeping ∙ keeps) (named_along q is keeps named)
+  named_along (onward {t = t} q a) is keeps named = named_acted a t (valid_along q is) ((command_along q).keeping ∙ keeps) (named_along q is keeps named)
 
 -- by the tests
 pub name_stays : {T : Type 0} (m : Run T) (s : State) → IsKeeping s → (l : ℕ) (name : List ℕ) → has_name s.trees l name ≡ true → has_name (final m s).trees l name ≡ true
@@ -113,4 +113,4 @@ name_stays m s is l name h = by_name (name_of s.trees l) refl h
   where
     by_name : (o : Option (List ℕ)) → name_of s.trees l ≡ o → option_map_or (λ own. bytes_eq own name) o false ≡ true → has_name (m.run s).0.trees l name ≡ true
     by_name None e k = absurd (true≢false (sym k))
-    by_name (Some own) e k = ap (λ o. option_map_or (λ own. bytes_eq own name) o false) (named_along l own (m.by_actions s) is.lawful is.keeping e) ∙ k
+    by_name (Some own) e k = ap (λ o. option_map_or (λ own. bytes_eq own name) o false) (named_along l own (m.by_actions s) is.valid is.keeping e) ∙ k

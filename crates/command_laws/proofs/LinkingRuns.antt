@@ -1,38 +1,38 @@
 -- Making links, and unlink, keep the order, and leave the states of contenteditable.
 use Rattle.std.proofs.Common.{ℕ, List, [], ◌∷◌}
 use Rattle.edit_laws.specs.Stateless.{Stateless}
-use Rattle.edit_laws.specs.Tame.{Tame}
+use Rattle.edit_laws.specs.OrderPreserving.{OrderPreserving}
 use Rattle.edit_laws.proofs.StatelessRuns.{stateless_parts, stateless_answer}
-use Rattle.edit_laws.proofs.Tame.{tame, tame_answer}
+use Rattle.edit_laws.proofs.OrderPreserving.{order_preserving, order_preserving_answer}
 use Rattle.inline_commands.specs.Linking.{relink, relink_above, relink_range, link_range, link_to, create_link}
 use Rattle.inline_commands.specs.Unlink.{clear_links, unlink}
-use Rattle.command_laws.proofs.SelectionRuns.{tame_clear_one, tame_set_value, stateless_clear_one, stateless_set_value}
+use Rattle.command_laws.proofs.SelectionRuns.{order_preserving_clear_one, order_preserving_set_value, stateless_clear_one, stateless_set_value}
 
 -- ---- making links
 
-tame_relink : (v : List ℕ) (e : ℕ) → Tame (relink v e)
+order_preserving_relink : (v : List ℕ) (e : ℕ) → OrderPreserving (relink v e)
 unfolding relink
-tame_relink v e = search tame
+order_preserving_relink v e = search order_preserving
 
-tame_relink_above : (v : List ℕ) (n : ℕ) → Tame (relink_above v n)
+order_preserving_relink_above : (v : List ℕ) (n : ℕ) → OrderPreserving (relink_above v n)
 unfolding relink_above
-tame_relink_above v n = search (tame, tame_relink)
+order_preserving_relink_above v n = search (order_preserving, order_preserving_relink)
 
-tame_relink_range : (v : List ℕ) → Tame (relink_range v)
+order_preserving_relink_range : (v : List ℕ) → OrderPreserving (relink_range v)
 unfolding relink_range
-tame_relink_range v = search (tame, tame_relink_above)
+order_preserving_relink_range v = search (order_preserving, order_preserving_relink_above)
 
-tame_link_range : (v : List ℕ) → Tame (link_range v)
+order_preserving_link_range : (v : List ℕ) → OrderPreserving (link_range v)
 unfolding link_range
-tame_link_range v = search (tame, tame_relink_range, tame_set_value)
+order_preserving_link_range v = search (order_preserving, order_preserving_relink_range, order_preserving_set_value)
 
-tame_link_to : (v : List ℕ) → Tame (link_to v)
-tame_link_to [] = tame_answer _
-tame_link_to (c ∷ v) = tame_link_range (c ∷ v)
+order_preserving_link_to : (v : List ℕ) → OrderPreserving (link_to v)
+order_preserving_link_to [] = order_preserving_answer _
+order_preserving_link_to (c ∷ v) = order_preserving_link_range (c ∷ v)
 
-pub tame_create_link : (v : List ℕ) → Tame (create_link v)
+pub order_preserving_create_link : (v : List ℕ) → OrderPreserving (create_link v)
 unfolding create_link
-tame_create_link v = tame_link_to v
+order_preserving_create_link v = order_preserving_link_to v
 
 stateless_relink : (v : List ℕ) (e : ℕ) → Stateless (relink v e)
 unfolding relink
@@ -60,13 +60,13 @@ stateless_create_link v = stateless_link_to v
 
 -- ---- unlink
 
-tame_clear_links : (list : List ℕ) → Tame (clear_links list)
+order_preserving_clear_links : (list : List ℕ) → OrderPreserving (clear_links list)
 unfolding clear_links
-tame_clear_links list = search (tame, tame_clear_one)
+order_preserving_clear_links list = search (order_preserving, order_preserving_clear_one)
 
-pub tame_unlink : Tame unlink
+pub order_preserving_unlink : OrderPreserving unlink
 unfolding unlink
-tame_unlink = search (tame, tame_clear_links)
+order_preserving_unlink = search (order_preserving, order_preserving_clear_links)
 
 stateless_clear_links : (list : List ℕ) → Stateless (clear_links list)
 unfolding clear_links

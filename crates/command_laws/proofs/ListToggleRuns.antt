@@ -21,21 +21,21 @@ use Rattle.edit_model.specs.Action.{Scratch}
 use Rattle.edit_model.specs.Compositions.{set_tag_name}
 use Rattle.edit_model.specs.Confined.{is_editable_for}
 use Rattle.edit_model.specs.Kept.{is_thing}
-use Rattle.edit_model.specs.Lawful.{IsLawful}
+use Rattle.edit_model.specs.Valid.{IsValid}
 use Rattle.edit_model.specs.Run.{Run, final, ◌>>=◌, ◌>>◌, answer, done, given, while_at_most, for_each, set_scratch}
 use Rattle.edit_model.proofs.Steps.{final-bind, final-answer, final-look, value-bind, value-answer, for_each-cons, for_each-nil, final_next}
 use Rattle.edit_model.proofs.Tests.{label_is}
 use Rattle.edit_laws.specs.MoveLaws.{IsBare}
 use Rattle.edit_laws.specs.Order.{KeepsOrder, IsKeeping}
 use Rattle.edit_laws.specs.Stateless.{Stateless}
-use Rattle.edit_laws.specs.Tame.{Tame}
+use Rattle.edit_laws.specs.OrderPreserving.{OrderPreserving}
 use Rattle.edit_laws.proofs.Around.{self_one}
 use Rattle.edit_laws.proofs.QuietActions.{keeping_final}
 use Rattle.edit_laws.proofs.Renaming.{tag_name_keeps}
 use Rattle.edit_laws.proofs.Slides.{parent_other}
 use Rattle.edit_laws.proofs.StatelessRuns.{stateless_parts, stateless_perform}
 use Rattle.edit_laws.proofs.Subsequences.{keeps_refl, keeps_trans}
-use Rattle.edit_laws.proofs.Tame.{tame_answer, tame_perform}
+use Rattle.edit_laws.proofs.OrderPreserving.{order_preserving_answer, order_preserving_perform}
 use Rattle.edit_actions.specs.Siblings.{first_parent, members}
 use Rattle.block_extend.specs.Gather.{gather, gather_on, gathered}
 use Rattle.block_extend.specs.Series.{is_next}
@@ -55,9 +55,9 @@ use Rattle.list_toggle.specs.Ranges.{keep_range, free_range, is_other_list, othe
 use Rattle.list_toggle.specs.Toggle.{goes_on_out, release_from, release_series, release_all, release_lines, wrap_list, move_items, enlist, stays, place_from, place_items, place_collected, enlist_next, enlist_all, enlist_lines, toggle_on, toggle_range, toggle_from, toggle_lists}
 use Rattle.command_laws.proofs.Criteria.{first_part, named_bare}
 use Rattle.command_laws.proofs.ListWalks.{FitAt, at_once, looking, fit_seen, Consecutive, fit_series}
-use Rattle.command_laws.proofs.PushingRuns.{stateless_record_values, stateless_restore_values, tame_restore_values}
+use Rattle.command_laws.proofs.PushingRuns.{stateless_record_values, stateless_restore_values, order_preserving_restore_values}
 use Rattle.command_laws.proofs.IndentRuns.{fit_outdent_node, recorded_same, fit_range, fit_fixed, split_items_fits}
-use Rattle.command_laws.proofs.Splitting.{then_tame, then_tame_on, all_members, split_keeps}
+use Rattle.command_laws.proofs.Splitting.{then_order_preserving, then_order_preserving_on, all_members, split_keeps}
 use Rattle.command_laws.proofs.StatelessSplits.{stateless_split}
 use Rattle.command_laws.proofs.StatelessWraps.{stateless_wrap, stateless_wrap_found}
 use Rattle.command_laws.proofs.SublistRuns.{Ends, ends_answer, ends_look, ends_bind}
@@ -84,7 +84,7 @@ list_of_bare ordered s l h = named_bare s l (list_name ordered) (list_thing orde
 -- ---- steps 1 and 2
 
 fit_scratch : (pair : Pair) → Fit (set_scratch pair)
-fit_scratch pair = fit (tame_perform (Scratch pair) tt) (stateless_perform (Scratch pair) tt)
+fit_scratch pair = fit (order_preserving_perform (Scratch pair) tt) (stateless_perform (Scratch pair) tt)
 
 fit_keep_range : Fit keep_range
 unfolding keep_range
@@ -105,11 +105,11 @@ joined_keeps ordered l children s is kids =
     let is_t = keeping_final (split_parent children) s is in
     let wrapped = together_keeps (Named (list_name ordered) false) Nothing (list_thing ordered) tt t is_t children (by_children children kids).siblings in
     rw (final-bind, recorded_same children s, final-bind)
-    (keeps_trans (split_keeps [] children [] l s is whole) (then_tame (wrap (Named (list_name ordered) false) Nothing children) _ t is_t wrapped (tame_restore_values _)))
+    (keeps_trans (split_keeps [] children [] l s is whole) (then_order_preserving (wrap (Named (list_name ordered) false) Nothing children) _ t is_t wrapped (order_preserving_restore_values _)))
   where
     by_children : (list : List ℕ) → children_of s.trees l ≡ list → Together (final (split_parent list) s) list
     by_children [] e = together_none _
-    by_children (a ∷ rest) e = split_children_together s is.lawful l a rest e
+    by_children (a ∷ rest) e = split_children_together s is.valid l a rest e
 
 stateless_join : (ordered : Bool) (children : List ℕ) → Stateless (join ordered children)
 unfolding join
@@ -124,7 +124,7 @@ unfolding name_list
 named_keeps ordered l s is plain = rw final-look (by (is_element_at s.trees l))
   where
     by : (v : Bool) → KeepsOrder s (final (if v then (set_tag_name l (list_name ordered) >> done) else done) s)
-    by true = then_tame (set_tag_name l (list_name ordered)) done s is (tag_name_keeps l (list_name ordered) s is plain (list_thing ordered)) (tame_answer tt)
+    by true = then_order_preserving (set_tag_name l (list_name ordered)) done s is (tag_name_keeps l (list_name ordered) s is plain (list_thing ordered)) (order_preserving_answer tt)
     by false = rw final-answer (keeps_refl _)
 
 stateless_name_list : (ordered : Bool) (l : ℕ) → Stateless (name_list ordered l)
@@ -192,7 +192,7 @@ fit_convert_lists ordered = fit
 
 -- ---- step 5
 
-release_from_fits : (ordered : Bool) (s : State) (list : List ℕ) (x : ℕ) → IsLawful s → Consecutive s list → FitAt s (release_from ordered list x)
+release_from_fits : (ordered : Bool) (s : State) (list : List ℕ) (x : ℕ) → IsValid s → Consecutive s list → FitAt s (release_from ordered list x)
 unfolding release_from
 release_from_fits ordered s list x is k = looking _ s (by (is_list_of ordered s.trees x))
   where
@@ -200,7 +200,7 @@ release_from_fits ordered s list x is k = looking _ s (by (is_list_of ordered s.
     by true = at_once _ s is (fit_outdent_node x)
     by false = split_items_fits s list is k
 
-release_series_fits : (ordered : Bool) (s : State) (list : List ℕ) → IsLawful s → Consecutive s list → FitAt s (release_series ordered list)
+release_series_fits : (ordered : Bool) (s : State) (list : List ℕ) → IsValid s → Consecutive s list → FitAt s (release_series ordered list)
 unfolding release_series
 release_series_fits ordered s list is k = by (first_in list)
   where
@@ -275,7 +275,7 @@ split_taken : (s : State) → IsKeeping s → (list : List ℕ) (o : ℕ) → fi
 unfolding split_parent
 split_taken s is list o first w =
     let k = w.siblings o in
-    rw (final-look, first) (by_members (members s o list) (λ l h. member s is.lawful o k.front (members s o list) k.rest k.is l h) (split_keeps k.front (members s o list) k.rest o s is k.is))
+    rw (final-look, first) (by_members (members s o list) (λ l h. member s is.valid o k.front (members s o list) k.rest k.is l h) (split_keeps k.front (members s o list) k.rest o s is k.is))
   where
     by_members : (m : List ℕ) → ((l : ℕ) → 0 < times m l → parent_of s.trees l ≡ Some o) → KeepsOrder s (final (split_parent m) s) → KeepsOrder s (final (split_members o m) s)
     by_members m owned h = taken_split s o m owned h
@@ -287,7 +287,7 @@ module _ (ordered : Bool) (s : State) (is : IsKeeping s) where
 
   enlist_keeps : (items : List ℕ) → Together s items → KeepsOrder s (final (enlist ordered items) s)
   unfolding enlist
-  enlist_keeps items w = then_tame_on (wrap_list ordered items) fixed s is (wrap_list_keeps items w) (λ o. (fit_fixed o).order)
+  enlist_keeps items w = then_order_preserving_on (wrap_list ordered items) fixed s is (wrap_list_keeps items w) (λ o. (fit_fixed o).order)
 
 -- a list is no li
 no_item_list : (ordered : Bool) (o : Option (List ℕ)) → option_map_or (λ own. bytes_eq own (list_name ordered)) o false ≡ true → option_map_or (λ own. bytes_eq own (codes "li")) o false ≡ true → ⊥
@@ -301,7 +301,7 @@ module _ (ordered : Bool) (s : State) (is : IsKeeping s) (a : ℕ) (l : List ℕ
 
   elsewhere : (r m : ℕ) → parent_of s.trees o ≡ Some r → 0 < times (a ∷ l) m → parent_of s.trees m ≡ Some r → ⊥
   elsewhere r m above h own = elim (g.apart m r h own) [
-    | inl same ↦ parent_other s.trees is.lawful.forest.distinct o r above (same ∙ sym own_list)
+    | inl same ↦ parent_other s.trees is.valid.forest.distinct o r above (same ∙ sym own_list)
     | inr made ↦ (
         let low = g.above r (subst (λ k. parent_of s.trees k ≡ Some r) own_list above) in
         absurd (omega (arith, low, made.0)))
@@ -312,9 +312,9 @@ module _ (ordered : Bool) (s : State) (is : IsKeeping s) (a : ℕ) (l : List ℕ
   move_keeps =
       let t : State = final (split_parent (a ∷ l)) s in
       let is_t = keeping_final (split_parent (a ∷ l)) s is in
-      let together = split_list_together s is.lawful a o l g.together up elsewhere in
+      let together = split_list_together s is.valid a o l g.together up elsewhere in
       rw (final-bind, recorded_same (a ∷ l) s, final-bind)
-      (keeps_trans (split_taken s is (a ∷ l) o (first_up s a o l up) g.together) (then_tame (wrap_list ordered (a ∷ l)) _ t is_t (wrap_list_keeps ordered t is_t (a ∷ l) together) (tame_restore_values _)))
+      (keeps_trans (split_taken s is (a ∷ l) o (first_up s a o l up) g.together) (then_order_preserving (wrap_list ordered (a ∷ l)) _ t is_t (wrap_list_keeps ordered t is_t (a ∷ l) together) (order_preserving_restore_values _)))
 
 place_keeps : (ordered : Bool) (s : State) → IsKeeping s → (items : List ℕ) (q n : ℕ) → Grown s items q n → KeepsOrder s (final (place_items ordered items) s)
 unfolding place_items place_from is_child_of
@@ -339,7 +339,7 @@ Known t list = (l : ℕ) → 0 < times list l → l < t.next
 placed_ends : (ordered : Bool) (s : State) → IsKeeping s → (c : Collected) → Items s c → Ends s Known (place_collected ordered c)
 unfolding place_collected Known
 placed_ends ordered s is c w = record {
-  order = then_tame (place_items ordered c.0) (answer c.1) s is (place_keeps ordered s is c.0 w.q w.n w.grown) (tame_answer c.1);
+  order = then_order_preserving (place_items ordered c.0) (answer c.1) s is (place_keeps ordered s is c.0 w.q w.n w.grown) (order_preserving_answer c.1);
   holds = rw (final-bind, final-answer, value-bind, value-answer) (λ l h. omega (arith, w.known l h, final_next (place_items ordered c.0) s));
 }
 
@@ -361,7 +361,7 @@ enlist_turns ordered (suc bound) s is list known = ends_look Known _ s (by_test 
 enlist_all_keeps : (ordered : Bool) (s : State) → IsKeeping s → (list : List ℕ) → Known s list → KeepsOrder s (final (enlist_all ordered list) s)
 unfolding enlist_all
 enlist_all_keeps ordered s is list known =
-    rw final-look (then_tame (while_at_most (turn_bound s) has_members (enlist_next ordered) list) done s is (enlist_turns ordered (turn_bound s) s is list known).order (tame_answer tt))
+    rw final-look (then_order_preserving (while_at_most (turn_bound s) has_members (enlist_next ordered) list) done s is (enlist_turns ordered (turn_bound s) s is list known).order (order_preserving_answer tt))
 
 known_after : {T : Type 0} (m : Run T) (s : State) (list : List ℕ) → Known s list → Known (final m s) list
 unfolding Known
@@ -399,7 +399,7 @@ unfolding gathered gather
 gathered_passes test f p q l h = filter_passes test (contained_nodes f p q) l (omega (arith, h, gather_few f [] (filter test (contained_nodes f p q)) l))
 
 -- an editable node has a parent, so it is there
-member_known : (s : State) → IsLawful s → (l : ℕ) → ((h : ℕ) × (is_member s.trees h l ≡ true)) → l < s.next
+member_known : (s : State) → IsValid s → (l : ℕ) → ((h : ℕ) × (is_member s.trees h l ≡ true)) → l < s.next
 unfolding is_member
 member_known s is l r = by (parent_of s.trees l) refl
   where
@@ -411,7 +411,7 @@ member_known s is l r = by (parent_of s.trees l) refl
         cc)
 
 -- the lines of the range are there
-range_known : (s : State) → IsLawful s → Known s (range_lines s)
+range_known : (s : State) → IsValid s → Known s (range_lines s)
 unfolding range_lines range_members Known
 range_known s is l h = member_known s is l (by s.points.scratch (filter_few (is_line s) (range_members s) l) h)
   where
@@ -432,7 +432,7 @@ fit_enlist_lines ordered = fit
     lines_keep : (ordered : Bool) (s : State) → IsKeeping s → KeepsOrder s (final (free_range >> enlist_all ordered (range_lines s)) s)
     lines_keep ordered s is =
         let t : State = final free_range s in
-        let known : Known t (range_lines s) = known_after free_range s (range_lines s) (range_known s is.lawful) in
+        let known : Known t (range_lines s) = known_after free_range s (range_lines s) (range_known s is.valid) in
         rw final-bind (keeps_trans (fit_free_range.order.keeps s is) (enlist_all_keeps ordered t (keeping_final free_range s is) (range_lines s) known))
 
 -- ---- the whole
@@ -455,8 +455,8 @@ fit_toggle ordered = search (fits, fit_toggle_from)
 
 -- ---- the certificates
 
-pub tame_toggle_lists : (ordered : Bool) → Tame (toggle_lists ordered)
-tame_toggle_lists ordered = (fit_toggle ordered).order
+pub order_preserving_toggle_lists : (ordered : Bool) → OrderPreserving (toggle_lists ordered)
+order_preserving_toggle_lists ordered = (fit_toggle ordered).order
 
 pub stateless_toggle_lists : (ordered : Bool) → Stateless (toggle_lists ordered)
 stateless_toggle_lists ordered = (fit_toggle ordered).states

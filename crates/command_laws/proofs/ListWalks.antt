@@ -7,7 +7,7 @@ use Rattle.dom_model.specs.Forest.{Seen, last_in, after_in, parent_of, children_
 use Rattle.dom_model.proofs.Links.{child_of_parent}
 use Rattle.edit_model.specs.State.{State}
 use Rattle.edit_model.specs.Laws.{LeavesStatesOn}
-use Rattle.edit_model.specs.Lawful.{IsLawful}
+use Rattle.edit_model.specs.Valid.{IsValid}
 use Rattle.edit_model.specs.Run.{Run, final, value, ◌>>=◌, look}
 use Rattle.edit_model.proofs.Steps.{final-bind, final-look}
 use Rattle.edit_model.proofs.Tests.{label_is}
@@ -21,12 +21,12 @@ use Rattle.wrap_split.specs.Wrap.{wrap}
 use Rattle.block_extend.specs.Series.{count_after, is_next}
 use Rattle.list_indent.specs.Series.{for_series}
 use Rattle.command_laws.specs.WrapLaws.{NamesNoThing, MakesNoThing, MakesNoState}
-use Rattle.command_laws.proofs.Splitting.{parted, split_keeps, tame_split_one}
-use Rattle.command_laws.proofs.StatelessSplits.{at_bind, at_look, lawful_final, stateless_split}
+use Rattle.command_laws.proofs.Splitting.{parted, split_keeps, order_preserving_split_one}
+use Rattle.command_laws.proofs.StatelessSplits.{at_bind, at_look, valid_final, stateless_split}
 use Rattle.command_laws.proofs.StatelessWraps.{stateless_wrap}
 use Rattle.command_laws.proofs.Walks.{Fit, fit, fit_answer}
 use Rattle.command_laws.proofs.Widening.{Siblings, pushed-last, one_after, same_list}
-use Rattle.command_laws.proofs.Wrapping.{wrap_keeps, tame_wrap_one}
+use Rattle.command_laws.proofs.Wrapping.{wrap_keeps, order_preserving_wrap_one}
 
 -- ---- from one state
 
@@ -34,7 +34,7 @@ pub record FitAt {T : Type 0} (s : State) (m : Run T) : Type 0 where
   pub order : IsKeeping s → KeepsOrder s (final m s)
   pub states : LeavesStatesOn (m.by_actions s)
 
-pub at_once : {T : Type 0} (m : Run T) (s : State) → IsLawful s → Fit m → FitAt s m
+pub at_once : {T : Type 0} (m : Run T) (s : State) → IsValid s → Fit m → FitAt s m
 at_once m s is h = record { order = λ k. h.order.keeps s k; states = h.states.leaves s is }
 
 pub looking : {T : Type 0} (k : State → Run T) (s : State) → FitAt s (k s) → FitAt s (look k)
@@ -47,13 +47,13 @@ onwards m k s h g = record {
 }
 
 -- what follows is fit from every state
-pub then_fit : {A B : Type 0} (m : Run A) (k : A → Run B) (s : State) → IsLawful s → FitAt s m → ((a : A) → Fit (k a)) → FitAt s (m >>= k)
-then_fit m k s is h g = onwards m k s h (at_once (k (value m s)) (final m s) (lawful_final m s is) (g (value m s)))
+pub then_fit : {A B : Type 0} (m : Run A) (k : A → Run B) (s : State) → IsValid s → FitAt s m → ((a : A) → Fit (k a)) → FitAt s (m >>= k)
+then_fit m k s is h g = onwards m k s h (at_once (k (value m s)) (final m s) (valid_final m s is) (g (value m s)))
 
 -- a run that looks, and is known to be fit from the state that it sees
-pub fit_seen : {T : Type 0} (k : State → Run T) → ((s : State) → IsLawful s → FitAt s (k s)) → Fit (look k)
+pub fit_seen : {T : Type 0} (k : State → Run T) → ((s : State) → IsValid s → FitAt s (k s)) → Fit (look k)
 fit_seen k h = fit
-    (record { keeps = λ s is. rw (final-look k s) ((h s is.lawful).order is) })
+    (record { keeps = λ s is. rw (final-look k s) ((h s is.valid).order is) })
     (record { leaves = λ s is. at_look k s (h s is).states })
 
 -- ---- consecutive siblings, in order; or one node alone
@@ -63,22 +63,22 @@ pub data Consecutive (s : State) (list : List ℕ) : Type 0 where
   among : (o : ℕ) → Siblings s o list → Consecutive s list
 
 pub consecutive_keeps : (c : Criterion) (r : Recipe) → NamesNoThing c → MakesNoThing r → (s : State) → IsKeeping s → (list : List ℕ) → Consecutive s list → KeepsOrder s (final (wrap c r list) s)
-consecutive_keeps c r plain makes s is list (alone x e) = subst (λ l. KeepsOrder s (final (wrap c r l) s)) (sym e) ((tame_wrap_one c r x plain makes).keeps s is)
+consecutive_keeps c r plain makes s is list (alone x e) = subst (λ l. KeepsOrder s (final (wrap c r l) s)) (sym e) ((order_preserving_wrap_one c r x plain makes).keeps s is)
 consecutive_keeps c r plain makes s is list (among o w) = wrap_keeps c r w.front list w.rest o s plain makes is w.is
 
-pub wrap_fits : (c : Criterion) (r : Recipe) → NamesNoThing c → MakesNoThing r → MakesNoState r → (s : State) (list : List ℕ) → IsLawful s → Consecutive s list → FitAt s (wrap c r list)
+pub wrap_fits : (c : Criterion) (r : Recipe) → NamesNoThing c → MakesNoThing r → MakesNoState r → (s : State) (list : List ℕ) → IsValid s → Consecutive s list → FitAt s (wrap c r list)
 wrap_fits c r plain makes none s list is k = record { order = λ keeping. consecutive_keeps c r plain makes s keeping list k; states = (stateless_wrap c r none list).leaves s is }
 
-pub split_fits : (s : State) (list : List ℕ) → IsLawful s → Consecutive s list → FitAt s (split_parent list)
+pub split_fits : (s : State) (list : List ℕ) → IsValid s → Consecutive s list → FitAt s (split_parent list)
 split_fits s list is k = record { order = λ keeping. by k keeping; states = (stateless_split list).leaves s is }
   where
     by : Consecutive s list → IsKeeping s → KeepsOrder s (final (split_parent list) s)
-    by (alone x e) keeping = subst (λ l. KeepsOrder s (final (split_parent l) s)) (sym e) ((tame_split_one x).keeps s keeping)
+    by (alone x e) keeping = subst (λ l. KeepsOrder s (final (split_parent l) s)) (sym e) ((order_preserving_split_one x).keeps s keeping)
     by (among o w) keeping = split_keeps w.front list w.rest o s keeping w.is
 
 -- ---- series
 
-module _ (s : State) (is : IsLawful s) (on : ℕ → ℕ → Bool) (nexts : (x y : ℕ) → on x y ≡ true → next_of s.trees x ≡ Some y) where
+module _ (s : State) (is : IsValid s) (on : ℕ → ℕ → Bool) (nexts : (x y : ℕ) → on x y ≡ true → next_of s.trees x ≡ Some y) where
   grown : (o : ℕ) (list : List ℕ) (z : ℕ) → Siblings s o list → last_in list ≡ Some z → (xs : List ℕ) → Siblings s o (list ++ take (count_after on z xs) xs)
   grown o list z w last [] = same_list s is o list w
   grown o list z w last (y ∷ ys) = by_test (on z y) refl (λ longer. grown o (list ++ y ∷ []) y longer (pushed-last None list y) ys)
@@ -112,7 +112,7 @@ module _ (s : State) (is : IsLawful s) (on : ℕ → ℕ → Bool) (nexts : (x y
 
 -- each series is as the state has it when its turn comes
 pub fit_series : (on : State → ℕ → ℕ → Bool) (body : List ℕ → Run (Unit {0})) → ((s : State) (x y : ℕ) → on s x y ≡ true → is_next s.trees x y ≡ true)
-    → ((s : State) (list : List ℕ) → IsLawful s → Consecutive s list → FitAt s (body list)) → (taken : ℕ) (list : List ℕ) → Fit (for_series on body taken list)
+    → ((s : State) (list : List ℕ) → IsValid s → Consecutive s list → FitAt s (body list)) → (taken : ℕ) (list : List ℕ) → Fit (for_series on body taken list)
 unfolding for_series is_next
 fit_series on body nexts fits taken [] = fit_answer tt
 fit_series on body nexts fits (suc taken) (x ∷ xs) = fit_series on body nexts fits taken xs

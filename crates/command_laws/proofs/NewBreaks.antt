@@ -67,7 +67,7 @@ module _ (s : State) (is : IsKeeping s) (p : ℕ) where
 
   document1 : document_of s1.trees ≡ document_of s.trees
   unfolding s1
-  document1 = ap document_of (made_trees br s) ∙ document-with_leaf s.trees s.next is.lawful.forest s.next br
+  document1 = ap document_of (made_trees br s) ∙ document-with_leaf s.trees s.next is.valid.forest s.next br
 
   module _ (b : Option ℕ) where
     s2 : State
@@ -86,7 +86,7 @@ module _ (s : State) (is : IsKeeping s) (p : ℕ) where
     where_made = λ may. (
         let now : s2.trees ≡ link s1.trees p b s.next = trees_made (Insert p b s.next) s1 may in
         let can = (inserts s1 p b s.next may).can in
-        let once = is1.lawful.forest.distinct in
+        let once = is1.valid.forest.distinct in
         record {
           keeps = keeps2;
           keeping = is2;
@@ -100,7 +100,7 @@ module _ (s : State) (is : IsKeeping s) (p : ℕ) where
           loose = λ none. (
               let out : count_of (tree_of s1.trees 0) p ≡ 0 = ap (λ g. count_of g p) document1 ∙ none in
               let same : document_of s2.trees ≡ document_of s.trees =
-              ap document_of now ∙ (document-link s1.trees s1.next is1.lawful.forest p b s.next can ∙ (put_under_nowhere (tree_of s1.trees 0) p b (tree_of s1.trees s.next) out ∙ document1)) in
+              ap document_of now ∙ (document-link s1.trees s1.next is1.valid.forest p b s.next can ∙ (put_under_nowhere (tree_of s1.trees 0) p b (tree_of s1.trees s.next) out ∙ document1)) in
               ap (λ g. count_of g p) same ∙ none);
         })
 

@@ -17,7 +17,7 @@ use Rattle.edit_model.specs.Action.{MakeElement}
 use Rattle.edit_model.specs.Compositions.{attribute_list_of}
 use Rattle.edit_model.specs.Confined.{is_editable_for}
 use Rattle.edit_model.specs.Laws.{LeavesStates}
-use Rattle.edit_model.specs.Lawful.{IsLawful}
+use Rattle.edit_model.specs.Valid.{IsValid}
 use Rattle.edit_model.specs.Run.{Run, final}
 use Rattle.edit_model.proofs.Each.{copy_stateless}
 use Rattle.edit_model.proofs.States.{stated_value, states_along}
@@ -27,10 +27,10 @@ use Rattle.edit_laws.specs.Stateless.{Stateless}
 abbrev pub HasNoState : State → ℕ → Type 0
 HasNoState s n = (name : List ℕ) → LeavesStates (MakeElement name (attribute_list_of s.trees n))
 
-pub editable_unstated : (s : State) (n : ℕ) → IsLawful s → is_editable_for s n ≡ true → HasNoState s n
+pub editable_unstated : (s : State) (n : ℕ) → IsValid s → is_editable_for s n ≡ true → HasNoState s n
 editable_unstated s n is editable name = copy_stateless s n name is editable
 
-pub made_unstated : {T : Type 0} (m : Run T) (s : State) (n : ℕ) → IsLawful s → Stateless m → s.next ≤ n → HasNoState (final m s) n
+pub made_unstated : {T : Type 0} (m : Run T) (s : State) (n : ℕ) → IsValid s → Stateless m → s.next ≤ n → HasNoState (final m s) n
 unfolding final
 made_unstated m s n is h high name =
     by_content (content_of (m.run s).0.trees n) ((states_along (m.by_actions s) is (h.leaves s is)).made n high)

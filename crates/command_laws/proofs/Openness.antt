@@ -9,7 +9,7 @@ use Rattle.dom_model.proofs.Links.{parent_count}
 use Rattle.dom_model.proofs.Within.{depth_of-parent, within_at, within_child}
 use Rattle.edit_model.specs.State.{State}
 use Rattle.edit_model.specs.Confined.{is_editable_for, is_inside, is_made, is_open}
-use Rattle.edit_model.specs.Lawful.{IsLawful}
+use Rattle.edit_model.specs.Valid.{IsValid}
 use Rattle.edit_model.proofs.CommandParts.{SameCommand}
 use Rattle.edit_model.proofs.IslandRuns.{content_at}
 
@@ -39,7 +39,7 @@ module _ (f g : Forest Content) (once : IsDistinct f) (once' : IsDistinct g) (k 
 
 -- ---- what is open stays so where one node comes to stand elsewhere
 
-pub open_same : (s t : State) → IsLawful s → IsLawful t → SameCommand s t → (k : ℕ) → 0 < count_of s.trees k → ((l : ℕ) → k ≢ l → parent_of t.trees l ≡ parent_of s.trees l) → ((l : ℕ) → content_of t.trees l ≡ content_of s.trees l)
+pub open_same : (s t : State) → IsValid s → IsValid t → SameCommand s t → (k : ℕ) → 0 < count_of s.trees k → ((l : ℕ) → k ≢ l → parent_of t.trees l ≡ parent_of s.trees l) → ((l : ℕ) → content_of t.trees l ≡ content_of s.trees l)
     → (l : ℕ) → (IsWithin s.trees k l → ⊥) → is_open t l ≡ is_open s l
 unfolding is_open is_inside is_editable_for is_made
 open_same s t is is_t command k known parent content l apart =

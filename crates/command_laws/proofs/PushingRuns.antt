@@ -4,63 +4,63 @@ use Rattle.dom_model.specs.Forest.{first_in}
 use Rattle.html_names.specs.declared.commands.Command.{Command}
 use Rattle.command_value.specs.SpecifiedValues.{specified}
 use Rattle.edit_laws.specs.Stateless.{Stateless}
-use Rattle.edit_laws.specs.Tame.{Tame}
+use Rattle.edit_laws.specs.OrderPreserving.{OrderPreserving}
 use Rattle.edit_laws.proofs.StatelessRuns.{stateless_parts, stateless_answer, stateless_bind, stateless_look_at}
-use Rattle.edit_laws.proofs.Tame.{tame, tame_answer, tame_bind, tame_look}
+use Rattle.edit_laws.proofs.OrderPreserving.{order_preserving, order_preserving_answer, order_preserving_bind, order_preserving_look}
 use Rattle.inline_value.specs.Pushing.{push_to, clear_level, push_level, own_or, push_levels, push_from, push_listed, push_down}
 use Rattle.inline_value.specs.Recording.{Recorded, restored_to, restore_value, restore_values, record_values}
-use Rattle.command_laws.proofs.ClearingRuns.{tame_clear_value, stateless_clear_value}
-use Rattle.command_laws.proofs.ForcingRuns.{tame_force, stateless_force}
+use Rattle.command_laws.proofs.ClearingRuns.{order_preserving_clear_value, stateless_clear_value}
+use Rattle.command_laws.proofs.ForcingRuns.{order_preserving_force, stateless_force}
 
 -- ---- the order
 
-tame_push_to : (command : Command) (w : Option (List ℕ)) (n : ℕ) (next : Option ℕ) (k : ℕ) → Tame (push_to command w n next k)
+order_preserving_push_to : (command : Command) (w : Option (List ℕ)) (n : ℕ) (next : Option ℕ) (k : ℕ) → OrderPreserving (push_to command w n next k)
 unfolding push_to
-tame_push_to command w n next k = search (tame, tame_force)
+order_preserving_push_to command w n next k = search (order_preserving, order_preserving_force)
 
-tame_clear_level : (command : Command) (e : ℕ) → Tame (clear_level command e)
+order_preserving_clear_level : (command : Command) (e : ℕ) → OrderPreserving (clear_level command e)
 unfolding clear_level
-tame_clear_level command e = search (tame, tame_clear_value)
+order_preserving_clear_level command e = search (order_preserving, order_preserving_clear_value)
 
-tame_level : (command : Command) (w : Option (List ℕ)) (n : ℕ) (next : Option ℕ) (e : ℕ) → Tame (push_level command w n next e)
+order_preserving_level : (command : Command) (w : Option (List ℕ)) (n : ℕ) (next : Option ℕ) (e : ℕ) → OrderPreserving (push_level command w n next e)
 unfolding push_level
-tame_level command w n next e = search (tame, tame_clear_level, tame_push_to)
+order_preserving_level command w n next e = search (order_preserving, order_preserving_clear_level, order_preserving_push_to)
 
-tame_levels : (command : Command) (w : Option (List ℕ)) (n : ℕ) (list : List ℕ) → Tame (push_levels command w n list)
+order_preserving_levels : (command : Command) (w : Option (List ℕ)) (n : ℕ) (list : List ℕ) → OrderPreserving (push_levels command w n list)
 unfolding push_levels
-tame_levels command w n [] = tame_answer tt
-tame_levels command w n (e ∷ list) =
-    tame_look _ (λ s. (
+order_preserving_levels command w n [] = order_preserving_answer tt
+order_preserving_levels command w n (e ∷ list) =
+    order_preserving_look _ (λ s. (
     let u = own_or (specified s.trees e command) w in
-    tame_bind (push_level command u n (first_in list) e) (λ _. push_levels command u n list) (tame_level command u n (first_in list) e) (λ _. tame_levels command u n list)))
+    order_preserving_bind (push_level command u n (first_in list) e) (λ _. push_levels command u n list) (order_preserving_level command u n (first_in list) e) (λ _. order_preserving_levels command u n list)))
 
-tame_push_from : (command : Command) (v : Option (List ℕ)) (n : ℕ) (list : List ℕ) (e : ℕ) → Tame (push_from command v n list e)
+order_preserving_push_from : (command : Command) (v : Option (List ℕ)) (n : ℕ) (list : List ℕ) (e : ℕ) → OrderPreserving (push_from command v n list e)
 unfolding push_from
-tame_push_from command v n list e = search (tame, tame_levels)
+order_preserving_push_from command v n list e = search (order_preserving, order_preserving_levels)
 
-tame_push_listed : (command : Command) (v : Option (List ℕ)) (n : ℕ) (list : List ℕ) → Tame (push_listed command v n list)
+order_preserving_push_listed : (command : Command) (v : Option (List ℕ)) (n : ℕ) (list : List ℕ) → OrderPreserving (push_listed command v n list)
 unfolding push_listed
-tame_push_listed command v n list = search (tame, tame_push_from)
+order_preserving_push_listed command v n list = search (order_preserving, order_preserving_push_from)
 
-pub tame_push_down : (command : Command) (v : Option (List ℕ)) (n : ℕ) → Tame (push_down command v n)
+pub order_preserving_push_down : (command : Command) (v : Option (List ℕ)) (n : ℕ) → OrderPreserving (push_down command v n)
 unfolding push_down
-tame_push_down command v n = search (tame, tame_push_listed)
+order_preserving_push_down command v n = search (order_preserving, order_preserving_push_listed)
 
-tame_restored : (command : Command) (n : ℕ) (w u : Option (List ℕ)) → Tame (restored_to command n w u)
-tame_restored command n None u = search (tame, tame_push_down)
-tame_restored command n (Some w) u = search (tame, tame_force)
+order_preserving_restored : (command : Command) (n : ℕ) (w u : Option (List ℕ)) → OrderPreserving (restored_to command n w u)
+order_preserving_restored command n None u = search (order_preserving, order_preserving_push_down)
+order_preserving_restored command n (Some w) u = search (order_preserving, order_preserving_force)
 
-tame_restore_value : (r : Recorded) → Tame (restore_value r)
+order_preserving_restore_value : (r : Recorded) → OrderPreserving (restore_value r)
 unfolding restore_value
-tame_restore_value r = search (tame, tame_restored)
+order_preserving_restore_value r = search (order_preserving, order_preserving_restored)
 
-pub tame_restore_values : (list : List Recorded) → Tame (restore_values list)
+pub order_preserving_restore_values : (list : List Recorded) → OrderPreserving (restore_values list)
 unfolding restore_values
-tame_restore_values list = search (tame, tame_restore_value)
+order_preserving_restore_values list = search (order_preserving, order_preserving_restore_value)
 
-pub tame_record_values : (list : List ℕ) → Tame (record_values list)
+pub order_preserving_record_values : (list : List ℕ) → OrderPreserving (record_values list)
 unfolding record_values
-tame_record_values list = search tame
+order_preserving_record_values list = search order_preserving
 
 -- ---- the states of contenteditable
 

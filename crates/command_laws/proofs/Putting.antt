@@ -18,7 +18,7 @@ use Rattle.edit_model.specs.State.{State}
 use Rattle.edit_model.specs.Confined.{is_editable_for, is_inside, is_made, is_open, may_insert}
 use Rattle.edit_model.specs.Edit.{Insert, is_made_edit, trees_after, edited}
 use Rattle.edit_model.specs.Action.{made}
-use Rattle.edit_model.specs.Lawful.{IsLawful}
+use Rattle.edit_model.specs.Valid.{IsValid}
 use Rattle.edit_model.specs.Run.{insert, make_element}
 use Rattle.edit_model.proofs.CommandParts.{SameCommand, final_command}
 use Rattle.edit_model.proofs.Documents.{has_children}
@@ -31,7 +31,7 @@ use Rattle.edit_laws.proofs.Around.{self_one}
 use Rattle.edit_laws.proofs.Hosts.{host_from-join}
 use Rattle.edit_laws.proofs.Patterns.{tree_of-join}
 use Rattle.edit_laws.proofs.Renaming.{made_trees}
-use Rattle.command_laws.proofs.StatelessSplits.{lawful_final}
+use Rattle.command_laws.proofs.StatelessSplits.{valid_final}
 use Rattle.command_laws.proofs.Together.{parent-linked}
 use Rattle.command_laws.proofs.Wrapping.{put_in-middle}
 use Rattle.command_laws.proofs.Openness.{open_same}
@@ -39,12 +39,12 @@ use Rattle.command_laws.proofs.Copies.{all_seven}
 
 -- ---- the new element, before it is put in
 
-module _ (s : State) (is : IsLawful s) (name : List ℕ) (attributes : List Attribute) where
+module _ (s : State) (is : IsValid s) (name : List ℕ) (attributes : List Attribute) where
   new_absent : count_of s.trees s.next ≡ 0
   new_absent = fresh s.trees s.next is.forest
 
-  pub lawful_new : IsLawful (made (Element name attributes) s)
-  lawful_new = subst IsLawful (final-make_element name attributes s) (lawful_final (make_element name attributes) s is)
+  pub valid_new : IsValid (made (Element name attributes) s)
+  valid_new = subst IsValid (final-make_element name attributes s) (valid_final (make_element name attributes) s is)
 
   pub next_new : s.next < (made (Element name attributes) s).next
   unfolding made
@@ -133,18 +133,18 @@ pub record PutIn (s t : State) (name : List ℕ) (attributes : List Attribute) (
   pub others : (o : ℕ) → q ≢ o → children_of t.trees o ≡ children_of s.trees o
   pub content : (l : ℕ) → s.next ≢ l → content_of t.trees l ≡ content_of s.trees l
   pub named : content_of t.trees s.next ≡ Some (Element name attributes)
-  pub lawful : IsLawful t
+  pub valid : IsValid t
   pub more : s.next < t.next
   pub mine : is_made t s.next ≡ true
   pub opened : is_open t q ≡ true
 
-pub put_new : (s : State) → IsLawful s → (name : List ℕ) (attributes : List Attribute) (a q : ℕ) (front rest : List ℕ) → parent_of s.trees a ≡ Some q → children_of s.trees q ≡ front ++ a ∷ rest → is_open s q ≡ true
+pub put_new : (s : State) → IsValid s → (name : List ℕ) (attributes : List Attribute) (a q : ℕ) (front rest : List ℕ) → parent_of s.trees a ≡ Some q → children_of s.trees q ≡ front ++ a ∷ rest → is_open s q ≡ true
     → PutIn s (edited (Insert q (Some a) s.next) (made (Element name attributes) s)) name attributes q front (a ∷ rest)
 unfolding is_made_edit trees_after is_made
 put_new s is name attributes a q front rest up kids opened =
     let s1 : State = made (Element name attributes) s in
     let t : State = edited (Insert q (Some a) s.next) s1 in
-    let is1 = lawful_new s is name attributes in
+    let is1 = valid_new s is name attributes in
     let may = may_put s is name attributes a q up opened in
     let can = (inserts s1 q (Some a) s.next may).can in
     let once = is1.forest.distinct in
@@ -159,7 +159,7 @@ put_new s is name attributes a q front rest up kids opened =
     let command : SameCommand s1 t = subst (SameCommand s1) (final-edit (Insert q (Some a) s.next) s1) (final_command (insert q (Some a) s.next) s1) in
     let first : SameCommand s s1 = subst (SameCommand s) (final-make_element name attributes s) (final_command (make_element name attributes) s) in
     let made_new : is_made t s.next ≡ true = ap (λ n. nat_le n s.next) (command.start ∙ first.start) ∙ le-leb s.start s.next is.started in
-    let lawful_t : IsLawful t = subst IsLawful (final-edit (Insert q (Some a) s.next) s1) (lawful_final (insert q (Some a) s.next) s1 is1) in
+    let valid_t : IsValid t = subst IsValid (final-edit (Insert q (Some a) s.next) s1) (valid_final (insert q (Some a) s.next) s1 is1) in
     record {
       parent = λ l off. parents l ∙ (rw (ne_eqb s.next l off) (parent_new s is name attributes l));
       own = parents s.next ∙ rw (eqb_refl_true s.next) refl;
@@ -168,11 +168,11 @@ put_new s is name attributes a q front rest up kids opened =
       others = λ o off. children o ∙ rw (ne_eqb q o off) (children_new s is name attributes o);
       content = λ l off. contents l ∙ content_old s is name attributes l off;
       named = contents s.next ∙ content_new s is name attributes;
-      lawful = lawful_t;
+      valid = valid_t;
       more = omega (arith, next_new s is name attributes, subst (λ u. s1.next ≤ u.next) (final-edit (Insert q (Some a) s.next) s1) (final_next (insert q (Some a) s.next) s1));
       mine = made_new;
       opened =
-          open_same s1 t is1 lawful_t command s.next can.node (λ l off. parents l ∙ rw (ne_eqb s.next l off) refl) contents q
+          open_same s1 t is1 valid_t command s.next can.node (λ l off. parents l ∙ rw (ne_eqb s.next l off) refl) contents q
           (λ h. omega (arith, h, can.apart))
           ∙ (open_new s is name attributes q (λ e. apart (sym e)) ∙ opened);
     }

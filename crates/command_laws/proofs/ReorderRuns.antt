@@ -8,16 +8,16 @@ use Rattle.dom_model.proofs.Within.{within_self, within_child}
 use Rattle.html_names.specs.declared.commands.Command.{Command}
 use Rattle.command_value.specs.Modifiable.{is_modifiable, is_simple_modifiable, meets_value}
 use Rattle.edit_model.specs.State.{State}
-use Rattle.edit_model.specs.Lawful.{IsLawful}
+use Rattle.edit_model.specs.Valid.{IsValid}
 use Rattle.edit_model.specs.Run.{final, done}
 use Rattle.edit_model.proofs.Steps.{final-look}
 use Rattle.edit_laws.specs.Order.{KeepsOrder, IsKeeping}
 use Rattle.edit_laws.specs.Stateless.{Stateless}
-use Rattle.edit_laws.specs.Tame.{Tame}
+use Rattle.edit_laws.specs.OrderPreserving.{OrderPreserving}
 use Rattle.edit_laws.proofs.Lines.{holder_there}
 use Rattle.edit_laws.proofs.StatelessRuns.{stateless_parts}
 use Rattle.edit_laws.proofs.Swapping.{change_places}
-use Rattle.edit_laws.proofs.Tame.{tame_answer}
+use Rattle.edit_laws.proofs.OrderPreserving.{order_preserving_answer}
 use Rattle.wrap_split.specs.Walks.{turn_bound}
 use Rattle.inline_value.specs.Reordering.{gives_value, if_sole, sole_child, reorder_step, reordered, swapped, reorder_with, reorder}
 use Rattle.command_laws.proofs.Cleared.{walk_keeps}
@@ -30,7 +30,7 @@ use Rattle.command_laws.proofs.Criteria.{first_part, modifiable_bare, modifiable
 abbrev Below : State → ℕ → ℕ → Type 0
 Below s n r = (r ≡ n) ⊎ IsWithin s.trees n r
 
-module _ (s : State) (is : IsLawful s) (n : ℕ) (command : Command) (v : List ℕ) where
+module _ (s : State) (is : IsValid s) (n : ℕ) (command : Command) (v : List ℕ) where
   child_below : (r m : ℕ) → Below s n r → parent_of s.trees m ≡ Some r → Below s n m
   child_below r m (inl same) up =
       let once = is.forest.distinct in
@@ -73,14 +73,14 @@ unfolding reorder_with
 with_keeps s is command v n c below = rw final-look (by_test (eqb c n) (meets_value s.trees c command v) refl refl below)
   where
     by_test : (u w : Bool) → eqb c n ≡ u → meets_value s.trees c command v ≡ w → Below s n c → KeepsOrder s (final (if u || not w then done else swapped n c) s)
-    by_test true w e h k = (tame_answer tt).keeps s is
-    by_test false false e h k = (tame_answer tt).keeps s is
+    by_test true w e h k = (order_preserving_answer tt).keeps s is
+    by_test false false e h k = (order_preserving_answer tt).keeps s is
     by_test false true e h (inl same) = absurd (eqb-false c n e same)
     by_test false true e h (inr inside) = swapped_keeps s is n c inside (λ same. eqb-false c n e (sym same)) (value_simple s c command v h)
 
-pub tame_reorder : (command : Command) (v : List ℕ) (n : ℕ) → Tame (reorder command v n)
+pub order_preserving_reorder : (command : Command) (v : List ℕ) (n : ℕ) → OrderPreserving (reorder command v n)
 unfolding reorder
-tame_reorder command v n = record { keeps = λ s is. rw final-look (with_keeps s is command v n (reordered s command v n) (reordered_below s is.lawful n command v)) }
+order_preserving_reorder command v n = record { keeps = λ s is. rw final-look (with_keeps s is command v n (reordered s command v n) (reordered_below s is.valid n command v)) }
 
 -- ---- the states of contenteditable
 

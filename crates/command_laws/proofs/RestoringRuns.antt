@@ -6,131 +6,131 @@ use Rattle.edit_model.specs.Action.{Override}
 use Rattle.edit_model.specs.declared.settings.Setting.{Setting}
 use Rattle.edit_model.specs.declared.settings.Setting.TheVariants.{On, Off, Text, Absent}
 use Rattle.edit_laws.specs.Stateless.{Stateless}
-use Rattle.edit_laws.specs.Tame.{Tame}
+use Rattle.edit_laws.specs.OrderPreserving.{OrderPreserving}
 use Rattle.edit_laws.proofs.StatelessRuns.{stateless_parts, stateless_answer, stateless_perform}
-use Rattle.edit_laws.proofs.Tame.{tame, tame_answer, tame_perform}
+use Rattle.edit_laws.proofs.OrderPreserving.{order_preserving, order_preserving_answer, order_preserving_perform}
 use Rattle.inline_value.specs.declared.overrides.Override as overrides
 use Rattle.inline_commands.specs.RestoringStates.{override_by, set_override, turn_round, turned, restore_on, restore_off, restore_shown, restore_link, restore_size, restore_text, restore_setting, restore_entry, restore_states}
-use Rattle.command_laws.proofs.LinkingRuns.{tame_create_link, stateless_create_link}
-use Rattle.command_laws.proofs.TogglingRuns.{tame_toggle_style, tame_toggle_script, tame_apply_value, stateless_toggle_style, stateless_toggle_script, stateless_apply_value}
+use Rattle.command_laws.proofs.LinkingRuns.{order_preserving_create_link, stateless_create_link}
+use Rattle.command_laws.proofs.TogglingRuns.{order_preserving_toggle_style, order_preserving_toggle_script, order_preserving_apply_value, stateless_toggle_style, stateless_toggle_script, stateless_apply_value}
 
 -- ---- the order
 
-tame_override : (c : Command) (setting : Setting) → Tame (override_by c setting)
-tame_override c Absent = tame_answer tt
-tame_override c On = tame_perform (Override c On) tt
-tame_override c Off = tame_perform (Override c Off) tt
-tame_override c (Text v) = tame_perform (Override c (Text v)) tt
+order_preserving_override : (c : Command) (setting : Setting) → OrderPreserving (override_by c setting)
+order_preserving_override c Absent = order_preserving_answer tt
+order_preserving_override c On = order_preserving_perform (Override c On) tt
+order_preserving_override c Off = order_preserving_perform (Override c Off) tt
+order_preserving_override c (Text v) = order_preserving_perform (Override c (Text v)) tt
 
-tame_set_override : (o : overrides.Override) → Tame (set_override o)
+order_preserving_set_override : (o : overrides.Override) → OrderPreserving (set_override o)
 unfolding set_override
-tame_set_override o = tame_override o.command o.setting
+order_preserving_set_override o = order_preserving_override o.command o.setting
 
-tame_turn : (c : Command) → Tame (turn_round c)
-tame_turn command.Bold = tame_toggle_style command.Bold
-tame_turn command.Italic = tame_toggle_style command.Italic
-tame_turn command.Underline = tame_toggle_style command.Underline
-tame_turn command.Strikethrough = tame_toggle_style command.Strikethrough
-tame_turn command.Subscript = tame_toggle_script command.Subscript
-tame_turn command.Superscript = tame_toggle_script command.Superscript
-tame_turn command.CreateLink = tame_toggle_style command.CreateLink
-tame_turn command.Unlink = tame_toggle_style command.Unlink
-tame_turn command.FontName = tame_toggle_style command.FontName
-tame_turn command.FontSize = tame_toggle_style command.FontSize
-tame_turn command.ForeColor = tame_toggle_style command.ForeColor
-tame_turn command.BackColor = tame_toggle_style command.BackColor
-tame_turn command.HiliteColor = tame_toggle_style command.HiliteColor
-tame_turn command.RemoveFormat = tame_toggle_style command.RemoveFormat
-tame_turn command.FormatBlock = tame_toggle_style command.FormatBlock
-tame_turn command.JustifyLeft = tame_toggle_style command.JustifyLeft
-tame_turn command.JustifyCenter = tame_toggle_style command.JustifyCenter
-tame_turn command.JustifyRight = tame_toggle_style command.JustifyRight
-tame_turn command.JustifyFull = tame_toggle_style command.JustifyFull
-tame_turn command.Indent = tame_toggle_style command.Indent
-tame_turn command.Outdent = tame_toggle_style command.Outdent
-tame_turn command.Delete = tame_toggle_style command.Delete
-tame_turn command.InsertText = tame_toggle_style command.InsertText
-tame_turn command.InsertParagraph = tame_toggle_style command.InsertParagraph
-tame_turn command.StyleWithCss = tame_toggle_style command.StyleWithCss
-tame_turn command.UseCss = tame_toggle_style command.UseCss
-tame_turn command.DefaultParagraphSeparator = tame_toggle_style command.DefaultParagraphSeparator
-tame_turn command.InsertOrderedList = tame_toggle_style command.InsertOrderedList
-tame_turn command.InsertUnorderedList = tame_toggle_style command.InsertUnorderedList
-tame_turn command.InsertLineBreak = tame_toggle_style command.InsertLineBreak
-tame_turn command.InsertHorizontalRule = tame_toggle_style command.InsertHorizontalRule
-tame_turn command.InsertImage = tame_toggle_style command.InsertImage
+order_preserving_turn : (c : Command) → OrderPreserving (turn_round c)
+order_preserving_turn command.Bold = order_preserving_toggle_style command.Bold
+order_preserving_turn command.Italic = order_preserving_toggle_style command.Italic
+order_preserving_turn command.Underline = order_preserving_toggle_style command.Underline
+order_preserving_turn command.Strikethrough = order_preserving_toggle_style command.Strikethrough
+order_preserving_turn command.Subscript = order_preserving_toggle_script command.Subscript
+order_preserving_turn command.Superscript = order_preserving_toggle_script command.Superscript
+order_preserving_turn command.CreateLink = order_preserving_toggle_style command.CreateLink
+order_preserving_turn command.Unlink = order_preserving_toggle_style command.Unlink
+order_preserving_turn command.FontName = order_preserving_toggle_style command.FontName
+order_preserving_turn command.FontSize = order_preserving_toggle_style command.FontSize
+order_preserving_turn command.ForeColor = order_preserving_toggle_style command.ForeColor
+order_preserving_turn command.BackColor = order_preserving_toggle_style command.BackColor
+order_preserving_turn command.HiliteColor = order_preserving_toggle_style command.HiliteColor
+order_preserving_turn command.RemoveFormat = order_preserving_toggle_style command.RemoveFormat
+order_preserving_turn command.FormatBlock = order_preserving_toggle_style command.FormatBlock
+order_preserving_turn command.JustifyLeft = order_preserving_toggle_style command.JustifyLeft
+order_preserving_turn command.JustifyCenter = order_preserving_toggle_style command.JustifyCenter
+order_preserving_turn command.JustifyRight = order_preserving_toggle_style command.JustifyRight
+order_preserving_turn command.JustifyFull = order_preserving_toggle_style command.JustifyFull
+order_preserving_turn command.Indent = order_preserving_toggle_style command.Indent
+order_preserving_turn command.Outdent = order_preserving_toggle_style command.Outdent
+order_preserving_turn command.Delete = order_preserving_toggle_style command.Delete
+order_preserving_turn command.InsertText = order_preserving_toggle_style command.InsertText
+order_preserving_turn command.InsertParagraph = order_preserving_toggle_style command.InsertParagraph
+order_preserving_turn command.StyleWithCss = order_preserving_toggle_style command.StyleWithCss
+order_preserving_turn command.UseCss = order_preserving_toggle_style command.UseCss
+order_preserving_turn command.DefaultParagraphSeparator = order_preserving_toggle_style command.DefaultParagraphSeparator
+order_preserving_turn command.InsertOrderedList = order_preserving_toggle_style command.InsertOrderedList
+order_preserving_turn command.InsertUnorderedList = order_preserving_toggle_style command.InsertUnorderedList
+order_preserving_turn command.InsertLineBreak = order_preserving_toggle_style command.InsertLineBreak
+order_preserving_turn command.InsertHorizontalRule = order_preserving_toggle_style command.InsertHorizontalRule
+order_preserving_turn command.InsertImage = order_preserving_toggle_style command.InsertImage
 
-tame_turned : (c : Command) → Tame (turned c)
+order_preserving_turned : (c : Command) → OrderPreserving (turned c)
 unfolding turned
-tame_turned c = search (tame, tame_turn)
+order_preserving_turned c = search (order_preserving, order_preserving_turn)
 
-tame_on : (c : Command) → Tame (restore_on c)
+order_preserving_on : (c : Command) → OrderPreserving (restore_on c)
 unfolding restore_on
-tame_on c = search (tame, tame_turned)
+order_preserving_on c = search (order_preserving, order_preserving_turned)
 
-tame_off : (c : Command) → Tame (restore_off c)
+order_preserving_off : (c : Command) → OrderPreserving (restore_off c)
 unfolding restore_off
-tame_off c = search (tame, tame_turned)
+order_preserving_off c = search (order_preserving, order_preserving_turned)
 
-tame_shown : (c : Command) (v : List ℕ) → Tame (restore_shown c v)
+order_preserving_shown : (c : Command) (v : List ℕ) → OrderPreserving (restore_shown c v)
 unfolding restore_shown
-tame_shown c v = search (tame, tame_apply_value)
+order_preserving_shown c v = search (order_preserving, order_preserving_apply_value)
 
-tame_link : (v : List ℕ) → Tame (restore_link v)
+order_preserving_link : (v : List ℕ) → OrderPreserving (restore_link v)
 unfolding restore_link
-tame_link v = search (tame, tame_create_link)
+order_preserving_link v = search (order_preserving, order_preserving_create_link)
 
-tame_size : (v : List ℕ) → Tame (restore_size v)
+order_preserving_size : (v : List ℕ) → OrderPreserving (restore_size v)
 unfolding restore_size
-tame_size v = search (tame, tame_apply_value)
+order_preserving_size v = search (order_preserving, order_preserving_apply_value)
 
-tame_text : (c : Command) (v : List ℕ) → Tame (restore_text c v)
-tame_text command.Bold v = tame_answer tt
-tame_text command.Italic v = tame_answer tt
-tame_text command.Underline v = tame_answer tt
-tame_text command.Strikethrough v = tame_answer tt
-tame_text command.Subscript v = tame_answer tt
-tame_text command.Superscript v = tame_answer tt
-tame_text command.CreateLink v = tame_link v
-tame_text command.Unlink v = tame_answer tt
-tame_text command.FontName v = tame_shown command.FontName v
-tame_text command.FontSize v = tame_size v
-tame_text command.ForeColor v = tame_shown command.ForeColor v
-tame_text command.BackColor v = tame_answer tt
-tame_text command.HiliteColor v = tame_shown command.HiliteColor v
-tame_text command.RemoveFormat v = tame_answer tt
-tame_text command.FormatBlock v = tame_answer tt
-tame_text command.JustifyLeft v = tame_answer tt
-tame_text command.JustifyCenter v = tame_answer tt
-tame_text command.JustifyRight v = tame_answer tt
-tame_text command.JustifyFull v = tame_answer tt
-tame_text command.Indent v = tame_answer tt
-tame_text command.Outdent v = tame_answer tt
-tame_text command.Delete v = tame_answer tt
-tame_text command.InsertText v = tame_answer tt
-tame_text command.InsertParagraph v = tame_answer tt
-tame_text command.StyleWithCss v = tame_answer tt
-tame_text command.UseCss v = tame_answer tt
-tame_text command.DefaultParagraphSeparator v = tame_answer tt
-tame_text command.InsertOrderedList v = tame_answer tt
-tame_text command.InsertUnorderedList v = tame_answer tt
-tame_text command.InsertLineBreak v = tame_answer tt
-tame_text command.InsertHorizontalRule v = tame_answer tt
-tame_text command.InsertImage v = tame_answer tt
+order_preserving_text : (c : Command) (v : List ℕ) → OrderPreserving (restore_text c v)
+order_preserving_text command.Bold v = order_preserving_answer tt
+order_preserving_text command.Italic v = order_preserving_answer tt
+order_preserving_text command.Underline v = order_preserving_answer tt
+order_preserving_text command.Strikethrough v = order_preserving_answer tt
+order_preserving_text command.Subscript v = order_preserving_answer tt
+order_preserving_text command.Superscript v = order_preserving_answer tt
+order_preserving_text command.CreateLink v = order_preserving_link v
+order_preserving_text command.Unlink v = order_preserving_answer tt
+order_preserving_text command.FontName v = order_preserving_shown command.FontName v
+order_preserving_text command.FontSize v = order_preserving_size v
+order_preserving_text command.ForeColor v = order_preserving_shown command.ForeColor v
+order_preserving_text command.BackColor v = order_preserving_answer tt
+order_preserving_text command.HiliteColor v = order_preserving_shown command.HiliteColor v
+order_preserving_text command.RemoveFormat v = order_preserving_answer tt
+order_preserving_text command.FormatBlock v = order_preserving_answer tt
+order_preserving_text command.JustifyLeft v = order_preserving_answer tt
+order_preserving_text command.JustifyCenter v = order_preserving_answer tt
+order_preserving_text command.JustifyRight v = order_preserving_answer tt
+order_preserving_text command.JustifyFull v = order_preserving_answer tt
+order_preserving_text command.Indent v = order_preserving_answer tt
+order_preserving_text command.Outdent v = order_preserving_answer tt
+order_preserving_text command.Delete v = order_preserving_answer tt
+order_preserving_text command.InsertText v = order_preserving_answer tt
+order_preserving_text command.InsertParagraph v = order_preserving_answer tt
+order_preserving_text command.StyleWithCss v = order_preserving_answer tt
+order_preserving_text command.UseCss v = order_preserving_answer tt
+order_preserving_text command.DefaultParagraphSeparator v = order_preserving_answer tt
+order_preserving_text command.InsertOrderedList v = order_preserving_answer tt
+order_preserving_text command.InsertUnorderedList v = order_preserving_answer tt
+order_preserving_text command.InsertLineBreak v = order_preserving_answer tt
+order_preserving_text command.InsertHorizontalRule v = order_preserving_answer tt
+order_preserving_text command.InsertImage v = order_preserving_answer tt
 
-tame_setting : (c : Command) (setting : Setting) → Tame (restore_setting c setting)
-tame_setting c On = tame_on c
-tame_setting c Off = tame_off c
-tame_setting c (Text v) = tame_text c v
-tame_setting c Absent = tame_answer tt
+order_preserving_setting : (c : Command) (setting : Setting) → OrderPreserving (restore_setting c setting)
+order_preserving_setting c On = order_preserving_on c
+order_preserving_setting c Off = order_preserving_off c
+order_preserving_setting c (Text v) = order_preserving_text c v
+order_preserving_setting c Absent = order_preserving_answer tt
 
-tame_entry : (o : overrides.Override) → Tame (restore_entry o)
+order_preserving_entry : (o : overrides.Override) → OrderPreserving (restore_entry o)
 unfolding restore_entry
-tame_entry o = tame_setting o.command o.setting
+order_preserving_entry o = order_preserving_setting o.command o.setting
 
-pub tame_restore_states : (list : List overrides.Override) → Tame (restore_states list)
+pub order_preserving_restore_states : (list : List overrides.Override) → OrderPreserving (restore_states list)
 unfolding restore_states
-tame_restore_states list = search (tame, tame_set_override, tame_entry)
+order_preserving_restore_states list = search (order_preserving, order_preserving_set_override, order_preserving_entry)
 
 -- ---- the states of contenteditable
 

@@ -18,16 +18,16 @@ use Rattle.edit_model.specs.Run.{final, ◌>>=◌, ◌>>◌, done}
 use Rattle.edit_model.proofs.Steps.{final-look}
 use Rattle.edit_laws.specs.Order.{KeepsOrder, IsKeeping}
 use Rattle.edit_laws.specs.Stateless.{Stateless}
-use Rattle.edit_laws.specs.Tame.{Tame}
+use Rattle.edit_laws.specs.OrderPreserving.{OrderPreserving}
 use Rattle.edit_laws.proofs.Splitting.{split_keeps}
 use Rattle.edit_laws.proofs.StatelessRuns.{stateless_parts, stateless_answer, stateless_perform}
-use Rattle.edit_laws.proofs.Tame.{tame, tame_answer, tame_perform}
+use Rattle.edit_laws.proofs.OrderPreserving.{order_preserving, order_preserving_answer, order_preserving_perform}
 use Rattle.inline_value.specs.Selections.{is_amid, with_start, set_start, start_text, split_at_start, split_at_end, split_start, split_end, split_ends, unset_rival, set_overrides, clear_one, clear_elements, force_phrase, give_node, give_nodes, give_range, set_value}
-use Rattle.command_laws.proofs.ClearingRuns.{tame_clear_value, stateless_clear_value}
+use Rattle.command_laws.proofs.ClearingRuns.{order_preserving_clear_value, stateless_clear_value}
 use Rattle.command_laws.proofs.Criteria.{first_part}
-use Rattle.command_laws.proofs.ForcingRuns.{tame_force, stateless_force}
-use Rattle.command_laws.proofs.PushingRuns.{tame_push_down, stateless_push_down}
-use Rattle.command_laws.proofs.Splitting.{then_tame, then_tame_on}
+use Rattle.command_laws.proofs.ForcingRuns.{order_preserving_force, stateless_force}
+use Rattle.command_laws.proofs.PushingRuns.{order_preserving_push_down, stateless_push_down}
+use Rattle.command_laws.proofs.Splitting.{then_order_preserving, then_order_preserving_on}
 
 -- ---- splitting the texts at the ends
 
@@ -52,114 +52,114 @@ amid_keeps s is at h =
     let w = words_there s at.label (first_part (is_words s.trees at.label) _ h) in
     split_keeps at.label at.offset w.0 s is w.1 (λ _. first_part (is_editable_for s at.label) _ (second_part (is_words s.trees at.label) _ h))
 
-tame_with_start : (f : Forest Content) (pair : Pair) (at : Point) → Tame (with_start f pair at)
-tame_with_start f pair at = search tame
+order_preserving_with_start : (f : Forest Content) (pair : Pair) (at : Point) → OrderPreserving (with_start f pair at)
+order_preserving_with_start f pair at = search order_preserving
 
-tame_set_start : (at : Point) → Tame (set_start at)
+order_preserving_set_start : (at : Point) → OrderPreserving (set_start at)
 unfolding set_start
-tame_set_start at = search (tame, tame_with_start)
+order_preserving_set_start at = search (order_preserving, order_preserving_with_start)
 
-tame_start_text : (n : ℕ) → Tame (start_text n)
+order_preserving_start_text : (n : ℕ) → OrderPreserving (start_text n)
 unfolding start_text
-tame_start_text n = search (tame, tame_set_start)
+order_preserving_start_text n = search (order_preserving, order_preserving_set_start)
 
-tame_at_start : (at : Point) → Tame (split_at_start at)
+order_preserving_at_start : (at : Point) → OrderPreserving (split_at_start at)
 unfolding split_at_start
-tame_at_start at = record { keeps = λ s is. rw final-look (by_test s is (is_amid s at) refl) }
+order_preserving_at_start at = record { keeps = λ s is. rw final-look (by_test s is (is_amid s at) refl) }
   where
     by_test : (s : State) → IsKeeping s → (v : Bool) → is_amid s at ≡ v → KeepsOrder s (final (if v then (split_words at.label at.offset >>= start_text) else done) s)
-    by_test s is true h = then_tame_on (split_words at.label at.offset) start_text s is (amid_keeps s is at h) tame_start_text
-    by_test s is false h = (tame_answer tt).keeps s is
+    by_test s is true h = then_order_preserving_on (split_words at.label at.offset) start_text s is (amid_keeps s is at h) order_preserving_start_text
+    by_test s is false h = (order_preserving_answer tt).keeps s is
 
-tame_at_end : (at : Point) → Tame (split_at_end at)
+order_preserving_at_end : (at : Point) → OrderPreserving (split_at_end at)
 unfolding split_at_end
-tame_at_end at = record { keeps = λ s is. rw final-look (by_test s is (is_amid s at) refl) }
+order_preserving_at_end at = record { keeps = λ s is. rw final-look (by_test s is (is_amid s at) refl) }
   where
     by_test : (s : State) → IsKeeping s → (v : Bool) → is_amid s at ≡ v → KeepsOrder s (final (if v then (split_words at.label at.offset >> done) else done) s)
-    by_test s is true h = then_tame (split_words at.label at.offset) done s is (amid_keeps s is at h) (tame_answer tt)
-    by_test s is false h = (tame_answer tt).keeps s is
+    by_test s is true h = then_order_preserving (split_words at.label at.offset) done s is (amid_keeps s is at h) (order_preserving_answer tt)
+    by_test s is false h = (order_preserving_answer tt).keeps s is
 
-tame_start : Tame split_start
+order_preserving_start : OrderPreserving split_start
 unfolding split_start
-tame_start = search (tame, tame_at_start)
+order_preserving_start = search (order_preserving, order_preserving_at_start)
 
-tame_end : Tame split_end
+order_preserving_end : OrderPreserving split_end
 unfolding split_end
-tame_end = search (tame, tame_at_end)
+order_preserving_end = search (order_preserving, order_preserving_at_end)
 
-pub tame_split_ends : Tame split_ends
+pub order_preserving_split_ends : OrderPreserving split_ends
 unfolding split_ends
-tame_split_ends = search (tame, tame_start, tame_end)
+order_preserving_split_ends = search (order_preserving, order_preserving_start, order_preserving_end)
 
 -- ---- the overrides
 
-tame_rival : (c : Command) → Tame (unset_rival c)
-tame_rival command.Bold = tame_answer tt
-tame_rival command.Italic = tame_answer tt
-tame_rival command.Underline = tame_answer tt
-tame_rival command.Strikethrough = tame_answer tt
-tame_rival command.Subscript = tame_perform (Override command.Superscript Absent) tt
-tame_rival command.Superscript = tame_perform (Override command.Subscript Absent) tt
-tame_rival command.CreateLink = tame_answer tt
-tame_rival command.Unlink = tame_answer tt
-tame_rival command.FontName = tame_answer tt
-tame_rival command.FontSize = tame_answer tt
-tame_rival command.ForeColor = tame_answer tt
-tame_rival command.BackColor = tame_answer tt
-tame_rival command.HiliteColor = tame_answer tt
-tame_rival command.RemoveFormat = tame_answer tt
-tame_rival command.FormatBlock = tame_answer tt
-tame_rival command.JustifyLeft = tame_answer tt
-tame_rival command.JustifyCenter = tame_answer tt
-tame_rival command.JustifyRight = tame_answer tt
-tame_rival command.JustifyFull = tame_answer tt
-tame_rival command.Indent = tame_answer tt
-tame_rival command.Outdent = tame_answer tt
-tame_rival command.Delete = tame_answer tt
-tame_rival command.InsertText = tame_answer tt
-tame_rival command.InsertParagraph = tame_answer tt
-tame_rival command.StyleWithCss = tame_answer tt
-tame_rival command.UseCss = tame_answer tt
-tame_rival command.DefaultParagraphSeparator = tame_answer tt
-tame_rival command.InsertOrderedList = tame_answer tt
-tame_rival command.InsertUnorderedList = tame_answer tt
-tame_rival command.InsertLineBreak = tame_answer tt
-tame_rival command.InsertHorizontalRule = tame_answer tt
-tame_rival command.InsertImage = tame_answer tt
+order_preserving_rival : (c : Command) → OrderPreserving (unset_rival c)
+order_preserving_rival command.Bold = order_preserving_answer tt
+order_preserving_rival command.Italic = order_preserving_answer tt
+order_preserving_rival command.Underline = order_preserving_answer tt
+order_preserving_rival command.Strikethrough = order_preserving_answer tt
+order_preserving_rival command.Subscript = order_preserving_perform (Override command.Superscript Absent) tt
+order_preserving_rival command.Superscript = order_preserving_perform (Override command.Subscript Absent) tt
+order_preserving_rival command.CreateLink = order_preserving_answer tt
+order_preserving_rival command.Unlink = order_preserving_answer tt
+order_preserving_rival command.FontName = order_preserving_answer tt
+order_preserving_rival command.FontSize = order_preserving_answer tt
+order_preserving_rival command.ForeColor = order_preserving_answer tt
+order_preserving_rival command.BackColor = order_preserving_answer tt
+order_preserving_rival command.HiliteColor = order_preserving_answer tt
+order_preserving_rival command.RemoveFormat = order_preserving_answer tt
+order_preserving_rival command.FormatBlock = order_preserving_answer tt
+order_preserving_rival command.JustifyLeft = order_preserving_answer tt
+order_preserving_rival command.JustifyCenter = order_preserving_answer tt
+order_preserving_rival command.JustifyRight = order_preserving_answer tt
+order_preserving_rival command.JustifyFull = order_preserving_answer tt
+order_preserving_rival command.Indent = order_preserving_answer tt
+order_preserving_rival command.Outdent = order_preserving_answer tt
+order_preserving_rival command.Delete = order_preserving_answer tt
+order_preserving_rival command.InsertText = order_preserving_answer tt
+order_preserving_rival command.InsertParagraph = order_preserving_answer tt
+order_preserving_rival command.StyleWithCss = order_preserving_answer tt
+order_preserving_rival command.UseCss = order_preserving_answer tt
+order_preserving_rival command.DefaultParagraphSeparator = order_preserving_answer tt
+order_preserving_rival command.InsertOrderedList = order_preserving_answer tt
+order_preserving_rival command.InsertUnorderedList = order_preserving_answer tt
+order_preserving_rival command.InsertLineBreak = order_preserving_answer tt
+order_preserving_rival command.InsertHorizontalRule = order_preserving_answer tt
+order_preserving_rival command.InsertImage = order_preserving_answer tt
 
-tame_set_overrides : (c : Command) (v : Option (List ℕ)) → Tame (set_overrides c v)
+order_preserving_set_overrides : (c : Command) (v : Option (List ℕ)) → OrderPreserving (set_overrides c v)
 unfolding set_overrides
-tame_set_overrides c v = search (tame, tame_rival)
+order_preserving_set_overrides c v = search (order_preserving, order_preserving_rival)
 
 -- ---- the whole
 
-pub tame_clear_one : (c : Command) (e : ℕ) → Tame (clear_one c e)
+pub order_preserving_clear_one : (c : Command) (e : ℕ) → OrderPreserving (clear_one c e)
 unfolding clear_one
-tame_clear_one c e = search (tame, tame_clear_value)
+order_preserving_clear_one c e = search (order_preserving, order_preserving_clear_value)
 
-tame_clear_elements : (c : Command) → Tame (clear_elements c)
+order_preserving_clear_elements : (c : Command) → OrderPreserving (clear_elements c)
 unfolding clear_elements
-tame_clear_elements c = search (tame, tame_clear_one)
+order_preserving_clear_elements c = search (order_preserving, order_preserving_clear_one)
 
-tame_force_phrase : (c : Command) (v : Option (List ℕ)) (n : ℕ) → Tame (force_phrase c v n)
+order_preserving_force_phrase : (c : Command) (v : Option (List ℕ)) (n : ℕ) → OrderPreserving (force_phrase c v n)
 unfolding force_phrase
-tame_force_phrase c v n = search (tame, tame_force)
+order_preserving_force_phrase c v n = search (order_preserving, order_preserving_force)
 
-tame_give_node : (c : Command) (v : Option (List ℕ)) (n : ℕ) → Tame (give_node c v n)
+order_preserving_give_node : (c : Command) (v : Option (List ℕ)) (n : ℕ) → OrderPreserving (give_node c v n)
 unfolding give_node
-tame_give_node c v n = search (tame, tame_push_down, tame_force_phrase)
+order_preserving_give_node c v n = search (order_preserving, order_preserving_push_down, order_preserving_force_phrase)
 
-tame_give_nodes : (c : Command) (v : Option (List ℕ)) → Tame (give_nodes c v)
+order_preserving_give_nodes : (c : Command) (v : Option (List ℕ)) → OrderPreserving (give_nodes c v)
 unfolding give_nodes
-tame_give_nodes c v = search (tame, tame_give_node)
+order_preserving_give_nodes c v = search (order_preserving, order_preserving_give_node)
 
-tame_give_range : (c : Command) (v : Option (List ℕ)) → Tame (give_range c v)
+order_preserving_give_range : (c : Command) (v : Option (List ℕ)) → OrderPreserving (give_range c v)
 unfolding give_range
-tame_give_range c v = search (tame, tame_split_ends, tame_clear_elements, tame_give_nodes)
+order_preserving_give_range c v = search (order_preserving, order_preserving_split_ends, order_preserving_clear_elements, order_preserving_give_nodes)
 
-pub tame_set_value : (c : Command) (v : Option (List ℕ)) → Tame (set_value c v)
+pub order_preserving_set_value : (c : Command) (v : Option (List ℕ)) → OrderPreserving (set_value c v)
 unfolding set_value
-tame_set_value c v = search (tame, tame_set_overrides, tame_give_range)
+order_preserving_set_value c v = search (order_preserving, order_preserving_set_overrides, order_preserving_give_range)
 
 -- ---- the states of contenteditable
 

@@ -34,4 +34,4 @@ module _ (c : Criterion) (r : Recipe) (plain : NamesNoThing c) (makes : MakesNoT
   pub series_keeps : (list : List ℕ) → KeepsOrder s (final (wrap c r (take (count_series on list) list)) s)
   unfolding first_parent
   series_keeps [] = parentless c r [] s refl
-  series_keeps (x ∷ xs) = rw (add-one, same_count on x xs) (consecutive_keeps c r plain makes s is _ (series_consecutive s is.lawful on follows x xs))
+  series_keeps (x ∷ xs) = rw (add-one, same_count on x xs) (consecutive_keeps c r plain makes s is _ (series_consecutive s is.valid on follows x xs))

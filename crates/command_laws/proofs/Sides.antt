@@ -10,7 +10,7 @@ use Rattle.dom_model.proofs.Stands.{times-tops}
 use Rattle.dom_model.proofs.Links.{parent_count, times-children_of, eqb_refl_true}
 use Rattle.point_order.specs.PointOrder.{is_earlier}
 use Rattle.edit_model.specs.State.{State}
-use Rattle.edit_model.specs.Lawful.{IsLawful}
+use Rattle.edit_model.specs.Valid.{IsValid}
 use Rattle.edit_laws.proofs.Around.{Around, Here, Below, Past, fill, count_around, count-fill, Spot, spot_here, spot_count, spot_top, self_one, off_by}
 use Rattle.edit_laws.proofs.Fronts.{child_by}
 use Rattle.edit_laws.proofs.Patterns.{count-join}
@@ -99,7 +99,7 @@ first_sibling f once a b x o before after hit here kids among_a among_b =
 
 -- ---- of the siblings p and a
 
-module _ (s : State) (is : IsLawful s) (p a o : ℕ) (before after : List ℕ) where
+module _ (s : State) (is : IsValid s) (p a o : ℕ) (before after : List ℕ) where
   known : (x : ℕ) → children_of s.trees o ≡ before ++ x ∷ after → 0 < count_of s.trees o
   known x kids =
       let k = ap (λ l. times l x) kids in

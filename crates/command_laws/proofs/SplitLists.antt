@@ -11,7 +11,7 @@ use Rattle.dom_model.proofs.Links.{times-children_of, eqb_refl_true}
 use Rattle.edit_model.specs.State.{State}
 use Rattle.edit_model.specs.Confined.{may_move}
 use Rattle.edit_model.specs.Edit.{Move, edited}
-use Rattle.edit_model.specs.Lawful.{IsLawful}
+use Rattle.edit_model.specs.Valid.{IsValid}
 use Rattle.edit_model.specs.Moves.{move_before, move_after, move_all_before, move_all_after}
 use Rattle.edit_model.specs.Run.{final, edit, for_each}
 use Rattle.edit_model.proofs.Steps.{final-answer, final-bind, final-look, final-edit, final_next, for_each-cons, for_each-nil}
@@ -22,7 +22,7 @@ use Rattle.edit_laws.proofs.Fronts.{child_by}
 use Rattle.edit_laws.proofs.Lifting.{final_move_before, move_stays}
 use Rattle.edit_laws.proofs.Slides.{parent_other}
 use Rattle.edit_actions.specs.Siblings.{members}
-use Rattle.command_laws.proofs.StatelessSplits.{lawful_final}
+use Rattle.command_laws.proofs.StatelessSplits.{valid_final}
 use Rattle.command_laws.proofs.Together.{dropped, dropped-append, dropped-absent, members-append, members-one, members-other, members-same, Together, put_in-seam}
 use Rattle.command_laws.proofs.Widening.{Siblings}
 use Rattle.command_laws.proofs.Wrapping.{put_in-middle}
@@ -83,7 +83,7 @@ not_labelled (Some m) l off = ne_eqb m l (λ e. off (ap Some e))
 -- ---- since the state s the members of a list went from o to its parent q, or stayed
 
 pub record Since (s t : State) (o q : ℕ) (list : List ℕ) : Type 0 where
-  pub lawful : IsLawful t
+  pub valid : IsValid t
   pub up : parent_of t.trees o ≡ Some q
   pub next : s.next ≤ t.next
   pub same : (l : ℕ) → times list l ≡ 0 → parent_of t.trees l ≡ parent_of s.trees l
@@ -91,15 +91,15 @@ pub record Since (s t : State) (o q : ℕ) (list : List ℕ) : Type 0 where
 
 module _ (s t : State) (o q k : ℕ) (b : Option ℕ) (list : List ℕ) (inside : 0 < times list k) (w : Since s t o q list) (child : parent_of t.trees k ≡ Some o) where
   step_other : k ≢ o
-  step_other e = parent_other t.trees w.lawful.forest.distinct k o child (sym e)
+  step_other e = parent_other t.trees w.valid.forest.distinct k o child (sym e)
 
   since_moved : may_move t k q b ≡ true → Since s (edited (Move k q b) t) o q list
   since_moved may =
       let u : State = edited (Move k q b) t in
-      let g = moved_to k q b t w.lawful may in
+      let g = moved_to k q b t w.valid may in
       let from : g.from ≡ o = (let e : Some g.from ≡ Some o = sym g.child ∙ child in let e' = e in cc) in
       record {
-        lawful = subst IsLawful (final-edit (Move k q b) t) (lawful_final (edit (Move k q b)) t w.lawful);
+        valid = subst IsValid (final-edit (Move k q b) t) (valid_final (edit (Move k q b)) t w.valid);
         up = g.parent o step_other ∙ w.up;
         next = omega (arith, w.next, subst (λ v. t.next ≤ v.next) (final-edit (Move k q b) t) (final_next (edit (Move k q b)) t));
         same = λ l none. g.parent l (λ e. (let m = ap (times list) e in omega (arith, m, none, inside))) ∙ w.same l none;
@@ -108,7 +108,7 @@ module _ (s t : State) (o q k : ℕ) (b : Option ℕ) (list : List ℕ) (inside 
       }
 
 -- what a child of o leaves there and meets in q
-module _ (t : State) (is : IsLawful t) (o q k : ℕ) (b : Option ℕ) (up : parent_of t.trees o ≡ Some q) (child : parent_of t.trees k ≡ Some o) (may : may_move t k q b ≡ true) where
+module _ (t : State) (is : IsValid t) (o q k : ℕ) (b : Option ℕ) (up : parent_of t.trees o ≡ Some q) (child : parent_of t.trees k ≡ Some o) (may : may_move t k q b ≡ true) where
   apart_q : q ≢ o
   apart_q = parent_other t.trees is.forest.distinct o q up
 
@@ -141,7 +141,7 @@ record Before (t : State) (o q : ℕ) (taken others : List ℕ) : Type 0 where
   above : children_of t.trees q ≡ front ++ (members t q taken ++ o ∷ rest)
   from : (l : ℕ) → 0 < times taken l → (parent_of t.trees l ≡ Some o) ⊎ (parent_of t.trees l ≡ Some q)
 
-module _ (t : State) (is : IsLawful t) (o q : ℕ) (up : parent_of t.trees o ≡ Some q) (taken : List ℕ) (k : ℕ) (others : List ℕ) (once : (n : ℕ) → times (taken ++ k ∷ others) n ≤ 1) (w : Before t o q taken (k ∷ others)) where
+module _ (t : State) (is : IsValid t) (o q : ℕ) (up : parent_of t.trees o ≡ Some q) (taken : List ℕ) (k : ℕ) (others : List ℕ) (once : (n : ℕ) → times (taken ++ k ∷ others) n ≤ 1) (w : Before t o q taken (k ∷ others)) where
   counts : (l : ℕ) → times (children_of t.trees o) l ≡ times w.ahead l + (times (members t o taken) l + (times (k ∷ others) l + times w.behind l))
   counts l =
       ap (λ c. times c l) w.stays
@@ -223,7 +223,7 @@ before_all : (others taken list : List ℕ) (o q : ℕ) (s t : State) → Since 
 before_all [] taken list o q s t w inside once h = rw (for_each-nil, final-answer) (w, subst (λ l. Before t o q l []) (sym (append-nil taken)) h)
 before_all (k ∷ others) taken list o q s t w inside once h =
     rw (for_each-cons, final-bind, final_move_before o k q t w.up)
-    (by_test (may_move t k q (Some o)) refl (child t w.lawful o q w.up taken k others once h)
+    (by_test (may_move t k q (Some o)) refl (child t w.valid o q w.up taken k others once h)
     (λ u since goes. subst (λ l. Since s (final (for_each others (move_before o)) u) o q list × Before (final (for_each others (move_before o)) u) o q l []) shape
     (before_all others (taken ++ k ∷ []) list o q s u since (λ l i. inside l (omega (arith, i))) (λ n. subst (λ l. times l n ≤ 1) (sym shape) (once n)) goes)))
   where
@@ -233,8 +233,8 @@ before_all (k ∷ others) taken list o q s t w inside once h =
     by_test : (v : Bool) → may_move t k q (Some o) ≡ v → parent_of t.trees k ≡ Some o
         → ((u : State) → Since s u o q list → Before u o q (taken ++ k ∷ []) others → Since s (final (for_each others (move_before o)) u) o q list × Before (final (for_each others (move_before o)) u) o q (taken ++ k ∷ others) [])
         → Since s (final (for_each others (move_before o)) (edited (Move k q (Some o)) t)) o q list × Before (final (for_each others (move_before o)) (edited (Move k q (Some o)) t)) o q (taken ++ k ∷ others) []
-    by_test true e own more = more (edited (Move k q (Some o)) t) (since_moved s t o q k (Some o) list (inside k (omega (arith, self_one k))) w own e) (before_gone t w.lawful o q w.up taken k others once h e)
-    by_test false e own more = rw (move_stays k q (Some o) t e) (more t w (before_left t w.lawful o q w.up taken k others once h))
+    by_test true e own more = more (edited (Move k q (Some o)) t) (since_moved s t o q k (Some o) list (inside k (omega (arith, self_one k))) w own e) (before_gone t w.valid o q w.up taken k others once h e)
+    by_test false e own more = rw (move_stays k q (Some o) t e) (more t w (before_left t w.valid o q w.up taken k others once h))
 
 -- ---- to just after o, from the last one on: the members that were taken stand after it or stayed, and the others come before these
 
@@ -247,7 +247,7 @@ record After (t : State) (o q : ℕ) (taken others : List ℕ) : Type 0 where
   above : children_of t.trees q ≡ front ++ o ∷ (members t q taken ++ rest)
   from : (l : ℕ) → 0 < times taken l → (parent_of t.trees l ≡ Some o) ⊎ (parent_of t.trees l ≡ Some q)
 
-module _ (t : State) (is : IsLawful t) (o q : ℕ) (up : parent_of t.trees o ≡ Some q) (taken : List ℕ) (k : ℕ) (others : List ℕ) (once : (n : ℕ) → times ((others ++ k ∷ []) ++ taken) n ≤ 1) (w : After t o q taken (others ++ k ∷ [])) where
+module _ (t : State) (is : IsValid t) (o q : ℕ) (up : parent_of t.trees o ≡ Some q) (taken : List ℕ) (k : ℕ) (others : List ℕ) (once : (n : ℕ) → times ((others ++ k ∷ []) ++ taken) n ≤ 1) (w : After t o q taken (others ++ k ∷ [])) where
   counts' : (l : ℕ) → times (children_of t.trees o) l ≡ times w.ahead l + ((times others l + times (k ∷ []) l) + (times (members t o taken) l + times w.behind l))
   counts' l =
       ap (λ c. times c l) w.stays
@@ -353,9 +353,9 @@ after_all (k ∷ turns) taken list o q s t w inside once h =
         → ((u : State) → Since s u o q list → After u o q (k ∷ taken) (reverse turns) → Since s (final (for_each turns (move_after o)) u) o q list × After (final (for_each turns (move_after o)) u) o q (reverse (k ∷ turns) ++ taken) [])
         → Since s (final (for_each turns (move_after o)) (edited (Move k q (next_of t.trees o)) t)) o q list × After (final (for_each turns (move_after o)) (edited (Move k q (next_of t.trees o)) t)) o q (reverse (k ∷ turns) ++ taken) []
     by_test true e h' once' more =
-        more (edited (Move k q (next_of t.trees o)) t) (since_moved s t o q k (next_of t.trees o) list (inside k (omega (arith, self_one k))) w (child' t w.lawful o q w.up taken k (reverse turns) once' h') e)
-        (after_gone t w.lawful o q w.up taken k (reverse turns) once' h' e)
-    by_test false e h' once' more = rw (move_stays k q (next_of t.trees o) t e) (more t w (after_left t w.lawful o q w.up taken k (reverse turns) once' h'))
+        more (edited (Move k q (next_of t.trees o)) t) (since_moved s t o q k (next_of t.trees o) list (inside k (omega (arith, self_one k))) w (child' t w.valid o q w.up taken k (reverse turns) once' h') e)
+        (after_gone t w.valid o q w.up taken k (reverse turns) once' h' e)
+    by_test false e h' once' more = rw (move_stays k q (next_of t.trees o) t e) (more t w (after_left t w.valid o q w.up taken k (reverse turns) once' h'))
 
 -- those that stand after o stand side by side
 behind_siblings : (u : State) (o q : ℕ) (m : List ℕ) → After u o q m [] → Siblings u q (members u q m)
@@ -370,7 +370,7 @@ pub record Led (s t : State) (o q : ℕ) (list : List ℕ) : Type 0 where
   pub at_q : Siblings t q (members t q (members s o list))
   pub from : (l : ℕ) → 0 < times (members s o list) l → (parent_of t.trees l ≡ Some o) ⊎ (parent_of t.trees l ≡ Some q)
 
-module _ (s : State) (is : IsLawful s) (o q : ℕ) (up : parent_of s.trees o ≡ Some q) (list : List ℕ) (w : Together s list) (elsewhere : (l : ℕ) → 0 < times list l → parent_of s.trees l ≡ Some q → ⊥) where
+module _ (s : State) (is : IsValid s) (o q : ℕ) (up : parent_of s.trees o ≡ Some q) (list : List ℕ) (w : Together s list) (elsewhere : (l : ℕ) → 0 < times list l → parent_of s.trees l ≡ Some q → ⊥) where
   here : Siblings s o (members s o list)
   here = w.siblings o
 
@@ -380,7 +380,7 @@ module _ (s : State) (is : IsLawful s) (o q : ℕ) (up : parent_of s.trees o ≡
       omega (arith, k, times-append here.front (members s o list ++ here.rest) n, times-append (members s o list) here.rest n, times-children_of s.trees o n is.forest.distinct)
 
   starts : Since s s o q (members s o list)
-  starts = record { lawful = is; up = up; next = omega arith; same = λ l _. refl; apart = λ r _ _. refl }
+  starts = record { valid = is; up = up; next = omega arith; same = λ l _. refl; apart = λ r _ _. refl }
 
   pub led_before : Led s (final (move_all_before (members s o list) o) s) o q list
   unfolding move_all_before members

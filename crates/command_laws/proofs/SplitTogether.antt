@@ -14,7 +14,7 @@ use Rattle.edit_model.specs.Compositions.{tag_of, attribute_list_of}
 use Rattle.edit_model.specs.Confined.{is_editable_for, may_insert, may_remove, may_move}
 use Rattle.edit_model.specs.Edit.{Insert, Remove, Unset, Move, is_made_edit, trees_after, edited}
 use Rattle.edit_model.specs.Action.{made}
-use Rattle.edit_model.specs.Lawful.{IsLawful}
+use Rattle.edit_model.specs.Valid.{IsValid}
 use Rattle.edit_model.specs.Moves.{make_break, insert_before, insert_after, move_last, move_all_before, move_all_after, move_each_last}
 use Rattle.edit_model.specs.Run.{Run, final, value, ◌>>=◌, ◌>>◌, answer, done, look, given, edit, remove, make_element, for_each}
 use Rattle.edit_model.proofs.IslandRuns.{trees_made, trees_left}
@@ -34,16 +34,16 @@ use Rattle.wrap_split.specs.Split.{break_before, break_after, clear_before, copi
 use Rattle.command_laws.proofs.Copies.{until_front}
 use Rattle.command_laws.proofs.Cleared.{cleared}
 use Rattle.command_laws.proofs.Splitting.{last_some}
-use Rattle.command_laws.proofs.StatelessSplits.{lawful_final}
+use Rattle.command_laws.proofs.StatelessSplits.{valid_final}
 use Rattle.command_laws.proofs.Together.{parent-unlinked, parent-linked, members-append, members-one, members-none, members-same, Together, together_removed, together_made, together_put, next_no_member, Holding, holding, put_in-seam, next_edited, before_nothing, first_beside}
 use Rattle.command_laws.proofs.Widening.{last_parted}
 use Rattle.command_laws.proofs.Growing.{together_shaped, together_apart, together_moved, moved_to, child_parted}
-use Rattle.command_laws.proofs.Putting.{lawful_new, parent_new, new_child}
+use Rattle.command_laws.proofs.Putting.{valid_new, parent_new, new_child}
 use Rattle.command_laws.proofs.SplitLists.{member_owned, member_among, not_labelled, alike, Led, led_before, led_after, led_together}
 
 -- ---- removals leave no node another parent
 
-fewer_removed : (k : ℕ) (s : State) → IsLawful s → (l r : ℕ) → parent_of (edited (Remove k) s).trees l ≡ Some r → parent_of s.trees l ≡ Some r
+fewer_removed : (k : ℕ) (s : State) → IsValid s → (l r : ℕ) → parent_of (edited (Remove k) s).trees l ≡ Some r → parent_of s.trees l ≡ Some r
 unfolding is_made_edit trees_after
 fewer_removed k s is l r up = elim (cases_Bool (may_remove s k)) [
   | inr off ↦ sym (ap (λ f. parent_of f l) (trees_left (Remove k) s off)) ∙ up
@@ -57,7 +57,7 @@ fewer_removed k s is l r up = elim (cases_Bool (may_remove s k)) [
     by true p e = absurd (let k : None ≡ Some r = e in cc)
     by false p e = e
 
-fewer_breaks : (o : ℕ) (s : State) → IsLawful s → (l r : ℕ) → parent_of (final (breaks_before o) s).trees l ≡ Some r → parent_of s.trees l ≡ Some r
+fewer_breaks : (o : ℕ) (s : State) → IsValid s → (l r : ℕ) → parent_of (final (breaks_before o) s).trees l ≡ Some r → parent_of s.trees l ≡ Some r
 unfolding breaks_before
 fewer_breaks o s is l r up = by_prev (prev_of s.trees o) (sym (ap (λ t. parent_of t.trees l) (final-look _ s)) ∙ up)
   where
@@ -87,7 +87,7 @@ nothing_split s o list a z root = rw (final-look, root) (by (not (is_editable_fo
 -- ---- before the moves: where o and the list stand
 
 record Ready (s : State) (o q : ℕ) (list : List ℕ) : Type 0 where
-  is : IsLawful s
+  is : IsValid s
   together : Together s list
   up : parent_of s.trees o ≡ Some q
   elsewhere : (l : ℕ) → 0 < times list l → parent_of s.trees l ≡ Some q → ⊥
@@ -103,7 +103,7 @@ unmoved s o list = record { own = refl; each = λ l _. refl }
 unmoved_on : (s t u : State) (o : ℕ) (list : List ℕ) → Unmoved s t o list → Unmoved t u o list → Unmoved s u o list
 unmoved_on s t u o list w v = record { own = v.own ∙ w.own; each = λ l h. v.each l h ∙ w.each l h }
 
-ready_on : (s t : State) (o q : ℕ) (list : List ℕ) → Ready s o q list → Unmoved s t o list → IsLawful t → Together t list → Ready t o q list
+ready_on : (s t : State) (o q : ℕ) (list : List ℕ) → Ready s o q list → Unmoved s t o list → IsValid t → Together t list → Ready t o q list
 ready_on s t o q list w v is together = record {
   is = is;
   together = together;
@@ -118,7 +118,7 @@ moves_ready [] x o q list s t w v apart = rw (for_each-nil, final-answer) (w, v)
 moves_ready (k ∷ nodes) x o q list s t w v apart =
     let a = apart k (omega (arith, self_one k)) in
     let u : State = edited (Move k x None) t in
-    let is_u : IsLawful u = subst IsLawful (final-edit (Move k x None) t) (lawful_final (edit (Move k x None)) t w.is) in
+    let is_u : IsValid u = subst IsValid (final-edit (Move k x None) t) (valid_final (edit (Move k x None)) t w.is) in
     let one = stays_by a.0 a.1 in
     rw (for_each-cons, final-bind, final_move_last x k t)
     (moves_ready nodes x o q list s u (ready_on t u o q list w one is_u (together_moved list k x t w.is a.0 w.together)) (unmoved_on s t u o list v one) (λ l h. apart l (omega (arith, h))))
@@ -180,7 +180,7 @@ module _ (s : State) (o q a : ℕ) (rest : List ℕ) (w : Ready s o q (a ∷ res
       let tag = tag_of s.trees o in
       let list = attribute_list_of s.trees o in
       let v : Unmoved s s1 o (a ∷ rest) = record { own = parent_new s w.is tag list o; each = λ l _. parent_new s w.is tag list l } in
-      (ready_on s s1 o q (a ∷ rest) w v (lawful_new s w.is tag list) (together_made (Element tag list) (a ∷ rest) s w.is w.together), v)
+      (ready_on s s1 o q (a ∷ rest) w v (valid_new s w.is tag list) (together_made (Element tag list) (a ∷ rest) s w.is w.together), v)
 
   ready2 : Ready s2 o q (a ∷ rest) × Unmoved s s2 o (a ∷ rest)
   unfolding s2
@@ -188,7 +188,7 @@ module _ (s : State) (o q a : ℕ) (rest : List ℕ) (w : Ready s o q (a ∷ res
       let r = ready1 in
       let k = shaped_unset o (codes "id") s1 r.0.is in
       let v : Unmoved s1 s2 o (a ∷ rest) = record { own = k.parent o; each = λ l _. k.parent l } in
-      let is2 : IsLawful s2 = subst IsLawful (final-edit (Unset o (codes "id")) s1) (lawful_final (edit (Unset o (codes "id"))) s1 r.0.is) in
+      let is2 : IsValid s2 = subst IsValid (final-edit (Unset o (codes "id")) s1) (valid_final (edit (Unset o (codes "id"))) s1 r.0.is) in
       (ready_on s1 s2 o q (a ∷ rest) r.0 v is2 (together_shaped s1 s2 (a ∷ rest) (next_edited (Unset o (codes "id")) s1) k.parent k.children r.0.together), unmoved_on s s1 s2 o (a ∷ rest) r.1 v)
 
   new_other : s.next ≢ o
@@ -211,7 +211,7 @@ module _ (s : State) (o q a : ℕ) (rest : List ℕ) (w : Ready s o q (a ∷ res
   ready3 =
       let r = ready2 in
       let none : members s2 q (a ∷ rest) ≡ [] = members-none s2 q (a ∷ rest) (λ l h. not_labelled (parent_of s2.trees l) q (r.0.elsewhere l h)) in
-      let is3 : IsLawful s3 = subst IsLawful (final-edit (Insert q (Some o) s.next) s2) (lawful_final (edit (Insert q (Some o) s.next)) s2 r.0.is) in
+      let is3 : IsValid s3 = subst IsValid (final-edit (Insert q (Some o) s.next) s2) (valid_final (edit (Insert q (Some o) s.next)) s2 r.0.is) in
       (ready_on s2 s3 o q (a ∷ rest) r.0 put_unmoved is3 (together_apart (a ∷ rest) s.next q (Some o) s2 r.0.is new_no_member none r.0.together), unmoved_on s s2 s3 o (a ∷ rest) r.1 put_unmoved)
 
   copied_ready : Ready (final (copied o a) s) o q (a ∷ rest) × Unmoved s (final (copied o a) s) o (a ∷ rest)
@@ -237,7 +237,7 @@ record Tied (s : State) (o q z : ℕ) (list rest : List ℕ) : Type 0 where
   apart : (l r : ℕ) → 0 < times rest l → parent_of s.trees l ≡ Some r → (r ≢ o) × (r ≢ q)
 
 record Tying (o q z : ℕ) (list rest : List ℕ) {T : Type 0} (m : Run T) : Type 0 where
-  ties : (s : State) → IsLawful s → Tied s o q z list rest → Tied (final m s) o q z list rest
+  ties : (s : State) → IsValid s → Tied s o q z list rest → Tied (final m s) o q z list rest
 
 module _ (o q z : ℕ) (list rest : List ℕ) where
   tied_by : (s t : State) → Together t list → ((l r : ℕ) → (l ≡ z) ⊎ (0 < times rest l) → parent_of t.trees l ≡ Some r → parent_of s.trees l ≡ Some r) → Tied s o q z list rest → Tied t o q z list rest
@@ -247,7 +247,7 @@ module _ (o q z : ℕ) (list rest : List ℕ) where
   tying_answer a = record { ties = λ s is w. rw (final-answer a s) w }
 
   tying_bind : {A B : Type 0} (m : Run A) (k : A → Run B) → Tying o q z list rest m → ((a : A) → Tying o q z list rest (k a)) → Tying o q z list rest (m >>= k)
-  tying_bind m k h g = record { ties = λ s is w. rw (final-bind m k s) ((g (value m s)).ties (final m s) (lawful_final m s is) (h.ties s is w)) }
+  tying_bind m k h g = record { ties = λ s is w. rw (final-bind m k s) ((g (value m s)).ties (final m s) (valid_final m s is) (h.ties s is w)) }
 
   tying_look : {A : Type 0} (k : State → Run A) → ((s : State) → Tying o q z list rest (k s)) → Tying o q z list rest (look k)
   tying_look k h = record { ties = λ s is w. rw (final-look k s) ((h s).ties s is w) }
@@ -270,7 +270,7 @@ ruleset tying = (tying_answer, tying_bind, tying_look, tying_if, tying_given, ty
 -- ---- line breaks beside them
 
 -- after the last one of those that stand where z stands
-last_beside : (s : State) → IsLawful s → (z x r : ℕ) (init rest front back : List ℕ) → parent_of s.trees z ≡ Some r → members s r rest ≡ [] → children_of s.trees r ≡ front ++ (members s r (init ++ z ∷ rest) ++ back)
+last_beside : (s : State) → IsValid s → (z x r : ℕ) (init rest front back : List ℕ) → parent_of s.trees z ≡ Some r → members s r rest ≡ [] → children_of s.trees r ≡ front ++ (members s r (init ++ z ∷ rest) ++ back)
     → (first : List ℕ) × (last : List ℕ) × (put_in (children_of s.trees r) (next_of s.trees z) x ≡ first ++ (members s r (init ++ z ∷ rest) ++ last))
 last_beside s is z x r init rest front back up none kids =
     let m = members s r init in
@@ -296,7 +296,7 @@ module _ (o q z a : ℕ) (l init rest : List ℕ) (shape : a ∷ l ≡ init ++ z
       )
 
   -- a new node that is put in beside them
-  tied_put : (s : State) → IsLawful s → (x r : ℕ) (b : Option ℕ) → times (a ∷ l) x ≡ 0 → Tied s o q z (a ∷ l) rest
+  tied_put : (s : State) → IsValid s → (x r : ℕ) (b : Option ℕ) → times (a ∷ l) x ≡ 0 → Tied s o q z (a ∷ l) rest
       → ((front back : List ℕ) → children_of s.trees r ≡ front ++ (members s r (a ∷ l) ++ back) → (first : List ℕ) × (last : List ℕ) × (put_in (children_of s.trees r) b x ≡ first ++ (members s r (a ∷ l) ++ last)))
       → Tied (edited (Insert r b x) s) o q z (a ∷ l) rest
   unfolding is_made_edit trees_after
@@ -315,17 +315,17 @@ module _ (o q z a : ℕ) (l init rest : List ℕ) (shape : a ∷ l ≡ init ++ z
             sym (ap (λ f. parent_of f m) now ∙ (parent-linked s.trees is.forest.distinct r b x m can ∙ rw (ne_eqb x m (other m h)) refl)) ∙ up)
       ]
 
-  tied_made : (s : State) → IsLawful s → Tied s o q z (a ∷ l) rest → Tied (made (Element (codes "br") []) s) o q z (a ∷ l) rest
+  tied_made : (s : State) → IsValid s → Tied s o q z (a ∷ l) rest → Tied (made (Element (codes "br") []) s) o q z (a ∷ l) rest
   tied_made s is w = tied_by o q z (a ∷ l) rest s (made (Element (codes "br") []) s) (together_made (Element (codes "br") []) (a ∷ l) s is w.together) (λ m p _ up. sym (parent_new s is (codes "br") [] m) ∙ up) w
 
-  tying_new : (k : ℕ → Run (Unit {0})) → ((x : ℕ) (s : State) → IsLawful s → times (a ∷ l) x ≡ 0 → Tied s o q z (a ∷ l) rest → Tied (final (k x) s) o q z (a ∷ l) rest) → Tying o q z (a ∷ l) rest (make_element (codes "br") [] >>= k)
+  tying_new : (k : ℕ → Run (Unit {0})) → ((x : ℕ) (s : State) → IsValid s → times (a ∷ l) x ≡ 0 → Tied s o q z (a ∷ l) rest → Tied (final (k x) s) o q z (a ∷ l) rest) → Tying o q z (a ∷ l) rest (make_element (codes "br") [] >>= k)
   tying_new k puts = record {
     ties = λ s is w. (
         rw (final-bind, value-make_element, final-make_element)
-        (puts s.next (made (Element (codes "br") []) s) (lawful_new s is (codes "br") []) (next_no_member (Element (codes "br") []) (a ∷ l) s is w.together) (tied_made s is w)));
+        (puts s.next (made (Element (codes "br") []) s) (valid_new s is (codes "br") []) (next_no_member (Element (codes "br") []) (a ∷ l) s is w.together) (tied_made s is w)));
   }
 
-  before_first : (x : ℕ) (s : State) → IsLawful s → times (a ∷ l) x ≡ 0 → Tied s o q z (a ∷ l) rest → Tied (final (insert_before a x) s) o q z (a ∷ l) rest
+  before_first : (x : ℕ) (s : State) → IsValid s → times (a ∷ l) x ≡ 0 → Tied s o q z (a ∷ l) rest → Tied (final (insert_before a x) s) o q z (a ∷ l) rest
   before_first x s is none w = by_parent (parent_of s.trees a) refl
     where
       by_parent : (p : Option ℕ) → parent_of s.trees a ≡ p → Tied (final (insert_before a x) s) o q z (a ∷ l) rest
@@ -335,7 +335,7 @@ module _ (o q z a : ℕ) (l init rest : List ℕ) (shape : a ∷ l ≡ init ++ z
   none_under : (s : State) (r : ℕ) → Tied s o q z (a ∷ l) rest → parent_of s.trees z ≡ Some r → members s r rest ≡ []
   none_under s r w up = members-none s r rest (λ m h. not_labelled (parent_of s.trees m) r (λ e. (let t = w.apart m r h e in elim (w.own r up) [ inl same ↦ t.0 same | inr same ↦ t.1 same ])))
 
-  after_last : (x : ℕ) (s : State) → IsLawful s → times (a ∷ l) x ≡ 0 → Tied s o q z (a ∷ l) rest → Tied (final (insert_after z x) s) o q z (a ∷ l) rest
+  after_last : (x : ℕ) (s : State) → IsValid s → times (a ∷ l) x ≡ 0 → Tied s o q z (a ∷ l) rest → Tied (final (insert_after z x) s) o q z (a ∷ l) rest
   after_last x s is none w = by_parent (parent_of s.trees z) refl
     where
       by_parent : (p : Option ℕ) → parent_of s.trees z ≡ p → Tied (final (insert_after z x) s) o q z (a ∷ l) rest
@@ -439,7 +439,7 @@ module _ (o q a z : ℕ) (l init rest : List ℕ) (shape : a ∷ l ≡ init ++ z
         let tied = tied_led t (final (move_all_before (members t o (a ∷ l)) o) t) r.0 (r.1.each z z_inside ∙ own_z) none_t led in
         let tied' : Tied (final (move_all_before m o) t) o q z (a ∷ l) rest = subst (λ k. Tied (final (move_all_before k o) t) o q z (a ∷ l) rest) same tied in
         rw (final-bind, final-bind)
-        ((tying_tail o q z a l init rest shape before after).ties (final (move_all_before m o) t) (lawful_final (move_all_before m o) t r.0.is) tied').together
+        ((tying_tail o q z a l init rest shape before after).ties (final (move_all_before m o) t) (valid_final (move_all_before m o) t r.0.is) tied').together
 
     end_together : (wanted : Bool) → Together (final (split_end o (members s o (a ∷ l)) z wanted) s) (a ∷ l)
     unfolding split_end
@@ -447,7 +447,7 @@ module _ (o q a z : ℕ) (l init rest : List ℕ) (shape : a ∷ l ≡ init ++ z
         let m = members s o (a ∷ l) in
         let led = led_after s w.is o q w.up (a ∷ l) w.together w.elsewhere in
         let tied = tied_led s (final (move_all_after m o) s) w own_z none led in
-        rw final-bind ((tying_end o q z a l init rest shape wanted).ties (final (move_all_after m o) s) (lawful_final (move_all_after m o) s w.is) tied).together
+        rw final-bind ((tying_end o q z a l init rest shape wanted).ties (final (move_all_after m o) s) (valid_final (move_all_after m o) s w.is) tied).together
 
     marked_together : Together (final (split_marked o (members s o (a ∷ l)) a z) s) (a ∷ l)
     unfolding split_marked
@@ -465,7 +465,7 @@ module _ (o q a z : ℕ) (l init rest : List ℕ) (shape : a ∷ l ≡ init ++ z
         let t : State = final (breaks_before o) s in
         let p = child_parted s w.is m o up in
         let kids : children_of t.trees o ≡ p.0 ++ m ∷ p.1 = (cleared o s w.is).children ∙ p.2 in
-        child_by t (lawful_final (breaks_before o) s w.is) o m (let k = ap (λ c. times c m) kids in omega (arith, k, times-append p.0 (m ∷ p.1) m, self_one m))
+        child_by t (valid_final (breaks_before o) s w.is) o m (let k = ap (λ c. times c m) kids in omega (arith, k, times-append p.0 (m ∷ p.1) m, self_one m))
 
     label_same : (m : ℕ) → is_label (parent_of (final (breaks_before o) s).trees m) o ≡ is_label (parent_of s.trees m) o
     label_same m = by (is_label (parent_of s.trees m) o) refl
@@ -482,7 +482,7 @@ module _ (o q a z : ℕ) (l init rest : List ℕ) (shape : a ∷ l ≡ init ++ z
         let t : State = final (breaks_before o) s in
         let u = cleared o s w.is in
         let ready : Ready t o q (a ∷ l) = record {
-          is = lawful_final (breaks_before o) s w.is;
+          is = valid_final (breaks_before o) s w.is;
           together = (holding_breaks (a ∷ l) o).holds s w.is w.together;
           up = u.parent q w.up;
           elsewhere = λ m h up. w.elsewhere m h (fewer_breaks o s w.is m q up);
@@ -504,7 +504,7 @@ module _ (o q a z : ℕ) (l init rest : List ℕ) (shape : a ∷ l ≡ init ++ z
         by false = rw (final-bind, final-look) (by_start (starts_in s o (members s o (a ∷ l))))
 
 -- the parent of the first member, which has no other of the list beside it
-pub split_list_together : (s : State) → IsLawful s → (a o : ℕ) (l : List ℕ) → Together s (a ∷ l) → parent_of s.trees a ≡ Some o → ((q m : ℕ) → parent_of s.trees o ≡ Some q → 0 < times (a ∷ l) m → parent_of s.trees m ≡ Some q → ⊥)
+pub split_list_together : (s : State) → IsValid s → (a o : ℕ) (l : List ℕ) → Together s (a ∷ l) → parent_of s.trees a ≡ Some o → ((q m : ℕ) → parent_of s.trees o ≡ Some q → 0 < times (a ∷ l) m → parent_of s.trees m ≡ Some q → ⊥)
     → Together (final (split_parent (a ∷ l)) s) (a ∷ l)
 unfolding split_parent first_parent split_members
 split_list_together s is a o l w own elsewhere =

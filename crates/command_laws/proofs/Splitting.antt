@@ -13,34 +13,34 @@ use Rattle.node_tests.specs.LineBreaks.{follows_break, precedes_break}
 use Rattle.edit_model.specs.State.{State}
 use Rattle.edit_model.specs.Kept.{borne_by, is_thing}
 use Rattle.edit_model.specs.Confined.{is_editable_for}
-use Rattle.edit_model.specs.Lawful.{IsLawful}
+use Rattle.edit_model.specs.Valid.{IsValid}
 use Rattle.edit_model.specs.Moves.{move_all_before, move_all_after}
 use Rattle.edit_model.specs.Run.{Run, final, value, ◌>>=◌, ◌>>◌, done, look, remove}
 use Rattle.edit_model.proofs.Steps.{final-bind, final-answer, final-look}
 use Rattle.edit_laws.specs.Order.{KeepsOrder, IsKeeping}
 use Rattle.edit_laws.specs.MoveLaws.{IsBare}
-use Rattle.edit_laws.specs.Tame.{Tame}
+use Rattle.edit_laws.specs.OrderPreserving.{OrderPreserving}
 use Rattle.edit_laws.proofs.Subsequences.{keeps_refl, keeps_trans}
 use Rattle.edit_laws.proofs.QuietActions.{keeping_final}
-use Rattle.edit_laws.proofs.Tame.{tame, tame_answer, tame_bind, tame_remove}
+use Rattle.edit_laws.proofs.OrderPreserving.{order_preserving, order_preserving_answer, order_preserving_bind, order_preserving_remove}
 use Rattle.edit_laws.proofs.Around.{self_one}
 use Rattle.edit_laws.proofs.Fronts.{child_by}
 use Rattle.edit_laws.proofs.MoveLaws.{go_before, go_after}
 use Rattle.edit_actions.specs.Siblings.{first_parent, members, is_among, has, starts_in, ends_in}
 use Rattle.wrap_split.specs.Breaks.{breaks_before, breaks_at_end}
 use Rattle.wrap_split.specs.Split.{break_before, break_after, clear_before, copied, copy_front, drop_first_break, close, tidy_after, split_end, split_rest, split_marked, is_void_thing, split_at, split_members, split_parent, remove_keeping_children}
-use Rattle.command_laws.proofs.Breaks.{tame_breaks_before, tame_breaks_at_end}
-use Rattle.command_laws.proofs.SplitParts.{tame_break_before, tame_break_after, tame_drop_first_break, tame_tidy_after, tame_close}
+use Rattle.command_laws.proofs.Breaks.{order_preserving_breaks_before, order_preserving_breaks_at_end}
+use Rattle.command_laws.proofs.SplitParts.{order_preserving_break_before, order_preserving_break_after, order_preserving_drop_first_break, order_preserving_tidy_after, order_preserving_close}
 use Rattle.command_laws.proofs.Cleared.{cleared}
 use Rattle.command_laws.proofs.Copies.{copied_keeps}
 
--- a run that is known at a state, and tame runs after it
-pub then_tame : {A B : Type 0} (m : Run A) (n : Run B) (s : State) → IsKeeping s → KeepsOrder s (final m s) → Tame n → KeepsOrder s (final (m >>= (λ _. n)) s)
-then_tame m n s is k t = rw final-bind (keeps_trans k (t.keeps (final m s) (keeping_final m s is)))
+-- a run that is known at a state, and order-preserving runs after it
+pub then_order_preserving : {A B : Type 0} (m : Run A) (n : Run B) (s : State) → IsKeeping s → KeepsOrder s (final m s) → OrderPreserving n → KeepsOrder s (final (m >>= (λ _. n)) s)
+then_order_preserving m n s is k t = rw final-bind (keeps_trans k (t.keeps (final m s) (keeping_final m s is)))
 
 -- and where they go on with its answer
-pub then_tame_on : {A B : Type 0} (m : Run A) (k : A → Run B) (s : State) → IsKeeping s → KeepsOrder s (final m s) → ((a : A) → Tame (k a)) → KeepsOrder s (final (m >>= k) s)
-then_tame_on m k s is keeps t = rw (final-bind m k s) (keeps_trans keeps ((t (value m s)).keeps (final m s) (keeping_final m s is)))
+pub then_order_preserving_on : {A B : Type 0} (m : Run A) (k : A → Run B) (s : State) → IsKeeping s → KeepsOrder s (final m s) → ((a : A) → OrderPreserving (k a)) → KeepsOrder s (final (m >>= k) s)
+then_order_preserving_on m k s is keeps t = rw (final-bind m k s) (keeps_trans keeps ((t (value m s)).keeps (final m s) (keeping_final m s is)))
 
 -- ---- which members stand at the ends
 
@@ -80,15 +80,15 @@ no_rest front list (y ∷ rest) once h =
 
 -- ---- the parts
 
-tail_tame : (o a z : ℕ) (before after : Bool) → Tame (break_before before a >> (drop_first_break o z >> (close o z after >> tidy_after z)))
-tail_tame o a z before after = search (tame, tame_break_before, tame_drop_first_break, tame_close, tame_tidy_after)
+tail_order_preserving : (o a z : ℕ) (before after : Bool) → OrderPreserving (break_before before a >> (drop_first_break o z >> (close o z after >> tidy_after z)))
+tail_order_preserving o a z before after = search (order_preserving, order_preserving_break_before, order_preserving_drop_first_break, order_preserving_close, order_preserving_tidy_after)
 
-end_tame : (o z : ℕ) (wanted : Bool) → Tame (break_after wanted z >> breaks_at_end o)
-end_tame o z wanted = search (tame, tame_break_after, tame_breaks_at_end)
+end_order_preserving : (o z : ℕ) (wanted : Bool) → OrderPreserving (break_after wanted z >> breaks_at_end o)
+end_order_preserving o z wanted = search (order_preserving, order_preserving_break_after, order_preserving_breaks_at_end)
 
 module _ (s : State) (is : IsKeeping s) (o q : ℕ) (up : parent_of s.trees o ≡ Some q) (bare : IsBare s o) (front l rest : List ℕ) (a : ℕ) (kids : children_of s.trees o ≡ front ++ (a ∷ (l ++ rest))) where
   once : (n : ℕ) → times (front ++ ((a ∷ l) ++ rest)) n ≤ 1
-  once n = subst (λ k. times k n ≤ 1) kids (times-children_of s.trees o n is.lawful.forest.distinct)
+  once n = subst (λ k. times k n ≤ 1) kids (times-children_of s.trees o n is.valid.forest.distinct)
 
   moved_before : (v : Bool) → starts_in s o (a ∷ l) ≡ v → KeepsOrder s (final (move_all_before (a ∷ l) o) (final (if v then done else copied o a) s))
   unfolding starts_in
@@ -105,15 +105,15 @@ module _ (s : State) (is : IsKeeping s) (o q : ℕ) (up : parent_of s.trees o �
       let t : State = final m s in
       let u : State = final (move_all_before (a ∷ l) o) t in
       rw (final-bind, final-look, final-bind)
-      (keeps_trans (moved_before (starts_in s o (a ∷ l)) refl) ((tail_tame o a z before after).keeps u (keeping_final (move_all_before (a ∷ l) o) t (keeping_final m s is))))
+      (keeps_trans (moved_before (starts_in s o (a ∷ l)) refl) ((tail_order_preserving o a z before after).keeps u (keeping_final (move_all_before (a ∷ l) o) t (keeping_final m s is))))
 
   end_keeps : (z : ℕ) (wanted : Bool) → ends_in s o (a ∷ l) ≡ true → KeepsOrder s (final (split_end o (a ∷ l) z wanted) s)
   unfolding split_end ends_in
   end_keeps z wanted e =
       let none : rest ≡ [] = no_rest front (a ∷ l) rest once (sym (ap (λ k. has (a ∷ l) (last_in k)) kids) ∙ e) in
       let end : children_of s.trees o ≡ front ++ (a ∷ l) = kids ∙ (ap (λ k. front ++ (a ∷ (l ++ k))) none ∙ ap (λ k. front ++ (a ∷ k)) (append-nil l)) in
-      then_tame (move_all_after (a ∷ l) o) (break_after wanted z >> breaks_at_end o) s is
-      (go_after s is front (a ∷ l) o end) (end_tame o z wanted)
+      then_order_preserving (move_all_after (a ∷ l) o) (break_after wanted z >> breaks_at_end o) s is
+      (go_after s is front (a ∷ l) o end) (end_order_preserving o z wanted)
 
   marked_keeps : (z : ℕ) → KeepsOrder s (final (split_marked o (a ∷ l) a z) s)
   unfolding split_marked
@@ -127,7 +127,7 @@ module _ (s : State) (is : IsKeeping s) (o q : ℕ) (up : parent_of s.trees o �
 -- ---- a node that may be split
 
 -- a node with children that is no image and no rule bears nothing itself
-void_bare : (s : State) → IsLawful s → (o n : ℕ) → is_void_thing s o ≡ false → 0 < times (children_of s.trees o) n → IsBare s o
+void_bare : (s : State) → IsValid s → (o n : ℕ) → is_void_thing s o ≡ false → 0 < times (children_of s.trees o) n → IsBare s o
 unfolding borne_by
 void_bare s is o n plain among = by_content
   where
@@ -154,8 +154,8 @@ at_keeps o a z front l rest s is kids = rw final-look (by_parent (parent_of s.tr
     by_start : (q : ℕ) → parent_of s.trees o ≡ Some q → IsBare s o → (v : Bool) → KeepsOrder s (final (split_marked o (a ∷ l) a z) (final (if v then breaks_before o else done) s))
     by_start q up bare true =
         let t : State = final (breaks_before o) s in
-        let u = cleared o s is.lawful in
-        keeps_trans ((tame_breaks_before o).keeps s is)
+        let u = cleared o s is.valid in
+        keeps_trans ((order_preserving_breaks_before o).keeps s is)
         (marked_keeps t (keeping_final (breaks_before o) s is) o q (u.parent q up) (λ c h. bare c (sym u.content ∙ h)) front l rest a (u.children ∙ kids) z)
     by_start q up bare false = rw final-answer (marked_keeps s is o q up bare front l rest a kids z)
 
@@ -164,7 +164,7 @@ at_keeps o a z front l rest s is kids = rw final-look (by_parent (parent_of s.tr
     by_parent p up true w e = rw final-answer (keeps_refl _)
     by_parent None up false w e = rw final-answer (keeps_refl _)
     by_parent (Some q) up false true e = rw final-answer (keeps_refl _)
-    by_parent (Some q) up false false e = rw (final-bind, final-look) (by_start q up (void_bare s is.lawful o a e among) (starts_in s o (a ∷ l)))
+    by_parent (Some q) up false false e = rw (final-bind, final-look) (by_start q up (void_bare s is.valid o a e among) (starts_in s o (a ∷ l)))
 
 -- ---- of a list
 
@@ -179,7 +179,7 @@ pub split_keeps : (front list rest : List ℕ) (o : ℕ) (s : State) → IsKeepi
 unfolding split_parent first_parent split_members
 split_keeps front [] rest o s is kids = rw (final-look, final-answer) (keeps_refl _)
 split_keeps front (a ∷ l) rest o s is kids =
-    let owned : (n : ℕ) → 0 < times (a ∷ l) n → parent_of s.trees n ≡ Some o = λ n h. child_by s is.lawful o n (let k = ap (λ c. times c n) kids in omega (arith, k, h, times-append front (a ∷ (l ++ rest)) n, times-append (a ∷ l) rest n)) in
+    let owned : (n : ℕ) → 0 < times (a ∷ l) n → parent_of s.trees n ≡ Some o = λ n h. child_by s is.valid o n (let k = ap (λ c. times c n) kids in omega (arith, k, h, times-append front (a ∷ (l ++ rest)) n, times-append (a ∷ l) rest n)) in
     let up : parent_of s.trees a ≡ Some o = owned a (omega (arith, self_one a)) in
     let z = last_some None a l in
     rw (final-look, up, all_members s o (a ∷ l) owned, z.1) (at_keeps o a z.0 front l rest s is kids)
@@ -202,18 +202,18 @@ one_keeps n s is = by_parent (parent_of s.trees n) refl
     by_parent : (o : Option ℕ) → parent_of s.trees n ≡ o → KeepsOrder s (final (split_parent (n ∷ [])) s)
     by_parent None root = rootless n s root
     by_parent (Some o) up =
-        let r = child_of_parent s.trees n o is.lawful.forest.distinct up in
+        let r = child_of_parent s.trees n o is.valid.forest.distinct up in
         let own : children_of s.trees o ≡ r.0.children = ap (λ (k : Option (Seen Content)). option_map_or (λ (y : Seen Content). y.children) k []) r.2 in
         let p = parted r.0.children n r.3 in
         split_keeps p.0 (n ∷ []) p.1 o s is (own ∙ p.2)
 
-pub tame_split_one : (n : ℕ) → Tame (split_parent (n ∷ []))
-tame_split_one n = record { keeps = λ s is. one_keeps n s is }
+pub order_preserving_split_one : (n : ℕ) → OrderPreserving (split_parent (n ∷ []))
+order_preserving_split_one n = record { keeps = λ s is. one_keeps n s is }
 
 unwrap_keeps : (n : ℕ) (s : State) → IsKeeping s → (v : Bool) → KeepsOrder s (final (if v then remove n >> done else split_parent (children_of s.trees n)) s)
-unwrap_keeps n s is true = (tame_bind (remove n) (λ _. done) (tame_remove n) (λ _. tame_answer tt)).keeps s is
+unwrap_keeps n s is true = (order_preserving_bind (remove n) (λ _. done) (order_preserving_remove n) (λ _. order_preserving_answer tt)).keeps s is
 unwrap_keeps n s is false = split_keeps [] (children_of s.trees n) [] n s is (sym (append-nil (children_of s.trees n)))
 
-pub tame_unwrap : (n : ℕ) → Tame (remove_keeping_children n)
+pub order_preserving_unwrap : (n : ℕ) → OrderPreserving (remove_keeping_children n)
 unfolding remove_keeping_children
-tame_unwrap n = record { keeps = λ s is. rw final-look (unwrap_keeps n s is (is_none (first_of s.trees n))) }
+order_preserving_unwrap n = record { keeps = λ s is. rw final-look (unwrap_keeps n s is (is_none (first_of s.trees n))) }

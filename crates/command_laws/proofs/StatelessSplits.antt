@@ -6,11 +6,11 @@ use Rattle.node_tests.specs.LineBreaks.{follows_break, precedes_break}
 use Rattle.edit_model.specs.State.{State}
 use Rattle.edit_model.specs.Compositions.{tag_of, attribute_list_of}
 use Rattle.edit_model.specs.Confined.{is_editable_for}
-use Rattle.edit_model.specs.Lawful.{IsLawful}
+use Rattle.edit_model.specs.Valid.{IsValid}
 use Rattle.edit_model.specs.Laws.{LeavesStatesOn}
 use Rattle.edit_model.specs.Moves.{insert_before, move_all_before, move_each_last}
 use Rattle.edit_model.specs.Run.{Reaches, here, onward, reaches_trans, Run, final, value, ◌>>=◌, ◌>>◌, done, look, make_element, unset_attribute}
-use Rattle.edit_model.proofs.LawfulRuns.{lawful_along}
+use Rattle.edit_model.proofs.ValidRuns.{valid_along}
 use Rattle.edit_model.proofs.Steps.{final-answer, final-look}
 use Rattle.edit_laws.specs.Stateless.{Stateless}
 use Rattle.edit_laws.proofs.StatelessRuns.{stateless_parts, stateless_answer, stateless_bind, stateless_copy}
@@ -38,9 +38,9 @@ pub at_look : {A : Type 0} (k : State → Run A) (s : State) → At s (k s) → 
 unfolding look
 at_look k s h = h
 
-pub lawful_final : {T : Type 0} (m : Run T) (s : State) → IsLawful s → IsLawful (final m s)
+pub valid_final : {T : Type 0} (m : Run T) (s : State) → IsValid s → IsValid (final m s)
 unfolding final
-lawful_final m s is = lawful_along (m.by_actions s) is
+valid_final m s is = valid_along (m.by_actions s) is
 
 -- ---- line breaks
 
@@ -100,7 +100,7 @@ stateless_tail o list a z before after = search (stateless_parts, stateless_move
 
 -- ---- the copy
 
-copied_at : (o a : ℕ) (s : State) → IsLawful s → is_editable_for s o ≡ true → At s (copied o a)
+copied_at : (o a : ℕ) (s : State) → IsValid s → is_editable_for s o ≡ true → At s (copied o a)
 unfolding copied
 copied_at o a s is editable = at_look _ s (run.leaves s is)
   where
@@ -110,7 +110,7 @@ copied_at o a s is editable = at_look _ s (run.leaves s is)
     run : Stateless (make_element (tag_of s.trees o) (attribute_list_of s.trees o) >>= (λ x. unset_attribute o (codes "id") >> (insert_before o x >> move_each_last (until a (children_of s.trees o)) x)))
     run = stateless_bind (make_element (tag_of s.trees o) (attribute_list_of s.trees o)) _ (stateless_copy s o (tag_of s.trees o) is editable) stateless_rest
 
-front_at : (o : ℕ) (list : List ℕ) (a : ℕ) (s : State) → IsLawful s → (starts_in s o list ≡ false → is_editable_for s o ≡ true) → At s (copy_front o list a)
+front_at : (o : ℕ) (list : List ℕ) (a : ℕ) (s : State) → IsValid s → (starts_in s o list ≡ false → is_editable_for s o ≡ true) → At s (copy_front o list a)
 unfolding copy_front
 front_at o list a s is ready = at_look _ s (by_start (starts_in s o list) refl)
   where
@@ -118,13 +118,13 @@ front_at o list a s is ready = at_look _ s (by_start (starts_in s o list) refl)
     by_start true e = (stateless_answer tt).leaves s is
     by_start false e = copied_at o a s is (ready e)
 
-rest_at : (o : ℕ) (list : List ℕ) (a z : ℕ) (before after : Bool) (s : State) → IsLawful s → (starts_in s o list ≡ false → is_editable_for s o ≡ true) → At s (split_rest o list a z before after)
+rest_at : (o : ℕ) (list : List ℕ) (a z : ℕ) (before after : Bool) (s : State) → IsValid s → (starts_in s o list ≡ false → is_editable_for s o ≡ true) → At s (split_rest o list a z before after)
 unfolding split_rest tail
 rest_at o list a z before after s is ready =
     at_bind (copy_front o list a) (λ _. tail o list a z before after) s (front_at o list a s is ready)
-    ((stateless_tail o list a z before after).leaves (final (copy_front o list a) s) (lawful_final (copy_front o list a) s is))
+    ((stateless_tail o list a z before after).leaves (final (copy_front o list a) s) (valid_final (copy_front o list a) s is))
 
-marked_at : (o : ℕ) (list : List ℕ) (a z : ℕ) (s : State) → IsLawful s → (starts_in s o list ≡ false → is_editable_for s o ≡ true) → At s (split_marked o list a z)
+marked_at : (o : ℕ) (list : List ℕ) (a z : ℕ) (s : State) → IsValid s → (starts_in s o list ≡ false → is_editable_for s o ≡ true) → At s (split_marked o list a z)
 unfolding split_marked
 marked_at o list a z s is ready =
     at_look _ s (by_ends (not (starts_in s o list) && ends_in s o list) (starts_in s o list && follows_break s.trees o) (ends_in s o list && precedes_break s.trees o))
@@ -134,7 +134,7 @@ marked_at o list a z s is ready =
     by_ends false before after = rest_at o list a z before after s is ready
 
 -- after the line breaks before o are gone, it is copied only if it wasn't touched
-still_editable : (o : ℕ) (list : List ℕ) (s : State) → IsLawful s → is_editable_for s o ≡ true → starts_in (final (clear_before o list) s) o list ≡ false → is_editable_for (final (clear_before o list) s) o ≡ true
+still_editable : (o : ℕ) (list : List ℕ) (s : State) → IsValid s → is_editable_for s o ≡ true → starts_in (final (clear_before o list) s) o list ≡ false → is_editable_for (final (clear_before o list) s) o ≡ true
 unfolding clear_before starts_in
 still_editable o list s is editable = by_start (starts_in s o list) refl
   where
@@ -153,12 +153,12 @@ stateless_at : (o : ℕ) (list : List ℕ) (a z : ℕ) → Stateless (split_at o
 unfolding split_at
 stateless_at o list a z = record { leaves = λ s is. at_look _ s (by_test s is (is_editable_for s o) (is_none (parent_of s.trees o) || is_void_thing s o) refl) }
   where
-    by_test : (s : State) → IsLawful s → (v w : Bool) → is_editable_for s o ≡ v → At s (if not v || w then done else (clear_before o list >> split_marked o list a z))
+    by_test : (s : State) → IsValid s → (v w : Bool) → is_editable_for s o ≡ v → At s (if not v || w then done else (clear_before o list >> split_marked o list a z))
     by_test s is false w e = (stateless_answer tt).leaves s is
     by_test s is true true e = (stateless_answer tt).leaves s is
     by_test s is true false e =
         at_bind (clear_before o list) (λ _. split_marked o list a z) s ((stateless_clear_before o list).leaves s is)
-        (marked_at o list a z (final (clear_before o list) s) (lawful_final (clear_before o list) s is) (still_editable o list s is e))
+        (marked_at o list a z (final (clear_before o list) s) (valid_final (clear_before o list) s is) (still_editable o list s is e))
 
 -- ---- of a list
 

@@ -6,7 +6,7 @@ use Rattle.wrap_split.specs.declared.rule.Criterion.{Criterion}
 use Rattle.wrap_split.specs.declared.rule.Recipe.{Recipe}
 use Rattle.wrap_split.specs.declared.rule.Recipe.TheVariants.{Nothing, Make}
 use Rattle.wrap_split.specs.Target.{blank_of, made_of, made_by, target}
-use Rattle.wrap_split.specs.Wrap.{append_break, prepend_break, parted_end, to_end, parted_front, to_front, moved_in, grow_at, stood, drop_empty, drop_parent, move_children, merged, merge_next, filled_from, filled, into_target, wrap_ends, wrap_list, wrap_members, wrap}
+use Rattle.wrap_split.specs.Wrap.{append_break, prepend_break, separate_with_br, append_all, parted_front, prepend_all, moved_in, grow_at, insert_if_loose, drop_empty, drop_parent, move_children, merged, merge_next, filled_from, filled, into_target, wrap_ends, wrap_list, wrap_members, wrap}
 use Rattle.command_laws.specs.WrapLaws.{MakesNoState}
 use Rattle.command_laws.proofs.StatelessMoves.{stateless_moves}
 use Rattle.command_laws.proofs.StatelessSplits.{stateless_breaks_from}
@@ -19,33 +19,33 @@ stateless_prepend_break : (p : ℕ) → Stateless (prepend_break p)
 unfolding prepend_break
 stateless_prepend_break p = search (stateless_parts, stateless_moves)
 
-stateless_parted_end : (p : ℕ) (before after : Option ℕ) → Stateless (parted_end p before after)
-unfolding parted_end
-stateless_parted_end p before after = search (stateless_parts, stateless_append_break)
+stateless_separate_with_br : (p : ℕ) (before after : Option ℕ) → Stateless (separate_with_br p before after)
+unfolding separate_with_br
+stateless_separate_with_br p before after = search (stateless_parts, stateless_append_break)
 
-stateless_to_end : (p : ℕ) (list : List ℕ) → Stateless (to_end p list)
-unfolding to_end
-stateless_to_end p list = search (stateless_parts, stateless_moves, stateless_parted_end)
+stateless_append_all : (p : ℕ) (list : List ℕ) → Stateless (append_all p list)
+unfolding append_all
+stateless_append_all p list = search (stateless_parts, stateless_moves, stateless_separate_with_br)
 
 stateless_parted_front : (p : ℕ) (list : List ℕ) → Stateless (parted_front p list)
 unfolding parted_front
 stateless_parted_front p list = search (stateless_parts, stateless_prepend_break)
 
-stateless_to_front : (p : ℕ) (list : List ℕ) → Stateless (to_front p list)
-unfolding to_front
-stateless_to_front p list = search (stateless_parts, stateless_moves, stateless_parted_front)
+stateless_prepend_all : (p : ℕ) (list : List ℕ) → Stateless (prepend_all p list)
+unfolding prepend_all
+stateless_prepend_all p list = search (stateless_parts, stateless_moves, stateless_parted_front)
 
 stateless_moved_in : (p : ℕ) (list : List ℕ) (a : ℕ) → Stateless (moved_in p list a)
 unfolding moved_in
-stateless_moved_in p list a = search (stateless_parts, stateless_to_end, stateless_to_front)
+stateless_moved_in p list a = search (stateless_parts, stateless_append_all, stateless_prepend_all)
 
 stateless_grow_at : (p : ℕ) → Stateless (grow_at p)
 unfolding grow_at
 stateless_grow_at p = search stateless_parts
 
-stateless_stood : (p a : ℕ) → Stateless (stood p a)
-unfolding stood
-stateless_stood p a = search (stateless_parts, stateless_moves, stateless_grow_at)
+stateless_insert_if_loose : (p a : ℕ) → Stateless (insert_if_loose p a)
+unfolding insert_if_loose
+stateless_insert_if_loose p a = search (stateless_parts, stateless_moves, stateless_grow_at)
 
 stateless_drop_empty : (o : ℕ) → Stateless (drop_empty o)
 unfolding drop_empty
@@ -61,7 +61,7 @@ stateless_move_children p q = search (stateless_parts, stateless_moves)
 
 stateless_merged : (p q : ℕ) → Stateless (merged p q)
 unfolding merged
-stateless_merged p q = search (stateless_parts, stateless_parted_end, stateless_move_children)
+stateless_merged p q = search (stateless_parts, stateless_separate_with_br, stateless_move_children)
 
 stateless_merge_next : (c : Criterion) (p : ℕ) → Stateless (merge_next c p)
 unfolding merge_next
@@ -73,7 +73,7 @@ stateless_filled_from c p list a o = search (stateless_parts, stateless_moved_in
 
 stateless_filled : (c : Criterion) (p : ℕ) (list : List ℕ) (a : ℕ) → Stateless (filled c p list a)
 unfolding filled
-stateless_filled c p list a = search (stateless_parts, stateless_stood, stateless_filled_from)
+stateless_filled c p list a = search (stateless_parts, stateless_insert_if_loose, stateless_filled_from)
 
 stateless_into : (c : Criterion) (list : List ℕ) (a : ℕ) (p : Option ℕ) → Stateless (into_target c list a p)
 unfolding into_target

@@ -1,28 +1,28 @@
 -- Setting and unsetting a style keeps the order, the states of contenteditable, and the shape of the trees.
 use Rattle.std.proofs.Common.{ℕ, Bool, true, false, if◌then◌else◌, List, [], ◌∷◌, Option, Some, None}
 use Rattle.edit_model.specs.State.{State}
-use Rattle.edit_model.specs.Lawful.{IsLawful}
+use Rattle.edit_model.specs.Valid.{IsValid}
 use Rattle.edit_model.specs.Run.{Run, final, value, ◌>>=◌, answer, look, given, for_each, set_attribute, unset_attribute}
 use Rattle.edit_model.proofs.Steps.{final-bind, final-answer, final-look, final-edit}
 use Rattle.edit_laws.specs.Stateless.{Stateless}
-use Rattle.edit_laws.specs.Tame.{Tame}
+use Rattle.edit_laws.specs.OrderPreserving.{OrderPreserving}
 use Rattle.edit_laws.proofs.Nesting.{Shaped, shaped_refl, shaped_trans, shaped_set, shaped_unset}
 use Rattle.edit_laws.proofs.StatelessRuns.{stateless_parts}
-use Rattle.edit_laws.proofs.Tame.{tame}
+use Rattle.edit_laws.proofs.OrderPreserving.{order_preserving}
 use Rattle.inline_value.specs.Styling.{write_text, set_style, unset_style}
-use Rattle.command_laws.proofs.StatelessSplits.{lawful_final}
+use Rattle.command_laws.proofs.StatelessSplits.{valid_final}
 
 -- ---- runs that leave the shape of the trees
 
 pub record Shaping {T : Type 0} (m : Run T) : Type 0 where
-  pub shapes : (s : State) → IsLawful s → Shaped s (final m s)
+  pub shapes : (s : State) → IsValid s → Shaped s (final m s)
 
 pub shaping_answer : {A : Type 0} (a : A) → Shaping (answer a)
 shaping_answer a = record { shapes = λ s is. rw (final-answer a s) (shaped_refl s) }
 
 pub shaping_bind : {A B : Type 0} (m : Run A) (k : A → Run B) → Shaping m → ((a : A) → Shaping (k a)) → Shaping (m >>= k)
 shaping_bind m k p q = record {
-  shapes = λ s is. rw (final-bind m k s) (shaped_trans s (final m s) (final (k (value m s)) (final m s)) (p.shapes s is) ((q (value m s)).shapes (final m s) (lawful_final m s is)));
+  shapes = λ s is. rw (final-bind m k s) (shaped_trans s (final m s) (final (k (value m s)) (final m s)) (p.shapes s is) ((q (value m s)).shapes (final m s) (valid_final m s is)));
 }
 
 pub shaping_look : {A : Type 0} (k : State → Run A) → ((s : State) → Shaping (k s)) → Shaping (look k)
@@ -51,17 +51,17 @@ pub ruleset shaping = (shaping_answer, shaping_bind, shaping_look, shaping_if, s
 
 -- ---- styles
 
-tame_text : (e : ℕ) (text : List ℕ) → Tame (write_text e text)
+order_preserving_text : (e : ℕ) (text : List ℕ) → OrderPreserving (write_text e text)
 unfolding write_text
-tame_text e text = search tame
+order_preserving_text e text = search order_preserving
 
-pub tame_set_style : (e : ℕ) (name value : List ℕ) → Tame (set_style e name value)
+pub order_preserving_set_style : (e : ℕ) (name value : List ℕ) → OrderPreserving (set_style e name value)
 unfolding set_style
-tame_set_style e name value = search (tame, tame_text)
+order_preserving_set_style e name value = search (order_preserving, order_preserving_text)
 
-pub tame_unset_style : (e : ℕ) (name : List ℕ) → Tame (unset_style e name)
+pub order_preserving_unset_style : (e : ℕ) (name : List ℕ) → OrderPreserving (unset_style e name)
 unfolding unset_style
-tame_unset_style e name = search (tame, tame_text)
+order_preserving_unset_style e name = search (order_preserving, order_preserving_text)
 
 stateless_text : (e : ℕ) (text : List ℕ) → Stateless (write_text e text)
 unfolding write_text

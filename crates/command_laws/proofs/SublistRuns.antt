@@ -9,15 +9,15 @@ use Rattle.edit_model.specs.Run.{Run, final, value, ◌>>=◌, answer, look, giv
 use Rattle.edit_model.proofs.Steps.{final-bind, final-answer, final-look, final-make_element, value-bind, value-answer, value-look, value-make_element, for_each-cons, for_each-nil}
 use Rattle.edit_laws.specs.Order.{KeepsOrder, IsKeeping}
 use Rattle.edit_laws.specs.Stateless.{Stateless}
-use Rattle.edit_laws.specs.Tame.{Tame}
+use Rattle.edit_laws.specs.OrderPreserving.{OrderPreserving}
 use Rattle.edit_laws.proofs.MoveLaws.{go_after}
 use Rattle.edit_laws.proofs.QuietActions.{keeping_final}
 use Rattle.edit_laws.proofs.StatelessRuns.{stateless_parts, stateless_make_element}
 use Rattle.edit_laws.proofs.Subsequences.{keeps_refl, keeps_trans}
-use Rattle.edit_laws.proofs.Tame.{tame_answer}
+use Rattle.edit_laws.proofs.OrderPreserving.{order_preserving_answer}
 use Rattle.list_indent.specs.Sublists.{has_sublist, leaves, parted, make_follower, follower_of, handed_on, part_child, part_last, part_sublists, normalize_sublists}
 use Rattle.command_laws.proofs.Followers.{Follows, goes_on, stands_after}
-use Rattle.command_laws.proofs.Splitting.{then_tame}
+use Rattle.command_laws.proofs.Splitting.{then_order_preserving}
 use Rattle.command_laws.proofs.StatelessMoves.{stateless_moves, stateless_move_after, stateless_move_first}
 use Rattle.command_laws.proofs.Walks.{Fit, fit, fits}
 use Rattle.command_laws.proofs.Widening.{last_parted}
@@ -100,7 +100,7 @@ module _ (item : ℕ) where
 
   turns : (bound : ℕ) (s : State) → IsKeeping s → (follower : Option ℕ) → Followed s follower → KeepsOrder s (final (while_at_most bound (has_sublist item) (part_last item) follower) s)
   unfolding while_at_most
-  turns zero s is follower h = (tame_answer follower).keeps s is
+  turns zero s is follower h = (order_preserving_answer follower).keeps s is
   turns (suc n) s is follower h =
       let w = turn s is follower h in
       let m = part_last item follower in
@@ -112,11 +112,11 @@ module _ (item : ℕ) where
       by_test : (v : Bool) → KeepsOrder s (final (while_at_most n (has_sublist item) (part_last item) (value (part_last item follower) s)) (final (part_last item follower) s))
           → KeepsOrder s (final (if v then more else answer follower) s)
       by_test true rest = rw final-bind rest
-      by_test false rest = (tame_answer follower).keeps s is
+      by_test false rest = (order_preserving_answer follower).keeps s is
 
-  tame_sublists : Tame (part_sublists item)
+  order_preserving_sublists : OrderPreserving (part_sublists item)
   unfolding part_sublists Followed
-  tame_sublists = record { keeps = λ s is. rw final-look (then_tame _ _ s is (turns _ s is None tt) (tame_answer tt)) }
+  order_preserving_sublists = record { keeps = λ s is. rw final-look (then_order_preserving _ _ s is (turns _ s is None tt) (order_preserving_answer tt)) }
 
 -- ---- the states of contenteditable
 
@@ -150,7 +150,7 @@ stateless_sublists item = search (stateless_parts, stateless_last)
 -- ---- both
 
 fit_sublists : (item : ℕ) → Fit (part_sublists item)
-fit_sublists item = fit (tame_sublists item) (stateless_sublists item)
+fit_sublists item = fit (order_preserving_sublists item) (stateless_sublists item)
 
 pub fit_normalize : (n : ℕ) → Fit (normalize_sublists n)
 unfolding normalize_sublists

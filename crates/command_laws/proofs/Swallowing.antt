@@ -9,7 +9,7 @@ use Rattle.dom_model.specs.Forest.{is_label, times, first_in, parent_of, childre
 use Rattle.dom_model.proofs.Lists.{times-append}
 use Rattle.dom_model.proofs.Links.{times-children_of, eqb_refl_true}
 use Rattle.edit_model.specs.State.{State}
-use Rattle.edit_model.specs.Lawful.{IsLawful}
+use Rattle.edit_model.specs.Valid.{IsValid}
 use Rattle.edit_model.proofs.Trees.{none_or_some}
 use Rattle.edit_laws.proofs.Around.{self_one}
 use Rattle.edit_laws.proofs.Fronts.{child_by}
@@ -139,7 +139,7 @@ pub record TakenIn (s u : State) (q p : ℕ) (front list rest : List ℕ) : Type
   pub named : has_name u.trees p (codes "li") ≡ true
   pub more : p < u.next
 
-module _ (s : State) (is : IsLawful s) (items : List ℕ) (q n : ℕ) (g : Grown s items q n) (fresh_child : (l r : ℕ) → parent_of s.trees l ≡ Some r → s.next ≢ l) (fresh_parent : (l r : ℕ) → parent_of s.trees l ≡ Some r → s.next ≢ r) (near : q ≢ s.next) where
+module _ (s : State) (is : IsValid s) (items : List ℕ) (q n : ℕ) (g : Grown s items q n) (fresh_child : (l r : ℕ) → parent_of s.trees l ≡ Some r → s.next ≢ l) (fresh_parent : (l r : ℕ) → parent_of s.trees l ≡ Some r → s.next ≢ r) (near : q ≢ s.next) where
   pub no_item : times items s.next ≡ 0
   no_item = by (times items s.next) refl
     where

@@ -11,7 +11,7 @@ use Rattle.dom_model.proofs.Links.{missing_count, seek-link, seek-unlink, times-
 use Rattle.edit_model.specs.State.{State}
 use Rattle.edit_model.specs.Edit.{Edit, Insert, Remove, is_made_edit, trees_after, edited}
 use Rattle.edit_model.specs.Confined.{may_insert, may_remove}
-use Rattle.edit_model.specs.Lawful.{IsLawful}
+use Rattle.edit_model.specs.Valid.{IsValid}
 use Rattle.edit_model.specs.Action.{made}
 use Rattle.edit_model.specs.Moves.{insert_before}
 use Rattle.edit_model.specs.Run.{Run, final, value, ◌>>=◌, answer, look, given, edit, remove}
@@ -23,7 +23,7 @@ use Rattle.edit_laws.proofs.Around.{self_one, off_by}
 use Rattle.edit_laws.proofs.Fronts.{child_by}
 use Rattle.edit_laws.proofs.Renaming.{made_trees}
 use Rattle.edit_actions.specs.Siblings.{members}
-use Rattle.command_laws.proofs.StatelessSplits.{lawful_final}
+use Rattle.command_laws.proofs.StatelessSplits.{valid_final}
 use Rattle.command_laws.proofs.Widening.{Siblings}
 use Rattle.command_laws.proofs.Wrapping.{put_in-middle}
 
@@ -154,7 +154,7 @@ next_edited e s = subst (λ t. s.next ≤ t.next) (final-edit e s) (final_next (
 
 -- ---- a node that goes
 
-children_without : (s : State) → IsLawful s → (p n o : ℕ) → parent_of s.trees n ≡ Some p → cond (eqb p o) (taken_from (children_of s.trees o) n) (children_of s.trees o) ≡ dropped (children_of s.trees o) n
+children_without : (s : State) → IsValid s → (p n o : ℕ) → parent_of s.trees n ≡ Some p → cond (eqb p o) (taken_from (children_of s.trees o) n) (children_of s.trees o) ≡ dropped (children_of s.trees o) n
 children_without s is p n o child = elim (eqb_tells p o) [
   | inl (t, _) ↦ rw t (taken-dropped (children_of s.trees o) n (times-children_of s.trees o n is.forest.distinct))
   | inr (t, off) ↦ rw t (sym (dropped-absent (children_of s.trees o) n (none_of (times (children_of s.trees o) n) refl off)))
@@ -164,7 +164,7 @@ children_without s is p n o child = elim (eqb_tells p o) [
     none_of zero e off = e
     none_of (suc k) e off = absurd (off (let same : Some p ≡ Some o = sym child ∙ child_by s is o n (omega (arith, e)) in cc))
 
-pub together_removed : (list : List ℕ) (n : ℕ) (s : State) → IsLawful s → Together s list → Together (edited (Remove n) s) list
+pub together_removed : (list : List ℕ) (n : ℕ) (s : State) → IsValid s → Together s list → Together (edited (Remove n) s) list
 unfolding is_made_edit trees_after
 together_removed list n s is w = elim (cases_Bool (may_remove s n)) [
   | inr off ↦ together-same s (edited (Remove n) s) list (trees_left (Remove n) s off) (next_edited (Remove n) s) w
@@ -193,7 +193,7 @@ together_removed list n s is w = elim (cases_Bool (may_remove s n)) [
 
 -- ---- a new node beside them
 
-module _ (c : Content) (list : List ℕ) (s : State) (is : IsLawful s) (w : Together s list) where
+module _ (c : Content) (list : List ℕ) (s : State) (is : IsValid s) (w : Together s list) where
   absent : count_of s.trees s.next ≡ 0
   absent = fresh s.trees s.next is.forest
 
@@ -219,7 +219,7 @@ module _ (c : Content) (list : List ℕ) (s : State) (is : IsLawful s) (w : Toge
       by_count (suc k) e = absurd (omega (arith, w.known s.next (omega (arith, e))))
 
 -- x comes to stand among the children of q, outside the members that are there
-module _ (list : List ℕ) (x q : ℕ) (b : Option ℕ) (s : State) (is : IsLawful s) (apart : times list x ≡ 0) (w : Together s list) where
+module _ (list : List ℕ) (x q : ℕ) (b : Option ℕ) (s : State) (is : IsValid s) (apart : times list x ≡ 0) (w : Together s list) where
   pub together_put : ((front rest : List ℕ) → children_of s.trees q ≡ front ++ (members s q list ++ rest) → (first : List ℕ) × (last : List ℕ) × (put_in (children_of s.trees q) b x ≡ first ++ (members s q list ++ last))) → Together (edited (Insert q b x) s) list
   unfolding is_made_edit trees_after
   together_put beside = elim (cases_Bool (may_insert s q b x)) [
@@ -248,13 +248,13 @@ module _ (list : List ℕ) (x q : ℕ) (b : Option ℕ) (s : State) (is : IsLawf
 -- ---- runs that keep a list together
 
 pub record Holding (list : List ℕ) {T : Type 0} (m : Run T) : Type 0 where
-  pub holds : (s : State) → IsLawful s → Together s list → Together (final m s) list
+  pub holds : (s : State) → IsValid s → Together s list → Together (final m s) list
 
 pub holding_answer : (list : List ℕ) {A : Type 0} (a : A) → Holding list (answer a)
 holding_answer list a = record { holds = λ s is w. rw (final-answer a s) w }
 
 pub holding_bind : (list : List ℕ) {A B : Type 0} (m : Run A) (k : A → Run B) → Holding list m → ((a : A) → Holding list (k a)) → Holding list (m >>= k)
-holding_bind list m k p q = record { holds = λ s is w. rw (final-bind m k s) ((q (value m s)).holds (final m s) (lawful_final m s is) (p.holds s is w)) }
+holding_bind list m k p q = record { holds = λ s is w. rw (final-bind m k s) ((q (value m s)).holds (final m s) (valid_final m s is) (p.holds s is w)) }
 
 pub holding_look : (list : List ℕ) {A : Type 0} (k : State → Run A) → ((s : State) → Holding list (k s)) → Holding list (look k)
 holding_look list k p = record { holds = λ s is w. rw (final-look k s) ((p s).holds s is w) }
@@ -275,7 +275,7 @@ pub ruleset holding = (holding_answer, holding_bind, holding_look, holding_if, h
 -- ---- places beside the members
 
 -- before the first one
-pub first_beside : (s : State) → IsLawful s → (a x q : ℕ) (l front rest : List ℕ) → parent_of s.trees a ≡ Some q → children_of s.trees q ≡ front ++ (members s q (a ∷ l) ++ rest)
+pub first_beside : (s : State) → IsValid s → (a x q : ℕ) (l front rest : List ℕ) → parent_of s.trees a ≡ Some q → children_of s.trees q ≡ front ++ (members s q (a ∷ l) ++ rest)
     → (first : List ℕ) × (last : List ℕ) × (put_in (children_of s.trees q) (Some a) x ≡ first ++ (members s q (a ∷ l) ++ last))
 first_beside s is a x q l front rest up kids =
     let m = members s q l in

@@ -3,44 +3,44 @@
 use Rattle.std.proofs.Common.{ℕ, Bool, List, Option}
 use Rattle.html_names.specs.declared.commands.Command.{Command}
 use Rattle.edit_laws.specs.Stateless.{Stateless}
-use Rattle.edit_laws.specs.Tame.{Tame}
+use Rattle.edit_laws.specs.OrderPreserving.{OrderPreserving}
 use Rattle.edit_laws.proofs.StatelessRuns.{stateless_parts}
-use Rattle.edit_laws.proofs.Tame.{tame}
+use Rattle.edit_laws.proofs.OrderPreserving.{order_preserving}
 use Rattle.inline_commands.specs.Toggling.{set_toggled, toggle_style, set_unless, set_script, toggle_script}
 use Rattle.inline_commands.specs.ValueCommands.{set_taken, take, apply_value}
-use Rattle.command_laws.proofs.SelectionRuns.{tame_set_value, stateless_set_value}
+use Rattle.command_laws.proofs.SelectionRuns.{order_preserving_set_value, stateless_set_value}
 
-tame_toggled : (c : Command) (on : List ℕ) → Tame (set_toggled c on)
+order_preserving_toggled : (c : Command) (on : List ℕ) → OrderPreserving (set_toggled c on)
 unfolding set_toggled
-tame_toggled c on = search (tame, tame_set_value)
+order_preserving_toggled c on = search (order_preserving, order_preserving_set_value)
 
-pub tame_toggle_style : (c : Command) → Tame (toggle_style c)
+pub order_preserving_toggle_style : (c : Command) → OrderPreserving (toggle_style c)
 unfolding toggle_style
-tame_toggle_style c = search (tame, tame_toggled)
+order_preserving_toggle_style c = search (order_preserving, order_preserving_toggled)
 
-tame_unless_on : (state : Bool) (c : Command) (on : List ℕ) → Tame (set_unless state c on)
+order_preserving_unless_on : (state : Bool) (c : Command) (on : List ℕ) → OrderPreserving (set_unless state c on)
 unfolding set_unless
-tame_unless_on state c on = search (tame, tame_set_value)
+order_preserving_unless_on state c on = search (order_preserving, order_preserving_set_value)
 
-tame_set_script : (c : Command) (on : List ℕ) → Tame (set_script c on)
+order_preserving_set_script : (c : Command) (on : List ℕ) → OrderPreserving (set_script c on)
 unfolding set_script
-tame_set_script c on = search (tame, tame_set_value, tame_unless_on)
+order_preserving_set_script c on = search (order_preserving, order_preserving_set_value, order_preserving_unless_on)
 
-pub tame_toggle_script : (c : Command) → Tame (toggle_script c)
+pub order_preserving_toggle_script : (c : Command) → OrderPreserving (toggle_script c)
 unfolding toggle_script
-tame_toggle_script c = search (tame, tame_set_script)
+order_preserving_toggle_script c = search (order_preserving, order_preserving_set_script)
 
-tame_taken : (c : Command) (v : List ℕ) → Tame (set_taken c v)
+order_preserving_taken : (c : Command) (v : List ℕ) → OrderPreserving (set_taken c v)
 unfolding set_taken
-tame_taken c v = search (tame, tame_set_value)
+order_preserving_taken c v = search (order_preserving, order_preserving_set_value)
 
-tame_take : (c : Command) (taken : Option (List ℕ)) → Tame (take c taken)
+order_preserving_take : (c : Command) (taken : Option (List ℕ)) → OrderPreserving (take c taken)
 unfolding take
-tame_take c taken = search (tame, tame_taken)
+order_preserving_take c taken = search (order_preserving, order_preserving_taken)
 
-pub tame_apply_value : (c : Command) (v : List ℕ) → Tame (apply_value c v)
+pub order_preserving_apply_value : (c : Command) (v : List ℕ) → OrderPreserving (apply_value c v)
 unfolding apply_value
-tame_apply_value c v = search (tame, tame_take)
+order_preserving_apply_value c v = search (order_preserving, order_preserving_take)
 
 -- ---- the states of contenteditable
 

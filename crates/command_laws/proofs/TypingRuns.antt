@@ -7,7 +7,7 @@ use Rattle.node_styles.specs.NameClasses.{is_single_line}
 use Rattle.edit_model.specs.State.{State}
 use Rattle.edit_model.specs.Compositions.{attribute_list_of}
 use Rattle.edit_model.specs.Confined.{is_editable_for}
-use Rattle.edit_model.specs.Lawful.{IsLawful}
+use Rattle.edit_model.specs.Valid.{IsValid}
 use Rattle.edit_model.specs.Moves.{insert_after}
 use Rattle.edit_model.specs.Run.{◌>>=◌, ◌>>◌, final, value, answer, done, given, make_element, extract_tail}
 use Rattle.edit_model.proofs.Steps.{final-answer, final-look, value-bind, value-answer, value-look}
@@ -31,7 +31,7 @@ use Rattle.command_laws.proofs.NewWraps.{IsNew, new_parts, new_wrap}
 use Rattle.command_laws.proofs.NoStates.{HasNoState, editable_unstated, made_unstated, unstated_without_id}
 use Rattle.command_laws.proofs.RestoringRuns.{stateless_restore_states}
 use Rattle.command_laws.proofs.StatelessMoves.{stateless_moves, stateless_insert_after}
-use Rattle.command_laws.proofs.StatelessSplits.{At, at_bind, at_look, lawful_final, stateless_split}
+use Rattle.command_laws.proofs.StatelessSplits.{At, at_bind, at_look, valid_final, stateless_split}
 use Rattle.command_laws.proofs.StatelessWraps.{stateless_wrap}
 
 stateless_insert_at : (x : ℕ) (p : Point) → Stateless (insert_at x p)
@@ -127,7 +127,7 @@ unfolding make_line
 new_make_line s = search (new_parts, new_add_container, new_wrap_line)
 
 -- so the container has no state: it is editable or new
-own_unstated : (c : ℕ) (s : State) → IsLawful s → (x : ℕ) → value (own_container c) s ≡ Some x → HasNoState (final (own_container c) s) x
+own_unstated : (c : ℕ) (s : State) → IsValid s → (x : ℕ) → value (own_container c) s ≡ Some x → HasNoState (final (own_container c) s) x
 unfolding own_container is_own_container
 own_unstated c s is x e = rw final-look (by_test (is_editable_for s c && is_single_line s.trees c) refl (sym (value-look _ s) ∙ e))
   where
@@ -156,7 +156,7 @@ stateless_close_both c d = search (stateless_parts, stateless_fill_both)
 stateless_put_second : (q : Point) (c d : ℕ) → Stateless (insert_after c d >> (extract_tail q c d >> answer d))
 stateless_put_second q c d = search (stateless_parts, stateless_insert_after)
 
-module _ (s : State) (is : IsLawful s) (c : ℕ) (none : HasNoState s c) where
+module _ (s : State) (is : IsValid s) (c : ℕ) (none : HasNoState s c) where
   second_at : (q : Point) → At s (make_second q c)
   unfolding make_second
   second_at q =
@@ -168,13 +168,13 @@ module _ (s : State) (is : IsLawful s) (c : ℕ) (none : HasNoState s c) where
   unfolding part_at
   part_at_at q =
       at_bind (make_second q c) _ s (second_at q)
-      ((stateless_put_second q c (value (make_second q c) s)).leaves (final (make_second q c) s) (lawful_final (make_second q c) s is))
+      ((stateless_put_second q c (value (make_second q c) s)).leaves (final (make_second q c) s) (valid_final (make_second q c) s is))
 
   part_from_at : (q : Point) → At s (part_from c q)
   unfolding part_from
   part_from_at q =
       at_bind (part_at q c) (close_both c) s (part_at_at q)
-      ((stateless_close_both c (value (part_at q c) s)).leaves (final (part_at q c) s) (lawful_final (part_at q c) s is))
+      ((stateless_close_both c (value (part_at q c) s)).leaves (final (part_at q c) s) (valid_final (part_at q c) s is))
 
   part_container_at : At s (part_container c)
   unfolding part_container
@@ -201,10 +201,10 @@ stateless_part_own p c = record {
       at_bind (own_container c) (part_line_if p) s ((stateless_own_container c).leaves s is) (by_answer s is (value (own_container c) s) refl);
 }
   where
-    by_answer : (s : State) → IsLawful s → (o : Option ℕ) → value (own_container c) s ≡ o → At (final (own_container c) s) (part_line_if p o)
-    by_answer s is None e = (stateless_answer tt).leaves (final (own_container c) s) (lawful_final (own_container c) s is)
+    by_answer : (s : State) → IsValid s → (o : Option ℕ) → value (own_container c) s ≡ o → At (final (own_container c) s) (part_line_if p o)
+    by_answer s is None e = (stateless_answer tt).leaves (final (own_container c) s) (valid_final (own_container c) s is)
     by_answer s is (Some x) e =
-        part_line_at (final (own_container c) s) (lawful_final (own_container c) s is) x (own_unstated c s is x e) p
+        part_line_at (final (own_container c) s) (valid_final (own_container c) s is) x (own_unstated c s is x e) p
 
 stateless_part_paragraph : (p : Point) → Stateless (part_paragraph p)
 unfolding part_paragraph

@@ -6,7 +6,7 @@ use Rattle.std.proofs.lemmas.List.{append-nil}
 use Rattle.dom_model.specs.Forest.{is_label, times, first_in, parent_of, children_of}
 use Rattle.dom_model.proofs.Links.{parent_count}
 use Rattle.edit_model.specs.State.{State}
-use Rattle.edit_model.specs.Lawful.{IsLawful}
+use Rattle.edit_model.specs.Valid.{IsValid}
 use Rattle.edit_model.specs.Run.{final, ◌>>◌, done, remove}
 use Rattle.edit_model.proofs.Steps.{final-look}
 use Rattle.edit_laws.proofs.Around.{self_one}
@@ -20,7 +20,7 @@ use Rattle.command_laws.proofs.SplitTogether.{split_list_together}
 use Rattle.command_laws.proofs.Together.{Together, members-none}
 use Rattle.command_laws.proofs.Widening.{Siblings, member}
 
-siblings_together : (s : State) → IsLawful s → (o : ℕ) (list : List ℕ) → Siblings s o list → Together s list
+siblings_together : (s : State) → IsValid s → (o : ℕ) (list : List ℕ) → Siblings s o list → Together s list
 siblings_together s is o list w = record {
   known = λ l h. is.forest.below l (parent_count s.trees l o is.forest.distinct (owned l h)).0;
   siblings = λ r. elim (eqb_tells o r) [
@@ -34,7 +34,7 @@ siblings_together s is o list w = record {
     owned l h = member s is o w.front list w.rest w.is l h
 
 -- the children of a node, where it is split
-pub split_children_together : (s : State) → IsLawful s → (o a : ℕ) (l : List ℕ) → children_of s.trees o ≡ a ∷ l → Together (final (split_parent (a ∷ l)) s) (a ∷ l)
+pub split_children_together : (s : State) → IsValid s → (o a : ℕ) (l : List ℕ) → children_of s.trees o ≡ a ∷ l → Together (final (split_parent (a ∷ l)) s) (a ∷ l)
 split_children_together s is o a l kids =
     let w : Siblings s o (a ∷ l) = record { front = []; rest = []; is = kids ∙ sym (append-nil (a ∷ l)) } in
     let owned : (m : ℕ) → 0 < times (a ∷ l) m → parent_of s.trees m ≡ Some o = λ m h. child_by s is o m (let k = ap (λ c. times c m) kids in omega (arith, k, h)) in
@@ -44,7 +44,7 @@ split_children_together s is o a l kids =
     parent_other s.trees is.forest.distinct o q up (sym same)))
 
 -- and of one that goes, while they stay
-pub children_stay_together : (n : ℕ) (s : State) → IsLawful s → Together (final (remove_keeping_children n) s) (children_of s.trees n)
+pub children_stay_together : (n : ℕ) (s : State) → IsValid s → Together (final (remove_keeping_children n) s) (children_of s.trees n)
 unfolding remove_keeping_children
 children_stay_together n s is = rw final-look (by_children (children_of s.trees n) refl)
   where

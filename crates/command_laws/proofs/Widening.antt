@@ -8,7 +8,7 @@ use Rattle.dom_model.proofs.Links.{times-children_of, eqb_refl_true}
 use Rattle.node_styles.specs.Blocks.{is_block}
 use Rattle.edit_model.specs.State.{State}
 use Rattle.dom_model.specs.Contents.{is_break}
-use Rattle.edit_model.specs.Lawful.{IsLawful}
+use Rattle.edit_model.specs.Valid.{IsValid}
 use Rattle.edit_laws.proofs.Around.{self_one, off_by}
 use Rattle.edit_laws.proofs.Fronts.{child_by}
 use Rattle.wrap_split.specs.Walks.{turn_bound, is_invisible}
@@ -44,7 +44,7 @@ pub record Siblings (s : State) (o : ℕ) (list : List ℕ) : Type 0 where
   pub rest : List ℕ
   pub is : children_of s.trees o ≡ front ++ (list ++ rest)
 
-module _ (s : State) (is : IsLawful s) (o : ℕ) (front list rest : List ℕ) (kids : children_of s.trees o ≡ front ++ (list ++ rest)) where
+module _ (s : State) (is : IsValid s) (o : ℕ) (front list rest : List ℕ) (kids : children_of s.trees o ≡ front ++ (list ++ rest)) where
   pub member : (n : ℕ) → 0 < times list n → parent_of s.trees n ≡ Some o
   member n h = child_by s is o n (let k = ap (λ l. times l n) kids in omega (arith, k, h, times-append front (list ++ rest) n, times-append list rest n))
 
@@ -81,7 +81,7 @@ module _ (s : State) (is : IsLawful s) (o : ℕ) (front list rest : List ℕ) (k
       ∙ (sym (ap (λ k. option_and_then (λ q. after_in (children_of s.trees q) z) k) up) ∙ next)) in
       followed p (first_parted rest p first)
 
-module _ (s : State) (is : IsLawful s) (o : ℕ) where
+module _ (s : State) (is : IsValid s) (o : ℕ) where
   one_before : (list : List ℕ) (a q : ℕ) → Siblings s o list → first_in list ≡ Some a → prev_of s.trees a ≡ Some q → Siblings s o (q ∷ list)
   one_before list a q w first prev = let r = node_before s is o w.front list w.rest w.is a q first prev in record { front = r.0; rest = w.rest; is = r.1 }
 

@@ -22,7 +22,7 @@ use Rattle.edit_model.proofs.OutsideRuns.{trees-grown}
 use Rattle.edit_model.proofs.Steps.{final-bind, final-answer, final-look, final-perform, final-make_element, value-bind, value-answer, value-look, value-make_element}
 use Rattle.edit_model.proofs.Tests.{inserts}
 use Rattle.edit_laws.specs.Order.{KeepsOrder, IsKeeping}
-use Rattle.edit_laws.specs.Tame.{Tame}
+use Rattle.edit_laws.specs.OrderPreserving.{OrderPreserving}
 use Rattle.edit_laws.proofs.Adopting.{final_insert_before}
 use Rattle.edit_laws.proofs.Around.{self_one, off_by}
 use Rattle.edit_laws.proofs.Fronts.{child_by}
@@ -31,50 +31,50 @@ use Rattle.edit_laws.proofs.NewElements.{new_bare}
 use Rattle.edit_laws.proofs.QuietActions.{keeping_edited, keeping_final, bare_insert_keeps}
 use Rattle.edit_laws.proofs.Renaming.{made_trees, new_absent, new_loose, keeping_made, keeps_made}
 use Rattle.edit_laws.proofs.Subsequences.{keeps_refl, keeps_trans}
-use Rattle.edit_laws.proofs.Tame.{tame}
+use Rattle.edit_laws.proofs.OrderPreserving.{order_preserving}
 use Rattle.wrap_split.specs.declared.rule.Criterion.{Criterion}
 use Rattle.wrap_split.specs.declared.rule.Recipe.{Recipe}
 use Rattle.wrap_split.specs.declared.rule.Recipe.TheVariants.{Nothing, Make}
 use Rattle.edit_actions.specs.Siblings.{first_parent, members}
 use Rattle.wrap_split.specs.Target.{meets, if_fits, beside, blank_of, made_of, made_by, target}
-use Rattle.wrap_split.specs.Wrap.{all_hidden, widened, moved_in, grow_at, stood, filled_from, filled, into_target, wrap_ends, wrap_list, wrap_members, wrap}
+use Rattle.wrap_split.specs.Wrap.{all_hidden, widened, moved_in, grow_at, insert_if_loose, filled_from, filled, into_target, wrap_ends, wrap_list, wrap_members, wrap}
 use Rattle.command_laws.specs.WrapLaws.{NamesNoThing, MakesNoThing}
 use Rattle.command_laws.proofs.Criteria.{meets_bare}
-use Rattle.command_laws.proofs.Merging.{tame_rest}
+use Rattle.command_laws.proofs.Merging.{order_preserving_rest}
 use Rattle.command_laws.proofs.MovingIn.{into_previous, into_next, into_loose}
-use Rattle.command_laws.proofs.Splitting.{then_tame, last_some, all_members, parted}
+use Rattle.command_laws.proofs.Splitting.{then_order_preserving, last_some, all_members, parted}
 use Rattle.command_laws.proofs.Widening.{Siblings, member, node_before, node_after, widened_siblings, first_parted}
 
 -- the moves and what follows them, once the node stands
-filled_keeps : (c : Criterion) (p : ℕ) (list : List ℕ) (a : ℕ) (s : State) → NamesNoThing c → IsKeeping s → KeepsOrder s (final (stood p a) s) → KeepsOrder (final (stood p a) s) (final (moved_in p list a) (final (stood p a) s))
+filled_keeps : (c : Criterion) (p : ℕ) (list : List ℕ) (a : ℕ) (s : State) → NamesNoThing c → IsKeeping s → KeepsOrder s (final (insert_if_loose p a) s) → KeepsOrder (final (insert_if_loose p a) s) (final (moved_in p list a) (final (insert_if_loose p a) s))
     → KeepsOrder s (final (filled c p list a) s)
 unfolding filled filled_from
 filled_keeps c p list a s plain is stands moves =
-    let t : State = final (stood p a) s in
-    rw (final-bind, final-look) (keeps_trans stands (then_tame (moved_in p list a) _ t (keeping_final (stood p a) s is) moves (tame_rest c p (parent_of t.trees a) plain)))
+    let t : State = final (insert_if_loose p a) s in
+    rw (final-bind, final-look) (keeps_trans stands (then_order_preserving (moved_in p list a) _ t (keeping_final (insert_if_loose p a) s is) moves (order_preserving_rest c p (parent_of t.trees a) plain)))
 
 -- ---- a sibling
 
-stood_there : (p a q : ℕ) (s : State) → parent_of s.trees p ≡ Some q → final (stood p a) s ≡ s
-unfolding stood
-stood_there p a q s up = rw (final-look, up, final-answer) refl
+insert_if_loose_there : (p a q : ℕ) (s : State) → parent_of s.trees p ≡ Some q → final (insert_if_loose p a) s ≡ s
+unfolding insert_if_loose
+insert_if_loose_there p a q s up = rw (final-look, up, final-answer) refl
 
 module _ (c : Criterion) (s : State) (is : IsKeeping s) (plain : NamesNoThing c) (o : ℕ) (front list rest : List ℕ) (kids : children_of s.trees o ≡ front ++ (list ++ rest)) (a z : ℕ) (first : first_in list ≡ Some a) (last : last_in list ≡ Some z) where
   there : (p : ℕ) → parent_of s.trees p ≡ Some o → KeepsOrder s (final (moved_in p list a) s) → KeepsOrder s (final (filled c p list a) s)
   there p up moves =
-      let stays = stood_there p a o s up in
+      let stays = insert_if_loose_there p a o s up in
       filled_keeps c p list a s plain is (rw stays (keeps_refl (document_of s.trees))) (rw stays moves)
 
   previous_filled : (p : ℕ) → prev_of s.trees a ≡ Some p → KeepsOrder s (final (filled c p list a) s)
   previous_filled p prev =
-      let r = node_before s is.lawful o front list rest kids a p first prev in
-      let up = child_by s is.lawful o p (let k = ap (λ l. times l p) r.1 in omega (arith, k, times-append r.0 (p ∷ (list ++ rest)) p, self_one p)) in
+      let r = node_before s is.valid o front list rest kids a p first prev in
+      let up = child_by s is.valid o p (let k = ap (λ l. times l p) r.1 in omega (arith, k, times-append r.0 (p ∷ (list ++ rest)) p, self_one p)) in
       there p up (into_previous s is p a o r.0 list rest first r.1)
 
   next_filled : (p : ℕ) → next_of s.trees z ≡ Some p → meets c s.trees p ≡ true → KeepsOrder s (final (filled c p list a) s)
   next_filled p next fits =
-      let r = node_after s is.lawful o front list rest kids z p last next in
-      let up = child_by s is.lawful o p (let k = ap (λ l. times l p) r.1 in omega (arith, k, times-append front (list ++ p ∷ r.0) p, times-append list (p ∷ r.0) p, self_one p)) in
+      let r = node_after s is.valid o front list rest kids z p last next in
+      let up = child_by s is.valid o p (let k = ap (λ l. times l p) r.1 in omega (arith, k, times-append front (list ++ p ∷ r.0) p, times-append list (p ∷ r.0) p, self_one p)) in
       there p up (into_next s is p a o front list r.0 first r.1 (meets_bare c s p plain fits))
 
 -- ---- a new element
@@ -87,9 +87,9 @@ grown_trees p s = rw final-look (by_parent (parent_of s.trees p))
     by_parent None = rw final-answer refl
     by_parent (Some q) = rw final-perform (trees-grown (record { label = q; offset = index_of s.trees p }) s)
 
-tame_grow : (p : ℕ) → Tame (grow_at p)
+order_preserving_grow : (p : ℕ) → OrderPreserving (grow_at p)
 unfolding grow_at
-tame_grow p = search tame
+order_preserving_grow p = search order_preserving
 
 pub put_in-middle : (front rest : List ℕ) (a x : ℕ) → times front a ≡ 0 → put_in (front ++ a ∷ rest) (Some a) x ≡ front ++ x ∷ a ∷ rest
 put_in-middle [] rest a x none = rw (eqb_refl_true a) refl
@@ -130,7 +130,7 @@ module _ (s : State) (is : IsKeeping s) (o : ℕ) (front list rest : List ℕ) (
   unfolding s1
   up1 =
       let r = first_parted list a first in
-      let up = member s is.lawful o front list rest kids a (let k = ap (λ l. times l a) r.1 in omega (arith, k, self_one a)) in
+      let up = member s is.valid o front list rest kids a (let k = ap (λ l. times l a) r.1 in omega (arith, k, self_one a)) in
       ap (λ f. parent_of f a) (made_trees new s) ∙ (parent_of-with_leaf s.trees s.next new (new_absent s is new) a ∙ up)
 
   root1 : parent_of s1.trees x ≡ None
@@ -144,8 +144,8 @@ module _ (s : State) (is : IsKeeping s) (o : ℕ) (front list rest : List ℕ) (
   unfolding s1
   children1 = ap (λ f. children_of f o) (made_trees new s) ∙ (children_of-with_leaf s.trees s.next new (new_absent s is new) o ∙ kids)
 
-  stands : final (stood x a) s1 ≡ s3
-  unfolding stood s3 s2
+  stands : final (insert_if_loose x a) s1 ≡ s3
+  unfolding insert_if_loose s3 s2
   stands = rw (final-look, root1, final-bind, final_insert_before a x o s1 up1) refl
 
   keeps1 : KeepsOrder s s1
@@ -158,7 +158,7 @@ module _ (s : State) (is : IsKeeping s) (o : ℕ) (front list rest : List ℕ) (
 
   keeps3 : KeepsOrder s2 s3
   unfolding s3
-  keeps3 = (tame_grow x).keeps s2 is2
+  keeps3 = (order_preserving_grow x).keeps s2 is2
 
   trees3 : s3.trees ≡ s2.trees
   unfolding s3
@@ -169,7 +169,7 @@ module _ (s : State) (is : IsKeeping s) (o : ℕ) (front list rest : List ℕ) (
   where_made = λ may. (
       let now : s2.trees ≡ link s1.trees o (Some a) x = trees_made (Insert o (Some a) x) s1 may in
       let can = (inserts s1 o (Some a) x may).can in
-      let once = is1.lawful.forest.distinct in
+      let once = is1.valid.forest.distinct in
       let r = first_parted list a first in
       let shape : children_of s1.trees o ≡ front ++ a ∷ (r.0 ++ rest) = children1 ∙ ap (λ k. front ++ (k ++ rest)) r.1 in
       let k = ap (λ l. times l a) shape in
@@ -263,7 +263,7 @@ module _ (c : Criterion) (r : Recipe) (plain : NamesNoThing c) (makes : MakesNoT
     where
       by_hidden : (z : ℕ) → last_in (a ∷ l) ≡ Some z → (v : Bool) → KeepsOrder s (final (if v then answer None else wrap_list c r (widened s (a ∷ l) a z)) s)
       by_hidden z e true = rw final-answer (keeps_refl (document_of s.trees))
-      by_hidden z e false = list_keeps (widened s (a ∷ l) a z) (widened_siblings s is.lawful o (a ∷ l) a z w refl e)
+      by_hidden z e false = list_keeps (widened s (a ∷ l) a z) (widened_siblings s is.valid o (a ∷ l) a z w refl e)
 
   pub taken_keep : (front list rest : List ℕ) → first_parent s list ≡ Some o → children_of s.trees o ≡ front ++ (members s o list ++ rest) → KeepsOrder s (final (wrap c r list) s)
   unfolding wrap
@@ -278,7 +278,7 @@ pub wrap_keeps : (c : Criterion) (r : Recipe) (front list rest : List ℕ) (o : 
 unfolding first_parent
 wrap_keeps c r front [] rest o s plain makes is kids = parentless c r [] s refl
 wrap_keeps c r front (a ∷ l) rest o s plain makes is kids =
-    let owned : (n : ℕ) → 0 < times (a ∷ l) n → parent_of s.trees n ≡ Some o = λ n h. member s is.lawful o front (a ∷ l) rest kids n h in
+    let owned : (n : ℕ) → 0 < times (a ∷ l) n → parent_of s.trees n ≡ Some o = λ n h. member s is.valid o front (a ∷ l) rest kids n h in
     let up : parent_of s.trees a ≡ Some o = owned a (omega (arith, self_one a)) in
     taken_keep c r plain makes s is o front (a ∷ l) rest (ap (λ p. either p (first_parent s l)) up) (kids ∙ ap (λ k. front ++ (k ++ rest)) (sym (all_members s o (a ∷ l) owned)))
 
@@ -292,14 +292,14 @@ together_keeps c r plain makes s is list all = by_parent (first_parent s list) r
 
 -- ---- of one node
 
-pub tame_wrap_one : (c : Criterion) (r : Recipe) (n : ℕ) → NamesNoThing c → MakesNoThing r → Tame (wrap c r (n ∷ []))
+pub order_preserving_wrap_one : (c : Criterion) (r : Recipe) (n : ℕ) → NamesNoThing c → MakesNoThing r → OrderPreserving (wrap c r (n ∷ []))
 unfolding first_parent
-tame_wrap_one c r n plain makes = record { keeps = λ s is. by_parent s is (parent_of s.trees n) refl }
+order_preserving_wrap_one c r n plain makes = record { keeps = λ s is. by_parent s is (parent_of s.trees n) refl }
   where
     by_parent : (s : State) → IsKeeping s → (o : Option ℕ) → parent_of s.trees n ≡ o → KeepsOrder s (final (wrap c r (n ∷ [])) s)
     by_parent s is None root = parentless c r (n ∷ []) s (ap (λ p. either p None) root)
     by_parent s is (Some o) up =
-        let w = child_of_parent s.trees n o is.lawful.forest.distinct up in
+        let w = child_of_parent s.trees n o is.valid.forest.distinct up in
         let own : children_of s.trees o ≡ w.0.children = ap (λ (k : Option (Seen Content)). option_map_or (λ (y : Seen Content). y.children) k []) w.2 in
         let p = parted w.0.children n w.3 in
         wrap_keeps c r p.0 (n ∷ []) p.1 o s plain makes is (own ∙ p.2)

@@ -1,13 +1,13 @@
 -- The laws of order of removing line breaks.
 use Rattle.std.specs.Prelude.{ℕ}
-use Rattle.edit_laws.specs.Tame.{Tame}
+use Rattle.edit_laws.specs.OrderPreserving.{OrderPreserving}
 use Rattle.wrap_split.specs.Breaks.{breaks_before, breaks_at_end, breaks_from}
 
 abbrev pub BreaksBeforeGo : Type 0
-BreaksBeforeGo = (n : ℕ) → Tame (breaks_before n)
+BreaksBeforeGo = (n : ℕ) → OrderPreserving (breaks_before n)
 
 abbrev pub BreaksAtEndGo : Type 0
-BreaksAtEndGo = (n : ℕ) → Tame (breaks_at_end n)
+BreaksAtEndGo = (n : ℕ) → OrderPreserving (breaks_at_end n)
 
 abbrev pub BreaksFromGo : Type 0
-BreaksFromGo = (n : ℕ) → Tame (breaks_from n)
+BreaksFromGo = (n : ℕ) → OrderPreserving (breaks_from n)

@@ -1,12 +1,12 @@
 -- The laws of toggling ordered and unordered lists: that its run keeps the order and leaves the states of contenteditable.
 use Rattle.std.specs.Prelude.{Bool}
 use Rattle.edit_laws.specs.Stateless.{Stateless}
-use Rattle.edit_laws.specs.Tame.{Tame}
+use Rattle.edit_laws.specs.OrderPreserving.{OrderPreserving}
 use Rattle.list_toggle.specs.Toggle.{toggle_lists}
 
 -- insertOrderedList, and insertUnorderedList
 abbrev pub ListTogglesKeepOrder : Type 0
-ListTogglesKeepOrder = (ordered : Bool) → Tame (toggle_lists ordered)
+ListTogglesKeepOrder = (ordered : Bool) → OrderPreserving (toggle_lists ordered)
 
 abbrev pub ListTogglesAreStateless : Type 0
 ListTogglesAreStateless = (ordered : Bool) → Stateless (toggle_lists ordered)

@@ -5,7 +5,7 @@ use Rattle.edit_model.specs.State.{State}
 use Rattle.edit_model.specs.Run.{final}
 use Rattle.edit_laws.specs.Order.{KeepsOrder, IsKeeping}
 use Rattle.edit_laws.specs.Stateless.{Stateless}
-use Rattle.edit_laws.specs.Tame.{Tame}
+use Rattle.edit_laws.specs.OrderPreserving.{OrderPreserving}
 use Rattle.wrap_split.specs.Split.{split_parent, remove_keeping_children}
 
 -- of consecutive children of a node, in order
@@ -15,10 +15,10 @@ ParentsSplit =
 
 -- of one node
 abbrev pub ParentOfOneSplits : Type 0
-ParentOfOneSplits = (n : ℕ) → Tame (split_parent (n ∷ []))
+ParentOfOneSplits = (n : ℕ) → OrderPreserving (split_parent (n ∷ []))
 
 abbrev pub NodesGoAndChildrenStay : Type 0
-NodesGoAndChildrenStay = (n : ℕ) → Tame (remove_keeping_children n)
+NodesGoAndChildrenStay = (n : ℕ) → OrderPreserving (remove_keeping_children n)
 
 -- splitting a parent leaves the states of contenteditable
 abbrev pub SplitsStateless : Type 0

@@ -8,7 +8,7 @@ use Rattle.edit_model.specs.Kept.{is_thing}
 use Rattle.edit_model.specs.Run.{final}
 use Rattle.edit_laws.specs.Order.{KeepsOrder, IsKeeping}
 use Rattle.edit_laws.specs.Stateless.{Stateless}
-use Rattle.edit_laws.specs.Tame.{Tame}
+use Rattle.edit_laws.specs.OrderPreserving.{OrderPreserving}
 use Rattle.wrap_split.specs.declared.rule.Criterion.{Criterion}
 use Rattle.wrap_split.specs.declared.rule.Criterion.TheVariants.{Named}
 use Rattle.wrap_split.specs.declared.rule.Recipe.{Recipe}
@@ -45,7 +45,7 @@ TakenWrap =
 
 -- of one node
 abbrev pub OneWraps : Type 0
-OneWraps = (c : Criterion) (r : Recipe) (n : ℕ) → NamesNoThing c → MakesNoThing r → Tame (wrap c r (n ∷ []))
+OneWraps = (c : Criterion) (r : Recipe) (n : ℕ) → NamesNoThing c → MakesNoThing r → OrderPreserving (wrap c r (n ∷ []))
 
 -- wrapping leaves the states of contenteditable
 abbrev pub WrapsStateless : Type 0

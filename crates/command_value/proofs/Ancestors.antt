@@ -10,9 +10,9 @@ use Rattle.dom_model.specs.Forest.Forest.{Nil, Tree}
 use Rattle.dom_model.proofs.Links.{seen, parent_count}
 use Rattle.dom_model.proofs.Walks.{document_first}
 use Rattle.node_arena.specs.declared.NodeRef.{NodeRef}
-use Rattle.node_arena.specs.Reads.{IsLawful, Names, label}
-use Rattle.node_styles.specs.Lineage.{Kin, lineage_from, lineage}
-use Rattle.node_styles.proofs.Lineages.{kin, lineage-root, lineage-child}
+use Rattle.node_arena.specs.Reads.{IsValid, Names, label}
+use Rattle.node_styles.specs.Lineage.{Ancestor, lineage_from, lineage}
+use Rattle.node_styles.proofs.Lineages.{ancestor, lineage-root, lineage-child}
 use Rattle.node_styles.specs.TurnBound.{turn_bound}
 use Rattle.html_names.specs.declared.commands.Command.{Command}
 use Rattle.command_value.specs.Subjects.{subject}
@@ -21,35 +21,35 @@ use Rattle.command_value.specs.Lines.{lineage_of, if_element, element_above}
 
 -- ---- its length
 
-longer : (above : List Kin) (g : Forest Content) (l : ℕ) (line : List Kin) → lineage_from above g l ≡ Some line → length line ≤ length above + total (λ _ _. 1) g
+longer : (above : List Ancestor) (g : Forest Content) (l : ℕ) (line : List Ancestor) → lineage_from above g l ≡ Some line → length line ≤ length above + total (λ _ _. 1) g
 longer above Nil l line is = absurd (let t : None ≡ Some line = is in cc)
 longer above (Tree m c ks rest) l line is =
     elim (eqb_tells m l) [
       | inl (t, _) ↦ (
-          let is' : Some (kin m c ∷ above) ≡ Some line = rw t at is in
-          let same : kin m c ∷ above ≡ line = cc in
-          omega (arith, ap (λ (x : List Kin). length x) same))
-      | inr (t, _) ↦ below (longer (kin m c ∷ above) ks l line) (longer above rest l line) (lineage_from (kin m c ∷ above) ks l) refl (rw t at is)
+          let is' : Some (ancestor m c ∷ above) ≡ Some line = rw t at is in
+          let same : ancestor m c ∷ above ≡ line = cc in
+          omega (arith, ap (λ (x : List Ancestor). length x) same))
+      | inr (t, _) ↦ below (longer (ancestor m c ∷ above) ks l line) (longer above rest l line) (lineage_from (ancestor m c ∷ above) ks l) refl (rw t at is)
     ]
   where
-    below : (lineage_from (kin m c ∷ above) ks l ≡ Some line → length line ≤ suc (length above) + total (λ _ _. 1) ks) → (lineage_from above rest l ≡ Some line → length line ≤ length above + total (λ _ _. 1) rest) → (o : Option (List Kin)) → lineage_from (kin m c ∷ above) ks l ≡ o → option_or o (lineage_from above rest l) ≡ Some line → length line ≤ length above + total (λ _ _. 1) (Tree m c ks rest)
+    below : (lineage_from (ancestor m c ∷ above) ks l ≡ Some line → length line ≤ suc (length above) + total (λ _ _. 1) ks) → (lineage_from above rest l ≡ Some line → length line ≤ length above + total (λ _ _. 1) rest) → (o : Option (List Ancestor)) → lineage_from (ancestor m c ∷ above) ks l ≡ o → option_or o (lineage_from above rest l) ≡ Some line → length line ≤ length above + total (λ _ _. 1) (Tree m c ks rest)
     below inner outer (Some x) e found = omega (arith, inner (e ∙ found))
     below inner outer None e found = omega (arith, outer found)
 
-absent : (above : List Kin) (g : Forest Content) (l : ℕ) → count_of g l ≡ 0 → lineage_from above g l ≡ None
+absent : (above : List Ancestor) (g : Forest Content) (l : ℕ) → count_of g l ≡ 0 → lineage_from above g l ≡ None
 absent above Nil l none = refl
 absent above (Tree m c ks rest) l none =
     elim (eqb_tells m l) [
       | inl (t, _) ↦ absurd (let none' = rw t at none in omega (arith, none'))
       | inr (t, _) ↦ (let none' = rw t at none in
-          rw (t, absent (kin m c ∷ above) ks l (omega (arith, none'))) (absent above rest l (omega (arith, none'))))
+          rw (t, absent (ancestor m c ∷ above) ks l (omega (arith, none'))) (absent above rest l (omega (arith, none'))))
     ]
 
 pub lineage_short : (f : Forest Content) (l : ℕ) → length (lineage f l) ≤ total (λ _ _. 1) f
 unfolding lineage
 lineage_short f l = by_found (lineage_from [] f l) refl
   where
-    by_found : (o : Option (List Kin)) → lineage_from [] f l ≡ o → length (unwrap_or o []) ≤ total (λ _ _. 1) f
+    by_found : (o : Option (List Ancestor)) → lineage_from [] f l ≡ o → length (unwrap_or o []) ≤ total (λ _ _. 1) f
     by_found None e = omega arith
     by_found (Some line) e = omega (arith, longer [] f l line e)
 
@@ -58,24 +58,24 @@ unfolding lineage
 in_tree c ks rest l once within = by_found (lineage_from [] (Tree 0 c ks rest) l) refl
   where
     alone : lineage_from [] (Tree 0 c ks rest) l ≡ lineage_from [] (Tree 0 c ks Nil) l
-    alone = ap (λ o. cond (eqb 0 l) (Some (kin 0 c ∷ [])) (option_or (lineage_from (kin 0 c ∷ []) ks l) o)) (absent [] rest l (omega (arith, once l, within)))
+    alone = ap (λ o. cond (eqb 0 l) (Some (ancestor 0 c ∷ [])) (option_or (lineage_from (ancestor 0 c ∷ []) ks l) o)) (absent [] rest l (omega (arith, once l, within)))
 
-    by_found : (o : Option (List Kin)) → lineage_from [] (Tree 0 c ks rest) l ≡ o → length (unwrap_or o []) ≤ node_count (Tree 0 c ks rest)
+    by_found : (o : Option (List Ancestor)) → lineage_from [] (Tree 0 c ks rest) l ≡ o → length (unwrap_or o []) ≤ node_count (Tree 0 c ks rest)
     by_found None e = omega arith
     by_found (Some line) e = omega (arith, longer [] (Tree 0 c ks Nil) l line (sym alone ∙ e))
 
 -- a node stands below those that its parent stands below
-pub step_at : (f : Forest Content) → IsDistinct f → (l : ℕ) → 0 < count_of f l → (c : Content) × (content_of f l ≡ Some c) × (lineage f l ≡ kin l c ∷ lineage_of f (parent_of f l))
+pub step_at : (f : Forest Content) → IsDistinct f → (l : ℕ) → 0 < count_of f l → (c : Content) × (content_of f l ≡ Some c) × (lineage f l ≡ ancestor l c ∷ lineage_of f (parent_of f l))
 step_at f once l here =
     let s = seen f l once here in
     let content : content_of f l ≡ Some s.0.content = ap (option_map (λ (x : Seen Content). x.content)) s.2 in
     (s.0.content, content, by_parent s.0.content content (parent_of f l) refl)
   where
-    by_parent : (c : Content) → content_of f l ≡ Some c → (o : Option ℕ) → parent_of f l ≡ o → lineage f l ≡ kin l c ∷ lineage_of f o
+    by_parent : (c : Content) → content_of f l ≡ Some c → (o : Option ℕ) → parent_of f l ≡ o → lineage f l ≡ ancestor l c ∷ lineage_of f o
     by_parent c content None e = lineage-root f once l c here e content
     by_parent c content (Some p) e = lineage-child f once l p c e content
 
-module _ {holds : NodeRef → Type 0} {f : Forest Content} {upper : ℕ} (law : IsLawful holds f upper) where
+module _ {holds : NodeRef → Type 0} {f : Forest Content} {upper : ℕ} (law : IsValid holds f upper) where
   -- in the document it isn't longer than the document has nodes
   pub lineage_within : (l : ℕ) → IsWithin f 0 l → length (lineage f l) ≤ node_count f
   lineage_within l within =
@@ -84,7 +84,7 @@ module _ {holds : NodeRef → Type 0} {f : Forest Content} {upper : ℕ} (law : 
 
   -- ---- its steps
 
-  pub step : (r : NodeRef) → holds r → (c : Content) × (content_of f r.label ≡ Some c) × (lineage f r.label ≡ kin r.label c ∷ lineage_of f (parent_of f r.label))
+  pub step : (r : NodeRef) → holds r → (c : Content) × (content_of f r.label ≡ Some c) × (lineage f r.label ≡ ancestor r.label c ∷ lineage_of f (parent_of f r.label))
   step r held = step_at f law.distinct r.label (law.here r held)
 
   element_content : (r : NodeRef) (c : Content) (b : Bool) → content_of f r.label ≡ Some c → is_element_at f r.label ≡ b → is_element c ≡ b
@@ -95,24 +95,24 @@ module _ {holds : NodeRef → Type 0} {f : Forest Content} {upper : ℕ} (law : 
   unfolding element_line
   at_element r held is =
       let s = step r held in
-      sym (ap element_line s.2 ∙ ap (λ b. cond b (kin r.label s.0 ∷ lineage_of f (parent_of f r.label)) (from_element (lineage_of f (parent_of f r.label)))) (element_content r s.0 true s.1 is) ∙ sym s.2)
+      sym (ap element_line s.2 ∙ ap (λ b. cond b (ancestor r.label s.0 ∷ lineage_of f (parent_of f r.label)) (from_element (lineage_of f (parent_of f r.label)))) (element_content r s.0 true s.1 is) ∙ sym s.2)
 
   -- that of another node by its parent's
   pub at_other : (r : NodeRef) → holds r → is_element_at f r.label ≡ false → element_line (lineage f r.label) ≡ from_element (lineage_of f (parent_of f r.label))
   unfolding element_line
   at_other r held is =
       let s = step r held in
-      ap element_line s.2 ∙ ap (λ b. cond b (kin r.label s.0 ∷ lineage_of f (parent_of f r.label)) (from_element (lineage_of f (parent_of f r.label)))) (element_content r s.0 false s.1 is)
+      ap element_line s.2 ∙ ap (λ b. cond b (ancestor r.label s.0 ∷ lineage_of f (parent_of f r.label)) (from_element (lineage_of f (parent_of f r.label)))) (element_content r s.0 false s.1 is)
 
   from_it : (p : ℕ) → 0 < count_of f p → is_element_at f p ≡ true → from_element (lineage f p) ≡ lineage f p
   from_it p here is =
       let s = step_at f law.distinct p here in
-      ap from_element s.2 ∙ ap (λ b. cond b (kin p s.0 ∷ lineage_of f (parent_of f p)) []) (sym (ap (λ (o : Option Content). option_map_or is_element o false) s.1) ∙ is) ∙ sym s.2
+      ap from_element s.2 ∙ ap (λ b. cond b (ancestor p s.0 ∷ lineage_of f (parent_of f p)) []) (sym (ap (λ (o : Option Content). option_map_or is_element o false) s.1) ∙ is) ∙ sym s.2
 
   from_none : (p : ℕ) → 0 < count_of f p → is_element_at f p ≡ false → from_element (lineage f p) ≡ []
   from_none p here is =
       let s = step_at f law.distinct p here in
-      ap from_element s.2 ∙ ap (λ b. cond b (kin p s.0 ∷ lineage_of f (parent_of f p)) []) (sym (ap (λ (o : Option Content). option_map_or is_element o false) s.1) ∙ is)
+      ap from_element s.2 ∙ ap (λ b. cond b (ancestor p s.0 ∷ lineage_of f (parent_of f p)) []) (sym (ap (λ (o : Option Content). option_map_or is_element o false) s.1) ∙ is)
 
   -- ---- of a node that is no element: from the parent on, where that is one
   pub at_above : (r : NodeRef) (o : Option NodeRef) → holds r → is_element_at f r.label ≡ false → Names holds o (element_above f r.label) → lineage_of f (label o) ≡ element_line (lineage f r.label)

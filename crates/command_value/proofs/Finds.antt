@@ -7,7 +7,7 @@ use Rattle.dom_model.specs.declared.Content.{Content}
 use Rattle.dom_model.specs.Forest.{Forest, content_of}
 use Rattle.node_arena.specs.declared.NodeRef.{NodeRef}
 use Rattle.node_styles.specs.Blocks.{is_block_content}
-use Rattle.node_styles.specs.Lineage.{Kin, lineage, nearest}
+use Rattle.node_styles.specs.Lineage.{Ancestor, lineage, nearest}
 use Rattle.node_styles.specs.OwnStyles.{attribute, is_named}
 use Rattle.node_styles.specs.Traits.{IsNearest}
 use Rattle.command_value.specs.EffectiveValues.{is_link, link_in, inline_part}
@@ -18,14 +18,14 @@ module _ (holds : NodeRef → Type 0) (f : Forest Content) (l : ℕ) where
   unfolding nearest link_in
   link_found r c found at =
       let same : found.content ≡ c = (let t : Some found.content ≡ Some c = sym found.at ∙ at in cc) in
-      sym (ap (λ (o : Option Kin). option_and_then (λ k. attribute k.content (codes "href")) o) found.is ∙ ap (λ d. attribute d (codes "href")) same)
+      sym (ap (λ (o : Option Ancestor). option_and_then (λ k. attribute k.content (codes "href")) o) found.is ∙ ap (λ d. attribute d (codes "href")) same)
 
   pub link_none : nearest is_link f l ≡ None → None ≡ link_in (lineage f l)
   unfolding nearest link_in
-  link_none none = sym (ap (λ (o : Option Kin). option_and_then (λ k. attribute k.content (codes "href")) o) none)
+  link_none none = sym (ap (λ (o : Option Ancestor). option_and_then (λ k. attribute k.content (codes "href")) o) none)
 
 -- the first that ends the inline part is of the name exactly where it is no block
-inline_any : (name : List ℕ) (ks : List Kin) (k : Kin) → find (λ j. is_inline_end name j.content) ks ≡ Some k → list_any (λ j. is_named name j.content) (inline_part ks) ≡ not (is_block_content k.content)
+inline_any : (name : List ℕ) (ks : List Ancestor) (k : Ancestor) → find (λ j. is_inline_end name j.content) ks ≡ Some k → list_any (λ j. is_named name j.content) (inline_part ks) ≡ not (is_block_content k.content)
 inline_any name [] k at = absurd (let t : None ≡ Some k = at in cc)
 inline_any name (j ∷ ks) k at =
     elim (cases_Bool (is_block_content j.content)) [
@@ -33,7 +33,7 @@ inline_any name (j ∷ ks) k at =
           let ends : is_inline_end name j.content ≡ true = ap (λ b. is_named name j.content || b) block ∙ or_true (is_named name j.content) in
           let it : Some j ≡ Some k = sym (ap (λ b. cond b (Some j) (find (λ i. is_inline_end name i.content) ks)) ends) ∙ at in
           let same : j ≡ k = cc in
-          ap (λ b. list_any (λ i. is_named name i.content) (cond b [] (j ∷ inline_part ks))) block ∙ sym (ap (λ (i : Kin). not (is_block_content i.content)) (sym same) ∙ ap not block))
+          ap (λ b. list_any (λ i. is_named name i.content) (cond b [] (j ∷ inline_part ks))) block ∙ sym (ap (λ (i : Ancestor). not (is_block_content i.content)) (sym same) ∙ ap not block))
       | inr inline ↦ (
           let front : list_any (λ i. is_named name i.content) (inline_part (j ∷ ks)) ≡ (is_named name j.content || list_any (λ i. is_named name i.content) (inline_part ks)) = ap (λ b. list_any (λ i. is_named name i.content) (cond b [] (j ∷ inline_part ks))) inline in
           elim (cases_Bool (is_named name j.content)) [
@@ -41,7 +41,7 @@ inline_any name (j ∷ ks) k at =
                 let ends : is_inline_end name j.content ≡ true = ap (λ b. b || is_block_content j.content) named in
                 let it : Some j ≡ Some k = sym (ap (λ b. cond b (Some j) (find (λ i. is_inline_end name i.content) ks)) ends) ∙ at in
                 let same : j ≡ k = cc in
-                front ∙ ap (λ b. b || list_any (λ i. is_named name i.content) (inline_part ks)) named ∙ sym (ap (λ (i : Kin). not (is_block_content i.content)) (sym same) ∙ ap not inline))
+                front ∙ ap (λ b. b || list_any (λ i. is_named name i.content) (inline_part ks)) named ∙ sym (ap (λ (i : Ancestor). not (is_block_content i.content)) (sym same) ∙ ap not inline))
             | inr other ↦ (
                 let passes : is_inline_end name j.content ≡ false = ap (λ b. b || is_block_content j.content) other ∙ inline in
                 let further : find (λ i. is_inline_end name i.content) ks ≡ Some k = sym (ap (λ b. cond b (Some j) (find (λ i. is_inline_end name i.content) ks)) passes) ∙ at in
@@ -53,7 +53,7 @@ inline_any name (j ∷ ks) k at =
     or_true true = refl
     or_true false = refl
 
-inline_no : (name : List ℕ) (ks : List Kin) → find (λ j. is_inline_end name j.content) ks ≡ None → list_any (λ j. is_named name j.content) (inline_part ks) ≡ false
+inline_no : (name : List ℕ) (ks : List Ancestor) → find (λ j. is_inline_end name j.content) ks ≡ None → list_any (λ j. is_named name j.content) (inline_part ks) ≡ false
 inline_no name [] none = refl
 inline_no name (j ∷ ks) none =
     elim (cases_Bool (is_inline_end name j.content)) [

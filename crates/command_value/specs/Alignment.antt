@@ -7,7 +7,7 @@ use Rattle.css_value.specs.declared.values.TextAlign.{TextAlign}
 use Rattle.css_value.specs.declared.values.TextAlign.TheVariants as text_align
 use Rattle.css_value.specs.Values.{text_align_keyword}
 use Rattle.node_styles.specs.Blocks.{own_or_inline, has_no_box}
-use Rattle.node_styles.specs.Lineage.{Kin, lineage}
+use Rattle.node_styles.specs.Lineage.{Ancestor, lineage}
 use Rattle.node_styles.specs.OwnStyles.{own_text_align}
 use Rattle.command_value.specs.EffectiveValues.{inherited_in}
 use Rattle.command_value.specs.SpecifiedValues.{is_inline_display}
@@ -17,7 +17,7 @@ unfoldable pub has_own_box : Content → Bool
 has_own_box c = is_element c && not (is_inline_display (own_or_inline c) || has_no_box c)
 
 -- from the innermost that passes on
-abbrev pub from_nearest : (Content → Bool) → List Kin → List Kin
+abbrev pub from_nearest : (Content → Bool) → List Ancestor → List Ancestor
 from_nearest test [] = []
 from_nearest test (k ∷ line) = if test k.content then k ∷ line else from_nearest test line
 

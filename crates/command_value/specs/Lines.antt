@@ -5,10 +5,10 @@ use Rattle.dom_model.specs.declared.Content.{Content}
 use Rattle.dom_model.specs.Contents.{is_element_at}
 use Rattle.dom_model.specs.Forest.{Forest, parent_of}
 use Rattle.node_styles.specs.Blocks.{is_block_content}
-use Rattle.node_styles.specs.Lineage.{Kin, lineage}
+use Rattle.node_styles.specs.Lineage.{Ancestor, lineage}
 use Rattle.node_styles.specs.OwnStyles.{is_named}
 
-abbrev pub lineage_of : Forest Content → Option ℕ → List Kin
+abbrev pub lineage_of : Forest Content → Option ℕ → List Ancestor
 lineage_of f None = []
 lineage_of f (Some l) = lineage f l
 

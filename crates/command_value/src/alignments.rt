@@ -32,7 +32,7 @@ pub fn alignment<N: Nodes>(nodes: &N, node: NodeRef) -> TextAlign
     requires { N.holds nodes.now node }
     ensures { result ≡ spec.alignment (N.trees nodes.now) node.label }
 {
-    nodes.lawful();
+    nodes.valid();
     match nearest(nodes, node, &BoxTest) {
         Some(element) => text_align(nodes, element),
         None => TextAlign::Left,

@@ -86,7 +86,7 @@ pub(crate) fn element_of<N: Nodes>(nodes: &N, node: NodeRef) -> Option<NodeRef>
     ensures held { IfSome result (λ element. N.holds nodes.now element) }
     ensures line { lineage_of (N.trees nodes.now) (label result) ≡ effective.element_line (lineage (N.trees nodes.now) node.label) }
 {
-    nodes.lawful();
+    nodes.valid();
     if is_element(nodes, node) {
         Some(node)
     } else {
@@ -111,7 +111,7 @@ fn turns<N: Nodes>(nodes: &N, node: NodeRef) -> u128
     requires { N.holds nodes.now node }
     ensures { effective.background_in result (lineage (N.trees nodes.now) node.label) ≡ effective.background_in (turn_bound (N.trees nodes.now)) (lineage (N.trees nodes.now) node.label) }
 {
-    nodes.lawful();
+    nodes.valid();
     if nodes.is_within(nodes.document(), node) {
         nodes.next_label() as u128
     } else {
@@ -137,7 +137,7 @@ pub(crate) fn background_value<N: Nodes>(nodes: &N, element: NodeRef) -> Colour
     requires { N.holds nodes.now element }
     ensures { result ≡ effective.background_in (turn_bound (N.trees nodes.now)) (lineage (N.trees nodes.now) element.label) }
 {
-    nodes.lawful();
+    nodes.valid();
     let mut left = turns(nodes, element);
     let mut at = element;
     'walk: while left > 0 {
@@ -250,7 +250,7 @@ pub fn effective_value<N: Nodes>(nodes: &N, node: NodeRef, command: Command) -> 
     requires { N.holds nodes.now node }
     ensures { value_text result ≡ effective.effective (N.trees nodes.now) node.label command }
 {
-    nodes.lawful();
+    nodes.valid();
     match element_of(nodes, node) {
         Some(element) => element_value(nodes, element, subject_of(command)),
         None => Value::Null,

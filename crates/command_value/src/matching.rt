@@ -76,7 +76,7 @@ pub fn is_activated<N: Nodes>(nodes: &N, node: NodeRef, command: Command) -> boo
     requires { N.holds nodes.now node }
     ensures { result ≡ effective.is_activated (N.trees nodes.now) node.label command }
 {
-    nodes.lawful();
+    nodes.valid();
     match element_of(nodes, node) {
         Some(element) => is_on(nodes, element, command),
         None => false,
@@ -198,7 +198,7 @@ fn is_alike_at<N: Nodes>(nodes: &N, node: NodeRef, command: Command, text: &[cha
     requires { N.holds nodes.now node }
     ensures { result ≡ option_map_or (λ own. equivalence.are_alike command own text.now) (effective.effective (N.trees nodes.now) node.label command) Bool.false }
 {
-    nodes.lawful();
+    nodes.valid();
     match element_of(nodes, node) {
         Some(element) => is_alike(nodes, element, command, text),
         None => false,

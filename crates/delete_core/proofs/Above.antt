@@ -5,16 +5,16 @@ use Rattle.dom_model.specs.declared.Content.{Content}
 use Rattle.dom_model.specs.Forest.{count_of, IsDistinct, parent_of}
 use Rattle.dom_model.proofs.Parts.{at_label}
 use Rattle.edit_model.specs.State.{State}
-use Rattle.node_styles.specs.Lineage.{Kin, lineage}
-use Rattle.node_styles.proofs.Lineages.{kin, lineage-root, lineage-child}
+use Rattle.node_styles.specs.Lineage.{Ancestor, lineage}
+use Rattle.node_styles.proofs.Lineages.{ancestor, lineage-root, lineage-child}
 use Rattle.delete_core.specs.Merging.{joins_next, list_to_join}
 
 module _ (s : State) (once : IsDistinct s.trees) (l : ℕ) (here : 0 < count_of s.trees l) where
-  first_joins : (c : Content) (rest : List Kin) → lineage s.trees l ≡ kin l c ∷ rest → joins_next s l ≡ true → list_to_join s l ≡ Some l
+  first_joins : (c : Content) (rest : List Ancestor) → lineage s.trees l ≡ ancestor l c ∷ rest → joins_next s l ≡ true → list_to_join s l ≡ Some l
   unfolding list_to_join
   first_joins c rest line joins = rw (line, joins) refl
 
-  rest_joins : (c : Content) (rest : List Kin) → lineage s.trees l ≡ kin l c ∷ rest → joins_next s l ≡ false → list_to_join s l ≡ find (joins_next s) (map (λ k. k.label) rest)
+  rest_joins : (c : Content) (rest : List Ancestor) → lineage s.trees l ≡ ancestor l c ∷ rest → joins_next s l ≡ false → list_to_join s l ≡ find (joins_next s) (map (λ k. k.label) rest)
   unfolding list_to_join
   rest_joins c rest line joins = rw (line, joins) refl
 

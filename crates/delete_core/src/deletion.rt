@@ -168,7 +168,7 @@ fn delete_between(alloc: Global, doc: &mut Doc, manner: Manner) -> Result<Overri
     ensures gives { Gives result doc.old.state doc.new.state (delete_between manner) }
     ensures keeps { Keeps doc.old doc.new }
 {
-    doc.lawful();
+    doc.valid();
     let Some(pair) = doc.points().selection() else {
         return Ok(Overrides::new(alloc));
     };

@@ -32,7 +32,7 @@ pub fn settle(doc: &mut Doc, backward: bool) -> Result<(), EditFault>
     ensures gives { Gives result doc.old.state doc.new.state (settle backward) }
     ensures keeps { Keeps doc.old doc.new }
 {
-    doc.lawful();
+    doc.valid();
     let Some(pair) = doc.points().selection() else {
         return Ok(());
     };
@@ -49,7 +49,7 @@ pub fn canonicalize_start(alloc: Global, doc: &mut Doc, fix: bool) -> Result<(),
     ensures gives { Gives result doc.old.state doc.new.state (canonicalize_start fix) }
     ensures keeps { Keeps doc.old doc.new }
 {
-    doc.lawful();
+    doc.valid();
     let Some(pair) = doc.points().selection() else {
         return Ok(());
     };
@@ -64,7 +64,7 @@ pub fn canonicalize_end(alloc: Global, doc: &mut Doc, fix: bool) -> Result<(), E
     ensures gives { Gives result doc.old.state doc.new.state (canonicalize_end fix) }
     ensures keeps { Keeps doc.old doc.new }
 {
-    doc.lawful();
+    doc.valid();
     let Some(pair) = doc.points().selection() else {
         return Ok(());
     };

@@ -114,7 +114,7 @@ fn removable_nodes(alloc: Global, doc: &Doc) -> Result<NodeList, AllocError>
     ensures held { IfOk result (λ list. EachHeld doc.now list) }
     ensures nodes { IfOk result (λ list. labels_of list ≡ removable_nodes doc.now.state) }
 {
-    doc.lawful();
+    doc.valid();
     match doc.points().selection() {
         Some(pair) => gather_in(alloc, doc, ends_of(doc, pair), &Removable),
         None => NodeList::from_slice(alloc, &[]),
@@ -138,7 +138,7 @@ pub fn shows_child(doc: &Doc, node: NodeRef) -> bool
     requires { Holds doc.now node }
     ensures { result ≡ shows_child doc.now.state.trees node.label }
 {
-    doc.lawful();
+    doc.valid();
     let mut at = doc.first_child(node);
     while let Some(child) = at {
         if is_visible(doc, child) {

@@ -39,7 +39,7 @@ fn list_to_join(doc: &Doc, node: NodeRef) -> Option<NodeRef>
     requires { Holds doc.now node }
     ensures { Finds doc.now result (list_to_join doc.now.state node.label) }
 {
-    Nodes::lawful(doc);
+    Nodes::valid(doc);
     let mut at = node;
     while !joins_next(doc, at) {
         match doc.parent(at) {

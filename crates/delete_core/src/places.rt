@@ -47,7 +47,7 @@ pub fn child_at(doc: &Doc, node: NodeRef, offset: u32) -> Option<NodeRef>
     requires { Holds doc.now node }
     ensures { Finds doc.now result (points.child_at doc.now.state.trees node.label offset) }
 {
-    doc.lawful();
+    doc.valid();
     let mut child = doc.first_child(node);
     let mut left = offset;
     while left > 0 {
@@ -114,7 +114,7 @@ pub(crate) fn after_in(doc: &Doc, node: NodeRef, parent: Option<NodeRef>) -> Opt
     ensures gives { result ≡ after_in doc.now.state.trees node.label (label_of parent) }
     ensures there { IfSome result (λ at. 0 < count_of doc.now.state.trees at.label) }
 {
-    Nodes::lawful(doc);
+    Nodes::valid(doc);
     let parent = parent?;
     Some(Point {
         label: parent.label,

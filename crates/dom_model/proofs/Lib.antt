@@ -19,6 +19,6 @@ pub mod Deepest
 pub mod DropTree
 pub mod Earlier
 pub mod Kept
-pub mod Shedding
+pub mod Pruning
 pub mod NodesKept
 pub mod Heights

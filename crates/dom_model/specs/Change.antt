@@ -5,11 +5,11 @@ use Rattle.dom_model.specs.declared.attributes.Attribute.{Attribute}
 -- a tree made loose; a loose tree linked; a tree moved to another place; other characters of a Text or
 -- Comment node; another attribute list of an element
 pub data Change : Type 0 where
-  Loosen : (node : ℕ) → Change
-  Attach : (node parent : ℕ) (before : Option ℕ) → Change
-  Shift : (node parent : ℕ) (before : Option ℕ) → Change
-  Rewrite : (node : ℕ) (words : List ℕ) → Change
-  Redress : (node : ℕ) (list : List Attribute) → Change
+  Remove : (node : ℕ) → Change
+  Insert : (node parent : ℕ) (before : Option ℕ) → Change
+  Move : (node parent : ℕ) (before : Option ℕ) → Change
+  SetText : (node : ℕ) (words : List ℕ) → Change
+  SetAttributes : (node : ℕ) (list : List Attribute) → Change
 
 abbrev pub listed : {A : Type 0} → Option A → List A
 listed None = []
@@ -17,11 +17,11 @@ listed (Some x) = x ∷ []
 
 -- the labels that a change names
 abbrev pub named : Change → List ℕ
-named (Loosen n) = n ∷ []
-named (Attach n p b) = n ∷ p ∷ listed b
-named (Shift n p b) = n ∷ p ∷ listed b
-named (Rewrite n words) = n ∷ []
-named (Redress n list) = n ∷ []
+named (Remove n) = n ∷ []
+named (Insert n p b) = n ∷ p ∷ listed b
+named (Move n p b) = n ∷ p ∷ listed b
+named (SetText n words) = n ∷ []
+named (SetAttributes n list) = n ∷ []
 
 -- the labels that the changes of a list name
 abbrev pub named_in : List Change → List ℕ

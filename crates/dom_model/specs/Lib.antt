@@ -4,12 +4,12 @@ pub mod AttributeList
 pub mod AttributeMap
 pub mod ContentCode
 pub mod Contents
-pub mod State
+pub mod ArenaState
 pub mod Places
 pub mod Document
 pub mod Editing
 pub mod TreeOrder
 pub mod Revised
-pub mod Shed
+pub mod Pruned
 pub mod Change
 pub mod ChangeCode

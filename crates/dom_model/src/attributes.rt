@@ -184,7 +184,7 @@ impl Attributes {
     }
 
     /// That the names are distinct, for proofs. It does nothing.
-    pub fn lawful(&self)
+    pub fn valid(&self)
         ensures { IsDistinctNames self.now }
     {
         if let Some(map) = &self.list {

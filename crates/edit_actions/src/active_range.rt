@@ -2,7 +2,7 @@
 
 ghost use Rattle.std.specs.Prelude.{◌≡◌, true};
 ghost use Rattle.point_order.specs.PointOrder.{is_placed};
-ghost use Rattle.edit_model.specs.Lawful.{IsPlacedPair};
+ghost use Rattle.edit_model.specs.Valid.{IsPlacedPair};
 ghost use Rattle.edit_doc.specs.Held.{Finds};
 ghost use Rattle.edit_actions.specs.ActiveRange.{start_of, end_of, host_of_pair, affected_host};
 
@@ -36,7 +36,7 @@ fn host_of_pair(doc: &Doc, pair: Pair) -> Option<NodeRef>
 pub fn affected_host(doc: &Doc) -> Option<NodeRef>
     ensures { Finds doc.now result (affected_host doc.now.state) }
 {
-    doc.lawful();
+    doc.valid();
     match doc.points().selection() {
         Some(pair) => host_of_pair(doc, pair),
         None => None,

@@ -30,7 +30,7 @@ pub fn children_before(
     ensures held { IfOk result (λ list. EachHeld doc.now list.items) }
     ensures children { IfOk result (λ list. labels_of list.items ≡ until end.label (children_of doc.now.state.trees node.label)) }
 {
-    doc.lawful();
+    doc.valid();
     let mut list = Vec::new(alloc);
     let mut at = doc.first_child(node);
     while let Some(child) = at {

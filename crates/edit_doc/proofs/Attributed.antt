@@ -14,22 +14,22 @@ use Rattle.dom_model.specs.Document.{node_count, char_count}
 use Rattle.dom_model.specs.Forest.{Forest, Seen, tops, total, content_of, tree_of, IsDistinct}
 use Rattle.dom_model.specs.Forest.Forest.{Nil, Tree}
 use Rattle.dom_model.specs.Revised.{revised}
-use Rattle.dom_model.specs.Shed.{shed}
-use Rattle.dom_model.specs.State.{State as Arena, IsLawful as IsArena, IsSlotted}
+use Rattle.dom_model.specs.Pruned.{pruned}
+use Rattle.dom_model.specs.ArenaState.{ArenaState as Arena, IsValid as IsArena, IsSlotted}
 use Rattle.dom_model.proofs.Revising.{total-revised}
 use Rattle.dom_model.proofs.Stands.{Stands, seek_Stands}
-use Rattle.dom_model.proofs.Shedding.{IsDistinct-shed}
+use Rattle.dom_model.proofs.Pruning.{IsDistinct-pruned}
 use Rattle.node_arena.specs.declared.NodeRef.{NodeRef}
 use Rattle.live_range.specs.declared.places.Point.{Point}
 use Rattle.live_range.specs.declared.places.Pair.{Pair}
 use Rattle.live_range.specs.ActiveRange.{range_changed, same_point, range_start, range_end}
 use Rattle.point_order.specs.PointOrder.{is_before}
-use Rattle.forest_changes.specs.Change.{Redress, applied, turned}
+use Rattle.forest_changes.specs.Change.{SetAttributes, applied, inverse}
 use Rattle.forest_changes.proofs.Twice.{forest_of}
-use Rattle.forest_changes.proofs.ShedChanges.{content_of-shed}
+use Rattle.forest_changes.proofs.PrunedChanges.{content_of-pruned}
 use Rattle.edit_steps.specs.declared.step.Step.{Step}
 use Rattle.edit_steps.specs.declared.step.Step.TheVariants.{Attributes}
-use Rattle.edit_steps.specs.Step.{StepFits, change_of, step_applied, step_turned}
+use Rattle.edit_steps.specs.Step.{StepFits, change_of, step_applied, step_inverse}
 use Rattle.undo_log.specs.Log.{Log, with_step}
 use Rattle.edit_model.specs.State.{State}
 use Rattle.edit_model.specs.Edit.{Edit, Set, Unset, is_made_edit, change_of as edit_change, trees_after, points_after, overrides_after, with_set, with_unset}
@@ -87,11 +87,11 @@ same_chars list (Element name attributes) = refl
 same_chars list (Words chars) = refl
 same_chars list (Remark chars) = refl
 
-pub nodes-redressed : (f : Forest Content) (n : ℕ) (list : List Attribute) → node_count (applied (Redress n list) f) ≡ node_count f
+pub nodes-redressed : (f : Forest Content) (n : ℕ) (list : List Attribute) → node_count (applied (SetAttributes n list) f) ≡ node_count f
 unfolding applied
 nodes-redressed f n list = ap (total (λ _ _. 1)) (tree_of-revised n (with_attributes list) f 0) ∙ total-revised n (with_attributes list) (λ _. 1) (tree_of f 0)
 
-pub chars-redressed : (f : Forest Content) (n : ℕ) (list : List Attribute) → char_count (applied (Redress n list) f) ≡ char_count f
+pub chars-redressed : (f : Forest Content) (n : ℕ) (list : List Attribute) → char_count (applied (SetAttributes n list) f) ≡ char_count f
 unfolding applied
 chars-redressed f n list = ap (total (λ _ c. words_length c)) (tree_of-revised n (with_attributes list) f 0) ∙ chars-revised n (with_attributes list) (same_chars list) (tree_of f 0)
 
@@ -117,22 +117,22 @@ overrides-revised s n g =
 
 -- ---- the step that rewrites a list
 
-follows : (c d : Command) (n : ℕ) (list : List Attribute) (f : Forest Content) → Marks (n ∷ []) c d → Follows c d (Redress n list) (turned (Redress n list) f)
-unfolding turned
+follows : (c d : Command) (n : ℕ) (list : List Attribute) (f : Forest Content) → Marks (n ∷ []) c d → Follows c d (SetAttributes n list) (inverse (SetAttributes n list) f)
+unfolding inverse
 follows c d n list f m = record {
   start = ap (λ (k : Command). k.start) m.rest;
   host = ap (λ (k : Command). k.host) m.rest;
   keeping = ap (λ (k : Command). k.keeping) m.rest;
   resumed = ap (λ (k : Command). k.resumed) m.rest;
   kept = ap (λ (k : Command). k.kept) m.rest;
-  left_before = ap (λ (k : Command). k.left_before) m.rest;
+  detached_before = ap (λ (k : Command). k.detached_before) m.rest;
   count = m.count;
   stay = m.stay;
   marked = (m.marked.0, tt);
-  marked_turned = (m.marked.0, tt);
+  marked_inverse = (m.marked.0, tt);
   only = λ l h. elim (m.only l h) [ inl t ↦ inl t | inr t ↦ inr (inl t) ];
   more = [];
-  left = ap (λ (k : Command). k.left.items) m.rest ∙ sym (append-nil c.left.items);
+  detached = ap (λ (k : Command). k.detached.items) m.rest ∙ sym (append-nil c.detached.items);
   loosed_is = refl;
 }
 
@@ -146,16 +146,16 @@ module _ (d : Inside) (law : IsArena d.arena) (slotted : IsSlotted d.arena) (ok 
   }
 
   abbrev g : Forest Content
-  g = shed (out_of d) d.arena.trees
+  g = pruned (out_of d) d.arena.trees
 
   content_here : content_of g node.label ≡ Some (Element tag own)
-  content_here = content_of-shed (out_of d) d.arena.trees node.label (forest_of d.arena law) here ∙ content
+  content_here = content_of-pruned (out_of d) d.arena.trees node.label (forest_of d.arena law) here ∙ content
 
   own_here : Some own ≡ attributes_of g node.label
   own_here = sym (ap (option_and_then attributes_in) content_here)
 
   trees_same : (h : Content → Content) → with_attributes list (Element tag own) ≡ h (Element tag own) → revised g node.label (with_attributes list) ≡ revised g node.label h
-  trees_same h same = revised_same g node.label (with_attributes list) h (Element tag own) (IsDistinct-shed (out_of d) d.arena.trees law.distinct) content_here same
+  trees_same h same = revised_same g node.label (with_attributes list) h (Element tag own) (IsDistinct-pruned (out_of d) d.arena.trees law.distinct) content_here same
 
   module _ (c : Command) (m : Marks (node.label ∷ []) d.command c) where
     redresses : (e : Edit) (h : Content → Content) →
@@ -181,11 +181,11 @@ module _ (d : Inside) (law : IsArena d.arena) (slotted : IsSlotted d.arena) (ok 
 
     pub sets : (name value : List ℕ) → list ≡ set_in own name value → Makes d (Set node.label name value) (Attributes node list) d.points d.overrides.items d.counts c
     unfolding trees_after points_after edit_change
-    sets name value is = redresses (Set node.label name value) (with_set name value) (ap (Redress node.label) (is ∙ ap (λ o. set_in (unwrap_or o []) name value) own_here)) (trees_same (with_set name value) (ap (Element tag) is)) refl (sym (overrides-revised (seen d).state node.label (with_set name value)))
+    sets name value is = redresses (Set node.label name value) (with_set name value) (ap (SetAttributes node.label) (is ∙ ap (λ o. set_in (unwrap_or o []) name value) own_here)) (trees_same (with_set name value) (ap (Element tag) is)) refl (sym (overrides-revised (seen d).state node.label (with_set name value)))
 
     pub unsets : (name : List ℕ) → list ≡ unset_in own name → Makes d (Unset node.label name) (Attributes node list) d.points d.overrides.items d.counts c
     unfolding trees_after points_after edit_change
-    unsets name is = redresses (Unset node.label name) (with_unset name) (ap (Redress node.label) (is ∙ ap (λ o. unset_in (unwrap_or o []) name) own_here)) (trees_same (with_unset name) (ap (Element tag) is)) refl (sym (overrides-revised (seen d).state node.label (with_unset name)))
+    unsets name is = redresses (Unset node.label name) (with_unset name) (ap (SetAttributes node.label) (is ∙ ap (λ o. unset_in (unwrap_or o []) name) own_here)) (trees_same (with_unset name) (ap (Element tag) is)) refl (sym (overrides-revised (seen d).state node.label (with_unset name)))
 
 -- ---- for the value that a contract sees
 
@@ -213,7 +213,7 @@ module _ (d : Inside) (v : Whole) (is : seen d ≡ v) (law : IsArena d.arena) (s
   unfolding is_made_edit may_set
   not_set_here name value same = rw (own_seen, same) (and_false (is_own v.state node.label))
 
-  module _ (list : List Attribute) (c : Command) (m : Marks (node.label ∷ []) d.command c) (arena : Arena) (log : Log Step) (arena_is : arena ≡ step_applied (Attributes node list) d.arena) (log_is : log ≡ with_step d.log (step_turned (Attributes node list) d.arena)) where
+  module _ (list : List Attribute) (c : Command) (m : Marks (node.label ∷ []) d.command c) (arena : Arena) (log : Log Step) (arena_is : arena ≡ step_applied (Attributes node list) d.arena) (log_is : log ≡ with_step d.log (step_inverse (Attributes node list) d.arena)) where
     pub unset_done : (name : List ℕ) → list ≡ unset_in own name → is_made_edit (Unset node.label name) v.state ≡ true → Done d v (Unset node.label name) arena d.points d.overrides.items d.counts c log
     unset_done name same may =
         edit_called d v is law now_open ok (Unset node.label name) (Attributes node list) d.points d.overrides.items d.counts c may

@@ -5,8 +5,8 @@ use Rattle.std.proofs.lemmas.Bool.Decides.{eqb_tells}
 use Rattle.dom_model.specs.declared.Content.{Content}
 use Rattle.dom_model.specs.Document.{page_depth}
 use Rattle.dom_model.specs.Forest.{Forest, tops, times, count_of}
-use Rattle.dom_model.specs.Shed.{shed}
-use Rattle.dom_model.specs.State.{IsLawful as IsArena}
+use Rattle.dom_model.specs.Pruned.{pruned}
+use Rattle.dom_model.specs.ArenaState.{IsValid as IsArena}
 use Rattle.live_range.specs.LivePoints.{LivePoints}
 use Rattle.node_arena.specs.declared.NodeRef.{NodeRef}
 use Rattle.undo_log.specs.Turning.{back, inverses_back, FitsBack}
@@ -15,12 +15,12 @@ use Rattle.undo_log.specs.Log.Open.{Closed}
 use Rattle.forest_changes.specs.Named.{Each}
 use Rattle.edit_steps.specs.declared.step.Step.{Step}
 use Rattle.edit_model.specs.State.{State}
-use Rattle.edit_model.specs.Lawful.{IsPlaced, IsForest}
+use Rattle.edit_model.specs.Valid.{IsPlaced, IsForest}
 use Rattle.edit_model.specs.History.{begun, document_of}
 use Rattle.edit_model.specs.Gives.{label_of, labels_of}
 use Rattle.edit_parts.specs.declared.Counts.{Counts}
 use Rattle.edit_doc.specs.declared.Doc.TheInside.{Inside}
-use Rattle.edit_doc.specs.declared.command.Beside.{Beside}
+use Rattle.edit_doc.specs.declared.command.EntrySnapshot.{EntrySnapshot}
 use Rattle.edit_doc.specs.declared.command.Kept.{Kept}
 use Rattle.edit_doc.specs.declared.command.Command.{Command}
 use Rattle.edit_doc.specs.Fields.{IsKept}
@@ -28,7 +28,7 @@ use Rattle.edit_doc.specs.Whole.{Began, opened}
 use Rattle.edit_doc.specs.Held.{IfHeld}
 use Rattle.edit_doc.specs.History.{edits_before, roots_from, begun_forest, is_hidden, seen_trees, state_of, begun_state, began_with, history_of, whole_of}
 use Rattle.edit_doc.specs.Marks.{has_named}
-use Rattle.edit_doc.specs.Sound.{RefIn, IsRunning, OpenSound, UndoSound, RedoSound, AreNeeded, next_first, IsSound}
+use Rattle.edit_doc.specs.Sound.{RefIn, IsRunning, OpenSound, UndoSound, RedoSound, AreNeeded, next_first, IsSoundDoc}
 use Rattle.edit_doc.proofs.Inner.{seen, Ok}
 use Rattle.edit_doc.proofs.Laid.{undo_later, redo_later, next_first_low}
 use Rattle.edit_doc.proofs.Rests.{rest_state, AtRest, rest_of, trees_are, none_noted, arena_forest}
@@ -68,7 +68,7 @@ pub record Opens (d : Inside) (c : Command) (log : Log Step) : Type 0 where
   pub start : c.start ≡ d.command.start
   pub named : c.named.items ≡ []
   pub kept : IsKept d.points d.overrides.items d.flags d.counts c.kept
-  pub left_before : c.left_before ≡ length c.left.items
+  pub detached_before : c.detached_before ≡ length c.detached.items
   pub none : noted log.open_entry ≡ []
   pub depth : log.depth ≡ d.log.depth
 
@@ -87,7 +87,7 @@ module _ (d : Inside) (law : IsArena d.arena) (closed : d.log.open_entry ≡ Clo
     now = none_noted log d.arena.trees o.none
 
     same_trees : seen_trees log c.start d.arena.trees ≡ seen_trees d.log d.command.start d.arena.trees
-    same_trees = λ i. shed (is_hidden ((now ∙ sym was) i) (o.start i)) d.arena.trees
+    same_trees = λ i. pruned (is_hidden ((now ∙ sym was) i) (o.start i)) d.arena.trees
 
     start_is : c.start ≡ d.arena.next
     start_is = o.start ∙ rest.idle.start
@@ -119,31 +119,31 @@ module _ (d : Inside) (law : IsArena d.arena) (closed : d.log.open_entry ≡ Clo
       names_there = tt;
       marks = ap (λ xs. length xs + c.start) o.named ∙ zero_more start_is;
       marked = tt;
-      marked_turned = tt;
+      marked_inverse = tt;
       named_all = λ l e. absurd (true≢false (sym e ∙ unnamed l));
-      left_before = (let e = o.left_before in omega (arith, e));
-      left_seen = subst (λ rs. Each (λ l. 0 < count_of (shed (is_hidden d.arena.trees c.start) d.arena.trees) l) (labels_of rs)) (sym (drop_all c.left_before c.left.items o.left_before)) tt;
-      loosened = λ l inner top. absurd (document_tops d.arena.trees d.arena.next l (arena_forest d.arena law) inner
-          (subst (λ g. 0 < times (tops g) l) (ap (λ n. shed (is_hidden d.arena.trees n) d.arena.trees) start_is ∙ seen_at_rest d.arena.trees d.arena.next (arena_forest d.arena law)) top));
+      detached_before = (let e = o.detached_before in omega (arith, e));
+      detached_seen = subst (λ rs. Each (λ l. 0 < count_of (pruned (is_hidden d.arena.trees c.start) d.arena.trees) l) (labels_of rs)) (sym (drop_all c.detached_before c.detached.items o.detached_before)) tt;
+      newly_detached = λ l inner top. absurd (document_tops d.arena.trees d.arena.next l (arena_forest d.arena law) inner
+          (subst (λ g. 0 < times (tops g) l) (ap (λ n. pruned (is_hidden d.arena.trees n) d.arena.trees) start_is ∙ seen_at_rest d.arena.trees d.arena.next (arena_forest d.arena law)) top));
     }
       where
         zero_more : {n m : ℕ} → n ≡ m → 0 + n ≡ m
         zero_more e = omega (arith, e)
 
-    pub opened_ok : (us : List Beside) →
+    pub opened_ok : (us : List EntrySnapshot) →
         ((g : Forest Content) → IsRunning d.arena d.points.names c [] g → OpenSound d.arena d.points c g log.open_entry) →
         c.resumed ≡ is_resumed log.open_entry →
         IfSome c.host (λ h. RefIn d.arena.held h × (0 < count_of (seen_trees d.log d.command.start d.arena.trees) h.label)) →
         UndoSound d.arena.held d.points.names c.resumed c (next_first c.start d.redo_sides.items) d.arena.trees log.undo us →
         RedoSound d.arena.held d.points.names c d.arena.trees log.redo d.redo_sides.items →
         AreNeeded d.command.start d.arena.trees log.undo log.redo →
-        IsSound d.arena d.points d.overrides.items d.flags d.counts c log us d.redo_sides.items d.undo_sides.capacity d.redo_sides.capacity
+        IsSoundDoc d.arena d.points d.overrides.items d.flags d.counts c log us d.redo_sides.items d.undo_sides.capacity d.redo_sides.capacity
     opened_ok us running resumed host undo redo needed = record {
-      lawful = record {
-        forest = subst (λ t. IsForest t d.arena.next) (sym same_trees) ok.lawful.forest;
-        placed = subst (λ t. IsPlaced t d.points) (sym same_trees) ok.lawful.placed;
+      valid = record {
+        forest = subst (λ t. IsForest t d.arena.next) (sym same_trees) ok.valid.forest;
+        placed = subst (λ t. IsPlaced t d.points) (sym same_trees) ok.valid.placed;
         started = (let s = start_is in omega (arith, s));
-        settings = ok.lawful.settings;
+        settings = ok.valid.settings;
       };
       some_label = subst (λ n. 0 < n) (sym o.start) ok.some_label;
       nodes = ok.nodes;
@@ -175,7 +175,7 @@ module _ (d : Inside) (law : IsArena d.arena) (closed : d.log.open_entry ≡ Clo
       made = sym (ap (λ (s : State). s.made) (rest_state d.arena d.points d.overrides.items d.flags d.counts d.command d.log d.undo_sides.items d.redo_sides.items d.undo_sides.capacity d.redo_sides.capacity rest)) i;
     }
 
-    pub opened_is : (us : List Beside) (resumed : Bool) →
+    pub opened_is : (us : List EntrySnapshot) (resumed : Bool) →
         ((s : State) → began_with s log.open_entry ≡ Some (record { state = s; resumed = resumed })) →
         history_of d.points.names d.arena.trees log us d.redo_sides.items ≡ history_of d.points.names d.arena.trees d.log d.undo_sides.items d.redo_sides.items →
         whole_of d.arena d.points d.overrides.items d.flags c log us d.redo_sides.items ≡ opened (label_of c.host) c.keeping resumed (seen d)
@@ -220,12 +220,12 @@ module _ (d : Inside) (law : IsArena d.arena) (closed : d.log.open_entry ≡ Clo
       start = refl;
       named = rest.idle.named;
       kept = keeps;
-      left_before = rest.idle.left_before ∙ ap length (sym rest.idle.left);
+      detached_before = rest.idle.detached_before ∙ ap length (sym rest.idle.detached);
       none = refl;
       depth = refl;
     }
 
-    pub begin_ok : IfHeld (seen d) host → IsSound d.arena d.points d.overrides.items d.flags d.counts begun_command (begun_log d.log) d.undo_sides.items d.redo_sides.items d.undo_sides.capacity d.redo_sides.capacity
+    pub begin_ok : IfHeld (seen d) host → IsSoundDoc d.arena d.points d.overrides.items d.flags d.counts begun_command (begun_log d.log) d.undo_sides.items d.redo_sides.items d.undo_sides.capacity d.redo_sides.capacity
     begin_ok held =
         let c = begun_command in
         let first = next_first_low d.arena.held d.points.names d.command d.arena.trees d.log.redo d.redo_sides.items rest.redo in

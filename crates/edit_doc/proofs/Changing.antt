@@ -8,39 +8,39 @@ use Rattle.std.proofs.lemmas.Bool.Decides.{eqb_tells}
 use Rattle.dom_model.specs.declared.Content.{Content}
 use Rattle.dom_model.specs.Document.{node_count, char_count, page_depth}
 use Rattle.dom_model.specs.Forest.{Forest, tops, times, count_of}
-use Rattle.dom_model.specs.Shed.{shed}
-use Rattle.dom_model.specs.State.{State as Arena, IsLawful as IsArena}
+use Rattle.dom_model.specs.Pruned.{pruned}
+use Rattle.dom_model.specs.ArenaState.{ArenaState as Arena, IsValid as IsArena}
 use Rattle.node_arena.specs.declared.NodeRef.{NodeRef}
 use Rattle.live_range.specs.LivePoints.{LivePoints}
-use Rattle.live_range.specs.Edit.{has_label}
+use Rattle.live_range.specs.PointsEdit.{has_label}
 use Rattle.live_range.specs.Names.{shown}
 use Rattle.undo_log.specs.Turning.{back, inverses_back, FitsBack}
 use Rattle.undo_log.specs.Log.{Log, Open, noted, is_open, is_resumed, with_noted, with_step}
 use Rattle.undo_log.specs.Log.Open.{Closed, Begun, Resumed}
 use Rattle.undo_log.proofs.Turns.{back-append, inverses_back-append, FitsBack-more}
-use Rattle.forest_changes.specs.Change.{Change, Fits, Turns, applied, turned}
+use Rattle.forest_changes.specs.Change.{Change, Fits, Turns, applied, inverse}
 use Rattle.forest_changes.specs.Named.{Each, named, named_in}
-use Rattle.forest_changes.specs.Down.{Sheds, IsLeft, GoesDown}
+use Rattle.forest_changes.specs.Down.{Prunes, IsLeft, GoesDown}
 use Rattle.forest_changes.proofs.ChangeLists.{each_of, each_join, each_first, each_rest}
-use Rattle.forest_changes.proofs.DownChange.{down, sheds_roots}
+use Rattle.forest_changes.proofs.DownChange.{down, prunes_roots}
 use Rattle.forest_changes.proofs.Twice.{turns, forest_of}
 use Rattle.edit_steps.specs.declared.step.Step.{Step}
-use Rattle.edit_steps.specs.Step.{change_of, changes_of, nodes_of, nodes_in, step_turned, StepFits}
-use Rattle.edit_steps.specs.StepLaws.{change_of-turned, held-turned}
+use Rattle.edit_steps.specs.Step.{change_of, changes_of, nodes_of, nodes_in, step_inverse, StepFits}
+use Rattle.edit_steps.specs.StepLaws.{change_of-inverse, held-inverse}
 use Rattle.edit_model.specs.declared.settings.Setting.{Setting}
 use Rattle.edit_model.specs.declared.settings.Flags.{Flags}
 use Rattle.edit_model.specs.State.{State}
-use Rattle.edit_model.specs.Lawful.{IsLawful}
+use Rattle.edit_model.specs.Valid.{IsValid}
 use Rattle.edit_model.specs.History.{document_of}
 use Rattle.edit_model.specs.Gives.{label_of, labels_of}
 use Rattle.edit_model.proofs.Steps.{labels_of-append}
 use Rattle.edit_parts.specs.declared.Counts.{Counts}
-use Rattle.edit_doc.specs.declared.command.Beside.{Beside}
+use Rattle.edit_doc.specs.declared.command.EntrySnapshot.{EntrySnapshot}
 use Rattle.edit_doc.specs.declared.command.Command.{Command}
 use Rattle.edit_doc.specs.Whole.{with_state}
 use Rattle.edit_doc.specs.Marks.{IsMarked, has_named}
 use Rattle.edit_doc.specs.History.{edits_before, roots_from, forest_before, begun_forest, is_hidden, seen_trees, state_of, begun_state, began_with, history_of, whole_of}
-use Rattle.edit_doc.specs.Sound.{RefIn, EachHeldIn, CanGoBack, IsSide, AreAlone, IsBeside, IsRunning, OpenSound, UndoSound, RedoSound, left_of, next_first, IsSound, AreNeeded}
+use Rattle.edit_doc.specs.Sound.{RefIn, EachHeldIn, CanGoBack, IsSide, AreAlone, IsSnapshot, IsRunning, OpenSound, UndoSound, RedoSound, detached_of, next_first, IsSoundDoc, AreNeeded}
 use Rattle.edit_doc.proofs.Laid.{redo_later}
 use Rattle.edit_doc.proofs.HiddenTrees.{top_loose}
 use Rattle.edit_doc.proofs.Places.{node_of, loosed, named_node, each_loosed, root_stays, root_was}
@@ -122,13 +122,13 @@ named_last (x ∷ xs) y l h = has_later (named x) (named_in (xs ++ y ∷ [])) l 
 -- ---- the history beside a command whose marks and left trees change
 
 module _ (held : List (Option ℕ)) (names : List (List ℕ)) (c d : Command) (start : c.start ≡ d.start) where
-  pub undo_carried : (r : Bool) (high : ℕ) (f : Forest Content) (es : List (List Step)) (bs : List Beside) → ((b : Beside) → left_of r c b ≡ left_of r d b) → UndoSound held names r c high f es bs → UndoSound held names r d high f es bs
+  pub undo_carried : (r : Bool) (high : ℕ) (f : Forest Content) (es : List (List Step)) (bs : List EntrySnapshot) → ((b : EntrySnapshot) → detached_of r c b ≡ detached_of r d b) → UndoSound held names r c high f es bs → UndoSound held names r d high f es bs
   undo_carried r high f [] [] same h = tt
   undo_carried r high f [] (b ∷ bs) same h = absurd h
   undo_carried r high f (e ∷ es) [] same h = absurd h
   undo_carried r high f (e ∷ es) (b ∷ bs) same h =
-      let ts = inverses_back applied turned (changes_of e) f in
-      let own : IsBeside names (forest_before e f) f e ts b (left_of r d b) high d.start = subst (λ ls. IsBeside names (forest_before e f) f e ts b ls high d.start) (same b) (subst (λ n. IsBeside names (forest_before e f) f e ts b (left_of r c b) high n) start h.1.0) in
+      let ts = inverses_back applied inverse (changes_of e) f in
+      let own : IsSnapshot names (forest_before e f) f e ts b (detached_of r d b) high d.start = subst (λ ls. IsSnapshot names (forest_before e f) f e ts b ls high d.start) (same b) (subst (λ n. IsSnapshot names (forest_before e f) f e ts b (detached_of r c b) high n) start h.1.0) in
       (h.0, (own, undo_carried false b.sides.first_label (forest_before e f) es bs (λ _. refl) h.1.1))
 
 -- ---- what the fields of the command become
@@ -139,19 +139,19 @@ pub record Follows (c d : Command) (x y : Change) : Type 0 where
   pub keeping : d.keeping ≡ c.keeping
   pub resumed : d.resumed ≡ c.resumed
   pub kept : d.kept ≡ c.kept
-  pub left_before : d.left_before ≡ c.left_before
+  pub detached_before : d.detached_before ≡ c.detached_before
   pub count : length d.named.items ≡ length c.named.items
   pub stay : (l : ℕ) → IsMarked c l → IsMarked d l
   pub marked : Each (IsMarked d) (named x)
-  pub marked_turned : Each (IsMarked d) (named y)
+  pub marked_inverse : Each (IsMarked d) (named y)
   pub only : (l : ℕ) → has_named d l ≡ true → (has_named c l ≡ true) ⊎ ((has_label (named x) l ≡ true) ⊎ (has_label (named y) l ≡ true))
   pub more : List NodeRef
-  pub left : d.left.items ≡ c.left.items ++ more
+  pub detached : d.detached.items ≡ c.detached.items ++ more
   pub loosed_is : labels_of more ≡ loosed x
 
-module _ (a : Arena) (points : LivePoints) (overrides : List Setting) (flags : Flags) (counts : Counts) (c : Command) (log : Log Step) (us rs : List Beside) (us_room rs_room : ℕ)
+module _ (a : Arena) (points : LivePoints) (overrides : List Setting) (flags : Flags) (counts : Counts) (c : Command) (log : Log Step) (us rs : List EntrySnapshot) (us_room rs_room : ℕ)
     (law : IsArena a) (open_now : IsTrue (is_open log.open_entry))
-    (ok : IsSound a points overrides flags counts c log us rs us_room rs_room) where
+    (ok : IsSoundDoc a points overrides flags counts c log us rs us_room rs_room) where
   abbrev g : Forest Content
   g = begun_forest log a.trees
 
@@ -161,15 +161,15 @@ module _ (a : Arena) (points : LivePoints) (overrides : List Setting) (flags : F
   abbrev xs : List Step
   xs = noted log.open_entry
 
-  pub seen_sheds : Sheds hides a.trees
-  seen_sheds = sheds_roots hides a.trees (forest_of a law) refl (λ l h. top_loose a.trees l law.distinct (ok.hidden l h))
+  pub seen_prunes : Prunes hides a.trees
+  seen_prunes = prunes_roots hides a.trees (forest_of a law) refl (λ l h. top_loose a.trees l law.distinct (ok.hidden l h))
 
   pub run : IsRunning a points.names c xs g
   run = running_of a points c g log.open_entry open_now ok.running
 
   module _ (x : Step) (fits : StepFits x a) (seen : Each (IsLeft hides a.trees) (named (change_of x))) where
     abbrev y : Step
-    y = step_turned x a
+    y = step_inverse x a
 
     abbrev f : Forest Content
     f = applied (change_of x) a.trees
@@ -178,30 +178,30 @@ module _ (a : Arena) (points : LivePoints) (overrides : List Setting) (flags : F
     T = turns (change_of x) a.trees fits.fits
 
     pub goes : GoesDown hides (change_of x) a.trees
-    goes = down hides (change_of x) a.trees seen_sheds fits.fits seen
+    goes = down hides (change_of x) a.trees seen_prunes fits.fits seen
 
-    y_is : change_of y ≡ turned (change_of x) a.trees
-    y_is = change_of-turned x a
+    y_is : change_of y ≡ inverse (change_of x) a.trees
+    y_is = change_of-inverse x a
 
-    ys_are : changes_of (noted (with_noted log.open_entry y)) ≡ changes_of xs ++ turned (change_of x) a.trees ∷ []
+    ys_are : changes_of (noted (with_noted log.open_entry y)) ≡ changes_of xs ++ inverse (change_of x) a.trees ∷ []
     ys_are = ap changes_of (noted_more log.open_entry y open_now) ∙ (changes_more xs y ∙ ap (λ z. changes_of xs ++ z ∷ []) y_is)
 
     -- the forest at the begin is the same
     pub begun_same : begun_forest (with_step log y) f ≡ g
-    begun_same = ap (λ ls. back applied ls f) ys_are ∙ (back-append applied (changes_of xs) (turned (change_of x) a.trees) f ∙ ap (back applied (changes_of xs)) T.back)
+    begun_same = ap (λ ls. back applied ls f) ys_are ∙ (back-append applied (changes_of xs) (inverse (change_of x) a.trees) f ∙ ap (back applied (changes_of xs)) T.back)
 
-    turned_same : inverses_back applied turned (changes_of xs ++ turned (change_of x) a.trees ∷ []) f ≡ inverses_back applied turned (changes_of xs) a.trees ++ change_of x ∷ []
-    turned_same =
-        inverses_back-append applied turned (changes_of xs) (turned (change_of x) a.trees) f
-        ∙ (λ i. inverses_back applied turned (changes_of xs) (T.back i) ++ T.same i ∷ [])
+    inverse_same : inverses_back applied inverse (changes_of xs ++ inverse (change_of x) a.trees ∷ []) f ≡ inverses_back applied inverse (changes_of xs) a.trees ++ change_of x ∷ []
+    inverse_same =
+        inverses_back-append applied inverse (changes_of xs) (inverse (change_of x) a.trees) f
+        ∙ (λ i. inverses_back applied inverse (changes_of xs) (T.back i) ++ T.same i ∷ [])
 
-    steps_are : changes_of (xs ++ y ∷ []) ≡ changes_of xs ++ turned (change_of x) a.trees ∷ []
+    steps_are : changes_of (xs ++ y ∷ []) ≡ changes_of xs ++ inverse (change_of x) a.trees ∷ []
     steps_are = changes_more xs y ∙ ap (λ z. changes_of xs ++ z ∷ []) y_is
 
     can_back : CanGoBack a.held (xs ++ y ∷ []) f
     can_back = (
-      subst (λ ls. FitsBack applied Fits ls f) (sym steps_are) (FitsBack-more applied Fits (changes_of xs) (turned (change_of x) a.trees) f T.fits (subst (λ (t : Forest Content). FitsBack applied Fits (changes_of xs) t) (sym T.back) run.can.0)),
-      each_held a.held xs y run.can.1 (held-turned x a fits),
+      subst (λ ls. FitsBack applied Fits ls f) (sym steps_are) (FitsBack-more applied Fits (changes_of xs) (inverse (change_of x) a.trees) f T.fits (subst (λ (t : Forest Content). FitsBack applied Fits (changes_of xs) t) (sym T.back) run.can.0)),
+      each_held a.held xs y run.can.1 (held-inverse x a fits),
     )
 
     -- what was seen is seen
@@ -210,27 +210,27 @@ module _ (a : Arena) (points : LivePoints) (overrides : List Setting) (flags : F
 
     names_now : Each (IsLeft hides f) (named_in (changes_of (xs ++ y ∷ [])))
     names_now = subst (λ ls. Each (IsLeft hides f) (named_in ls)) (sym steps_are)
-        (each_named (IsLeft hides f) (changes_of xs) (turned (change_of x) a.trees)
+        (each_named (IsLeft hides f) (changes_of xs) (inverse (change_of x) a.trees)
         (each_of (IsLeft hides a.trees) (IsLeft hides f) (named_in (changes_of xs)) still run.names_there)
-        (each_of (IsLeft hides a.trees) (IsLeft hides f) (named (turned (change_of x) a.trees)) still goes.names))
+        (each_of (IsLeft hides a.trees) (IsLeft hides f) (named (inverse (change_of x) a.trees)) still goes.names))
 
     off_hidden : (l : ℕ) → hides l ≡ true → node_of (change_of x) ≢ l
     off_hidden l h same =
-        let out = seen_sheds.out (node_of (change_of x)) (named_node (IsLeft hides a.trees) (change_of x) seen) in
+        let out = seen_prunes.out (node_of (change_of x)) (named_node (IsLeft hides a.trees) (change_of x) seen) in
         true≢false (sym h ∙ (ap hides (sym same) ∙ out))
 
-    module _ (d : Command) (now : Follows c d (change_of x) (turned (change_of x) a.trees)) where
+    module _ (d : Command) (now : Follows c d (change_of x) (inverse (change_of x) a.trees)) where
       hides_same : is_hidden (begun_forest (with_step log y) f) d.start ≡ hides
       hides_same = λ i. is_hidden (begun_same i) (now.start i)
 
       marked_still : (ls : List Change) → Each (IsMarked c) (named_in ls) → Each (IsMarked d) (named_in ls)
       marked_still ls h = each_of (IsMarked c) (IsMarked d) (named_in ls) now.stay h
 
-      left_labels : labels_of (drop d.left_before d.left.items) ≡ labels_of (drop c.left_before c.left.items) ++ loosed (change_of x)
-      left_labels =
-          (λ i. labels_of (drop (now.left_before i) (now.left i)))
-          ∙ (ap labels_of (drop-append-le c.left_before c.left.items now.more run.left_before)
-          ∙ (labels_of-append (drop c.left_before c.left.items) now.more ∙ ap (λ ls. labels_of (drop c.left_before c.left.items) ++ ls) now.loosed_is))
+      detached_labels : labels_of (drop d.detached_before d.detached.items) ≡ labels_of (drop c.detached_before c.detached.items) ++ loosed (change_of x)
+      detached_labels =
+          (λ i. labels_of (drop (now.detached_before i) (now.detached i)))
+          ∙ (ap labels_of (drop-append-le c.detached_before c.detached.items now.more run.detached_before)
+          ∙ (labels_of-append (drop c.detached_before c.detached.items) now.more ∙ ap (λ ls. labels_of (drop c.detached_before c.detached.items) ++ ls) now.loosed_is))
 
       runs : IsRunning (record a { trees = f }) points.names d (xs ++ y ∷ []) g
       runs = record {
@@ -240,45 +240,45 @@ module _ (a : Arena) (points : LivePoints) (overrides : List Setting) (flags : F
         can = can_back;
         names_there = subst (λ n. Each (IsLeft (is_hidden g n) f) (named_in (changes_of (xs ++ y ∷ [])))) (sym now.start) names_now;
         marks = (let m = run.marks in let n = now.count in let s = now.start in omega (arith, m, n, s));
-        marked = subst (λ ls. Each (IsMarked d) (named_in ls)) (sym steps_are) (each_named (IsMarked d) (changes_of xs) (turned (change_of x) a.trees) (marked_still (changes_of xs) run.marked) now.marked_turned);
-        marked_turned = subst (λ ls. Each (IsMarked d) (named_in (inverses_back applied turned ls f))) (sym steps_are)
-            (subst (λ ls. Each (IsMarked d) (named_in ls)) (sym turned_same) (each_named (IsMarked d) (inverses_back applied turned (changes_of xs) a.trees) (change_of x) (marked_still (inverses_back applied turned (changes_of xs) a.trees) run.marked_turned) now.marked));
+        marked = subst (λ ls. Each (IsMarked d) (named_in ls)) (sym steps_are) (each_named (IsMarked d) (changes_of xs) (inverse (change_of x) a.trees) (marked_still (changes_of xs) run.marked) now.marked_inverse);
+        marked_inverse = subst (λ ls. Each (IsMarked d) (named_in (inverses_back applied inverse ls f))) (sym steps_are)
+            (subst (λ ls. Each (IsMarked d) (named_in ls)) (sym inverse_same) (each_named (IsMarked d) (inverses_back applied inverse (changes_of xs) a.trees) (change_of x) (marked_still (inverses_back applied inverse (changes_of xs) a.trees) run.marked_inverse) now.marked));
         named_all = λ l h. (
             let R : List Change → List Change → Type 0 = λ bs ts. (has_label (named_in bs) l ≡ true) ⊎ (has_label (named_in ts) l ≡ true) in
             let steps = changes_of xs in
-            let turns = inverses_back applied turned steps a.trees in
-            let z = turned (change_of x) a.trees in
+            let turns = inverses_back applied inverse steps a.trees in
+            let z = inverse (change_of x) a.trees in
             let own : R (steps ++ z ∷ []) (turns ++ change_of x ∷ []) = elim (now.only l h) [
               | inl was ↦ elim (run.named_all l was) [ inl t ↦ inl (named_first steps (z ∷ []) l t) | inr t ↦ inr (named_first turns (change_of x ∷ []) l t) ]
               | inr more ↦ elim more [ inl t ↦ inr (named_last turns (change_of x) l t) | inr t ↦ inl (named_last steps z l t) ]
             ] in
-            subst (λ bs. R bs (inverses_back applied turned bs f)) (sym steps_are) (subst (λ ts. R (steps ++ z ∷ []) ts) (sym turned_same) own));
-        left_before = (let b = run.left_before in let e = now.left_before in let n = ap length now.left in let m = length-append c.left.items now.more in omega (arith, b, e, n, m));
-        left_seen = subst (λ n. Each (λ l. 0 < count_of (shed (is_hidden g n) f) l) (labels_of (drop d.left_before d.left.items))) (sym now.start)
-            (subst (Each (IsLeft hides f)) (sym left_labels)
-            (each_join (IsLeft hides f) (labels_of (drop c.left_before c.left.items)) (loosed (change_of x))
-            (each_of (IsLeft hides a.trees) (IsLeft hides f) (labels_of (drop c.left_before c.left.items)) still run.left_seen)
+            subst (λ bs. R bs (inverses_back applied inverse bs f)) (sym steps_are) (subst (λ ts. R (steps ++ z ∷ []) ts) (sym inverse_same) own));
+        detached_before = (let b = run.detached_before in let e = now.detached_before in let n = ap length now.detached in let m = length-append c.detached.items now.more in omega (arith, b, e, n, m));
+        detached_seen = subst (λ n. Each (λ l. 0 < count_of (pruned (is_hidden g n) f) l) (labels_of (drop d.detached_before d.detached.items))) (sym now.start)
+            (subst (Each (IsLeft hides f)) (sym detached_labels)
+            (each_join (IsLeft hides f) (labels_of (drop c.detached_before c.detached.items)) (loosed (change_of x))
+            (each_of (IsLeft hides a.trees) (IsLeft hides f) (labels_of (drop c.detached_before c.detached.items)) still run.detached_seen)
             (each_loosed (IsLeft hides f) (change_of x) (still (node_of (change_of x)) (named_node (IsLeft hides a.trees) (change_of x) seen)))));
-        loosened = λ l inner top. (
-            let top' : 0 < times (tops (applied (change_of x) (shed hides a.trees))) l = subst (λ t. 0 < times (tops t) l) goes.same (subst (λ n. 0 < times (tops (shed (is_hidden g n) f)) l) now.start top) in
-            subst (λ ls. has_label ls l ≡ true) (sym left_labels) (elim (root_was (change_of x) (shed hides a.trees) l goes.fits top') [
-              | inl was ↦ has_first (labels_of (drop c.left_before c.left.items)) (loosed (change_of x)) l (run.loosened l inner was)
-              | inr loose ↦ subst (λ ms. has_label (labels_of (drop c.left_before c.left.items) ++ ms) l ≡ true) (sym loose) (has_last (labels_of (drop c.left_before c.left.items)) l)
+        newly_detached = λ l inner top. (
+            let top' : 0 < times (tops (applied (change_of x) (pruned hides a.trees))) l = subst (λ t. 0 < times (tops t) l) goes.same (subst (λ n. 0 < times (tops (pruned (is_hidden g n) f)) l) now.start top) in
+            subst (λ ls. has_label ls l ≡ true) (sym detached_labels) (elim (root_was (change_of x) (pruned hides a.trees) l goes.fits top') [
+              | inl was ↦ has_first (labels_of (drop c.detached_before c.detached.items)) (loosed (change_of x)) l (run.newly_detached l inner was)
+              | inr loose ↦ subst (λ ms. has_label (labels_of (drop c.detached_before c.detached.items) ++ ms) l ≡ true) (sym loose) (has_last (labels_of (drop c.detached_before c.detached.items)) l)
             ]));
       }
 
-      host_still : (o : Option NodeRef) → IfSome o (λ h. RefIn a.held h × (0 < count_of (seen_trees log c.start a.trees) h.label)) → IfSome o (λ h. RefIn a.held h × (0 < count_of (shed hides f) h.label))
+      host_still : (o : Option NodeRef) → IfSome o (λ h. RefIn a.held h × (0 < count_of (seen_trees log c.start a.trees) h.label)) → IfSome o (λ h. RefIn a.held h × (0 < count_of (pruned hides f) h.label))
       host_still None h = tt
       host_still (Some r) h = (h.0, still r.label h.1)
 
-      left_same : (r : Bool) (b : Beside) → left_of r c b ≡ left_of r d b
-      left_same false b = refl
-      left_same true b = sym ((λ i. take (now.left_before i) (now.left i)) ∙ take-append-le c.left_before c.left.items now.more run.left_before)
+      detached_same : (r : Bool) (b : EntrySnapshot) → detached_of r c b ≡ detached_of r d b
+      detached_same false b = refl
+      detached_same true b = sym ((λ i. take (now.detached_before i) (now.detached i)) ∙ take-append-le c.detached_before c.detached.items now.more run.detached_before)
 
       -- what is seen afterwards
       abbrev pub seen_next : LivePoints → List Setting → State
       seen_next points' overrides' = record (state_of a points overrides flags c log) {
-        trees = applied (change_of x) (shed hides a.trees);
+        trees = applied (change_of x) (pruned hides a.trees);
         points = points';
         overrides = overrides';
         edits = edits_before xs a.trees ++ change_of x ∷ [];
@@ -287,7 +287,7 @@ module _ (a : Arena) (points : LivePoints) (overrides : List Setting) (flags : F
       module _ (points' : LivePoints) (overrides' : List Setting) (names : points'.names ≡ points.names) where
         pub state_next : state_of (record a { trees = f }) points' overrides' flags d (with_step log y) ≡ seen_next points' overrides'
         state_next = λ i. record {
-          trees = (ap (λ k. shed k f) hides_same ∙ goes.same) i;
+          trees = (ap (λ k. pruned k f) hides_same ∙ goes.same) i;
           points = points';
           overrides = overrides';
           flags = flags;
@@ -296,7 +296,7 @@ module _ (a : Arena) (points : LivePoints) (overrides : List Setting) (flags : F
           start = now.start i;
           host = label_of (now.host i);
           keeping = now.keeping i;
-          edits = (ap (λ ls. inverses_back applied turned ls f) ys_are ∙ turned_same) i;
+          edits = (ap (λ ls. inverses_back applied inverse ls f) ys_are ∙ inverse_same) i;
           made = roots_from (now.start i) (begun_same i);
         }
 
@@ -323,15 +323,15 @@ module _ (a : Arena) (points : LivePoints) (overrides : List Setting) (flags : F
               made = [];
             }
 
-        pub sound_next : (counts' : Counts) → IsLawful (seen_next points' overrides') → counts'.nodes ≡ node_count f → counts'.chars ≡ char_count f → page_depth f ≤ counts'.depth →
-            IsSound (record a { trees = f }) points' overrides' flags counts' d (with_step log y) us rs us_room rs_room
-        sound_next counts' lawful nodes chars depth =
+        pub sound_next : (counts' : Counts) → IsValid (seen_next points' overrides') → counts'.nodes ≡ node_count f → counts'.chars ≡ char_count f → page_depth f ≤ counts'.depth →
+            IsSoundDoc (record a { trees = f }) points' overrides' flags counts' d (with_step log y) us rs us_room rs_room
+        sound_next counts' valid nodes chars depth =
             let start : c.start ≡ d.start = sym now.start in
-            let undo : UndoSound a.held points.names c.resumed d (next_first c.start rs) g log.undo us = undo_carried a.held points.names c d start c.resumed (next_first c.start rs) g log.undo us (left_same c.resumed) ok.undo in
+            let undo : UndoSound a.held points.names c.resumed d (next_first c.start rs) g log.undo us = undo_carried a.held points.names c d start c.resumed (next_first c.start rs) g log.undo us (detached_same c.resumed) ok.undo in
             let le : c.start ≤ d.start = omega (arith, start) in
             let redo : RedoSound a.held points.names d g log.redo rs = redo_later a.held points.names c d le g log.redo rs ok.redo in
             record {
-              lawful = subst IsLawful (sym state_next) lawful;
+              valid = subst IsValid (sym state_next) valid;
               some_label = subst (λ n. 0 < n) start ok.some_label;
               nodes = nodes;
               chars = chars;
@@ -340,7 +340,7 @@ module _ (a : Arena) (points : LivePoints) (overrides : List Setting) (flags : F
               running = of_running (record a { trees = f }) points' d (begun_forest (with_step log y) f) log.open_entry y open_now
                   (subst (λ t. IsRunning (record a { trees = f }) points'.names d (xs ++ y ∷ []) t) (sym begun_same) (subst (λ ns. IsRunning (record a { trees = f }) ns d (xs ++ y ∷ []) g) (sym names) runs));
               resumed = now.resumed ∙ (ok.resumed ∙ sym (resumed_more log.open_entry y));
-              host = subst (λ k. IfSome d.host (λ h. RefIn a.held h × (0 < count_of (shed k f) h.label))) (sym hides_same) (subst (λ o. IfSome o (λ h. RefIn a.held h × (0 < count_of (shed hides f) h.label))) (sym now.host) (host_still c.host ok.host));
+              host = subst (λ k. IfSome d.host (λ h. RefIn a.held h × (0 < count_of (pruned k f) h.label))) (sym hides_same) (subst (λ o. IfSome o (λ h. RefIn a.held h × (0 < count_of (pruned hides f) h.label))) (sym now.host) (host_still c.host ok.host));
               undo = subst (λ t. UndoSound a.held points'.names d.resumed d (next_first d.start rs) t log.undo us) (sym begun_same)
                   (subst (λ ns. UndoSound a.held ns d.resumed d (next_first d.start rs) g log.undo us) (sym names)
                   (subst (λ r. UndoSound a.held points.names r d (next_first d.start rs) g log.undo us) (sym now.resumed)

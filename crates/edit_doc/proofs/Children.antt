@@ -55,7 +55,7 @@ module _ (d : Whole) (law : IsDoc d) (node : NodeRef) where
   f = d.state.trees
 
   once : IsDistinct f
-  once = law.lawful.forest.distinct
+  once = law.valid.forest.distinct
 
   pub first_child_is : Holds d node → (first : Option NodeRef) → Finds d first (first_of f node.label) → IsChild f node.label (label_of first)
   first_child_is held first finds = rw finds.is (child_by f (first_of f node.label) node.label (λ k e. parent_of-first f once node.label k e))

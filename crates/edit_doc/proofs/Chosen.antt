@@ -2,10 +2,10 @@
 use Rattle.std.proofs.Common.{◌≡◌, ℕ, zero, suc, ◌<◌, Bool, true, false, if◌then◌else◌, get_or, arith, List, [], ◌∷◌, length, Option, None, refl, sym, ap, subst, ◌∙◌}
 use Rattle.dom_model.specs.declared.Content.{Content}
 use Rattle.dom_model.specs.Forest.{Forest, count_of}
-use Rattle.dom_model.specs.State.{State as Arena}
+use Rattle.dom_model.specs.ArenaState.{ArenaState as Arena}
 use Rattle.live_range.specs.declared.places.Pair.{Pair}
 use Rattle.live_range.specs.declared.places.Point.{Point}
-use Rattle.live_range.specs.Edit as range
+use Rattle.live_range.specs.PointsEdit as range
 use Rattle.live_range.specs.LivePoints.{LivePoints, mapped}
 use Rattle.undo_log.specs.Log.{Open}
 use Rattle.undo_log.specs.Log.Open.{Closed, Begun, Resumed}
@@ -15,14 +15,14 @@ use Rattle.edit_model.specs.declared.settings.Flags.{Flags}
 use Rattle.edit_model.specs.Action.{Grow, Send, grown, sent, acted}
 use Rattle.edit_model.specs.Confined.{may_grow, may_send}
 use Rattle.edit_model.specs.Edit.{changed}
-use Rattle.edit_model.specs.Lawful.{IsPlaced}
+use Rattle.edit_model.specs.Valid.{IsPlaced}
 use Rattle.edit_model.specs.State.{State}
 use Rattle.edit_doc.specs.declared.Doc.TheInside.{Inside}
 use Rattle.edit_doc.specs.declared.command.Command.{Command}
 use Rattle.edit_doc.specs.Whole.{Whole, with_state}
 use Rattle.edit_doc.specs.Held.{Keeps}
 use Rattle.edit_doc.specs.History.{begun_forest, seen_trees, whole_of}
-use Rattle.edit_doc.specs.Sound.{IsIdle, OpenSound, IsSound}
+use Rattle.edit_doc.specs.Sound.{IsIdle, OpenSound, IsSoundDoc}
 use Rattle.edit_doc.proofs.Inner.{seen, Ok}
 
 -- points with the same names
@@ -36,8 +36,8 @@ open_other a points c g Closed selection scratch marks none idle = record {
   host = idle.host;
   keeping = idle.keeping;
   named = idle.named;
-  left = idle.left;
-  left_before = idle.left_before;
+  detached = idle.detached;
+  detached_before = idle.detached_before;
   scratch = none refl;
 }
 open_other a points c g (Begun xs) selection scratch marks none runs = runs
@@ -51,9 +51,9 @@ module _ (d : Inside) (ok : Ok d) (selection scratch : Option Pair) (marks : Lis
       IsPlaced (seen_trees d.log d.command.start d.arena.trees) points →
       length overrides ≡ 32 →
       (d.log.open_entry ≡ Closed → scratch ≡ None) →
-      IsSound d.arena points overrides flags d.counts d.command d.log d.undo_sides.items d.redo_sides.items d.undo_sides.capacity d.redo_sides.capacity
+      IsSoundDoc d.arena points overrides flags d.counts d.command d.log d.undo_sides.items d.redo_sides.items d.undo_sides.capacity d.redo_sides.capacity
   other_ok placed settings none = record {
-    lawful = record { forest = ok.lawful.forest; placed = placed; started = ok.lawful.started; settings = settings };
+    valid = record { forest = ok.valid.forest; placed = placed; started = ok.valid.started; settings = settings };
     some_label = ok.some_label;
     nodes = ok.nodes;
     chars = ok.chars;

@@ -4,9 +4,9 @@ use Rattle.std.specs.Prelude.{IsTrue, nat_le}
 use Rattle.undo_log.specs.declared.Committed.TheVariants.{Nothing, Entry as Made}
 use Rattle.dom_model.specs.Document.{node_count, char_count, page_depth}
 use Rattle.dom_model.specs.Forest.{count_of}
-use Rattle.dom_model.specs.Shed.{shed, IsWhole}
-use Rattle.dom_model.specs.State.{State as Arena, IsLawful as IsArena}
-use Rattle.dom_model.proofs.Shedding.{count_of-shed}
+use Rattle.dom_model.specs.Pruned.{pruned, IsWhole}
+use Rattle.dom_model.specs.ArenaState.{ArenaState as Arena, IsValid as IsArena}
+use Rattle.dom_model.proofs.Pruning.{count_of-pruned}
 use Rattle.node_arena.specs.Held.{DropsMade}
 use Rattle.live_range.specs.declared.places.Places.{Places}
 use Rattle.live_range.specs.LivePoints.{LivePoints}
@@ -16,20 +16,20 @@ use Rattle.undo_log.specs.Log.Open.{Closed, Begun, Resumed}
 use Rattle.undo_log.proofs.Lists.{append-nil}
 use Rattle.edit_steps.specs.declared.step.Step.{Step}
 use Rattle.edit_model.specs.State.{State}
-use Rattle.edit_model.specs.Lawful.{IsPlaced}
+use Rattle.edit_model.specs.Valid.{IsPlaced}
 use Rattle.edit_model.specs.History.{document_of, rested, recorded}
 use Rattle.edit_doc.specs.declared.Doc.TheInside.{Inside}
-use Rattle.edit_doc.specs.declared.command.Beside.{Beside}
+use Rattle.edit_doc.specs.declared.command.EntrySnapshot.{EntrySnapshot}
 use Rattle.edit_doc.specs.declared.command.Command.{Command}
 use Rattle.edit_doc.specs.Fields.{IsEnded, Forgets, AreResting}
 use Rattle.edit_doc.specs.Whole.{Whole, history_committed, committed_history}
 use Rattle.edit_doc.specs.Held.{KeepsThere}
 use Rattle.edit_doc.specs.History.{edits_before, begun_forest, is_hidden, seen_trees, state_of, begun_state, began_with, history_of, whole_of}
-use Rattle.edit_doc.specs.Sound.{IsSound}
-use Rattle.edit_doc.proofs.HiddenTrees.{false_le, document-shed, placed-shed, placed-whole, node_count-shed, char_count-shed, page_depth-shed}
+use Rattle.edit_doc.specs.Sound.{IsSoundDoc}
+use Rattle.edit_doc.proofs.HiddenTrees.{false_le, document-pruned, placed-pruned, placed-whole, node_count-pruned, char_count-pruned, page_depth-pruned}
 use Rattle.edit_doc.proofs.Inner.{seen, Ok}
 use Rattle.edit_doc.proofs.Rests.{AtRest, rest_sound, rest_state, none_noted, arena_forest}
-use Rattle.edit_doc.proofs.Rolls.{whole_g, sheds_g, Without, without_rest, without_needed, without_history}
+use Rattle.edit_doc.proofs.Rolls.{whole_g, prunes_g, Without, without_rest, without_needed, without_history}
 use Rattle.edit_doc.proofs.MadeNodes.{no_edits, count_edits}
 
 -- ---- whether a step was noted
@@ -67,12 +67,12 @@ module _ (d : Inside) (law : IsArena d.arena) (ok : Ok d) (opened : IsTrue (is_o
   -- the points stand in the document, without the scratch pair too
   pub placed_now : IsPlaced d.arena.trees rested_points
   placed_now =
-      let h = placed-whole d.arena.trees d.arena.next (arena_forest d.arena law) (is_hidden (begun_forest d.log d.arena.trees) d.command.start) refl d.points ok.lawful.placed in
+      let h = placed-whole d.arena.trees d.arena.next (arena_forest d.arena law) (is_hidden (begun_forest d.log d.arena.trees) d.command.start) refl d.points ok.valid.placed in
       let own : IsPlaced d.arena.trees (record d.points { scratch = None }) = record { selection = h.selection; scratch = tt; marks = h.marks } in
       subst (IsPlaced d.arena.trees) (sym resting.shown) own
 
   pub document_now : document_of (seen_trees d.log d.command.start d.arena.trees) ≡ document_of d.arena.trees
-  document_now = document-shed d.arena.trees d.arena.next (arena_forest d.arena law) (is_hidden (begun_forest d.log d.arena.trees) d.command.start) refl
+  document_now = document-pruned d.arena.trees d.arena.next (arena_forest d.arena law) (is_hidden (begun_forest d.log d.arena.trees) d.command.start) refl
 
   module _ (nothing : noted d.log.open_entry ≡ []) where
     same_forest : begun_forest d.log d.arena.trees ≡ d.arena.trees
@@ -84,12 +84,12 @@ module _ (d : Inside) (law : IsArena d.arena) (ok : Ok d) (opened : IsTrue (is_o
     pub nothing_whole : IsWhole k d.arena.trees
     nothing_whole = subst (IsWhole k) same_forest (whole_g d law ok opened)
 
-    module _ (a : Arena) (drops : DropsMade d.arena a d.command.start) (lawful : IsArena a) (us : List Beside) (forgets : Forgets d.undo_sides.items us d.command) (c : Command) (ended : IsEnded a.next c) where
-      left_out : Without d law ok opened a
-      left_out = record {
-        lawful = lawful;
-        trees = drops.trees ∙ ap (shed k) (sym same_forest);
-        next = (let n = drops.next in let s = ok.lawful.started in omega (arith, n, s));
+    module _ (a : Arena) (drops : DropsMade d.arena a d.command.start) (valid : IsArena a) (us : List EntrySnapshot) (forgets : Forgets d.undo_sides.items us d.command) (c : Command) (ended : IsEnded a.next c) where
+      detached_out : Without d law ok opened a
+      detached_out = record {
+        valid = valid;
+        trees = drops.trees ∙ ap (pruned k) (sym same_forest);
+        next = (let n = drops.next in let s = ok.valid.started in omega (arith, n, s));
         cap = drops.cap;
         held = λ q h low. (drops.held q).1 (h, low);
       }
@@ -97,26 +97,26 @@ module _ (d : Inside) (law : IsArena d.arena) (ok : Ok d) (opened : IsTrue (is_o
       abbrev log' : Log Step
       log' = record d.log { open_entry = Closed }
 
-      sheds : k 0 ≡ false
-      sheds = (sheds_g d law ok opened).document
+      prunes : k 0 ≡ false
+      prunes = (prunes_g d law ok opened).document
 
       ends : AtRest a rested_points d.overrides.items d.flags d.counts c log' us d.redo_sides.items d.undo_sides.capacity d.redo_sides.capacity
       ends =
           let f = arena_forest d.arena law in
-          without_rest d law ok opened a left_out us forgets c ended log' refl refl refl refl refl rested_points d.overrides.items d.flags d.counts
+          without_rest d law ok opened a detached_out us forgets c ended log' refl refl refl refl refl rested_points d.overrides.items d.flags d.counts
           refl resting.resting
-          (subst (λ t. IsPlaced t rested_points) (sym drops.trees) (placed-shed d.arena.trees d.arena.next f k sheds rested_points placed_now))
-          ok.lawful.settings
-          (ok.nodes ∙ (sym (node_count-shed d.arena.trees d.arena.next f k sheds) ∙ ap node_count (sym drops.trees)))
-          (ok.chars ∙ (sym (char_count-shed d.arena.trees d.arena.next f k sheds) ∙ ap char_count (sym drops.trees)))
-          (subst (λ n. n ≤ d.counts.depth) (sym (page_depth-shed d.arena.trees d.arena.next f k sheds) ∙ ap page_depth (sym drops.trees)) ok.depth)
+          (subst (λ t. IsPlaced t rested_points) (sym drops.trees) (placed-pruned d.arena.trees d.arena.next f k prunes rested_points placed_now))
+          ok.valid.settings
+          (ok.nodes ∙ (sym (node_count-pruned d.arena.trees d.arena.next f k prunes) ∙ ap node_count (sym drops.trees)))
+          (ok.chars ∙ (sym (char_count-pruned d.arena.trees d.arena.next f k prunes) ∙ ap char_count (sym drops.trees)))
+          (subst (λ n. n ≤ d.counts.depth) (sym (page_depth-pruned d.arena.trees d.arena.next f k prunes) ∙ ap page_depth (sym drops.trees)) ok.depth)
 
-      pub nothing_ok : IsSound a rested_points d.overrides.items d.flags d.counts c log' us d.redo_sides.items d.undo_sides.capacity d.redo_sides.capacity
+      pub nothing_ok : IsSoundDoc a rested_points d.overrides.items d.flags d.counts c log' us d.redo_sides.items d.undo_sides.capacity d.redo_sides.capacity
       nothing_ok = rest_sound a rested_points d.overrides.items d.flags d.counts c log' us d.redo_sides.items d.undo_sides.capacity d.redo_sides.capacity ends
-          (without_needed d law ok opened a left_out us forgets c ended log' refl refl refl refl refl)
+          (without_needed d law ok opened a detached_out us forgets c ended log' refl refl refl refl refl)
 
       document_is : document_of a.trees ≡ document_of (seen_trees d.log d.command.start d.arena.trees)
-      document_is = ap document_of drops.trees ∙ (document-shed d.arena.trees d.arena.next (arena_forest d.arena law) k sheds ∙ sym document_now)
+      document_is = ap document_of drops.trees ∙ (document-pruned d.arena.trees d.arena.next (arena_forest d.arena law) k prunes ∙ sym document_now)
 
       pub nothing_state : (v : Whole) → seen d ≡ v → state_of a rested_points d.overrides.items d.flags c log' ≡ rested v.state
       unfolding rested
@@ -141,19 +141,19 @@ module _ (d : Inside) (law : IsArena d.arena) (ok : Ok d) (opened : IsTrue (is_o
       unfolding history_committed
       nothing_history v sees =
           ap (λ f. history_of d.points.names f log' us d.redo_sides.items) (none_noted log' a.trees refl)
-          ∙ (without_history d law ok opened a left_out us forgets c ended log' refl refl refl refl refl d.points.names refl
+          ∙ (without_history d law ok opened a detached_out us forgets c ended log' refl refl refl refl refl d.points.names refl
           ∙ (nothing_recorded (begun_state d.arena d.points.names d.command d.log) d.log.open_entry (seen d) (ap (λ ys. edits_before ys d.arena.trees) nothing ∙ no_edits d.arena.trees) ∙ ap history_committed sees))
 
       abbrev nothing_doc : Whole
       nothing_doc = whole_of a rested_points d.overrides.items d.flags c log' us d.redo_sides.items
 
-      by_left : (l : ℕ) → 0 < count_of a.trees l → l < d.command.start
-      by_left l here = false_le d.command.start l ((sheds_g d law ok opened).out l (subst (λ t. 0 < count_of t l) left_out.trees here))
+      by_detached : (l : ℕ) → 0 < count_of a.trees l → l < d.command.start
+      by_detached l here = false_le d.command.start l ((prunes_g d law ok opened).out l (subst (λ t. 0 < count_of t l) detached_out.trees here))
 
       pub nothing_keeps : (v : Whole) → seen d ≡ v → KeepsThere v nothing_doc
       nothing_keeps v sees =
           let own : KeepsThere (seen d) nothing_doc = (λ r h there. record {
-            slot = left_out.held r h.slot (by_left r.label (let le = count_of-shed (is_hidden (begun_forest log' a.trees) c.start) a.trees r.label in omega (arith, le, there)));
+            slot = detached_out.held r h.slot (by_detached r.label (let le = count_of-pruned (is_hidden (begun_forest log' a.trees) c.start) a.trees r.label in omega (arith, le, there)));
             here = there;
           }) in
           subst (λ (w : Whole). KeepsThere w nothing_doc) sees own

@@ -5,7 +5,7 @@ use Rattle.std.proofs.lemmas.Bool.Decides.{eqb_tells}
 use Rattle.std.specs.Option.{option_map_or}
 use Rattle.dom_model.specs.Editing.{is_editable}
 use Rattle.dom_model.specs.Forest.{is_label}
-use Rattle.dom_model.specs.State.{IsLawful as IsArena}
+use Rattle.dom_model.specs.ArenaState.{IsValid as IsArena}
 use Rattle.node_arena.specs.declared.NodeRef.{NodeRef}
 use Rattle.edit_model.specs.Confined.{is_editable_for, is_inside, is_made, is_open, is_own}
 use Rattle.edit_model.specs.Gives.{label_of}
@@ -15,11 +15,11 @@ use Rattle.edit_doc.specs.Held.{Holds}
 use Rattle.edit_doc.proofs.Inner.{seen}
 use Rattle.edit_doc.proofs.SeenNodes.{editable_seen}
 
-or_turned : (a b : Bool) → (a || b) ≡ (b || a)
-or_turned true true = refl
-or_turned true false = refl
-or_turned false true = refl
-or_turned false false = refl
+or_inverse : (a b : Bool) → (a || b) ≡ (b || a)
+or_inverse true true = refl
+or_inverse true false = refl
+or_inverse false true = refl
+or_inverse false false = refl
 
 pub same_label : (n l : ℕ) → n ≡ l → eqb n l ≡ true
 same_label n l e = elim (eqb_tells n l) [ inl (t, _) ↦ t | inr (_, ne) ↦ absurd (ne e) ]
@@ -58,16 +58,16 @@ module _ (d : Inside) (v : Whole) (is : seen d ≡ v) where
 
 pub open_made : (v : Whole) (l : ℕ) → is_made v.state l ≡ true → is_open v.state l ≡ true
 unfolding is_open
-open_made v l e = or_turned (is_inside v.state l) (is_made v.state l) ∙ ap (λ b. b || is_inside v.state l) e
+open_made v l e = or_inverse (is_inside v.state l) (is_made v.state l) ∙ ap (λ b. b || is_inside v.state l) e
 
 pub open_other : (v : Whole) (l : ℕ) → is_made v.state l ≡ false → is_open v.state l ≡ is_inside v.state l
 unfolding is_open
-open_other v l e = or_turned (is_inside v.state l) (is_made v.state l) ∙ ap (λ b. b || is_inside v.state l) e
+open_other v l e = or_inverse (is_inside v.state l) (is_made v.state l) ∙ ap (λ b. b || is_inside v.state l) e
 
 pub own_made : (v : Whole) (l : ℕ) → is_made v.state l ≡ true → is_own v.state l ≡ true
 unfolding is_own
-own_made v l e = or_turned (is_editable_for v.state l) (is_made v.state l) ∙ ap (λ b. b || is_editable_for v.state l) e
+own_made v l e = or_inverse (is_editable_for v.state l) (is_made v.state l) ∙ ap (λ b. b || is_editable_for v.state l) e
 
 pub own_other : (v : Whole) (l : ℕ) → is_made v.state l ≡ false → is_own v.state l ≡ is_editable_for v.state l
 unfolding is_own
-own_other v l e = or_turned (is_editable_for v.state l) (is_made v.state l) ∙ ap (λ b. b || is_editable_for v.state l) e
+own_other v l e = or_inverse (is_editable_for v.state l) (is_made v.state l) ∙ ap (λ b. b || is_editable_for v.state l) e

@@ -6,7 +6,7 @@ use Rattle.dom_model.specs.Forest.{Forest, total, count_of, tree_of, parent_of, 
 use Rattle.dom_model.specs.Forest.Forest.{Nil, Tree}
 use Rattle.dom_model.proofs.DropTree.{without_absent}
 use Rattle.dom_model.proofs.Totals.{total-without, total-put_under}
-use Rattle.edit_model.specs.Lawful.{IsForest}
+use Rattle.edit_model.specs.Valid.{IsForest}
 use Rattle.edit_model.proofs.Documents.{document-link, document-unlink}
 use Rattle.edit_model.proofs.Trees.{tree_of-inside}
 

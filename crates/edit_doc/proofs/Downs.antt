@@ -2,13 +2,13 @@
 use Rattle.std.proofs.Common.{◌≡◌, ℕ, ◌<◌, ◌≤◌, Bool, false, List, [], ◌∷◌, map, Option, None, refl, sym, ap, subst, ◌∙◌, arith}
 use Rattle.dom_model.specs.declared.Content.{Content}
 use Rattle.dom_model.specs.Forest.{Forest, count_of, tree_of, parent_of, first_in, IsDistinct}
-use Rattle.dom_model.specs.Shed.{shed}
-use Rattle.dom_model.proofs.Shedding.{count_of-shed, tree_of-shed, parent_of-shed, children_of-shed}
+use Rattle.dom_model.specs.Pruned.{pruned}
+use Rattle.dom_model.proofs.Pruning.{count_of-pruned, tree_of-pruned, parent_of-pruned, children_of-pruned}
 use Rattle.dom_model.proofs.Stands.{times-tops}
 use Rattle.undo_log.specs.Turning.{back, forth, inverses_back, inverses_forth, FitsBack, FitsForth}
-use Rattle.forest_changes.specs.Change.{Change, IsForest, Fits, applied, turned}
+use Rattle.forest_changes.specs.Change.{Change, IsForest, Fits, applied, inverse}
 use Rattle.forest_changes.specs.Named.{Each, named_in}
-use Rattle.forest_changes.specs.Down.{Sheds, IsLeft, GoBackDown, GoForthDown}
+use Rattle.forest_changes.specs.Down.{Prunes, IsLeft, GoBackDown, GoForthDown}
 use Rattle.forest_changes.proofs.ChangeLists.{each_of, each_first, each_rest, each_join, back_down, forth_down}
 use Rattle.forest_changes.proofs.Twice.{count_of-applied, IsForest-applied}
 use Rattle.edit_steps.specs.declared.step.Step.{Step}
@@ -19,12 +19,12 @@ use Rattle.live_range.specs.declared.places.Places.{Places}
 use Rattle.live_range.specs.Names.{shown, named, marks_of}
 use Rattle.edit_model.specs.Gives.{labels_of}
 use Rattle.edit_model.specs.History.{used}
-use Rattle.edit_doc.specs.declared.command.Beside.{Beside}
+use Rattle.edit_doc.specs.declared.command.EntrySnapshot.{EntrySnapshot}
 use Rattle.edit_doc.specs.declared.command.Command.{Command}
 use Rattle.edit_doc.specs.History.{forest_before, forest_after, edits_before, roots_from, is_hidden, view_at, undo_entries, redo_entries}
-use Rattle.edit_doc.specs.Sound.{RefIn, EachHeldIn, IsSide, AreFresh, IsOff, IsBeside, left_of, next_first, UndoSound, RedoSound}
-use Rattle.edit_doc.proofs.HiddenTrees.{hidden_is, is_hidden_from, shed_more, both_left, tops_left, tops_stay, loose_left, model_forest, document-shed, placed-shed, node_count-shed, char_count-shed, page_depth-shed}
-use Rattle.edit_doc.proofs.MadeNodes.{listed_has, used-shed}
+use Rattle.edit_doc.specs.Sound.{RefIn, EachHeldIn, IsSide, AreFresh, IsOff, IsSnapshot, detached_of, next_first, UndoSound, RedoSound}
+use Rattle.edit_doc.proofs.HiddenTrees.{hidden_is, is_hidden_from, pruned_more, both_detached, tops_detached, tops_stay, loose_detached, model_forest, document-pruned, placed-pruned, node_count-pruned, char_count-pruned, page_depth-pruned}
+use Rattle.edit_doc.proofs.MadeNodes.{listed_has, used-pruned}
 
 -- ---- steps keep a forest and its labels
 
@@ -65,63 +65,63 @@ back_bounded_from e f h b = record { next = b.next; below = λ l here. b.below l
 
 -- ---- one entry
 
-pub side-shed : (k : ℕ → Bool) → k 0 ≡ false → (names : List (List ℕ)) (f : Forest Content) (p : Places) (nodes chars depth : ℕ) → IsForest f → Bounded f → IsSide names f p nodes chars depth → IsSide names (shed k f) p nodes chars depth
-side-shed k keeps names f p nodes chars depth is b h =
+pub side-pruned : (k : ℕ → Bool) → k 0 ≡ false → (names : List (List ℕ)) (f : Forest Content) (p : Places) (nodes chars depth : ℕ) → IsForest f → Bounded f → IsSide names f p nodes chars depth → IsSide names (pruned k f) p nodes chars depth
+side-pruned k keeps names f p nodes chars depth is b h =
     let m = model_forest f is b.next b.below in
     record {
       over = h.over;
-      placed = placed-shed f b.next m k keeps (shown names p) h.placed;
+      placed = placed-pruned f b.next m k keeps (shown names p) h.placed;
       resting = h.resting;
-      nodes_are = h.nodes_are ∙ sym (node_count-shed f b.next m k keeps);
-      chars_are = h.chars_are ∙ sym (char_count-shed f b.next m k keeps);
-      no_deeper = subst (λ n. n ≤ depth) (sym (page_depth-shed f b.next m k keeps)) h.no_deeper;
+      nodes_are = h.nodes_are ∙ sym (node_count-pruned f b.next m k keeps);
+      chars_are = h.chars_are ∙ sym (char_count-pruned f b.next m k keeps);
+      no_deeper = subst (λ n. n ≤ depth) (sym (page_depth-pruned f b.next m k keeps)) h.no_deeper;
     }
 
 -- what is seen beside hidden trees is seen when some trees go
-seen_left : (k : ℕ → Bool) (before f : Forest Content) (first l : ℕ) → IsDistinct f → IsLeft k f l → IsLeft (is_hidden before first) f l → IsLeft (is_hidden (shed k before) first) (shed k f) l
-seen_left k before f first l once a b =
-    let both = both_left k (is_hidden before first) f l once a b in
-    let more = shed_more (is_hidden before first) (is_hidden (shed k before) first) (shed k f) l
-    (λ m e. (let h = hidden_is (shed k before) first m e in is_hidden_from before first m (record { inner = h.inner; old = h.old; root = (tops_left k before m h.root).0 }))) in
+seen_detached : (k : ℕ → Bool) (before f : Forest Content) (first l : ℕ) → IsDistinct f → IsLeft k f l → IsLeft (is_hidden before first) f l → IsLeft (is_hidden (pruned k before) first) (pruned k f) l
+seen_detached k before f first l once a b =
+    let both = both_detached k (is_hidden before first) f l once a b in
+    let more = pruned_more (is_hidden before first) (is_hidden (pruned k before) first) (pruned k f) l
+    (λ m e. (let h = hidden_is (pruned k before) first m e in is_hidden_from before first m (record { inner = h.inner; old = h.old; root = (tops_detached k before m h.root).0 }))) in
     omega arith
 
 pub each_both : {A : Type 0} (P Q R : A → Type 0) (ls : List A) → ((l : A) → P l → Q l → R l) → Each P ls → Each Q ls → Each R ls
 each_both P Q R [] f a b = tt
 each_both P Q R (l ∷ ls) f a b = (f l a.0 b.0, each_both P Q R ls f a.1 b.1)
 
-fresh-shed : (k : ℕ → Bool) (f : Forest Content) (first : ℕ) → IsDistinct f → AreFresh f first → AreFresh (shed k f) first
-fresh-shed k f first once h = record {
-  loose = λ l from here. parent_of-shed k f l once here ∙ h.loose l from (omega (arith, here, count_of-shed k f l));
-  leaf = λ l from here. ap first_in (children_of-shed k f l once here) ∙ h.leaf l from (omega (arith, here, count_of-shed k f l));
+fresh-pruned : (k : ℕ → Bool) (f : Forest Content) (first : ℕ) → IsDistinct f → AreFresh f first → AreFresh (pruned k f) first
+fresh-pruned k f first once h = record {
+  loose = λ l from here. parent_of-pruned k f l once here ∙ h.loose l from (omega (arith, here, count_of-pruned k f l));
+  leaf = λ l from here. ap first_in (children_of-pruned k f l once here) ∙ h.leaf l from (omega (arith, here, count_of-pruned k f l));
 }
 
-beside-shed : (k : ℕ → Bool) → k 0 ≡ false → (names : List (List ℕ)) (before after : Forest Content) (e : List Step) (ts : List Change) (b : Beside) (left : List NodeRef) (high start : ℕ) →
+snapshot-pruned : (k : ℕ → Bool) → k 0 ≡ false → (names : List (List ℕ)) (before after : Forest Content) (e : List Step) (ts : List Change) (b : EntrySnapshot) (detached : List NodeRef) (high start : ℕ) →
     IsForest before → Bounded before → IsForest after → Bounded after →
     Each (IsLeft k before) (named_in (changes_of e)) → Each (IsLeft k after) (named_in (changes_of e)) →
-    IsBeside names before after e ts b left high start → IsBeside names (shed k before) (shed k after) e ts b left high start
-beside-shed k keeps names before after e ts b left high start is bound is' bound' seen there h = record {
-  was = side-shed k keeps names before b.sides.before b.sides.nodes_before b.sides.chars_before b.sides.depth_before is bound h.was;
-  is = side-shed k keeps names after b.sides.after b.sides.nodes_after b.sides.chars_after b.sides.depth_after is' bound' h.is;
+    IsSnapshot names before after e ts b detached high start → IsSnapshot names (pruned k before) (pruned k after) e ts b detached high start
+snapshot-pruned k keeps names before after e ts b detached high start is bound is' bound' seen there h = record {
+  was = side-pruned k keeps names before b.sides.before b.sides.nodes_before b.sides.chars_before b.sides.depth_before is bound h.was;
+  is = side-pruned k keeps names after b.sides.after b.sides.nodes_after b.sides.chars_after b.sides.depth_after is' bound' h.is;
   some_label = h.some_label;
-  fresh = fresh-shed k before b.sides.first_label is.distinct h.fresh;
+  fresh = fresh-pruned k before b.sides.first_label is.distinct h.fresh;
   drawn = h.drawn;
   known = h.known;
   hidden = λ l t. (
-      let u = hidden_is (shed k before) b.sides.first_label l t in
-      let w = tops_left k before l u.root in
+      let u = hidden_is (pruned k before) b.sides.first_label l t in
+      let w = tops_detached k before l u.root in
       let x = h.hidden l (is_hidden_from before b.sides.first_label l (record { inner = u.inner; old = u.old; root = w.0 })) in
       let y = tops_stay k after l w.1 in
       omega arith);
-  names_seen = each_both (IsLeft k before) (IsLeft (is_hidden before b.sides.first_label) before) (IsLeft (is_hidden (shed k before) b.sides.first_label) (shed k before)) (named_in (changes_of e)) (λ l. seen_left k before before b.sides.first_label l is.distinct) seen h.names_seen;
-  names_there = each_both (IsLeft k after) (IsLeft (is_hidden before b.sides.first_label) after) (IsLeft (is_hidden (shed k before) b.sides.first_label) (shed k after)) (named_in (changes_of e)) (λ l. seen_left k before after b.sides.first_label l is'.distinct) there h.names_there;
+  names_seen = each_both (IsLeft k before) (IsLeft (is_hidden before b.sides.first_label) before) (IsLeft (is_hidden (pruned k before) b.sides.first_label) (pruned k before)) (named_in (changes_of e)) (λ l. seen_detached k before before b.sides.first_label l is.distinct) seen h.names_seen;
+  names_there = each_both (IsLeft k after) (IsLeft (is_hidden before b.sides.first_label) after) (IsLeft (is_hidden (pruned k before) b.sides.first_label) (pruned k after)) (named_in (changes_of e)) (λ l. seen_detached k before after b.sides.first_label l is'.distinct) there h.names_there;
   names_old = h.names_old;
   turns_old = h.turns_old;
-  left_loose = each_of (λ l. (0 < l) × ((l < high) × (parent_of after l ≡ None))) (λ l. (0 < l) × ((l < high) × (parent_of (shed k after) l ≡ None))) (labels_of left) (λ l t. (t.0, (t.1.0, loose_left k after l is'.distinct t.1.1))) h.left_loose;
-  left_all = λ l inner top out. (
-      let was = tops_left k after l top in
-      let same : tree_of (shed k after) l ≡ tree_of after l = tree_of-shed k after l is'.distinct (omega (arith, top, times-tops (shed k after) l)) in
-      let off : (ls : List ℕ) → Each (IsOff after l) ls → Each (IsOff (shed k after) l) ls = λ ls t. subst (λ g. Each (λ m. count_of g m ≡ 0) ls) (sym same) t in
-      h.left_all l inner was.0 (λ a b. out (off (named_in (changes_of e)) a) (off (named_in ts) b)));
+  detached_loose = each_of (λ l. (0 < l) × ((l < high) × (parent_of after l ≡ None))) (λ l. (0 < l) × ((l < high) × (parent_of (pruned k after) l ≡ None))) (labels_of detached) (λ l t. (t.0, (t.1.0, loose_detached k after l is'.distinct t.1.1))) h.detached_loose;
+  detached_all = λ l inner top out. (
+      let was = tops_detached k after l top in
+      let same : tree_of (pruned k after) l ≡ tree_of after l = tree_of-pruned k after l is'.distinct (omega (arith, top, times-tops (pruned k after) l)) in
+      let off : (ls : List ℕ) → Each (IsOff after l) ls → Each (IsOff (pruned k after) l) ls = λ ls t. subst (λ g. Each (λ m. count_of g m ≡ 0) ls) (sym same) t in
+      h.detached_all l inner was.0 (λ a b. out (off (named_in (changes_of e)) a) (off (named_in ts) b)));
 }
 
 -- ---- nodes that stay held
@@ -141,8 +141,8 @@ labels_in P (x ∷ xs) h =
     (each_label P (nodes_of x) (subst (Each P) (sym (named_labels x)) (each_first P _ (named_in (changes_of xs)) h)))
     (labels_in P xs (each_rest P _ (named_in (changes_of xs)) h))
 
-pub held_left : (k : ℕ → Bool) (f : Forest Content) (old new : List (Option ℕ)) → KeepsLeft k f old new → (xs : List Step) → Each (IsLeft k f) (named_in (changes_of xs)) → EachHeldIn old xs → EachHeldIn new xs
-held_left k f old new keeps xs left held = each_both (RefIn old) (λ r. IsLeft k f r.label) (RefIn new) (nodes_in xs) (λ q a b. keeps q a b) held (labels_in (IsLeft k f) xs left)
+pub held_detached : (k : ℕ → Bool) (f : Forest Content) (old new : List (Option ℕ)) → KeepsLeft k f old new → (xs : List Step) → Each (IsLeft k f) (named_in (changes_of xs)) → EachHeldIn old xs → EachHeldIn new xs
+held_detached k f old new keeps xs detached held = each_both (RefIn old) (λ r. IsLeft k f r.label) (RefIn new) (nodes_in xs) (λ q a b. keeps q a b) held (labels_in (IsLeft k f) xs detached)
 
 -- ---- the history
 
@@ -152,80 +152,80 @@ module _ (k : ℕ → Bool) where
   EntriesLeft f [] = Unit {0}
   EntriesLeft f (e ∷ es) = Each (IsLeft k f) (named_in (changes_of e)) × EntriesLeft f es
 
-  pub entries_moved : (f g : Forest Content) → ((l : ℕ) → count_of (shed k g) l ≡ count_of (shed k f) l) → (es : List (List Step)) → EntriesLeft f es → EntriesLeft g es
+  pub entries_moved : (f g : Forest Content) → ((l : ℕ) → count_of (pruned k g) l ≡ count_of (pruned k f) l) → (es : List (List Step)) → EntriesLeft f es → EntriesLeft g es
   entries_moved f g same [] h = tt
   entries_moved f g same (e ∷ es) h = (each_of (IsLeft k f) (IsLeft k g) (named_in (changes_of e)) (λ l t. (let s = same l in omega arith)) h.0, entries_moved f g same es h.1)
 
-  keeps_moved : (f g : Forest Content) → ((l : ℕ) → count_of (shed k g) l ≡ count_of (shed k f) l) → (old new : List (Option ℕ)) → KeepsLeft k f old new → KeepsLeft k g old new
-  keeps_moved f g same old new keeps q h left = keeps q h (let s = same q.label in omega arith)
+  keeps_moved : (f g : Forest Content) → ((l : ℕ) → count_of (pruned k g) l ≡ count_of (pruned k f) l) → (old new : List (Option ℕ)) → KeepsLeft k f old new → KeepsLeft k g old new
+  keeps_moved f g same old new keeps q h detached = keeps q h (let s = same q.label in omega arith)
 
   module _ (old new : List (Option ℕ)) (names : List (List ℕ)) (c : Command) where
-    pub undo-shed : (r : Bool) (high : ℕ) (f : Forest Content) (es : List (List Step)) (bs : List Beside) → Sheds k f → IsForest f → Bounded f → KeepsLeft k f old new → EntriesLeft f es → UndoSound old names r c high f es bs → UndoSound new names r c high (shed k f) es bs
-    undo-shed r high f [] [] sheds is bound keeps left h = tt
-    undo-shed r high f [] (b ∷ bs) sheds is bound keeps left h = absurd h
-    undo-shed r high f (e ∷ es) [] sheds is bound keeps left h = absurd h
-    undo-shed r high f (e ∷ es) (b ∷ bs) sheds is bound keeps left h =
+    pub undo-pruned : (r : Bool) (high : ℕ) (f : Forest Content) (es : List (List Step)) (bs : List EntrySnapshot) → Prunes k f → IsForest f → Bounded f → KeepsLeft k f old new → EntriesLeft f es → UndoSound old names r c high f es bs → UndoSound new names r c high (pruned k f) es bs
+    undo-pruned r high f [] [] prunes is bound keeps detached h = tt
+    undo-pruned r high f [] (b ∷ bs) prunes is bound keeps detached h = absurd h
+    undo-pruned r high f (e ∷ es) [] prunes is bound keeps detached h = absurd h
+    undo-pruned r high f (e ∷ es) (b ∷ bs) prunes is bound keeps detached h =
         let g = forest_before e f in
-        let d : GoBackDown k (changes_of e) f = back_down k (changes_of e) f sheds h.0.0 left.0 in
+        let d : GoBackDown k (changes_of e) f = back_down k (changes_of e) f prunes h.0.0 detached.0 in
         let is' = back_forest (changes_of e) f h.0.0 is in
         let bound' = back_bounded e f h.0.0 bound in
-        let seen = each_of (IsLeft k f) (IsLeft k g) (named_in (changes_of e)) (λ l t. (let s = d.stays l in omega arith)) left.0 in
-        let own = beside-shed k sheds.document names g f e (inverses_back applied turned (changes_of e) f) b (left_of r c b) high c.start is' bound' is bound seen left.0 h.1.0 in
-        let rest = undo-shed false b.sides.first_label g es bs d.sheds is' bound' (keeps_moved f g d.stays old new keeps) (entries_moved f g d.stays es left.1) h.1.1 in (
-          (d.fits, held_left k f old new keeps e left.0 h.0.1),
+        let seen = each_of (IsLeft k f) (IsLeft k g) (named_in (changes_of e)) (λ l t. (let s = d.stays l in omega arith)) detached.0 in
+        let own = snapshot-pruned k prunes.document names g f e (inverses_back applied inverse (changes_of e) f) b (detached_of r c b) high c.start is' bound' is bound seen detached.0 h.1.0 in
+        let rest = undo-pruned false b.sides.first_label g es bs d.prunes is' bound' (keeps_moved f g d.stays old new keeps) (entries_moved f g d.stays es detached.1) h.1.1 in (
+          (d.fits, held_detached k f old new keeps e detached.0 h.0.1),
           (
-            subst (λ t. IsBeside names t (shed k f) e (inverses_back applied turned (changes_of e) (shed k f)) b (left_of r c b) high c.start) d.same (subst (λ ts. IsBeside names (shed k g) (shed k f) e ts b (left_of r c b) high c.start) (sym d.turns) own),
+            subst (λ t. IsSnapshot names t (pruned k f) e (inverses_back applied inverse (changes_of e) (pruned k f)) b (detached_of r c b) high c.start) d.same (subst (λ ts. IsSnapshot names (pruned k g) (pruned k f) e ts b (detached_of r c b) high c.start) (sym d.turns) own),
             subst (λ t. UndoSound new names false c b.sides.first_label t es bs) d.same rest,
           ),
         )
 
-    pub redo-shed : (f : Forest Content) (es : List (List Step)) (bs : List Beside) → Sheds k f → IsForest f → Bounded f → KeepsLeft k f old new → EntriesLeft f es → RedoSound old names c f es bs → RedoSound new names c (shed k f) es bs
-    redo-shed f [] [] sheds is bound keeps left h = tt
-    redo-shed f [] (b ∷ bs) sheds is bound keeps left h = absurd h
-    redo-shed f (e ∷ es) [] sheds is bound keeps left h = absurd h
-    redo-shed f (e ∷ es) (b ∷ bs) sheds is bound keeps left h =
+    pub redo-pruned : (f : Forest Content) (es : List (List Step)) (bs : List EntrySnapshot) → Prunes k f → IsForest f → Bounded f → KeepsLeft k f old new → EntriesLeft f es → RedoSound old names c f es bs → RedoSound new names c (pruned k f) es bs
+    redo-pruned f [] [] prunes is bound keeps detached h = tt
+    redo-pruned f [] (b ∷ bs) prunes is bound keeps detached h = absurd h
+    redo-pruned f (e ∷ es) [] prunes is bound keeps detached h = absurd h
+    redo-pruned f (e ∷ es) (b ∷ bs) prunes is bound keeps detached h =
         let g = forest_after e f in
-        let d : GoForthDown k (changes_of e) f = forth_down k (changes_of e) f sheds h.0.0 left.0 in
+        let d : GoForthDown k (changes_of e) f = forth_down k (changes_of e) f prunes h.0.0 detached.0 in
         let is' = forth_forest (changes_of e) f h.0.0 is in
         let bound' = forth_bounded e f h.0.0 bound in
-        let there = each_of (IsLeft k f) (IsLeft k g) (named_in (changes_of e)) (λ l t. (let s = d.stays l in omega arith)) left.0 in
-        let own = beside-shed k sheds.document names f g e (inverses_forth applied turned (changes_of e) f) b b.left.items (next_first c.start bs) c.start is bound is' bound' left.0 there h.1.0 in
-        let rest = redo-shed g es bs d.sheds is' bound' (keeps_moved f g d.stays old new keeps) (entries_moved f g d.stays es left.1) h.1.1 in (
-          (d.fits, held_left k f old new keeps e left.0 h.0.1),
+        let there = each_of (IsLeft k f) (IsLeft k g) (named_in (changes_of e)) (λ l t. (let s = d.stays l in omega arith)) detached.0 in
+        let own = snapshot-pruned k prunes.document names f g e (inverses_forth applied inverse (changes_of e) f) b b.detached.items (next_first c.start bs) c.start is bound is' bound' detached.0 there h.1.0 in
+        let rest = redo-pruned g es bs d.prunes is' bound' (keeps_moved f g d.stays old new keeps) (entries_moved f g d.stays es detached.1) h.1.1 in (
+          (d.fits, held_detached k f old new keeps e detached.0 h.0.1),
           (
-            subst (λ t. IsBeside names (shed k f) t e (inverses_forth applied turned (changes_of e) (shed k f)) b b.left.items (next_first c.start bs) c.start) d.same (subst (λ ts. IsBeside names (shed k f) (shed k g) e ts b b.left.items (next_first c.start bs) c.start) (sym d.turns) own),
+            subst (λ t. IsSnapshot names (pruned k f) t e (inverses_forth applied inverse (changes_of e) (pruned k f)) b b.detached.items (next_first c.start bs) c.start) d.same (subst (λ ts. IsSnapshot names (pruned k f) (pruned k g) e ts b b.detached.items (next_first c.start bs) c.start) (sym d.turns) own),
             subst (λ t. RedoSound new names c t es bs) d.same rest,
           ),
         )
 
-    view-shed : (f : Forest Content) (p : Places) → Sheds k f → IsForest f → Bounded f → view_at names (shed k f) p ≡ view_at names f p
-    view-shed f p sheds is b = ap (λ t. record { document = t; selection = p.selection; marks = map (named names) (marks_of p) }) (document-shed f b.next (model_forest f is b.next b.below) k sheds.document)
+    view-pruned : (f : Forest Content) (p : Places) → Prunes k f → IsForest f → Bounded f → view_at names (pruned k f) p ≡ view_at names f p
+    view-pruned f p prunes is b = ap (λ t. record { document = t; selection = p.selection; marks = map (named names) (marks_of p) }) (document-pruned f b.next (model_forest f is b.next b.below) k prunes.document)
 
-    pub undo_entries-shed : (r : Bool) (high : ℕ) (f : Forest Content) (es : List (List Step)) (bs : List Beside) → Sheds k f → IsForest f → Bounded f → EntriesLeft f es → UndoSound old names r c high f es bs → undo_entries names (shed k f) es bs ≡ undo_entries names f es bs
-    undo_entries-shed r high f [] bs sheds is bound left h = refl
-    undo_entries-shed r high f (e ∷ es) [] sheds is bound left h = refl
-    undo_entries-shed r high f (e ∷ es) (b ∷ bs) sheds is bound left h =
+    pub undo_entries-pruned : (r : Bool) (high : ℕ) (f : Forest Content) (es : List (List Step)) (bs : List EntrySnapshot) → Prunes k f → IsForest f → Bounded f → EntriesLeft f es → UndoSound old names r c high f es bs → undo_entries names (pruned k f) es bs ≡ undo_entries names f es bs
+    undo_entries-pruned r high f [] bs prunes is bound detached h = refl
+    undo_entries-pruned r high f (e ∷ es) [] prunes is bound detached h = refl
+    undo_entries-pruned r high f (e ∷ es) (b ∷ bs) prunes is bound detached h =
         let g = forest_before e f in
-        let d : GoBackDown k (changes_of e) f = back_down k (changes_of e) f sheds h.0.0 left.0 in
+        let d : GoBackDown k (changes_of e) f = back_down k (changes_of e) f prunes h.0.0 detached.0 in
         let is' = back_forest (changes_of e) f h.0.0 is in
         let bound' = back_bounded e f h.0.0 bound in
-        let was = ap (λ t. view_at names t b.sides.before) (sym d.same) ∙ view-shed g b.sides.before d.sheds is' bound' in
-        let now = view-shed f b.sides.after sheds is bound in
+        let was = ap (λ t. view_at names t b.sides.before) (sym d.same) ∙ view-pruned g b.sides.before d.prunes is' bound' in
+        let now = view-pruned f b.sides.after prunes is bound in
         let used_is = (λ i. used (d.turns i) (roots_from b.sides.first_label (sym d.same i)))
-        ∙ used-shed k (edits_before e f) b.sides.first_label g (λ l t. d.sheds.out l (listed_has (IsLeft k g) (named_in (edits_before e f)) l (each_of (IsLeft k f) (IsLeft k g) (named_in (edits_before e f)) (λ m u. (let s = d.stays m in omega (arith, s, u))) d.names) t)) in
-        let rest = ap (λ t. undo_entries names t es bs) (sym d.same) ∙ undo_entries-shed false b.sides.first_label g es bs d.sheds is' bound' (entries_moved f g d.stays es left.1) h.1.1 in
+        ∙ used-pruned k (edits_before e f) b.sides.first_label g (λ l t. d.prunes.out l (listed_has (IsLeft k g) (named_in (edits_before e f)) l (each_of (IsLeft k f) (IsLeft k g) (named_in (edits_before e f)) (λ m u. (let s = d.stays m in omega (arith, s, u))) d.names) t)) in
+        let rest = ap (λ t. undo_entries names t es bs) (sym d.same) ∙ undo_entries-pruned false b.sides.first_label g es bs d.prunes is' bound' (entries_moved f g d.stays es detached.1) h.1.1 in
         λ i. record { before = was i; after = now i; edits = d.turns i; made = used_is i } ∷ rest i
 
-    pub redo_entries-shed : (f : Forest Content) (es : List (List Step)) (bs : List Beside) → Sheds k f → IsForest f → Bounded f → EntriesLeft f es → RedoSound old names c f es bs → redo_entries names (shed k f) es bs ≡ redo_entries names f es bs
-    redo_entries-shed f [] bs sheds is bound left h = refl
-    redo_entries-shed f (e ∷ es) [] sheds is bound left h = refl
-    redo_entries-shed f (e ∷ es) (b ∷ bs) sheds is bound left h =
+    pub redo_entries-pruned : (f : Forest Content) (es : List (List Step)) (bs : List EntrySnapshot) → Prunes k f → IsForest f → Bounded f → EntriesLeft f es → RedoSound old names c f es bs → redo_entries names (pruned k f) es bs ≡ redo_entries names f es bs
+    redo_entries-pruned f [] bs prunes is bound detached h = refl
+    redo_entries-pruned f (e ∷ es) [] prunes is bound detached h = refl
+    redo_entries-pruned f (e ∷ es) (b ∷ bs) prunes is bound detached h =
         let g = forest_after e f in
-        let d : GoForthDown k (changes_of e) f = forth_down k (changes_of e) f sheds h.0.0 left.0 in
+        let d : GoForthDown k (changes_of e) f = forth_down k (changes_of e) f prunes h.0.0 detached.0 in
         let is' = forth_forest (changes_of e) f h.0.0 is in
         let bound' = forth_bounded e f h.0.0 bound in
-        let now = ap (λ t. view_at names t b.sides.after) (sym d.same) ∙ view-shed g b.sides.after d.sheds is' bound' in
-        let was = view-shed f b.sides.before sheds is bound in
-        let used_is = used-shed k (changes_of e) b.sides.first_label f (λ l t. sheds.out l (listed_has (IsLeft k f) (named_in (changes_of e)) l left.0 t)) in
-        let rest = ap (λ t. redo_entries names t es bs) (sym d.same) ∙ redo_entries-shed g es bs d.sheds is' bound' (entries_moved f g d.stays es left.1) h.1.1 in
+        let now = ap (λ t. view_at names t b.sides.after) (sym d.same) ∙ view-pruned g b.sides.after d.prunes is' bound' in
+        let was = view-pruned f b.sides.before prunes is bound in
+        let used_is = used-pruned k (changes_of e) b.sides.first_label f (λ l t. prunes.out l (listed_has (IsLeft k f) (named_in (changes_of e)) l detached.0 t)) in
+        let rest = ap (λ t. redo_entries names t es bs) (sym d.same) ∙ redo_entries-pruned g es bs d.prunes is' bound' (entries_moved f g d.stays es detached.1) h.1.1 in
         λ i. record { before = was i; after = now i; edits = changes_of e; made = used_is i } ∷ rest i

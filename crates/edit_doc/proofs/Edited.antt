@@ -4,33 +4,33 @@ use Rattle.std.specs.Prelude.{IsTrue}
 use Rattle.dom_model.specs.declared.Content.{Content}
 use Rattle.dom_model.specs.Document.{node_count, char_count, page_depth}
 use Rattle.dom_model.specs.Forest.{Forest}
-use Rattle.dom_model.specs.Shed.{shed}
-use Rattle.dom_model.specs.State.{State as Arena, IsLawful as IsArena}
+use Rattle.dom_model.specs.Pruned.{pruned}
+use Rattle.dom_model.specs.ArenaState.{ArenaState as Arena, IsValid as IsArena}
 use Rattle.live_range.specs.LivePoints.{LivePoints}
 use Rattle.undo_log.specs.Log.{Log, noted, is_open, with_step}
-use Rattle.forest_changes.specs.Change.{applied, turned}
+use Rattle.forest_changes.specs.Change.{applied, inverse}
 use Rattle.forest_changes.specs.Named.{Each, named}
 use Rattle.forest_changes.specs.Down.{IsLeft}
 use Rattle.forest_changes.proofs.Twice.{count_of-applied}
 use Rattle.edit_steps.specs.declared.step.Step.{Step}
-use Rattle.edit_steps.specs.Step.{change_of, step_applied, step_turned, StepFits}
+use Rattle.edit_steps.specs.Step.{change_of, step_applied, step_inverse, StepFits}
 use Rattle.edit_model.specs.declared.settings.Setting.{Setting}
 use Rattle.edit_model.specs.State.{State}
-use Rattle.edit_model.specs.Lawful.{IsLawful}
+use Rattle.edit_model.specs.Valid.{IsValid}
 use Rattle.edit_model.specs.Edit.{Edit, is_made_edit, trees_after, points_after, overrides_after, changed, with_change, change_of as edit_change}
 use Rattle.edit_model.specs.Run.{edit}
 use Rattle.edit_model.specs.Gives.{Gives}
 use Rattle.edit_model.specs.Action.{applied as edit_applied}
 use Rattle.edit_model.specs.Possible.{freed}
 use Rattle.edit_model.proofs.Giving.{gives_made}
-use Rattle.edit_model.proofs.LawfulParts.{lawful_applied}
+use Rattle.edit_model.proofs.ValidParts.{valid_applied}
 use Rattle.edit_parts.specs.declared.Counts.{Counts}
 use Rattle.edit_doc.specs.declared.Doc.TheInside.{Inside}
 use Rattle.edit_doc.specs.declared.command.Command.{Command}
 use Rattle.edit_doc.specs.Whole.{Whole, IsOpen, with_state}
 use Rattle.edit_doc.specs.Held.{Keeps}
 use Rattle.edit_doc.specs.History.{edits_before, state_of, whole_of}
-use Rattle.edit_doc.specs.Sound.{IsSound}
+use Rattle.edit_doc.specs.Sound.{IsSoundDoc}
 use Rattle.edit_doc.proofs.Inner.{seen, seen as seen_of, Ok as OkInside, open_of}
 use Rattle.edit_doc.proofs.SeenNodes.{out_of}
 use Rattle.edit_doc.proofs.Freely.{freed_edit}
@@ -38,13 +38,13 @@ use Rattle.edit_doc.proofs.Changing.{Follows, goes, seen_next, state_next, whole
 
 -- what a call that makes an edit without its test owes after it
 pub record Applied (d : Inside) (v : Whole) (e : Edit) (arena : Arena) (points : LivePoints) (overrides : List Setting) (counts : Counts) (c : Command) (log : Log Step) : Type 0 where
-  pub invariant : IsSound arena points overrides d.flags counts c log d.undo_sides.items d.redo_sides.items d.undo_sides.capacity d.redo_sides.capacity
+  pub invariant : IsSoundDoc arena points overrides d.flags counts c log d.undo_sides.items d.redo_sides.items d.undo_sides.capacity d.redo_sides.capacity
   pub state : state_of arena points overrides d.flags c log ≡ edit_applied e v.state
   pub keeps : Keeps v (whole_of arena points overrides d.flags c log d.undo_sides.items d.redo_sides.items)
 
 -- and what a call that makes its test first owes
 pub record Done (d : Inside) (v : Whole) (e : Edit) (arena : Arena) (points : LivePoints) (overrides : List Setting) (counts : Counts) (c : Command) (log : Log Step) : Type 0 where
-  pub invariant : IsSound arena points overrides d.flags counts c log d.undo_sides.items d.redo_sides.items d.undo_sides.capacity d.redo_sides.capacity
+  pub invariant : IsSoundDoc arena points overrides d.flags counts c log d.undo_sides.items d.redo_sides.items d.undo_sides.capacity d.redo_sides.capacity
   pub gives : Gives (Ok true) v.state (state_of arena points overrides d.flags c log) (edit e)
   pub keeps : Keeps v (whole_of arena points overrides d.flags c log d.undo_sides.items d.redo_sides.items)
 
@@ -52,12 +52,12 @@ pub record Done (d : Inside) (v : Whole) (e : Edit) (arena : Arena) (points : Li
 pub record Makes (d : Inside) (e : Edit) (x : Step) (points : LivePoints) (overrides : List Setting) (counts : Counts) (c : Command) : Type 0 where
   pub fits : StepFits x d.arena
   pub seen : Each (IsLeft (out_of d) d.arena.trees) (named (change_of x))
-  pub follows : Follows d.command c (change_of x) (turned (change_of x) d.arena.trees)
+  pub follows : Follows d.command c (change_of x) (inverse (change_of x) d.arena.trees)
   pub names : points.names ≡ d.points.names
-  pub change : change_of x ≡ edit_change e (shed (out_of d) d.arena.trees)
-  pub trees : applied (change_of x) (shed (out_of d) d.arena.trees) ≡ trees_after e (shed (out_of d) d.arena.trees)
-  pub points_are : points ≡ points_after e (shed (out_of d) d.arena.trees) d.points
-  pub overrides_are : overrides ≡ overrides_after (seen_of d).state (trees_after e (shed (out_of d) d.arena.trees)) (points_after e (shed (out_of d) d.arena.trees) d.points)
+  pub change : change_of x ≡ edit_change e (pruned (out_of d) d.arena.trees)
+  pub trees : applied (change_of x) (pruned (out_of d) d.arena.trees) ≡ trees_after e (pruned (out_of d) d.arena.trees)
+  pub points_are : points ≡ points_after e (pruned (out_of d) d.arena.trees) d.points
+  pub overrides_are : overrides ≡ overrides_after (seen_of d).state (trees_after e (pruned (out_of d) d.arena.trees)) (points_after e (pruned (out_of d) d.arena.trees) d.points)
   pub nodes : counts.nodes ≡ node_count (applied (change_of x) d.arena.trees)
   pub chars : counts.chars ≡ char_count (applied (change_of x) d.arena.trees)
   pub depth : page_depth (applied (change_of x) d.arena.trees) ≤ counts.depth
@@ -90,13 +90,13 @@ module _ (d : Inside) (v : Whole) (is : seen d ≡ v) (law : IsArena d.arena) (n
       edits = edits_before (noted d.log.open_entry) d.arena.trees ++ m.change i ∷ [];
     }
 
-    lawful_next : IsLawful next
-    lawful_next = subst IsLawful (sym (next_is)) (lawful_applied e (seen d).state ok.lawful may_seen)
+    valid_next : IsValid next
+    valid_next = subst IsValid (sym (next_is)) (valid_applied e (seen d).state ok.valid may_seen)
 
-    state_is : state_of (record d.arena { trees = f }) points overrides d.flags c (with_step d.log (step_turned x d.arena)) ≡ next
+    state_is : state_of (record d.arena { trees = f }) points overrides d.flags c (with_step d.log (step_inverse x d.arena)) ≡ next
     state_is = state_next d.arena d.points d.overrides.items d.flags d.counts d.command d.log d.undo_sides.items d.redo_sides.items d.undo_sides.capacity d.redo_sides.capacity law opened ok x m.fits m.seen c m.follows points overrides m.names
 
-    whole_is : whole_of (record d.arena { trees = f }) points overrides d.flags c (with_step d.log (step_turned x d.arena)) d.undo_sides.items d.redo_sides.items ≡ with_state (seen d) next
+    whole_is : whole_of (record d.arena { trees = f }) points overrides d.flags c (with_step d.log (step_inverse x d.arena)) d.undo_sides.items d.redo_sides.items ≡ with_state (seen d) next
     whole_is = whole_next d.arena d.points d.overrides.items d.flags d.counts d.command d.log d.undo_sides.items d.redo_sides.items d.undo_sides.capacity d.redo_sides.capacity law opened ok x m.fits m.seen c m.follows points overrides m.names
 
     keeps_seen : Keeps (seen d) (with_state (seen d) next)
@@ -104,7 +104,7 @@ module _ (d : Inside) (v : Whole) (is : seen d ≡ v) (law : IsArena d.arena) (n
       held = λ r h. record {
         slot = h.slot;
         here = (let down = goes d.arena d.points d.overrides.items d.flags d.counts d.command d.log d.undo_sides.items d.redo_sides.items d.undo_sides.capacity d.redo_sides.capacity law opened ok x m.fits m.seen in
-            let same = count_of-applied (change_of x) (shed (out_of d) d.arena.trees) down.fits r.label in let here = h.here in omega (arith, same, here));
+            let same = count_of-applied (change_of x) (pruned (out_of d) d.arena.trees) down.fits r.label in let here = h.here in omega (arith, same, here));
       };
       history = refl;
       began = refl;
@@ -112,22 +112,22 @@ module _ (d : Inside) (v : Whole) (is : seen d ≡ v) (law : IsArena d.arena) (n
       cap = refl;
     }
 
-    applied_here : Applied d v e (record d.arena { trees = f }) points overrides counts c (with_step d.log (step_turned x d.arena))
+    applied_here : Applied d v e (record d.arena { trees = f }) points overrides counts c (with_step d.log (step_inverse x d.arena))
     applied_here = record {
-      invariant = sound_next d.arena d.points d.overrides.items d.flags d.counts d.command d.log d.undo_sides.items d.redo_sides.items d.undo_sides.capacity d.redo_sides.capacity law opened ok x m.fits m.seen c m.follows points overrides m.names counts lawful_next m.nodes m.chars m.depth;
+      invariant = sound_next d.arena d.points d.overrides.items d.flags d.counts d.command d.log d.undo_sides.items d.redo_sides.items d.undo_sides.capacity d.redo_sides.capacity law opened ok x m.fits m.seen c m.follows points overrides m.names counts valid_next m.nodes m.chars m.depth;
       state = state_is ∙ (next_is ∙ ap (λ (w : Whole). edit_applied e w.state) is);
-      keeps = subst (λ w. Keeps w (whole_of (record d.arena { trees = f }) points overrides d.flags c (with_step d.log (step_turned x d.arena)) d.undo_sides.items d.redo_sides.items)) is (subst (Keeps (seen d)) (sym whole_is) keeps_seen);
+      keeps = subst (λ w. Keeps w (whole_of (record d.arena { trees = f }) points overrides d.flags c (with_step d.log (step_inverse x d.arena)) d.undo_sides.items d.redo_sides.items)) is (subst (Keeps (seen d)) (sym whole_is) keeps_seen);
     }
 
     -- the same of what the calls that make it leave
-    pub edit_linked : (arena : Arena) (log : Log Step) → arena ≡ step_applied x d.arena → log ≡ with_step d.log (step_turned x d.arena) → Applied d v e arena points overrides counts c log
+    pub edit_linked : (arena : Arena) (log : Log Step) → arena ≡ step_applied x d.arena → log ≡ with_step d.log (step_inverse x d.arena) → Applied d v e arena points overrides counts c log
     unfolding step_applied
     edit_linked arena log arena_is log_is =
-        subst (λ l. Applied d v e arena points overrides counts c l) (sym log_is) (subst (λ a. Applied d v e a points overrides counts c (with_step d.log (step_turned x d.arena))) (sym arena_is) applied_here)
+        subst (λ l. Applied d v e arena points overrides counts c l) (sym log_is) (subst (λ a. Applied d v e a points overrides counts c (with_step d.log (step_inverse x d.arena))) (sym arena_is) applied_here)
 
   -- and where the test was made
   module _ (e : Edit) (x : Step) (points : LivePoints) (overrides : List Setting) (counts : Counts) (c : Command) (may : is_made_edit e v.state ≡ true) (m : Makes d e x points overrides counts c) where
-    pub edit_called : (arena : Arena) (log : Log Step) → arena ≡ step_applied x d.arena → log ≡ with_step d.log (step_turned x d.arena) → Done d v e arena points overrides counts c log
+    pub edit_called : (arena : Arena) (log : Log Step) → arena ≡ step_applied x d.arena → log ≡ with_step d.log (step_inverse x d.arena) → Done d v e arena points overrides counts c log
     edit_called arena log arena_is log_is =
         let a = edit_linked e x points overrides counts c (freed_edit e v.state may) m arena log arena_is log_is in
         record { invariant = a.invariant; gives = gives_applied e v.state (state_of arena points overrides d.flags c log) may a.state; keeps = a.keeps }

@@ -3,12 +3,12 @@ use Rattle.std.proofs.Common.{◌≡◌, ℕ, zero, suc, ◌<◌, false, Option,
 use Rattle.std.specs.Prelude.{IsTrue}
 use Rattle.dom_model.specs.declared.Content.{Content}
 use Rattle.dom_model.specs.Forest.{Forest}
-use Rattle.dom_model.specs.State.{IsLawful as IsArena}
-use Rattle.dom_model.proofs.Shedding.{count_of-shed}
+use Rattle.dom_model.specs.ArenaState.{IsValid as IsArena}
+use Rattle.dom_model.proofs.Pruning.{count_of-pruned}
 use Rattle.live_range.specs.declared.places.Places.{Places}
 use Rattle.undo_log.specs.Turning.{inverses_back}
 use Rattle.undo_log.specs.Log.{is_open}
-use Rattle.forest_changes.specs.Change.{applied, turned}
+use Rattle.forest_changes.specs.Change.{applied, inverse}
 use Rattle.forest_changes.specs.Named.{Each, named_in}
 use Rattle.forest_changes.specs.Down.{IsLeft, GoBackDown}
 use Rattle.forest_changes.proofs.ChangeLists.{each_of, back_down}
@@ -17,31 +17,31 @@ use Rattle.edit_steps.specs.declared.step.Step.{Step}
 use Rattle.edit_steps.specs.Step.{changes_of}
 use Rattle.node_arena.specs.declared.NodeRef.{NodeRef}
 use Rattle.edit_doc.specs.declared.Doc.TheInside.{Inside}
-use Rattle.edit_doc.specs.declared.command.Beside.{Beside}
+use Rattle.edit_doc.specs.declared.command.EntrySnapshot.{EntrySnapshot}
 use Rattle.edit_doc.specs.declared.command.Command.{Command}
 use Rattle.edit_doc.specs.Fields.{AreResting, made_sides}
 use Rattle.edit_doc.specs.GivingUp.{loose_roots}
 use Rattle.edit_model.specs.History.{used}
 use Rattle.edit_doc.specs.History.{edits_before, roots_from, forest_before, is_hidden, view_at, undo_entries}
-use Rattle.edit_doc.specs.Sound.{IsBeside, UndoSound}
+use Rattle.edit_doc.specs.Sound.{IsSnapshot, UndoSound}
 use Rattle.edit_doc.proofs.GivingUp.{filtered_loose, loose_is, listed_loose, listed_after}
 use Rattle.edit_doc.proofs.HiddenTrees.{tops_stay}
 use Rattle.edit_doc.proofs.Off.{each_off}
 use Rattle.dom_model.proofs.Stands.{true_or_false}
 use Rattle.edit_doc.proofs.Inner.{Ok}
-use Rattle.edit_doc.proofs.Turnings.{sheds_after}
-use Rattle.edit_doc.proofs.Rolls.{run, g, xs, below_g, beside_of}
+use Rattle.edit_doc.proofs.Turnings.{prunes_after}
+use Rattle.edit_doc.proofs.Rolls.{run, g, xs, below_g, snapshot_of}
 use Rattle.edit_doc.proofs.Commits.{placed_now}
 
 -- the oldest entries go
-pub undo-take : (held : List (Option ℕ)) (names : List (List ℕ)) (c : Command) (n high : ℕ) (f : Forest Content) (es : List (List Step)) (bs : List Beside) → UndoSound held names false c high f es bs → UndoSound held names false c high f (take n es) (take n bs)
+pub undo-take : (held : List (Option ℕ)) (names : List (List ℕ)) (c : Command) (n high : ℕ) (f : Forest Content) (es : List (List Step)) (bs : List EntrySnapshot) → UndoSound held names false c high f es bs → UndoSound held names false c high f (take n es) (take n bs)
 undo-take held names c zero high f es bs h = tt
 undo-take held names c (suc n) high f [] [] h = tt
 undo-take held names c (suc n) high f [] (b ∷ bs) h = absurd h
 undo-take held names c (suc n) high f (e ∷ es) [] h = absurd h
 undo-take held names c (suc n) high f (e ∷ es) (b ∷ bs) h = (h.0, (h.1.0, undo-take held names c n b.sides.first_label (forest_before e f) es bs h.1.1))
 
-pub undo_entries-take : (names : List (List ℕ)) (n : ℕ) (f : Forest Content) (es : List (List Step)) (bs : List Beside) → undo_entries names f (take n es) (take n bs) ≡ take n (undo_entries names f es bs)
+pub undo_entries-take : (names : List (List ℕ)) (n : ℕ) (f : Forest Content) (es : List (List Step)) (bs : List EntrySnapshot) → undo_entries names f (take n es) (take n bs) ≡ take n (undo_entries names f es bs)
 undo_entries-take names zero f es bs = refl
 undo_entries-take names (suc n) f [] bs = refl
 undo_entries-take names (suc n) f (e ∷ es) [] = refl
@@ -55,20 +55,20 @@ module _ (d : Inside) (law : IsArena d.arena) (ok : Ok d) (opened : IsTrue (is_o
   before = g d law ok opened
 
   below_next : (ls : List ℕ) → Each (IsLeft (is_hidden before d.command.start) d.arena.trees) ls → Each (λ l. l < d.arena.next) ls
-  below_next ls h = each_of (IsLeft (is_hidden before d.command.start) d.arena.trees) (λ l. l < d.arena.next) ls (λ l t. law.below l (let le = count_of-shed (is_hidden before d.command.start) d.arena.trees l in omega (arith, le, t))) h
+  below_next ls h = each_of (IsLeft (is_hidden before d.command.start) d.arena.trees) (λ l. l < d.arena.next) ls (λ l t. law.below l (let le = count_of-pruned (is_hidden before d.command.start) d.arena.trees l in omega (arith, le, t))) h
 
   -- an entry that the command began
-  pub made_beside : (b : Beside) (left : List NodeRef) → left ≡ loose_roots d.arena.trees d.command.left.items → b.sides ≡ made_sides d.command p d.counts →
-      IsBeside d.points.names before d.arena.trees steps (inverses_back applied turned (changes_of steps) d.arena.trees) b left d.arena.next d.arena.next
-  made_beside b left none same =
+  pub made_snapshot : (b : EntrySnapshot) (detached : List NodeRef) → detached ≡ loose_roots d.arena.trees d.command.detached.items → b.sides ≡ made_sides d.command p d.counts →
+      IsSnapshot d.points.names before d.arena.trees steps (inverses_back applied inverse (changes_of steps) d.arena.trees) b detached d.arena.next d.arena.next
+  made_snapshot b detached none same =
       let f = d.arena.trees in
       let r = run d law ok opened in
       let k = is_hidden before d.command.start in
-      let ts = inverses_back applied turned (changes_of steps) f in
-      let gd : GoBackDown k (changes_of steps) f = back_down k (changes_of steps) f (sheds_after before f d.command.start (forest_of d.arena law) ok.hidden) r.can.0 r.names_there in
-      let b1 : Beside = record b { sides = made_sides d.command p d.counts } in
-      let roots = loose_roots f d.command.left.items in
-      let own : IsBeside d.points.names before f steps ts b1 roots d.arena.next d.arena.next = record {
+      let ts = inverses_back applied inverse (changes_of steps) f in
+      let gd : GoBackDown k (changes_of steps) f = back_down k (changes_of steps) f (prunes_after before f d.command.start (forest_of d.arena law) ok.hidden) r.can.0 r.names_there in
+      let b1 : EntrySnapshot = record b { sides = made_sides d.command p d.counts } in
+      let roots = loose_roots f d.command.detached.items in
+      let own : IsSnapshot d.points.names before f steps ts b1 roots d.arena.next d.arena.next = record {
         was = r.kept;
         is = record {
           over = resting.over;
@@ -83,17 +83,17 @@ module _ (d : Inside) (law : IsArena d.arena) (ok : Ok d) (opened : IsTrue (is_o
           loose = λ l from there. r.made.loose l from (below_g d law ok opened l there) there;
           leaf = λ l from there. r.made.leaf l from (below_g d law ok opened l there) there;
         };
-        drawn = ok.lawful.started;
+        drawn = ok.valid.started;
         known = omega arith;
         hidden = ok.hidden;
         names_seen = each_of (IsLeft k f) (IsLeft k before) (named_in (changes_of steps)) (λ l t. (let s = gd.stays l in omega arith)) r.names_there;
         names_there = r.names_there;
         names_old = below_next (named_in (changes_of steps)) r.names_there;
         turns_old = below_next (named_in ts) gd.names;
-        left_loose = filtered_loose f d.arena.next law.distinct law.below d.command.left.items;
-        left_all = λ l inner top out. elim (true_or_false (k l)) [
+        detached_loose = filtered_loose f d.arena.next law.distinct law.below d.command.detached.items;
+        detached_all = λ l inner top out. elim (true_or_false (k l)) [
           | inl t ↦ absurd (out (each_off k f l law.distinct top t (named_in (changes_of steps)) r.names_there) (each_off k f l law.distinct top t (named_in ts) gd.names))
-          | inr t ↦ (let seen = r.loosened l inner (subst (λ n. 0 < n) (sym (tops_stay k f l t)) top) in listed_loose f d.command.left.items l (loose_is f l inner top) (listed_after d.command.left_before d.command.left.items l seen))
+          | inr t ↦ (let seen = r.newly_detached l inner (subst (λ n. 0 < n) (sym (tops_stay k f l t)) top) in listed_loose f d.command.detached.items l (loose_is f l inner top) (listed_after d.command.detached_before d.command.detached.items l seen))
         ];
       } in
-      subst (λ ls. IsBeside d.points.names before f steps ts b ls d.arena.next d.arena.next) (sym none) (beside_of d.points.names before f steps ts b1 b roots d.arena.next d.arena.next (sym same) own)
+      subst (λ ls. IsSnapshot d.points.names before f steps ts b ls d.arena.next d.arena.next) (sym none) (snapshot_of d.points.names before f steps ts b1 b roots d.arena.next d.arena.next (sym same) own)

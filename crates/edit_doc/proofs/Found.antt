@@ -3,9 +3,9 @@ use Rattle.std.proofs.Common.{◌≡◌, ℕ, ◌+◌, ◌<◌, ◌≤◌, Bool,
 use Rattle.std.proofs.lemmas.Bool.Decides.{eqb_tells}
 use Rattle.dom_model.specs.Forest.{Forest, join, tops, times, count_of, tree_of, parent_of, IsDistinct, IsWithin}
 use Rattle.dom_model.specs.Forest.Forest.{Nil, Tree}
-use Rattle.dom_model.specs.Shed.{shed}
+use Rattle.dom_model.specs.Pruned.{pruned}
 use Rattle.dom_model.proofs.Links.{seen, tree_of_absent}
-use Rattle.dom_model.proofs.Shedding.{count_of-shed, tree_of-shed}
+use Rattle.dom_model.proofs.Pruning.{count_of-pruned, tree_of-pruned}
 use Rattle.dom_model.proofs.Stands.{true_or_false, times-tops, parent_stands}
 use Rattle.edit_doc.proofs.HiddenTrees.{tops_stay}
 
@@ -31,26 +31,26 @@ module _ {C : Type 0} where
 
   module _ (k : ℕ → Bool) where
     -- what is in the tree of a node that is left
-    pub tree_left : (f : Forest C) (r l : ℕ) → IsDistinct f → 0 < count_of (shed k f) r → IsWithin f r l → 0 < count_of (shed k f) l
-    tree_left f r l once left within =
-        let e : count_of (tree_of (shed k f) r) l ≡ count_of (tree_of f r) l = ap (λ t. count_of t l) (tree_of-shed k f r once left) in
-        omega (arith, e, within, tree_of-fewer (shed k f) r l)
+    pub tree_detached : (f : Forest C) (r l : ℕ) → IsDistinct f → 0 < count_of (pruned k f) r → IsWithin f r l → 0 < count_of (pruned k f) l
+    tree_detached f r l once detached within =
+        let e : count_of (tree_of (pruned k f) r) l ≡ count_of (tree_of f r) l = ap (λ t. count_of t l) (tree_of-pruned k f r once detached) in
+        omega (arith, e, within, tree_of-fewer (pruned k f) r l)
 
-    -- a root that isn't shed
-    pub root_stays : (f : Forest C) (r : ℕ) → 0 < times (tops f) r → k r ≡ false → 0 < count_of (shed k f) r
-    root_stays f r top out = omega (arith, top, tops_stay k f r out, times-tops (shed k f) r)
+    -- a root that isn't pruned
+    pub root_stays : (f : Forest C) (r : ℕ) → 0 < times (tops f) r → k r ≡ false → 0 < count_of (pruned k f) r
+    root_stays f r top out = omega (arith, top, tops_stay k f r out, times-tops (pruned k f) r)
 
     -- the root of a node that is left
-    pub root_left : (f : Forest C) (r l : ℕ) → IsDistinct f → 0 < times (tops f) r → IsWithin f r l → 0 < count_of (shed k f) l → 0 < times (tops (shed k f)) r
-    root_left Nil r l once top within left = absurd (omega (arith, left))
-    root_left (Tree m c ks rest) r l once top within left =
-        let le = count_of-shed k rest l in
+    pub root_detached : (f : Forest C) (r l : ℕ) → IsDistinct f → 0 < times (tops f) r → IsWithin f r l → 0 < count_of (pruned k f) l → 0 < times (tops (pruned k f)) r
+    root_detached Nil r l once top within detached = absurd (omega (arith, detached))
+    root_detached (Tree m c ks rest) r l once top within detached =
+        let le = count_of-pruned k rest l in
         let one : count_of (Tree m c ks Nil) l + count_of rest l ≤ 1 = omega (arith, once l) in
         elim (eqb_tells m r) [
           | inl (e, _) ↦ (
               let own : 0 < count_of (Tree m c ks Nil) l = rw e at within in
               elim (true_or_false (k m)) [
-                | inl t ↦ absurd (let left' = rw t at left in omega (arith, one, own, le, left'))
+                | inl t ↦ absurd (let left' = rw t at detached in omega (arith, one, own, le, left'))
                 | inr t ↦ rw (t, e) (omega arith)
               ])
           | inr (e, _) ↦ (
@@ -59,9 +59,9 @@ module _ {C : Type 0} where
               let none : count_of ks r ≡ 0 = omega (arith, once_r, top', times-tops rest r) in
               let within' : IsWithin rest r l = rw (e, tree_of_absent ks r none) at within in
               let there : 0 < count_of rest l = omega (arith, within', tree_of-fewer rest r l) in
-              let ih = root_left rest r l (λ j. omega (arith, once j)) top' within' in
+              let ih = root_detached rest r l (λ j. omega (arith, once j)) top' within' in
               elim (true_or_false (k m)) [
-                | inl t ↦ (let left' = rw t at left in rw t (ih left'))
-                | inr t ↦ (let left' : 0 < count_of (Tree m c ks Nil) l + count_of (shed k rest) l = (let u = rw t at left in omega (arith, u)) in rw t (omega (arith, ih (omega (arith, left', there, one)))))
+                | inl t ↦ (let left' = rw t at detached in rw t (ih left'))
+                | inr t ↦ (let left' : 0 < count_of (Tree m c ks Nil) l + count_of (pruned k rest) l = (let u = rw t at detached in omega (arith, u)) in rw t (omega (arith, ih (omega (arith, left', there, one)))))
               ])
         ]

@@ -1,29 +1,29 @@
 -- A document outside commands without trees that its history doesn't name.
 use Rattle.std.proofs.Common.{◌≡◌, ◌≤◌, [], ℕ, Bool, false, List, sym, ap, subst, ◌∙◌, None}
 use Rattle.dom_model.specs.Document.{node_count, char_count, page_depth}
-use Rattle.dom_model.specs.State.{State as Arena, IsLawful as IsArena}
+use Rattle.dom_model.specs.ArenaState.{ArenaState as Arena, IsValid as IsArena}
 use Rattle.live_range.specs.LivePoints.{LivePoints}
 use Rattle.undo_log.specs.Log.{Log}
 use Rattle.forest_changes.specs.Change.{IsForest}
-use Rattle.forest_changes.specs.Down.{Sheds}
+use Rattle.forest_changes.specs.Down.{Prunes}
 use Rattle.forest_changes.proofs.Twice.{forest_of}
 use Rattle.edit_steps.specs.declared.step.Step.{Step}
 use Rattle.edit_model.specs.declared.settings.Setting.{Setting}
 use Rattle.edit_model.specs.declared.settings.Flags.{Flags}
-use Rattle.edit_model.specs.Lawful.{IsPlaced}
+use Rattle.edit_model.specs.Valid.{IsPlaced}
 use Rattle.edit_model.specs.History.{document_of}
 use Rattle.edit_parts.specs.declared.Counts.{Counts}
-use Rattle.edit_doc.specs.declared.command.Beside.{Beside}
+use Rattle.edit_doc.specs.declared.command.EntrySnapshot.{EntrySnapshot}
 use Rattle.edit_doc.specs.declared.command.Command.{Command}
 use Rattle.edit_doc.specs.GivingUp.{GivesUp}
 use Rattle.edit_doc.specs.History.{state_of, history_of}
 use Rattle.edit_doc.specs.Sound.{UndoSound, RedoSound, next_first}
-use Rattle.edit_doc.proofs.Downs.{Bounded, EntriesLeft, undo-shed, redo-shed, undo_entries-shed, redo_entries-shed}
-use Rattle.edit_doc.proofs.HiddenTrees.{document-shed, placed-shed, node_count-shed, char_count-shed, page_depth-shed}
+use Rattle.edit_doc.proofs.Downs.{Bounded, EntriesLeft, undo-pruned, redo-pruned, undo_entries-pruned, redo_entries-pruned}
+use Rattle.edit_doc.proofs.HiddenTrees.{document-pruned, placed-pruned, node_count-pruned, char_count-pruned, page_depth-pruned}
 use Rattle.edit_doc.proofs.Rests.{AtRest, rest_state, arena_forest}
 
-module _ (a b : Arena) (k : ℕ → Bool) (gives : GivesUp k a b) (sheds : Sheds k a.trees) (law : IsArena b) (points : LivePoints) (overrides : List Setting) (flags : Flags) (counts : Counts) (c : Command) (log : Log Step) (us rs : List Beside) (us_room rs_room : ℕ)
-    (rests : AtRest a points overrides flags counts c log us rs us_room rs_room) (undo_left : EntriesLeft k a.trees log.undo) (redo_left : EntriesLeft k a.trees log.redo) where
+module _ (a b : Arena) (k : ℕ → Bool) (gives : GivesUp k a b) (prunes : Prunes k a.trees) (law : IsArena b) (points : LivePoints) (overrides : List Setting) (flags : Flags) (counts : Counts) (c : Command) (log : Log Step) (us rs : List EntrySnapshot) (us_room rs_room : ℕ)
+    (rests : AtRest a points overrides flags counts c log us rs us_room rs_room) (undo_detached : EntriesLeft k a.trees log.undo) (redo_detached : EntriesLeft k a.trees log.redo) where
   is : IsForest a.trees
   is = forest_of a rests.law
 
@@ -41,26 +41,26 @@ module _ (a b : Arena) (k : ℕ → Bool) (gives : GivesUp k a b) (sheds : Sheds
           host = rests.idle.host;
           keeping = rests.idle.keeping;
           named = rests.idle.named;
-          left = rests.idle.left;
-          left_before = rests.idle.left_before;
+          detached = rests.idle.detached;
+          detached_before = rests.idle.detached_before;
           scratch = rests.idle.scratch;
         };
         resumed = rests.resumed;
-        placed = subst (λ t. IsPlaced t points) (sym gives.trees) (placed-shed a.trees a.next f k sheds.document points rests.placed);
+        placed = subst (λ t. IsPlaced t points) (sym gives.trees) (placed-pruned a.trees a.next f k prunes.document points rests.placed);
         settings = rests.settings;
-        nodes = rests.nodes ∙ (sym (node_count-shed a.trees a.next f k sheds.document) ∙ ap node_count (sym gives.trees));
-        chars = rests.chars ∙ (sym (char_count-shed a.trees a.next f k sheds.document) ∙ ap char_count (sym gives.trees));
-        depth = subst (λ n. n ≤ counts.depth) (sym (page_depth-shed a.trees a.next f k sheds.document) ∙ ap page_depth (sym gives.trees)) rests.depth;
+        nodes = rests.nodes ∙ (sym (node_count-pruned a.trees a.next f k prunes.document) ∙ ap node_count (sym gives.trees));
+        chars = rests.chars ∙ (sym (char_count-pruned a.trees a.next f k prunes.document) ∙ ap char_count (sym gives.trees));
+        depth = subst (λ n. n ≤ counts.depth) (sym (page_depth-pruned a.trees a.next f k prunes.document) ∙ ap page_depth (sym gives.trees)) rests.depth;
         undo = subst (λ t. UndoSound b.held points.names false c (next_first c.start rs) t log.undo us) (sym gives.trees)
-            (undo-shed k a.held b.held points.names c false (next_first c.start rs) a.trees log.undo us sheds is bound gives.keeps undo_left rests.undo);
+            (undo-pruned k a.held b.held points.names c false (next_first c.start rs) a.trees log.undo us prunes is bound gives.keeps undo_detached rests.undo);
         redo = subst (λ t. RedoSound b.held points.names c t log.redo rs) (sym gives.trees)
-            (redo-shed k a.held b.held points.names c a.trees log.redo rs sheds is bound gives.keeps redo_left rests.redo);
+            (redo-pruned k a.held b.held points.names c a.trees log.redo rs prunes is bound gives.keeps redo_detached rests.redo);
         us_room_is = rests.us_room_is;
         rs_room_is = rests.rs_room_is;
       }
 
   document_is : document_of b.trees ≡ document_of a.trees
-  document_is = ap document_of gives.trees ∙ document-shed a.trees a.next (arena_forest a rests.law) k sheds.document
+  document_is = ap document_of gives.trees ∙ document-pruned a.trees a.next (arena_forest a rests.law) k prunes.document
 
   pub freed_state : state_of b points overrides flags c log ≡ state_of a points overrides flags c log
   freed_state =
@@ -84,8 +84,8 @@ module _ (a b : Arena) (k : ℕ → Bool) (gives : GivesUp k a b) (sheds : Sheds
   freed_history =
       ap (λ t. history_of points.names t log us rs) gives.trees
       ∙ (λ i. record {
-        undo = undo_entries-shed k a.held b.held points.names c false (next_first c.start rs) a.trees log.undo us sheds is bound undo_left rests.undo i;
-        redo = redo_entries-shed k a.held b.held points.names c a.trees log.redo rs sheds is bound redo_left rests.redo i;
+        undo = undo_entries-pruned k a.held b.held points.names c false (next_first c.start rs) a.trees log.undo us prunes is bound undo_detached rests.undo i;
+        redo = redo_entries-pruned k a.held b.held points.names c a.trees log.redo rs prunes is bound redo_detached rests.redo i;
         depth = log.depth;
         dropped = log.dropped;
       })

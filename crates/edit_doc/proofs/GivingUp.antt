@@ -6,16 +6,16 @@ use Rattle.std.proofs.lemmas.List.Folds.{list_any-append}
 use Rattle.dom_model.specs.declared.Content.{Content}
 use Rattle.dom_model.specs.Forest.{Forest, tops, times, count_of, tree_of, parent_of, without, IsDistinct}
 use Rattle.dom_model.specs.Forest.Forest.{Nil, Tree}
-use Rattle.dom_model.specs.Shed.{shed}
-use Rattle.dom_model.specs.State.{State as Arena, IsLawful as IsArena}
+use Rattle.dom_model.specs.Pruned.{pruned}
+use Rattle.dom_model.specs.ArenaState.{ArenaState as Arena, IsValid as IsArena}
 use Rattle.dom_model.proofs.Stands.{true_or_false, times-tops}
-use Rattle.dom_model.proofs.Shedding.{count_of-shed}
+use Rattle.dom_model.proofs.Pruning.{count_of-pruned}
 use Rattle.dom_model.proofs.Totals.{total-without}
 use Rattle.forest_changes.specs.Named.{Each}
-use Rattle.live_range.specs.Edit.{has_label}
+use Rattle.live_range.specs.PointsEdit.{has_label}
 use Rattle.edit_model.specs.Gives.{labels_of}
 use Rattle.edit_model.proofs.Steps.{labels_of-append}
-use Rattle.forest_changes.proofs.DownChange.{shed_tree}
+use Rattle.forest_changes.proofs.DownChange.{pruned_tree}
 use Rattle.forest_changes.proofs.Twice.{forest_of}
 use Rattle.node_arena.specs.declared.NodeRef.{NodeRef}
 use Rattle.node_arena.specs.Held.{Holds, DropsTree, label}
@@ -23,13 +23,13 @@ use Rattle.edit_doc.specs.declared.command.Command.{Command}
 use Rattle.edit_doc.specs.GivingUp.{GivesUp, is_unnamed, is_loose, loose_roots}
 use Rattle.edit_doc.specs.Marks.{has_named}
 use Rattle.edit_doc.proofs.Found.{root_is_top}
-use Rattle.edit_doc.proofs.HiddenTrees.{shed-same, shed-none, loose_left, top_loose, and_true, both_true, lt_true, true_lt}
+use Rattle.edit_doc.proofs.HiddenTrees.{pruned-same, pruned-none, loose_detached, top_loose, and_true, both_true, lt_true, true_lt}
 
 module _ {C : Type 0} where
-  pub shed-shed : (k j : ℕ → Bool) (f : Forest C) → shed j (shed k f) ≡ shed (λ l. k l || j l) f
-  shed-shed k j Nil = refl
-  shed-shed k j (Tree m c ks rest) =
-      let ih = shed-shed k j rest in
+  pub pruned-pruned : (k j : ℕ → Bool) (f : Forest C) → pruned j (pruned k f) ≡ pruned (λ l. k l || j l) f
+  pruned-pruned k j Nil = refl
+  pruned-pruned k j (Tree m c ks rest) =
+      let ih = pruned-pruned k j rest in
       elim (true_or_false (k m)) [
         | inl e ↦ rw e ih
         | inr e ↦ elim (true_or_false (j m)) [
@@ -41,36 +41,36 @@ module _ {C : Type 0} where
 -- ---- what is given up
 
 pub gives_none : (a : Arena) → GivesUp (λ _. false) a a
-gives_none a = record { trees = sym (shed-none a.trees); next = refl; cap = refl; keeps = λ q h left. h }
+gives_none a = record { trees = sym (pruned-none a.trees); next = refl; cap = refl; keeps = λ q h detached. h }
 
 pub gives_join : (k j : ℕ → Bool) (a b c : Arena) → GivesUp k a b → GivesUp j b c → GivesUp (λ l. k l || j l) a c
 gives_join k j a b c x y =
-    let both : shed j b.trees ≡ shed (λ l. k l || j l) a.trees = ap (shed j) x.trees ∙ shed-shed k j a.trees in
+    let both : pruned j b.trees ≡ pruned (λ l. k l || j l) a.trees = ap (pruned j) x.trees ∙ pruned-pruned k j a.trees in
     record {
       trees = y.trees ∙ both;
       next = y.next ∙ x.next;
       cap = y.cap ∙ x.cap;
-      keeps = λ q h left. (
-          let last : 0 < count_of (shed j b.trees) q.label = subst (λ t. 0 < count_of t q.label) (sym both) left in
-          y.keeps q (x.keeps q h (subst (λ t. 0 < count_of t q.label) x.trees (omega (arith, last, count_of-shed j b.trees q.label)))) last);
+      keeps = λ q h detached. (
+          let last : 0 < count_of (pruned j b.trees) q.label = subst (λ t. 0 < count_of t q.label) (sym both) detached in
+          y.keeps q (x.keeps q h (subst (λ t. 0 < count_of t q.label) x.trees (omega (arith, last, count_of-pruned j b.trees q.label)))) last);
     }
 
 -- the labels of roots alone matter
 gives_on : (k j : ℕ → Bool) (a b : Arena) → ((l : ℕ) → 0 < times (tops a.trees) l → k l ≡ j l) → GivesUp k a b → GivesUp j a b
 gives_on k j a b same x =
-    let e = shed-same k j a.trees same in
-    record { trees = x.trees ∙ e; next = x.next; cap = x.cap; keeps = λ q h left. x.keeps q h (subst (λ t. 0 < count_of t q.label) (sym e) left) }
+    let e = pruned-same k j a.trees same in
+    record { trees = x.trees ∙ e; next = x.next; cap = x.cap; keeps = λ q h detached. x.keeps q h (subst (λ t. 0 < count_of t q.label) (sym e) detached) }
 
 pub gives_tree : (a b : Arena) (r : NodeRef) (l : ℕ) → IsArena a → r.label ≡ l → Holds a r → parent_of a.trees l ≡ None → DropsTree a b r → GivesUp (λ j. j == l) a b
 gives_tree a b r l law is held loose drops =
     let here : 0 < count_of a.trees l = subst (λ j. 0 < count_of a.trees j) is (law.here r.slot r.label held) in
-    let e : shed (λ j. j == l) a.trees ≡ without a.trees l = shed_tree l a.trees (forest_of a law) here loose in
+    let e : pruned (λ j. j == l) a.trees ≡ without a.trees l = pruned_tree l a.trees (forest_of a law) here loose in
     record {
       trees = drops.trees ∙ (ap (without a.trees) is ∙ sym e);
       next = drops.next;
       cap = drops.cap;
-      keeps = λ q h left. drops.keeps q h (
-          let left' : 0 < count_of (without a.trees l) q.label = subst (λ t. 0 < count_of t q.label) e left in
+      keeps = λ q h detached. drops.keeps q h (
+          let left' : 0 < count_of (without a.trees l) q.label = subst (λ t. 0 < count_of t q.label) e detached in
           let out : count_of (tree_of a.trees l) q.label ≡ 0 = omega (arith, left', law.distinct q.label, total-without (λ m _. cond (eqb m q.label) 1 0) a.trees l) in
           subst (λ j. count_of (tree_of a.trees j) q.label ≡ 0) (sym is) out);
     }
@@ -152,7 +152,7 @@ module _ (u : ℕ → Bool) where
 
   -- what was loose and is left is loose
   pub still_loose : (a b : Arena) (n l : ℕ) → IsArena a → parent_of a.trees l ≡ None → GivesUp (up_to n) a b → parent_of b.trees l ≡ None
-  still_loose a b n l law loose x = ap (λ t. parent_of t l) x.trees ∙ loose_left (up_to n) a.trees l law.distinct loose
+  still_loose a b n l law loose x = ap (λ t. parent_of t l) x.trees ∙ loose_detached (up_to n) a.trees l law.distinct loose
 
 pub lower_named : (low : ℕ) (c : Command) (l : ℕ) → l < low → is_unnamed low c l ≡ false
 lower_named low c l lt = (let t = out low l lt in rw t refl)
@@ -254,7 +254,7 @@ listed_at (r ∷ rs) zero z h = elim (eqb_tells r.label r.label) [ inl (e, _) �
 listed_at (r ∷ rs) (suc i) z h = (let ih = listed_at rs i z (omega arith) in elim (true_or_false (r.label == (get_or rs i z).label)) [ inl t ↦ rw t refl | inr t ↦ rw (t, ih) refl ])
 
 pub roots_loose : (a b : Arena) (rs : List NodeRef) (i l : ℕ) → IsArena a → parent_of a.trees l ≡ None → GivesUp (has_label (labels_of (take i rs))) a b → parent_of b.trees l ≡ None
-roots_loose a b rs i l law loose x = ap (λ t. parent_of t l) x.trees ∙ loose_left (has_label (labels_of (take i rs))) a.trees l law.distinct loose
+roots_loose a b rs i l law loose x = ap (λ t. parent_of t l) x.trees ∙ loose_detached (has_label (labels_of (take i rs))) a.trees l law.distinct loose
 
 -- ---- what is listed
 

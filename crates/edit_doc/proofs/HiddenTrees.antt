@@ -9,12 +9,12 @@ use Rattle.dom_model.specs.Document.{node_count, char_count, page_depth}
 use Rattle.dom_model.specs.Forest.{Forest, Seen, tops, times, count_of, tree_of, parent_of, IsDistinct, IsWithin, RisesFrom}
 use Rattle.dom_model.specs.Forest.Forest.{Nil, Tree}
 use Rattle.dom_model.specs.Places.{levels, kids_in}
-use Rattle.dom_model.specs.Shed.{shed}
-use Rattle.dom_model.proofs.Shedding.{count_of-shed, seek-shed, parent_of-shed}
+use Rattle.dom_model.specs.Pruned.{pruned}
+use Rattle.dom_model.proofs.Pruning.{count_of-pruned, seek-pruned, parent_of-pruned}
 use Rattle.dom_model.proofs.Stands.{true_or_false, times-tops, top_stands, seek_Stands, seek_absent}
 use Rattle.live_range.specs.LivePoints.{LivePoints}
 use Rattle.forest_changes.specs.Change.{IsForest}
-use Rattle.edit_model.specs.Lawful.{IsPlaced, IsForest as IsModelForest}
+use Rattle.edit_model.specs.Valid.{IsPlaced, IsForest as IsModelForest}
 use Rattle.edit_model.proofs.Points.{Leaves, points_left}
 use Rattle.edit_model.proofs.Documents.{document_shape}
 use Rattle.edit_doc.specs.History.{is_hidden}
@@ -65,28 +65,28 @@ is_hidden_from g start l h =
     both_true (nat_lt 0 l) (nat_lt l start && nat_lt 0 (times (tops g) l)) (true_lt 0 l h.inner)
     (both_true (nat_lt l start) (nat_lt 0 (times (tops g) l)) (true_lt l start h.old) (true_lt 0 (times (tops g) l) h.root))
 
--- ---- what is shed
+-- ---- what is pruned
 
 module _ {C : Type 0} where
-  pub shed-same : (k j : ℕ → Bool) (f : Forest C) → ((l : ℕ) → 0 < times (tops f) l → k l ≡ j l) → shed k f ≡ shed j f
-  shed-same k j Nil same = refl
-  shed-same k j (Tree m c ks rest) same =
+  pub pruned-same : (k j : ℕ → Bool) (f : Forest C) → ((l : ℕ) → 0 < times (tops f) l → k l ≡ j l) → pruned k f ≡ pruned j f
+  pruned-same k j Nil same = refl
+  pruned-same k j (Tree m c ks rest) same =
       let e : k m ≡ j m = same m (own m (times (tops rest) m)) in
-      let ih = shed-same k j rest (λ l top. same l (omega (arith, top))) in
+      let ih = pruned-same k j rest (λ l top. same l (omega (arith, top))) in
       rw (e, ih) refl
     where
       own : (m n : ℕ) → 0 < cond (eqb m m) 1 0 + n
       own m n = grind (arith, nat_tests)
 
-  pub shed-none : (f : Forest C) → shed (λ _. false) f ≡ f
-  shed-none Nil = refl
-  shed-none (Tree m c ks rest) = ap (Tree m c ks) (shed-none rest)
+  pub pruned-none : (f : Forest C) → pruned (λ _. false) f ≡ f
+  pruned-none Nil = refl
+  pruned-none (Tree m c ks rest) = ap (Tree m c ks) (pruned-none rest)
 
   -- what stays when fewer trees go
-  pub shed_more : (k j : ℕ → Bool) (f : Forest C) (l : ℕ) → ((m : ℕ) → j m ≡ true → k m ≡ true) → count_of (shed k f) l ≤ count_of (shed j f) l
-  shed_more k j Nil l less = omega arith
-  shed_more k j (Tree m c ks rest) l less =
-      let ih = shed_more k j rest l less in
+  pub pruned_more : (k j : ℕ → Bool) (f : Forest C) (l : ℕ) → ((m : ℕ) → j m ≡ true → k m ≡ true) → count_of (pruned k f) l ≤ count_of (pruned j f) l
+  pruned_more k j Nil l less = omega arith
+  pruned_more k j (Tree m c ks rest) l less =
+      let ih = pruned_more k j rest l less in
       elim (true_or_false (j m)) [
         | inl e ↦ (let t = less m e in rw (e, t) ih)
         | inr e ↦ elim (true_or_false (k m)) [
@@ -96,14 +96,14 @@ module _ {C : Type 0} where
       ]
 
   -- what stays on both counts stays when both sets of trees go
-  pub both_left : (k h : ℕ → Bool) (f : Forest C) (l : ℕ) → IsDistinct f → 0 < count_of (shed k f) l → 0 < count_of (shed h f) l → 0 < count_of (shed h (shed k f)) l
-  both_left k h Nil l once a b = a
-  both_left k h (Tree m c ks rest) l once a b =
+  pub both_detached : (k h : ℕ → Bool) (f : Forest C) (l : ℕ) → IsDistinct f → 0 < count_of (pruned k f) l → 0 < count_of (pruned h f) l → 0 < count_of (pruned h (pruned k f)) l
+  both_detached k h Nil l once a b = a
+  both_detached k h (Tree m c ks rest) l once a b =
       let own : ℕ = cond (eqb m l) 1 0 + count_of ks l in
       let one : own + count_of rest l ≤ 1 = omega (arith, once l) in
-      let lk = count_of-shed k rest l in
-      let lh = count_of-shed h rest l in
-      let ih = both_left k h rest l (λ n. omega (arith, once n)) in
+      let lk = count_of-pruned k rest l in
+      let lh = count_of-pruned h rest l in
+      let ih = both_detached k h rest l (λ n. omega (arith, once n)) in
       elim (true_or_false (k m)) [
         | inl e ↦ (let a' = rw e at a in elim (true_or_false (h m)) [
           | inl t ↦ (let b' = rw t at b in rw e (ih a' b'))
@@ -111,7 +111,7 @@ module _ {C : Type 0} where
         ])
         | inr e ↦ (let a' = rw e at a in elim (true_or_false (h m)) [
           | inl t ↦ (let b' = rw t at b in rw (e, t) (ih (omega (arith, a', b', one, lh)) b'))
-          | inr t ↦ (let b' = rw t at b in (let sum : 0 < own + count_of (shed h (shed k rest)) l = by_own own (count_of (shed k rest) l) (count_of (shed h rest) l) (count_of (shed h (shed k rest)) l) (omega (arith, a')) (omega (arith, b')) ih in rw (e, t) (omega (arith, sum))))
+          | inr t ↦ (let b' = rw t at b in (let sum : 0 < own + count_of (pruned h (pruned k rest)) l = by_own own (count_of (pruned k rest) l) (count_of (pruned h rest) l) (count_of (pruned h (pruned k rest)) l) (omega (arith, a')) (omega (arith, b')) ih in rw (e, t) (omega (arith, sum))))
         ])
       ]
     where
@@ -119,18 +119,18 @@ module _ {C : Type 0} where
       by_own zero x y z a b ih = omega (arith, ih (omega arith) (omega arith))
       by_own (suc own) x y z a b ih = omega arith
 
-  tops-more : (k : ℕ → Bool) (f : Forest C) (l : ℕ) → times (tops (shed k f)) l ≤ times (tops f) l
+  tops-more : (k : ℕ → Bool) (f : Forest C) (l : ℕ) → times (tops (pruned k f)) l ≤ times (tops f) l
   tops-more k Nil l = omega arith
   tops-more k (Tree m c ks rest) l = elim (true_or_false (k m)) [
     | inl e ↦ rw e (omega (arith, tops-more k rest l))
     | inr e ↦ rw e (omega (arith, tops-more k rest l))
   ]
 
-  -- a root that is left was one, and isn't shed
-  pub tops_left : (k : ℕ → Bool) (f : Forest C) (l : ℕ) → 0 < times (tops (shed k f)) l → (0 < times (tops f) l) × (k l ≡ false)
-  tops_left k f l h = (omega (arith, h, tops-more k f l), out f h)
+  -- a root that is left was one, and isn't pruned
+  pub tops_detached : (k : ℕ → Bool) (f : Forest C) (l : ℕ) → 0 < times (tops (pruned k f)) l → (0 < times (tops f) l) × (k l ≡ false)
+  tops_detached k f l h = (omega (arith, h, tops-more k f l), out f h)
     where
-      out : (g : Forest C) → 0 < times (tops (shed k g)) l → k l ≡ false
+      out : (g : Forest C) → 0 < times (tops (pruned k g)) l → k l ≡ false
       out Nil t = absurd (omega (arith, t))
       out (Tree m c ks rest) t = elim (true_or_false (k m)) [
         | inl e ↦ (let t' = rw e at t in out rest t')
@@ -140,8 +140,8 @@ module _ {C : Type 0} where
         ])
       ]
 
-  -- and one that isn't shed stays
-  pub tops_stay : (k : ℕ → Bool) (f : Forest C) (l : ℕ) → k l ≡ false → times (tops (shed k f)) l ≡ times (tops f) l
+  -- and one that isn't pruned stays
+  pub tops_stay : (k : ℕ → Bool) (f : Forest C) (l : ℕ) → k l ≡ false → times (tops (pruned k f)) l ≡ times (tops f) l
   tops_stay k Nil l off = refl
   tops_stay k (Tree m c ks rest) l off = elim (true_or_false (k m)) [
     | inl e ↦ rw e (elim (eqb_tells m l) [
@@ -157,17 +157,17 @@ module _ {C : Type 0} where
       let t = top_stands None f l top in
       ap (option_and_then (λ (s : Seen C). s.parent)) (seek_Stands None f l t.0 (once l) t.1) ∙ t.2
 
-  pub loose_left : (k : ℕ → Bool) (f : Forest C) (l : ℕ) → IsDistinct f → parent_of f l ≡ None → parent_of (shed k f) l ≡ None
-  loose_left k f l once loose = by_count (count_of (shed k f) l) refl
+  pub loose_detached : (k : ℕ → Bool) (f : Forest C) (l : ℕ) → IsDistinct f → parent_of f l ≡ None → parent_of (pruned k f) l ≡ None
+  loose_detached k f l once loose = by_count (count_of (pruned k f) l) refl
     where
-      by_count : (n : ℕ) → count_of (shed k f) l ≡ n → parent_of (shed k f) l ≡ None
-      by_count zero e = ap (option_and_then (λ (s : Seen C). s.parent)) (seek_absent None (shed k f) l e)
-      by_count (suc n) e = parent_of-shed k f l once (omega (arith, e)) ∙ loose
+      by_count : (n : ℕ) → count_of (pruned k f) l ≡ n → parent_of (pruned k f) l ≡ None
+      by_count zero e = ap (option_and_then (λ (s : Seen C). s.parent)) (seek_absent None (pruned k f) l e)
+      by_count (suc n) e = parent_of-pruned k f l once (omega (arith, e)) ∙ loose
 
 -- ---- the document
 
-first_left : (k : ℕ → Bool) (c : Content) (ks rest : Forest Content) → k 0 ≡ false → shed k (Tree 0 c ks rest) ≡ Tree 0 c ks (shed k rest)
-first_left k c ks rest e = rw e refl
+first_detached : (k : ℕ → Bool) (c : Content) (ks rest : Forest Content) → k 0 ≡ false → pruned k (Tree 0 c ks rest) ≡ Tree 0 c ks (pruned k rest)
+first_detached k c ks rest e = rw e refl
 
 pub model_forest : (f : Forest Content) → IsForest f → (next : ℕ) → ((l : ℕ) → 0 < count_of f l → l < next) → IsModelForest f next
 model_forest f is next below = record {
@@ -181,49 +181,49 @@ model_forest f is next below = record {
 
 -- labels of a forest are bounded by a total of theirs
 module _ (f : Forest Content) (next : ℕ) (is : IsModelForest f next) (k : ℕ → Bool) (keeps : k 0 ≡ false) where
-  pub document-shed : tree_of (shed k f) 0 ≡ tree_of f 0
-  document-shed = let d = document_shape f next is in subst (λ g. tree_of (shed k g) 0 ≡ tree_of g 0) (sym d.3) (rw keeps refl)
+  pub document-pruned : tree_of (pruned k f) 0 ≡ tree_of f 0
+  document-pruned = let d = document_shape f next is in subst (λ g. tree_of (pruned k g) 0 ≡ tree_of g 0) (sym d.3) (rw keeps refl)
 
-  pub document_here : 0 < count_of (shed k f) 0
-  document_here = let d = document_shape f next is in subst (λ g. 0 < count_of (shed k g) 0) (sym d.3) (rw keeps (omega arith))
+  pub document_here : 0 < count_of (pruned k f) 0
+  document_here = let d = document_shape f next is in subst (λ g. 0 < count_of (pruned k g) 0) (sym d.3) (rw keeps (omega arith))
 
   -- what is in the document is left
-  pub inside_left : (l : ℕ) → IsWithin f 0 l → 0 < count_of (shed k f) l
-  inside_left l h = let d = document_shape f next is in subst (λ g. IsWithin g 0 l → 0 < count_of (shed k g) l) (sym d.3) (λ t. rw keeps (omega (arith, t))) h
+  pub inside_detached : (l : ℕ) → IsWithin f 0 l → 0 < count_of (pruned k f) l
+  inside_detached l h = let d = document_shape f next is in subst (λ g. IsWithin g 0 l → 0 < count_of (pruned k g) l) (sym d.3) (λ t. rw keeps (omega (arith, t))) h
 
-  pub length_of-shed : (l : ℕ) → IsWithin f 0 l → length_of (shed k f) l ≡ length_of f l
-  length_of-shed l h = ap (λ (o : Option (Seen Content)). option_map_or (λ c. length_in c (option_map_or (λ s. s.children) o List.[])) (option_map (λ s. s.content) o) 0) (seek-shed k None f l is.distinct (inside_left l h))
+  pub length_of-pruned : (l : ℕ) → IsWithin f 0 l → length_of (pruned k f) l ≡ length_of f l
+  length_of-pruned l h = ap (λ (o : Option (Seen Content)). option_map_or (λ c. length_in c (option_map_or (λ s. s.children) o List.[])) (option_map (λ s. s.content) o) 0) (seek-pruned k None f l is.distinct (inside_detached l h))
 
-  leaves-shed : Leaves f (shed k f)
-  leaves-shed x h = record {
-    inside = rw document-shed h.inside;
-    fits = omega (arith, h.fits, length_of-shed x.label h.inside);
+  leaves-pruned : Leaves f (pruned k f)
+  leaves-pruned x h = record {
+    inside = rw document-pruned h.inside;
+    fits = omega (arith, h.fits, length_of-pruned x.label h.inside);
   }
 
-  leaves-whole : Leaves (shed k f) f
+  leaves-whole : Leaves (pruned k f) f
   leaves-whole x h =
-      let inside : IsWithin f 0 x.label = rw document-shed at h.inside in
-      record { inside = inside; fits = omega (arith, h.fits, length_of-shed x.label inside) }
+      let inside : IsWithin f 0 x.label = rw document-pruned at h.inside in
+      record { inside = inside; fits = omega (arith, h.fits, length_of-pruned x.label inside) }
 
-  pub placed-shed : (points : LivePoints) → IsPlaced f points → IsPlaced (shed k f) points
-  placed-shed points h = points_left f (shed k f) leaves-shed points h
+  pub placed-pruned : (points : LivePoints) → IsPlaced f points → IsPlaced (pruned k f) points
+  placed-pruned points h = points_left f (pruned k f) leaves-pruned points h
 
-  pub placed-whole : (points : LivePoints) → IsPlaced (shed k f) points → IsPlaced f points
-  placed-whole points h = points_left (shed k f) f leaves-whole points h
+  pub placed-whole : (points : LivePoints) → IsPlaced (pruned k f) points → IsPlaced f points
+  placed-whole points h = points_left (pruned k f) f leaves-whole points h
 
-  pub node_count-shed : node_count (shed k f) ≡ node_count f
-  node_count-shed = rw document-shed refl
+  pub node_count-pruned : node_count (pruned k f) ≡ node_count f
+  node_count-pruned = rw document-pruned refl
 
-  pub char_count-shed : char_count (shed k f) ≡ char_count f
-  char_count-shed = rw document-shed refl
+  pub char_count-pruned : char_count (pruned k f) ≡ char_count f
+  char_count-pruned = rw document-pruned refl
 
-  pub page_depth-shed : page_depth (shed k f) ≡ page_depth f
-  page_depth-shed = ap (λ (t : Forest Content). levels (kids_in t)) document-shed
+  pub page_depth-pruned : page_depth (pruned k f) ≡ page_depth f
+  page_depth-pruned = ap (λ (t : Forest Content). levels (kids_in t)) document-pruned
 
 -- outside commands every loose tree is hidden
-pub seen_at_rest : (f : Forest Content) (next : ℕ) → IsModelForest f next → shed (is_hidden f next) f ≡ tree_of f 0
+pub seen_at_rest : (f : Forest Content) (next : ℕ) → IsModelForest f next → pruned (is_hidden f next) f ≡ tree_of f 0
 seen_at_rest f next is =
-    shed-same (is_hidden f next) (nat_lt 0) f same ∙ alone
+    pruned-same (is_hidden f next) (nat_lt 0) f same ∙ alone
   where
     by_zero : (l : ℕ) → l < next → 0 < times (tops f) l → is_hidden f next l ≡ nat_lt 0 l
     by_zero zero low top = refl
@@ -232,14 +232,14 @@ seen_at_rest f next is =
     same : (l : ℕ) → 0 < times (tops f) l → is_hidden f next l ≡ nat_lt 0 l
     same l top = by_zero l (is.below l (omega (arith, top, times-tops f l))) top
 
-    none_left : (low : ℕ) (g : Forest Content) → 0 < low → RisesFrom low g → shed (nat_lt 0) g ≡ Nil
-    none_left low Nil inner rises = refl
-    none_left low (Tree m c ks rest) inner rises =
+    none_detached : (low : ℕ) (g : Forest Content) → 0 < low → RisesFrom low g → pruned (nat_lt 0) g ≡ Nil
+    none_detached low Nil inner rises = refl
+    none_detached low (Tree m c ks rest) inner rises =
         let t : nat_lt 0 m ≡ true = true_lt 0 m (let r = rises.0 in omega arith) in
-        rw t (none_left (m + 1) rest (omega arith) rises.1)
+        rw t (none_detached (m + 1) rest (omega arith) rises.1)
 
-    alone : shed (nat_lt 0) f ≡ tree_of f 0
+    alone : pruned (nat_lt 0) f ≡ tree_of f 0
     alone =
         let d = document_shape f next is in
         let rises : RisesFrom 0 (Tree 0 d.0 d.1 d.2) = subst (RisesFrom 0) d.3 is.rising in
-        subst (λ g. shed (nat_lt 0) g ≡ tree_of g 0) (sym d.3) (ap (Tree 0 d.0 d.1) (none_left 1 d.2 (omega arith) rises.1))
+        subst (λ g. pruned (nat_lt 0) g ≡ tree_of g 0) (sym d.3) (ap (Tree 0 d.0 d.1) (none_detached 1 d.2 (omega arith) rises.1))

@@ -8,13 +8,13 @@ use Rattle.edit_model.specs.State.{State}
 use Rattle.edit_doc.specs.declared.Doc.TheInside.{Inside}
 use Rattle.edit_doc.specs.Whole.{Whole, IsOpen, IsClosed}
 use Rattle.edit_doc.specs.History.{whole_of, began_with}
-use Rattle.edit_doc.specs.Sound.{IsSound}
+use Rattle.edit_doc.specs.Sound.{IsSoundDoc}
 
 abbrev pub seen : Inside → Whole
 seen d = whole_of d.arena d.points d.overrides.items d.flags d.command d.log d.undo_sides.items d.redo_sides.items
 
 abbrev pub Ok : Inside → Type 0
-Ok d = IsSound d.arena d.points d.overrides.items d.flags d.counts d.command d.log d.undo_sides.items d.redo_sides.items d.undo_sides.capacity d.redo_sides.capacity
+Ok d = IsSoundDoc d.arena d.points d.overrides.items d.flags d.counts d.command d.log d.undo_sides.items d.redo_sides.items d.undo_sides.capacity d.redo_sides.capacity
 
 closed_in : (s : State) (o : Open Step) → began_with s o ≡ None → o ≡ Closed
 closed_in s Closed e = refl

@@ -8,14 +8,14 @@ use Rattle.dom_model.specs.declared.Content.TheVariants.{Document, Element, Word
 use Rattle.dom_model.specs.Contents.{words_length, char_length}
 use Rattle.dom_model.specs.Forest.{Forest, total, times, put_in, count_of, tree_of, parent_of, children_of, link, CanPut, IsDistinct}
 use Rattle.dom_model.specs.Places.{place_in, index_of}
-use Rattle.dom_model.specs.State.{State as Arena, IsLawful as IsArena}
+use Rattle.dom_model.specs.ArenaState.{ArenaState as Arena, IsValid as IsArena}
 use Rattle.dom_model.proofs.Deepest.{total-bound}
 use Rattle.dom_model.proofs.Links.{total-link, parent_of-link, children_of-link, absent_n, seen}
 use Rattle.dom_model.proofs.Totals.{total-without}
 use Rattle.dom_model.proofs.Stands.{true_or_false}
 use Rattle.point_order.specs.PointOrder.{is_in_document}
 use Rattle.edit_model.specs.Edit.{index_before}
-use Rattle.edit_model.specs.Lawful.{IsForest}
+use Rattle.edit_model.specs.Valid.{IsForest}
 use Rattle.edit_doc.specs.Fields.{with_more}
 use Rattle.edit_doc.proofs.Counted.{linked_inside, linked_outside}
 use Rattle.edit_doc.proofs.HiddenTrees.{lt_true, true_lt}

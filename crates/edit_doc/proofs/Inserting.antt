@@ -5,31 +5,31 @@ use Rattle.dom_model.specs.Contents.{is_parent_at, words_length}
 use Rattle.dom_model.specs.Document.{node_count, char_count, page_depth}
 use Rattle.dom_model.specs.Forest.{Forest, total, count_of, tree_of, link, CanPut, IsDistinct}
 use Rattle.dom_model.specs.Places.{place_in, index_of}
-use Rattle.dom_model.specs.Shed.{shed}
-use Rattle.dom_model.specs.State.{State as Arena, IsLawful as IsArena, IsSlotted}
-use Rattle.dom_model.proofs.Shedding.{children_of-shed}
+use Rattle.dom_model.specs.Pruned.{pruned}
+use Rattle.dom_model.specs.ArenaState.{ArenaState as Arena, IsValid as IsArena, IsSlotted}
+use Rattle.dom_model.proofs.Pruning.{children_of-pruned}
 use Rattle.node_arena.specs.declared.NodeRef.{NodeRef}
 use Rattle.node_arena.specs.Held.{label}
-use Rattle.live_range.specs.Edit as range
+use Rattle.live_range.specs.PointsEdit as range
 use Rattle.live_range.specs.LivePoints.{LivePoints, Fits, mapped}
 use Rattle.point_order.specs.PointOrder.{is_in_document}
 use Rattle.undo_log.specs.Log.{Log, with_step}
 use Rattle.forest_changes.specs.Change.{applied}
 use Rattle.forest_changes.specs.Named.{Each, named}
 use Rattle.forest_changes.specs.Down.{IsLeft}
-use Rattle.forest_changes.proofs.ShedChanges.{CanPut-shed}
+use Rattle.forest_changes.proofs.PrunedChanges.{CanPut-pruned}
 use Rattle.forest_changes.proofs.Twice.{forest_of}
 use Rattle.edit_steps.specs.declared.step.Step.{Step}
 use Rattle.edit_steps.specs.declared.step.Step.TheVariants.{Link}
-use Rattle.edit_steps.specs.Step.{StepFits, change_of, step_applied, step_turned}
+use Rattle.edit_steps.specs.Step.{StepFits, change_of, step_applied, step_inverse}
 use Rattle.edit_model.specs.declared.settings.Setting.{Setting}
 use Rattle.edit_model.specs.State.{State}
 use Rattle.edit_model.specs.Edit.{Insert, is_made_edit, change_of as edit_change, trees_after, points_after, index_before}
 use Rattle.edit_model.specs.Confined.{may_insert}
 use Rattle.edit_model.specs.Gives.{label_of}
-use Rattle.edit_model.specs.Lawful.{IsPlaced}
+use Rattle.edit_model.specs.Valid.{IsPlaced}
 use Rattle.edit_model.specs.Possible.{freed}
-use Rattle.edit_model.proofs.LawfulParts.{lawful_freed}
+use Rattle.edit_model.proofs.ValidParts.{valid_freed}
 use Rattle.edit_model.proofs.Fitting.{fits-insert}
 use Rattle.edit_model.proofs.Tests.{Inserts, inserts}
 use Rattle.edit_parts.specs.Following.{settled}
@@ -49,10 +49,10 @@ use Rattle.edit_doc.proofs.Raised.{linked_depth}
 use Rattle.edit_doc.proofs.Treed.{placed_after, settled_after}
 use Rattle.edit_doc.proofs.Edited.{Makes, Applied, edit_linked}
 
-pub index_left : (k : ℕ → Bool) (f : Forest Content) (p : ℕ) (b : Option ℕ) → IsDistinct f → 0 < count_of (shed k f) p → index_before (shed k f) p b ≡ index_before f p b
+pub index_detached : (k : ℕ → Bool) (f : Forest Content) (p : ℕ) (b : Option ℕ) → IsDistinct f → 0 < count_of (pruned k f) p → index_before (pruned k f) p b ≡ index_before f p b
 unfolding index_before
-index_left k f p None once here = ap length (children_of-shed k f p once here)
-index_left k f p (Some m) once here = ap (λ xs. place_in xs m) (children_of-shed k f p once here)
+index_detached k f p None once here = ap length (children_of-pruned k f p once here)
+index_detached k f p (Some m) once here = ap (λ xs. place_in xs m) (children_of-pruned k f p once here)
 
 pub not_inserted : (s : State) (p : ℕ) (b : Option ℕ) (n : ℕ) → may_insert s p b n ≡ false → is_made_edit (Insert p b n) s ≡ false
 unfolding is_made_edit
@@ -68,7 +68,7 @@ module _ (d : Inside) (v : Whole) (is : seen d ≡ v) (law : IsArena d.arena) (s
   f = d.arena.trees
 
   abbrev g : Forest Content
-  g = shed (out_of d) d.arena.trees
+  g = pruned (out_of d) d.arena.trees
 
   abbrev p : ℕ
   p = parent.label
@@ -96,13 +96,13 @@ module _ (d : Inside) (v : Whole) (is : seen d ≡ v) (law : IsArena d.arena) (s
   bears = sym (is_parent_seen d law (seen d) refl parent (held_seen d v is parent parent_held)) ∙ told.parent
 
   can : CanPut f p b n
-  can = CanPut-shed (out_of d) f p b n (forest_of d.arena law) told.can
+  can = CanPut-pruned (out_of d) f p b n (forest_of d.arena law) told.can
 
   pub fits : StepFits (Link node parent before) d.arena
   fits = link_fits d v is law slotted node parent before node_held parent_held before_held told.can bears
 
   index_is : index_of (link f p b n) n ≡ index_before g p b
-  index_is = index-link f p b n law.distinct can ∙ sym (index_left (out_of d) f p b law.distinct told.can.parent)
+  index_is = index-link f p b n law.distinct can ∙ sym (index_detached (out_of d) f p b law.distinct told.can.parent)
 
   -- ---- the numbers
 
@@ -130,12 +130,12 @@ module _ (d : Inside) (v : Whole) (is : seen d ≡ v) (law : IsArena d.arena) (s
   unfolding applied trees_after
   trees_is = refl
 
-  points_is : mapped (range.Inserted p (index_before g p b)) d.points ≡ points_after (Insert p b n) g d.points
+  points_is : mapped (range.Insert p (index_before g p b)) d.points ≡ points_after (Insert p b n) g d.points
   unfolding points_after
   points_is = refl
 
-  fit_here : Fits (range.Inserted p (index_before g p b)) d.points
-  fit_here = fits-insert (freed (seen d).state) p b n (lawful_freed (seen d).state ok.lawful) (omega (arith, law.capped, law.small)) may_seen
+  fit_here : Fits (range.Insert p (index_before g p b)) d.points
+  fit_here = fits-insert (freed (seen d).state) p b n (valid_freed (seen d).state ok.valid) (omega (arith, law.capped, law.small)) may_seen
 
   seen_place : Each (IsLeft (out_of d) d.arena.trees) (named (change_of x))
   seen_place = place_seen d v is law slotted node parent before node_held parent_held before_held
@@ -152,12 +152,12 @@ module _ (d : Inside) (v : Whole) (is : seen d ≡ v) (law : IsArena d.arena) (s
     unfolding step_applied
     held_here = sym (ap (λ (a : Arena). a.held) arena_is)
 
-    pub points_fit : Fits (range.Inserted p (index_of arena.trees n)) d.points
-    points_fit = subst (λ i. Fits (range.Inserted p i) d.points) (sym index_here) fit_here
+    pub points_fit : Fits (range.Insert p (index_of arena.trees n)) d.points
+    points_fit = subst (λ i. Fits (range.Insert p i) d.points) (sym index_here) fit_here
 
-    module _ (points : LivePoints) (points_are : points ≡ mapped (range.Inserted p (index_of arena.trees n)) d.points) where
+    module _ (points : LivePoints) (points_are : points ≡ mapped (range.Insert p (index_of arena.trees n)) d.points) where
       points_here : points ≡ points_after (Insert p b n) g d.points
-      points_here = points_are ∙ (ap (λ i. mapped (range.Inserted p i) d.points) index_here ∙ points_is)
+      points_here = points_are ∙ (ap (λ i. mapped (range.Insert p i) d.points) index_here ∙ points_is)
 
       pub placed : IsPlaced arena.trees points
       unfolding applied
@@ -166,7 +166,7 @@ module _ (d : Inside) (v : Whole) (is : seen d ≡ v) (law : IsArena d.arena) (s
       module _ (overrides : List Setting) (overrides_are : overrides ≡ settled f d.points arena.trees points d.overrides.items) (enters : Bool) (enters_is : enters ≡ is_in_document f p) (counts : Counts)
           (nodes_are : counts.nodes ≡ with_more enters d.counts.nodes (total (λ _ _. 1) (tree_of f n))) (chars_are : counts.chars ≡ with_more enters d.counts.chars (total (λ _ c. words_length c) (tree_of f n)))
           (raised : IsRaised f p n enters d.counts.depth counts.depth)
-          (c : Command) (m : Marks (place_labels node parent before) d.command c) (log : Log Step) (log_is : log ≡ with_step d.log (step_turned x d.arena)) where
+          (c : Command) (m : Marks (place_labels node parent before) d.command c) (log : Log Step) (log_is : log ≡ with_step d.log (step_inverse x d.arena)) where
         makes : Makes d (Insert p b n) x points overrides counts c
         unfolding applied edit_change
         makes = record {

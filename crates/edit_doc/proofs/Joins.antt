@@ -4,15 +4,15 @@ use Rattle.std.specs.Prelude.{IsTrue}
 use Rattle.std.proofs.lemmas.List.{map-append}
 use Rattle.dom_model.specs.declared.Content.{Content}
 use Rattle.dom_model.specs.Forest.{Forest, tops, times}
-use Rattle.dom_model.specs.State.{IsLawful as IsArena}
-use Rattle.dom_model.proofs.Shedding.{count_of-shed}
+use Rattle.dom_model.specs.ArenaState.{IsValid as IsArena}
+use Rattle.dom_model.proofs.Pruning.{count_of-pruned}
 use Rattle.live_range.specs.declared.places.Places.{Places}
 use Rattle.live_range.specs.Names.{shown}
 use Rattle.undo_log.specs.Turning.{back, inverses_back, FitsBack, TurnsBack}
 use Rattle.undo_log.specs.Log.{Log, IsLog, Open, noted, is_open, is_resumed, joined, committed, committed_with}
 use Rattle.undo_log.specs.Log.Open.{Closed, Begun, Resumed}
 use Rattle.undo_log.proofs.Turns.{back-join, FitsBack-join}
-use Rattle.forest_changes.specs.Change.{Change, Fits, applied, turned}
+use Rattle.forest_changes.specs.Change.{Change, Fits, applied, inverse}
 use Rattle.forest_changes.specs.Named.{Each, named, named_in}
 use Rattle.forest_changes.specs.Down.{IsLeft, GoBackDown}
 use Rattle.forest_changes.proofs.ChangeLists.{each_of, each_join, each_first, each_rest, back_down}
@@ -23,27 +23,27 @@ use Rattle.node_arena.specs.declared.NodeRef.{NodeRef}
 use Rattle.edit_model.specs.State.{State}
 use Rattle.edit_model.specs.History.{used, joined_in, joined as joined_history, recorded, rested}
 use Rattle.edit_doc.specs.declared.Doc.TheInside.{Inside}
-use Rattle.edit_doc.specs.declared.command.Beside.{Beside}
+use Rattle.edit_doc.specs.declared.command.EntrySnapshot.{EntrySnapshot}
 use Rattle.edit_doc.specs.declared.command.Sides.{Sides}
 use Rattle.edit_doc.specs.declared.command.Command.{Command}
 use Rattle.edit_doc.specs.Fields.{IsEnded, AreResting, EntersIn, Enters, made_sides, joined_sides}
 use Rattle.edit_doc.specs.GivingUp.{loose_roots}
 use Rattle.edit_doc.specs.Whole.{Whole, history_committed, committed_history}
 use Rattle.edit_doc.specs.History.{forest_before, edits_before, roots_from, is_hidden, begun_forest, state_of, began_with, history_of, undo_entries, redo_entries, view_at}
-use Rattle.edit_doc.specs.Sound.{RefIn, CanGoBack, IsOff, IsBeside, UndoSound}
+use Rattle.edit_doc.specs.Sound.{RefIn, CanGoBack, IsOff, IsSnapshot, UndoSound}
 use Rattle.edit_doc.proofs.GivingUp.{filtered_loose, loose_is, listed_loose, listed_after, listed_before}
 use Rattle.edit_doc.proofs.Off.{Passes, passes_back, off_moved, each_here, each_off}
-use Rattle.live_range.specs.Edit.{has_label}
+use Rattle.live_range.specs.PointsEdit.{has_label}
 use Rattle.edit_model.specs.Gives.{labels_of}
 use Rattle.edit_doc.proofs.Inner.{seen, Ok}
-use Rattle.edit_doc.proofs.HiddenTrees.{hidden_is, is_hidden_from, shed_more, tops_stay}
+use Rattle.edit_doc.proofs.HiddenTrees.{hidden_is, is_hidden_from, pruned_more, tops_stay}
 use Rattle.edit_doc.proofs.Laid.{undo_later}
 use Rattle.dom_model.proofs.Stands.{true_or_false}
 use Rattle.edit_doc.proofs.Rests.{AtRest, none_noted}
-use Rattle.edit_doc.proofs.Rolls.{run, g, xs, forest_g, beside_of}
+use Rattle.edit_doc.proofs.Rolls.{run, g, xs, forest_g, snapshot_of}
 use Rattle.edit_doc.proofs.Downs.{back_forest}
 use Rattle.edit_doc.proofs.MadeNodes.{listed_has, count_edits, edits-join, roots-back, root_along, used-join}
-use Rattle.edit_doc.proofs.Turnings.{sheds_after}
+use Rattle.edit_doc.proofs.Turnings.{prunes_after}
 use Rattle.edit_doc.proofs.Commits.{placed_now}
 use Rattle.edit_doc.proofs.Records.{high, high_le, some_edits, state_before, state_now, view_now, committed_made, begun_sound, begun_history, ends, recorded_state}
 
@@ -96,13 +96,13 @@ module _ (d : Inside) (law : IsArena d.arena) (ok : Ok d) (opened : IsTrue (is_o
   abbrev now : Forest Content
   now = d.arena.trees
 
-  abbrev left_now : List NodeRef
-  left_now = loose_roots d.arena.trees d.command.left.items
+  abbrev detached_now : List NodeRef
+  detached_now = loose_roots d.arena.trees d.command.detached.items
 
   -- the entry that the command resumed, with its steps
-  module _ (e : List Step) (b b' : Beside) (left : List NodeRef) (up : ℕ) (le : up ≤ d.command.start) (can : CanGoBack d.arena.held e begun)
-      (was : IsBeside d.points.names (forest_before e begun) begun e (inverses_back applied turned (changes_of e) begun) b left up d.command.start)
-      (same : b'.sides ≡ joined_sides b.sides p d.counts) (left_is : b'.left.items ≡ left_now) (taken : left ≡ take d.command.left_before d.command.left.items) where
+  module _ (e : List Step) (b b' : EntrySnapshot) (detached : List NodeRef) (up : ℕ) (le : up ≤ d.command.start) (can : CanGoBack d.arena.held e begun)
+      (was : IsSnapshot d.points.names (forest_before e begun) begun e (inverses_back applied inverse (changes_of e) begun) b detached up d.command.start)
+      (same : b'.sides ≡ joined_sides b.sides p d.counts) (detached_is : b'.detached.items ≡ detached_now) (taken : detached ≡ take d.command.detached_before d.command.detached.items) where
     abbrev both : List Step
     both = e ++ steps
 
@@ -131,24 +131,24 @@ module _ (d : Inside) (law : IsArena d.arena) (ok : Ok d) (opened : IsTrue (is_o
     roots l t = ok.hidden l (hidden_more l t)
 
     last_there : Each (IsLeft k now) (named_in (changes_of steps))
-    last_there = each_of (IsLeft (is_hidden begun d.command.start) now) (IsLeft k now) (named_in (changes_of steps)) (λ l t. (let m = shed_more (is_hidden begun d.command.start) k now l hidden_more in omega (arith, m, t))) (run d law ok opened).names_there
+    last_there = each_of (IsLeft (is_hidden begun d.command.start) now) (IsLeft k now) (named_in (changes_of steps)) (λ l t. (let m = pruned_more (is_hidden begun d.command.start) k now l hidden_more in omega (arith, m, t))) (run d law ok opened).names_there
 
     last_down : GoBackDown k (changes_of steps) now
-    last_down = back_down k (changes_of steps) now (sheds_after first now b.sides.first_label (forest_of d.arena law) roots) (run d law ok opened).can.0 last_there
+    last_down = back_down k (changes_of steps) now (prunes_after first now b.sides.first_label (forest_of d.arena law) roots) (run d law ok opened).can.0 last_there
 
     there : Each (IsLeft k now) (named_in (changes_of both))
     there = each_named (IsLeft k now) e steps (each_of (IsLeft k begun) (IsLeft k now) (named_in (changes_of e)) (λ l t. (let s = last_down.stays l in omega (arith, s, t))) was.names_there) last_there
 
     down : GoBackDown k (changes_of both) now
-    down = back_down k (changes_of both) now (sheds_after first now b.sides.first_label (forest_of d.arena law) roots) can_both.0 there
+    down = back_down k (changes_of both) now (prunes_after first now b.sides.first_label (forest_of d.arena law) roots) can_both.0 there
 
     below : (ls : List ℕ) → Each (IsLeft k now) ls → Each (λ l. l < d.arena.next) ls
-    below ls h = each_of (IsLeft k now) (λ l. l < d.arena.next) ls (λ l t. law.below l (let m = count_of-shed k now l in omega (arith, m, t))) h
+    below ls h = each_of (IsLeft k now) (λ l. l < d.arena.next) ls (λ l t. law.below l (let m = count_of-pruned k now l in omega (arith, m, t))) h
 
     abbrev turns : List Change
-    turns = inverses_back applied turned (changes_of both) now
+    turns = inverses_back applied inverse (changes_of both) now
 
-    own : IsBeside d.points.names first now both turns (record b { sides = joined_sides b.sides p d.counts }) left_now d.arena.next d.arena.next
+    own : IsSnapshot d.points.names first now both turns (record b { sides = joined_sides b.sides p d.counts }) detached_now d.arena.next d.arena.next
     own = record {
       was = was.was;
       is = record {
@@ -161,40 +161,40 @@ module _ (d : Inside) (law : IsArena d.arena) (ok : Ok d) (opened : IsTrue (is_o
       };
       some_label = was.some_label;
       fresh = was.fresh;
-      drawn = (let t = ok.lawful.started in let low = first_low in omega (arith, t, low));
+      drawn = (let t = ok.valid.started in let low = first_low in omega (arith, t, low));
       known = omega arith;
       hidden = roots;
       names_seen = each_of (IsLeft k now) (IsLeft k first) (named_in (changes_of both)) (λ l t. subst (λ h. IsLeft k h l) (before_join e steps now) (let s = down.stays l in omega (arith, s, t))) there;
       names_there = there;
       names_old = below (named_in (changes_of both)) there;
       turns_old = below (named_in turns) down.names;
-      left_loose = filtered_loose now d.arena.next law.distinct law.below d.command.left.items;
-      left_all = λ l inner top out. listed_loose now d.command.left.items l (loose_is now l inner top) (elim (true_or_false (hid l)) [
+      detached_loose = filtered_loose now d.arena.next law.distinct law.below d.command.detached.items;
+      detached_all = λ l inner top out. listed_loose now d.command.detached.items l (loose_is now l inner top) (elim (true_or_false (hid l)) [
         | inl t ↦ (
             let last_off : Each (IsOff now l) (named_in (changes_of steps)) = each_off hid now l law.distinct top t (named_in (changes_of steps)) (run d law ok opened).names_there in
-            let ps : Passes l now begun (inverses_back applied turned (changes_of steps) now) =
+            let ps : Passes l now begun (inverses_back applied inverse (changes_of steps) now) =
             passes_back l (changes_of steps) now (forest_of d.arena law) inner top (run d law ok opened).can.0 (each_here hid now (named_in (changes_of steps)) (run d law ok opened).names_there) last_off in
-            let listed = was.left_all l inner ps.top (λ a x. (
+            let listed = was.detached_all l inner ps.top (λ a x. (
             let first_off = off_moved l begun now (λ m. sym (ps.same m)) (named_in (changes_of e)) a in
             let both_off = each_named (IsOff now l) e steps first_off last_off in
             let pb : Passes l now (forest_before both now) turns = passes_back l (changes_of both) now (forest_of d.arena law) inner top can_both.0 (each_here k now (named_in (changes_of both)) there) both_off in
             out both_off pb.turns)) in
-            listed_before d.command.left_before d.command.left.items l (subst (λ ls. has_label (labels_of ls) l ≡ true) taken listed))
-        | inr t ↦ listed_after d.command.left_before d.command.left.items l ((run d law ok opened).loosened l inner (subst (λ n. 0 < n) (sym (tops_stay hid now l t)) top))
+            listed_before d.command.detached_before d.command.detached.items l (subst (λ ls. has_label (labels_of ls) l ≡ true) taken listed))
+        | inr t ↦ listed_after d.command.detached_before d.command.detached.items l ((run d law ok opened).newly_detached l inner (subst (λ n. 0 < n) (sym (tops_stay hid now l t)) top))
       ]);
     }
 
-    pub joined_beside : IsBeside d.points.names (forest_before both now) now both turns b' b'.left.items d.arena.next c.start
-    joined_beside =
-        subst (λ n. IsBeside d.points.names (forest_before both now) now both turns b' b'.left.items d.arena.next n) (sym ended.start)
-        (subst (λ h. IsBeside d.points.names h now both turns b' b'.left.items d.arena.next d.arena.next) (sym (before_join e steps now))
-        (subst (λ ls. IsBeside d.points.names first now both turns b' ls d.arena.next d.arena.next) (sym left_is)
-        (beside_of d.points.names first now both turns (record b { sides = joined_sides b.sides p d.counts }) b' left_now d.arena.next d.arena.next (sym same) own)))
+    pub joined_snapshot : IsSnapshot d.points.names (forest_before both now) now both turns b' b'.detached.items d.arena.next c.start
+    joined_snapshot =
+        subst (λ n. IsSnapshot d.points.names (forest_before both now) now both turns b' b'.detached.items d.arena.next n) (sym ended.start)
+        (subst (λ h. IsSnapshot d.points.names h now both turns b' b'.detached.items d.arena.next d.arena.next) (sym (before_join e steps now))
+        (subst (λ ls. IsSnapshot d.points.names first now both turns b' ls d.arena.next d.arena.next) (sym detached_is)
+        (snapshot_of d.points.names first now both turns (record b { sides = joined_sides b.sides p d.counts }) b' detached_now d.arena.next d.arena.next (sym same) own)))
 
   start_le : d.command.start ≤ c.start
-  start_le = (let s = ended.start in let t = ok.lawful.started in omega (arith, s, t))
+  start_le = (let s = ended.start in let t = ok.valid.started in omega (arith, s, t))
 
-  joined_undo : (up room : ℕ) (s : Sides) (es : List (List Step)) (bs new : List Beside) (out : Option Beside) → up ≤ d.command.start → EntersIn true s left_now p d.counts room bs new out →
+  joined_undo : (up room : ℕ) (s : Sides) (es : List (List Step)) (bs new : List EntrySnapshot) (out : Option EntrySnapshot) → up ≤ d.command.start → EntersIn true s detached_now p d.counts room bs new out →
       UndoSound d.arena.held d.points.names true d.command up begun es bs → UndoSound d.arena.held d.points.names false c d.arena.next now (joined es steps) new
   joined_undo up room s es [] new out le enters h = absurd enters
   joined_undo up room s es (b ∷ bs) [] out le enters h = absurd enters
@@ -204,10 +204,10 @@ module _ (d : Inside) (law : IsArena d.arena) (ok : Ok d) (opened : IsTrue (is_o
       let first : Forest Content = forest_before e begun in
       let low : b.sides.first_label ≤ d.command.start = (let t = h.1.0.drawn in omega arith) in
       let rest : UndoSound d.arena.held d.points.names false c b.sides.first_label first es bs = undo_later d.arena.held d.points.names d.command c start_le b.sides.first_label b.sides.first_label first es bs (omega arith) (let t = start_le in omega arith) h.1.1 in
-      let left = take d.command.left_before d.command.left.items in (
-        can_both e b b' left up le h.0 h.1.0 same enters.1.1.0 refl,
+      let detached = take d.command.detached_before d.command.detached.items in (
+        can_both e b b' detached up le h.0 h.1.0 same enters.1.1.0 refl,
         (
-          joined_beside e b b' left up le h.0 h.1.0 same enters.1.1.0 refl,
+          joined_snapshot e b b' detached up le h.0 h.1.0 same enters.1.1.0 refl,
           subst (λ (t : Sides). UndoSound d.arena.held d.points.names false c t.first_label (forest_before (e ++ steps) now) es bs') (sym same)
               (subst (λ t. UndoSound d.arena.held d.points.names false c b.sides.first_label t es bs') (sym (before_join e steps now))
               (subst (λ cs. UndoSound d.arena.held d.points.names false c b.sides.first_label first es cs) (sym enters.0) rest)),
@@ -215,8 +215,8 @@ module _ (d : Inside) (law : IsArena d.arena) (ok : Ok d) (opened : IsTrue (is_o
       )
 
   -- the nodes of the entry and those of the command that joined it
-  module _ (e : List Step) (b : Beside) (left : List NodeRef) (up : ℕ) (le : up ≤ d.command.start) (can : CanGoBack d.arena.held e begun)
-      (was : IsBeside d.points.names (forest_before e begun) begun e (inverses_back applied turned (changes_of e) begun) b left up d.command.start) where
+  module _ (e : List Step) (b : EntrySnapshot) (detached : List NodeRef) (up : ℕ) (le : up ≤ d.command.start) (can : CanGoBack d.arena.held e begun)
+      (was : IsSnapshot d.points.names (forest_before e begun) begun e (inverses_back applied inverse (changes_of e) begun) b detached up d.command.start) where
     abbrev G : Forest Content
     G = forest_before e begun
 
@@ -226,7 +226,7 @@ module _ (d : Inside) (law : IsArena d.arena) (ok : Ok d) (opened : IsTrue (is_o
     abbrev ys : List Change
     ys = edits_before steps now
 
-    tb : TurnsBack applied turned Fits (changes_of e) begun
+    tb : TurnsBack applied inverse Fits (changes_of e) begun
     tb = back_turns (changes_of e) begun can.0
 
     old_edits : Each (λ l. l < d.command.start) (named_in ts)
@@ -244,9 +244,9 @@ module _ (d : Inside) (law : IsArena d.arena) (ok : Ok d) (opened : IsTrue (is_o
     seen_last l t =
         let r = run d law ok opened in
         let k = is_hidden begun d.command.start in
-        let sheds = sheds_after begun now d.command.start (forest_of d.arena law) ok.hidden in
-        let gd : GoBackDown k (changes_of steps) now = back_down k (changes_of steps) now sheds r.can.0 r.names_there in
-        sheds.out l (listed_has (IsLeft k now) (named_in ys) l gd.names t)
+        let prunes = prunes_after begun now d.command.start (forest_of d.arena law) ok.hidden in
+        let gd : GoBackDown k (changes_of steps) now = back_down k (changes_of steps) now prunes r.can.0 r.names_there in
+        prunes.out l (listed_has (IsLeft k now) (named_in ys) l gd.names t)
 
     named_before : (l : ℕ) → 0 < times (tops G) l → b.sides.first_label ≤ l → l < d.command.start → has_label (named_in ys) l ≡ true → has_label (named_in ts) l ≡ true
     named_before l top from lt t = elim (true_or_false (has_label (named_in ts) l)) [
@@ -264,7 +264,7 @@ module _ (d : Inside) (law : IsArena d.arena) (ok : Ok d) (opened : IsTrue (is_o
         ∙ (used-join ts ys b.sides.first_label d.command.start first old_edits 0 G (back_forest (changes_of e) begun can.0 (forest_g d law ok opened)).rising named_before
         ∙ ap (λ r. used ts (roots_from b.sides.first_label G) ++ used ys r) (roots-back d.command.start (changes_of e) begun old_steps))
 
-  joined_entries : (up room : ℕ) (s : Sides) (es : List (List Step)) (bs new : List Beside) (out : Option Beside) → up ≤ d.command.start → EntersIn true s left_now p d.counts room bs new out →
+  joined_entries : (up room : ℕ) (s : Sides) (es : List (List Step)) (bs new : List EntrySnapshot) (out : Option EntrySnapshot) → up ≤ d.command.start → EntersIn true s detached_now p d.counts room bs new out →
       UndoSound d.arena.held d.points.names true d.command up begun es bs →
       undo_entries d.points.names now (joined es steps) new ≡ joined_in (state_now d law ok opened p resting) (undo_entries d.points.names begun es bs)
   joined_entries up room s es [] new out le enters h = absurd enters
@@ -272,7 +272,7 @@ module _ (d : Inside) (law : IsArena d.arena) (ok : Ok d) (opened : IsTrue (is_o
   joined_entries up room s [] (b ∷ bs) (b' ∷ bs') out le enters h = refl
   joined_entries up room s (e ∷ es) (b ∷ bs) (b' ∷ bs') out le enters h =
       let first_is : b'.sides.first_label ≡ b.sides.first_label = ap (λ (t : Sides). t.first_label) enters.1.0 in
-      let nodes = ap (λ n. used (edits_before (e ++ steps) now) (roots_from n (forest_before (e ++ steps) now))) first_is ∙ joined_nodes e b (take d.command.left_before d.command.left.items) up le h.0 h.1.0 in
+      let nodes = ap (λ n. used (edits_before (e ++ steps) now) (roots_from n (forest_before (e ++ steps) now))) first_is ∙ joined_nodes e b (take d.command.detached_before d.command.detached.items) up le h.0 h.1.0 in
       let join = before_join e steps now in
       let after = ap (λ (t : Sides). view_at d.points.names now t.after) enters.1.0 ∙ view_now d law ok opened p resting in
       λ i. record {
@@ -282,9 +282,9 @@ module _ (d : Inside) (law : IsArena d.arena) (ok : Ok d) (opened : IsTrue (is_o
         made = nodes i;
       } ∷ undo_entries d.points.names (join i) es (enters.0 i)
 
-  module _ (resumed : is_resumed d.log.open_entry ≡ true) (us : List Beside) (out : Option Beside) (enters : Enters d.command (loose_roots d.arena.trees d.command.left.items) p d.counts d.undo_sides.capacity d.undo_sides.items us out) where
-    pub entering : EntersIn true (made_sides d.command p d.counts) left_now p d.counts d.undo_sides.capacity d.undo_sides.items us out
-    entering = subst (λ r. EntersIn r (made_sides d.command p d.counts) left_now p d.counts d.undo_sides.capacity d.undo_sides.items us out) (ok.resumed ∙ resumed) enters
+  module _ (resumed : is_resumed d.log.open_entry ≡ true) (us : List EntrySnapshot) (out : Option EntrySnapshot) (enters : Enters d.command (loose_roots d.arena.trees d.command.detached.items) p d.counts d.undo_sides.capacity d.undo_sides.items us out) where
+    pub entering : EntersIn true (made_sides d.command p d.counts) detached_now p d.counts d.undo_sides.capacity d.undo_sides.items us out
+    entering = subst (λ r. EntersIn r (made_sides d.command p d.counts) detached_now p d.counts d.undo_sides.capacity d.undo_sides.items us out) (ok.resumed ∙ resumed) enters
 
     pub joined_sound : UndoSound d.arena.held d.points.names false c d.arena.next now (joined d.log.undo steps) us
     joined_sound =
@@ -311,7 +311,7 @@ pub true_is : (b : Bool) → b ≡ true → IsTrue b
 true_is true e = refl
 true_is false e = absurd (cc)
 
-module _ (d : Inside) (law : IsArena d.arena) (ok : Ok d) (opened : IsTrue (is_open d.log.open_entry)) (p : Places) (resting : AreResting d.points p) (logged : IsLog d.log) (some : 0 < length (noted d.log.open_entry)) (c : Command) (ended : IsEnded d.arena.next c) (us : List Beside) (out : Option Beside) (enters : Enters d.command (loose_roots d.arena.trees d.command.left.items) p d.counts d.undo_sides.capacity d.undo_sides.items us out) where
+module _ (d : Inside) (law : IsArena d.arena) (ok : Ok d) (opened : IsTrue (is_open d.log.open_entry)) (p : Places) (resting : AreResting d.points p) (logged : IsLog d.log) (some : 0 < length (noted d.log.open_entry)) (c : Command) (ended : IsEnded d.arena.next c) (us : List EntrySnapshot) (out : Option EntrySnapshot) (enters : Enters d.command (loose_roots d.arena.trees d.command.detached.items) p d.counts d.undo_sides.capacity d.undo_sides.items us out) where
   record Recorded (log : Log Step) : Type 0 where
     closed : log.open_entry ≡ Closed
     redo : log.redo ≡ []

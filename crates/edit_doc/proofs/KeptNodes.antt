@@ -5,9 +5,9 @@ use Rattle.std.proofs.lemmas.Bool.Decides.{eqb_tells, nat_tests}
 use Rattle.dom_model.specs.declared.Content.{Content}
 use Rattle.dom_model.specs.Forest.{Forest, tops, times, count_of, tree_of, IsDistinct, IsWithin}
 use Rattle.dom_model.specs.Forest.Forest.{Nil, Tree}
-use Rattle.dom_model.specs.State.{IsLawful as IsArena, IsSlotted}
+use Rattle.dom_model.specs.ArenaState.{IsValid as IsArena, IsSlotted}
 use Rattle.dom_model.proofs.Stands.{times-tops}
-use Rattle.live_range.specs.Edit.{has_label}
+use Rattle.live_range.specs.PointsEdit.{has_label}
 use Rattle.undo_log.specs.Log.{noted}
 use Rattle.undo_log.specs.Log.Open.{Closed}
 use Rattle.forest_changes.specs.Change.{Change, IsForest}
@@ -17,7 +17,7 @@ use Rattle.edit_steps.specs.declared.step.Step.{Step}
 use Rattle.edit_steps.specs.Step.{changes_of}
 use Rattle.edit_model.specs.History.{document_of}
 use Rattle.edit_doc.specs.declared.Doc.TheInside.{Inside}
-use Rattle.edit_doc.specs.declared.command.Beside.{Beside}
+use Rattle.edit_doc.specs.declared.command.EntrySnapshot.{EntrySnapshot}
 use Rattle.edit_doc.specs.declared.command.Command.{Command}
 use Rattle.edit_doc.specs.History.{forest_before, forest_after, begun_forest, undo_entries, redo_entries}
 use Rattle.edit_doc.specs.Kept.{LeadAllBack, LeadAllForth, IsNamed, AreInTree, HoldsOnlyNeeded}
@@ -51,12 +51,12 @@ root_over (Tree m c ks rest) l once here = by_count (cond (eqb m l) 1 0 + count_
         ]
 
 module _ (held : List (Option ℕ)) (names : List (List ℕ)) (c : Command) where
-  lead_back : (r : Bool) (high : ℕ) (f : Forest Content) (es : List (List Step)) (bs : List Beside) → UndoSound held names r c high f es bs → LeadAllBack f (map changes_of es) (undo_entries names f es bs)
+  lead_back : (r : Bool) (high : ℕ) (f : Forest Content) (es : List (List Step)) (bs : List EntrySnapshot) → UndoSound held names r c high f es bs → LeadAllBack f (map changes_of es) (undo_entries names f es bs)
   lead_back r high f [] bs h = tt
   lead_back r high f (e ∷ es) [] h = absurd h
   lead_back r high f (e ∷ es) (b ∷ bs) h = (record { fits = h.0.0; own = refl; after = refl; before = refl }, lead_back false b.sides.first_label (forest_before e f) es bs h.1.1)
 
-  lead_forth : (f : Forest Content) (es : List (List Step)) (bs : List Beside) → RedoSound held names c f es bs → LeadAllForth f (map changes_of es) (redo_entries names f es bs)
+  lead_forth : (f : Forest Content) (es : List (List Step)) (bs : List EntrySnapshot) → RedoSound held names c f es bs → LeadAllForth f (map changes_of es) (redo_entries names f es bs)
   lead_forth f [] bs h = tt
   lead_forth f (e ∷ es) [] h = absurd h
   lead_forth f (e ∷ es) (b ∷ bs) h = (record { fits = h.0.0; own = refl; before = refl; after = refl }, lead_forth (forest_after e f) es bs h.1.1)

@@ -5,53 +5,53 @@ use Rattle.dom_model.specs.declared.Content.{Content}
 use Rattle.dom_model.specs.Forest.{Forest, parent_of}
 use Rattle.undo_log.specs.Log.{first_length}
 use Rattle.undo_log.specs.Turning.{inverses_back, inverses_forth}
-use Rattle.forest_changes.specs.Change.{Change, applied, turned}
+use Rattle.forest_changes.specs.Change.{Change, applied, inverse}
 use Rattle.forest_changes.specs.Named.{named_in}
 use Rattle.forest_changes.proofs.ChangeLists.{each_of}
 use Rattle.edit_steps.specs.declared.step.Step.{Step}
 use Rattle.edit_steps.specs.Step.{changes_of}
 use Rattle.node_arena.specs.declared.NodeRef.{NodeRef}
 use Rattle.edit_model.specs.Gives.{labels_of}
-use Rattle.edit_doc.specs.declared.command.Beside.{Beside}
+use Rattle.edit_doc.specs.declared.command.EntrySnapshot.{EntrySnapshot}
 use Rattle.edit_doc.specs.declared.command.Command.{Command}
 use Rattle.edit_doc.specs.declared.Doc.TheInside.{Inside}
 use Rattle.edit_doc.specs.Whole.{Whole, first_edits}
 use Rattle.edit_doc.specs.History.{forest_before, forest_after, begun_forest, undo_entries, redo_entries}
-use Rattle.edit_doc.specs.Sound.{IsBeside, next_first, UndoSound, RedoSound}
+use Rattle.edit_doc.specs.Sound.{IsSnapshot, next_first, UndoSound, RedoSound}
 use Rattle.edit_doc.proofs.Inner.{seen, Ok}
 use Rattle.edit_doc.proofs.MadeNodes.{count_changes, count_edits}
 
 -- ---- lengths
 
 module _ (held : List (Option ℕ)) (names : List (List ℕ)) (c : Command) where
-  pub undo_sides_length : (r : Bool) (high : ℕ) (f : Forest Content) (es : List (List Step)) (bs : List Beside) → UndoSound held names r c high f es bs → length bs ≡ length es
+  pub undo_sides_length : (r : Bool) (high : ℕ) (f : Forest Content) (es : List (List Step)) (bs : List EntrySnapshot) → UndoSound held names r c high f es bs → length bs ≡ length es
   undo_sides_length r high f [] [] h = refl
   undo_sides_length r high f [] (b ∷ bs) h = absurd h
   undo_sides_length r high f (e ∷ es) [] h = absurd h
   undo_sides_length r high f (e ∷ es) (b ∷ bs) h = ap suc (undo_sides_length false b.sides.first_label (forest_before e f) es bs h.1.1)
 
-  pub redo_sides_length : (f : Forest Content) (es : List (List Step)) (bs : List Beside) → RedoSound held names c f es bs → length bs ≡ length es
+  pub redo_sides_length : (f : Forest Content) (es : List (List Step)) (bs : List EntrySnapshot) → RedoSound held names c f es bs → length bs ≡ length es
   redo_sides_length f [] [] h = refl
   redo_sides_length f [] (b ∷ bs) h = absurd h
   redo_sides_length f (e ∷ es) [] h = absurd h
   redo_sides_length f (e ∷ es) (b ∷ bs) h = ap suc (redo_sides_length (forest_after e f) es bs h.1.1)
 
-undo_entries_length : (names : List (List ℕ)) (f : Forest Content) (es : List (List Step)) (bs : List Beside) → length bs ≡ length es → length (undo_entries names f es bs) ≡ length es
+undo_entries_length : (names : List (List ℕ)) (f : Forest Content) (es : List (List Step)) (bs : List EntrySnapshot) → length bs ≡ length es → length (undo_entries names f es bs) ≡ length es
 undo_entries_length names f [] bs h = refl
 undo_entries_length names f (e ∷ es) [] h = h
 undo_entries_length names f (e ∷ es) (b ∷ bs) h = ap suc (undo_entries_length names (forest_before e f) es bs (omega arith))
 
-redo_entries_length : (names : List (List ℕ)) (f : Forest Content) (es : List (List Step)) (bs : List Beside) → length bs ≡ length es → length (redo_entries names f es bs) ≡ length es
+redo_entries_length : (names : List (List ℕ)) (f : Forest Content) (es : List (List Step)) (bs : List EntrySnapshot) → length bs ≡ length es → length (redo_entries names f es bs) ≡ length es
 redo_entries_length names f [] bs h = refl
 redo_entries_length names f (e ∷ es) [] h = h
 redo_entries_length names f (e ∷ es) (b ∷ bs) h = ap suc (redo_entries_length names (forest_after e f) es bs (omega arith))
 
-undo_first_edits : (names : List (List ℕ)) (f : Forest Content) (es : List (List Step)) (bs : List Beside) → length bs ≡ length es → first_edits (undo_entries names f es bs) ≡ first_length es
+undo_first_edits : (names : List (List ℕ)) (f : Forest Content) (es : List (List Step)) (bs : List EntrySnapshot) → length bs ≡ length es → first_edits (undo_entries names f es bs) ≡ first_length es
 undo_first_edits names f [] bs h = refl
 undo_first_edits names f (e ∷ es) [] h = absurd (omega arith)
 undo_first_edits names f (e ∷ es) (b ∷ bs) h = count_edits e f
 
-redo_first_edits : (names : List (List ℕ)) (f : Forest Content) (es : List (List Step)) (bs : List Beside) → length bs ≡ length es → first_edits (redo_entries names f es bs) ≡ first_length es
+redo_first_edits : (names : List (List ℕ)) (f : Forest Content) (es : List (List Step)) (bs : List EntrySnapshot) → length bs ≡ length es → first_edits (redo_entries names f es bs) ≡ first_length es
 redo_first_edits names f [] bs h = refl
 redo_first_edits names f (e ∷ es) [] h = absurd (omega arith)
 redo_first_edits names f (e ∷ es) (b ∷ bs) h = count_changes e
@@ -92,9 +92,9 @@ module _ (d : Inside) (v : Whole) (is : seen d ≡ v) (ok : Ok d) where
 
 -- Without a resumed entry the history depends on the start alone, and the later the start the more holds; and the first
 -- entry may leave room for more labels.
-pub beside_later : (names : List (List ℕ)) (before after : Forest Content) (e : List Step) (ts : List Change) (b : Beside) (left : List NodeRef) (high start up later : ℕ) →
-    IsBeside names before after e ts b left high start → high ≤ up → up ≤ later → IsBeside names before after e ts b left up later
-beside_later names before after e ts b left high start up later h le known = record {
+pub snapshot_later : (names : List (List ℕ)) (before after : Forest Content) (e : List Step) (ts : List Change) (b : EntrySnapshot) (detached : List NodeRef) (high start up later : ℕ) →
+    IsSnapshot names before after e ts b detached high start → high ≤ up → up ≤ later → IsSnapshot names before after e ts b detached up later
+snapshot_later names before after e ts b detached high start up later h le known = record {
   was = h.was;
   is = h.is;
   some_label = h.some_label;
@@ -106,37 +106,37 @@ beside_later names before after e ts b left high start up later h le known = rec
   names_there = h.names_there;
   names_old = each_of (λ l. l < high) (λ l. l < up) (named_in (changes_of e)) (λ l lt. omega arith) h.names_old;
   turns_old = each_of (λ l. l < high) (λ l. l < up) (named_in ts) (λ l lt. omega arith) h.turns_old;
-  left_loose = each_of (λ l. (0 < l) × ((l < high) × (parent_of after l ≡ None))) (λ l. (0 < l) × ((l < up) × (parent_of after l ≡ None))) (labels_of left) (λ l t. (t.0, ((let lt = t.1.0 in omega arith), t.1.1))) h.left_loose;
-  left_all = h.left_all;
+  detached_loose = each_of (λ l. (0 < l) × ((l < high) × (parent_of after l ≡ None))) (λ l. (0 < l) × ((l < up) × (parent_of after l ≡ None))) (labels_of detached) (λ l t. (t.0, ((let lt = t.1.0 in omega arith), t.1.1))) h.detached_loose;
+  detached_all = h.detached_all;
 }
 
 module _ (held : List (Option ℕ)) (names : List (List ℕ)) (c d : Command) (le : c.start ≤ d.start) where
-  pub undo_later : (high up : ℕ) (f : Forest Content) (es : List (List Step)) (bs : List Beside) → high ≤ up → up ≤ d.start → UndoSound held names false c high f es bs → UndoSound held names false d up f es bs
+  pub undo_later : (high up : ℕ) (f : Forest Content) (es : List (List Step)) (bs : List EntrySnapshot) → high ≤ up → up ≤ d.start → UndoSound held names false c high f es bs → UndoSound held names false d up f es bs
   undo_later high up f [] [] more known h = tt
   undo_later high up f [] (b ∷ bs) more known h = absurd h
   undo_later high up f (e ∷ es) [] more known h = absurd h
   undo_later high up f (e ∷ es) (b ∷ bs) more known h =
       let first : b.sides.first_label ≤ d.start = (let t = h.1.0.drawn in omega arith) in
-      (h.0, (beside_later names (forest_before e f) f e (inverses_back applied turned (changes_of e) f) b b.left.items high c.start up d.start h.1.0 more known, undo_later b.sides.first_label b.sides.first_label (forest_before e f) es bs (omega arith) first h.1.1))
+      (h.0, (snapshot_later names (forest_before e f) f e (inverses_back applied inverse (changes_of e) f) b b.detached.items high c.start up d.start h.1.0 more known, undo_later b.sides.first_label b.sides.first_label (forest_before e f) es bs (omega arith) first h.1.1))
 
-  next_first_later : (bs : List Beside) → next_first c.start bs ≤ next_first d.start bs
+  next_first_later : (bs : List EntrySnapshot) → next_first c.start bs ≤ next_first d.start bs
   next_first_later [] = le
   next_first_later (b ∷ bs) = omega arith
 
-  next_first_known : (f : Forest Content) (es : List (List Step)) (bs : List Beside) → RedoSound held names c f es bs → next_first d.start bs ≤ d.start
+  next_first_known : (f : Forest Content) (es : List (List Step)) (bs : List EntrySnapshot) → RedoSound held names c f es bs → next_first d.start bs ≤ d.start
   next_first_known f es [] h = omega arith
   next_first_known f [] (b ∷ bs) h = absurd h
   next_first_known f (e ∷ es) (b ∷ bs) h = (let u = h.1.0.drawn in let w = h.1.0.known in omega arith)
 
-  pub redo_later : (f : Forest Content) (es : List (List Step)) (bs : List Beside) → RedoSound held names c f es bs → RedoSound held names d f es bs
+  pub redo_later : (f : Forest Content) (es : List (List Step)) (bs : List EntrySnapshot) → RedoSound held names c f es bs → RedoSound held names d f es bs
   redo_later f [] [] h = tt
   redo_later f [] (b ∷ bs) h = absurd h
   redo_later f (e ∷ es) [] h = absurd h
   redo_later f (e ∷ es) (b ∷ bs) h =
-      (h.0, (beside_later names f (forest_after e f) e (inverses_forth applied turned (changes_of e) f) b b.left.items (next_first c.start bs) c.start (next_first d.start bs) d.start h.1.0 (next_first_later bs) (next_first_known (forest_after e f) es bs h.1.1), redo_later (forest_after e f) es bs h.1.1))
+      (h.0, (snapshot_later names f (forest_after e f) e (inverses_forth applied inverse (changes_of e) f) b b.detached.items (next_first c.start bs) c.start (next_first d.start bs) d.start h.1.0 (next_first_later bs) (next_first_known (forest_after e f) es bs h.1.1), redo_later (forest_after e f) es bs h.1.1))
 
 -- the first label of an entry is no later than the next one as the command began
-pub next_first_low : (held : List (Option ℕ)) (names : List (List ℕ)) (c : Command) (f : Forest Content) (es : List (List Step)) (bs : List Beside) → RedoSound held names c f es bs → next_first c.start bs ≤ c.start
+pub next_first_low : (held : List (Option ℕ)) (names : List (List ℕ)) (c : Command) (f : Forest Content) (es : List (List Step)) (bs : List EntrySnapshot) → RedoSound held names c f es bs → next_first c.start bs ≤ c.start
 next_first_low held names c f es [] h = omega arith
 next_first_low held names c f [] (b ∷ bs) h = absurd h
 next_first_low held names c f (e ∷ es) (b ∷ bs) h = (let u = h.1.0.drawn in let w = h.1.0.known in omega arith)

@@ -3,44 +3,44 @@ use Rattle.std.proofs.Common.{◌≡◌, ℕ, ◌<◌, ◌≤◌, Bool, false, c
 use Rattle.std.proofs.lemmas.List.{reverse-append}
 use Rattle.dom_model.specs.declared.Content.{Content}
 use Rattle.dom_model.specs.Forest.{Forest, count_of}
-use Rattle.dom_model.specs.Shed.{shed}
-use Rattle.dom_model.specs.State.{IsLawful as IsArena}
-use Rattle.dom_model.proofs.Shedding.{tree_of-shed}
+use Rattle.dom_model.specs.Pruned.{pruned}
+use Rattle.dom_model.specs.ArenaState.{IsValid as IsArena}
+use Rattle.dom_model.proofs.Pruning.{tree_of-pruned}
 use Rattle.dom_model.proofs.Totals.{total-without}
 use Rattle.dom_model.proofs.Walks.{document_first}
 use Rattle.node_arena.specs.declared.NodeRef.{NodeRef}
 use Rattle.undo_log.specs.Log.{noted}
 use Rattle.undo_log.specs.Log.Open.{Closed}
 use Rattle.undo_log.specs.Turning.{back, forth, inverses_back, FitsBack, FitsForth}
-use Rattle.forest_changes.specs.Change.{IsForest, Fits, applied, turned}
+use Rattle.forest_changes.specs.Change.{IsForest, Fits, applied, inverse}
 use Rattle.forest_changes.specs.Down.{IsLeft}
 use Rattle.forest_changes.specs.Leaves.{IsBelow}
 use Rattle.forest_changes.specs.Named.{Each, named_in}
 use Rattle.forest_changes.proofs.ChangeLists.{each_of, back_down, forth_down}
-use Rattle.forest_changes.proofs.DownChange.{IsForest-shed}
+use Rattle.forest_changes.proofs.DownChange.{IsForest-pruned}
 use Rattle.forest_changes.proofs.Twice.{forest_of, back_turns}
 use Rattle.edit_steps.specs.declared.step.Step.{Step}
 use Rattle.edit_steps.specs.Step.{changes_of}
 use Rattle.edit_model.specs.History.{Entry, used, document_of}
 use Rattle.edit_model.proofs.Resting.{forest-document}
 use Rattle.edit_doc.specs.declared.Doc.TheInside.{Inside}
-use Rattle.edit_doc.specs.declared.command.Beside.{Beside}
+use Rattle.edit_doc.specs.declared.command.EntrySnapshot.{EntrySnapshot}
 use Rattle.edit_doc.specs.declared.command.Command.{Command}
 use Rattle.edit_doc.specs.History.{edits_before, roots_from, forest_before, begun_forest, is_hidden, view_at, undo_entries}
 use Rattle.edit_doc.specs.Onward.{next_past, LeadsOnward, LeadOnward, LeadFrom, HasLedOnward}
-use Rattle.edit_doc.specs.Sound.{IsBeside, UndoSound, RedoSound, left_of, next_first}
+use Rattle.edit_doc.specs.Sound.{IsSnapshot, UndoSound, RedoSound, detached_of, next_first}
 use Rattle.edit_doc.specs.Whole.{Whole}
 use Rattle.edit_doc.proofs.Downs.{Bounded, back_forest, back_bounded}
 use Rattle.edit_doc.proofs.HiddenTrees.{model_forest}
 use Rattle.edit_doc.proofs.Inner.{seen, Ok}
-use Rattle.edit_doc.proofs.MadeApart.{each_used, each_named, roots_rise, is_unnamed, document_old, made_nodes, begins, unnamed_zero, sheds_unnamed, names_left}
+use Rattle.edit_doc.proofs.MadeApart.{each_used, each_named, roots_rise, is_unnamed, document_old, made_nodes, begins, unnamed_zero, prunes_unnamed, names_detached}
 use Rattle.edit_doc.proofs.MadeNodes.{listed_has}
 use Rattle.edit_doc.proofs.Onwards.{past_low, lead_longer, lead_more}
 use Rattle.edit_doc.proofs.Rests.{AtRest, rest_of, trees_are, none_noted}
-use Rattle.edit_doc.proofs.Turnings.{sheds_after}
+use Rattle.edit_doc.proofs.Turnings.{prunes_after}
 
-same_document : (k : ℕ → Bool) (f : Forest Content) → k 0 ≡ false → IsForest f → document_of (shed k f) ≡ document_of f
-same_document k f keeps is = tree_of-shed k f 0 is.distinct (IsForest-shed k f keeps is).document
+same_document : (k : ℕ → Bool) (f : Forest Content) → k 0 ≡ false → IsForest f → document_of (pruned k f) ≡ document_of f
+same_document k f keeps is = tree_of-pruned k f 0 is.distinct (IsForest-pruned k f keeps is).document
 
 -- the document of a forest, alone, is one
 document_alone : (f : Forest Content) → IsForest f → document_of (document_of f) ≡ document_of f
@@ -58,7 +58,7 @@ document_low f bound low = record { below = λ m h. low.below m (omega (arith, h
 
 module _ (names : List (List ℕ)) where
   -- an entry as the history shows it
-  abbrev shown : List Step → Forest Content → Beside → Entry
+  abbrev shown : List Step → Forest Content → EntrySnapshot → Entry
   shown e f b = record {
     before = view_at names (forest_before e f) b.sides.before;
     after = view_at names f b.sides.after;
@@ -66,44 +66,44 @@ module _ (names : List (List ℕ)) where
     made = used (edits_before e f) (roots_from b.sides.first_label (forest_before e f));
   }
 
-  record Leads (e : List Step) (f : Forest Content) (b : Beside) (high : ℕ) : Type 0 where
+  record Leads (e : List Step) (f : Forest Content) (b : EntrySnapshot) (high : ℕ) : Type 0 where
     forest : IsForest (forest_before e f)
     old : IsBelow (document_of (forest_before e f)) b.sides.first_label
     onward : LeadsOnward b.sides.first_label (document_of (forest_before e f)) (shown e f b)
     past : next_past b.sides.first_label (shown e f b).made ≤ high
 
-  entry_leads : (e : List Step) (f : Forest Content) (b : Beside) (left : List NodeRef) (high start : ℕ) → IsForest f → FitsBack applied Fits (changes_of e) f
-      → IsBeside names (forest_before e f) f e (inverses_back applied turned (changes_of e) f) b left high start → Leads e f b high
-  entry_leads e f b left high start is fits beside =
+  entry_leads : (e : List Step) (f : Forest Content) (b : EntrySnapshot) (detached : List NodeRef) (high start : ℕ) → IsForest f → FitsBack applied Fits (changes_of e) f
+      → IsSnapshot names (forest_before e f) f e (inverses_back applied inverse (changes_of e) f) b detached high start → Leads e f b high
+  entry_leads e f b detached high start is fits snapshot =
       let first = b.sides.first_label in
       let ys = changes_of e in
-      let xs = inverses_back applied turned ys f in
+      let xs = inverses_back applied inverse ys f in
       let g = back applied ys f in
       let isg = back_forest ys f fits is in
       let turn = back_turns ys f fits in
       let k : ℕ → Bool = is_hidden g first in
       let u : ℕ → Bool = is_unnamed (named_in xs) first in
-      let down = back_down k ys f (sheds_after g f first is beside.hidden) fits beside.names_there in
-      let left_names : Each (IsLeft k g) (named_in xs) = each_of (IsLeft k f) (IsLeft k g) (named_in xs) (λ l w. omega (arith, w, down.stays l)) down.names in
-      let on = forth_down k xs g down.sheds turn.fit left_names in
-      let some = beside.some_label in
-      let made = forth_down u xs (shed k g) (sheds_unnamed g first isg some beside.fresh xs) on.fits (names_left g first isg some beside.fresh xs left_names) in
-      let begin = begins g first isg some beside.fresh xs in
-      let reached : forth applied xs (shed k g) ≡ shed k f = sym on.same ∙ ap (shed k) turn.state in
-      let isk = IsForest-shed k f refl is in
+      let down = back_down k ys f (prunes_after g f first is snapshot.hidden) fits snapshot.names_there in
+      let detached_names : Each (IsLeft k g) (named_in xs) = each_of (IsLeft k f) (IsLeft k g) (named_in xs) (λ l w. omega (arith, w, down.stays l)) down.names in
+      let on = forth_down k xs g down.prunes turn.fit detached_names in
+      let some = snapshot.some_label in
+      let made = forth_down u xs (pruned k g) (prunes_unnamed g first isg some snapshot.fresh xs) on.fits (names_detached g first isg some snapshot.fresh xs detached_names) in
+      let begin = begins g first isg some snapshot.fresh xs in
+      let reached : forth applied xs (pruned k g) ≡ pruned k f = sym on.same ∙ ap (pruned k) turn.state in
+      let isk = IsForest-pruned k f refl is in
       record {
         forest = isg;
-        old = document_old g first isg some beside.fresh;
+        old = document_old g first isg some snapshot.fresh;
         onward = record {
           before = refl;
           rise = roots_rise first xs g 0 first isg.rising (λ m h _. h);
-          made = each_used _ xs (roots_from first g) (made_nodes g first isg some beside.fresh);
+          made = each_used _ xs (roots_from first g) (made_nodes g first isg some snapshot.fresh);
           fits = subst (λ (w : Forest Content). FitsForth applied Fits xs w) begin made.fits;
           after = ap (λ (w : Forest Content). document_of (forth applied xs w)) (sym begin)
-              ∙ (ap document_of (sym made.same ∙ ap (shed u) reached)
-              ∙ (same_document u (shed k f) (unnamed_zero g first isg some beside.fresh xs) isk ∙ same_document k f refl is));
+              ∙ (ap document_of (sym made.same ∙ ap (pruned u) reached)
+              ∙ (same_document u (pruned k f) (unnamed_zero g first isg some snapshot.fresh xs) isk ∙ same_document k f refl is));
         };
-        past = past_low (used xs (roots_from first g)) first high beside.drawn (each_named (λ l. l < high) xs (roots_from first g) (λ l t. listed_has (λ m. m < high) (named_in xs) l beside.turns_old t));
+        past = past_low (used xs (roots_from first g)) first high snapshot.drawn (each_named (λ l. l < high) xs (roots_from first g) (λ l t. listed_has (λ m. m < high) (named_in xs) l snapshot.turns_old t));
       }
 
   -- ---- the whole history
@@ -125,7 +125,7 @@ module _ (names : List (List ℕ)) where
           },
         )
 
-    undo_leads : (r : Bool) (high : ℕ) (f : Forest Content) (es : List (List Step)) (bs : List Beside) → UndoSound held names r c high f es bs → IsForest f → Bounded f → IsBelow (document_of f) high → Led (undo_entries names f es bs) (document_of f) high
+    undo_leads : (r : Bool) (high : ℕ) (f : Forest Content) (es : List (List Step)) (bs : List EntrySnapshot) → UndoSound held names r c high f es bs → IsForest f → Bounded f → IsBelow (document_of f) high → Led (undo_entries names f es bs) (document_of f) high
     undo_leads r high f [] bs h is bounded low = (
       document_of f,
       high,
@@ -138,16 +138,16 @@ module _ (names : List (List ℕ)) where
     )
     undo_leads r high f (e ∷ es) [] h is bounded low = absurd h
     undo_leads r high f (e ∷ es) (b ∷ bs) h is bounded low =
-        let l = entry_leads e f b (left_of r c b) high c.start is h.0.0 h.1.0 in
+        let l = entry_leads e f b (detached_of r c b) high c.start is h.0.0 h.1.0 in
         one_more (undo_entries names (forest_before e f) es bs) (shown e f b) (document_of (forest_before e f)) b.sides.first_label high
         (undo_leads false b.sides.first_label (forest_before e f) es bs h.1.1 l.forest (back_bounded e f h.0.0 bounded) l.old) l.onward l.past
 
     -- the document has labels below those of the entries that redo would take
-    record Old (f : Forest Content) (bs : List Beside) : Type 0 where
+    record Old (f : Forest Content) (bs : List EntrySnapshot) : Type 0 where
       below : IsBelow (document_of f) (next_first c.start bs)
       known : next_first c.start bs ≤ c.start
 
-    redo_old : (f : Forest Content) (es : List (List Step)) (bs : List Beside) → RedoSound held names c f es bs → IsForest f → IsBelow f c.start → Old f bs
+    redo_old : (f : Forest Content) (es : List (List Step)) (bs : List EntrySnapshot) → RedoSound held names c f es bs → IsForest f → IsBelow f c.start → Old f bs
     redo_old f [] [] h is low = record { below = document_low f c.start low; known = omega arith }
     redo_old f [] (b ∷ bs) h is low = absurd h
     redo_old f (e ∷ es) [] h is low = absurd h

@@ -12,15 +12,15 @@ use Rattle.dom_model.specs.Document.{char_count}
 use Rattle.dom_model.specs.Forest.{Forest, Seen, tops, total, seek, count_of, content_of, tree_of, parent_of, unlink, IsDistinct}
 use Rattle.dom_model.specs.Forest.Forest.{Nil, Tree}
 use Rattle.dom_model.specs.Revised.{revised}
-use Rattle.dom_model.specs.Shed.{shed}
-use Rattle.dom_model.specs.State.{State as Arena, IsLawful as IsArena}
+use Rattle.dom_model.specs.Pruned.{pruned}
+use Rattle.dom_model.specs.ArenaState.{ArenaState as Arena, IsValid as IsArena}
 use Rattle.dom_model.proofs.Deepest.{total-bound}
 use Rattle.dom_model.proofs.Stands.{Stands, seek_Stands}
-use Rattle.dom_model.proofs.Shedding.{IsDistinct-shed}
+use Rattle.dom_model.proofs.Pruning.{IsDistinct-pruned}
 use Rattle.dom_model.proofs.Links.{found_count}
 use Rattle.dom_model.proofs.Totals.{total-without}
 use Rattle.point_order.specs.PointOrder.{is_in_document}
-use Rattle.forest_changes.proofs.ShedChanges.{content_of-shed}
+use Rattle.forest_changes.proofs.PrunedChanges.{content_of-pruned}
 use Rattle.forest_changes.proofs.Twice.{forest_of}
 use Rattle.edit_model.specs.Confined.{spliced, may_change}
 use Rattle.edit_model.specs.Edit.{with_replaced}
@@ -126,11 +126,11 @@ module _ (a : Arena) (law : IsArena a) (n at count : ℕ) (put : List ℕ) (may 
   t : Changes (content_of a.trees n) at count put
   t = changes (content_of a.trees n) at count put may
 
-  rest_is : shed (is_hidden f a.next) f ≡ page
+  rest_is : pruned (is_hidden f a.next) f ≡ page
   rest_is = seen_at_rest f a.next (arena_forest a law)
 
   page_once : IsDistinct page
-  page_once = subst IsDistinct rest_is (IsDistinct-shed (is_hidden f a.next) f law.distinct)
+  page_once = subst IsDistinct rest_is (IsDistinct-pruned (is_hidden f a.next) f law.distinct)
 
   pub chars_outside : is_in_document a.trees n ≡ false → char_count (revised f n g) ≡ char_count f
   chars_outside h = ap (total (λ _ c. words_length c)) (document-revised f a.next (arena_forest a law) n g) ∙ absent words_length n g (Words t.chars) page (not_within f 0 n (ap not h))
@@ -142,7 +142,7 @@ module _ (a : Arena) (law : IsArena a) (n at count : ℕ) (put : List ℕ) (may 
     content_here : content_of page n ≡ Some (Words t.chars)
     content_here =
         ap (λ p. content_of p n) (sym rest_is)
-        ∙ (content_of-shed (is_hidden f a.next) f n (forest_of a law) (subst (λ p. 0 < count_of p n) (sym rest_is) here) ∙ t.content)
+        ∙ (content_of-pruned (is_hidden f a.next) f n (forest_of a law) (subst (λ p. 0 < count_of p n) (sym rest_is) here) ∙ t.content)
 
     same : (s : Seen Content) → Stands None page n s → s.content ≡ Words t.chars
     same s st =
@@ -178,7 +178,7 @@ module _ (a : Arena) (law : IsArena a) (n at count : ℕ) (put : List ℕ) (may 
         low l s e =
             let at_page : content_of page l ≡ Some s.content = ap (option_map (λ (r : Seen Content). r.content)) e in
             let h : 0 < count_of page l = found_count page l s e in
-            let at_f : content_of f l ≡ Some s.content = sym (content_of-shed (is_hidden f a.next) f l (forest_of a law) (subst (λ p. 0 < count_of p l) (sym rest_is) h)) ∙ (ap (λ p. content_of p l) rest_is ∙ at_page) in
+            let at_f : content_of f l ≡ Some s.content = sym (content_of-pruned (is_hidden f a.next) f l (forest_of a law) (subst (λ p. 0 < count_of p l) (sym rest_is) h)) ∙ (ap (λ p. content_of p l) rest_is ∙ at_page) in
             by_seen (seek None f l) refl at_f
           where
             by_seen : (o : Option (Seen Content)) → seek None f l ≡ o → option_map (λ (r : Seen Content). r.content) o ≡ Some s.content → words_length s.content ≤ 4294967295

@@ -12,7 +12,7 @@ pub mod Places
 pub mod Changing
 pub mod Found
 pub mod Stored
-pub mod Loosened
+pub mod NewlyDetached
 pub mod Freely
 pub mod Edited
 pub mod Ordered

@@ -1,18 +1,18 @@
 -- What an insert of a loose tree is to the arena and to the fields of the command.
-use Rattle.live_range.specs.Edit.{has_label}
+use Rattle.live_range.specs.PointsEdit.{has_label}
 use Rattle.std.proofs.Common.{◌≡◌, true, [], ◌∷◌, Option, Some, None, refl, sym, ap, subst, ◌∙◌, inl, inr}
 use Rattle.std.proofs.lemmas.List.{append-nil}
 use Rattle.dom_model.specs.declared.Content.{Content}
 use Rattle.dom_model.specs.Contents.{is_parent_at}
 use Rattle.dom_model.specs.Forest.{Forest, CanPut}
-use Rattle.dom_model.specs.Shed.{shed}
-use Rattle.dom_model.specs.State.{IsLawful as IsArena, IsSlotted}
+use Rattle.dom_model.specs.Pruned.{pruned}
+use Rattle.dom_model.specs.ArenaState.{IsValid as IsArena, IsSlotted}
 use Rattle.node_arena.specs.declared.NodeRef.{NodeRef}
 use Rattle.node_arena.specs.Held.{label}
-use Rattle.forest_changes.specs.Change.{Attach, turned}
+use Rattle.forest_changes.specs.Change.{Insert, inverse}
 use Rattle.forest_changes.specs.Named.{Each, listed}
 use Rattle.forest_changes.specs.Down.{IsLeft}
-use Rattle.forest_changes.proofs.ShedChanges.{CanPut-shed}
+use Rattle.forest_changes.proofs.PrunedChanges.{CanPut-pruned}
 use Rattle.forest_changes.proofs.Twice.{forest_of}
 use Rattle.edit_steps.specs.declared.step.Step.TheVariants.{Link}
 use Rattle.edit_steps.specs.Step.{StepFits}
@@ -31,22 +31,22 @@ pub labels_same : (o : Option NodeRef) → label o ≡ label_of o
 labels_same None = refl
 labels_same (Some r) = refl
 
-pub inserts_follow : (c d : Command) (node parent : NodeRef) (before : Option NodeRef) (f : Forest Content) → Marks (place_labels node parent before) c d → Follows c d (Attach node.label parent.label (label before)) (turned (Attach node.label parent.label (label before)) f)
-unfolding turned
+pub inserts_follow : (c d : Command) (node parent : NodeRef) (before : Option NodeRef) (f : Forest Content) → Marks (place_labels node parent before) c d → Follows c d (Insert node.label parent.label (label before)) (inverse (Insert node.label parent.label (label before)) f)
+unfolding inverse
 inserts_follow c d node parent before f m = record {
   start = ap (λ (k : Command). k.start) m.rest;
   host = ap (λ (k : Command). k.host) m.rest;
   keeping = ap (λ (k : Command). k.keeping) m.rest;
   resumed = ap (λ (k : Command). k.resumed) m.rest;
   kept = ap (λ (k : Command). k.kept) m.rest;
-  left_before = ap (λ (k : Command). k.left_before) m.rest;
+  detached_before = ap (λ (k : Command). k.detached_before) m.rest;
   count = m.count;
   stay = m.stay;
   marked = subst (λ o. Each (IsMarked d) (node.label ∷ parent.label ∷ listed o)) (sym (labels_same before)) m.marked;
-  marked_turned = (m.marked.0, tt);
+  marked_inverse = (m.marked.0, tt);
   only = λ l h. elim (m.only l h) [ inl t ↦ inl t | inr t ↦ inr (inl (subst (λ o. has_label (node.label ∷ parent.label ∷ listed o) l ≡ true) (sym (labels_same before)) t)) ];
   more = [];
-  left = ap (λ (k : Command). k.left.items) m.rest ∙ sym (append-nil c.left.items);
+  detached = ap (λ (k : Command). k.detached.items) m.rest ∙ sym (append-nil c.detached.items);
   loosed_is = refl;
 }
 
@@ -61,9 +61,9 @@ module _ (d : Inside) (v : Whole) (is : seen d ≡ v) (law : IsArena d.arena) (s
   pub place_seen : Each (IsLeft (out_of d) d.arena.trees) (node.label ∷ parent.label ∷ listed (label before))
   place_seen = ((held_seen d v is node node_held).here, ((held_seen d v is parent parent_held).here, (before_parts before before_held).1))
 
-  pub link_fits : CanPut (shed (out_of d) d.arena.trees) parent.label (label before) node.label → is_parent_at d.arena.trees parent.label ≡ true → StepFits (Link node parent before) d.arena
+  pub link_fits : CanPut (pruned (out_of d) d.arena.trees) parent.label (label before) node.label → is_parent_at d.arena.trees parent.label ≡ true → StepFits (Link node parent before) d.arena
   link_fits can bears = record {
-    fits = record { forest = forest_of d.arena law; here = record { place = CanPut-shed (out_of d) d.arena.trees parent.label (label before) node.label (forest_of d.arena law) can; parent = bears } };
+    fits = record { forest = forest_of d.arena law; here = record { place = CanPut-pruned (out_of d) d.arena.trees parent.label (label before) node.label (forest_of d.arena law) can; parent = bears } };
     slotted = slotted;
     held = place_held;
   }

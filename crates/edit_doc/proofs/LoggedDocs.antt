@@ -22,7 +22,7 @@ pub record OneMore {A : Type 0} (xs : List A) (i : ℕ) : Type 0 where
   pub item : A
   pub here : drop i xs ≡ item ∷ drop (i + 1) xs
   pub taken : take (i + 1) xs ≡ take i xs ++ item ∷ []
-  pub turned : reverse (take (i + 1) xs) ≡ item ∷ reverse (take i xs)
+  pub inverse : reverse (take (i + 1) xs) ≡ item ∷ reverse (take i xs)
 
 pub one_more : {A : Type 0} (xs : List A) (i : ℕ) → i < length xs → OneMore xs i
 one_more xs i h =
@@ -31,7 +31,7 @@ one_more xs i h =
       item = p.0;
       here = rw add-one p.1;
       taken = rw add-one p.2;
-      turned = rw add-one (ap (λ ys. reverse ys) p.2 ∙ reverse-append (take i xs) (p.0 ∷ []));
+      inverse = rw add-one (ap (λ ys. reverse ys) p.2 ∙ reverse-append (take i xs) (p.0 ∷ []));
     }
   where
     parts : {A : Type 0} (xs : List A) (i : ℕ) → i < length xs → (x : A) × (drop i xs ≡ x ∷ drop (suc i) xs) × (take (suc i) xs ≡ take i xs ++ x ∷ [])
@@ -120,10 +120,10 @@ returned old mid new more back forth was is =
     let count : length us ≡ length (reverse us) = sym (length-reverse us) in
     let all = back.redo in
     let taken : take (length us) mid.history.redo ≡ reverse us = rw (all, count) (take-append_seam (reverse us) old.history.redo) in
-    let left : drop (length us) mid.history.redo ≡ old.history.redo = rw (all, count) (drop-append_seam (reverse us) old.history.redo) in
-    let turned : reverse (take (length us) mid.history.redo) ≡ us = ap (λ xs. reverse xs) taken ∙ reverse-reverse us in
+    let detached : drop (length us) mid.history.redo ≡ old.history.redo = rw (all, count) (drop-append_seam (reverse us) old.history.redo) in
+    let inverse : reverse (take (length us) mid.history.redo) ≡ us = ap (λ xs. reverse xs) taken ∙ reverse-reverse us in
     let on = moved_on old mid new [] (reverse us ++ old.history.redo) (reverse (take (length us) mid.history.redo)) (drop (length us) mid.history.redo) back forth in
-    let m : HasMoved old new us old.history.redo = subst (λ xs. HasMoved old new xs old.history.redo) turned (subst (λ xs. HasMoved old new (reverse (take (length us) mid.history.redo)) xs) left on) in
+    let m : HasMoved old new us old.history.redo = subst (λ xs. HasMoved old new xs old.history.redo) inverse (subst (λ xs. HasMoved old new (reverse (take (length us) mid.history.redo)) xs) detached on) in
     record {
       moved = m;
       trees = some_last old new us more refl m.undo was is;
@@ -147,8 +147,8 @@ all_taken xs n i up low e =
 pub still_closed : (old d : Whole) (us rs : List Entry) → HasMoved old d us rs → old.began ≡ None → d.began ≡ None
 still_closed old d us rs h closed = ap (λ (w : Whole). w.began) h.rest ∙ closed
 
-pub some_left : {A : Type 0} (xs ys : List A) (i : ℕ) → i < length xs → ys ≡ drop i xs → 0 < length ys
-some_left xs ys i lt e = rw (e, (one_more xs i lt).here) (omega arith)
+pub some_detached : {A : Type 0} (xs ys : List A) (i : ℕ) → i < length xs → ys ≡ drop i xs → 0 < length ys
+some_detached xs ys i lt e = rw (e, (one_more xs i lt).here) (omega arith)
 
 -- one entry more is undone
 pub undone_one : (old d new : Whole) (us rs : List Entry) (i : ℕ) → i < length us → HasMoved old d (drop i us) (reverse (take i us) ++ rs) →
@@ -156,7 +156,7 @@ pub undone_one : (old d new : Whole) (us rs : List Entry) (i : ℕ) → i < leng
 undone_one old d new us rs i lt h is =
     let o = one_more us i lt in
     let m = moved_back old d new o.item (drop (i + 1) us) (reverse (take i us) ++ rs) (subst (λ xs. HasMoved old d xs (reverse (take i us) ++ rs)) o.here h) is in
-    subst (λ xs. HasMoved old new (drop (i + 1) us) (xs ++ rs)) (sym o.turned) m
+    subst (λ xs. HasMoved old new (drop (i + 1) us) (xs ++ rs)) (sym o.inverse) m
 
 -- and redone
 pub redone_one : (old d new : Whole) (rs : List Entry) (i : ℕ) → i < length rs → HasMoved old d (reverse (take i rs)) (drop i rs) →
@@ -164,7 +164,7 @@ pub redone_one : (old d new : Whole) (rs : List Entry) (i : ℕ) → i < length 
 redone_one old d new rs i lt h is =
     let o = one_more rs i lt in
     let m = moved_forth old d new (reverse (take i rs)) o.item (drop (i + 1) rs) (subst (λ xs. HasMoved old d (reverse (take i rs)) xs) o.here h) is in
-    subst (λ xs. HasMoved old new xs (drop (i + 1) rs)) (sym o.turned) m
+    subst (λ xs. HasMoved old new xs (drop (i + 1) rs)) (sym o.inverse) m
 
 -- one entry more is listed
 pub listed_more : (rs ds : List Entry) (i : ℕ) → i < length rs → ds ≡ drop i rs → (es : List Logged) → es ≡ map logged_entry (take i rs) → (more : List Logged) → more ≡ es ++ map logged_entry (take 1 ds) →

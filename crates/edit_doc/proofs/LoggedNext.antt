@@ -4,7 +4,7 @@ use Rattle.std.specs.Prelude.{slice_get}
 use Rattle.std.specs.Option.{option_map, option_copied}
 use Rattle.dom_model.specs.declared.Content.{Content}
 use Rattle.dom_model.specs.Forest.{Forest, content_of}
-use Rattle.dom_model.specs.State.{IsLawful as IsArena}
+use Rattle.dom_model.specs.ArenaState.{IsValid as IsArena}
 use Rattle.node_arena.specs.Held.{Holds}
 use Rattle.undo_log.specs.Log.{noted}
 use Rattle.undo_log.specs.Log.Open.{Closed}
@@ -14,7 +14,7 @@ use Rattle.edit_steps.specs.declared.step.Step.{Step}
 use Rattle.edit_steps.specs.Step.{changes_of, nodes_in}
 use Rattle.edit_model.specs.History.{used}
 use Rattle.edit_doc.specs.declared.Doc.TheInside.{Inside}
-use Rattle.edit_doc.specs.declared.command.Beside.{Beside}
+use Rattle.edit_doc.specs.declared.command.EntrySnapshot.{EntrySnapshot}
 use Rattle.edit_doc.specs.History.{roots_from, redo_entries}
 use Rattle.edit_doc.specs.Logged.{Logged, made_node, logged_with, logged_entry}
 use Rattle.edit_doc.specs.Sound.{AreFresh, RedoSound, next_first}
@@ -43,16 +43,16 @@ module _ (d : Inside) (v : Whole) (sees : seen d ≡ v) (law : IsArena d.arena) 
     pub held : Each (λ r. Holds d.arena r) (nodes_in e)
     pub value : (entry : Logged) → entry ≡ logged_with (content_of f) (used (changes_of e) (roots_from first f)) (changes_of e) → option_map logged_entry (slice_get v.history.redo 0) ≡ Some entry
 
-  next_in : (es : List (List Step)) (bs : List Beside) → RedoSound d.arena.held d.points.names d.command f es bs → v.history.redo ≡ redo_entries d.points.names f es bs →
-      (e : List Step) (b : Beside) → slice_get es 0 ≡ Some e → slice_get bs 0 ≡ Some b → Next e b.sides.first_label (next_first d.command.start (drop 1 bs))
-  next_in [] bs h is e b at beside = absurd (let t : None ≡ Some e = at in cc)
-  next_in (x ∷ es) [] h is e b at beside = absurd h
-  next_in (x ∷ es) (y ∷ bs) h is e b at beside =
+  next_in : (es : List (List Step)) (bs : List EntrySnapshot) → RedoSound d.arena.held d.points.names d.command f es bs → v.history.redo ≡ redo_entries d.points.names f es bs →
+      (e : List Step) (b : EntrySnapshot) → slice_get es 0 ≡ Some e → slice_get bs 0 ≡ Some b → Next e b.sides.first_label (next_first d.command.start (drop 1 bs))
+  next_in [] bs h is e b at snapshot = absurd (let t : None ≡ Some e = at in cc)
+  next_in (x ∷ es) [] h is e b at snapshot = absurd h
+  next_in (x ∷ es) (y ∷ bs) h is e b at snapshot =
       let here : Some x ≡ Some e = at in
-      let there : Some y ≡ Some b = beside in
+      let there : Some y ≡ Some b = snapshot in
       let same : x ≡ e = cc in
       let same' : y ≡ b = cc in
-      subst (λ z. Next z b.sides.first_label (next_first d.command.start bs)) same (subst (λ (z : Beside). Next x z.sides.first_label (next_first d.command.start bs)) same' own)
+      subst (λ z. Next z b.sides.first_label (next_first d.command.start bs)) same (subst (λ (z : EntrySnapshot). Next x z.sides.first_label (next_first d.command.start bs)) same' own)
     where
       own : Next x y.sides.first_label (next_first d.command.start bs)
       own = record {
@@ -67,13 +67,13 @@ module _ (d : Inside) (v : Whole) (sees : seen d ≡ v) (law : IsArena d.arena) 
             ∙ ap Some (ap (λ es. record { made = map made_node made; edits = es }) (edits_same _ (content_of f) (changes_of x) seen) ∙ sym eq));
       }
 
-  pub next_of : (e : List Step) (b : Beside) → slice_get d.log.redo 0 ≡ Some e → slice_get d.redo_sides.items 0 ≡ Some b → Next e b.sides.first_label (next_first d.command.start (drop 1 d.redo_sides.items))
+  pub next_of : (e : List Step) (b : EntrySnapshot) → slice_get d.log.redo 0 ≡ Some e → slice_get d.redo_sides.items 0 ≡ Some b → Next e b.sides.first_label (next_first d.command.start (drop 1 d.redo_sides.items))
   next_of e b = next_in d.log.redo d.redo_sides.items rests.redo entries_are e b
 
   -- where the code has looked both up
-  pub next_read : (o : Option (Bor (List Step))) (e : Bor (List Step)) (q : Option (Bor Beside)) (b : Bor Beside) (end : ℕ) →
+  pub next_read : (o : Option (Bor (List Step))) (e : Bor (List Step)) (q : Option (Bor EntrySnapshot)) (b : Bor EntrySnapshot) (end : ℕ) →
       option_map (λ r. r.now) o ≡ slice_get d.log.redo 0 → o ≡ Some e → option_copied q ≡ slice_get d.redo_sides.items 0 → q ≡ Some b → end ≡ next_first d.command.start (drop 1 d.redo_sides.items) →
       Next e.now b.now.sides.first_label end
-  next_read o e q b end at is beside there last =
+  next_read o e q b end at is snapshot there last =
       subst (λ n. Next e.now b.now.sides.first_label n) (sym last)
-      (next_of e.now b.now (sym at ∙ ap (option_map (λ (r : Bor (List Step)). r.now)) is) (sym beside ∙ ap (λ (r : Option (Bor Beside)). option_copied r) there))
+      (next_of e.now b.now (sym at ∙ ap (option_map (λ (r : Bor (List Step)). r.now)) is) (sym snapshot ∙ ap (λ (r : Option (Bor EntrySnapshot)). option_copied r) there))

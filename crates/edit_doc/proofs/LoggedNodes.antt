@@ -7,11 +7,11 @@ use Rattle.std.proofs.lemmas.Bool.Decides.{eqb_tells, nat_tests}
 use Rattle.dom_model.specs.declared.Content.{Content}
 use Rattle.dom_model.specs.Forest.{Forest, Seen, seek, either, first_in, tops, times, count_of, content_of, parent_of, tree_of, IsDistinct, RisesFrom, IsWithin}
 use Rattle.dom_model.specs.Forest.Forest.{Nil, Tree}
-use Rattle.dom_model.specs.Shed.{shed}
+use Rattle.dom_model.specs.Pruned.{pruned}
 use Rattle.dom_model.proofs.Links.{seen, tree_of_absent}
 use Rattle.dom_model.proofs.Stands.{true_or_false, times-tops, seek_absent}
-use Rattle.live_range.specs.Edit.{has_label}
-use Rattle.forest_changes.specs.Change.{Change, Loosen, Attach, Shift, Rewrite, Redress, IsForest}
+use Rattle.live_range.specs.PointsEdit.{has_label}
+use Rattle.forest_changes.specs.Change.{Change, Remove, Insert, Move, SetText, SetAttributes, IsForest}
 use Rattle.forest_changes.specs.Named.{Each, named, named_in}
 use Rattle.forest_changes.specs.Down.{IsLeft}
 use Rattle.forest_changes.proofs.ChangeLists.{each_first, each_rest}
@@ -35,7 +35,7 @@ record Rooted (k : ℕ → Bool) (f : Forest Content) (l : ℕ) : Type 0 where
   label : ℕ
   content : Content
   kids : Forest Content
-  left : k label ≡ false
+  detached : k label ≡ false
   top : 0 < times (tops f) label
   found : seek None f label ≡ Some (record { parent = None; content = content; children = tops kids })
   tree : tree_of f label ≡ Tree label content kids Nil
@@ -56,7 +56,7 @@ module _ (k : ℕ → Bool) where
               label = r.label;
               content = r.content;
               kids = r.kids;
-              left = r.left;
+              detached = r.detached;
               top = omega (arith, t);
               found = rw (e, seek_absent (Some m) ks r.label none) r.found;
               tree = rw (e, tree_of_absent ks r.label none) r.tree;
@@ -64,19 +64,19 @@ module _ (k : ℕ → Bool) where
             })
       ]
 
-  rooted : (f : Forest Content) (l : ℕ) → IsDistinct f → 0 < count_of (shed k f) l → Rooted k f l
+  rooted : (f : Forest Content) (l : ℕ) → IsDistinct f → 0 < count_of (pruned k f) l → Rooted k f l
   rooted Nil l once h = absurd (omega (arith, h))
   rooted (Tree m c ks rest) l once h = elim (true_or_false (k m)) [
     | inl e ↦ later m c ks rest l once (rooted rest l (λ j. omega (arith, once j)) (rw e at h))
     | inr e ↦ by_count e (cond (eqb m l) 1 0 + count_of ks l) refl (rooted rest l (λ j. omega (arith, once j))) (rw e at h)
   ]
     where
-      by_count : k m ≡ false → (n : ℕ) → cond (eqb m l) 1 0 + count_of ks l ≡ n → (0 < count_of (shed k rest) l → Rooted k rest l) → 0 < count_of (Tree m c ks (shed k rest)) l → Rooted k (Tree m c ks rest) l
+      by_count : k m ≡ false → (n : ℕ) → cond (eqb m l) 1 0 + count_of ks l ≡ n → (0 < count_of (pruned k rest) l → Rooted k rest l) → 0 < count_of (Tree m c ks (pruned k rest)) l → Rooted k (Tree m c ks rest) l
       by_count e (suc n) is ih t = record {
         label = m;
         content = c;
         kids = ks;
-        left = e;
+        detached = e;
         top = rw (own m) (omega arith);
         found = rw (own m) refl;
         tree = rw (own m) refl;
@@ -202,11 +202,11 @@ each_listed P Q (x ∷ xs) give h = (give x (rw (own x) refl) h.0, each_listed P
     more x l xs e = elim (eqb_tells x l) [ inl (t, _) ↦ rw t refl | inr (t, _) ↦ rw t e ]
 
 edit_same : (A B : ℕ → Option Content) (x : Change) → Each (λ l. A l ≡ B l) (named x) → logged_edit A x ≡ logged_edit B x
-edit_same A B (Loosen n) h = refl
-edit_same A B (Attach n p b) h = refl
-edit_same A B (Shift n p b) h = refl
-edit_same A B (Rewrite n words) h = refl
-edit_same A B (Redress n list) h = ap (λ o. LoggedEdit.Attributes n (element_name o) list) h.0
+edit_same A B (Remove n) h = refl
+edit_same A B (Insert n p b) h = refl
+edit_same A B (Move n p b) h = refl
+edit_same A B (SetText n words) h = refl
+edit_same A B (SetAttributes n list) h = ap (λ o. LoggedEdit.Attributes n (element_name o) list) h.0
 
 -- edits where each node that is named has the same content
 pub edits_same : (A B : ℕ → Option Content) (xs : List Change) → Each (λ l. A l ≡ B l) (named_in xs) → map (logged_edit A) xs ≡ map (logged_edit B) xs
@@ -219,7 +219,7 @@ edits_same A B (x ∷ xs) h =
 module _ (f : Forest Content) (is : IsForest f) (next first : ℕ) (below : (l : ℕ) → 0 < count_of f l → l < next) (fresh : AreFresh f first) where
   -- a node that the entry's commands saw is in the document, or they made it and it is alone
   pub inside_or_made : (l : ℕ) → IsLeft (is_hidden f first) f l → IsWithin f 0 l ⊎ ((first ≤ l) × (0 < times (tops f) l))
-  inside_or_made l left = (let r = rooted (is_hidden f first) f l is.distinct left in by_label r r.label refl)
+  inside_or_made l detached = (let r = rooted (is_hidden f first) f l is.distinct detached in by_label r r.label refl)
     where
       alone : (r : Rooted (is_hidden f first) f l) → first ≤ r.label → IsWithin f 0 l ⊎ ((first ≤ l) × (0 < times (tops f) l))
       alone r le =
@@ -242,12 +242,12 @@ module _ (f : Forest Content) (is : IsForest f) (next first : ℕ) (below : (l :
         | inl le ↦ alone r le
         | inr lt ↦ absurd (
             let hides = is_hidden_from f first r.label (record { inner = omega (arith, e); old = lt; root = r.top }) in
-            let no : true ≡ false = sym hides ∙ r.left in
+            let no : true ≡ false = sym hides ∙ r.detached in
             cc)
       ]
 
   content_seen : (xs : List Change) (l : ℕ) → has_label (named_in xs) l ≡ true → IsLeft (is_hidden f first) f l → either (content_of (tree_of f 0) l) (content_made (used xs (roots_from first f)) l) ≡ content_of f l
-  content_seen xs l has left = by_count (count_of (tree_of f 0) l) refl
+  content_seen xs l has detached = by_count (count_of (tree_of f 0) l) refl
     where
       by_count : (n : ℕ) → count_of (tree_of f 0) l ≡ n → either (content_of (tree_of f 0) l) (content_made (used xs (roots_from first f)) l) ≡ content_of f l
       by_count (suc n) e =
@@ -255,7 +255,7 @@ module _ (f : Forest Content) (is : IsForest f) (next first : ℕ) (below : (l :
           let s = seen (tree_of f 0) l (forest-document f next is').distinct (omega (arith, e)) in
           ap (λ (o : Option (Seen Content)). either (option_map (λ s. s.content) o) (content_made (used xs (roots_from first f)) l)) s.2
           ∙ sym (ap (option_map (λ (s : Seen Content). s.content)) (seek_document f next l s.0 is' s.2))
-      by_count zero e = elim (inside_or_made l left) [
+      by_count zero e = elim (inside_or_made l detached) [
         | inl h ↦ absurd (omega (arith, e, h))
         | inr h ↦ rw (seek_absent None (tree_of f 0) l e) (made_found xs first l f is.distinct has h.0 h.1)
       ]

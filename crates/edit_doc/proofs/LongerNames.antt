@@ -5,7 +5,7 @@ use Rattle.std.specs.Str.{bytes_eq}
 use Rattle.std.proofs.lemmas.List.Elements.{All-cons}
 use Rattle.dom_model.specs.declared.Content.{Content}
 use Rattle.dom_model.specs.Forest.{Forest}
-use Rattle.dom_model.specs.State.{State as Arena}
+use Rattle.dom_model.specs.ArenaState.{ArenaState as Arena}
 use Rattle.live_range.specs.declared.places.Pair.{Pair}
 use Rattle.live_range.specs.declared.places.MarkPlace.{MarkPlace}
 use Rattle.live_range.specs.declared.places.Places.{Places}
@@ -16,18 +16,18 @@ use Rattle.node_arena.specs.declared.NodeRef.{NodeRef}
 use Rattle.undo_log.specs.Log.{Open}
 use Rattle.undo_log.specs.Log.Open.{Closed, Begun, Resumed}
 use Rattle.undo_log.specs.Turning.{inverses_back, inverses_forth}
-use Rattle.forest_changes.specs.Change.{Change, applied, turned}
+use Rattle.forest_changes.specs.Change.{Change, applied, inverse}
 use Rattle.edit_steps.specs.declared.step.Step.{Step}
 use Rattle.edit_steps.specs.Step.{changes_of}
-use Rattle.edit_model.specs.Lawful.{IsPlacedPair}
+use Rattle.edit_model.specs.Valid.{IsPlacedPair}
 use Rattle.edit_model.specs.History.{used, document_of}
 use Rattle.edit_model.specs.State.{State}
 use Rattle.edit_doc.specs.declared.Doc.TheInside.{Inside}
-use Rattle.edit_doc.specs.declared.command.Beside.{Beside}
+use Rattle.edit_doc.specs.declared.command.EntrySnapshot.{EntrySnapshot}
 use Rattle.edit_doc.specs.declared.command.Command.{Command}
 use Rattle.edit_doc.specs.Whole.{Whole, with_state}
 use Rattle.edit_doc.specs.History.{edits_before, roots_from, forest_before, forest_after, begun_forest, begun_state, began_with, seen_trees, state_of, view_at, undo_entries, redo_entries, history_of, whole_of}
-use Rattle.edit_doc.specs.Sound.{IsSide, IsBeside, left_of, next_first, UndoSound, RedoSound, OpenSound, IsSound}
+use Rattle.edit_doc.specs.Sound.{IsSide, IsSnapshot, detached_of, next_first, UndoSound, RedoSound, OpenSound, IsSoundDoc}
 use Rattle.edit_doc.proofs.Inner.{seen, Ok}
 
 -- each name keeps its place
@@ -83,9 +83,9 @@ module _ (old new : List (List ℕ)) (h : AreLonger old new) where
     no_deeper = s.no_deeper;
   }
 
-  beside_longer : (before after : Forest Content) (e : List Step) (ts : List Change) (b : Beside) (left : List NodeRef) (high start : ℕ) →
-      IsBeside old before after e ts b left high start → IsBeside new before after e ts b left high start
-  beside_longer before after e ts b left high start s = record {
+  snapshot_longer : (before after : Forest Content) (e : List Step) (ts : List Change) (b : EntrySnapshot) (detached : List NodeRef) (high start : ℕ) →
+      IsSnapshot old before after e ts b detached high start → IsSnapshot new before after e ts b detached high start
+  snapshot_longer before after e ts b detached high start s = record {
     was = side_longer before b.sides.before b.sides.nodes_before b.sides.chars_before b.sides.depth_before s.was;
     is = side_longer after b.sides.after b.sides.nodes_after b.sides.chars_after b.sides.depth_after s.is;
     some_label = s.some_label;
@@ -97,8 +97,8 @@ module _ (old new : List (List ℕ)) (h : AreLonger old new) where
     names_there = s.names_there;
     names_old = s.names_old;
     turns_old = s.turns_old;
-    left_loose = s.left_loose;
-    left_all = s.left_all;
+    detached_loose = s.detached_loose;
+    detached_all = s.detached_all;
   }
 
   view_same : (f : Forest Content) (p : Places) → IsOver old p → view_at new f p ≡ view_at old f p
@@ -107,21 +107,21 @@ module _ (old new : List (List ℕ)) (h : AreLonger old new) where
   -- ---- the history
 
   module _ (held : List (Option ℕ)) (c : Command) where
-    undo_longer : (r : Bool) (high : ℕ) (f : Forest Content) (es : List (List Step)) (bs : List Beside) → UndoSound held old r c high f es bs → UndoSound held new r c high f es bs
+    undo_longer : (r : Bool) (high : ℕ) (f : Forest Content) (es : List (List Step)) (bs : List EntrySnapshot) → UndoSound held old r c high f es bs → UndoSound held new r c high f es bs
     undo_longer r high f [] [] s = tt
     undo_longer r high f [] (b ∷ bs) s = absurd s
     undo_longer r high f (e ∷ es) [] s = absurd s
     undo_longer r high f (e ∷ es) (b ∷ bs) s =
-        (s.0, (beside_longer (forest_before e f) f e (inverses_back applied turned (changes_of e) f) b (left_of r c b) high c.start s.1.0, undo_longer false b.sides.first_label (forest_before e f) es bs s.1.1))
+        (s.0, (snapshot_longer (forest_before e f) f e (inverses_back applied inverse (changes_of e) f) b (detached_of r c b) high c.start s.1.0, undo_longer false b.sides.first_label (forest_before e f) es bs s.1.1))
 
-    redo_longer : (f : Forest Content) (es : List (List Step)) (bs : List Beside) → RedoSound held old c f es bs → RedoSound held new c f es bs
+    redo_longer : (f : Forest Content) (es : List (List Step)) (bs : List EntrySnapshot) → RedoSound held old c f es bs → RedoSound held new c f es bs
     redo_longer f [] [] s = tt
     redo_longer f [] (b ∷ bs) s = absurd s
     redo_longer f (e ∷ es) [] s = absurd s
     redo_longer f (e ∷ es) (b ∷ bs) s =
-        (s.0, (beside_longer f (forest_after e f) e (inverses_forth applied turned (changes_of e) f) b b.left.items (next_first c.start bs) c.start s.1.0, redo_longer (forest_after e f) es bs s.1.1))
+        (s.0, (snapshot_longer f (forest_after e f) e (inverses_forth applied inverse (changes_of e) f) b b.detached.items (next_first c.start bs) c.start s.1.0, redo_longer (forest_after e f) es bs s.1.1))
 
-    undo_same : (r : Bool) (high : ℕ) (f : Forest Content) (es : List (List Step)) (bs : List Beside) → UndoSound held old r c high f es bs → undo_entries new f es bs ≡ undo_entries old f es bs
+    undo_same : (r : Bool) (high : ℕ) (f : Forest Content) (es : List (List Step)) (bs : List EntrySnapshot) → UndoSound held old r c high f es bs → undo_entries new f es bs ≡ undo_entries old f es bs
     undo_same r high f [] bs s = refl
     undo_same r high f (e ∷ es) [] s = refl
     undo_same r high f (e ∷ es) (b ∷ bs) s =
@@ -130,7 +130,7 @@ module _ (old new : List (List ℕ)) (h : AreLonger old new) where
         let rest = undo_same false b.sides.first_label (forest_before e f) es bs s.1.1 in
         λ i. record { before = was i; after = is i; edits = edits_before e f; made = used (edits_before e f) (roots_from b.sides.first_label (forest_before e f)) } ∷ rest i
 
-    redo_same : (f : Forest Content) (es : List (List Step)) (bs : List Beside) → RedoSound held old c f es bs → redo_entries new f es bs ≡ redo_entries old f es bs
+    redo_same : (f : Forest Content) (es : List (List Step)) (bs : List EntrySnapshot) → RedoSound held old c f es bs → redo_entries new f es bs ≡ redo_entries old f es bs
     redo_same f [] bs s = refl
     redo_same f (e ∷ es) [] s = refl
     redo_same f (e ∷ es) (b ∷ bs) s =
@@ -159,8 +159,8 @@ open_marked a old new c g Closed closed same idle = record {
   host = idle.host;
   keeping = idle.keeping;
   named = idle.named;
-  left = idle.left;
-  left_before = idle.left_before;
+  detached = idle.detached;
+  detached_before = idle.detached_before;
   scratch = same ∙ idle.scratch;
 }
 open_marked a old new c g (Begun xs) closed same runs = absurd (cc)
@@ -177,17 +177,17 @@ module _ (d : Inside) (ok : Ok d) (closed : d.log.open_entry ≡ Closed) (name :
   longer = longer_by name pair d.points
 
   pub marked_ok : IsPlacedPair (seen_trees d.log d.command.start d.arena.trees) pair →
-      IsSound d.arena points d.overrides.items d.flags d.counts d.command d.log d.undo_sides.items d.redo_sides.items d.undo_sides.capacity d.redo_sides.capacity
+      IsSoundDoc d.arena points d.overrides.items d.flags d.counts d.command d.log d.undo_sides.items d.redo_sides.items d.undo_sides.capacity d.redo_sides.capacity
   marked_ok placed = record {
-    lawful = record {
-      forest = ok.lawful.forest;
+    valid = record {
+      forest = ok.valid.forest;
       placed = record {
-        selection = ok.lawful.placed.selection;
-        scratch = ok.lawful.placed.scratch;
-        marks = inserted (IsPlacedPair (seen_trees d.log d.command.start d.arena.trees)) name pair placed d.points.marks ok.lawful.placed.marks;
+        selection = ok.valid.placed.selection;
+        scratch = ok.valid.placed.scratch;
+        marks = inserted (IsPlacedPair (seen_trees d.log d.command.start d.arena.trees)) name pair placed d.points.marks ok.valid.placed.marks;
       };
-      started = ok.lawful.started;
-      settings = ok.lawful.settings;
+      started = ok.valid.started;
+      settings = ok.valid.settings;
     };
     some_label = ok.some_label;
     nodes = ok.nodes;

@@ -8,19 +8,19 @@ use Rattle.dom_model.specs.declared.Content.{Content}
 use Rattle.dom_model.specs.Contents.{IsNode}
 use Rattle.dom_model.specs.Forest.{Forest, Seen, RisesFrom, tops, times, first_in, count_of, tree_of, parent_of, with_leaf}
 use Rattle.dom_model.specs.Forest.Forest.{Nil, Tree}
-use Rattle.dom_model.specs.Shed.{shed, IsWhole}
+use Rattle.dom_model.specs.Pruned.{pruned, IsWhole}
 use Rattle.dom_model.proofs.Links.{child_of_parent, parent_count}
-use Rattle.dom_model.proofs.Shedding.{count_of-shed, parent_of-shed, whole_stays}
+use Rattle.dom_model.proofs.Pruning.{count_of-pruned, parent_of-pruned, whole_stays}
 use Rattle.dom_model.proofs.Stands.{Stands, true_or_false, seek_Stands, count_of-Stands}
 use Rattle.dom_model.proofs.Totals.{total-without}
 use Rattle.dom_model.proofs.Walks.{document_first}
 use Rattle.dom_model.proofs.Within.{within_root}
-use Rattle.live_range.specs.Edit.{has_label}
+use Rattle.live_range.specs.PointsEdit.{has_label}
 use Rattle.forest_changes.specs.Change.{Change, IsForest}
-use Rattle.forest_changes.specs.Down.{Sheds, IsLeft}
+use Rattle.forest_changes.specs.Down.{Prunes, IsLeft}
 use Rattle.forest_changes.specs.Leaves.{IsBelow, IsMade}
 use Rattle.forest_changes.specs.Named.{Each, named_in}
-use Rattle.forest_changes.proofs.DownChange.{IsForest-shed, sheds_whole}
+use Rattle.forest_changes.proofs.DownChange.{IsForest-pruned, prunes_whole}
 use Rattle.forest_changes.proofs.Places.{rising_top}
 use Rattle.edit_model.specs.History.{used, document_of}
 use Rattle.edit_doc.specs.History.{roots_from, is_hidden}
@@ -96,13 +96,13 @@ with_made-Tree m c ks (n ∷ ns) g = with_made-Tree m c ks ns (with_leaf g n.0 n
 abbrev pub is_unnamed : List ℕ → ℕ → ℕ → Bool
 is_unnamed ls first l = nat_le first l && not (has_label ls l)
 
-left_made : (k : ℕ → Bool) (xs : List Change) (first : ℕ) (f : Forest Content) → ((m : ℕ) → 0 < times (tops f) m → k m ≡ nat_lt m first) → ((l : ℕ) (s : Seen Content) → Stands None f l s → first ≤ l → s.children ≡ [])
-    → shed (is_unnamed (named_in xs) first) (shed k f) ≡ with_made Nil (used xs (roots_from first f))
+detached_made : (k : ℕ → Bool) (xs : List Change) (first : ℕ) (f : Forest Content) → ((m : ℕ) → 0 < times (tops f) m → k m ≡ nat_lt m first) → ((l : ℕ) (s : Seen Content) → Stands None f l s → first ≤ l → s.children ≡ [])
+    → pruned (is_unnamed (named_in xs) first) (pruned k f) ≡ with_made Nil (used xs (roots_from first f))
 unfolding used
-left_made k xs first Nil old leaf = refl
-left_made k xs first (Tree m c ks rest) old leaf =
+detached_made k xs first Nil old leaf = refl
+detached_made k xs first (Tree m c ks rest) old leaf =
     let own : k m ≡ nat_lt m first = old m (here m (times (tops rest) m)) in
-    let ih = left_made k xs first rest (λ j top. old j (omega (arith, top))) (λ l s st. leaf l s (inr (inr st))) in
+    let ih = detached_made k xs first rest (λ j top. old j (omega (arith, top))) (λ l s st. leaf l s (inr (inr st))) in
     elim (true_or_false (nat_le first m)) [
       | inr t ↦ (let gone : k m ≡ true = own ∙ low m first t in rw (t, gone) ih)
       | inl t ↦ (
@@ -164,17 +164,17 @@ module _ (g : Forest Content) (first : ℕ) (is : IsForest g) (some : 0 < first)
     unnamed_zero = (let t : nat_le first 0 ≡ false = le_false first 0 some in rw t refl)
 
     -- the document is left, and the new nodes that are named
-    pub begins : shed u (shed k g) ≡ with_made (document_of g) (used xs (roots_from first g))
+    pub begins : pruned u (pruned k g) ≡ with_made (document_of g) (used xs (roots_from first g))
     begins =
         let d = document_first g is.distinct is.rising is.document is.root in
-        subst (λ (w : Forest Content). RisesFrom 0 w → ((l : ℕ) (s : Seen Content) → Stands None w l s → first ≤ l → s.children ≡ []) → shed u (shed (is_hidden w first) w) ≡ with_made (document_of w) (used xs (roots_from first w)))
+        subst (λ (w : Forest Content). RisesFrom 0 w → ((l : ℕ) (s : Seen Content) → Stands None w l s → first ≤ l → s.children ≡ []) → pruned u (pruned (is_hidden w first) w) ≡ with_made (document_of w) (used xs (roots_from first w)))
         (sym d.3) (at_tree d.0 d.1 d.2) is.rising leafs
       where
         at_tree : (c : Content) (ks rest : Forest Content) → RisesFrom 0 (Tree 0 c ks rest) → ((l : ℕ) (s : Seen Content) → Stands None (Tree 0 c ks rest) l s → first ≤ l → s.children ≡ [])
-            → shed u (shed (is_hidden (Tree 0 c ks rest) first) (Tree 0 c ks rest)) ≡ with_made (document_of (Tree 0 c ks rest)) (used xs (roots_from first (Tree 0 c ks rest)))
+            → pruned u (pruned (is_hidden (Tree 0 c ks rest) first) (Tree 0 c ks rest)) ≡ with_made (document_of (Tree 0 c ks rest)) (used xs (roots_from first (Tree 0 c ks rest)))
         at_tree c ks rest rises leaf =
             let zero_low : nat_le first 0 ≡ false = le_false first 0 some in
-            let rest_is = left_made (is_hidden (Tree 0 c ks rest) first) xs first rest (old c ks rest rises) (λ l s st. leaf l s (inr (inr st))) in
+            let rest_is = detached_made (is_hidden (Tree 0 c ks rest) first) xs first rest (old c ks rest rises) (λ l s st. leaf l s (inr (inr st))) in
             rw zero_low (ap (Tree 0 c ks) rest_is ∙ sym (with_made-Tree 0 c ks (used xs (roots_from first rest)) Nil))
           where
             and_between : (a b x : Bool) → a ≡ true → b ≡ true → (a && (x && b)) ≡ x
@@ -187,14 +187,14 @@ module _ (g : Forest Content) (first : ℕ) (is : IsForest g) (some : 0 < first)
                 and_between (nat_lt 0 m) (nat_lt 0 (times (tops (Tree 0 c ks rest)) m)) (nat_lt m first) (true_lt 0 m (omega (arith, from))) (true_lt 0 (times (tops (Tree 0 c ks rest)) m) (omega (arith, top)))
 
     -- the unnamed nodes are whole trees
-    whole : IsWhole u (shed k g)
+    whole : IsWhole u (pruned k g)
     whole = record {
       same = λ l p up. (
-          let h = shed k g in
-          let ish = IsForest-shed k g refl is in
+          let h = pruned k g in
+          let ish = IsForest-pruned k g refl is in
           let here = parent_count h l p ish.distinct up in
-          let up' : parent_of g l ≡ Some p = sym (parent_of-shed k g l is.distinct here.0) ∙ up in
-          not_new l (λ from. (let q : Some p ≡ None = sym up' ∙ fresh.loose l from (omega (arith, here.0, count_of-shed k g l)) in cc))
+          let up' : parent_of g l ≡ Some p = sym (parent_of-pruned k g l is.distinct here.0) ∙ up in
+          not_new l (λ from. (let q : Some p ≡ None = sym up' ∙ fresh.loose l from (omega (arith, here.0, count_of-pruned k g l)) in cc))
           ∙ sym (not_new p (λ from. (
           let r = child_of_parent g l p is.distinct up' in
           let none = leafs p r.0 r.1 from in
@@ -210,13 +210,13 @@ module _ (g : Forest Content) (first : ℕ) (is : IsForest g) (some : 0 < first)
             by_test (inl t) = absurd (never (true_le first l t))
             by_test (inr t) = rw t refl
 
-    pub sheds_unnamed : Sheds u (shed k g)
-    sheds_unnamed = sheds_whole u (shed k g) (IsForest-shed k g refl is) unnamed_zero whole
+    pub prunes_unnamed : Prunes u (pruned k g)
+    prunes_unnamed = prunes_whole u (pruned k g) (IsForest-pruned k g refl is) unnamed_zero whole
 
-    pub names_left : Each (IsLeft k g) (named_in xs) → Each (IsLeft u (shed k g)) (named_in xs)
-    names_left h = each_with (IsLeft k g) (IsLeft u (shed k g)) (named_in xs) (λ l t here. (
+    pub names_detached : Each (IsLeft k g) (named_in xs) → Each (IsLeft u (pruned k g)) (named_in xs)
+    names_detached h = each_with (IsLeft k g) (IsLeft u (pruned k g)) (named_in xs) (λ l t here. (
         let named : u l ≡ false = rw t (and_false (nat_le first l)) in
-        omega (arith, here, whole_stays u (shed k g) (IsForest-shed k g refl is).distinct whole l named))) h
+        omega (arith, here, whole_stays u (pruned k g) (IsForest-pruned k g refl is).distinct whole l named))) h
       where
         and_false : (a : Bool) → (a && false) ≡ false
         and_false true = refl

@@ -8,13 +8,13 @@ use Rattle.dom_model.specs.Contents.{with_chars, with_attributes}
 use Rattle.dom_model.specs.Forest.{Forest, join, tops, times, count_of, tree_of, without, put_under, put_rising, link, unlink, with_leaf, RisesFrom}
 use Rattle.dom_model.specs.Forest.Forest.{Nil, Tree}
 use Rattle.dom_model.specs.Revised.{revised}
-use Rattle.dom_model.specs.Shed.{shed}
+use Rattle.dom_model.specs.Pruned.{pruned}
 use Rattle.dom_model.proofs.Stands.{true_or_false}
 use Rattle.std.proofs.lemmas.List.{map-append}
 use Rattle.std.proofs.lemmas.List.Folds.{list_any-append}
 use Rattle.undo_log.proofs.Turns.{back-join}
-use Rattle.live_range.specs.Edit.{has_label}
-use Rattle.forest_changes.specs.Change.{Change, Loosen, Attach, Shift, Rewrite, Redress, Fits, applied, turned}
+use Rattle.live_range.specs.PointsEdit.{has_label}
+use Rattle.forest_changes.specs.Change.{Change, Remove, Insert, Move, SetText, SetAttributes, Fits, applied, inverse}
 use Rattle.forest_changes.specs.Named.{Each, named, named_in}
 use Rattle.forest_changes.proofs.ChangeLists.{each_first, each_rest}
 use Rattle.undo_log.specs.Turning.{back, forth, inverses_back, FitsForth}
@@ -85,17 +85,17 @@ used-append xs a b = filter-append (λ (n : ℕ × Content). has_label (named_in
 pub skips : (xs : List Change) (b : Bool) (l : ℕ) (c : Content) (r : Nodes) → has_label (named_in xs) l ≡ false → used xs (cond b ((l, c) ∷ r) r) ≡ used xs r
 skips xs b l c r off = used_one xs b (l, c) r ∙ (ap (λ h. pick b h (l, c) (used xs r)) off ∙ pick_none b (l, c) (used xs r))
 
--- trees that are shed have no root that is named
-pub used-shed : (k : ℕ → Bool) (xs : List Change) (n : ℕ) (f : Forest Content) → ((l : ℕ) → has_label (named_in xs) l ≡ true → k l ≡ false) → used xs (roots_from n (shed k f)) ≡ used xs (roots_from n f)
-used-shed k xs n Nil h = refl
-used-shed k xs n (Tree l c ks rest) h = elim (true_or_false (k l)) [
+-- trees that are pruned have no root that is named
+pub used-pruned : (k : ℕ → Bool) (xs : List Change) (n : ℕ) (f : Forest Content) → ((l : ℕ) → has_label (named_in xs) l ≡ true → k l ≡ false) → used xs (roots_from n (pruned k f)) ≡ used xs (roots_from n f)
+used-pruned k xs n Nil h = refl
+used-pruned k xs n (Tree l c ks rest) h = elim (true_or_false (k l)) [
   | inl t ↦ (
       let off : has_label (named_in xs) l ≡ false = elim (true_or_false (has_label (named_in xs) l)) [ inl s ↦ absurd (let u : true ≡ false = sym t ∙ h l s in cc) | inr s ↦ s ] in
-      ap (λ b. used xs (roots_from n (cond b (shed k rest) (Tree l c ks (shed k rest))))) t ∙ (used-shed k xs n rest h ∙ sym (skips xs (nat_le n l) l c (roots_from n rest) off)))
+      ap (λ b. used xs (roots_from n (cond b (pruned k rest) (Tree l c ks (pruned k rest))))) t ∙ (used-pruned k xs n rest h ∙ sym (skips xs (nat_le n l) l c (roots_from n rest) off)))
   | inr t ↦
-      ap (λ b. used xs (roots_from n (cond b (shed k rest) (Tree l c ks (shed k rest))))) t
-      ∙ (used_one xs (nat_le n l) (l, c) (roots_from n (shed k rest))
-      ∙ (ap (pick (nat_le n l) (has_label (named_in xs) l) (l, c)) (used-shed k xs n rest h) ∙ sym (used_one xs (nat_le n l) (l, c) (roots_from n rest))))
+      ap (λ b. used xs (roots_from n (cond b (pruned k rest) (Tree l c ks (pruned k rest))))) t
+      ∙ (used_one xs (nat_le n l) (l, c) (roots_from n (pruned k rest))
+      ∙ (ap (pick (nat_le n l) (has_label (named_in xs) l) (l, c)) (used-pruned k xs n rest h) ∙ sym (used_one xs (nat_le n l) (l, c) (roots_from n rest))))
 ]
 
 pub used-leaf : (xs : List Change) (n l : ℕ) (c : Content) (f : Forest Content) → has_label (named_in xs) l ≡ false → used xs (roots_from n (with_leaf f l c)) ≡ used xs (roots_from n f)
@@ -155,11 +155,11 @@ roots-link n l lt p b f = roots-under n p b (tree_of f l) (without f l) ∙ root
 
 pub roots-applied : (n : ℕ) (x : Change) (f : Forest Content) → node_of x < n → roots_from n (applied x f) ≡ roots_from n f
 unfolding applied
-roots-applied n (Loosen m) f lt = roots-unlink n m lt f
-roots-applied n (Attach m p b) f lt = roots-link n m lt p b f
-roots-applied n (Shift m p b) f lt = roots-link n m lt p b (unlink f m) ∙ roots-unlink n m lt f
-roots-applied n (Rewrite m words) f lt = roots-revised n m lt (with_chars words) f
-roots-applied n (Redress m list) f lt = roots-revised n m lt (with_attributes list) f
+roots-applied n (Remove m) f lt = roots-unlink n m lt f
+roots-applied n (Insert m p b) f lt = roots-link n m lt p b f
+roots-applied n (Move m p b) f lt = roots-link n m lt p b (unlink f m) ∙ roots-unlink n m lt f
+roots-applied n (SetText m words) f lt = roots-revised n m lt (with_chars words) f
+roots-applied n (SetAttributes m list) f lt = roots-revised n m lt (with_attributes list) f
 
 own_named : (x : Change) (l : ℕ) → node_of x ≡ l → has_label (named x) l ≡ true
 own_named x l same = subst (λ m. has_label (named x) m ≡ true) same (by x)
@@ -168,11 +168,11 @@ own_named x l same = subst (λ m. has_label (named x) m ≡ true) same (by x)
     own m = grind (arith, nat_tests)
 
     by : (y : Change) → has_label (named y) (node_of y) ≡ true
-    by (Loosen n) = rw (own n) refl
-    by (Attach n p b) = rw (own n) refl
-    by (Shift n p b) = rw (own n) refl
-    by (Rewrite n words) = rw (own n) refl
-    by (Redress n list) = rw (own n) refl
+    by (Remove n) = rw (own n) refl
+    by (Insert n p b) = rw (own n) refl
+    by (Move n p b) = rw (own n) refl
+    by (SetText n words) = rw (own n) refl
+    by (SetAttributes n list) = rw (own n) refl
 
 or_false : (a b : Bool) → (a || b) ≡ false → (a ≡ false) × (b ≡ false)
 or_false false b e = (refl, e)
@@ -215,25 +215,25 @@ pub no_edits : (f : Forest Content) → edits_before [] f ≡ []
 unfolding inverses_back
 no_edits f = refl
 
-turned_length : (xs : List Change) (f : Forest Content) → length (inverses_back applied turned xs f) ≡ length xs
+inverse_length : (xs : List Change) (f : Forest Content) → length (inverses_back applied inverse xs f) ≡ length xs
 unfolding inverses_back
-turned_length [] f = refl
-turned_length (x ∷ xs) f = ap suc (turned_length xs f)
+inverse_length [] f = refl
+inverse_length (x ∷ xs) f = ap suc (inverse_length xs f)
 
 pub count_changes : (xs : List Step) → length (changes_of xs) ≡ length xs
 count_changes [] = refl
 count_changes (x ∷ xs) = ap suc (count_changes xs)
 
 pub count_edits : (xs : List Step) (f : Forest Content) → length (edits_before xs f) ≡ length xs
-count_edits xs f = turned_length (changes_of xs) f ∙ count_changes xs
+count_edits xs f = inverse_length (changes_of xs) f ∙ count_changes xs
 
-turned-join : (xs ys : List Change) (f : Forest Content) → inverses_back applied turned (xs ++ ys) f ≡ inverses_back applied turned xs (back applied ys f) ++ inverses_back applied turned ys f
+inverse-join : (xs ys : List Change) (f : Forest Content) → inverses_back applied inverse (xs ++ ys) f ≡ inverses_back applied inverse xs (back applied ys f) ++ inverses_back applied inverse ys f
 unfolding inverses_back
-turned-join [] ys f = refl
-turned-join (x ∷ xs) ys f = λ i. turned x (back-join applied xs ys f i) ∷ turned-join xs ys f i
+inverse-join [] ys f = refl
+inverse-join (x ∷ xs) ys f = λ i. inverse x (back-join applied xs ys f i) ∷ inverse-join xs ys f i
 
 pub edits-join : (es ys : List Step) (f : Forest Content) → edits_before (es ++ ys) f ≡ edits_before es (forest_before ys f) ++ edits_before ys f
-edits-join es ys f = ap (λ cs. inverses_back applied turned cs f) (map-append change_of es ys) ∙ turned-join (changes_of es) (changes_of ys) f
+edits-join es ys f = ap (λ cs. inverses_back applied inverse cs f) (map-append change_of es ys) ∙ inverse-join (changes_of es) (changes_of ys) f
 
 -- ---- the nodes of an entry that one more command joins
 

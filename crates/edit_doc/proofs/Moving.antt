@@ -8,35 +8,36 @@ use Rattle.dom_model.specs.Contents.{words_length}
 use Rattle.dom_model.specs.Document.{node_count, char_count, page_depth}
 use Rattle.dom_model.specs.Forest.{Forest, total, taken_from, count_of, depth_of, tree_of, parent_of, next_of, children_of, link, unlink, CanPut, IsDistinct}
 use Rattle.dom_model.specs.Places.{levels, place_in, index_of}
-use Rattle.dom_model.specs.Shed.{shed}
-use Rattle.dom_model.specs.State.{State as Arena, IsLawful as IsArena, IsSlotted}
+use Rattle.dom_model.specs.Pruned.{pruned}
+use Rattle.dom_model.specs.ArenaState.{ArenaState as Arena, IsValid as IsArena, IsSlotted}
 use Rattle.dom_model.proofs.Links.{children_of-unlink}
 use Rattle.dom_model.proofs.Move.{tree_of-unlink}
-use Rattle.dom_model.proofs.Shedding.{children_of-shed, IsDistinct-shed}
+use Rattle.dom_model.proofs.Pruning.{children_of-pruned, IsDistinct-pruned}
 use Rattle.dom_model.proofs.Stands.{true_or_false}
 use Rattle.dom_model.proofs.Totals.{total-unlink}
 use Rattle.node_arena.specs.declared.NodeRef.{NodeRef}
 use Rattle.node_arena.specs.Held.{label}
 use Rattle.live_range.specs.declared.places.Point.{Point}
-use Rattle.live_range.specs.Edit as range
-use Rattle.live_range.specs.Edit.{Moved, has_label}
+use Rattle.live_range.specs.PointsEdit as range
+use Rattle.live_range.specs.PointsEdit.{has_label}
 use Rattle.live_range.specs.LivePoints.{LivePoints, Fits, mapped, labels_of}
 use Rattle.point_order.specs.PointOrder.{is_in_document}
 use Rattle.undo_log.specs.Log.{Log, with_step}
-use Rattle.forest_changes.specs.Change.{Shift, applied, turned, Fits as ChangeFits}
+use Rattle.forest_changes.specs.Change.{applied, inverse, Fits as ChangeFits}
+use Rattle.dom_model.specs.Change as change
 use Rattle.forest_changes.specs.Named.{Each, listed, named}
 use Rattle.forest_changes.specs.Down.{IsLeft}
-use Rattle.forest_changes.proofs.DownChange.{IsForest-shed, up as goes_up}
+use Rattle.forest_changes.proofs.DownChange.{IsForest-pruned, up as goes_up}
 use Rattle.forest_changes.proofs.Twice.{forest_of}
 use Rattle.edit_steps.specs.declared.step.Step.{Step}
 use Rattle.edit_steps.specs.declared.step.Step.TheVariants.{Place}
-use Rattle.edit_steps.specs.Step.{StepFits, change_of, step_applied, step_turned}
+use Rattle.edit_steps.specs.Step.{StepFits, change_of, step_applied, step_inverse}
 use Rattle.edit_model.specs.declared.settings.Setting.{Setting}
 use Rattle.edit_model.specs.State.{State}
 use Rattle.edit_model.specs.Edit.{Move, is_made_edit, change_of as edit_change, trees_after, points_after, index_before, parent_or_0}
 use Rattle.edit_model.specs.Confined.{may_move, may_go}
 use Rattle.edit_model.specs.Gives.{label_of}
-use Rattle.edit_model.specs.Lawful.{IsForest, IsPlaced}
+use Rattle.edit_model.specs.Valid.{IsForest, IsPlaced}
 use Rattle.edit_model.proofs.Fitting.{fits-move}
 use Rattle.edit_model.proofs.Forests.{can_go, forest-unlink, parent_at-unlink}
 use Rattle.edit_model.proofs.Made.{parent_is}
@@ -60,7 +61,7 @@ use Rattle.edit_doc.proofs.Counted.{unlinked_inside, unlinked_outside}
 use Rattle.edit_doc.proofs.Inserted.{index-link, none_of, more_linked, linked_low, chars_bound, nodes_bound}
 use Rattle.edit_doc.proofs.Raised.{stands_low, moved_depth}
 use Rattle.edit_doc.proofs.Treed.{placed_after, settled_after}
-use Rattle.edit_doc.proofs.Changing.{Follows, run, seen_sheds}
+use Rattle.edit_doc.proofs.Changing.{Follows, run, seen_prunes}
 use Rattle.edit_doc.proofs.Freely.{freed_edit}
 use Rattle.edit_doc.proofs.Edited.{Makes, Done, edit_called}
 
@@ -71,8 +72,8 @@ unfolding is_made_edit may_move
 not_moved s n p b o up h = ap (λ q. may_go s n q p b) up ∙ h
 
 -- where no point stands at either parent a move leaves them
-pub moved_same : (s : LivePoints) (from to : Point) → has_label (labels_of s) from.label ≡ false → has_label (labels_of s) to.label ≡ false → s ≡ mapped (Moved from to) s
-moved_same s from to off off' = mapped_same (Moved from to) s (λ x here.
+pub moved_same : (s : LivePoints) (from to : Point) → has_label (labels_of s) from.label ≡ false → has_label (labels_of s) to.label ≡ false → s ≡ mapped (range.Move from to) s
+moved_same s from to off off' = mapped_same (range.Move from to) s (λ x here.
     let a = apart x from.label here off in
     let b = apart x to.label here off' in
     stays (eqb from.label to.label) x a b)
@@ -88,16 +89,16 @@ moved_same s from to off off' = mapped_same (Moved from to) s (λ x here.
 
 -- ---- the index after a move
 
-unlinked_kids : (k : ℕ → Bool) (f : Forest Content) (o n p : ℕ) → IsDistinct f → parent_of f n ≡ Some o → parent_of (shed k f) n ≡ Some o → 0 < count_of (shed k f) p → children_of (unlink (shed k f) n) p ≡ children_of (unlink f n) p
+unlinked_kids : (k : ℕ → Bool) (f : Forest Content) (o n p : ℕ) → IsDistinct f → parent_of f n ≡ Some o → parent_of (pruned k f) n ≡ Some o → 0 < count_of (pruned k f) p → children_of (unlink (pruned k f) n) p ≡ children_of (unlink f n) p
 unlinked_kids k f o n p once up up' here =
-    children_of-unlink (shed k f) o n (IsDistinct-shed k f once) up' p
-    ∙ (ap (λ xs. cond (eqb o p) (taken_from xs n) xs) (children_of-shed k f p once here)
+    children_of-unlink (pruned k f) o n (IsDistinct-pruned k f once) up' p
+    ∙ (ap (λ xs. cond (eqb o p) (taken_from xs n) xs) (children_of-pruned k f p once here)
     ∙ sym (children_of-unlink f o n once up p))
 
-index_left : (k : ℕ → Bool) (f : Forest Content) (o n p : ℕ) (b : Option ℕ) → IsDistinct f → parent_of f n ≡ Some o → parent_of (shed k f) n ≡ Some o → 0 < count_of (shed k f) p → index_before (unlink (shed k f) n) p b ≡ index_before (unlink f n) p b
+index_detached : (k : ℕ → Bool) (f : Forest Content) (o n p : ℕ) (b : Option ℕ) → IsDistinct f → parent_of f n ≡ Some o → parent_of (pruned k f) n ≡ Some o → 0 < count_of (pruned k f) p → index_before (unlink (pruned k f) n) p b ≡ index_before (unlink f n) p b
 unfolding index_before
-index_left k f o n p None once up up' here = ap length (unlinked_kids k f o n p once up up' here)
-index_left k f o n p (Some m) once up up' here = ap (λ xs. place_in xs m) (unlinked_kids k f o n p once up up' here)
+index_detached k f o n p None once up up' here = ap length (unlinked_kids k f o n p once up up' here)
+index_detached k f o n p (Some m) once up up' here = ap (λ xs. place_in xs m) (unlinked_kids k f o n p once up up' here)
 
 -- ---- the numbers
 
@@ -146,19 +147,19 @@ module _ (f : Forest Content) (next : ℕ) (is : IsForest f next) (w : ℕ → C
 -- ---- the command
 
 pub moves_follow : (c c' d : Command) (node parent from : NodeRef) (before next : Option NodeRef) (f : Forest Content) → parent_of f node.label ≡ Some from.label → label next ≡ next_of f node.label →
-    Marks (place_labels node from next) c c' → Marks (place_labels node parent before) c' d → Follows c d (Shift node.label parent.label (label before)) (turned (Shift node.label parent.label (label before)) f)
-unfolding turned
+    Marks (place_labels node from next) c c' → Marks (place_labels node parent before) c' d → Follows c d (change.Move node.label parent.label (label before)) (inverse (change.Move node.label parent.label (label before)) f)
+unfolding inverse
 moves_follow c c' d node parent from before next f up after m k = record {
   start = ap (λ (k : Command). k.start) k.rest ∙ ap (λ (k : Command). k.start) m.rest;
   host = ap (λ (k : Command). k.host) k.rest ∙ ap (λ (k : Command). k.host) m.rest;
   keeping = ap (λ (k : Command). k.keeping) k.rest ∙ ap (λ (k : Command). k.keeping) m.rest;
   resumed = ap (λ (k : Command). k.resumed) k.rest ∙ ap (λ (k : Command). k.resumed) m.rest;
   kept = ap (λ (k : Command). k.kept) k.rest ∙ ap (λ (k : Command). k.kept) m.rest;
-  left_before = ap (λ (k : Command). k.left_before) k.rest ∙ ap (λ (k : Command). k.left_before) m.rest;
+  detached_before = ap (λ (k : Command). k.detached_before) k.rest ∙ ap (λ (k : Command). k.detached_before) m.rest;
   count = k.count ∙ m.count;
   stay = λ l h. k.stay l (m.stay l h);
   marked = subst (λ o. Each (IsMarked d) (node.label ∷ parent.label ∷ listed o)) (sym (labels_same before)) k.marked;
-  marked_turned = subst (λ o. Each (IsMarked d) (node.label ∷ o ∷ listed (next_of f node.label))) (sym (ap (λ q. unwrap_or q 0) up))
+  marked_inverse = subst (λ o. Each (IsMarked d) (node.label ∷ o ∷ listed (next_of f node.label))) (sym (ap (λ q. unwrap_or q 0) up))
       (subst (λ o. Each (IsMarked d) (node.label ∷ from.label ∷ listed o)) (sym (labels_same next) ∙ after)
       (k.stay node.label m.marked.0, (k.stay from.label m.marked.1.0, stays (label_of next) m.marked.1.1)));
   only = λ l h. elim (k.only l h) [
@@ -169,7 +170,7 @@ moves_follow c c' d node parent from before next f up after m k = record {
     | inr t ↦ inr (inl (subst (λ o. has_label (node.label ∷ parent.label ∷ listed o) l ≡ true) (sym (labels_same before)) t))
   ];
   more = [];
-  left = ap (λ (k : Command). k.left.items) k.rest ∙ (ap (λ (k : Command). k.left.items) m.rest ∙ sym (append-nil c.left.items));
+  detached = ap (λ (k : Command). k.detached.items) k.rest ∙ (ap (λ (k : Command). k.detached.items) m.rest ∙ sym (append-nil c.detached.items));
   loosed_is = refl;
 }
   where
@@ -185,7 +186,7 @@ module _ (d : Inside) (v : Whole) (is : seen d ≡ v) (law : IsArena d.arena) (s
   f = d.arena.trees
 
   abbrev g : Forest Content
-  g = shed (out_of d) d.arena.trees
+  g = pruned (out_of d) d.arena.trees
 
   abbrev p : ℕ
   p = parent.label
@@ -219,20 +220,20 @@ module _ (d : Inside) (v : Whole) (is : seen d ≡ v) (law : IsArena d.arena) (s
   up_seen : parent_of g n ≡ Some from.label
   up_seen = parent_seen d law (seen d) refl node node_here ∙ up
 
-  fits_seen : ChangeFits (Shift n p b) g
+  fits_seen : ChangeFits (change.Move n p b) g
   fits_seen = record {
-    forest = IsForest-shed (out_of d) f refl (forest_of d.arena law);
+    forest = IsForest-pruned (out_of d) f refl (forest_of d.arena law);
     here = (
       subst IsSome (sym up_seen) refl,
       record {
-        place = can_go g d.arena.next ok.lawful.forest from.label n p b up_seen told.apart told.parent (parent_there g p told.parent) told.before;
-        parent = parent_at-unlink g d.arena.next ok.lawful.forest from.label n p up_seen told.parent;
+        place = can_go g d.arena.next ok.valid.forest from.label n p b up_seen told.apart told.parent (parent_there g p told.parent) told.before;
+        parent = parent_at-unlink g d.arena.next ok.valid.forest from.label n p up_seen told.parent;
       },
     );
   }
 
-  fits_here : ChangeFits (Shift n p b) f
-  fits_here = (goes_up (out_of d) (Shift n p b) f (seen_sheds d.arena d.points d.overrides.items d.flags d.counts d.command d.log d.undo_sides.items d.redo_sides.items d.undo_sides.capacity d.redo_sides.capacity law (open_of d v is now_open) ok) (forest_of d.arena law) fits_seen).0
+  fits_here : ChangeFits (change.Move n p b) f
+  fits_here = (goes_up (out_of d) (change.Move n p b) f (seen_prunes d.arena d.points d.overrides.items d.flags d.counts d.command d.log d.undo_sides.items d.redo_sides.items d.undo_sides.capacity d.redo_sides.capacity law (open_of d v is now_open) ok) (forest_of d.arena law) fits_seen).0
 
   can : CanPut (unlink f n) p b n
   can = fits_here.here.1.place
@@ -304,15 +305,15 @@ module _ (d : Inside) (v : Whole) (is : seen d ≡ v) (law : IsArena d.arena) (s
   abbrev end_at : Point
   end_at = record { label = p; offset = index_before (unlink g n) p b }
 
-  points_is : mapped (Moved start_at end_at) d.points ≡ points_after (Move n p b) g d.points
+  points_is : mapped (range.Move start_at end_at) d.points ≡ points_after (Move n p b) g d.points
   unfolding points_after
   points_is = refl
 
-  fit_here : Fits (Moved start_at end_at) d.points
-  fit_here = fits-move (seen d).state n p b ok.lawful (omega (arith, law.capped, law.small)) may_seen
+  fit_here : Fits (range.Move start_at end_at) d.points
+  fit_here = fits-move (seen d).state n p b ok.valid (omega (arith, law.capped, law.small)) may_seen
 
   index_is : index_of (link (unlink f n) p b n) n ≡ index_before (unlink g n) p b
-  index_is = index-link (unlink f n) p b n (forest-unlink f d.arena.next (arena_forest d.arena law) from.label n up).distinct can ∙ sym (index_left (out_of d) f from.label n p b law.distinct up up_seen (held_seen d v is parent parent_held).here)
+  index_is = index-link (unlink f n) p b n (forest-unlink f d.arena.next (arena_forest d.arena law) from.label n up).distinct can ∙ sym (index_detached (out_of d) f from.label n p b law.distinct up up_seen (held_seen d v is parent parent_held).here)
 
   start_label : from.label ≡ parent_or_0 g n
   start_label = sym (parent_is g from.label n up_seen)
@@ -335,19 +336,19 @@ module _ (d : Inside) (v : Whole) (is : seen d ≡ v) (law : IsArena d.arena) (s
     abbrev to : Point
     to = record { label = p; offset = index_of arena.trees n }
 
-    same_move : (at : Point) → at.label ≡ from.label → at.offset ≡ index_of f n → Moved at to ≡ Moved start_at end_at
-    same_move at e k = λ i. Moved (record { label = (e ∙ start_label) i; offset = (k ∙ start_index) i }) (record { label = p; offset = index_here i })
+    same_move : (at : Point) → at.label ≡ from.label → at.offset ≡ index_of f n → range.Move at to ≡ range.Move start_at end_at
+    same_move at e k = λ i. range.Move (record { label = (e ∙ start_label) i; offset = (k ∙ start_index) i }) (record { label = p; offset = index_here i })
 
-    pub points_fit : (place : Option Point) → IsFrom f d.points n from.label p place → IfSome place (λ at. Fits (Moved at (record { label = p; offset = index_of arena.trees n })) d.points)
+    pub points_fit : (place : Option Point) → IsFrom f d.points n from.label p place → IfSome place (λ at. Fits (range.Move at (record { label = p; offset = index_of arena.trees n })) d.points)
     points_fit None h = tt
     points_fit (Some at) h = subst (λ m. Fits m d.points) (sym (same_move at h.0 h.1)) fit_here
 
     module _ (points : LivePoints) (place : Option Point) (place_is : IsFrom f d.points n from.label p place)
-        (moved : IfSome place (λ at. points ≡ mapped (Moved at (record { label = p; offset = index_of arena.trees n })) d.points)) (none : IsNone place → points ≡ d.points) where
-      points_moved : points ≡ mapped (Moved start_at end_at) d.points
+        (moved : IfSome place (λ at. points ≡ mapped (range.Move at (record { label = p; offset = index_of arena.trees n })) d.points)) (none : IsNone place → points ≡ d.points) where
+      points_moved : points ≡ mapped (range.Move start_at end_at) d.points
       points_moved = by_place place place_is moved none
         where
-          by_place : (o : Option Point) → IsFrom f d.points n from.label p o → IfSome o (λ at. points ≡ mapped (Moved at to) d.points) → (IsNone o → points ≡ d.points) → points ≡ mapped (Moved start_at end_at) d.points
+          by_place : (o : Option Point) → IsFrom f d.points n from.label p o → IfSome o (λ at. points ≡ mapped (range.Move at to) d.points) → (IsNone o → points ≡ d.points) → points ≡ mapped (range.Move start_at end_at) d.points
           by_place None h m k = k refl ∙ moved_same d.points start_at end_at (ap (has_label (labels_of d.points)) (sym start_label) ∙ h.0) h.1
           by_place (Some at) h m k = m ∙ ap (λ e. mapped e d.points) (same_move at h.0 h.1)
 
@@ -361,7 +362,7 @@ module _ (d : Inside) (v : Whole) (is : seen d ≡ v) (law : IsArena d.arena) (s
       module _ (overrides : List Setting) (overrides_are : overrides ≡ settled f d.points arena.trees points d.overrides.items) (enters : Bool) (enters_is : enters ≡ (not (is_in_document f n) && is_in_document f p)) (counts : Counts)
           (nodes_are : counts.nodes ≡ with_more enters d.counts.nodes (total (λ _ _. 1) (tree_of f n))) (chars_are : counts.chars ≡ with_more enters d.counts.chars (total (λ _ c. words_length c) (tree_of f n)))
           (raised : IsRaised f p n (is_in_document f p) d.counts.depth counts.depth)
-          (next : Option NodeRef) (next_is : label next ≡ next_of f n) (mid c : Command) (m : Marks (place_labels node from next) d.command mid) (k : Marks (place_labels node parent before) mid c) (log : Log Step) (log_is : log ≡ with_step d.log (step_turned x d.arena)) where
+          (next : Option NodeRef) (next_is : label next ≡ next_of f n) (mid c : Command) (m : Marks (place_labels node from next) d.command mid) (k : Marks (place_labels node parent before) mid c) (log : Log Step) (log_is : log ≡ with_step d.log (step_inverse x d.arena)) where
         makes : Makes d (Move n p b) x points overrides counts c
         unfolding applied edit_change
         makes = record {

@@ -3,35 +3,35 @@ use Rattle.std.proofs.Common.{◌≡◌, ℕ, zero, suc, ◌+◌, ◌<◌, ◌�
 use Rattle.std.specs.Prelude.{IsTrue, nat_le, slice_get}
 use Rattle.dom_model.specs.declared.Content.{Content}
 use Rattle.dom_model.specs.Forest.{Forest, tops, times, count_of, tree_of}
-use Rattle.dom_model.specs.Shed.{shed}
-use Rattle.dom_model.specs.State.{State as Arena, IsLawful as IsArena}
+use Rattle.dom_model.specs.Pruned.{pruned}
+use Rattle.dom_model.specs.ArenaState.{ArenaState as Arena, IsValid as IsArena}
 use Rattle.dom_model.proofs.Stands.{true_or_false}
 use Rattle.live_range.specs.declared.places.Places.{Places}
-use Rattle.live_range.specs.Edit.{has_label}
+use Rattle.live_range.specs.PointsEdit.{has_label}
 use Rattle.undo_log.specs.Turning.{inverses_back, inverses_forth}
 use Rattle.undo_log.specs.Log.{Log, IsLog, noted, is_open, is_resumed, joined, committed}
-use Rattle.forest_changes.specs.Change.{IsForest, applied, turned}
+use Rattle.forest_changes.specs.Change.{IsForest, applied, inverse}
 use Rattle.forest_changes.specs.Named.{Each, named, named_in}
 use Rattle.forest_changes.proofs.ChangeLists.{each_first, each_rest, each_join}
 use Rattle.forest_changes.proofs.Twice.{forest_of}
 use Rattle.edit_steps.specs.declared.step.Step.{Step}
 use Rattle.edit_steps.specs.Step.{change_of, changes_of}
 use Rattle.edit_doc.specs.declared.Doc.TheInside.{Inside}
-use Rattle.edit_doc.specs.declared.command.Beside.{Beside}
+use Rattle.edit_doc.specs.declared.command.EntrySnapshot.{EntrySnapshot}
 use Rattle.edit_doc.specs.declared.command.Command.{Command}
 use Rattle.edit_doc.specs.Fields.{AreResting, Enters}
-use Rattle.edit_doc.specs.GivingUp.{GivesUp, loose_roots, has_left}
+use Rattle.edit_doc.specs.GivingUp.{GivesUp, loose_roots, has_detached}
 use Rattle.edit_doc.specs.History.{forest_before, forest_after, is_hidden}
 use Rattle.edit_doc.specs.Marks.{has_named}
 use Rattle.edit_doc.specs.Sound.{IsOff, EntriesOff, AreNeeded, UndoSound, RedoSound, next_first}
 use Rattle.edit_doc.proofs.Downs.{back_forest, forth_forest}
 use Rattle.edit_doc.proofs.GivingUp.{unnamed_in}
-use Rattle.edit_doc.proofs.HiddenTrees.{is_hidden_from, tops_left, true_le, false_le}
+use Rattle.edit_doc.proofs.HiddenTrees.{is_hidden_from, tops_detached, true_le, false_le}
 use Rattle.edit_doc.proofs.Inner.{Ok}
 use Rattle.edit_doc.proofs.Joins.{committed_joined, true_is}
 use Rattle.edit_doc.proofs.Laid.{next_first_low}
-use Rattle.edit_doc.proofs.Loosened.{listed_has, or_false}
-use Rattle.edit_doc.proofs.Off.{Passes, passes_back, passes_forth, entries_moved, each_here, each_off, own_tree, tree_shed}
+use Rattle.edit_doc.proofs.NewlyDetached.{listed_has, or_false}
+use Rattle.edit_doc.proofs.Off.{Passes, passes_back, passes_forth, entries_moved, each_here, each_off, own_tree, tree_pruned}
 use Rattle.edit_doc.proofs.Outgone.{unkept}
 use Rattle.edit_doc.proofs.Records.{committed_made, with_first, entering}
 use Rattle.edit_doc.proofs.Rolls.{run, g, xs, forest_g}
@@ -57,21 +57,21 @@ joined_first l f (e ∷ es) ys h = (first_named (IsOff f l) e ys h.0, h.1)
 
 module _ (held : List (Option ℕ)) (names : List (List ℕ)) (c : Command) where
   -- a tree that the entries but for the last don't name, nor did that leave it
-  nearly : (n high : ℕ) (f : Forest Content) (es : List (List Step)) (bs : List Beside) → IsForest f → UndoSound held names false c high f es bs → length es ≤ n + 1 →
-      (l : ℕ) → 0 < l → 0 < times (tops f) l → has_left (slice_get bs n) l ≡ false → EntriesOff l f (take n es) → (EntriesOff l f es → ⊥) → ⊥
+  nearly : (n high : ℕ) (f : Forest Content) (es : List (List Step)) (bs : List EntrySnapshot) → IsForest f → UndoSound held names false c high f es bs → length es ≤ n + 1 →
+      (l : ℕ) → 0 < l → 0 < times (tops f) l → has_detached (slice_get bs n) l ≡ false → EntriesOff l f (take n es) → (EntriesOff l f es → ⊥) → ⊥
   nearly n high f [] bs is s few l inner top unlisted off missed = missed tt
   nearly n high f (e ∷ es) [] is s few l inner top unlisted off missed = s
-  nearly zero high f (e ∷ []) (b ∷ bs) is s few l inner top unlisted off missed = true≢false (sym (s.1.0.left_all l inner top (λ a t. missed (a, tt))) ∙ unlisted)
+  nearly zero high f (e ∷ []) (b ∷ bs) is s few l inner top unlisted off missed = true≢false (sym (s.1.0.detached_all l inner top (λ a t. missed (a, tt))) ∙ unlisted)
   nearly zero high f (e ∷ x ∷ es) (b ∷ bs) is s few l inner top unlisted off missed = absurd (omega (arith, few))
   nearly (suc n) high f (e ∷ es) (b ∷ bs) is s few l inner top unlisted off missed =
       let h = forest_before e f in
       let ch = changes_of e in
-      let ps : Passes l f h (inverses_back applied turned ch f) = passes_back l ch f is inner top s.0.0 (each_here (is_hidden h b.sides.first_label) f (named_in ch) s.1.0.names_there) off.0 in
+      let ps : Passes l f h (inverses_back applied inverse ch f) = passes_back l ch f is inner top s.0.0 (each_here (is_hidden h b.sides.first_label) f (named_in ch) s.1.0.names_there) off.0 in
       nearly n b.sides.first_label h es bs (back_forest ch f s.0.0 is) s.1.1 (omega (arith, few)) l inner ps.top unlisted (entries_moved l f h ps.same (take n es) off.1)
       (λ x. missed (off.0, entries_moved l h f (λ m. sym (ps.same m)) es x))
 
   -- the entries that redo would take didn't see older trees
-  redo_off : (f : Forest Content) (es : List (List Step)) (bs : List Beside) → IsForest f → RedoSound held names c f es bs → (l : ℕ) → 0 < l → l < next_first c.start bs → 0 < times (tops f) l → EntriesOff l f es
+  redo_off : (f : Forest Content) (es : List (List Step)) (bs : List EntrySnapshot) → IsForest f → RedoSound held names c f es bs → (l : ℕ) → 0 < l → l < next_first c.start bs → 0 < times (tops f) l → EntriesOff l f es
   redo_off f [] bs is s l inner old top = tt
   redo_off f (e ∷ es) [] is s l inner old top = absurd s
   redo_off f (e ∷ es) (b ∷ bs) is s l inner old top =
@@ -80,11 +80,11 @@ module _ (held : List (Option ℕ)) (names : List (List ℕ)) (c : Command) wher
       let hid = is_hidden f b.sides.first_label in
       let t : hid l ≡ true = is_hidden_from f b.sides.first_label l (record { inner = inner; old = old; root = top }) in
       let own : Each (IsOff f l) (named_in ch) = each_off hid f l is.distinct top t (named_in ch) s.1.0.names_seen in
-      let ps : Passes l f h (inverses_forth applied turned ch f) = passes_forth l ch f is inner top s.0.0 (each_here hid f (named_in ch) s.1.0.names_seen) own in
+      let ps : Passes l f h (inverses_forth applied inverse ch f) = passes_forth l ch f is inner top s.0.0 (each_here hid f (named_in ch) s.1.0.names_seen) own in
       let drawn = s.1.0.drawn in
       (own, entries_moved l h f (λ m. sym (ps.same m)) es (redo_off h es bs (forth_forest ch f s.0.0 is) s.1.1 l inner (omega (arith, old, drawn)) ps.top))
 
-module _ (d : Inside) (law : IsArena d.arena) (ok : Ok d) (opened : IsTrue (is_open d.log.open_entry)) (p : Places) (resting : AreResting d.points p) (logged : IsLog d.log) (some : 0 < length (noted d.log.open_entry)) (us : List Beside) (out : Option Beside) (enters : Enters d.command (loose_roots d.arena.trees d.command.left.items) p d.counts d.undo_sides.capacity d.undo_sides.items us out) where
+module _ (d : Inside) (law : IsArena d.arena) (ok : Ok d) (opened : IsTrue (is_open d.log.open_entry)) (p : Places) (resting : AreResting d.points p) (logged : IsLog d.log) (some : 0 < length (noted d.log.open_entry)) (us : List EntrySnapshot) (out : Option EntrySnapshot) (enters : Enters d.command (loose_roots d.arena.trees d.command.detached.items) p d.counts d.undo_sides.capacity d.undo_sides.items us out) where
   abbrev f : Forest Content
   f = d.arena.trees
 
@@ -101,7 +101,7 @@ module _ (d : Inside) (law : IsArena d.arena) (ok : Ok d) (opened : IsTrue (is_o
   none_named l inner top named off off_undo =
       let r = run d law ok opened in
       let ch = changes_of steps in
-      let turns = inverses_back applied turned ch f in
+      let turns = inverses_back applied inverse ch f in
       let ps : Passes l f begun turns = passes_back l ch f (forest_of d.arena law) inner top r.can.0 (each_here (is_hidden begun d.command.start) f (named_in ch) r.names_there) off in
       let own = own_tree f l top in
       let unlisted : (ls : List ℕ) → Each (IsOff f l) ls → has_label ls l ≡ true → ⊥ = λ ls e t. (let none = listed_has (IsOff f l) ls l e t in omega (arith, own, none)) in
@@ -120,11 +120,11 @@ module _ (d : Inside) (law : IsArena d.arena) (ok : Ok d) (opened : IsTrue (is_o
 
   pub needed_after : (log : Log Step) → log ≡ committed d.log → (a : Arena) → GivesUp k d.arena a → (start : ℕ) → AreNeeded start a.trees log.undo log.redo
   needed_after log is a gives start l inner old top off_undo off_redo =
-      let top' : 0 < times (tops (shed k f)) l = subst (λ t. 0 < times (tops t) l) gives.trees top in
-      let was = tops_left k f l top' in
-      let same : (m : ℕ) → count_of (tree_of f l) m ≡ count_of (tree_of a.trees l) m = λ m. sym (ap (λ t. count_of (tree_of t l) m) gives.trees ∙ tree_shed l k f law.distinct top' m) in
+      let top' : 0 < times (tops (pruned k f)) l = subst (λ t. 0 < times (tops t) l) gives.trees top in
+      let was = tops_detached k f l top' in
+      let same : (m : ℕ) → count_of (tree_of f l) m ≡ count_of (tree_of a.trees l) m = λ m. sym (ap (λ t. count_of (tree_of t l) m) gives.trees ∙ tree_pruned l k f law.distinct top' m) in
       let off : EntriesOff l f (committed d.log).undo = subst (λ (x : Log Step). EntriesOff l f x.undo) is (entries_moved l a.trees f same log.undo off_undo) in
-      let kept = or_false (unnamed d law ok opened l) (has_left out l) was.1 in
+      let kept = or_false (unnamed d law ok opened l) (has_detached out l) was.1 in
       elim (true_or_false (is_resumed d.log.open_entry)) [
         | inl r ↦ (
             let off' : EntriesOff l f (joined d.log.undo steps) = subst (λ (x : Log Step). EntriesOff l f x.undo) (committed_joined d.log d.log.open_entry r) off in
@@ -133,10 +133,10 @@ module _ (d : Inside) (law : IsArena d.arena) (ok : Ok d) (opened : IsTrue (is_o
         | inr r ↦ (
             let c : Command = record d.command { start = d.arena.next } in
             let h = entering d law ok opened p resting r c refl us out enters in
-            let bs : List Beside = h.0 ∷ d.undo_sides.items in
+            let bs : List EntrySnapshot = h.0 ∷ d.undo_sides.items in
             let es : List (List Step) = steps ∷ d.log.undo in
             let off' : EntriesOff l f (take d.log.depth es) = subst (λ (x : Log Step). EntriesOff l f x.undo) (committed_made d.log d.log.open_entry opened r some) off in
-            let unlisted : has_left (slice_get bs d.log.depth) l ≡ false = subst (λ o. has_left o l ≡ false) (h.4 ∙ ap (slice_get bs) ok.us_room_is) kept.1 in
+            let unlisted : has_detached (slice_get bs d.log.depth) l ≡ false = subst (λ o. has_detached o l ≡ false) (h.4 ∙ ap (slice_get bs) ok.us_room_is) kept.1 in
             let within = logged.within in
             let few : length es ≤ d.log.depth + 1 = omega (arith, within) in
             nearly d.arena.held d.points.names c d.log.depth d.arena.next f es bs (forest_of d.arena law) (with_first d law ok opened p resting r c refl us out h.0 h.1 h.2) few l inner was.0 unlisted off'

@@ -11,8 +11,8 @@ use Rattle.dom_model.specs.Document.{node_count, char_count, page_depth}
 use Rattle.dom_model.specs.Forest.{Forest, Seen, total, tops, times, count_of, tree_of, parent_of, first_of, first_in, with_leaf}
 use Rattle.dom_model.specs.Forest.Forest.{Nil, Tree}
 use Rattle.dom_model.specs.Places.{levels, kids_in}
-use Rattle.dom_model.specs.Shed.{shed}
-use Rattle.dom_model.specs.State.{State as Arena, IsLawful as IsArena}
+use Rattle.dom_model.specs.Pruned.{pruned}
+use Rattle.dom_model.specs.ArenaState.{ArenaState as Arena, IsValid as IsArena}
 use Rattle.dom_model.proofs.Totals.{total-join}
 use Rattle.dom_model.proofs.Links.{parent_of-with_leaf, children_of-with_leaf, eqb_refl_true, tree_of_absent}
 use Rattle.dom_model.proofs.Stands.{seek_absent, times-tops}
@@ -23,19 +23,19 @@ use Rattle.node_arena.specs.declared.MakeFault.TheVariants.{Full as ArenaFull, M
 use Rattle.node_arena.specs.Held.{Makes}
 use Rattle.live_range.specs.declared.places.Places.{Places}
 use Rattle.live_range.specs.LivePoints.{LivePoints}
-use Rattle.live_range.specs.Edit.{has_label}
+use Rattle.live_range.specs.PointsEdit.{has_label}
 use Rattle.live_range.specs.Names.{shown, named as named_marks, marks_of}
 use Rattle.undo_log.specs.Turning.{inverses_back, inverses_forth, FitsBack, FitsForth}
 use Rattle.undo_log.specs.Log.{Log, Open, noted, is_open}
 use Rattle.undo_log.specs.Log.Open.{Closed, Begun, Resumed}
-use Rattle.forest_changes.specs.Change.{Change, IsForest, Fits, applied, turned}
+use Rattle.forest_changes.specs.Change.{Change, IsForest, Fits, applied, inverse}
 use Rattle.forest_changes.specs.Named.{Each, named_in}
-use Rattle.forest_changes.specs.Down.{Sheds, IsLeft}
+use Rattle.forest_changes.specs.Down.{Prunes, IsLeft}
 use Rattle.forest_changes.specs.Leaves.{IsBelow, IsMade, BackBeside, ForthBeside}
 use Rattle.forest_changes.proofs.BesideLeaf.{fresh, tree_of-with_leaf}
-use Rattle.forest_changes.proofs.ManyLeaves.{back_beside, forth_beside, has_made, shed-with_leaf}
+use Rattle.forest_changes.proofs.ManyLeaves.{back_beside, forth_beside, has_made, pruned-with_leaf}
 use Rattle.forest_changes.proofs.ChangeLists.{each_of, each_join, back_down, forth_down, back_fits_up, forth_fits_up}
-use Rattle.forest_changes.proofs.DownChange.{sheds_whole}
+use Rattle.forest_changes.proofs.DownChange.{prunes_whole}
 use Rattle.forest_changes.proofs.Twice.{forest_of}
 use Rattle.edit_steps.specs.declared.step.Step.{Step}
 use Rattle.edit_steps.specs.Step.{changes_of, nodes_in}
@@ -45,7 +45,7 @@ use Rattle.edit_model.specs.declared.settings.EditFault.{EditFault}
 use Rattle.edit_model.specs.declared.settings.EditFault.TheVariants.{Full, Memory}
 use Rattle.edit_model.specs.State.{State}
 use Rattle.edit_model.specs.Action.{made, words_content}
-use Rattle.edit_model.specs.Lawful.{IsLawful}
+use Rattle.edit_model.specs.Valid.{IsValid}
 use Rattle.edit_model.specs.History.{used, document_of}
 use Rattle.edit_model.specs.Gives.{label_of, labels_of, Fails}
 use Rattle.edit_model.proofs.Documents.{document-with_leaf}
@@ -54,13 +54,13 @@ use Rattle.edit_model.proofs.Points.{points_left, leaves-with_leaf}
 use Rattle.edit_model.proofs.Steps.{labels_of-append}
 use Rattle.edit_parts.specs.declared.Counts.{Counts}
 use Rattle.edit_doc.specs.declared.Doc.TheInside.{Inside}
-use Rattle.edit_doc.specs.declared.command.Beside.{Beside}
+use Rattle.edit_doc.specs.declared.command.EntrySnapshot.{EntrySnapshot}
 use Rattle.edit_doc.specs.declared.command.Command.{Command}
 use Rattle.edit_doc.specs.Whole.{Whole, IsOpen}
 use Rattle.edit_doc.specs.Held.{Holds, Keeps}
 use Rattle.edit_doc.specs.Marks.{IsMarked, has_named, NotesMade}
 use Rattle.edit_doc.specs.History.{edits_before, roots_from, forest_before, forest_after, begun_forest, is_hidden, seen_trees, state_of, begun_state, began_with, view_at, undo_entries, redo_entries, history_of, whole_of}
-use Rattle.edit_doc.specs.Sound.{RefIn, EachHeldIn, IsSide, AreFresh, IsOff, AreNeeded, AreAlone, IsBeside, IsRunning, OpenSound, UndoSound, RedoSound, left_of, next_first, IsSound}
+use Rattle.edit_doc.specs.Sound.{RefIn, EachHeldIn, IsSide, AreFresh, IsOff, AreNeeded, AreAlone, IsSnapshot, IsRunning, OpenSound, UndoSound, RedoSound, detached_of, next_first, IsSoundDoc}
 use Rattle.edit_doc.proofs.Laid.{redo_later}
 use Rattle.edit_doc.proofs.Downs.{back_forest, forth_forest}
 use Rattle.edit_doc.proofs.HiddenTrees.{model_forest, true_lt}
@@ -111,13 +111,13 @@ module _ (l : ℕ) (c : Content) where
   hides_leaf f first le = λ i j. hidden_leaf f first j le i
 
   -- what is left is left beside the leaf
-  left_leaf : (h : ℕ → Bool) (f : Forest Content) → h l ≡ false → (j : ℕ) → IsLeft h f j → IsLeft h (with_leaf f l c) j
-  left_leaf h f out j t = subst (λ g. 0 < count_of g j) (sym (shed-with_leaf h l c out f)) (omega (arith, t, count-more (shed h f) j))
+  detached_leaf : (h : ℕ → Bool) (f : Forest Content) → h l ≡ false → (j : ℕ) → IsLeft h f j → IsLeft h (with_leaf f l c) j
+  detached_leaf h f out j t = subst (λ g. 0 < count_of g j) (sym (pruned-with_leaf h l c out f)) (omega (arith, t, count-more (pruned h f) j))
 
-  each_left : (before after : Forest Content) (first : ℕ) (ls : List ℕ) → first ≤ l → Each (IsLeft (is_hidden before first) after) ls → Each (IsLeft (is_hidden (with_leaf before l c) first) (with_leaf after l c)) ls
-  each_left before after first ls le hs =
+  each_detached : (before after : Forest Content) (first : ℕ) (ls : List ℕ) → first ≤ l → Each (IsLeft (is_hidden before first) after) ls → Each (IsLeft (is_hidden (with_leaf before l c) first) (with_leaf after l c)) ls
+  each_detached before after first ls le hs =
       subst (λ h. Each (IsLeft h (with_leaf after l c)) ls) (sym (hides_leaf before first le))
-      (each_of (IsLeft (is_hidden before first) after) (IsLeft (is_hidden before first) (with_leaf after l c)) ls (left_leaf (is_hidden before first) after (hidden_off before first le)) hs)
+      (each_of (IsLeft (is_hidden before first) after) (IsLeft (is_hidden before first) (with_leaf after l c)) ls (detached_leaf (is_hidden before first) after (hidden_off before first le)) hs)
 
   module _ (f : Forest Content) (is : IsForest f) (low : IsBelow f l) where
     document_leaf : document_of (with_leaf f l c) ≡ document_of f
@@ -183,10 +183,10 @@ module _ (l : ℕ) (c : Content) where
       leaf j from zero e = ap (λ (o : Option (Seen Content)). first_in (option_map_or (λ s. s.children) o [])) (seek_absent None f j e)
       leaf j from (suc n) e = h.leaf j from (omega (arith, e))
 
-  beside_leaf : (names : List (List ℕ)) (before after : Forest Content) (e : List Step) (ts : List Change) (b : Beside) (left : List NodeRef) (high start : ℕ) → start ≤ l →
+  snapshot_leaf : (names : List (List ℕ)) (before after : Forest Content) (e : List Step) (ts : List Change) (b : EntrySnapshot) (detached : List NodeRef) (high start : ℕ) → start ≤ l →
       IsForest before → IsBelow before l → IsForest after → IsBelow after l →
-      IsBeside names before after e ts b left high start → IsBeside names (with_leaf before l c) (with_leaf after l c) e ts b left high start
-  beside_leaf names before after e ts b left high start le is low is' low' h =
+      IsSnapshot names before after e ts b detached high start → IsSnapshot names (with_leaf before l c) (with_leaf after l c) e ts b detached high start
+  snapshot_leaf names before after e ts b detached high start le is low is' low' h =
       let first : b.sides.first_label ≤ l = (let x = h.drawn in let y = h.known in omega (arith, x, y, le)) in
       record {
         was = side_leaf before is low names b.sides.before b.sides.nodes_before b.sides.chars_before b.sides.depth_before h.was;
@@ -196,13 +196,13 @@ module _ (l : ℕ) (c : Content) where
         drawn = h.drawn;
         known = h.known;
         hidden = λ j t. (let x = h.hidden j (sym (hidden_leaf before b.sides.first_label j first) ∙ t) in omega (arith, x, times-with_leaf after j));
-        names_seen = each_left before before b.sides.first_label (named_in (changes_of e)) first h.names_seen;
-        names_there = each_left before after b.sides.first_label (named_in (changes_of e)) first h.names_there;
+        names_seen = each_detached before before b.sides.first_label (named_in (changes_of e)) first h.names_seen;
+        names_there = each_detached before after b.sides.first_label (named_in (changes_of e)) first h.names_there;
         names_old = h.names_old;
         turns_old = h.turns_old;
-        left_loose = each_of (λ j. (0 < j) × ((j < high) × (parent_of after j ≡ None))) (λ j. (0 < j) × ((j < high) × (parent_of (with_leaf after l c) j ≡ None))) (labels_of left)
-            (λ j t. (t.0, (t.1.0, parent_of-with_leaf after l c (fresh l c after low') j ∙ t.1.1))) h.left_loose;
-        left_all = λ j inner top out. elim (eqb_tells l j) [
+        detached_loose = each_of (λ j. (0 < j) × ((j < high) × (parent_of after j ≡ None))) (λ j. (0 < j) × ((j < high) × (parent_of (with_leaf after l c) j ≡ None))) (labels_of detached)
+            (λ j t. (t.0, (t.1.0, parent_of-with_leaf after l c (fresh l c after low') j ∙ t.1.1))) h.detached_loose;
+        detached_all = λ j inner top out. elim (eqb_tells l j) [
           | inl (_, same) ↦ absurd (let high_le = h.known in let old = off_own after j high low' same (omega arith) in out (old (named_in (changes_of e)) h.names_old) (old (named_in ts) h.turns_old))
           | inr (t, _) ↦ (
               let u = times-with_leaf after j in
@@ -210,7 +210,7 @@ module _ (l : ℕ) (c : Content) where
               let top' : 0 < times (tops after) j = omega (arith, u', top) in
               let tree : tree_of (with_leaf after l c) j ≡ tree_of after j = tree_of-with_leaf l c after j (low'.below j (omega (arith, top', times-tops after j))) in
               let off : (ls : List ℕ) → Each (IsOff after j) ls → Each (IsOff (with_leaf after l c) j) ls = λ ls a. subst (λ g. Each (λ m. count_of g m ≡ 0) ls) (sym tree) a in
-              h.left_all j inner top' (λ a b. out (off (named_in (changes_of e)) a) (off (named_in ts) b)))
+              h.detached_all j inner top' (λ a b. out (off (named_in (changes_of e)) a) (off (named_in ts) b)))
         ];
       }
 
@@ -219,21 +219,21 @@ module _ (l : ℕ) (c : Content) where
     keeps_document = grind (arith, nat_tests)
 
     -- what changes turn into is the same
-    back_turned : (xs : List Change) (f : Forest Content) → IsForest f → IsBelow f l → FitsBack applied Fits xs f → inverses_back applied turned xs (with_leaf f l c) ≡ inverses_back applied turned xs f
-    back_turned xs f is low fits =
+    back_inverse : (xs : List Change) (f : Forest Content) → IsForest f → IsBelow f l → FitsBack applied Fits xs f → inverses_back applied inverse xs (with_leaf f l c) ≡ inverses_back applied inverse xs f
+    back_inverse xs f is low fits =
         let m = has_made l (c ∷ []) f is low (ok, tt) in
-        let sheds : Sheds (nat_le l) (with_leaf f l c) = sheds_whole (nat_le l) (with_leaf f l c) m.forest keeps_document m.whole in
-        let up = back_fits_up (nat_le l) xs (with_leaf f l c) sheds m.forest (subst (λ (t : Forest Content). FitsBack applied Fits xs t) (sym m.without) fits) in
-        let d = back_down (nat_le l) xs (with_leaf f l c) sheds up.0 up.1 in
-        sym d.turns ∙ ap (λ t. inverses_back applied turned xs t) m.without
+        let prunes : Prunes (nat_le l) (with_leaf f l c) = prunes_whole (nat_le l) (with_leaf f l c) m.forest keeps_document m.whole in
+        let up = back_fits_up (nat_le l) xs (with_leaf f l c) prunes m.forest (subst (λ (t : Forest Content). FitsBack applied Fits xs t) (sym m.without) fits) in
+        let d = back_down (nat_le l) xs (with_leaf f l c) prunes up.0 up.1 in
+        sym d.turns ∙ ap (λ t. inverses_back applied inverse xs t) m.without
 
-    forth_turned : (xs : List Change) (f : Forest Content) → IsForest f → IsBelow f l → FitsForth applied Fits xs f → inverses_forth applied turned xs (with_leaf f l c) ≡ inverses_forth applied turned xs f
-    forth_turned xs f is low fits =
+    forth_inverse : (xs : List Change) (f : Forest Content) → IsForest f → IsBelow f l → FitsForth applied Fits xs f → inverses_forth applied inverse xs (with_leaf f l c) ≡ inverses_forth applied inverse xs f
+    forth_inverse xs f is low fits =
         let m = has_made l (c ∷ []) f is low (ok, tt) in
-        let sheds : Sheds (nat_le l) (with_leaf f l c) = sheds_whole (nat_le l) (with_leaf f l c) m.forest keeps_document m.whole in
-        let up = forth_fits_up (nat_le l) xs (with_leaf f l c) sheds m.forest (subst (λ (t : Forest Content). FitsForth applied Fits xs t) (sym m.without) fits) in
-        let d = forth_down (nat_le l) xs (with_leaf f l c) sheds up.0 up.1 in
-        sym d.turns ∙ ap (λ t. inverses_forth applied turned xs t) m.without
+        let prunes : Prunes (nat_le l) (with_leaf f l c) = prunes_whole (nat_le l) (with_leaf f l c) m.forest keeps_document m.whole in
+        let up = forth_fits_up (nat_le l) xs (with_leaf f l c) prunes m.forest (subst (λ (t : Forest Content). FitsForth applied Fits xs t) (sym m.without) fits) in
+        let d = forth_down (nat_le l) xs (with_leaf f l c) prunes up.0 up.1 in
+        sym d.turns ∙ ap (λ t. inverses_forth applied inverse xs t) m.without
 
     -- ---- the history
 
@@ -241,7 +241,7 @@ module _ (l : ℕ) (c : Content) where
       held_more : (xs : List Step) → EachHeldIn old xs → EachHeldIn new xs
       held_more xs h = each_of (RefIn old) (RefIn new) (nodes_in xs) keeps h
 
-      pub undo_leaf : (r : Bool) (high : ℕ) (f : Forest Content) (es : List (List Step)) (bs : List Beside) → IsForest f → IsBelow f l → UndoSound old names r d high f es bs → UndoSound new names r d high (with_leaf f l c) es bs
+      pub undo_leaf : (r : Bool) (high : ℕ) (f : Forest Content) (es : List (List Step)) (bs : List EntrySnapshot) → IsForest f → IsBelow f l → UndoSound old names r d high f es bs → UndoSound new names r d high (with_leaf f l c) es bs
       undo_leaf r high f [] [] is low h = tt
       undo_leaf r high f [] (b ∷ bs) is low h = absurd h
       undo_leaf r high f (e ∷ es) [] is low h = absurd h
@@ -250,17 +250,17 @@ module _ (l : ℕ) (c : Content) where
           let g = forest_before e f in
           let bb : BackBeside l (c ∷ []) (changes_of e) f = back_beside l (c ∷ []) (changes_of e) f low (ok, tt) h.0.0 in
           let is' = back_forest (changes_of e) f h.0.0 is in
-          let own = beside_leaf names g f e (inverses_back applied turned (changes_of e) f) b (left_of r d b) high d.start le is' bb.below is low h.1.0 in
+          let own = snapshot_leaf names g f e (inverses_back applied inverse (changes_of e) f) b (detached_of r d b) high d.start le is' bb.below is low h.1.0 in
           let rest = undo_leaf false b.sides.first_label g es bs is' bb.below h.1.1 in (
             (bb.fits, held_more e h.0.1),
             (
-              subst (λ t. IsBeside names t w e (inverses_back applied turned (changes_of e) w) b (left_of r d b) high d.start) (sym bb.same)
-                  (subst (λ ts. IsBeside names (with_leaf g l c) w e ts b (left_of r d b) high d.start) (sym (back_turned (changes_of e) f is low h.0.0)) own),
+              subst (λ t. IsSnapshot names t w e (inverses_back applied inverse (changes_of e) w) b (detached_of r d b) high d.start) (sym bb.same)
+                  (subst (λ ts. IsSnapshot names (with_leaf g l c) w e ts b (detached_of r d b) high d.start) (sym (back_inverse (changes_of e) f is low h.0.0)) own),
               subst (λ t. UndoSound new names false d b.sides.first_label t es bs) (sym bb.same) rest,
             ),
           )
 
-      pub redo_leaf : (f : Forest Content) (es : List (List Step)) (bs : List Beside) → IsForest f → IsBelow f l → RedoSound old names d f es bs → RedoSound new names d (with_leaf f l c) es bs
+      pub redo_leaf : (f : Forest Content) (es : List (List Step)) (bs : List EntrySnapshot) → IsForest f → IsBelow f l → RedoSound old names d f es bs → RedoSound new names d (with_leaf f l c) es bs
       redo_leaf f [] [] is low h = tt
       redo_leaf f [] (b ∷ bs) is low h = absurd h
       redo_leaf f (e ∷ es) [] is low h = absurd h
@@ -269,17 +269,17 @@ module _ (l : ℕ) (c : Content) where
           let g = forest_after e f in
           let bb : ForthBeside l (c ∷ []) (changes_of e) f = forth_beside l (c ∷ []) (changes_of e) f low (ok, tt) h.0.0 in
           let is' = forth_forest (changes_of e) f h.0.0 is in
-          let own = beside_leaf names f g e (inverses_forth applied turned (changes_of e) f) b b.left.items (next_first d.start bs) d.start le is low is' bb.below h.1.0 in
+          let own = snapshot_leaf names f g e (inverses_forth applied inverse (changes_of e) f) b b.detached.items (next_first d.start bs) d.start le is low is' bb.below h.1.0 in
           let rest = redo_leaf g es bs is' bb.below h.1.1 in (
             (bb.fits, held_more e h.0.1),
             (
-              subst (λ t. IsBeside names w t e (inverses_forth applied turned (changes_of e) w) b b.left.items (next_first d.start bs) d.start) (sym bb.same)
-                  (subst (λ ts. IsBeside names w (with_leaf g l c) e ts b b.left.items (next_first d.start bs) d.start) (sym (forth_turned (changes_of e) f is low h.0.0)) own),
+              subst (λ t. IsSnapshot names w t e (inverses_forth applied inverse (changes_of e) w) b b.detached.items (next_first d.start bs) d.start) (sym bb.same)
+                  (subst (λ ts. IsSnapshot names w (with_leaf g l c) e ts b b.detached.items (next_first d.start bs) d.start) (sym (forth_inverse (changes_of e) f is low h.0.0)) own),
               subst (λ t. RedoSound new names d t es bs) (sym bb.same) rest,
             ),
           )
 
-      pub undo_entries_leaf : (r : Bool) (high : ℕ) (f : Forest Content) (es : List (List Step)) (bs : List Beside) → IsForest f → IsBelow f l → UndoSound old names r d high f es bs → undo_entries names (with_leaf f l c) es bs ≡ undo_entries names f es bs
+      pub undo_entries_leaf : (r : Bool) (high : ℕ) (f : Forest Content) (es : List (List Step)) (bs : List EntrySnapshot) → IsForest f → IsBelow f l → UndoSound old names r d high f es bs → undo_entries names (with_leaf f l c) es bs ≡ undo_entries names f es bs
       undo_entries_leaf r high f [] bs is low h = refl
       undo_entries_leaf r high f (e ∷ es) [] is low h = refl
       undo_entries_leaf r high f (e ∷ es) (b ∷ bs) is low h =
@@ -289,12 +289,12 @@ module _ (l : ℕ) (c : Content) where
           let was = ap (λ t. view_at names t b.sides.before) bb.same ∙ view_leaf g is' bb.below names b.sides.before in
           let now = view_leaf f is low names b.sides.after in
           let rest = ap (λ t. undo_entries names t es bs) bb.same ∙ undo_entries_leaf false b.sides.first_label g es bs is' bb.below h.1.1 in
-          let bt = back_turned (changes_of e) f is low h.0.0 in
+          let bt = back_inverse (changes_of e) f is low h.0.0 in
           let off = not_named high l (named_in (edits_before e f)) h.1.0.turns_old (let u = h.1.0.known in omega (arith, u, le)) in
           let used_is = (λ i. used (bt i) (roots_from b.sides.first_label (bb.same i))) ∙ used-leaf (edits_before e f) b.sides.first_label l c g off in
           λ i. record { before = was i; after = now i; edits = bt i; made = used_is i } ∷ rest i
 
-      pub redo_entries_leaf : (f : Forest Content) (es : List (List Step)) (bs : List Beside) → IsForest f → IsBelow f l → RedoSound old names d f es bs → redo_entries names (with_leaf f l c) es bs ≡ redo_entries names f es bs
+      pub redo_entries_leaf : (f : Forest Content) (es : List (List Step)) (bs : List EntrySnapshot) → IsForest f → IsBelow f l → RedoSound old names d f es bs → redo_entries names (with_leaf f l c) es bs ≡ redo_entries names f es bs
       redo_entries_leaf f [] bs is low h = refl
       redo_entries_leaf f (e ∷ es) [] is low h = refl
       redo_entries_leaf f (e ∷ es) (b ∷ bs) is low h =
@@ -339,12 +339,12 @@ of_running a points c g Closed h r = absurd (let h' = h in cc)
 of_running a points c g (Begun xs) h r = r
 of_running a points c g (Resumed xs) h r = r
 
-module _ (a : Arena) (points : LivePoints) (overrides : List Setting) (flags : Flags) (counts : Counts) (c d : Command) (log : Log Step) (us rs : List Beside) (us_room rs_room : ℕ)
+module _ (a : Arena) (points : LivePoints) (overrides : List Setting) (flags : Flags) (counts : Counts) (c d : Command) (log : Log Step) (us rs : List EntrySnapshot) (us_room rs_room : ℕ)
     (open_now : IsTrue (is_open log.open_entry)) (law : IsArena a)
-    (ok : IsSound a points overrides flags counts (record d { named = c.named; left = c.left }) log us rs us_room rs_room) where
+    (ok : IsSoundDoc a points overrides flags counts (record d { named = c.named; detached = c.detached }) log us rs us_room rs_room) where
   -- the command with the marks and the left trees of before
   abbrev e : Command
-  e = record d { named = c.named; left = c.left }
+  e = record d { named = c.named; detached = c.detached }
 
   abbrev f : Forest Content
   f = a.trees
@@ -360,9 +360,9 @@ module _ (a : Arena) (points : LivePoints) (overrides : List Setting) (flags : F
 
   -- ---- room for more
 
-  pub sound_carried : d.named.items ≡ c.named.items → d.left.items ≡ c.left.items → IsSound a points overrides flags counts d log us rs us_room rs_room
-  sound_carried named left = record {
-    lawful = ok.lawful;
+  pub sound_carried : d.named.items ≡ c.named.items → d.detached.items ≡ c.detached.items → IsSoundDoc a points overrides flags counts d log us rs us_room rs_room
+  sound_carried named detached = record {
+    valid = ok.valid;
     some_label = ok.some_label;
     nodes = ok.nodes;
     chars = ok.chars;
@@ -376,15 +376,15 @@ module _ (a : Arena) (points : LivePoints) (overrides : List Setting) (flags : F
       names_there = run.names_there;
       marks = ap (λ ms. length ms + d.start) named ∙ run.marks;
       marked = each_of (IsMarked e) (IsMarked d) (named_in (changes_of xs)) mark run.marked;
-      marked_turned = each_of (IsMarked e) (IsMarked d) (named_in (inverses_back applied turned (changes_of xs) a.trees)) mark run.marked_turned;
+      marked_inverse = each_of (IsMarked e) (IsMarked d) (named_in (inverses_back applied inverse (changes_of xs) a.trees)) mark run.marked_inverse;
       named_all = λ l h. run.named_all l (subst (λ ms. (nat_le d.start l && slice_index_or ms (l - d.start) false) ≡ true) named h);
-      left_before = subst (λ ls. d.left_before ≤ length ls) (sym left) run.left_before;
-      left_seen = subst (λ ls. Each (λ l. 0 < count_of (shed (is_hidden g d.start) a.trees) l) (labels_of (drop d.left_before ls))) (sym left) run.left_seen;
-      loosened = λ l inner top. subst (λ ls. has_label (labels_of (drop d.left_before ls)) l ≡ true) (sym left) (run.loosened l inner top);
+      detached_before = subst (λ ls. d.detached_before ≤ length ls) (sym detached) run.detached_before;
+      detached_seen = subst (λ ls. Each (λ l. 0 < count_of (pruned (is_hidden g d.start) a.trees) l) (labels_of (drop d.detached_before ls))) (sym detached) run.detached_seen;
+      newly_detached = λ l inner top. subst (λ ls. has_label (labels_of (drop d.detached_before ls)) l ≡ true) (sym detached) (run.newly_detached l inner top);
     });
     resumed = ok.resumed;
     host = ok.host;
-    undo = undo_carried a.held points.names e d refl d.resumed (next_first d.start rs) g log.undo us (left_same d.resumed) ok.undo;
+    undo = undo_carried a.held points.names e d refl d.resumed (next_first d.start rs) g log.undo us (detached_same d.resumed) ok.undo;
     redo = redo_later a.held points.names e d (omega arith) g log.redo rs ok.redo;
     needed = ok.needed;
     us_room_is = ok.us_room_is;
@@ -394,14 +394,14 @@ module _ (a : Arena) (points : LivePoints) (overrides : List Setting) (flags : F
       mark : (l : ℕ) → IsMarked e l → IsMarked d l
       mark l h le = subst (λ ms. slice_index_or ms (l - d.start) false ≡ true) (sym named) (h le)
 
-      left_same : (r : Bool) (b : Beside) → left_of r e b ≡ left_of r d b
-      left_same false b = refl
-      left_same true b = ap (take d.left_before) (sym left)
+      detached_same : (r : Bool) (b : EntrySnapshot) → detached_of r e b ≡ detached_of r d b
+      detached_same false b = refl
+      detached_same true b = ap (take d.detached_before) (sym detached)
 
   -- ---- one more node
 
   module _ (held : List (Option ℕ)) (node : NodeRef) (x : Content) (made_of : IsMade x) (keeps : (q : NodeRef) → RefIn a.held q → RefIn held q) (own : RefIn held node) (label : node.label ≡ a.next)
-      (named : d.named.items ≡ c.named.items ++ false ∷ []) (left : d.left.items ≡ c.left.items ++ node ∷ []) where
+      (named : d.named.items ≡ c.named.items ++ false ∷ []) (detached : d.detached.items ≡ c.detached.items ++ node ∷ []) where
     abbrev l : ℕ
     l = a.next
 
@@ -418,7 +418,7 @@ module _ (a : Arena) (points : LivePoints) (overrides : List Setting) (flags : F
     some = law.below 0 law.document
 
     started : d.start ≤ l
-    started = ok.lawful.started
+    started = ok.valid.started
 
     bb : BackBeside l (x ∷ []) (changes_of xs) f
     bb = back_beside l (x ∷ []) (changes_of xs) f low (made_of, tt) run.can.0
@@ -438,8 +438,8 @@ module _ (a : Arena) (points : LivePoints) (overrides : List Setting) (flags : F
     hides_is : is_hidden (begun_forest log (with_leaf f l x)) d.start ≡ hides
     hides_is = ap (λ t. is_hidden t d.start) begun_is ∙ hides_leaf l x g d.start started
 
-    seen_is : seen_trees log d.start (with_leaf f l x) ≡ with_leaf (shed hides f) l x
-    seen_is = ap (λ k. shed k (with_leaf f l x)) hides_is ∙ shed-with_leaf hides l x off f
+    seen_is : seen_trees log d.start (with_leaf f l x) ≡ with_leaf (pruned hides f) l x
+    seen_is = ap (λ k. pruned k (with_leaf f l x)) hides_is ∙ pruned-with_leaf hides l x off f
 
     abbrev s : State
     s = state_of a points overrides flags e log
@@ -456,33 +456,33 @@ module _ (a : Arena) (points : LivePoints) (overrides : List Setting) (flags : F
       start = d.start;
       host = label_of d.host;
       keeping = d.keeping;
-      edits = back_turned l x made_of some (changes_of xs) f is low run.can.0 i;
+      edits = back_inverse l x made_of some (changes_of xs) f is low run.can.0 i;
       made = (ap (roots_from d.start) begun_is ∙ roots-leaf d.start l x g started) i;
     }
 
-    lawful_made : IsLawful (made x s)
+    valid_made : IsValid (made x s)
     unfolding made
-    lawful_made = record {
-      forest = forest-with_leaf s.trees s.next ok.lawful.forest x made_of.plain made_of.short;
-      placed = points_left s.trees (with_leaf s.trees s.next x) (leaves-with_leaf s.trees s.next ok.lawful.forest x) points ok.lawful.placed;
+    valid_made = record {
+      forest = forest-with_leaf s.trees s.next ok.valid.forest x made_of.plain made_of.short;
+      placed = points_left s.trees (with_leaf s.trees s.next x) (leaves-with_leaf s.trees s.next ok.valid.forest x) points ok.valid.placed;
       started = (let h = started in omega (arith, h));
-      settings = ok.lawful.settings;
+      settings = ok.valid.settings;
     }
 
-    abbrev was_left : List ℕ
-    was_left = labels_of (drop d.left_before c.left.items)
+    abbrev was_detached : List ℕ
+    was_detached = labels_of (drop d.detached_before c.detached.items)
 
-    left_labels : labels_of (drop d.left_before d.left.items) ≡ was_left ++ l ∷ []
-    left_labels =
-        ap (λ ls. labels_of (drop d.left_before ls)) left
-        ∙ (ap labels_of (drop-append-le d.left_before c.left.items (node ∷ []) run.left_before)
-        ∙ (labels_of-append (drop d.left_before c.left.items) (node ∷ []) ∙ ap (λ j. was_left ++ j ∷ []) label))
+    detached_labels : labels_of (drop d.detached_before d.detached.items) ≡ was_detached ++ l ∷ []
+    detached_labels =
+        ap (λ ls. labels_of (drop d.detached_before ls)) detached
+        ∙ (ap labels_of (drop-append-le d.detached_before c.detached.items (node ∷ []) run.detached_before)
+        ∙ (labels_of-append (drop d.detached_before c.detached.items) (node ∷ []) ∙ ap (λ j. was_detached ++ j ∷ []) label))
 
     mark : (j : ℕ) → IsMarked e j → IsMarked d j
     mark j h le = subst (λ ms. slice_index_or ms (j - d.start) false ≡ true) (sym named) (more_marks c.named.items (j - d.start) (h le))
 
-    seen_more : (j : ℕ) → IsLeft hides f j → 0 < count_of (with_leaf (shed hides f) l x) j
-    seen_more j h = omega (arith, h, count-more l x (shed hides f) j)
+    seen_more : (j : ℕ) → IsLeft hides f j → 0 < count_of (with_leaf (pruned hides f) l x) j
+    seen_more j h = omega (arith, h, count-more l x (pruned hides f) j)
 
     absent_parent : (j : ℕ) → count_of g j ≡ 0 → parent_of g j ≡ None
     absent_parent j e = ap (λ (o : Option (Seen Content)). option_and_then (λ s. s.parent) o) (seek_absent None g j e)
@@ -510,49 +510,49 @@ module _ (a : Arena) (points : LivePoints) (overrides : List Setting) (flags : F
       settings = run.settings;
       made = alone;
       can = (bb.fits, each_of (RefIn a.held) (RefIn held) (nodes_in xs) keeps run.can.1);
-      names_there = each_left l x g f d.start (named_in (changes_of xs)) started run.names_there;
+      names_there = each_detached l x g f d.start (named_in (changes_of xs)) started run.names_there;
       marks = (let m = run.marks in let n = ap length named in let k = length-append c.named.items (false ∷ []) in omega (arith, m, n, k));
       marked = each_of (IsMarked e) (IsMarked d) (named_in (changes_of xs)) mark run.marked;
-      marked_turned = subst (λ ys. Each (IsMarked d) (named_in ys)) (sym (back_turned l x made_of some (changes_of xs) f is low run.can.0))
-          (each_of (IsMarked e) (IsMarked d) (named_in (inverses_back applied turned (changes_of xs) f)) mark run.marked_turned);
+      marked_inverse = subst (λ ys. Each (IsMarked d) (named_in ys)) (sym (back_inverse l x made_of some (changes_of xs) f is low run.can.0))
+          (each_of (IsMarked e) (IsMarked d) (named_in (inverses_back applied inverse (changes_of xs) f)) mark run.marked_inverse);
       named_all = λ j h. (
           let was : has_named e j ≡ true = ap (λ b. nat_le d.start j && b) (sym (more_false c.named.items (j - d.start))) ∙ subst (λ ms. (nat_le d.start j && slice_index_or ms (j - d.start) false) ≡ true) named h in
-          subst (λ ys. (has_label (named_in (changes_of xs)) j ≡ true) ⊎ (has_label (named_in ys) j ≡ true)) (sym (back_turned l x made_of some (changes_of xs) f is low run.can.0)) (run.named_all j was));
-      left_before = (let b = run.left_before in let n = ap length left in let k = length-append c.left.items (node ∷ []) in omega (arith, b, n, k));
-      left_seen = subst (λ (t : Forest Content). Each (λ j. 0 < count_of t j) (labels_of (drop d.left_before d.left.items))) (sym seen_leaf)
-          (subst (Each (λ j. 0 < count_of (with_leaf (shed hides f) l x) j)) (sym left_labels)
-          (each_join (λ j. 0 < count_of (with_leaf (shed hides f) l x) j) was_left (l ∷ [])
-          (each_of (IsLeft hides f) (λ j. 0 < count_of (with_leaf (shed hides f) l x) j) was_left seen_more run.left_seen)
-          (count-own l x (shed hides f), tt)));
-      loosened = λ j inner top. (
-          let top' : 0 < times (tops (with_leaf (shed hides f) l x)) j = subst (λ (t : Forest Content). 0 < times (tops t) j) seen_leaf top in
-          let t = times-with_leaf l x (shed hides f) j in
-          subst (λ ls. has_label ls j ≡ true) (sym left_labels) (elim (eqb_tells l j) [
-            | inl (_, same) ↦ subst (λ i. has_label (was_left ++ l ∷ []) i ≡ true) same (has_last was_left l)
-            | inr (u, _) ↦ (let t' = rw u at t in has_first was_left (l ∷ []) j (run.loosened j inner (omega (arith, t', top'))))
+          subst (λ ys. (has_label (named_in (changes_of xs)) j ≡ true) ⊎ (has_label (named_in ys) j ≡ true)) (sym (back_inverse l x made_of some (changes_of xs) f is low run.can.0)) (run.named_all j was));
+      detached_before = (let b = run.detached_before in let n = ap length detached in let k = length-append c.detached.items (node ∷ []) in omega (arith, b, n, k));
+      detached_seen = subst (λ (t : Forest Content). Each (λ j. 0 < count_of t j) (labels_of (drop d.detached_before d.detached.items))) (sym seen_leaf)
+          (subst (Each (λ j. 0 < count_of (with_leaf (pruned hides f) l x) j)) (sym detached_labels)
+          (each_join (λ j. 0 < count_of (with_leaf (pruned hides f) l x) j) was_detached (l ∷ [])
+          (each_of (IsLeft hides f) (λ j. 0 < count_of (with_leaf (pruned hides f) l x) j) was_detached seen_more run.detached_seen)
+          (count-own l x (pruned hides f), tt)));
+      newly_detached = λ j inner top. (
+          let top' : 0 < times (tops (with_leaf (pruned hides f) l x)) j = subst (λ (t : Forest Content). 0 < times (tops t) j) seen_leaf top in
+          let t = times-with_leaf l x (pruned hides f) j in
+          subst (λ ls. has_label ls j ≡ true) (sym detached_labels) (elim (eqb_tells l j) [
+            | inl (_, same) ↦ subst (λ i. has_label (was_detached ++ l ∷ []) i ≡ true) same (has_last was_detached l)
+            | inr (u, _) ↦ (let t' = rw u at t in has_first was_detached (l ∷ []) j (run.newly_detached j inner (omega (arith, t', top'))))
           ]));
     }
       where
-        seen_leaf : shed (is_hidden (with_leaf g l x) d.start) (with_leaf f l x) ≡ with_leaf (shed hides f) l x
-        seen_leaf = ap (λ k. shed k (with_leaf f l x)) (hides_leaf l x g d.start started) ∙ shed-with_leaf hides l x off f
+        seen_leaf : pruned (is_hidden (with_leaf g l x) d.start) (with_leaf f l x) ≡ with_leaf (pruned hides f) l x
+        seen_leaf = ap (λ k. pruned k (with_leaf f l x)) (hides_leaf l x g d.start started) ∙ pruned-with_leaf hides l x off f
 
-    left_same : (r : Bool) (b : Beside) → left_of r e b ≡ left_of r d b
-    left_same false b = refl
-    left_same true b = sym (ap (take d.left_before) left ∙ take-append-le d.left_before c.left.items (node ∷ []) run.left_before)
+    detached_same : (r : Bool) (b : EntrySnapshot) → detached_of r e b ≡ detached_of r d b
+    detached_same false b = refl
+    detached_same true b = sym (ap (take d.detached_before) detached ∙ take-append-le d.detached_before c.detached.items (node ∷ []) run.detached_before)
 
-    host_still : (o : Option NodeRef) → IfSome o (λ h. RefIn a.held h × (0 < count_of (shed hides f) h.label)) → IfSome o (λ h. RefIn held h × (0 < count_of (with_leaf (shed hides f) l x) h.label))
+    host_still : (o : Option NodeRef) → IfSome o (λ h. RefIn a.held h × (0 < count_of (pruned hides f) h.label)) → IfSome o (λ h. RefIn held h × (0 < count_of (with_leaf (pruned hides f) l x) h.label))
     host_still None h = tt
     host_still (Some r) h = (keeps r h.0, seen_more r.label h.1)
 
     undo_now : UndoSound a.held points.names d.resumed d (next_first d.start rs) g log.undo us
-    undo_now = undo_carried a.held points.names e d refl d.resumed (next_first d.start rs) g log.undo us (left_same d.resumed) ok.undo
+    undo_now = undo_carried a.held points.names e d refl d.resumed (next_first d.start rs) g log.undo us (detached_same d.resumed) ok.undo
 
     redo_now : RedoSound a.held points.names d g log.redo rs
     redo_now = redo_later a.held points.names e d (omega arith) g log.redo rs ok.redo
 
-    pub sound_made : IsSound arena_made points overrides flags counts d log us rs us_room rs_room
+    pub sound_made : IsSoundDoc arena_made points overrides flags counts d log us rs us_room rs_room
     sound_made = record {
-      lawful = subst IsLawful (sym state_is) lawful_made;
+      valid = subst IsValid (sym state_is) valid_made;
       some_label = ok.some_label;
       nodes = ok.nodes ∙ sym (nodes_leaf l x f is low);
       chars = ok.chars ∙ sym (chars_leaf l x f is low);
@@ -619,12 +619,12 @@ module _ (a : Arena) (points : LivePoints) (overrides : List Setting) (flags : F
 
     pub held_made : Holds (record (whole_of a points overrides flags e log us rs) { state = made x s; held = held }) node
     unfolding made
-    held_made = record { slot = own; here = subst (λ j. 0 < count_of (with_leaf (shed hides f) l x) j) (sym label) (count-own l x (shed hides f)) }
+    held_made = record { slot = own; here = subst (λ j. 0 < count_of (with_leaf (pruned hides f) l x) j) (sym label) (count-own l x (pruned hides f)) }
 
 -- ---- what the calls owe
 
 pub record Given (d : Inside) (v : Whole) (x : Content) (node : NodeRef) (a : Arena) (c : Command) : Type 0 where
-  pub invariant : IsSound a d.points d.overrides.items d.flags d.counts c d.log d.undo_sides.items d.redo_sides.items d.undo_sides.capacity d.redo_sides.capacity
+  pub invariant : IsSoundDoc a d.points d.overrides.items d.flags d.counts c d.log d.undo_sides.items d.redo_sides.items d.undo_sides.capacity d.redo_sides.capacity
   pub state : state_of a d.points d.overrides.items d.flags c d.log ≡ made x v.state
   pub held : Holds (whole_of a d.points d.overrides.items d.flags c d.log d.undo_sides.items d.redo_sides.items) node
   pub keeps : Keeps v (whole_of a d.points d.overrides.items d.flags c d.log d.undo_sides.items d.redo_sides.items)
@@ -634,28 +634,28 @@ module _ (d : Inside) (v : Whole) (sees : seen d ≡ v) (law : IsArena d.arena) 
   opened = open_of d v sees now_open
 
   -- only room was made
-  pub room_made : (c : Command) → record c { named = d.command.named; left = d.command.left } ≡ d.command → c.named.items ≡ d.command.named.items → c.left.items ≡ d.command.left.items →
-      IsSound d.arena d.points d.overrides.items d.flags d.counts c d.log d.undo_sides.items d.redo_sides.items d.undo_sides.capacity d.redo_sides.capacity
-  room_made c rest named left =
+  pub room_made : (c : Command) → record c { named = d.command.named; detached = d.command.detached } ≡ d.command → c.named.items ≡ d.command.named.items → c.detached.items ≡ d.command.detached.items →
+      IsSoundDoc d.arena d.points d.overrides.items d.flags d.counts c d.log d.undo_sides.items d.redo_sides.items d.undo_sides.capacity d.redo_sides.capacity
+  room_made c rest named detached =
       sound_carried d.arena d.points d.overrides.items d.flags d.counts d.command c d.log d.undo_sides.items d.redo_sides.items d.undo_sides.capacity d.redo_sides.capacity opened law
-      (subst (λ z. IsSound d.arena d.points d.overrides.items d.flags d.counts z d.log d.undo_sides.items d.redo_sides.items d.undo_sides.capacity d.redo_sides.capacity) (sym rest) ok) named left
+      (subst (λ z. IsSoundDoc d.arena d.points d.overrides.items d.flags d.counts z d.log d.undo_sides.items d.redo_sides.items d.undo_sides.capacity d.redo_sides.capacity) (sym rest) ok) named detached
 
-  pub node_made : (x : Content) → IsMade x → (a : Arena) (node : NodeRef) → Makes d.arena a node x → (b c : Command) → record b { named = d.command.named; left = d.command.left } ≡ d.command →
-      b.named.items ≡ d.command.named.items → b.left.items ≡ d.command.left.items → NotesMade node b c → Given d v x node a c
-  node_made x made_of a node m b c base named left notes =
-      let rest : record c { named = d.command.named; left = d.command.left } ≡ d.command = ap (λ (z : Command). record z { named = d.command.named; left = d.command.left }) notes.rest ∙ base in
-      let ok' = subst (λ z. IsSound d.arena d.points d.overrides.items d.flags d.counts z d.log d.undo_sides.items d.redo_sides.items d.undo_sides.capacity d.redo_sides.capacity) (sym rest) ok in
+  pub node_made : (x : Content) → IsMade x → (a : Arena) (node : NodeRef) → Makes d.arena a node x → (b c : Command) → record b { named = d.command.named; detached = d.command.detached } ≡ d.command →
+      b.named.items ≡ d.command.named.items → b.detached.items ≡ d.command.detached.items → NotesMade node b c → Given d v x node a c
+  node_made x made_of a node m b c base named detached notes =
+      let rest : record c { named = d.command.named; detached = d.command.detached } ≡ d.command = ap (λ (z : Command). record z { named = d.command.named; detached = d.command.detached }) notes.rest ∙ base in
+      let ok' = subst (λ z. IsSoundDoc d.arena d.points d.overrides.items d.flags d.counts z d.log d.undo_sides.items d.redo_sides.items d.undo_sides.capacity d.redo_sides.capacity) (sym rest) ok in
       let named' : c.named.items ≡ d.command.named.items ++ false ∷ [] = notes.named ∙ ap (λ ms. ms ++ false ∷ []) named in
-      let left' : c.left.items ≡ d.command.left.items ++ node ∷ [] = notes.left ∙ ap (λ ls. ls ++ node ∷ []) left in
+      let left' : c.detached.items ≡ d.command.detached.items ++ node ∷ [] = notes.detached ∙ ap (λ ls. ls ++ node ∷ []) detached in
       let arena_is : record { trees = with_leaf d.arena.trees d.arena.next x; next = d.arena.next + 1; cap = d.arena.cap; held = a.held } ≡ a = (λ i. record { trees = sym m.trees i; next = sym m.next i; cap = sym m.cap i; held = a.held }) in
       let whole_is = whole_made d.arena d.points d.overrides.items d.flags d.counts d.command c d.log d.undo_sides.items d.redo_sides.items d.undo_sides.capacity d.redo_sides.capacity opened law ok' a.held node x made_of m.keeps m.held m.label named' left' in
-      let same : whole_of d.arena d.points d.overrides.items d.flags (record c { named = d.command.named; left = d.command.left }) d.log d.undo_sides.items d.redo_sides.items ≡ v =
+      let same : whole_of d.arena d.points d.overrides.items d.flags (record c { named = d.command.named; detached = d.command.detached }) d.log d.undo_sides.items d.redo_sides.items ≡ v =
       ap (λ z. whole_of d.arena d.points d.overrides.items d.flags z d.log d.undo_sides.items d.redo_sides.items) rest ∙ sees in
       subst (λ t. Given d v x node t c) arena_is (record {
         invariant = sound_made d.arena d.points d.overrides.items d.flags d.counts d.command c d.log d.undo_sides.items d.redo_sides.items d.undo_sides.capacity d.redo_sides.capacity opened law ok' a.held node x made_of m.keeps m.held m.label named' left';
         state = ap (λ (w : Whole). w.state) whole_is ∙ ap (λ (w : Whole). made x w.state) same;
         held = subst (λ w. Holds w node) (sym whole_is) (held_made d.arena d.points d.overrides.items d.flags d.counts d.command c d.log d.undo_sides.items d.redo_sides.items d.undo_sides.capacity d.redo_sides.capacity opened law ok' a.held node x made_of m.keeps m.held m.label named' left');
-        keeps = subst (Keeps v) (sym whole_is) (subst (λ w. Keeps w (record (whole_of d.arena d.points d.overrides.items d.flags (record c { named = d.command.named; left = d.command.left }) d.log d.undo_sides.items d.redo_sides.items) { state = made x (state_of d.arena d.points d.overrides.items d.flags (record c { named = d.command.named; left = d.command.left }) d.log); held = a.held })) same
+        keeps = subst (Keeps v) (sym whole_is) (subst (λ w. Keeps w (record (whole_of d.arena d.points d.overrides.items d.flags (record c { named = d.command.named; detached = d.command.detached }) d.log d.undo_sides.items d.redo_sides.items) { state = made x (state_of d.arena d.points d.overrides.items d.flags (record c { named = d.command.named; detached = d.command.detached }) d.log); held = a.held })) same
             (keeps_made d.arena d.points d.overrides.items d.flags d.counts d.command c d.log d.undo_sides.items d.redo_sides.items d.undo_sides.capacity d.redo_sides.capacity opened law ok' a.held node x made_of m.keeps m.held m.label named' left'));
       })
 

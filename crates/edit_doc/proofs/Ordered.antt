@@ -8,13 +8,13 @@ use Rattle.dom_model.specs.Forest.{Forest, join, times, count_of, is_label, tree
 use Rattle.dom_model.specs.Forest.Forest.{Nil, Tree}
 use Rattle.dom_model.specs.Places.{place_in, index_of, first_of_two, first_among}
 use Rattle.dom_model.specs.Revised.{revised}
-use Rattle.dom_model.specs.Shed.{shed}
+use Rattle.dom_model.specs.Pruned.{pruned}
 use Rattle.dom_model.proofs.Links.{times-children_of_le}
 use Rattle.dom_model.proofs.Revising.{parent_of-revised, children_of-revised, total-revised}
-use Rattle.dom_model.proofs.Shedding.{IsDistinct-shed, children_of-shed}
+use Rattle.dom_model.proofs.Pruning.{IsDistinct-pruned, children_of-pruned}
 use Rattle.live_range.specs.declared.places.Point.{Point}
 use Rattle.point_order.specs.PointOrder.{is_within, is_before, is_before_apart, is_before_below, child_toward}
-use Rattle.edit_doc.proofs.SeenLookUps.{index_left, within_left, first_of_two-shed}
+use Rattle.edit_doc.proofs.SeenLookUps.{index_detached, within_detached, first_of_two-pruned}
 
 -- ---- contents
 
@@ -81,28 +81,28 @@ found_in s (l ∷ ls) k e = by_test l ls k (s l) (find s ls) e (found_in s ls k)
     by_test l ls k false o h ih = omega (arith, ih h)
 
 module _ (k : ℕ → Bool) (f : Forest Content) (once : IsDistinct f) where
-  abbrev left : Forest Content
-  left = shed k f
+  abbrev detached : Forest Content
+  detached = pruned k f
 
-  child_left : (a l : ℕ) → 0 < count_of left a → 0 < times (children_of f a) l → 0 < count_of left l
-  child_left a l here child =
-      let c : 0 < times (children_of left a) l = subst (λ ls. 0 < times ls l) (sym (children_of-shed k f a once here)) child in
-      omega (arith, c, times-children_of_le left a l (IsDistinct-shed k f once))
+  child_detached : (a l : ℕ) → 0 < count_of detached a → 0 < times (children_of f a) l → 0 < count_of detached l
+  child_detached a l here child =
+      let c : 0 < times (children_of detached a) l = subst (λ ls. 0 < times ls l) (sym (children_of-pruned k f a once here)) child in
+      omega (arith, c, times-children_of_le detached a l (IsDistinct-pruned k f once))
 
-  toward-left : (a b : ℕ) → 0 < count_of left a → child_toward left a b ≡ child_toward f a b
-  toward-left a b here =
-      ap (find (λ m. is_within left m b)) (children_of-shed k f a once here)
-      ∙ find_same (λ m. is_within left m b) (λ m. is_within f m b) (children_of f a) (λ m child. within_left k f once m b (child_left a m here child))
+  toward-detached : (a b : ℕ) → 0 < count_of detached a → child_toward detached a b ≡ child_toward f a b
+  toward-detached a b here =
+      ap (find (λ m. is_within detached m b)) (children_of-pruned k f a once here)
+      ∙ find_same (λ m. is_within detached m b) (λ m. is_within f m b) (children_of f a) (λ m child. within_detached k f once m b (child_detached a m here child))
 
-  below-left : (p q : Point) (o : Option ℕ) → child_toward f q.label p.label ≡ o → 0 < count_of left p.label → 0 < count_of left q.label → is_before_below left p q o ≡ is_before_below f p q o
-  below-left p q None e hp hq = ap (λ o. is_label o p.label) (first_of_two-shed k f p.label q.label once hp)
-  below-left p q (Some m) e hp hq = ap (λ i. nat_lt i q.offset) (index_left k f once m (child_left q.label m hq (found_in (λ j. is_within f j p.label) (children_of f q.label) m e)))
+  below-detached : (p q : Point) (o : Option ℕ) → child_toward f q.label p.label ≡ o → 0 < count_of detached p.label → 0 < count_of detached q.label → is_before_below detached p q o ≡ is_before_below f p q o
+  below-detached p q None e hp hq = ap (λ o. is_label o p.label) (first_of_two-pruned k f p.label q.label once hp)
+  below-detached p q (Some m) e hp hq = ap (λ i. nat_lt i q.offset) (index_detached k f once m (child_detached q.label m hq (found_in (λ j. is_within f j p.label) (children_of f q.label) m e)))
 
-  apart-left : (p q : Point) (o : Option ℕ) → child_toward f p.label q.label ≡ o → 0 < count_of left p.label → 0 < count_of left q.label → is_before_apart left p q o ≡ is_before_apart f p q o
-  apart-left p q None e hp hq = ap (is_before_below left p q) (toward-left q.label p.label hq) ∙ below-left p q (child_toward f q.label p.label) refl hp hq
-  apart-left p q (Some m) e hp hq = ap (nat_le p.offset) (index_left k f once m (child_left p.label m hp (found_in (λ j. is_within f j q.label) (children_of f p.label) m e)))
+  apart-detached : (p q : Point) (o : Option ℕ) → child_toward f p.label q.label ≡ o → 0 < count_of detached p.label → 0 < count_of detached q.label → is_before_apart detached p q o ≡ is_before_apart f p q o
+  apart-detached p q None e hp hq = ap (is_before_below detached p q) (toward-detached q.label p.label hq) ∙ below-detached p q (child_toward f q.label p.label) refl hp hq
+  apart-detached p q (Some m) e hp hq = ap (nat_le p.offset) (index_detached k f once m (child_detached p.label m hp (found_in (λ j. is_within f j q.label) (children_of f p.label) m e)))
 
-  pub before-left : (p q : Point) → 0 < count_of left p.label → 0 < count_of left q.label → is_before left p q ≡ is_before f p q
+  pub before-detached : (p q : Point) → 0 < count_of detached p.label → 0 < count_of detached q.label → is_before detached p q ≡ is_before f p q
   unfolding is_before
-  before-left p q hp hq = ap (λ b. if p.label == q.label then nat_lt p.offset q.offset else b)
-      (ap (is_before_apart left p q) (toward-left p.label q.label hp) ∙ apart-left p q (child_toward f p.label q.label) refl hp hq)
+  before-detached p q hp hq = ap (λ b. if p.label == q.label then nat_lt p.offset q.offset else b)
+      (ap (is_before_apart detached p q) (toward-detached p.label q.label hp) ∙ apart-detached p q (child_toward f p.label q.label) refl hp hq)

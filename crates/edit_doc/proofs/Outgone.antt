@@ -6,45 +6,45 @@ use Rattle.std.proofs.lemmas.Bool.Decides.{nat_tests}
 use Rattle.dom_model.specs.declared.Content.{Content}
 use Rattle.dom_model.specs.Forest.{Forest, Seen, tops, times, count_of, parent_of, IsDistinct}
 use Rattle.dom_model.specs.Forest.Forest.{Nil, Tree}
-use Rattle.dom_model.specs.Shed.{shed}
-use Rattle.dom_model.specs.State.{State as Arena, IsLawful as IsArena}
-use Rattle.dom_model.proofs.Shedding.{count_of-shed}
+use Rattle.dom_model.specs.Pruned.{pruned}
+use Rattle.dom_model.specs.ArenaState.{ArenaState as Arena, IsValid as IsArena}
+use Rattle.dom_model.proofs.Pruning.{count_of-pruned}
 use Rattle.dom_model.proofs.Stands.{true_or_false, seek_absent, times-tops}
 use Rattle.live_range.specs.declared.places.Places.{Places}
 use Rattle.undo_log.specs.Log.{Log, noted, is_open, is_resumed, committed}
 use Rattle.forest_changes.specs.Change.{IsForest}
 use Rattle.forest_changes.specs.Named.{Each, named_in}
-use Rattle.forest_changes.specs.Down.{Sheds, IsLeft, GoBackDown}
+use Rattle.forest_changes.specs.Down.{Prunes, IsLeft, GoBackDown}
 use Rattle.forest_changes.proofs.ChangeLists.{each_of, back_down}
-use Rattle.forest_changes.proofs.DownChange.{sheds_roots}
+use Rattle.forest_changes.proofs.DownChange.{prunes_roots}
 use Rattle.forest_changes.proofs.Twice.{forest_of}
 use Rattle.edit_steps.specs.declared.step.Step.{Step}
 use Rattle.edit_steps.specs.Step.{changes_of}
 use Rattle.edit_model.specs.Gives.{labels_of}
 use Rattle.edit_doc.specs.declared.Doc.TheInside.{Inside}
-use Rattle.edit_doc.specs.declared.command.Beside.{Beside}
+use Rattle.edit_doc.specs.declared.command.EntrySnapshot.{EntrySnapshot}
 use Rattle.edit_doc.specs.declared.command.Sides.{Sides}
 use Rattle.edit_doc.specs.declared.command.Command.{Command}
 use Rattle.node_arena.specs.declared.NodeRef.{NodeRef}
 use Rattle.edit_doc.specs.Fields.{AreResting, EntersIn, Enters, made_sides}
-use Rattle.edit_doc.specs.GivingUp.{GivesUp, loose_roots, has_left}
+use Rattle.edit_doc.specs.GivingUp.{GivesUp, loose_roots, has_detached}
 use Rattle.edit_doc.specs.History.{forest_before, is_hidden}
 use Rattle.edit_doc.specs.Sound.{UndoSound}
 use Rattle.edit_doc.proofs.Downs.{EntriesLeft, each_both, entries_moved, back_forest, back_labels}
 use Rattle.edit_doc.proofs.Found.{root_is_top}
-use Rattle.edit_doc.proofs.GivingUp.{shed-shed, gives_join}
-use Rattle.edit_doc.proofs.HiddenTrees.{is_hidden_from, shed-none, both_left, top_loose, loose_left}
+use Rattle.edit_doc.proofs.GivingUp.{pruned-pruned, gives_join}
+use Rattle.edit_doc.proofs.HiddenTrees.{is_hidden_from, pruned-none, both_detached, top_loose, loose_detached}
 use Rattle.edit_doc.proofs.Inner.{Ok}
-use Rattle.edit_doc.proofs.Loosened.{listed_has, or_true}
+use Rattle.edit_doc.proofs.NewlyDetached.{listed_has, or_true}
 use Rattle.edit_doc.proofs.Records.{committed_made, with_first, entering}
 use Rattle.edit_doc.proofs.Rolls.{xs}
-use Rattle.edit_doc.proofs.Unnamed.{unnamed, sheds_now, unnamed_loose, kept_left}
+use Rattle.edit_doc.proofs.Unnamed.{unnamed, prunes_now, unnamed_loose, kept_detached}
 
 -- what stays when fewer of the roots go
-shed_fewer : {C : Type 0} (k j : ℕ → Bool) (f : Forest C) (l : ℕ) → ((m : ℕ) → 0 < times (tops f) m → j m ≡ true → k m ≡ true) → count_of (shed k f) l ≤ count_of (shed j f) l
-shed_fewer k j Nil l less = omega arith
-shed_fewer k j (Tree m c ks rest) l less =
-    let ih = shed_fewer k j rest l (λ n top. less n (omega (arith, top))) in
+pruned_fewer : {C : Type 0} (k j : ℕ → Bool) (f : Forest C) (l : ℕ) → ((m : ℕ) → 0 < times (tops f) m → j m ≡ true → k m ≡ true) → count_of (pruned k f) l ≤ count_of (pruned j f) l
+pruned_fewer k j Nil l less = omega arith
+pruned_fewer k j (Tree m c ks rest) l less =
+    let ih = pruned_fewer k j rest l (λ n top. less n (omega (arith, top))) in
     elim (true_or_false (j m)) [
       | inl e ↦ (let t = less m (own m (times (tops rest) m)) e in rw (e, t) ih)
       | inr e ↦ elim (true_or_false (k m)) [
@@ -59,14 +59,14 @@ shed_fewer k j (Tree m c ks rest) l less =
 entries_both : (k j : ℕ → Bool) (f : Forest Content) (es : List (List Step)) → IsDistinct f → EntriesLeft k f es → EntriesLeft j f es → EntriesLeft (λ l. k l || j l) f es
 entries_both k j f [] once a b = tt
 entries_both k j f (e ∷ es) once a b = (
-  each_both (IsLeft k f) (IsLeft j f) (IsLeft (λ l. k l || j l) f) (named_in (changes_of e)) (λ l s t. subst (λ g. 0 < count_of g l) (shed-shed k j f) (both_left k j f l once s t)) a.0 b.0,
+  each_both (IsLeft k f) (IsLeft j f) (IsLeft (λ l. k l || j l) f) (named_in (changes_of e)) (λ l s t. subst (λ g. 0 < count_of g l) (pruned-pruned k j f) (both_detached k j f l once s t)) a.0 b.0,
   entries_both k j f es once a.1 b.1,
 )
 
 entries_none : (k : ℕ → Bool) (f : Forest Content) (es : List (List Step)) → EntriesLeft k f es → EntriesLeft (λ _. false) f es
 entries_none k f [] h = tt
 entries_none k f (e ∷ es) h = (
-  each_of (IsLeft k f) (IsLeft (λ _. false) f) (named_in (changes_of e)) (λ l t. subst (λ g. 0 < count_of g l) (sym (shed-none f)) (omega (arith, t, count_of-shed k f l))) h.0,
+  each_of (IsLeft k f) (IsLeft (λ _. false) f) (named_in (changes_of e)) (λ l t. subst (λ g. 0 < count_of g l) (sym (pruned-none f)) (omega (arith, t, count_of-pruned k f l))) h.0,
   entries_none k f es h.1,
 )
 
@@ -74,22 +74,22 @@ absent_loose : (f : Forest Content) (l : ℕ) → count_of f l ≡ 0 → parent_
 absent_loose f l none = ap (λ (o : Option (Seen Content)). option_and_then (λ s. s.parent) o) (seek_absent None f l none)
 
 -- what the entry at a place left is loose now, and the entries before that place name none of it
-record Outgone (n high : ℕ) (f : Forest Content) (es : List (List Step)) (bs : List Beside) : Type 0 where
-  loose : (l : ℕ) → has_left (slice_get bs n) l ≡ true → (0 < l) × ((l < high) × (parent_of f l ≡ None))
-  left : EntriesLeft (has_left (slice_get bs n)) f (take n es)
+record Outgone (n high : ℕ) (f : Forest Content) (es : List (List Step)) (bs : List EntrySnapshot) : Type 0 where
+  loose : (l : ℕ) → has_detached (slice_get bs n) l ≡ true → (0 < l) × ((l < high) × (parent_of f l ≡ None))
+  detached : EntriesLeft (has_detached (slice_get bs n)) f (take n es)
 
 module _ (held : List (Option ℕ)) (names : List (List ℕ)) (c : Command) where
-  outgone : (n high : ℕ) (f : Forest Content) (es : List (List Step)) (bs : List Beside) → IsForest f → UndoSound held names false c high f es bs → Outgone n high f es bs
-  outgone zero high f [] [] is s = record { loose = λ l e. absurd (cc); left = tt }
-  outgone (suc n) high f [] [] is s = record { loose = λ l e. absurd (cc); left = tt }
+  outgone : (n high : ℕ) (f : Forest Content) (es : List (List Step)) (bs : List EntrySnapshot) → IsForest f → UndoSound held names false c high f es bs → Outgone n high f es bs
+  outgone zero high f [] [] is s = record { loose = λ l e. absurd (cc); detached = tt }
+  outgone (suc n) high f [] [] is s = record { loose = λ l e. absurd (cc); detached = tt }
   outgone n high f [] (b ∷ bs) is s = absurd s
   outgone n high f (e ∷ es) [] is s = absurd s
   outgone zero high f (e ∷ es) (b ∷ bs) is s = record {
-    loose = λ l t. listed_has (λ l. (0 < l) × ((l < high) × (parent_of f l ≡ None))) (labels_of b.left.items) l s.1.0.left_loose t;
-    left = tt;
+    loose = λ l t. listed_has (λ l. (0 < l) × ((l < high) × (parent_of f l ≡ None))) (labels_of b.detached.items) l s.1.0.detached_loose t;
+    detached = tt;
   }
   outgone (suc n) high f (e ∷ es) (b ∷ bs) is s =
-      let k : ℕ → Bool = has_left (slice_get bs n) in
+      let k : ℕ → Bool = has_detached (slice_get bs n) in
       let g = forest_before e f in
       let is' = back_forest (changes_of e) f s.0.0 is in
       let ih = outgone n b.sides.first_label g es bs is' s.1.1 in
@@ -100,51 +100,51 @@ module _ (held : List (Option ℕ)) (names : List (List ℕ)) (c : Command) wher
       is_hidden_from g b.sides.first_label l (record { inner = u.0; old = u.1.0; root = root_is_top g l is'.distinct (omega (arith, s', here)) u.1.1 })) in
       let roots : (l : ℕ) → k l ≡ true → parent_of f l ≡ None = λ l t. by_count f l (λ here. top_loose f l is.distinct (s.1.0.hidden l (hid l t here))) (count_of f l) refl in
       let zero_out : k 0 ≡ false = elim (true_or_false (k 0)) [ inl t ↦ absurd (let u = (ih.loose 0 t).0 in omega (arith, u)) | inr t ↦ t ] in
-      let sheds = sheds_roots k f is zero_out roots in
+      let prunes = prunes_roots k f is zero_out roots in
       let own : Each (IsLeft k f) (named_in (changes_of e)) =
       each_of (IsLeft (is_hidden g b.sides.first_label) f) (IsLeft k f) (named_in (changes_of e)) (λ m t. (
-      let more = shed_fewer (is_hidden g b.sides.first_label) k f m (λ l top u. hid l u (omega (arith, top, times-tops f l))) in
+      let more = pruned_fewer (is_hidden g b.sides.first_label) k f m (λ l top u. hid l u (omega (arith, top, times-tops f l))) in
       omega (arith, more, t))) s.1.0.names_there in
-      let down : GoBackDown k (changes_of e) f = back_down k (changes_of e) f sheds s.0.0 own in
+      let down : GoBackDown k (changes_of e) f = back_down k (changes_of e) f prunes s.0.0 own in
       record {
         loose = λ l t. (let u = ih.loose l t in let lt = u.1.0 in let d = s.1.0.drawn in (u.0, (omega (arith, lt, d), roots l t)));
-        left = (own, entries_moved k g f (λ l. sym (down.stays l)) (take n es) ih.left);
+        detached = (own, entries_moved k g f (λ l. sym (down.stays l)) (take n es) ih.detached);
       }
     where
       by_count : (f : Forest Content) (l : ℕ) → (0 < count_of f l → parent_of f l ≡ None) → (i : ℕ) → count_of f l ≡ i → parent_of f l ≡ None
       by_count f l some zero e = absent_loose f l e
       by_count f l some (suc i) e = some (omega (arith, e))
 
-module _ (d : Inside) (law : IsArena d.arena) (ok : Ok d) (opened : IsTrue (is_open d.log.open_entry)) (p : Places) (resting : AreResting d.points p) (some : 0 < length (noted d.log.open_entry)) (us : List Beside) (out : Option Beside) (enters : Enters d.command (loose_roots d.arena.trees d.command.left.items) p d.counts d.undo_sides.capacity d.undo_sides.items us out) where
+module _ (d : Inside) (law : IsArena d.arena) (ok : Ok d) (opened : IsTrue (is_open d.log.open_entry)) (p : Places) (resting : AreResting d.points p) (some : 0 < length (noted d.log.open_entry)) (us : List EntrySnapshot) (out : Option EntrySnapshot) (enters : Enters d.command (loose_roots d.arena.trees d.command.detached.items) p d.counts d.undo_sides.capacity d.undo_sides.items us out) where
   abbrev f : Forest Content
   f = d.arena.trees
 
-  record GoesOut (o : Option Beside) : Type 0 where
-    inner : (l : ℕ) → has_left o l ≡ true → 0 < l
-    loose : (l : ℕ) → has_left o l ≡ true → parent_of f l ≡ None
-    left : EntriesLeft (has_left o) f (committed d.log).undo
+  record GoesOut (o : Option EntrySnapshot) : Type 0 where
+    inner : (l : ℕ) → has_detached o l ≡ true → 0 < l
+    loose : (l : ℕ) → has_detached o l ≡ true → parent_of f l ≡ None
+    detached : EntriesLeft (has_detached o) f (committed d.log).undo
 
   none_out : GoesOut None
-  none_out = record { inner = λ l t. absurd (cc); loose = λ l t. absurd (cc); left = entries_none (unnamed d law ok opened) f (committed d.log).undo (kept_left d law ok opened some) }
+  none_out = record { inner = λ l t. absurd (cc); loose = λ l t. absurd (cc); detached = entries_none (unnamed d law ok opened) f (committed d.log).undo (kept_detached d law ok opened some) }
 
-  joined_out : (s : Sides) (left : List NodeRef) (room : ℕ) (bs new : List Beside) (o : Option Beside) → EntersIn true s left p d.counts room bs new o → o ≡ None
-  joined_out s left room [] new o h = absurd h
-  joined_out s left room (b ∷ bs) [] o h = absurd h
-  joined_out s left room (b ∷ bs) (b' ∷ bs') o h = h.1.1.1
+  joined_out : (s : Sides) (detached : List NodeRef) (room : ℕ) (bs new : List EntrySnapshot) (o : Option EntrySnapshot) → EntersIn true s detached p d.counts room bs new o → o ≡ None
+  joined_out s detached room [] new o h = absurd h
+  joined_out s detached room (b ∷ bs) [] o h = absurd h
+  joined_out s detached room (b ∷ bs) (b' ∷ bs') o h = h.1.1.1
 
   goes_out : GoesOut out
   goes_out = elim (true_or_false (is_resumed d.log.open_entry)) [
-    | inl r ↦ subst GoesOut (sym (joined_out (made_sides d.command p d.counts) (loose_roots f d.command.left.items) d.undo_sides.capacity d.undo_sides.items us out (subst (λ b. EntersIn b (made_sides d.command p d.counts) (loose_roots f d.command.left.items) p d.counts d.undo_sides.capacity d.undo_sides.items us out) (ok.resumed ∙ r) enters))) none_out
+    | inl r ↦ subst GoesOut (sym (joined_out (made_sides d.command p d.counts) (loose_roots f d.command.detached.items) d.undo_sides.capacity d.undo_sides.items us out (subst (λ b. EntersIn b (made_sides d.command p d.counts) (loose_roots f d.command.detached.items) p d.counts d.undo_sides.capacity d.undo_sides.items us out) (ok.resumed ∙ r) enters))) none_out
     | inr r ↦ (
         let c : Command = record d.command { start = d.arena.next } in
         let h = entering d law ok opened p resting r c refl us out enters in
-        let bs : List Beside = h.0 ∷ d.undo_sides.items in
+        let bs : List EntrySnapshot = h.0 ∷ d.undo_sides.items in
         let es : List (List Step) = xs d law ok opened ∷ d.log.undo in
         let o = outgone d.arena.held d.points.names c d.log.depth d.arena.next f es bs (forest_of d.arena law) (with_first d law ok opened p resting r c refl us out h.0 h.1 h.2) in
         let own : GoesOut (slice_get bs d.log.depth) = record {
           inner = λ l t. (o.loose l t).0;
           loose = λ l t. (o.loose l t).1.1;
-          left = subst (λ (g : Log Step). EntriesLeft (has_left (slice_get bs d.log.depth)) f g.undo) (sym (committed_made d.log d.log.open_entry opened r some)) o.left;
+          detached = subst (λ (g : Log Step). EntriesLeft (has_detached (slice_get bs d.log.depth)) f g.undo) (sym (committed_made d.log d.log.open_entry opened r some)) o.detached;
         } in
         subst GoesOut (sym (h.4 ∙ ap (slice_get bs) ok.us_room_is)) own)
   ]
@@ -152,28 +152,28 @@ module _ (d : Inside) (law : IsArena d.arena) (ok : Ok d) (opened : IsTrue (is_o
   -- ---- with what is left unnamed
 
   abbrev pub unkept : ℕ → Bool
-  unkept l = unnamed d law ok opened l || has_left out l
+  unkept l = unnamed d law ok opened l || has_detached out l
 
-  pub left_inner : (l : ℕ) → has_left out l ≡ true → 0 < l
-  left_inner = goes_out.inner
+  pub detached_inner : (l : ℕ) → has_detached out l ≡ true → 0 < l
+  detached_inner = goes_out.inner
 
-  pub left_still_loose : (a : Arena) → GivesUp (unnamed d law ok opened) d.arena a → (l : ℕ) → has_left out l ≡ true → parent_of a.trees l ≡ None
-  left_still_loose a gives l t = ap (λ g. parent_of g l) gives.trees ∙ loose_left (unnamed d law ok opened) f l law.distinct (goes_out.loose l t)
+  pub detached_still_loose : (a : Arena) → GivesUp (unnamed d law ok opened) d.arena a → (l : ℕ) → has_detached out l ≡ true → parent_of a.trees l ≡ None
+  detached_still_loose a gives l t = ap (λ g. parent_of g l) gives.trees ∙ loose_detached (unnamed d law ok opened) f l law.distinct (goes_out.loose l t)
 
-  pub gives_both : (a b : Arena) → GivesUp (unnamed d law ok opened) d.arena a → GivesUp (has_left out) a b → GivesUp unkept d.arena b
-  gives_both a b x y = gives_join (unnamed d law ok opened) (has_left out) d.arena a b x y
+  pub gives_both : (a b : Arena) → GivesUp (unnamed d law ok opened) d.arena a → GivesUp (has_detached out) a b → GivesUp unkept d.arena b
+  gives_both a b x y = gives_join (unnamed d law ok opened) (has_detached out) d.arena a b x y
 
-  pub sheds_both : Sheds unkept f
-  sheds_both = sheds_roots unkept f (forest_of d.arena law) zero_out (λ l t. elim (or_true (unnamed d law ok opened l) (has_left out l) t) [ inl u ↦ unnamed_loose d law ok opened l u | inr u ↦ goes_out.loose l u ])
+  pub prunes_both : Prunes unkept f
+  prunes_both = prunes_roots unkept f (forest_of d.arena law) zero_out (λ l t. elim (or_true (unnamed d law ok opened l) (has_detached out l) t) [ inl u ↦ unnamed_loose d law ok opened l u | inr u ↦ goes_out.loose l u ])
     where
       zero_out : unkept 0 ≡ false
       zero_out = elim (true_or_false (unkept 0)) [
-        | inl t ↦ absurd (elim (or_true (unnamed d law ok opened 0) (has_left out 0) t) [
-          | inl u ↦ true≢false (sym u ∙ (sheds_now d law ok opened (unnamed d law ok opened) (λ l t. t)).document)
+        | inl t ↦ absurd (elim (or_true (unnamed d law ok opened 0) (has_detached out 0) t) [
+          | inl u ↦ true≢false (sym u ∙ (prunes_now d law ok opened (unnamed d law ok opened) (λ l t. t)).document)
           | inr u ↦ (let x = goes_out.inner 0 u in omega (arith, x))
         ])
         | inr t ↦ t
       ]
 
   pub kept_both : (log : Log Step) → log ≡ committed d.log → EntriesLeft unkept f log.undo
-  kept_both log is = subst (λ (g : Log Step). EntriesLeft unkept f g.undo) (sym is) (entries_both (unnamed d law ok opened) (has_left out) f (committed d.log).undo law.distinct (kept_left d law ok opened some) goes_out.left)
+  kept_both log is = subst (λ (g : Log Step). EntriesLeft unkept f g.undo) (sym is) (entries_both (unnamed d law ok opened) (has_detached out) f (committed d.log).undo law.distinct (kept_detached d law ok opened some) goes_out.detached)

@@ -5,45 +5,45 @@ use Rattle.std.proofs.lemmas.Bool.Decides.{eqb_tells}
 use Rattle.dom_model.specs.declared.Content.{Content}
 use Rattle.dom_model.specs.Contents.{with_chars, with_attributes}
 use Rattle.dom_model.specs.Forest.{Forest, Seen, seek, tops, times, count_of, IsDistinct, parent_of, unlink, link}
-use Rattle.dom_model.specs.State.{CanLink}
+use Rattle.dom_model.specs.ArenaState.{CanLink}
 use Rattle.dom_model.proofs.Links.{seen as seen_at, parent_of-link, parent_of-unlink, eqb_refl_true}
 use Rattle.dom_model.proofs.Revising.{parent_of-revised}
 use Rattle.dom_model.proofs.Stands.{times-tops, parent_stands}
 use Rattle.dom_model.proofs.Totals.{total-unlink}
-use Rattle.forest_changes.specs.Change.{Change, Loosen, Attach, Shift, Rewrite, Redress, IsForest, Fits, applied}
+use Rattle.forest_changes.specs.Change.{Change, Remove, Insert, Move, SetText, SetAttributes, IsForest, Fits, applied}
 use Rattle.forest_changes.specs.Named.{named, Each}
 use Rattle.forest_changes.proofs.Twice.{given_parent, IsForest-unlink, IsForest-applied, count_of-applied}
 use Rattle.edit_doc.proofs.HiddenTrees.{top_loose}
 
 -- the node that a change is about
 abbrev pub node_of : Change → ℕ
-node_of (Loosen n) = n
-node_of (Attach n p b) = n
-node_of (Shift n p b) = n
-node_of (Rewrite n words) = n
-node_of (Redress n list) = n
+node_of (Remove n) = n
+node_of (Insert n p b) = n
+node_of (Move n p b) = n
+node_of (SetText n words) = n
+node_of (SetAttributes n list) = n
 
 -- the tree that it makes loose, if it does
 abbrev pub loosed : Change → List ℕ
-loosed (Loosen n) = n ∷ []
-loosed (Attach n p b) = []
-loosed (Shift n p b) = []
-loosed (Rewrite n words) = []
-loosed (Redress n list) = []
+loosed (Remove n) = n ∷ []
+loosed (Insert n p b) = []
+loosed (Move n p b) = []
+loosed (SetText n words) = []
+loosed (SetAttributes n list) = []
 
 pub named_node : (P : ℕ → Type 0) (x : Change) → Each P (named x) → P (node_of x)
-named_node P (Loosen n) h = h.0
-named_node P (Attach n p b) h = h.0
-named_node P (Shift n p b) h = h.0
-named_node P (Rewrite n words) h = h.0
-named_node P (Redress n list) h = h.0
+named_node P (Remove n) h = h.0
+named_node P (Insert n p b) h = h.0
+named_node P (Move n p b) h = h.0
+named_node P (SetText n words) h = h.0
+named_node P (SetAttributes n list) h = h.0
 
 pub each_loosed : (P : ℕ → Type 0) (x : Change) → P (node_of x) → Each P (loosed x)
-each_loosed P (Loosen n) h = (h, tt)
-each_loosed P (Attach n p b) h = tt
-each_loosed P (Shift n p b) h = tt
-each_loosed P (Rewrite n words) h = tt
-each_loosed P (Redress n list) h = tt
+each_loosed P (Remove n) h = (h, tt)
+each_loosed P (Insert n p b) h = tt
+each_loosed P (Move n p b) h = tt
+each_loosed P (SetText n words) h = tt
+each_loosed P (SetAttributes n list) h = tt
 
 pub root_top : (f : Forest Content) (l : ℕ) → IsDistinct f → 0 < count_of f l → parent_of f l ≡ None → 0 < times (tops f) l
 root_top f l once here root =
@@ -77,25 +77,25 @@ linked f n p b is can =
 
 pub parent_other : (x : Change) (f : Forest Content) (l : ℕ) → Fits x f → 0 < count_of f l → node_of x ≢ l → parent_of (applied x f) l ≡ parent_of f l
 unfolding applied
-parent_other (Loosen n) f l h here off = parent-unlink f n l h.forest (given_parent f n h.here) here off
-parent_other (Attach n p b) f l h here off = parent-link f n p b l h.forest h.here here off
-parent_other (Shift n p b) f l h here off =
+parent_other (Remove n) f l h here off = parent-unlink f n l h.forest (given_parent f n h.here) here off
+parent_other (Insert n p b) f l h here off = parent-link f n p b l h.forest h.here here off
+parent_other (Move n p b) f l h here off =
     let child = given_parent f n h.here.0 in
     let g = IsForest-unlink f (unwrap_or (parent_of f n) 0) n h.forest child in
     parent-link (unlink f n) n p b l g h.here.1 (omega (arith, here, total-unlink (λ m _. cond (eqb m l) 1 0) f n)) off ∙ parent-unlink f n l h.forest child here off
-parent_other (Rewrite n words) f l h here off = parent_of-revised n (with_chars words) f l
-parent_other (Redress n list) f l h here off = parent_of-revised n (with_attributes list) f l
+parent_other (SetText n words) f l h here off = parent_of-revised n (with_chars words) f l
+parent_other (SetAttributes n list) f l h here off = parent_of-revised n (with_attributes list) f l
 
 -- the tree of the node is loose after the change: it was loose before, or is made so
 own_root : (x : Change) (f : Forest Content) → Fits x f → parent_of (applied x f) (node_of x) ≡ None → (parent_of f (node_of x) ≡ None) ⊎ (loosed x ≡ node_of x ∷ [])
 unfolding applied
-own_root (Loosen n) f h root = inr refl
-own_root (Attach n p b) f h root = absurd (let e : Some p ≡ None = sym (linked f n p b h.forest h.here) ∙ root in cc)
-own_root (Shift n p b) f h root =
+own_root (Remove n) f h root = inr refl
+own_root (Insert n p b) f h root = absurd (let e : Some p ≡ None = sym (linked f n p b h.forest h.here) ∙ root in cc)
+own_root (Move n p b) f h root =
     let g = IsForest-unlink f (unwrap_or (parent_of f n) 0) n h.forest (given_parent f n h.here.0) in
     absurd (let e : Some p ≡ None = sym (linked (unlink f n) n p b g h.here.1) ∙ root in cc)
-own_root (Rewrite n words) f h root = inl (sym (parent_of-revised n (with_chars words) f n) ∙ root)
-own_root (Redress n list) f h root = inl (sym (parent_of-revised n (with_attributes list) f n) ∙ root)
+own_root (SetText n words) f h root = inl (sym (parent_of-revised n (with_chars words) f n) ∙ root)
+own_root (SetAttributes n list) f h root = inl (sym (parent_of-revised n (with_attributes list) f n) ∙ root)
 
 -- ---- roots
 

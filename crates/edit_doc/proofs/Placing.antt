@@ -6,8 +6,8 @@ use Rattle.dom_model.specs.declared.Content.{Content}
 use Rattle.dom_model.specs.declared.Content.TheVariants.{Document, Element, Words, Remark}
 use Rattle.dom_model.specs.Contents.{length_of}
 use Rattle.dom_model.specs.Forest.{Forest, is_label, count_of, parent_of, IsWithin}
-use Rattle.dom_model.specs.Shed.{shed}
-use Rattle.dom_model.specs.State.{IsLawful as IsArena}
+use Rattle.dom_model.specs.Pruned.{pruned}
+use Rattle.dom_model.specs.ArenaState.{IsValid as IsArena}
 use Rattle.dom_model.proofs.Stands.{true_or_false}
 use Rattle.live_range.specs.declared.places.Point.{Point}
 use Rattle.node_arena.specs.declared.NodeRef.{NodeRef}
@@ -23,7 +23,7 @@ use Rattle.edit_doc.specs.Held.{Holds}
 use Rattle.node_arena.specs.Held.{Holds as HoldsNode}
 use Rattle.edit_doc.proofs.Asking.{second_false}
 use Rattle.edit_doc.proofs.Found.{tree_of-fewer}
-use Rattle.edit_doc.proofs.HiddenTrees.{lt_true, document-shed, inside_left, length_of-shed}
+use Rattle.edit_doc.proofs.HiddenTrees.{lt_true, document-pruned, inside_detached, length_of-pruned}
 use Rattle.edit_doc.proofs.Inner.{seen}
 use Rattle.edit_doc.proofs.Rests.{arena_forest}
 use Rattle.edit_doc.proofs.SeenNodes.{out_of}
@@ -73,16 +73,16 @@ takes_so parent false place r a b e = ap not e ∙ (sym b ∙ sym (ap (λ x. x &
 -- ---- places of points
 
 module _ (d : Inside) (law : IsArena d.arena) where
-  pub in_document_seen : (l : ℕ) → is_in_document (shed (out_of d) d.arena.trees) l ≡ is_in_document d.arena.trees l
-  in_document_seen l = ap (λ t. nat_lt 0 (count_of t l)) (document-shed d.arena.trees d.arena.next (arena_forest d.arena law) (out_of d) refl)
+  pub in_document_seen : (l : ℕ) → is_in_document (pruned (out_of d) d.arena.trees) l ≡ is_in_document d.arena.trees l
+  in_document_seen l = ap (λ t. nat_lt 0 (count_of t l)) (document-pruned d.arena.trees d.arena.next (arena_forest d.arena law) (out_of d) refl)
 
-  placed_same : (p : Point) → is_placed (shed (out_of d) d.arena.trees) p ≡ is_placed d.arena.trees p
+  placed_same : (p : Point) → is_placed (pruned (out_of d) d.arena.trees) p ≡ is_placed d.arena.trees p
   unfolding is_placed
   placed_same p = elim (true_or_false (is_in_document d.arena.trees p.label)) [
     | inl t ↦ (
-        let len = length_of-shed d.arena.trees d.arena.next (arena_forest d.arena law) (out_of d) refl p.label (lt_true 0 (count_of _ p.label) t) in
+        let len = length_of-pruned d.arena.trees d.arena.next (arena_forest d.arena law) (out_of d) refl p.label (lt_true 0 (count_of _ p.label) t) in
         λ i. in_document_seen p.label i && nat_le p.offset (len i))
-    | inr u ↦ ap (λ b. b && nat_le p.offset (length_of (shed (out_of d) d.arena.trees) p.label)) (in_document_seen p.label ∙ u) ∙ sym (ap (λ b. b && nat_le p.offset (length_of d.arena.trees p.label)) u)
+    | inr u ↦ ap (λ b. b && nat_le p.offset (length_of (pruned (out_of d) d.arena.trees) p.label)) (in_document_seen p.label ∙ u) ∙ sym (ap (λ b. b && nat_le p.offset (length_of d.arena.trees p.label)) u)
   ]
 
   pub select_is : (v : Whole) → seen d ≡ v → (p : Point) → may_select v.state p ≡ is_placed d.arena.trees p
@@ -105,7 +105,7 @@ module _ (d : Inside) (law : IsArena d.arena) where
   pub inside_held : (v : Whole) → seen d ≡ v → (node : NodeRef) → HoldsNode d.arena node → is_in_document d.arena.trees node.label ≡ true → Holds v node
   inside_held v is node held e = subst (λ w. Holds w node) is (record {
     slot = held;
-    here = inside_left d.arena.trees d.arena.next (arena_forest d.arena law) (out_of d) refl node.label (lt_true 0 (count_of _ node.label) e);
+    here = inside_detached d.arena.trees d.arena.next (arena_forest d.arena law) (out_of d) refl node.label (lt_true 0 (count_of _ node.label) e);
   })
 
   pub grow_is : (v : Whole) → seen d ≡ v → (p : Point) → may_grow v.state p ≡ (is_open v.state p.label && (is_in_document d.arena.trees p.label && nat_lt p.offset (length_of v.state.trees p.label)))

@@ -5,8 +5,8 @@ use Rattle.std.proofs.lemmas.Bool.{and_parts, ltb-true}
 use Rattle.dom_model.specs.declared.Content.{Content}
 use Rattle.dom_model.specs.Contents.{length_of}
 use Rattle.dom_model.specs.Forest.{Forest, count_of, tree_of, IsDistinct}
-use Rattle.dom_model.specs.Shed.{shed}
-use Rattle.dom_model.specs.State.{IsLawful as IsArena}
+use Rattle.dom_model.specs.Pruned.{pruned}
+use Rattle.dom_model.specs.ArenaState.{IsValid as IsArena}
 use Rattle.live_range.specs.declared.places.Pair.{Pair}
 use Rattle.live_range.specs.declared.places.Point.{Point}
 use Rattle.live_range.specs.LivePoints.{LivePoints}
@@ -15,15 +15,15 @@ use Rattle.undo_log.specs.Log.Open.{Closed}
 use Rattle.point_order.specs.PointOrder.{is_in_document, is_placed, is_before}
 use Rattle.edit_model.specs.declared.settings.Setting.{Setting}
 use Rattle.edit_model.specs.Edit.{changed, overrides_after}
-use Rattle.edit_model.specs.Lawful.{IsPlacedPair, IsPlaced}
+use Rattle.edit_model.specs.Valid.{IsPlacedPair, IsPlaced}
 use Rattle.edit_model.specs.Overrides.{no_overrides}
 use Rattle.edit_doc.specs.declared.Doc.TheInside.{Inside}
 use Rattle.edit_parts.specs.declared.overrides.Watch.{Watch}
 use Rattle.edit_parts.specs.Following.{Watches, settled}
 use Rattle.edit_doc.specs.Whole.{Whole, with_state}
 use Rattle.edit_doc.specs.History.{seen_trees, whole_of}
-use Rattle.edit_doc.specs.Sound.{IsSound}
-use Rattle.edit_doc.proofs.Before.{before_left}
+use Rattle.edit_doc.specs.Sound.{IsSoundDoc}
+use Rattle.edit_doc.proofs.Before.{before_detached}
 use Rattle.edit_doc.proofs.Chosen.{moved_to, other_ok}
 use Rattle.edit_doc.proofs.Found.{tree_of-fewer}
 use Rattle.edit_doc.proofs.HiddenTrees.{placed-whole}
@@ -33,27 +33,27 @@ use Rattle.edit_doc.proofs.SeenNodes.{out_of}
 
 -- ---- the active range
 
-placed_left : (g : Forest Content) (p : Point) → is_placed g p ≡ true → 0 < count_of g p.label
+placed_detached : (g : Forest Content) (p : Point) → is_placed g p ≡ true → 0 < count_of g p.label
 unfolding is_placed
-placed_left g p e =
+placed_detached g p e =
     let inside : 0 < count_of (tree_of g 0) p.label = ltb-true 0 (count_of (tree_of g 0) p.label) (and_parts (is_in_document g p.label) (nat_le p.offset (length_of g p.label)) e).0 in
     omega (arith, inside, tree_of-fewer g 0 p.label)
 
 module _ (k : ℕ → Bool) (f : Forest Content) (once : IsDistinct f) where
-  pair_left : (p : Pair) → IsPlacedPair (shed k f) p → is_before (shed k f) p.focus p.anchor ≡ is_before f p.focus p.anchor
-  pair_left p h = before_left k f once p.focus p.anchor (placed_left (shed k f) p.focus h.focus) (placed_left (shed k f) p.anchor h.anchor)
+  pair_detached : (p : Pair) → IsPlacedPair (pruned k f) p → is_before (pruned k f) p.focus p.anchor ≡ is_before f p.focus p.anchor
+  pair_detached p h = before_detached k f once p.focus p.anchor (placed_detached (pruned k f) p.focus h.focus) (placed_detached (pruned k f) p.anchor h.anchor)
 
   ranged : Pair → Pair → Bool → Bool → Bool
   ranged p q was is =
       not (same_point (if was then p.focus else p.anchor) (if is then q.focus else q.anchor) && same_point (if was then p.anchor else p.focus) (if is then q.anchor else q.focus))
 
-  range_left : (was is : Option Pair) → IfSome was (IsPlacedPair (shed k f)) → IfSome is (IsPlacedPair (shed k f)) →
-      range_changed (is_before (shed k f)) (is_before (shed k f)) was is ≡ range_changed (is_before f) (is_before f) was is
+  range_detached : (was is : Option Pair) → IfSome was (IsPlacedPair (pruned k f)) → IfSome is (IsPlacedPair (pruned k f)) →
+      range_changed (is_before (pruned k f)) (is_before (pruned k f)) was is ≡ range_changed (is_before f) (is_before f) was is
   unfolding ranged
-  range_left None None p q = refl
-  range_left None (Some y) p q = refl
-  range_left (Some x) None p q = refl
-  range_left (Some x) (Some y) p q = λ i. ranged x y (pair_left x p i) (pair_left y q i)
+  range_detached None None p q = refl
+  range_detached None (Some y) p q = refl
+  range_detached (Some x) None p q = refl
+  range_detached (Some x) (Some y) p q = λ i. ranged x y (pair_detached x p i) (pair_detached y q i)
 
 -- ---- the step
 
@@ -67,7 +67,7 @@ settled_length false list h = h
 
 module _ (d : Inside) (law : IsArena d.arena) (ok : Ok d) where
   pub placed_now : IsPlaced d.arena.trees d.points
-  placed_now = placed-whole d.arena.trees d.arena.next (arena_forest d.arena law) (out_of d) refl d.points ok.lawful.placed
+  placed_now = placed-whole d.arena.trees d.arena.next (arena_forest d.arena law) (out_of d) refl d.points ok.valid.placed
 
   module _ (selection scratch : Option Pair) (marks : List (List ℕ × Pair)) (placed : IsPlaced (seen_trees d.log d.command.start d.arena.trees) (moved_to d.points selection scratch marks)) where
     abbrev points : LivePoints
@@ -88,14 +88,14 @@ module _ (d : Inside) (law : IsArena d.arena) (ok : Ok d) where
         ∙ (ap (λ q. settled d.arena.trees d.points d.arena.trees q after) en ∙ ap (λ xs. settled d.arena.trees d.points d.arena.trees points xs) ea)
 
     pub length_settled : length overrides ≡ 32
-    length_settled = settled_length (range_changed (is_before d.arena.trees) (is_before d.arena.trees) d.points.selection selection) d.overrides.items ok.lawful.settings
+    length_settled = settled_length (range_changed (is_before d.arena.trees) (is_before d.arena.trees) d.points.selection selection) d.overrides.items ok.valid.settings
 
-    pub step_ok : (d.log.open_entry ≡ Closed → scratch ≡ None) → IsSound d.arena points overrides d.flags d.counts d.command d.log d.undo_sides.items d.redo_sides.items d.undo_sides.capacity d.redo_sides.capacity
-    step_ok none = other_ok d ok selection scratch marks overrides d.flags placed (settled_length (range_changed (is_before d.arena.trees) (is_before d.arena.trees) d.points.selection selection) d.overrides.items ok.lawful.settings) none
+    pub step_ok : (d.log.open_entry ≡ Closed → scratch ≡ None) → IsSoundDoc d.arena points overrides d.flags d.counts d.command d.log d.undo_sides.items d.redo_sides.items d.undo_sides.capacity d.redo_sides.capacity
+    step_ok none = other_ok d ok selection scratch marks overrides d.flags placed (settled_length (range_changed (is_before d.arena.trees) (is_before d.arena.trees) d.points.selection selection) d.overrides.items ok.valid.settings) none
 
     settled_so : overrides ≡ overrides_after (seen d).state (seen d).state.trees points
     unfolding overrides_after
-    settled_so = ap (λ b. if b then no_overrides else d.overrides.items) (sym (range_left (out_of d) d.arena.trees law.distinct d.points.selection selection ok.lawful.placed.selection placed.selection))
+    settled_so = ap (λ b. if b then no_overrides else d.overrides.items) (sym (range_detached (out_of d) d.arena.trees law.distinct d.points.selection selection ok.valid.placed.selection placed.selection))
 
     pub step_is : (v : Whole) → seen d ≡ v →
         whole_of d.arena points overrides d.flags d.command d.log d.undo_sides.items d.redo_sides.items

@@ -9,7 +9,7 @@ use Rattle.dom_model.specs.Revised.{revised}
 use Rattle.dom_model.proofs.Heights.{levels_low, page_depth-link, page_depth-move, page_depth-revised, page_depth-unlink, page_depth-within}
 use Rattle.dom_model.proofs.Stands.{true_or_false}
 use Rattle.point_order.specs.PointOrder.{is_in_document}
-use Rattle.edit_model.specs.Lawful.{IsForest}
+use Rattle.edit_model.specs.Valid.{IsForest}
 use Rattle.edit_model.proofs.Documents.{document_shape, document-link}
 use Rattle.edit_model.proofs.Forests.{forest-unlink}
 use Rattle.edit_doc.specs.Fields.{IsRaised}

@@ -4,22 +4,22 @@ use Rattle.std.specs.Prelude.{IsTrue, ◌==◌, ◌||◌, nat_le}
 use Rattle.std.proofs.lemmas.Bool.Decides.{nat_tests}
 use Rattle.dom_model.specs.declared.Content.{Content}
 use Rattle.dom_model.specs.Forest.{Forest}
-use Rattle.dom_model.specs.State.{IsLawful as IsArena}
+use Rattle.dom_model.specs.ArenaState.{IsValid as IsArena}
 use Rattle.live_range.specs.declared.places.Places.{Places}
 use Rattle.live_range.specs.LivePoints.{LivePoints}
 use Rattle.live_range.specs.Names.{shown}
 use Rattle.undo_log.specs.Turning.{inverses_back}
 use Rattle.undo_log.specs.Log.{Log, Open, noted, is_open, is_resumed, committed_with}
 use Rattle.undo_log.specs.Log.Open.{Closed, Begun, Resumed}
-use Rattle.forest_changes.specs.Change.{applied, turned}
+use Rattle.forest_changes.specs.Change.{applied, inverse}
 use Rattle.edit_steps.specs.declared.step.Step.{Step}
 use Rattle.edit_steps.specs.Step.{changes_of}
 use Rattle.edit_model.specs.State.{State}
-use Rattle.edit_model.specs.Lawful.{IsForest}
+use Rattle.edit_model.specs.Valid.{IsForest}
 use Rattle.edit_model.specs.History.{document_of, rested, recorded, with_entry, view_of, entry_of, used}
 use Rattle.edit_model.proofs.Documents.{document_shape}
 use Rattle.edit_doc.specs.declared.Doc.TheInside.{Inside}
-use Rattle.edit_doc.specs.declared.command.Beside.{Beside}
+use Rattle.edit_doc.specs.declared.command.EntrySnapshot.{EntrySnapshot}
 use Rattle.edit_doc.specs.declared.command.Sides.{Sides}
 use Rattle.edit_doc.specs.declared.command.Command.{Command}
 use Rattle.edit_doc.specs.Fields.{IsEnded, AreResting, EntersIn, Enters, made_sides}
@@ -27,14 +27,14 @@ use Rattle.edit_doc.specs.GivingUp.{loose_roots}
 use Rattle.node_arena.specs.declared.NodeRef.{NodeRef}
 use Rattle.edit_doc.specs.Whole.{Whole, history_committed, committed_history}
 use Rattle.edit_doc.specs.History.{edits_before, roots_from, state_of, begun_state, began_with, history_of, undo_entries, view_at}
-use Rattle.edit_doc.specs.Sound.{IsBeside, UndoSound, RedoSound, next_first}
+use Rattle.edit_doc.specs.Sound.{IsSnapshot, UndoSound, RedoSound, next_first}
 use Rattle.edit_doc.proofs.Inner.{seen, Ok}
 use Rattle.edit_doc.proofs.Laid.{undo_count, undo_later, next_first_low}
 use Rattle.edit_doc.proofs.HiddenTrees.{model_forest}
 use Rattle.edit_doc.proofs.Rests.{AtRest, rest_state}
 use Rattle.edit_doc.proofs.Rolls.{run, g, xs, forest_g, bound_g}
 use Rattle.edit_doc.proofs.Commits.{placed_now, document_now}
-use Rattle.edit_doc.proofs.Enters.{undo-take, undo_entries-take, made_beside}
+use Rattle.edit_doc.proofs.Enters.{undo-take, undo_entries-take, made_snapshot}
 use Rattle.edit_doc.proofs.MadeNodes.{count_edits}
 
 -- ---- the log
@@ -80,7 +80,7 @@ module _ (d : Inside) (law : IsArena d.arena) (ok : Ok d) (opened : IsTrue (is_o
 
   -- ---- a document whose history has the entry
 
-  module _ (log : Log Step) (closed : log.open_entry ≡ Closed) (redo : log.redo ≡ []) (depth : log.depth ≡ d.log.depth) (us : List Beside) (c : Command) (ended : IsEnded d.arena.next c) where
+  module _ (log : Log Step) (closed : log.open_entry ≡ Closed) (redo : log.redo ≡ []) (depth : log.depth ≡ d.log.depth) (us : List EntrySnapshot) (c : Command) (ended : IsEnded d.arena.next c) where
     module _ (undo : UndoSound d.arena.held d.points.names false c d.arena.next d.arena.trees log.undo us) where
       pub ends : AtRest d.arena rested_points d.overrides.items d.flags d.counts c log us [] d.undo_sides.capacity d.redo_sides.capacity
       ends = record {
@@ -91,13 +91,13 @@ module _ (d : Inside) (law : IsArena d.arena) (ok : Ok d) (opened : IsTrue (is_o
           host = ended.host;
           keeping = ended.keeping;
           named = ended.named;
-          left = ended.left;
-          left_before = ended.left_before;
+          detached = ended.detached;
+          detached_before = ended.detached_before;
           scratch = resting.resting;
         };
         resumed = ended.resumed;
         placed = placed_now d law ok opened p resting;
-        settings = ok.lawful.settings;
+        settings = ok.valid.settings;
         nodes = ok.nodes;
         chars = ok.chars;
         depth = ok.depth;
@@ -152,25 +152,25 @@ module _ (d : Inside) (law : IsArena d.arena) (ok : Ok d) (opened : IsTrue (is_o
 
   -- ---- an entry that the command began
 
-  module _ (begun : is_resumed d.log.open_entry ≡ false) (c : Command) (starts : c.start ≡ d.arena.next) (us : List Beside) (out : Option Beside) where
+  module _ (begun : is_resumed d.log.open_entry ≡ false) (c : Command) (starts : c.start ≡ d.arena.next) (us : List EntrySnapshot) (out : Option EntrySnapshot) where
     abbrev roots : List NodeRef
-    roots = loose_roots d.arena.trees d.command.left.items
+    roots = loose_roots d.arena.trees d.command.detached.items
 
     begun_undo : UndoSound d.arena.held d.points.names false d.command high before d.log.undo d.undo_sides.items
     begun_undo = subst (λ r. UndoSound d.arena.held d.points.names r d.command high before d.log.undo d.undo_sides.items) (ok.resumed ∙ begun) ok.undo
 
     start_le : d.command.start ≤ c.start
-    start_le = (let s = starts in let t = ok.lawful.started in omega (arith, s, t))
+    start_le = (let s = starts in let t = ok.valid.started in omega (arith, s, t))
 
-    pub with_first : (b : Beside) → b.sides ≡ made_sides d.command p d.counts → b.left.items ≡ roots →
+    pub with_first : (b : EntrySnapshot) → b.sides ≡ made_sides d.command p d.counts → b.detached.items ≡ roots →
         UndoSound d.arena.held d.points.names false c d.arena.next d.arena.trees (steps ∷ d.log.undo) (b ∷ d.undo_sides.items)
     with_first b same none =
         let f = d.arena.trees in
-        let ts = inverses_back applied turned (changes_of steps) f in
+        let ts = inverses_back applied inverse (changes_of steps) f in
         let rest = undo_later d.arena.held d.points.names d.command c start_le high d.command.start before d.log.undo d.undo_sides.items high_le start_le begun_undo in (
           (run d law ok opened).can,
           (
-            subst (λ n. IsBeside d.points.names before f steps ts b b.left.items d.arena.next n) (sym starts) (made_beside d law ok opened p resting b b.left.items none same),
+            subst (λ n. IsSnapshot d.points.names before f steps ts b b.detached.items d.arena.next n) (sym starts) (made_snapshot d law ok opened p resting b b.detached.items none same),
             subst (λ (s : Sides). UndoSound d.arena.held d.points.names false c s.first_label before d.log.undo d.undo_sides.items) (sym same) rest,
           ),
         )

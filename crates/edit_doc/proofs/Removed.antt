@@ -1,24 +1,25 @@
 -- An edit that removes a tree, which becomes loose.
-use Rattle.live_range.specs.Edit.{has_label}
+use Rattle.live_range.specs.PointsEdit.{has_label}
 use Rattle.std.proofs.Common.{◌≡◌, ℕ, zero, suc, ◌+◌, ◌<◌, ◌≤◌, true, false, List, [], ◌∷◌, ◌++◌, length, Option, Some, None, refl, sym, ap, subst, ◌∙◌, arith, inl, inr}
 use Rattle.std.specs.Prelude.{IsSome, unwrap_or}
 use Rattle.dom_model.specs.declared.Content.{Content}
 use Rattle.dom_model.specs.Document.{node_count, char_count, page_depth}
 use Rattle.dom_model.specs.Forest.{Forest, preorder, tree_of, parent_of, next_of, unlink}
 use Rattle.dom_model.specs.Places.{index_of}
-use Rattle.dom_model.specs.Shed.{shed}
-use Rattle.dom_model.specs.State.{State as Arena, IsLawful as IsArena, IsSlotted}
-use Rattle.dom_model.proofs.Shedding.{count_of-shed, parent_of-shed, tree_of-shed}
+use Rattle.dom_model.specs.Pruned.{pruned}
+use Rattle.dom_model.specs.ArenaState.{ArenaState as Arena, IsValid as IsArena, IsSlotted}
+use Rattle.dom_model.proofs.Pruning.{count_of-pruned, parent_of-pruned, tree_of-pruned}
 use Rattle.node_arena.specs.declared.NodeRef.{NodeRef}
-use Rattle.live_range.specs.Edit as range
+use Rattle.live_range.specs.PointsEdit as range
 use Rattle.live_range.specs.LivePoints.{LivePoints, mapped}
-use Rattle.forest_changes.specs.Change.{Loosen, applied, turned}
+use Rattle.forest_changes.specs.Change.{applied, inverse}
+use Rattle.dom_model.specs.Change as change
 use Rattle.forest_changes.specs.Named.{Each, named, listed}
 use Rattle.forest_changes.specs.Down.{IsLeft}
 use Rattle.forest_changes.proofs.Twice.{forest_of}
 use Rattle.edit_steps.specs.declared.step.Step.{Step}
 use Rattle.edit_steps.specs.declared.step.Step.TheVariants.{Unlink}
-use Rattle.edit_steps.specs.Step.{StepFits, change_of, step_applied, step_turned}
+use Rattle.edit_steps.specs.Step.{StepFits, change_of, step_applied, step_inverse}
 use Rattle.undo_log.specs.Log.{Log, with_step}
 use Rattle.edit_model.specs.declared.settings.Setting.{Setting}
 use Rattle.edit_model.specs.Edit.{Remove, is_made_edit, change_of as edit_change, trees_after, points_after}
@@ -35,33 +36,33 @@ use Rattle.edit_doc.specs.Marks.{Marks, IsMarked, AreMarkable, place_labels, has
 use Rattle.edit_doc.proofs.Changing.{Follows, run}
 use Rattle.edit_doc.proofs.Edited.{Makes, Applied, edit_linked}
 use Rattle.edit_doc.proofs.Inner.{seen, Ok, open_of}
-use Rattle.edit_doc.proofs.SeenLookUps.{index_left}
+use Rattle.edit_doc.proofs.SeenLookUps.{index_detached}
 use Rattle.edit_doc.proofs.Rests.{arena_forest}
 use Rattle.edit_doc.proofs.Raised.{unlinked_depth}
 use Rattle.edit_doc.proofs.SeenNodes.{out_of, held_seen, parent_seen}
 use Rattle.edit_doc.proofs.Settling.{overrides_next, overrides_are}
 
 -- the tree of n was left loose, which stood under p before o
-follows : (c b d : Command) (node parent : NodeRef) (o : Option NodeRef) (f : Forest Content) → record b { left = c.left } ≡ c → b.left.items ≡ c.left.items ++ node ∷ [] →
-    parent_of f node.label ≡ Some parent.label → label_of o ≡ next_of f node.label → Marks (place_labels node parent o) b d → Follows c d (Loosen node.label) (turned (Loosen node.label) f)
-unfolding turned
-follows c b d node parent o f same left up next m = record {
+follows : (c b d : Command) (node parent : NodeRef) (o : Option NodeRef) (f : Forest Content) → record b { detached = c.detached } ≡ c → b.detached.items ≡ c.detached.items ++ node ∷ [] →
+    parent_of f node.label ≡ Some parent.label → label_of o ≡ next_of f node.label → Marks (place_labels node parent o) b d → Follows c d (change.Remove node.label) (inverse (change.Remove node.label) f)
+unfolding inverse
+follows c b d node parent o f same detached up next m = record {
   start = ap (λ (k : Command). k.start) m.rest ∙ ap (λ (k : Command). k.start) same;
   host = ap (λ (k : Command). k.host) m.rest ∙ ap (λ (k : Command). k.host) same;
   keeping = ap (λ (k : Command). k.keeping) m.rest ∙ ap (λ (k : Command). k.keeping) same;
   resumed = ap (λ (k : Command). k.resumed) m.rest ∙ ap (λ (k : Command). k.resumed) same;
   kept = ap (λ (k : Command). k.kept) m.rest ∙ ap (λ (k : Command). k.kept) same;
-  left_before = ap (λ (k : Command). k.left_before) m.rest ∙ ap (λ (k : Command). k.left_before) same;
+  detached_before = ap (λ (k : Command). k.detached_before) m.rest ∙ ap (λ (k : Command). k.detached_before) same;
   count = m.count ∙ ap (λ (k : Command). length k.named.items) same;
   stay = λ l h. m.stay l (subst (λ k. IsMarked k l) (sym same) h);
   marked = (m.marked.0, tt);
-  marked_turned = subst (λ q. Each (IsMarked d) (node.label ∷ unwrap_or q 0 ∷ listed (next_of f node.label))) (sym up) (subst (λ q. Each (IsMarked d) (node.label ∷ parent.label ∷ listed q)) next m.marked);
+  marked_inverse = subst (λ q. Each (IsMarked d) (node.label ∷ unwrap_or q 0 ∷ listed (next_of f node.label))) (sym up) (subst (λ q. Each (IsMarked d) (node.label ∷ parent.label ∷ listed q)) next m.marked);
   only = λ l h. elim (m.only l h) [
     | inl t ↦ inl (subst (λ k. has_named k l ≡ true) same t)
     | inr t ↦ inr (inr (subst (λ q. has_label (node.label ∷ unwrap_or q 0 ∷ listed (next_of f node.label)) l ≡ true) (sym up) (subst (λ q. has_label (node.label ∷ parent.label ∷ listed q) l ≡ true) next t)))
   ];
   more = node ∷ [];
-  left = ap (λ (k : Command). k.left.items) m.rest ∙ left;
+  detached = ap (λ (k : Command). k.detached.items) m.rest ∙ detached;
   loosed_is = refl;
 }
 
@@ -69,7 +70,7 @@ module _ (d : Inside) (law : IsArena d.arena) (v : Whole) (is : seen d ≡ v) (n
   markable : (r : NodeRef) → Holds v r → r.label < d.command.start + length d.command.named.items
   markable r h =
       let here = (held_seen d v is r h).here in
-      let below = law.below r.label (omega (arith, here, count_of-shed (out_of d) d.arena.trees r.label)) in
+      let below = law.below r.label (omega (arith, here, count_of-pruned (out_of d) d.arena.trees r.label)) in
       let marks = (run d.arena d.points d.overrides.items d.flags d.counts d.command d.log d.undo_sides.items d.redo_sides.items d.undo_sides.capacity d.redo_sides.capacity law (open_of d v is now_open) ok).marks in
       omega (arith, below, marks)
 
@@ -99,7 +100,7 @@ module _ (d : Inside) (law : IsArena d.arena) (v : Whole) (is : seen d ≡ v) (n
       f = d.arena.trees
 
       abbrev g : Forest Content
-      g = shed (out_of d) d.arena.trees
+      g = pruned (out_of d) d.arena.trees
 
       pub fits : StepFits (Unlink node) d.arena
       fits = record {
@@ -108,27 +109,27 @@ module _ (d : Inside) (law : IsArena d.arena) (v : Whole) (is : seen d ≡ v) (n
         held = ((held_seen d v is node holds).slot, tt);
       }
 
-      pub left : Each (IsLeft (out_of d) d.arena.trees) (named (change_of (Unlink node)))
-      left = ((held_seen d v is node holds).here, tt)
+      pub detached : Each (IsLeft (out_of d) d.arena.trees) (named (change_of (Unlink node)))
+      detached = ((held_seen d v is node holds).here, tt)
 
       pub trees : applied (change_of (Unlink node)) g ≡ trees_after (Remove node.label) g
       unfolding applied trees_after
       trees = refl
 
-      pub points_are : mapped (range.Removed (preorder (tree_of f node.label)) parent.label (index_of f node.label)) d.points ≡ points_after (Remove node.label) g d.points
+      pub points_are : mapped (range.Remove (preorder (tree_of f node.label)) parent.label (index_of f node.label)) d.points ≡ points_after (Remove node.label) g d.points
       unfolding points_after
       points_are =
           let here = (held_seen d v is node holds).here in
-          let t : tree_of f node.label ≡ tree_of g node.label = sym (tree_of-shed (out_of d) f node.label law.distinct here) in
-          let p : Some parent.label ≡ parent_of g node.label = sym (parent_of-shed (out_of d) f node.label law.distinct here ∙ up) in
-          let x : index_of f node.label ≡ index_of g node.label = sym (index_left (out_of d) f law.distinct node.label here) in
-          λ i. mapped (range.Removed (preorder (t i)) (unwrap_or (p i) 0) (x i)) d.points
+          let t : tree_of f node.label ≡ tree_of g node.label = sym (tree_of-pruned (out_of d) f node.label law.distinct here) in
+          let p : Some parent.label ≡ parent_of g node.label = sym (parent_of-pruned (out_of d) f node.label law.distinct here ∙ up) in
+          let x : index_of f node.label ≡ index_of g node.label = sym (index_detached (out_of d) f law.distinct node.label here) in
+          λ i. mapped (range.Remove (preorder (t i)) (unwrap_or (p i) 0) (x i)) d.points
 
-      unlinked : unlink f node.label ≡ applied (Loosen node.label) f
+      unlinked : unlink f node.label ≡ applied (change.Remove node.label) f
       unfolding applied
       unlinked = refl
 
-      depth_is : (new : ℕ) → new ≡ d.counts.depth → page_depth (applied (Loosen node.label) f) ≤ new
+      depth_is : (new : ℕ) → new ≡ d.counts.depth → page_depth (applied (change.Remove node.label) f) ≤ new
       depth_is new same =
           let low = unlinked_depth f d.arena.next (arena_forest d.arena law) node.label (inner_child node.label up) in
           subst (λ t. page_depth t ≤ new) unlinked (omega (arith, low, ok.depth, same))
@@ -139,26 +140,26 @@ module _ (d : Inside) (law : IsArena d.arena) (v : Whole) (is : seen d ≡ v) (n
           inner_child (suc l) child = omega arith
 
       module _ (points : LivePoints) (overrides : List Setting) (counts : Counts) (b c : Command) (o : Option NodeRef) (next : label_of o ≡ next_of d.arena.trees node.label)
-          (same : record b { left = d.command.left } ≡ d.command) (pushed : b.left.items ≡ d.command.left.items ++ node ∷ []) (m : Marks (place_labels node parent o) b c)
-          (points_is : points ≡ mapped (range.Removed (preorder (tree_of d.arena.trees node.label)) parent.label (index_of d.arena.trees node.label)) d.points)
-          (overrides_is : overrides ≡ overrides_next d v is law now_open ok (Remove node.label) (Unlink node) fits left may trees)
+          (same : record b { detached = d.command.detached } ≡ d.command) (pushed : b.detached.items ≡ d.command.detached.items ++ node ∷ []) (m : Marks (place_labels node parent o) b c)
+          (points_is : points ≡ mapped (range.Remove (preorder (tree_of d.arena.trees node.label)) parent.label (index_of d.arena.trees node.label)) d.points)
+          (overrides_is : overrides ≡ overrides_next d v is law now_open ok (Remove node.label) (Unlink node) fits detached may trees)
           (nodes : counts.nodes ≡ node_count (unlink d.arena.trees node.label)) (chars : counts.chars ≡ char_count (unlink d.arena.trees node.label)) (depth : counts.depth ≡ d.counts.depth) where
         removes : Makes d (Remove node.label) (Unlink node) points overrides counts c
         unfolding edit_change
         removes = record {
           fits = fits;
-          seen = left;
+          seen = detached;
           follows = follows d.command b c node parent o f same pushed up next m;
           names = ap (λ (p : LivePoints). p.names) points_is;
           change = refl;
           trees = trees;
           points_are = points_is ∙ points_are;
-          overrides_are = overrides_is ∙ overrides_are d v is law now_open ok (Remove node.label) (Unlink node) fits left may trees;
+          overrides_are = overrides_is ∙ overrides_are d v is law now_open ok (Remove node.label) (Unlink node) fits detached may trees;
           nodes = nodes ∙ ap node_count unlinked;
           chars = chars ∙ ap char_count unlinked;
           depth = depth_is counts.depth depth;
         }
 
-        pub unlink_done : (arena : Arena) (log : Log Step) → arena ≡ step_applied (Unlink node) d.arena → log ≡ with_step d.log (step_turned (Unlink node) d.arena) → Applied d v (Remove node.label) arena points overrides counts c log
+        pub unlink_done : (arena : Arena) (log : Log Step) → arena ≡ step_applied (Unlink node) d.arena → log ≡ with_step d.log (step_inverse (Unlink node) d.arena) → Applied d v (Remove node.label) arena points overrides counts c log
         unlink_done arena log arena_is log_is =
             edit_linked d v is law now_open ok (Remove node.label) (Unlink node) points overrides counts c may removes arena log arena_is log_is

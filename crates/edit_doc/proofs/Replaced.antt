@@ -1,5 +1,5 @@
 -- An edit that replaces characters of a text.
-use Rattle.live_range.specs.Edit.{has_label}
+use Rattle.live_range.specs.PointsEdit.{has_label}
 use Rattle.std.proofs.Common.{◌≡◌, ℕ, ◌<◌, ◌^◌, Bool, true, false, List, [], ◌∷◌, length, Some, unwrap_or, refl, sym, ap, subst, ◌∙◌, arith, inl, inr}
 use Rattle.std.specs.Prelude.{◌&&◌}
 use Rattle.std.specs.Option.{option_map_or, option_and_then}
@@ -10,21 +10,21 @@ use Rattle.dom_model.specs.Contents.{has_chars, chars_in, chars_of, with_chars}
 use Rattle.dom_model.specs.Document.{node_count, char_count, page_depth}
 use Rattle.dom_model.specs.Forest.{Forest, total, content_of, tree_of}
 use Rattle.dom_model.specs.Revised.{revised}
-use Rattle.dom_model.specs.Shed.{shed}
-use Rattle.dom_model.specs.State.{State as Arena, IsLawful as IsArena, IsSlotted}
+use Rattle.dom_model.specs.Pruned.{pruned}
+use Rattle.dom_model.specs.ArenaState.{ArenaState as Arena, IsValid as IsArena, IsSlotted}
 use Rattle.dom_model.proofs.Revising.{total-revised}
-use Rattle.dom_model.proofs.Shedding.{IsDistinct-shed}
+use Rattle.dom_model.proofs.Pruning.{IsDistinct-pruned}
 use Rattle.node_arena.specs.declared.NodeRef.{NodeRef}
-use Rattle.live_range.specs.Edit as range
+use Rattle.live_range.specs.PointsEdit as range
 use Rattle.live_range.specs.LivePoints.{LivePoints, Fits, mapped}
-use Rattle.forest_changes.specs.Change.{Rewrite, applied, turned}
+use Rattle.forest_changes.specs.Change.{SetText, applied, inverse}
 use Rattle.forest_changes.specs.Named.{Each, named}
 use Rattle.forest_changes.specs.Down.{IsLeft}
 use Rattle.forest_changes.proofs.Twice.{forest_of}
-use Rattle.forest_changes.proofs.ShedChanges.{content_of-shed}
+use Rattle.forest_changes.proofs.PrunedChanges.{content_of-pruned}
 use Rattle.edit_steps.specs.declared.step.Step.{Step}
 use Rattle.edit_steps.specs.declared.step.Step.TheVariants.{Words as Rewords}
-use Rattle.edit_steps.specs.Step.{StepFits, change_of, step_applied, step_turned}
+use Rattle.edit_steps.specs.Step.{StepFits, change_of, step_applied, step_inverse}
 use Rattle.undo_log.specs.Log.{Log, with_step}
 use Rattle.edit_model.specs.declared.settings.Setting.{Setting}
 use Rattle.edit_model.specs.State.{State}
@@ -53,22 +53,22 @@ and_false : (a : Bool) → (a && false) ≡ false
 and_false true = refl
 and_false false = refl
 
-follows : (c d : Command) (n : ℕ) (words : List ℕ) (f : Forest Content) → Marks (n ∷ []) c d → Follows c d (Rewrite n words) (turned (Rewrite n words) f)
-unfolding turned
+follows : (c d : Command) (n : ℕ) (words : List ℕ) (f : Forest Content) → Marks (n ∷ []) c d → Follows c d (SetText n words) (inverse (SetText n words) f)
+unfolding inverse
 follows c d n words f m = record {
   start = ap (λ (k : Command). k.start) m.rest;
   host = ap (λ (k : Command). k.host) m.rest;
   keeping = ap (λ (k : Command). k.keeping) m.rest;
   resumed = ap (λ (k : Command). k.resumed) m.rest;
   kept = ap (λ (k : Command). k.kept) m.rest;
-  left_before = ap (λ (k : Command). k.left_before) m.rest;
+  detached_before = ap (λ (k : Command). k.detached_before) m.rest;
   count = m.count;
   stay = m.stay;
   marked = (m.marked.0, tt);
-  marked_turned = (m.marked.0, tt);
+  marked_inverse = (m.marked.0, tt);
   only = λ l h. elim (m.only l h) [ inl t ↦ inl t | inr t ↦ inr (inl t) ];
   more = [];
-  left = ap (λ (k : Command). k.left.items) m.rest ∙ sym (append-nil c.left.items);
+  detached = ap (λ (k : Command). k.detached.items) m.rest ∙ sym (append-nil c.detached.items);
   loosed_is = refl;
 }
 
@@ -84,18 +84,18 @@ module _ (d : Inside) (law : IsArena d.arena) (v : Whole) (is : seen d ≡ v) (n
   unfolding is_made_edit may_replace
   not_replace_here off = rw (content_here, off) (and_false (is_own v.state node.label))
 
-  pub points_fit : Ok d → is_own v.state node.label ≡ true → may_change (Some con) at count put ≡ true → Fits (range.Replaced node.label at count (length put)) d.points
+  pub points_fit : Ok d → is_own v.state node.label ≡ true → may_change (Some con) at count put ≡ true → Fits (range.Replace node.label at count (length put)) d.points
   unfolding is_made_edit
   points_fit ok own change =
       let may : is_made_edit (Replace node.label at count put) (seen d).state ≡ true = subst (λ (w : Whole). is_made_edit (Replace node.label at count put) w.state ≡ true) (sym is) (may_replace_here own change) in
       let capped = law.capped in
       let low = law.small in
-      fits-replace (seen d).state node.label at count put ok.lawful (omega (arith, capped, low)) may
+      fits-replace (seen d).state node.label at count put ok.valid (omega (arith, capped, low)) may
 
   module _ (slotted : IsSlotted d.arena) (now_open : IsOpen v) (ok : Ok d) (own : is_own v.state node.label ≡ true) (change : may_change (Some con) at count put ≡ true)
       (words : List ℕ) (words_are : Words words ≡ with_replaced at count put con) (short : length words < 2 ^ 32) where
     abbrev g : Forest Content
-    g = shed (out_of d) d.arena.trees
+    g = pruned (out_of d) d.arena.trees
 
     t : Changes (Some con) at count put
     t = changes (Some con) at count put change
@@ -113,61 +113,61 @@ module _ (d : Inside) (law : IsArena d.arena) (v : Whole) (is : seen d ≡ v) (n
       held = ((held_seen d v is node holds).slot, tt);
     }
 
-    pub left : Each (IsLeft (out_of d) d.arena.trees) (named (change_of (Rewords node words)))
-    left = ((held_seen d v is node holds).here, tt)
+    pub detached : Each (IsLeft (out_of d) d.arena.trees) (named (change_of (Rewords node words)))
+    detached = ((held_seen d v is node holds).here, tt)
 
     pub trees : applied (change_of (Rewords node words)) g ≡ trees_after (Replace node.label at count put) g
     unfolding applied trees_after
-    trees = revised_same g node.label (with_chars words) (with_replaced at count put) con (IsDistinct-shed (out_of d) d.arena.trees law.distinct)
-        (content_of-shed (out_of d) d.arena.trees node.label (forest_of d.arena law) (held_seen d v is node holds).here ∙ content) same
+    trees = revised_same g node.label (with_chars words) (with_replaced at count put) con (IsDistinct-pruned (out_of d) d.arena.trees law.distinct)
+        (content_of-pruned (out_of d) d.arena.trees node.label (forest_of d.arena law) (held_seen d v is node holds).here ∙ content) same
 
     words_same : words ≡ spliced (unwrap_or (chars_of g node.label) []) at count put
     words_same =
-        let seen_here : content_of g node.label ≡ Some (Words t.chars) = content_of-shed (out_of d) d.arena.trees node.label (forest_of d.arena law) (held_seen d v is node holds).here ∙ (content ∙ ap Some con_is) in
+        let seen_here : content_of g node.label ≡ Some (Words t.chars) = content_of-pruned (out_of d) d.arena.trees node.label (forest_of d.arena law) (held_seen d v is node holds).here ∙ (content ∙ ap Some con_is) in
         let both : Words words ≡ Words (spliced t.chars at count put) = words_are ∙ ap (with_replaced at count put) con_is in
         let own_is : words ≡ spliced t.chars at count put = cc in
         own_is ∙ sym (ap (λ o. spliced (unwrap_or (option_and_then chars_in o) []) at count put) seen_here)
 
     change_is : change_of (Rewords node words) ≡ edit_change (Replace node.label at count put) g
     unfolding edit_change
-    change_is = ap (Rewrite node.label) words_same
+    change_is = ap (SetText node.label) words_same
 
-    nodes_same : node_count (applied (Rewrite node.label words) d.arena.trees) ≡ node_count d.arena.trees
+    nodes_same : node_count (applied (SetText node.label words) d.arena.trees) ≡ node_count d.arena.trees
     unfolding applied
     nodes_same = ap (total (λ _ _. 1)) (tree_of-revised node.label (with_chars words) d.arena.trees 0) ∙ total-revised node.label (with_chars words) (λ _. 1) (tree_of d.arena.trees 0)
 
-    depth_same : page_depth (applied (Rewrite node.label words) d.arena.trees) ≡ page_depth d.arena.trees
+    depth_same : page_depth (applied (SetText node.label words) d.arena.trees) ≡ page_depth d.arena.trees
     unfolding applied
     depth_same = revised_depth d.arena.trees d.arena.next (arena_forest d.arena law) node.label (with_chars words)
 
-    chars_same : char_count (revised d.arena.trees node.label (with_replaced at count put)) ≡ char_count (applied (Rewrite node.label words) d.arena.trees)
+    chars_same : char_count (revised d.arena.trees node.label (with_replaced at count put)) ≡ char_count (applied (SetText node.label words) d.arena.trees)
     unfolding applied
     chars_same = ap char_count (sym (revised_same d.arena.trees node.label (with_chars words) (with_replaced at count put) con law.distinct content same))
 
-    pub points_are : mapped (range.Replaced node.label at count (length put)) d.points ≡ points_after (Replace node.label at count put) g d.points
+    pub points_are : mapped (range.Replace node.label at count (length put)) d.points ≡ points_after (Replace node.label at count put) g d.points
     unfolding points_after
     points_are = refl
 
     module _ (points : LivePoints) (overrides : List Setting) (counts : Counts) (c : Command) (m : Marks (node.label ∷ []) d.command c)
-        (points_is : points ≡ mapped (range.Replaced node.label at count (length put)) d.points)
-        (overrides_is : overrides ≡ overrides_next d v is law now_open ok (Replace node.label at count put) (Rewords node words) fits left (freed_edit (Replace node.label at count put) v.state (may_replace_here own change)) trees)
+        (points_is : points ≡ mapped (range.Replace node.label at count (length put)) d.points)
+        (overrides_is : overrides ≡ overrides_next d v is law now_open ok (Replace node.label at count put) (Rewords node words) fits detached (freed_edit (Replace node.label at count put) v.state (may_replace_here own change)) trees)
         (nodes : counts.nodes ≡ d.counts.nodes) (depth : counts.depth ≡ d.counts.depth) (chars : counts.chars ≡ char_count (revised d.arena.trees node.label (with_replaced at count put))) where
       replaces : Makes d (Replace node.label at count put) (Rewords node words) points overrides counts c
       replaces = record {
         fits = fits;
-        seen = left;
+        seen = detached;
         follows = follows d.command c node.label words d.arena.trees m;
         names = ap (λ (p : LivePoints). p.names) points_is;
         change = change_is;
         trees = trees;
         points_are = points_is ∙ points_are;
-        overrides_are = overrides_is ∙ overrides_are d v is law now_open ok (Replace node.label at count put) (Rewords node words) fits left (freed_edit (Replace node.label at count put) v.state (may_replace_here own change)) trees;
+        overrides_are = overrides_is ∙ overrides_are d v is law now_open ok (Replace node.label at count put) (Rewords node words) fits detached (freed_edit (Replace node.label at count put) v.state (may_replace_here own change)) trees;
         nodes = nodes ∙ (ok.nodes ∙ sym nodes_same);
         chars = chars ∙ chars_same;
         depth = (let low = ok.depth in omega (arith, depth_same, low, depth));
       }
 
-      pub replace_done : (arena : Arena) (log : Log Step) → arena ≡ step_applied (Rewords node words) d.arena → log ≡ with_step d.log (step_turned (Rewords node words) d.arena) → Done d v (Replace node.label at count put) arena points overrides counts c log
+      pub replace_done : (arena : Arena) (log : Log Step) → arena ≡ step_applied (Rewords node words) d.arena → log ≡ with_step d.log (step_inverse (Rewords node words) d.arena) → Done d v (Replace node.label at count put) arena points overrides counts c log
       replace_done arena log arena_is log_is =
           edit_called d v is law now_open ok (Replace node.label at count put) (Rewords node words) points overrides counts c (may_replace_here own change) replaces arena log arena_is log_is
 

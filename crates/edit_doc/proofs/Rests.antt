@@ -3,8 +3,8 @@ use Rattle.std.proofs.Common.{◌≡◌, ℕ, ◌<◌, ◌≤◌, false, List, [
 use Rattle.dom_model.specs.declared.Content.{Content}
 use Rattle.dom_model.specs.Document.{node_count, char_count, page_depth}
 use Rattle.dom_model.specs.Forest.{Forest, tops, times, count_of}
-use Rattle.dom_model.specs.Shed.{shed}
-use Rattle.dom_model.specs.State.{State as Arena, IsLawful as IsArena}
+use Rattle.dom_model.specs.Pruned.{pruned}
+use Rattle.dom_model.specs.ArenaState.{ArenaState as Arena, IsValid as IsArena}
 use Rattle.live_range.specs.LivePoints.{LivePoints}
 use Rattle.undo_log.specs.Log.{Log, noted, is_resumed}
 use Rattle.undo_log.specs.Log.Open.{Closed}
@@ -15,17 +15,17 @@ use Rattle.edit_steps.specs.declared.step.Step.{Step}
 use Rattle.edit_model.specs.declared.settings.Setting.{Setting}
 use Rattle.edit_model.specs.declared.settings.Flags.{Flags}
 use Rattle.edit_model.specs.Gives.{label_of}
-use Rattle.edit_model.specs.Lawful.{IsLawful, IsForest, IsPlaced}
+use Rattle.edit_model.specs.Valid.{IsValid, IsForest, IsPlaced}
 use Rattle.edit_model.specs.State.{State}
 use Rattle.edit_model.specs.History.{document_of}
 use Rattle.edit_model.proofs.Resting.{forest-document, leaves-document}
 use Rattle.edit_model.proofs.Points.{points_left}
 use Rattle.edit_parts.specs.declared.Counts.{Counts}
-use Rattle.edit_doc.specs.declared.command.Beside.{Beside}
+use Rattle.edit_doc.specs.declared.command.EntrySnapshot.{EntrySnapshot}
 use Rattle.edit_doc.specs.declared.command.Command.{Command}
 use Rattle.edit_doc.specs.History.{edits_before, roots_from, begun_forest, forest_before, is_hidden, seen_trees, state_of, begun_state, began_with, history_of, whole_of}
 use Rattle.node_arena.specs.declared.NodeRef.{NodeRef}
-use Rattle.edit_doc.specs.Sound.{RefIn, IsIdle, OpenSound, UndoSound, RedoSound, AreNeeded, next_first, IsSound}
+use Rattle.edit_doc.specs.Sound.{RefIn, IsIdle, OpenSound, UndoSound, RedoSound, AreNeeded, next_first, IsSoundDoc}
 use Rattle.edit_doc.proofs.HiddenTrees.{hidden_is, seen_at_rest, model_forest, placed-whole}
 use Rattle.edit_doc.proofs.MadeNodes.{no_edits, roots-none}
 
@@ -55,7 +55,7 @@ rested_state a points overrides flags = record {
   made = [];
 }
 
-module _ (a : Arena) (points : LivePoints) (overrides : List Setting) (flags : Flags) (counts : Counts) (c : Command) (log : Log Step) (us rs : List Beside) (us_room rs_room : ℕ) where
+module _ (a : Arena) (points : LivePoints) (overrides : List Setting) (flags : Flags) (counts : Counts) (c : Command) (log : Log Step) (us rs : List EntrySnapshot) (us_room rs_room : ℕ) where
   -- what has to hold of the fields outside commands
   pub record AtRest : Type 0 where
     pub law : IsArena a
@@ -77,8 +77,8 @@ module _ (a : Arena) (points : LivePoints) (overrides : List Setting) (flags : F
 
   pub trees_are : IsArena a → log.open_entry ≡ Closed → c.start ≡ a.next → seen_trees log c.start a.trees ≡ document_of a.trees
   trees_are law closed start =
-      ap (λ g. shed (is_hidden g c.start) a.trees) (forest_is closed)
-      ∙ (ap (λ n. shed (is_hidden a.trees n) a.trees) start ∙ seen_at_rest a.trees a.next (arena_forest a law))
+      ap (λ g. pruned (is_hidden g c.start) a.trees) (forest_is closed)
+      ∙ (ap (λ n. pruned (is_hidden a.trees n) a.trees) start ∙ seen_at_rest a.trees a.next (arena_forest a law))
 
   pub rest_state : AtRest → state_of a points overrides flags c log ≡ rested_state a points overrides flags
   rest_state r = λ i. record {
@@ -108,8 +108,8 @@ module _ (a : Arena) (points : LivePoints) (overrides : List Setting) (flags : F
     held = a.held;
   }
 
-  lawful_rest : AtRest → IsLawful (rested_state a points overrides flags)
-  lawful_rest r =
+  valid_rest : AtRest → IsValid (rested_state a points overrides flags)
+  valid_rest r =
       let f = arena_forest a r.law in
       record {
         forest = forest-document a.trees a.next f;
@@ -118,11 +118,11 @@ module _ (a : Arena) (points : LivePoints) (overrides : List Setting) (flags : F
         settings = r.settings;
       }
 
-  pub rest_sound : AtRest → AreNeeded c.start a.trees log.undo log.redo → IsSound a points overrides flags counts c log us rs us_room rs_room
+  pub rest_sound : AtRest → AreNeeded c.start a.trees log.undo log.redo → IsSoundDoc a points overrides flags counts c log us rs us_room rs_room
   rest_sound r needed =
       let e = forest_is r.closed in
       record {
-        lawful = subst IsLawful (sym (rest_state r)) (lawful_rest r);
+        valid = subst IsValid (sym (rest_state r)) (valid_rest r);
         some_label = (let s = r.idle.start in let t = r.law.below 0 r.law.document in omega arith);
         nodes = r.nodes;
         chars = r.chars;
@@ -138,7 +138,7 @@ module _ (a : Arena) (points : LivePoints) (overrides : List Setting) (flags : F
         rs_room_is = r.rs_room_is;
       }
 
-  pub rest_of : IsArena a → log.open_entry ≡ Closed → IsSound a points overrides flags counts c log us rs us_room rs_room → AtRest
+  pub rest_of : IsArena a → log.open_entry ≡ Closed → IsSoundDoc a points overrides flags counts c log us rs us_room rs_room → AtRest
   rest_of law closed ok =
       let e = forest_is closed in
       let idle : IsIdle c points a.next = subst (λ o. OpenSound a points c (begun_forest log a.trees) o) closed ok.running in
@@ -149,8 +149,8 @@ module _ (a : Arena) (points : LivePoints) (overrides : List Setting) (flags : F
         closed = closed;
         idle = idle;
         resumed = resumed;
-        placed = placed-whole a.trees a.next f (is_hidden (begun_forest log a.trees) c.start) refl points ok.lawful.placed;
-        settings = ok.lawful.settings;
+        placed = placed-whole a.trees a.next f (is_hidden (begun_forest log a.trees) c.start) refl points ok.valid.placed;
+        settings = ok.valid.settings;
         nodes = ok.nodes;
         chars = ok.chars;
         depth = ok.depth;

@@ -2,27 +2,27 @@
 use Rattle.std.proofs.Common.{◌≡◌, ℕ, ◌<◌, ◌≤◌, true, false, List, [], ◌∷◌, length, take, Option, refl, sym, ap, subst, ◌∙◌, arith}
 use Rattle.dom_model.specs.declared.Content.{Content}
 use Rattle.dom_model.specs.Forest.{Forest}
-use Rattle.dom_model.specs.State.{IsLawful as IsArena}
+use Rattle.dom_model.specs.ArenaState.{IsValid as IsArena}
 use Rattle.node_arena.specs.declared.NodeRef.{NodeRef}
 use Rattle.undo_log.specs.Turning.{inverses_back}
 use Rattle.undo_log.specs.Log.{resumed as resumed_log}
 use Rattle.undo_log.specs.Log.Open.{Closed}
-use Rattle.forest_changes.specs.Change.{applied, turned}
+use Rattle.forest_changes.specs.Change.{applied, inverse}
 use Rattle.edit_steps.specs.declared.step.Step.{Step}
 use Rattle.edit_steps.specs.Step.{changes_of}
 use Rattle.edit_model.specs.Gives.{label_of}
 use Rattle.edit_doc.specs.declared.Doc.TheInside.{Inside}
-use Rattle.edit_doc.specs.declared.command.Beside.{Beside}
+use Rattle.edit_doc.specs.declared.command.EntrySnapshot.{EntrySnapshot}
 use Rattle.edit_doc.specs.declared.command.Kept.{Kept}
 use Rattle.edit_doc.specs.declared.command.Command.{Command}
 use Rattle.edit_doc.specs.Fields.{IsKept, SwapsLeft}
 use Rattle.edit_doc.specs.Whole.{opened}
 use Rattle.edit_doc.specs.Held.{IfHeld}
 use Rattle.edit_doc.specs.History.{forest_before, undo_entries, redo_entries, whole_of}
-use Rattle.edit_doc.specs.Sound.{IsBeside, UndoSound, next_first, IsSound}
+use Rattle.edit_doc.specs.Sound.{IsSnapshot, UndoSound, next_first, IsSoundDoc}
 use Rattle.edit_doc.proofs.Inner.{seen, Ok}
-use Rattle.edit_doc.proofs.Laid.{beside_later, undo_later, redo_later, next_first_low, undo_sides_length}
-use Rattle.edit_doc.proofs.Rolls.{beside_of}
+use Rattle.edit_doc.proofs.Laid.{snapshot_later, undo_later, redo_later, next_first_low, undo_sides_length}
+use Rattle.edit_doc.proofs.Rolls.{snapshot_of}
 use Rattle.edit_doc.proofs.Begins.{Opens, rest, take_all, held_host, needed_now, opened_ok, opened_is}
 
 -- the command but for its left trees
@@ -31,29 +31,29 @@ record Swapped (c m : Command) : Type 0 where
   named : m.named.items ≡ c.named.items
   keeping : m.keeping ≡ c.keeping
 
-swapped : (us new : List Beside) (c m : Command) → SwapsLeft us new c m → Swapped c m
+swapped : (us new : List EntrySnapshot) (c m : Command) → SwapsLeft us new c m → Swapped c m
 swapped [] new c m h = absurd h
 swapped (b ∷ bs) new c m h = record { start = ap (λ (x : Command). x.start) h.1; named = ap (λ (x : Command). x.named.items) h.1; keeping = ap (λ (x : Command). x.keeping) h.1 }
 
-swapped_entries : (names : List (List ℕ)) (f : Forest Content) (es : List (List Step)) (us new : List Beside) (c m : Command) → SwapsLeft us new c m → undo_entries names f es new ≡ undo_entries names f es us
+swapped_entries : (names : List (List ℕ)) (f : Forest Content) (es : List (List Step)) (us new : List EntrySnapshot) (c m : Command) → SwapsLeft us new c m → undo_entries names f es new ≡ undo_entries names f es us
 swapped_entries names f es [] new c m h = absurd h
 swapped_entries names f [] (b ∷ bs) new c m h = refl
 swapped_entries names f (e ∷ es) (b ∷ bs) new c m h = ap (undo_entries names f (e ∷ es)) h.0
 
-swapped_undo : (held : List (Option ℕ)) (names : List (List ℕ)) (c m r : Command) → c.start ≤ r.start → r.left.items ≡ m.left.items → r.left_before ≡ length r.left.items →
-    (high : ℕ) (f : Forest Content) (es : List (List Step)) (us new : List Beside) → high ≤ r.start → SwapsLeft us new c m → UndoSound held names false c high f es us → UndoSound held names true r high f es new
+swapped_undo : (held : List (Option ℕ)) (names : List (List ℕ)) (c m r : Command) → c.start ≤ r.start → r.detached.items ≡ m.detached.items → r.detached_before ≡ length r.detached.items →
+    (high : ℕ) (f : Forest Content) (es : List (List Step)) (us new : List EntrySnapshot) → high ≤ r.start → SwapsLeft us new c m → UndoSound held names false c high f es us → UndoSound held names true r high f es new
 swapped_undo held names c m r le same all high f es [] new known h u = absurd h
 swapped_undo held names c m r le same all high f [] (b ∷ bs) new known h u = absurd u
 swapped_undo held names c m r le same all high f (e ∷ es) (b ∷ bs) new known h u =
-    let ts = inverses_back applied turned (changes_of e) f in
-    let b' : Beside = record b { left = c.left } in
-    let left : b.left.items ≡ take r.left_before r.left.items = sym (take_all r.left_before r.left.items all ∙ (same ∙ ap (λ (x : Command). x.left.items) h.1)) in
-    let own = beside_of names (forest_before e f) f e ts b b' b.left.items high r.start refl (beside_later names (forest_before e f) f e ts b b.left.items high c.start high r.start u.1.0 (omega arith) known) in
+    let ts = inverses_back applied inverse (changes_of e) f in
+    let b' : EntrySnapshot = record b { detached = c.detached } in
+    let detached : b.detached.items ≡ take r.detached_before r.detached.items = sym (take_all r.detached_before r.detached.items all ∙ (same ∙ ap (λ (x : Command). x.detached.items) h.1)) in
+    let own = snapshot_of names (forest_before e f) f e ts b b' b.detached.items high r.start refl (snapshot_later names (forest_before e f) f e ts b b.detached.items high c.start high r.start u.1.0 (omega arith) known) in
     let first : b.sides.first_label ≤ r.start = (let t = u.1.0.drawn in omega arith) in
     subst (λ ns. UndoSound held names true r high f (e ∷ es) ns) (sym h.0) (
       u.0,
       (
-        subst (λ ls. IsBeside names (forest_before e f) f e ts b' ls high r.start) left own,
+        subst (λ ls. IsSnapshot names (forest_before e f) f e ts b' ls high r.start) detached own,
         undo_later held names c r le b.sides.first_label b.sides.first_label (forest_before e f) es bs (omega arith) first u.1.1,
       ),
     )
@@ -65,9 +65,9 @@ module _ (d : Inside) (law : IsArena d.arena) (closed : d.log.open_entry ≡ Clo
       let n = undo_sides_length d.arena.held d.points.names d.command false (next_first d.command.start d.redo_sides.items) d.arena.trees d.log.undo d.undo_sides.items r.undo in
       omega (arith, n, h)
 
-  module _ (k : Kept) (host : Option NodeRef) (keeps : IsKept d.points d.overrides.items d.flags d.counts k) (us : List Beside) (m : Command) (swaps : SwapsLeft d.undo_sides.items us d.command m) (n : ℕ) (all : n ≡ length m.left.items) where
+  module _ (k : Kept) (host : Option NodeRef) (keeps : IsKept d.points d.overrides.items d.flags d.counts k) (us : List EntrySnapshot) (m : Command) (swaps : SwapsLeft d.undo_sides.items us d.command m) (n : ℕ) (all : n ≡ length m.detached.items) where
     abbrev command : Command
-    command = record m { host = host; resumed = true; left_before = n; kept = k }
+    command = record m { host = host; resumed = true; detached_before = n; kept = k }
 
     opens : Opens d command (resumed_log d.log)
     opens =
@@ -77,7 +77,7 @@ module _ (d : Inside) (law : IsArena d.arena) (closed : d.log.open_entry ≡ Clo
           start = s.start;
           named = s.named ∙ r.idle.named;
           kept = keeps;
-          left_before = all;
+          detached_before = all;
           none = refl;
           depth = refl;
         }
@@ -85,7 +85,7 @@ module _ (d : Inside) (law : IsArena d.arena) (closed : d.log.open_entry ≡ Clo
     start_le : d.command.start ≤ command.start
     start_le = (let e = opens.start in omega (arith, e))
 
-    pub resume_ok : IfHeld (seen d) host → IsSound d.arena d.points d.overrides.items d.flags d.counts command (resumed_log d.log) us d.redo_sides.items d.undo_sides.capacity d.redo_sides.capacity
+    pub resume_ok : IfHeld (seen d) host → IsSoundDoc d.arena d.points d.overrides.items d.flags d.counts command (resumed_log d.log) us d.redo_sides.items d.undo_sides.capacity d.redo_sides.capacity
     resume_ok held =
         let r = rest d law closed ok in
         let high = next_first d.command.start d.redo_sides.items in

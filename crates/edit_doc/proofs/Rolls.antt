@@ -4,9 +4,9 @@ use Rattle.std.specs.Prelude.{IsTrue, nat_le}
 use Rattle.dom_model.specs.declared.Content.{Content}
 use Rattle.dom_model.specs.Document.{node_count, char_count, page_depth}
 use Rattle.dom_model.specs.Forest.{Forest, tops, times, count_of, tree_of, parent_of, first_of, IsDistinct}
-use Rattle.dom_model.specs.Shed.{shed, IsWhole}
-use Rattle.dom_model.specs.State.{State as Arena, IsLawful as IsArena, IsSlotted}
-use Rattle.dom_model.proofs.Shedding.{count_of-shed, whole_stays}
+use Rattle.dom_model.specs.Pruned.{pruned, IsWhole}
+use Rattle.dom_model.specs.ArenaState.{ArenaState as Arena, IsValid as IsArena, IsSlotted}
+use Rattle.dom_model.proofs.Pruning.{count_of-pruned, whole_stays}
 use Rattle.dom_model.proofs.Stands.{true_or_false}
 use Rattle.dom_model.proofs.Links.{parent_count}
 use Rattle.dom_model.proofs.Drop.{leaf_out}
@@ -19,10 +19,10 @@ use Rattle.undo_log.specs.Turning.{back, inverses_back, FitsBack}
 use Rattle.undo_log.specs.Log.{Log, IsLog, Open, noted, is_open, is_resumed, abandoned}
 use Rattle.undo_log.specs.Log.Open.{Closed, Begun, Resumed}
 use Rattle.undo_log.specs.States.{start, start_with}
-use Rattle.forest_changes.specs.Change.{Change, IsForest, applied, turned}
+use Rattle.forest_changes.specs.Change.{Change, IsForest, applied, inverse}
 use Rattle.forest_changes.specs.Named.{Each, named_in}
-use Rattle.forest_changes.specs.Down.{Sheds, IsLeft}
-use Rattle.forest_changes.proofs.DownChange.{sheds_whole}
+use Rattle.forest_changes.specs.Down.{Prunes, IsLeft}
+use Rattle.forest_changes.proofs.DownChange.{prunes_whole}
 use Rattle.forest_changes.proofs.Twice.{forest_of}
 use Rattle.edit_steps.specs.declared.step.Step.{Step}
 use Rattle.edit_steps.specs.Step.{changes_of, step_applied, StepFits}
@@ -30,31 +30,31 @@ use Rattle.edit_steps.proofs.StepLists.{go_back, back_fits}
 use Rattle.edit_model.specs.declared.settings.Setting.{Setting}
 use Rattle.edit_model.specs.declared.settings.Flags.{Flags}
 use Rattle.edit_model.specs.State.{State}
-use Rattle.edit_model.specs.Lawful.{IsPlaced}
+use Rattle.edit_model.specs.Valid.{IsPlaced}
 use Rattle.edit_model.specs.History.{used, document_of}
 use Rattle.edit_parts.specs.declared.Counts.{Counts}
 use Rattle.edit_doc.specs.declared.Doc.TheInside.{Inside}
-use Rattle.edit_doc.specs.declared.command.Beside.{Beside}
+use Rattle.edit_doc.specs.declared.command.EntrySnapshot.{EntrySnapshot}
 use Rattle.edit_doc.specs.declared.command.Sides.{Sides}
 use Rattle.edit_doc.specs.declared.command.Command.{Command}
 use Rattle.edit_doc.specs.Fields.{IsEnded, ForgetsIn, Forgets}
 use Rattle.edit_doc.specs.Whole.{Whole, state_rolled_back, rolled_to}
 use Rattle.edit_doc.specs.Held.{KeepsThere}
 use Rattle.edit_doc.specs.History.{edits_before, roots_from, forest_before, forest_after, is_hidden, view_at, begun_forest, state_of, begun_state, began_with, history_of, undo_entries, redo_entries, whole_of}
-use Rattle.edit_doc.specs.Sound.{RefIn, AreFresh, AreAlone, IsSide, IsBeside, IsRunning, OpenSound, UndoSound, RedoSound, EntriesOff, AreNeeded, next_first, IsSound}
-use Rattle.edit_doc.proofs.HiddenTrees.{tops_left, le_false, true_le, false_le, document-shed, model_forest}
-use Rattle.edit_doc.proofs.Downs.{back_forest, back_bounded, forth_labels, back_labels, Bounded, KeepsLeft, EntriesLeft, side-shed, undo-shed, redo-shed, undo_entries-shed, redo_entries-shed}
+use Rattle.edit_doc.specs.Sound.{RefIn, AreFresh, AreAlone, IsSide, IsSnapshot, IsRunning, OpenSound, UndoSound, RedoSound, EntriesOff, AreNeeded, next_first, IsSoundDoc}
+use Rattle.edit_doc.proofs.HiddenTrees.{tops_detached, le_false, true_le, false_le, document-pruned, model_forest}
+use Rattle.edit_doc.proofs.Downs.{back_forest, back_bounded, forth_labels, back_labels, Bounded, KeepsLeft, EntriesLeft, side-pruned, undo-pruned, redo-pruned, undo_entries-pruned, redo_entries-pruned}
 use Rattle.edit_doc.proofs.Inner.{seen, Ok}
 use Rattle.edit_doc.proofs.Laid.{undo_later, redo_later, next_first_low, undo_sides_length}
-use Rattle.edit_doc.proofs.Off.{tree_shed, entries_moved as entries_off}
+use Rattle.edit_doc.proofs.Off.{tree_pruned, entries_moved as entries_off}
 use Rattle.edit_doc.proofs.Rests.{AtRest, rest_sound, rest_state, none_noted}
 
 -- ---- an entry's left trees
 
 -- an entry depends on the sides alone
-pub beside_of : (names : List (List ℕ)) (before after : Forest Content) (e : List Step) (ts : List Change) (b c : Beside) (left : List NodeRef) (high start : ℕ) →
-    b.sides ≡ c.sides → IsBeside names before after e ts b left high start → IsBeside names before after e ts c left high start
-beside_of names before after e ts b c left high start same h = record {
+pub snapshot_of : (names : List (List ℕ)) (before after : Forest Content) (e : List Step) (ts : List Change) (b c : EntrySnapshot) (detached : List NodeRef) (high start : ℕ) →
+    b.sides ≡ c.sides → IsSnapshot names before after e ts b detached high start → IsSnapshot names before after e ts c detached high start
+snapshot_of names before after e ts b c detached high start same h = record {
   was = subst (λ (s : Sides). IsSide names before s.before s.nodes_before s.chars_before s.depth_before) same h.was;
   is = subst (λ (s : Sides). IsSide names after s.after s.nodes_after s.chars_after s.depth_after) same h.is;
   some_label = subst (λ (s : Sides). 0 < s.first_label) same h.some_label;
@@ -66,26 +66,26 @@ beside_of names before after e ts b c left high start same h = record {
   names_there = subst (λ (s : Sides). Each (IsLeft (is_hidden before s.first_label) after) (named_in (changes_of e))) same h.names_there;
   names_old = h.names_old;
   turns_old = h.turns_old;
-  left_loose = h.left_loose;
-  left_all = h.left_all;
+  detached_loose = h.detached_loose;
+  detached_all = h.detached_all;
 }
 
 module _ (held : List (Option ℕ)) (names : List (List ℕ)) (c : Command) where
-  pub undo_forgets : (r : Bool) (high : ℕ) (f : Forest Content) (es : List (List Step)) (us new : List Beside) → ForgetsIn r us new (take c.left_before c.left.items) → UndoSound held names r c high f es us → UndoSound held names false c high f es new
+  pub undo_forgets : (r : Bool) (high : ℕ) (f : Forest Content) (es : List (List Step)) (us new : List EntrySnapshot) → ForgetsIn r us new (take c.detached_before c.detached.items) → UndoSound held names r c high f es us → UndoSound held names false c high f es new
   undo_forgets false high f es us new e h = subst (λ bs. UndoSound held names false c high f es bs) (sym e) h
   undo_forgets true high f es [] new e h = absurd e
   undo_forgets true high f es (b ∷ bs) [] e h = absurd e
   undo_forgets true high f [] (b ∷ bs) (b' ∷ bs') e h = absurd h
   undo_forgets true high f (x ∷ es) (b ∷ bs) (b' ∷ bs') e h =
-      let ts = inverses_back applied turned (changes_of x) f in (
+      let ts = inverses_back applied inverse (changes_of x) f in (
         h.0,
         (
-          beside_of names (forest_before x f) f x ts b b' b'.left.items high c.start (sym e.1.0) (subst (λ ls. IsBeside names (forest_before x f) f x ts b ls high c.start) (sym e.1.1) h.1.0),
+          snapshot_of names (forest_before x f) f x ts b b' b'.detached.items high c.start (sym e.1.0) (subst (λ ls. IsSnapshot names (forest_before x f) f x ts b ls high c.start) (sym e.1.1) h.1.0),
           subst (λ (s : Sides). UndoSound held names false c s.first_label (forest_before x f) es bs') (sym e.1.0) (subst (λ cs. UndoSound held names false c b.sides.first_label (forest_before x f) es cs) (sym e.0) h.1.1),
         ),
       )
 
-  pub entries_forget : (r : Bool) (f : Forest Content) (es : List (List Step)) (us new : List Beside) → ForgetsIn r us new (take c.left_before c.left.items) → undo_entries names f es new ≡ undo_entries names f es us
+  pub entries_forget : (r : Bool) (f : Forest Content) (es : List (List Step)) (us new : List EntrySnapshot) → ForgetsIn r us new (take c.detached_before c.detached.items) → undo_entries names f es new ≡ undo_entries names f es us
   entries_forget false f es us new e = ap (undo_entries names f es) e
   entries_forget true f es [] new e = absurd e
   entries_forget true f es (b ∷ bs) [] e = absurd e
@@ -111,25 +111,25 @@ started_at (Resumed xs) a h = refl
 
 -- the steps of the history name only labels below the start
 module _ (k : ℕ → Bool) (f0 : Forest Content) (held : List (Option ℕ)) (names : List (List ℕ)) (c : Command) (stays : (l : ℕ) → l < c.start → 0 < count_of f0 l → IsLeft k f0 l) where
-  here_left : (f : Forest Content) → ((l : ℕ) → count_of f l ≡ count_of f0 l) → (j : ℕ → Bool) (high : ℕ) → high ≤ c.start → (ls : List ℕ) → Each (IsLeft j f) ls → Each (λ l. l < high) ls → Each (IsLeft k f0) ls
-  here_left f same j high known [] a b = tt
-  here_left f same j high known (l ∷ ls) a b =
-      (stays l (let lt = b.0 in omega (arith, lt, known)) (let s = same l in let here = a.0 in let le = count_of-shed j f l in omega (arith, s, here, le)), here_left f same j high known ls a.1 b.1)
+  here_detached : (f : Forest Content) → ((l : ℕ) → count_of f l ≡ count_of f0 l) → (j : ℕ → Bool) (high : ℕ) → high ≤ c.start → (ls : List ℕ) → Each (IsLeft j f) ls → Each (λ l. l < high) ls → Each (IsLeft k f0) ls
+  here_detached f same j high known [] a b = tt
+  here_detached f same j high known (l ∷ ls) a b =
+      (stays l (let lt = b.0 in omega (arith, lt, known)) (let s = same l in let here = a.0 in let le = count_of-pruned j f l in omega (arith, s, here, le)), here_detached f same j high known ls a.1 b.1)
 
-  pub undo_left : (r : Bool) (high : ℕ) (f : Forest Content) (es : List (List Step)) (bs : List Beside) → ((l : ℕ) → count_of f l ≡ count_of f0 l) → UndoSound held names r c high f es bs → EntriesLeft k f0 es
-  undo_left r high f [] bs same h = tt
-  undo_left r high f (e ∷ es) [] same h = absurd h
-  undo_left r high f (e ∷ es) (b ∷ bs) same h = (
-    here_left f same (is_hidden (forest_before e f) b.sides.first_label) high h.1.0.known (named_in (changes_of e)) h.1.0.names_there h.1.0.names_old,
-    undo_left false b.sides.first_label (forest_before e f) es bs (λ l. back_labels (changes_of e) f l h.0.0 ∙ same l) h.1.1,
+  pub undo_detached : (r : Bool) (high : ℕ) (f : Forest Content) (es : List (List Step)) (bs : List EntrySnapshot) → ((l : ℕ) → count_of f l ≡ count_of f0 l) → UndoSound held names r c high f es bs → EntriesLeft k f0 es
+  undo_detached r high f [] bs same h = tt
+  undo_detached r high f (e ∷ es) [] same h = absurd h
+  undo_detached r high f (e ∷ es) (b ∷ bs) same h = (
+    here_detached f same (is_hidden (forest_before e f) b.sides.first_label) high h.1.0.known (named_in (changes_of e)) h.1.0.names_there h.1.0.names_old,
+    undo_detached false b.sides.first_label (forest_before e f) es bs (λ l. back_labels (changes_of e) f l h.0.0 ∙ same l) h.1.1,
   )
 
-  pub redo_left : (f : Forest Content) (es : List (List Step)) (bs : List Beside) → ((l : ℕ) → count_of f l ≡ count_of f0 l) → RedoSound held names c f es bs → EntriesLeft k f0 es
-  redo_left f [] bs same h = tt
-  redo_left f (e ∷ es) [] same h = absurd h
-  redo_left f (e ∷ es) (b ∷ bs) same h = (
-    here_left f same (is_hidden f b.sides.first_label) (next_first c.start bs) h.1.0.known (named_in (changes_of e)) h.1.0.names_seen h.1.0.names_old,
-    redo_left (forest_after e f) es bs (λ l. forth_labels (changes_of e) f l h.0.0 ∙ same l) h.1.1,
+  pub redo_detached : (f : Forest Content) (es : List (List Step)) (bs : List EntrySnapshot) → ((l : ℕ) → count_of f l ≡ count_of f0 l) → RedoSound held names c f es bs → EntriesLeft k f0 es
+  redo_detached f [] bs same h = tt
+  redo_detached f (e ∷ es) [] same h = absurd h
+  redo_detached f (e ∷ es) (b ∷ bs) same h = (
+    here_detached f same (is_hidden f b.sides.first_label) (next_first c.start bs) h.1.0.known (named_in (changes_of e)) h.1.0.names_seen h.1.0.names_old,
+    redo_detached (forest_after e f) es bs (λ l. forth_labels (changes_of e) f l h.0.0 ∙ same l) h.1.1,
   )
 
 -- nodes that are alone are whole trees
@@ -192,30 +192,30 @@ module _ (d : Inside) (law : IsArena d.arena) (ok : Ok d) (opened : IsTrue (is_o
   pub whole_g : IsWhole k g
   whole_g = whole_alone g d.command.start d.arena.next forest_g.distinct below_g run.made
 
-  pub sheds_g : Sheds k g
-  sheds_g = sheds_whole k g forest_g (le_false d.command.start 0 ok.some_label) whole_g
+  pub prunes_g : Prunes k g
+  prunes_g = prunes_whole k g forest_g (le_false d.command.start 0 ok.some_label) whole_g
 
   stays_g : (l : ℕ) → l < d.command.start → 0 < count_of g l → IsLeft k g l
   stays_g l low here = (let s = whole_stays k g forest_g.distinct whole_g l (le_false d.command.start l low) in omega (arith, s, here))
 
-  pub undo_left_g : EntriesLeft k g d.log.undo
-  undo_left_g = undo_left k g d.arena.held d.points.names d.command stays_g d.command.resumed (next_first d.command.start d.redo_sides.items) g d.log.undo d.undo_sides.items (λ l. refl) ok.undo
+  pub undo_detached_g : EntriesLeft k g d.log.undo
+  undo_detached_g = undo_detached k g d.arena.held d.points.names d.command stays_g d.command.resumed (next_first d.command.start d.redo_sides.items) g d.log.undo d.undo_sides.items (λ l. refl) ok.undo
 
-  pub redo_left_g : EntriesLeft k g d.log.redo
-  redo_left_g = redo_left k g d.arena.held d.points.names d.command stays_g g d.log.redo d.redo_sides.items (λ l. refl) ok.redo
+  pub redo_detached_g : EntriesLeft k g d.log.redo
+  redo_detached_g = redo_detached k g d.arena.held d.points.names d.command stays_g g d.log.redo d.redo_sides.items (λ l. refl) ok.redo
 
   -- the arena without them
   pub record Without (a : Arena) : Type 0 where
-    pub lawful : IsArena a
-    pub trees : a.trees ≡ shed k g
+    pub valid : IsArena a
+    pub trees : a.trees ≡ pruned k g
     pub next : d.command.start ≤ a.next
     pub cap : a.cap ≡ d.arena.cap
     pub held : (q : NodeRef) → RefIn d.arena.held q → q.label < d.command.start → RefIn a.held q
 
   -- the fields afterwards
-  module _ (a : Arena) (w : Without a) (us : List Beside) (forgets : Forgets d.undo_sides.items us d.command) (c : Command) (ended : IsEnded a.next c) (log : Log Step) (closed : log.open_entry ≡ Closed) (depth : log.depth ≡ d.log.depth) (dropped : log.dropped ≡ d.log.dropped) (undo_is : log.undo ≡ d.log.undo) (redo_is : log.redo ≡ d.log.redo) where
+  module _ (a : Arena) (w : Without a) (us : List EntrySnapshot) (forgets : Forgets d.undo_sides.items us d.command) (c : Command) (ended : IsEnded a.next c) (log : Log Step) (closed : log.open_entry ≡ Closed) (depth : log.depth ≡ d.log.depth) (dropped : log.dropped ≡ d.log.dropped) (undo_is : log.undo ≡ d.log.undo) (redo_is : log.redo ≡ d.log.redo) where
     keeps : KeepsLeft k g d.arena.held a.held
-    keeps q h left = w.held q h (false_le d.command.start q.label (sheds_g.out q.label left))
+    keeps q h detached = w.held q h (false_le d.command.start q.label (prunes_g.out q.label detached))
 
     start_le : d.command.start ≤ c.start
     start_le = (let s = ended.start in let n = w.next in omega (arith, s, n))
@@ -226,18 +226,18 @@ module _ (d : Inside) (law : IsArena d.arena) (ok : Ok d) (opened : IsTrue (is_o
     undo_sound : UndoSound a.held d.points.names false d.command high a.trees d.log.undo us
     undo_sound =
         subst (λ t. UndoSound a.held d.points.names false d.command high t d.log.undo us) (sym w.trees)
-        (undo_forgets a.held d.points.names d.command d.command.resumed high (shed k g) d.log.undo d.undo_sides.items us forgets
-        (undo-shed k d.arena.held a.held d.points.names d.command d.command.resumed high g d.log.undo d.undo_sides.items sheds_g forest_g bound_g keeps undo_left_g ok.undo))
+        (undo_forgets a.held d.points.names d.command d.command.resumed high (pruned k g) d.log.undo d.undo_sides.items us forgets
+        (undo-pruned k d.arena.held a.held d.points.names d.command d.command.resumed high g d.log.undo d.undo_sides.items prunes_g forest_g bound_g keeps undo_detached_g ok.undo))
 
     redo_sound : RedoSound a.held d.points.names d.command a.trees d.log.redo d.redo_sides.items
     redo_sound =
         subst (λ t. RedoSound a.held d.points.names d.command t d.log.redo d.redo_sides.items) (sym w.trees)
-        (redo-shed k d.arena.held a.held d.points.names d.command g d.log.redo d.redo_sides.items sheds_g forest_g bound_g keeps redo_left_g ok.redo)
+        (redo-pruned k d.arena.held a.held d.points.names d.command g d.log.redo d.redo_sides.items prunes_g forest_g bound_g keeps redo_detached_g ok.redo)
 
     high_le : high ≤ next_first c.start d.redo_sides.items
     high_le = by_case d.redo_sides.items
       where
-        by_case : (bs : List Beside) → next_first d.command.start bs ≤ next_first c.start bs
+        by_case : (bs : List EntrySnapshot) → next_first d.command.start bs ≤ next_first c.start bs
         by_case [] = start_le
         by_case (b ∷ bs) = omega arith
 
@@ -248,15 +248,15 @@ module _ (d : Inside) (law : IsArena d.arena) (ok : Ok d) (opened : IsTrue (is_o
         points.names ≡ d.points.names → points.scratch ≡ None → IsPlaced a.trees points → length overrides ≡ 32 → counts.nodes ≡ node_count a.trees → counts.chars ≡ char_count a.trees → page_depth a.trees ≤ counts.depth →
         AtRest a points overrides flags counts c log us d.redo_sides.items d.undo_sides.capacity d.redo_sides.capacity
     without_rest points overrides flags counts names scratch placed settings nodes chars deep = record {
-      law = w.lawful;
+      law = w.valid;
       closed = closed;
       idle = record {
         start = ended.start;
         host = ended.host;
         keeping = ended.keeping;
         named = ended.named;
-        left = ended.left;
-        left_before = ended.left_before;
+        detached = ended.detached;
+        detached_before = ended.detached_before;
         scratch = scratch;
       };
       resumed = ended.resumed;
@@ -277,9 +277,9 @@ module _ (d : Inside) (law : IsArena d.arena) (ok : Ok d) (opened : IsTrue (is_o
 
     pub without_needed : AreNeeded c.start a.trees log.undo log.redo
     without_needed l inner old top off_undo off_redo =
-        let top' : 0 < times (tops (shed k g)) l = subst (λ t. 0 < times (tops t) l) w.trees top in
-        let was = tops_left k g l top' in
-        let same : (m : ℕ) → count_of (tree_of g l) m ≡ count_of (tree_of a.trees l) m = λ m. sym (ap (λ t. count_of (tree_of t l) m) w.trees ∙ tree_shed l k g forest_g.distinct top' m) in
+        let top' : 0 < times (tops (pruned k g)) l = subst (λ t. 0 < times (tops t) l) w.trees top in
+        let was = tops_detached k g l top' in
+        let same : (m : ℕ) → count_of (tree_of g l) m ≡ count_of (tree_of a.trees l) m = λ m. sym (ap (λ t. count_of (tree_of t l) m) w.trees ∙ tree_pruned l k g forest_g.distinct top' m) in
         ok.needed l inner (false_le d.command.start l was.1) was.0
         (subst (EntriesOff l g) undo_is (entries_off l a.trees g same log.undo off_undo)) (subst (EntriesOff l g) redo_is (entries_off l a.trees g same log.redo off_redo))
 
@@ -292,9 +292,9 @@ module _ (d : Inside) (law : IsArena d.arena) (ok : Ok d) (opened : IsTrue (is_o
           dropped = dropped i;
         })
         ∙ (λ i. record {
-          undo = (entries_forget a.held d.points.names d.command d.command.resumed (shed k g) d.log.undo d.undo_sides.items us forgets
-              ∙ undo_entries-shed k d.arena.held a.held d.points.names d.command d.command.resumed high g d.log.undo d.undo_sides.items sheds_g forest_g bound_g undo_left_g ok.undo) i;
-          redo = redo_entries-shed k d.arena.held a.held d.points.names d.command g d.log.redo d.redo_sides.items sheds_g forest_g bound_g redo_left_g ok.redo i;
+          undo = (entries_forget a.held d.points.names d.command d.command.resumed (pruned k g) d.log.undo d.undo_sides.items us forgets
+              ∙ undo_entries-pruned k d.arena.held a.held d.points.names d.command d.command.resumed high g d.log.undo d.undo_sides.items prunes_g forest_g bound_g undo_detached_g ok.undo) i;
+          redo = redo_entries-pruned k d.arena.held a.held d.points.names d.command g d.log.redo d.redo_sides.items prunes_g forest_g bound_g redo_detached_g ok.redo i;
           depth = d.log.depth;
           dropped = d.log.dropped;
         })
@@ -318,17 +318,17 @@ module _ (d : Inside) (law : IsArena d.arena) (ok : Ok d) (opened : IsTrue (is_o
     pub drop_whole : IsWhole k a1.trees
     drop_whole = subst (λ (b : Arena). IsWhole k b.trees) (sym back_is) whole_g
 
-    module _ (a2 a3 : Arena) (drops : DropsMade a1 a2 d.command.start) (rewinds : a3 ≡ record a2 { next = d.command.start }) (lawful : IsArena a3) where
+    module _ (a2 a3 : Arena) (drops : DropsMade a1 a2 d.command.start) (rewinds : a3 ≡ record a2 { next = d.command.start }) (valid : IsArena a3) where
       rolled : Without a3
       rolled = record {
-        lawful = lawful;
-        trees = ap (λ (b : Arena). b.trees) rewinds ∙ (drops.trees ∙ ap (λ (b : Arena). shed k b.trees) back_is);
+        valid = valid;
+        trees = ap (λ (b : Arena). b.trees) rewinds ∙ (drops.trees ∙ ap (λ (b : Arena). pruned k b.trees) back_is);
         next = (let n = ap (λ (b : Arena). b.next) rewinds in omega (arith, n));
         cap = ap (λ (b : Arena). b.cap) rewinds ∙ (drops.cap ∙ ap (λ (b : Arena). b.cap) back_is);
         held = λ q h low. subst (λ (b : Arena). RefIn b.held q) (sym rewinds) ((drops.held q).1 (subst (λ (b : Arena). RefIn b.held q) (sym back_is) h, low));
       }
 
-      module _ (us : List Beside) (forgets : Forgets d.undo_sides.items us d.command) (c : Command) (ended : IsEnded a3.next c) where
+      module _ (us : List EntrySnapshot) (forgets : Forgets d.undo_sides.items us d.command) (c : Command) (ended : IsEnded a3.next c) where
         abbrev kept_points : LivePoints
         kept_points = shown d.points.names d.command.kept.places
 
@@ -337,7 +337,7 @@ module _ (d : Inside) (law : IsArena d.arena) (ok : Ok d) (opened : IsTrue (is_o
 
         resting : AtRest a3 kept_points d.command.kept.overrides.items d.command.kept.flags d.command.kept.counts c log' us d.redo_sides.items d.undo_sides.capacity d.redo_sides.capacity
         resting =
-            let side = side-shed k sheds_g.document d.points.names g d.command.kept.places d.command.kept.counts.nodes d.command.kept.counts.chars d.command.kept.counts.depth forest_g bound_g run.kept in
+            let side = side-pruned k prunes_g.document d.points.names g d.command.kept.places d.command.kept.counts.nodes d.command.kept.counts.chars d.command.kept.counts.depth forest_g bound_g run.kept in
             without_rest a3 rolled us forgets c ended log' refl refl refl refl refl kept_points d.command.kept.overrides.items d.command.kept.flags d.command.kept.counts
             refl side.resting
             (subst (λ t. IsPlaced t kept_points) (sym rolled.trees) side.placed)
@@ -346,7 +346,7 @@ module _ (d : Inside) (law : IsArena d.arena) (ok : Ok d) (opened : IsTrue (is_o
             (side.chars_are ∙ ap char_count (sym rolled.trees))
             (subst (λ t. page_depth t ≤ d.command.kept.counts.depth) (sym rolled.trees) side.no_deeper)
 
-        pub rolled_ok : IsSound a3 kept_points d.command.kept.overrides.items d.command.kept.flags d.command.kept.counts c log' us d.redo_sides.items d.undo_sides.capacity d.redo_sides.capacity
+        pub rolled_ok : IsSoundDoc a3 kept_points d.command.kept.overrides.items d.command.kept.flags d.command.kept.counts c log' us d.redo_sides.items d.undo_sides.capacity d.redo_sides.capacity
         rolled_ok = rest_sound a3 kept_points d.command.kept.overrides.items d.command.kept.flags d.command.kept.counts c log' us d.redo_sides.items d.undo_sides.capacity d.redo_sides.capacity resting
             (without_needed a3 rolled us forgets c ended log' refl refl refl refl refl)
 
@@ -356,7 +356,7 @@ module _ (d : Inside) (law : IsArena d.arena) (ok : Ok d) (opened : IsTrue (is_o
         begun_is (Resumed ys) s t h = refl
 
         document_is : document_of a3.trees ≡ document_of g
-        document_is = ap document_of rolled.trees ∙ document-shed g bound_g.next (model_forest g forest_g bound_g.next bound_g.below) k sheds_g.document
+        document_is = ap document_of rolled.trees ∙ document-pruned g bound_g.next (model_forest g forest_g bound_g.next bound_g.below) k prunes_g.document
 
         next_is : a3.next ≡ d.command.start
         next_is = ap (λ (b : Arena). b.next) rewinds
@@ -385,8 +385,8 @@ module _ (d : Inside) (law : IsArena d.arena) (ok : Ok d) (opened : IsTrue (is_o
             ap (λ f. history_of d.points.names f log' us d.redo_sides.items) (none_noted log' a3.trees refl)
             ∙ (without_history a3 rolled us forgets c ended log' refl refl refl refl refl d.points.names refl ∙ ap (λ (w : Whole). w.history) sees)
 
-        by_left : (l : ℕ) → 0 < count_of a3.trees l → l < d.command.start
-        by_left l here = false_le d.command.start l (sheds_g.out l (subst (λ t. 0 < count_of t l) rolled.trees here))
+        by_detached : (l : ℕ) → 0 < count_of a3.trees l → l < d.command.start
+        by_detached l here = false_le d.command.start l (prunes_g.out l (subst (λ t. 0 < count_of t l) rolled.trees here))
 
         abbrev rolled_whole : Whole
         rolled_whole = whole_of a3 kept_points d.command.kept.overrides.items d.command.kept.flags c log' us d.redo_sides.items
@@ -394,7 +394,7 @@ module _ (d : Inside) (law : IsArena d.arena) (ok : Ok d) (opened : IsTrue (is_o
         pub rolled_keeps : (v : Whole) → seen d ≡ v → KeepsThere v rolled_whole
         rolled_keeps v sees =
             let own : KeepsThere (seen d) rolled_whole = (λ r h there. record {
-              slot = rolled.held r h.slot (by_left r.label (let le = count_of-shed (is_hidden (begun_forest log' a3.trees) c.start) a3.trees r.label in omega (arith, le, there)));
+              slot = rolled.held r h.slot (by_detached r.label (let le = count_of-pruned (is_hidden (begun_forest log' a3.trees) c.start) a3.trees r.label in omega (arith, le, there)));
               here = there;
             }) in
             subst (λ (w : Whole). KeepsThere w rolled_whole) sees own

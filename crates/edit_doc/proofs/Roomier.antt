@@ -2,9 +2,9 @@
 use Rattle.std.proofs.Common.{◌≡◌, ℕ, ◌<◌, ◌≤◌, Bool, true, false, List, length, take, drop, refl, sym, ap, subst, ◌∙◌, arith}
 use Rattle.dom_model.specs.declared.Content.{Content}
 use Rattle.dom_model.specs.Forest.{Forest, count_of}
-use Rattle.dom_model.specs.Shed.{shed}
-use Rattle.dom_model.specs.State.{State as Arena}
-use Rattle.live_range.specs.Edit.{has_label}
+use Rattle.dom_model.specs.Pruned.{pruned}
+use Rattle.dom_model.specs.ArenaState.{ArenaState as Arena}
+use Rattle.live_range.specs.PointsEdit.{has_label}
 use Rattle.live_range.specs.LivePoints.{LivePoints}
 use Rattle.undo_log.specs.Log.{Log, Open, noted}
 use Rattle.undo_log.specs.Log.Open.{Closed, Begun, Resumed}
@@ -14,20 +14,20 @@ use Rattle.edit_model.specs.declared.settings.Setting.{Setting}
 use Rattle.edit_model.specs.declared.settings.Flags.{Flags}
 use Rattle.edit_model.specs.Gives.{labels_of}
 use Rattle.edit_parts.specs.declared.Counts.{Counts}
-use Rattle.edit_doc.specs.declared.command.Beside.{Beside}
+use Rattle.edit_doc.specs.declared.command.EntrySnapshot.{EntrySnapshot}
 use Rattle.edit_doc.specs.declared.command.Command.{Command}
 use Rattle.edit_doc.specs.History.{begun_forest, is_hidden}
-use Rattle.edit_doc.specs.Sound.{IsRunning, OpenSound, IsSound, left_of, next_first}
+use Rattle.edit_doc.specs.Sound.{IsRunning, OpenSound, IsSoundDoc, detached_of, next_first}
 use Rattle.edit_doc.proofs.Changing.{undo_carried}
 use Rattle.edit_doc.proofs.Laid.{redo_later}
 
-module _ (c : Command) (l : _) (e : (record c { left = l }).left.items ≡ c.left.items) where
+module _ (c : Command) (l : _) (e : (record c { detached = l }).detached.items ≡ c.detached.items) where
   abbrev d : Command
-  d = record c { left = l }
+  d = record c { detached = l }
 
-  left_same : (r : Bool) (b : Beside) → left_of r c b ≡ left_of r d b
-  left_same false b = refl
-  left_same true b = ap (take c.left_before) (sym e)
+  detached_same : (r : Bool) (b : EntrySnapshot) → detached_of r c b ≡ detached_of r d b
+  detached_same false b = refl
+  detached_same true b = ap (take c.detached_before) (sym e)
 
   runs : (a : Arena) (names : List (List ℕ)) (xs : List Step) (g : Forest Content) → IsRunning a names c xs g → IsRunning a names d xs g
   runs a names xs g r = record {
@@ -38,22 +38,22 @@ module _ (c : Command) (l : _) (e : (record c { left = l }).left.items ≡ c.lef
     names_there = r.names_there;
     marks = r.marks;
     marked = r.marked;
-    marked_turned = r.marked_turned;
+    marked_inverse = r.marked_inverse;
     named_all = r.named_all;
-    left_before = subst (λ ns. c.left_before ≤ length ns) (sym e) r.left_before;
-    left_seen = subst (λ ns. Each (λ m. 0 < count_of (shed (is_hidden g c.start) a.trees) m) (labels_of (drop c.left_before ns))) (sym e) r.left_seen;
-    loosened = λ m inner top. subst (λ ns. has_label (labels_of (drop c.left_before ns)) m ≡ true) (sym e) (r.loosened m inner top);
+    detached_before = subst (λ ns. c.detached_before ≤ length ns) (sym e) r.detached_before;
+    detached_seen = subst (λ ns. Each (λ m. 0 < count_of (pruned (is_hidden g c.start) a.trees) m) (labels_of (drop c.detached_before ns))) (sym e) r.detached_seen;
+    newly_detached = λ m inner top. subst (λ ns. has_label (labels_of (drop c.detached_before ns)) m ≡ true) (sym e) (r.newly_detached m inner top);
   }
 
   opens : (a : Arena) (points : LivePoints) (g : Forest Content) (o : Open Step) → OpenSound a points c g o → OpenSound a points d g o
-  opens a points g Closed h = record { start = h.start; host = h.host; keeping = h.keeping; named = h.named; left = e ∙ h.left; left_before = h.left_before; scratch = h.scratch }
+  opens a points g Closed h = record { start = h.start; host = h.host; keeping = h.keeping; named = h.named; detached = e ∙ h.detached; detached_before = h.detached_before; scratch = h.scratch }
   opens a points g (Begun xs) h = runs a points.names (noted (Begun xs)) g h
   opens a points g (Resumed xs) h = runs a points.names (noted (Resumed xs)) g h
 
-  pub room_made : (a : Arena) (points : LivePoints) (overrides : List Setting) (flags : Flags) (counts : Counts) (log : Log Step) (us rs : List Beside) (us_room rs_room : ℕ) →
-      IsSound a points overrides flags counts c log us rs us_room rs_room → IsSound a points overrides flags counts d log us rs us_room rs_room
+  pub room_made : (a : Arena) (points : LivePoints) (overrides : List Setting) (flags : Flags) (counts : Counts) (log : Log Step) (us rs : List EntrySnapshot) (us_room rs_room : ℕ) →
+      IsSoundDoc a points overrides flags counts c log us rs us_room rs_room → IsSoundDoc a points overrides flags counts d log us rs us_room rs_room
   room_made a points overrides flags counts log us rs us_room rs_room ok = record {
-    lawful = ok.lawful;
+    valid = ok.valid;
     some_label = ok.some_label;
     nodes = ok.nodes;
     chars = ok.chars;
@@ -62,7 +62,7 @@ module _ (c : Command) (l : _) (e : (record c { left = l }).left.items ≡ c.lef
     running = opens a points (begun_forest log a.trees) log.open_entry ok.running;
     resumed = ok.resumed;
     host = ok.host;
-    undo = undo_carried a.held points.names c d refl c.resumed (next_first c.start rs) (begun_forest log a.trees) log.undo us (left_same c.resumed) ok.undo;
+    undo = undo_carried a.held points.names c d refl c.resumed (next_first c.start rs) (begun_forest log a.trees) log.undo us (detached_same c.resumed) ok.undo;
     redo = redo_later a.held points.names c d (omega arith) (begun_forest log a.trees) log.redo rs ok.redo;
     needed = ok.needed;
     us_room_is = ok.us_room_is;

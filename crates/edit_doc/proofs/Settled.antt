@@ -3,7 +3,7 @@ use Rattle.std.proofs.Common.{◌≡◌, ℕ, ◌<◌, Bool, true, cond, eqb, Op
 use Rattle.std.specs.Prelude.{IfSome, if◌then◌else◌}
 use Rattle.dom_model.specs.declared.Content.{Content}
 use Rattle.dom_model.specs.Forest.{Forest, count_of, IsDistinct}
-use Rattle.dom_model.specs.Shed.{shed}
+use Rattle.dom_model.specs.Pruned.{pruned}
 use Rattle.dom_model.proofs.Totals.{total-without}
 use Rattle.live_range.specs.declared.places.Point.{Point}
 use Rattle.live_range.specs.declared.places.Pair.{Pair}
@@ -12,21 +12,21 @@ use Rattle.live_range.specs.ActiveRange.{range_changed}
 use Rattle.point_order.specs.PointOrder.{is_before, is_placed}
 use Rattle.edit_model.specs.State.{State}
 use Rattle.edit_model.specs.Edit.{overrides_after}
-use Rattle.edit_model.specs.Lawful.{IsPlaced, IsPlacedPair}
+use Rattle.edit_model.specs.Valid.{IsPlaced, IsPlacedPair}
 use Rattle.edit_model.specs.Overrides.{no_overrides}
 use Rattle.edit_model.proofs.Points.{placed_is}
 use Rattle.edit_parts.specs.Following.{settled}
-use Rattle.edit_doc.proofs.Ordered.{before-left}
+use Rattle.edit_doc.proofs.Ordered.{before-detached}
 
 -- a point of what is left stands at a node that is left
-placed_left : (f : Forest Content) (p : Point) → is_placed f p ≡ true → 0 < count_of f p.label
-placed_left f p h = (let inside = (placed_is f p h).inside in omega (arith, inside, total-without (λ m _. cond (eqb m p.label) 1 0) f 0))
+placed_detached : (f : Forest Content) (p : Point) → is_placed f p ≡ true → 0 < count_of f p.label
+placed_detached f p h = (let inside = (placed_is f p h).inside in omega (arith, inside, total-without (λ m _. cond (eqb m p.label) 1 0) f 0))
 
 module _ (k : ℕ → Bool) where
-  pair_order : (f : Forest Content) (p : Pair) → IsDistinct f → IsPlacedPair (shed k f) p → is_before (shed k f) p.focus p.anchor ≡ is_before f p.focus p.anchor
-  pair_order f p once h = before-left k f once p.focus p.anchor (placed_left (shed k f) p.focus h.focus) (placed_left (shed k f) p.anchor h.anchor)
+  pair_order : (f : Forest Content) (p : Pair) → IsDistinct f → IsPlacedPair (pruned k f) p → is_before (pruned k f) p.focus p.anchor ≡ is_before f p.focus p.anchor
+  pair_order f p once h = before-detached k f once p.focus p.anchor (placed_detached (pruned k f) p.focus h.focus) (placed_detached (pruned k f) p.anchor h.anchor)
 
-  pub range_seen : (f g : Forest Content) (o u : Option Pair) → IsDistinct f → IsDistinct g → IfSome o (IsPlacedPair (shed k f)) → IfSome u (IsPlacedPair (shed k g)) → range_changed (is_before (shed k f)) (is_before (shed k g)) o u ≡ range_changed (is_before f) (is_before g) o u
+  pub range_seen : (f g : Forest Content) (o u : Option Pair) → IsDistinct f → IsDistinct g → IfSome o (IsPlacedPair (pruned k f)) → IfSome u (IsPlacedPair (pruned k g)) → range_changed (is_before (pruned k f)) (is_before (pruned k g)) o u ≡ range_changed (is_before f) (is_before g) o u
   range_seen f g None None once once' h h' = refl
   range_seen f g None (Some q) once once' h h' = refl
   range_seen f g (Some p) None once once' h h' = refl
@@ -35,10 +35,10 @@ module _ (k : ℕ → Bool) where
       let b = pair_order g q once' h' in
       λ i. range_changed (λ _ _. a i) (λ _ _. b i) (Some p) (Some q)
 
-  -- what `settle` leaves is what the definitions say of what is seen
-  pub settled_seen : (f g : Forest Content) (s : State) (after : LivePoints) → IsDistinct f → IsDistinct g → s.trees ≡ shed k f → IsPlaced (shed k f) s.points → IsPlaced (shed k g) after → settled f s.points g after s.overrides ≡ overrides_after s (shed k g) after
+  -- what `unset_overrides_if_range_changed` leaves is what the definitions say of what is seen
+  pub settled_seen : (f g : Forest Content) (s : State) (after : LivePoints) → IsDistinct f → IsDistinct g → s.trees ≡ pruned k f → IsPlaced (pruned k f) s.points → IsPlaced (pruned k g) after → settled f s.points g after s.overrides ≡ overrides_after s (pruned k g) after
   unfolding overrides_after
   settled_seen f g s after once once' trees was is =
       ap (λ b. if b then no_overrides else s.overrides)
       (sym (range_seen f g s.points.selection after.selection once once' was.selection is.selection)
-      ∙ ap (λ t. range_changed (is_before t) (is_before (shed k g)) s.points.selection after.selection) (sym trees))
+      ∙ ap (λ t. range_changed (is_before t) (is_before (pruned k g)) s.points.selection after.selection) (sym trees))

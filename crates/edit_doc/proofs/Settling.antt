@@ -3,8 +3,8 @@ use Rattle.std.proofs.Common.{◌≡◌, Bool, true, false, List, length, Option
 use Rattle.std.specs.Prelude.{if◌then◌else◌}
 use Rattle.dom_model.specs.declared.Content.{Content}
 use Rattle.dom_model.specs.Forest.{Forest}
-use Rattle.dom_model.specs.Shed.{shed}
-use Rattle.dom_model.specs.State.{State as Arena, IsLawful as IsArena}
+use Rattle.dom_model.specs.Pruned.{pruned}
+use Rattle.dom_model.specs.ArenaState.{ArenaState as Arena, IsValid as IsArena}
 use Rattle.live_range.specs.LivePoints.{LivePoints}
 use Rattle.live_range.specs.ActiveRange.{range_changed}
 use Rattle.point_order.specs.PointOrder.{is_before}
@@ -17,10 +17,10 @@ use Rattle.edit_steps.specs.Step.{change_of, step_applied, StepFits}
 use Rattle.edit_model.specs.declared.settings.Setting.{Setting}
 use Rattle.edit_model.specs.Overrides.{no_overrides}
 use Rattle.edit_model.specs.Edit.{Edit, is_made_edit, trees_after, points_after, overrides_after}
-use Rattle.edit_model.specs.Lawful.{IsForest, IsPlaced}
+use Rattle.edit_model.specs.Valid.{IsForest, IsPlaced}
 use Rattle.edit_model.specs.Possible.{freed}
 use Rattle.edit_model.proofs.Made.{made_placed}
-use Rattle.edit_model.proofs.LawfulParts.{lawful_freed}
+use Rattle.edit_model.proofs.ValidParts.{valid_freed}
 use Rattle.edit_parts.specs.declared.overrides.Watch.{Watch}
 use Rattle.edit_parts.specs.Following.{Watches, settled}
 use Rattle.edit_doc.specs.declared.Doc.TheInside.{Inside}
@@ -42,11 +42,11 @@ settled_length false list h = h
 
 module _ (d : Inside) (law : IsArena d.arena) (ok : Ok d) where
   pub points_now : IsPlaced d.arena.trees d.points
-  points_now = placed-whole d.arena.trees d.arena.next (arena_forest d.arena law) (out_of d) refl d.points ok.lawful.placed
+  points_now = placed-whole d.arena.trees d.arena.next (arena_forest d.arena law) (out_of d) refl d.points ok.valid.placed
 
 module _ (d : Inside) (v : Whole) (is : seen d ≡ v) (law : IsArena d.arena) (now_open : IsOpen v) (ok : Ok d)
-    (e : Edit) (x : Step) (fits : StepFits x d.arena) (left : Each (IsLeft (out_of d) d.arena.trees) (named (change_of x))) (may : is_made_edit e (freed v.state) ≡ true)
-    (trees : applied (change_of x) (shed (out_of d) d.arena.trees) ≡ trees_after e (shed (out_of d) d.arena.trees)) where
+    (e : Edit) (x : Step) (fits : StepFits x d.arena) (detached : Each (IsLeft (out_of d) d.arena.trees) (named (change_of x))) (may : is_made_edit e (freed v.state) ≡ true)
+    (trees : applied (change_of x) (pruned (out_of d) d.arena.trees) ≡ trees_after e (pruned (out_of d) d.arena.trees)) where
   abbrev f : Forest Content
   f = d.arena.trees
 
@@ -54,19 +54,19 @@ module _ (d : Inside) (v : Whole) (is : seen d ≡ v) (law : IsArena d.arena) (n
   g = applied (change_of x) d.arena.trees
 
   abbrev after : LivePoints
-  after = points_after e (shed (out_of d) d.arena.trees) d.points
+  after = points_after e (pruned (out_of d) d.arena.trees) d.points
 
   down : GoesDown (out_of d) (change_of x) d.arena.trees
-  down = goes d.arena d.points d.overrides.items d.flags d.counts d.command d.log d.undo_sides.items d.redo_sides.items d.undo_sides.capacity d.redo_sides.capacity law (open_of d v is now_open) ok x fits left
+  down = goes d.arena d.points d.overrides.items d.flags d.counts d.command d.log d.undo_sides.items d.redo_sides.items d.undo_sides.capacity d.redo_sides.capacity law (open_of d v is now_open) ok x fits detached
 
-  shed_is : shed (out_of d) g ≡ trees_after e (shed (out_of d) f)
-  shed_is = down.same ∙ trees
+  pruned_is : pruned (out_of d) g ≡ trees_after e (pruned (out_of d) f)
+  pruned_is = down.same ∙ trees
 
   may_seen : is_made_edit e (freed (seen_of d).state) ≡ true
   may_seen = subst (λ (w : Whole). is_made_edit e (freed w.state) ≡ true) (sym is) may
 
-  placed_seen : IsPlaced (shed (out_of d) g) after
-  placed_seen = subst (λ t. IsPlaced t after) (sym shed_is) (made_placed e (freed (seen_of d).state) (lawful_freed (seen_of d).state ok.lawful) may_seen)
+  placed_seen : IsPlaced (pruned (out_of d) g) after
+  placed_seen = subst (λ t. IsPlaced t after) (sym pruned_is) (made_placed e (freed (seen_of d).state) (valid_freed (seen_of d).state ok.valid) may_seen)
 
   forest_next : IsForest g d.arena.next
   forest_next = model_forest g (IsForest-applied (change_of x) f fits.fits) d.arena.next (λ l h. law.below l (let same = count_of-applied (change_of x) f fits.fits l in omega (arith, h, same)))
@@ -75,15 +75,15 @@ module _ (d : Inside) (v : Whole) (is : seen d ≡ v) (law : IsArena d.arena) (n
   points_next = placed-whole g d.arena.next forest_next (out_of d) refl after placed_seen
 
   abbrev pub overrides_next : List Setting
-  overrides_next = settled d.arena.trees d.points (applied (change_of x) d.arena.trees) (points_after e (shed (out_of d) d.arena.trees) d.points) d.overrides.items
+  overrides_next = settled d.arena.trees d.points (applied (change_of x) d.arena.trees) (points_after e (pruned (out_of d) d.arena.trees) d.points) d.overrides.items
 
-  pub overrides_are : overrides_next ≡ overrides_after (seen_of d).state (trees_after e (shed (out_of d) f)) after
+  pub overrides_are : overrides_next ≡ overrides_after (seen_of d).state (trees_after e (pruned (out_of d) f)) after
   overrides_are =
-      settled_seen (out_of d) f g (seen_of d).state after law.distinct forest_next.distinct refl ok.lawful.placed placed_seen
-      ∙ ap (λ t. overrides_after (seen_of d).state t after) shed_is
+      settled_seen (out_of d) f g (seen_of d).state after law.distinct forest_next.distinct refl ok.valid.placed placed_seen
+      ∙ ap (λ t. overrides_after (seen_of d).state t after) pruned_is
 
   pub overrides_length : length overrides_next ≡ 32
-  overrides_length = settled_length (range_changed (is_before f) (is_before g) d.points.selection after.selection) d.overrides.items ok.lawful.settings
+  overrides_length = settled_length (range_changed (is_before f) (is_before g) d.points.selection after.selection) d.overrides.items ok.valid.settings
 
   -- what settling writes
   pub settled_items : (new before old : List Setting) (n : LivePoints) (a : Arena) (w : Option Watch) → n ≡ after → a ≡ step_applied x d.arena → before ≡ d.overrides.items → old ≡ d.overrides.items →

@@ -8,30 +8,30 @@ use Rattle.dom_model.specs.Editing.{is_host, is_true_state}
 use Rattle.dom_model.specs.Forest.{Forest, IsWithin, total, count_of, tree_of, preorder}
 use Rattle.dom_model.specs.Forest.Forest.{Nil, Tree}
 use Rattle.dom_model.specs.Places.{first_among, first_of_two}
-use Rattle.dom_model.specs.Shed.{shed}
-use Rattle.dom_model.specs.State.{IsLawful as IsArena}
+use Rattle.dom_model.specs.Pruned.{pruned}
+use Rattle.dom_model.specs.ArenaState.{IsValid as IsArena}
 use Rattle.dom_model.proofs.Stands.{true_or_false}
 use Rattle.node_arena.specs.declared.NodeRef.{NodeRef}
 use Rattle.node_arena.specs.Held.{Holds as HoldsNode, Names as NamesNode, label}
-use Rattle.node_arena.specs.Reads.{IsLawful, Names}
+use Rattle.node_arena.specs.Reads.{IsValid, Names}
 use Rattle.edit_doc.specs.declared.Doc.TheInside.{Inside}
 use Rattle.edit_doc.specs.Whole.{Whole, IsDoc}
 use Rattle.edit_doc.specs.Held.{Holds, Finds}
 use Rattle.edit_doc.proofs.Inner.{seen}
 use Rattle.edit_doc.proofs.SeenNodes.{out_of, tree_seen, content_seen}
-use Rattle.edit_doc.proofs.SeenLookUps.{first_of_two-shed}
+use Rattle.edit_doc.proofs.SeenLookUps.{first_of_two-pruned}
 
 -- what a read finds is what it names
 pub names_of : (v : Whole) (o : Option NodeRef) (l : Option ℕ) → Finds v o l → Names (λ r. Holds v r) o l
 names_of v None l finds = record { is = finds.is; held = tt }
 names_of v (Some r) l finds = record { is = finds.is; held = finds.held }
 
-total_shed : (w : ℕ → Content → ℕ) (k : ℕ → Bool) (f : Forest Content) → total w (shed k f) ≤ total w f
-total_shed w k Nil = omega arith
-total_shed w k (Tree m c ks rest) =
+total_pruned : (w : ℕ → Content → ℕ) (k : ℕ → Bool) (f : Forest Content) → total w (pruned k f) ≤ total w f
+total_pruned w k Nil = omega arith
+total_pruned w k (Tree m c ks rest) =
     elim (true_or_false (k m)) [
-      | inl t ↦ rw t (let le = total_shed w k rest in omega (arith, le))
-      | inr t ↦ rw t (let le = total_shed w k rest in omega (arith, le))
+      | inl t ↦ rw t (let le = total_pruned w k rest in omega (arith, le))
+      | inr t ↦ rw t (let le = total_pruned w k rest in omega (arith, le))
     ]
 
 -- the first of two labels is one of them
@@ -55,14 +55,14 @@ first_of_two_is (Tree l c ks rest) a b m e =
     ]
 
 module _ (d : Inside) (law : IsArena d.arena) (v : Whole) (is : seen d ≡ v) where
-  pub shown_lawful : IsDoc v → IsLawful (λ r. Holds v r) v.state.trees v.state.next
-  shown_lawful doc =
-      let forest = doc.lawful.forest in
+  pub shown_valid : IsDoc v → IsValid (λ r. Holds v r) v.state.trees v.state.next
+  shown_valid doc =
+      let forest = doc.valid.forest in
       record {
         distinct = forest.distinct;
         rising = forest.rising;
         below = forest.below;
-        few = subst (λ (w : Whole). total (λ _ _. 1) w.state.trees ≤ w.state.next) is (omega (arith, total_shed (λ _ _. 1) (out_of d) d.arena.trees, law.few));
+        few = subst (λ (w : Whole). total (λ _ _. 1) w.state.trees ≤ w.state.next) is (omega (arith, total_pruned (λ _ _. 1) (out_of d) d.arena.trees, law.few));
         small = subst (λ (w : Whole). w.state.next < 2 ^ 32) is (omega (arith, law.capped, law.small));
         here = λ r h. h.here;
         document = forest.document;
@@ -82,7 +82,7 @@ module _ (d : Inside) (law : IsArena d.arena) (v : Whole) (is : seen d ≡ v) wh
       same : first_of_two v.state.trees a.label b.label ≡ first_of_two d.arena.trees a.label b.label
       same =
           let ha' = subst (λ (w : Whole). Holds w a) (sym is) ha in
-          subst (λ (w : Whole). first_of_two w.state.trees a.label b.label ≡ first_of_two d.arena.trees a.label b.label) is (first_of_two-shed (out_of d) d.arena.trees a.label b.label law.distinct ha'.here)
+          subst (λ (w : Whole). first_of_two w.state.trees a.label b.label ≡ first_of_two d.arena.trees a.label b.label) is (first_of_two-pruned (out_of d) d.arena.trees a.label b.label law.distinct ha'.here)
 
       shown : (r : NodeRef) → HoldsNode d.arena r → 0 < count_of v.state.trees r.label → Holds v r
       shown r h here = record { slot = subst (λ (w : Whole). slice_index_or w.held r.slot None ≡ Some r.label) is h; here = here }

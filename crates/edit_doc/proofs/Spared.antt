@@ -2,23 +2,23 @@
 use Rattle.std.proofs.Common.{◌≡◌, ℕ, ◌<◌, Bool, List, [], length, Option, sym, ap, subst, ◌∙◌, arith}
 use Rattle.std.specs.Prelude.{IsTrue}
 use Rattle.dom_model.specs.Forest.{count_of}
-use Rattle.dom_model.specs.State.{State as Arena, IsLawful as IsArena}
-use Rattle.dom_model.proofs.Shedding.{count_of-shed}
+use Rattle.dom_model.specs.ArenaState.{ArenaState as Arena, IsValid as IsArena}
+use Rattle.dom_model.proofs.Pruning.{count_of-pruned}
 use Rattle.live_range.specs.declared.places.Places.{Places}
 use Rattle.live_range.specs.LivePoints.{LivePoints}
 use Rattle.live_range.specs.Names.{shown}
 use Rattle.undo_log.specs.Log.{Log, IsLog, noted, is_open, committed}
-use Rattle.forest_changes.specs.Down.{Sheds}
+use Rattle.forest_changes.specs.Down.{Prunes}
 use Rattle.edit_steps.specs.declared.step.Step.{Step}
 use Rattle.edit_model.specs.History.{rested}
 use Rattle.edit_doc.specs.declared.Doc.TheInside.{Inside}
-use Rattle.edit_doc.specs.declared.command.Beside.{Beside}
+use Rattle.edit_doc.specs.declared.command.EntrySnapshot.{EntrySnapshot}
 use Rattle.edit_doc.specs.declared.command.Command.{Command}
 use Rattle.edit_doc.specs.Fields.{IsEnded, AreResting, Enters}
 use Rattle.edit_doc.specs.GivingUp.{GivesUp, loose_roots}
 use Rattle.edit_doc.specs.Held.{KeepsThere}
 use Rattle.edit_doc.specs.History.{begun_forest, is_hidden, state_of, history_of, whole_of}
-use Rattle.edit_doc.specs.Sound.{AreNeeded, IsSound}
+use Rattle.edit_doc.specs.Sound.{AreNeeded, IsSoundDoc}
 use Rattle.edit_doc.specs.Whole.{Whole, history_committed}
 use Rattle.edit_doc.proofs.Downs.{EntriesLeft}
 use Rattle.edit_doc.proofs.Freed.{freed, freed_state, freed_history}
@@ -26,32 +26,32 @@ use Rattle.edit_doc.proofs.Inner.{seen, Ok}
 use Rattle.edit_doc.proofs.Joins.{entry_redo, entry_rests, entry_state, entry_history}
 use Rattle.edit_doc.proofs.Rests.{AtRest, rest_sound, none_noted}
 
-module _ (d : Inside) (law : IsArena d.arena) (ok : Ok d) (opened : IsTrue (is_open d.log.open_entry)) (p : Places) (resting : AreResting d.points p) (logged : IsLog d.log) (some : 0 < length (noted d.log.open_entry)) (c : Command) (ended : IsEnded d.arena.next c) (us : List Beside) (out : Option Beside) (enters : Enters d.command (loose_roots d.arena.trees d.command.left.items) p d.counts d.undo_sides.capacity d.undo_sides.items us out) (log : Log Step) (is : log ≡ committed d.log)
-    (a : Arena) (k : ℕ → Bool) (gives : GivesUp k d.arena a) (sheds : Sheds k d.arena.trees) (undo_left : EntriesLeft k d.arena.trees log.undo) (needed : AreNeeded c.start a.trees log.undo log.redo) (law' : IsArena a) where
+module _ (d : Inside) (law : IsArena d.arena) (ok : Ok d) (opened : IsTrue (is_open d.log.open_entry)) (p : Places) (resting : AreResting d.points p) (logged : IsLog d.log) (some : 0 < length (noted d.log.open_entry)) (c : Command) (ended : IsEnded d.arena.next c) (us : List EntrySnapshot) (out : Option EntrySnapshot) (enters : Enters d.command (loose_roots d.arena.trees d.command.detached.items) p d.counts d.undo_sides.capacity d.undo_sides.items us out) (log : Log Step) (is : log ≡ committed d.log)
+    (a : Arena) (k : ℕ → Bool) (gives : GivesUp k d.arena a) (prunes : Prunes k d.arena.trees) (undo_detached : EntriesLeft k d.arena.trees log.undo) (needed : AreNeeded c.start a.trees log.undo log.redo) (law' : IsArena a) where
   abbrev points : LivePoints
   points = shown d.points.names p
 
   rests : AtRest d.arena points d.overrides.items d.flags d.counts c log us [] d.undo_sides.capacity d.redo_sides.capacity
   rests = entry_rests d law ok opened p resting logged some c ended us out enters log is
 
-  redo_left : EntriesLeft k d.arena.trees log.redo
-  redo_left = subst (EntriesLeft k d.arena.trees) (sym (entry_redo d law ok opened p resting logged some c ended us out enters log is)) tt
+  redo_detached : EntriesLeft k d.arena.trees log.redo
+  redo_detached = subst (EntriesLeft k d.arena.trees) (sym (entry_redo d law ok opened p resting logged some c ended us out enters log is)) tt
 
-  pub spared_ok : IsSound a points d.overrides.items d.flags d.counts c log us [] d.undo_sides.capacity d.redo_sides.capacity
+  pub spared_ok : IsSoundDoc a points d.overrides.items d.flags d.counts c log us [] d.undo_sides.capacity d.redo_sides.capacity
   spared_ok =
       rest_sound a points d.overrides.items d.flags d.counts c log us [] d.undo_sides.capacity d.redo_sides.capacity
-      (freed d.arena a k gives sheds law' points d.overrides.items d.flags d.counts c log us [] d.undo_sides.capacity d.redo_sides.capacity rests undo_left redo_left) needed
+      (freed d.arena a k gives prunes law' points d.overrides.items d.flags d.counts c log us [] d.undo_sides.capacity d.redo_sides.capacity rests undo_detached redo_detached) needed
 
   pub spared_state : (v : Whole) → seen d ≡ v → state_of a points d.overrides.items d.flags c log ≡ rested v.state
   spared_state v sees =
-      freed_state d.arena a k gives sheds law' points d.overrides.items d.flags d.counts c log us [] d.undo_sides.capacity d.redo_sides.capacity rests undo_left redo_left
+      freed_state d.arena a k gives prunes law' points d.overrides.items d.flags d.counts c log us [] d.undo_sides.capacity d.redo_sides.capacity rests undo_detached redo_detached
       ∙ entry_state d law ok opened p resting logged some c ended us out enters log is v sees
 
   pub spared_history : (v : Whole) → seen d ≡ v → history_of d.points.names (begun_forest log a.trees) log us [] ≡ history_committed v
   spared_history v sees =
       let none = ap noted rests.closed in
       ap (λ t. history_of d.points.names t log us []) (none_noted log a.trees none)
-      ∙ (freed_history d.arena a k gives sheds law' points d.overrides.items d.flags d.counts c log us [] d.undo_sides.capacity d.redo_sides.capacity rests undo_left redo_left
+      ∙ (freed_history d.arena a k gives prunes law' points d.overrides.items d.flags d.counts c log us [] d.undo_sides.capacity d.redo_sides.capacity rests undo_detached redo_detached
       ∙ (ap (λ t. history_of d.points.names t log us []) (sym (none_noted log d.arena.trees none))
       ∙ entry_history d law ok opened p resting logged some c ended us out enters log is v sees))
 
@@ -61,7 +61,7 @@ module _ (d : Inside) (law : IsArena d.arena) (ok : Ok d) (opened : IsTrue (is_o
   pub spared_keeps : (v : Whole) → seen d ≡ v → KeepsThere v spared_whole
   spared_keeps v sees =
       let own : KeepsThere (seen d) spared_whole = (λ r h there. record {
-        slot = gives.keeps r h.slot (subst (λ t. 0 < count_of t r.label) gives.trees (let le = count_of-shed (is_hidden (begun_forest log a.trees) c.start) a.trees r.label in omega (arith, le, there)));
+        slot = gives.keeps r h.slot (subst (λ t. 0 < count_of t r.label) gives.trees (let le = count_of-pruned (is_hidden (begun_forest log a.trees) c.start) a.trees r.label in omega (arith, le, there)));
         here = there;
       }) in
       subst (λ (w : Whole). KeepsThere w spared_whole) sees own

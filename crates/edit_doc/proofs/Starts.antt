@@ -5,12 +5,12 @@ use Rattle.dom_model.specs.declared.Content.{Content}
 use Rattle.dom_model.specs.Document.{node_count, char_count, page_depth}
 use Rattle.dom_model.specs.Forest.{Forest, tops, times}
 use Rattle.dom_model.specs.Forest.Forest.{Nil, Tree}
-use Rattle.dom_model.specs.State.{State as Arena, IsLawful as IsArena}
+use Rattle.dom_model.specs.ArenaState.{ArenaState as Arena, IsValid as IsArena}
 use Rattle.live_range.specs.LivePoints.{no_points}
 use Rattle.undo_log.specs.Log.{Log, empty}
 use Rattle.edit_steps.specs.declared.step.Step.{Step}
 use Rattle.edit_model.specs.declared.settings.Flags.{Flags}
-use Rattle.edit_model.specs.Lawful.{IsForest, IsPlacedPair}
+use Rattle.edit_model.specs.Valid.{IsForest, IsPlacedPair}
 use Rattle.std.proofs.lemmas.List.Elements.{All-nil}
 use Rattle.edit_model.specs.History.{document_of}
 use Rattle.edit_model.specs.Overrides.{no_overrides}
@@ -20,7 +20,7 @@ use Rattle.edit_doc.specs.declared.command.Command.{Command}
 use Rattle.edit_doc.specs.Fields.{IsEnded}
 use Rattle.edit_doc.specs.Whole.{HasNoLoose, first_doc, first_state}
 use Rattle.edit_doc.specs.History.{whole_of}
-use Rattle.edit_doc.specs.Sound.{IsSound, AreNeeded}
+use Rattle.edit_doc.specs.Sound.{IsSoundDoc, AreNeeded}
 use Rattle.edit_doc.proofs.Rests.{AtRest, rest_sound, rest_whole, arena_forest}
 use Rattle.edit_doc.proofs.Turnings.{unset_length}
 
@@ -50,8 +50,8 @@ module _ (a : Arena) (law : IsArena a) (loose : HasNoLoose a) (depth : ℕ) (cou
       host = ended.host;
       keeping = ended.keeping;
       named = ended.named;
-      left = ended.left;
-      left_before = ended.left_before;
+      detached = ended.detached;
+      detached_before = ended.detached_before;
       scratch = refl;
     };
     resumed = ended.resumed;
@@ -73,7 +73,7 @@ module _ (a : Arena) (law : IsArena a) (loose : HasNoLoose a) (depth : ℕ) (cou
       alone zero h t = absurd (omega (arith, h))
       alone (suc n) h t = absurd (let e : eqb 0 (suc n) ≡ false = grind (arith, nat_tests) in let t' = rw e at t in omega (arith, t'))
 
-  pub new_ok : IsSound a no_points no_overrides flags counts c log [] [] depth depth
+  pub new_ok : IsSoundDoc a no_points no_overrides flags counts c log [] [] depth depth
   new_ok = rest_sound a no_points no_overrides flags counts c log [] [] depth depth fresh none_needed
 
   pub new_is : whole_of a no_points no_overrides flags c log [] [] ≡ first_doc a depth

@@ -3,19 +3,19 @@ use Rattle.std.proofs.Common.{◌≡◌, ◌≤◌, ℕ, Option, Some, None, IfS
 use Rattle.dom_model.specs.declared.Content.{Content}
 use Rattle.dom_model.specs.Document.{node_count, char_count, page_depth}
 use Rattle.dom_model.specs.Forest.{Forest, tree_of}
-use Rattle.dom_model.specs.State.{IsLawful as IsArena}
+use Rattle.dom_model.specs.ArenaState.{IsValid as IsArena}
 use Rattle.live_range.specs.LivePoints.{LivePoints}
 use Rattle.undo_log.specs.Log.{IsLog}
 use Rattle.node_arena.specs.declared.NodeRef.{NodeRef}
 use Rattle.node_arena.specs.Held.{Holds as HoldsNode}
-use Rattle.edit_model.specs.Lawful.{IsForest}
+use Rattle.edit_model.specs.Valid.{IsForest}
 use Rattle.edit_model.specs.History.{document_of, rested}
 use Rattle.edit_model.proofs.Documents.{document_shape}
 use Rattle.edit_doc.specs.declared.Doc.TheInside.{Inside}
 use Rattle.edit_doc.specs.Whole.{Whole, IsClosed, IsDoc}
 use Rattle.edit_doc.specs.Held.{Holds, Finds, IfHeld, IsPart}
 use Rattle.edit_doc.specs.Sound.{RefIn}
-use Rattle.edit_doc.proofs.HiddenTrees.{node_count-shed, char_count-shed, page_depth-shed, document_here}
+use Rattle.edit_doc.proofs.HiddenTrees.{node_count-pruned, char_count-pruned, page_depth-pruned, document_here}
 use Rattle.edit_doc.proofs.Inner.{seen, Ok, closed_of}
 use Rattle.edit_doc.proofs.Laid.{undo_count}
 use Rattle.edit_doc.proofs.Rests.{arena_forest, rested_state, rest_state, rest_of}
@@ -41,7 +41,7 @@ module _ (d : Inside) (law : IsArena d.arena) (ok : Ok d) where
 
   pub is_doc : IsLog d.log → (v : Whole) → seen d ≡ v → IsDoc v
   is_doc log v is = subst IsDoc is (record {
-    lawful = ok.lawful;
+    valid = ok.valid;
     capped = law.capped;
     resting = at_rest;
     some_depth = log.some_depth;
@@ -49,16 +49,16 @@ module _ (d : Inside) (law : IsArena d.arena) (ok : Ok d) where
   })
 
   pub part_is : (v : Whole) → seen d ≡ v → IsPart v.state.trees d.arena.trees
-  part_is v is = subst (λ (w : Whole). IsPart w.state.trees d.arena.trees) is (record { left_out = out_of d; not_document = refl; is = refl })
+  part_is v is = subst (λ (w : Whole). IsPart w.state.trees d.arena.trees) is (record { detached_out = out_of d; not_document = refl; is = refl })
 
   pub nodes_are : (v : Whole) → seen d ≡ v → d.counts.nodes ≡ node_count v.state.trees
-  nodes_are v is = subst (λ (w : Whole). d.counts.nodes ≡ node_count w.state.trees) is (ok.nodes ∙ sym (node_count-shed d.arena.trees d.arena.next (arena_forest d.arena law) (out_of d) refl))
+  nodes_are v is = subst (λ (w : Whole). d.counts.nodes ≡ node_count w.state.trees) is (ok.nodes ∙ sym (node_count-pruned d.arena.trees d.arena.next (arena_forest d.arena law) (out_of d) refl))
 
   pub chars_are : (v : Whole) → seen d ≡ v → d.counts.chars ≡ char_count v.state.trees
-  chars_are v is = subst (λ (w : Whole). d.counts.chars ≡ char_count w.state.trees) is (ok.chars ∙ sym (char_count-shed d.arena.trees d.arena.next (arena_forest d.arena law) (out_of d) refl))
+  chars_are v is = subst (λ (w : Whole). d.counts.chars ≡ char_count w.state.trees) is (ok.chars ∙ sym (char_count-pruned d.arena.trees d.arena.next (arena_forest d.arena law) (out_of d) refl))
 
   pub depth_is : (v : Whole) → seen d ≡ v → page_depth v.state.trees ≤ d.counts.depth
-  depth_is v is = subst (λ (w : Whole). page_depth w.state.trees ≤ d.counts.depth) is (subst (λ n. n ≤ d.counts.depth) (sym (page_depth-shed d.arena.trees d.arena.next (arena_forest d.arena law) (out_of d) refl)) ok.depth)
+  depth_is v is = subst (λ (w : Whole). page_depth w.state.trees ≤ d.counts.depth) is (subst (λ n. n ≤ d.counts.depth) (sym (page_depth-pruned d.arena.trees d.arena.next (arena_forest d.arena law) (out_of d) refl)) ok.depth)
 
   pub document_held : (v : Whole) → seen d ≡ v → (r : NodeRef) → r.label ≡ 0 → HoldsNode d.arena r → Holds v r
   document_held v is r e held = subst (λ w. Holds w r) is (record {

@@ -23,7 +23,7 @@ use Rattle.point_order.specs.PointOrder.{is_within, is_in_document, child_toward
 use Rattle.node_arena.specs.declared.NodeRef.{NodeRef}
 use Rattle.edit_model.specs.declared.settings.EditFault.{EditFault}
 use Rattle.edit_model.specs.declared.settings.EditFault.TheVariants.{Full, Memory}
-use Rattle.edit_model.specs.State.{State, IsOver}
+use Rattle.edit_model.specs.State.{State, IsPastCap}
 use Rattle.edit_model.specs.Confined.{is_editable_for, is_made, may_remove, may_leave}
 use Rattle.edit_model.specs.Edit.{Insert, Remove, is_made_edit, changed, with_change}
 use Rattle.edit_model.specs.Tail.{Step, Copy, Do, carried, later, copy_of, tail_steps, document_size}
@@ -31,7 +31,7 @@ use Rattle.edit_model.specs.Action.{Extract, made, applied, stepped, stepped_all
 use Rattle.edit_model.specs.Run.{extract_tail, make_element, final}
 use Rattle.edit_model.specs.Gives.{labels_of, Fails, Gives, GivesNode}
 use Rattle.edit_model.specs.Possible.{freed, is_possible, are_possible}
-use Rattle.edit_model.specs.Lawful.{IsLawful}
+use Rattle.edit_model.specs.Valid.{IsValid}
 use Rattle.edit_model.proofs.Steps.{labels_of_drop, labels_of_end, final-perform, final-make_element, value-make_element}
 use Rattle.edit_model.proofs.Tests.{parent_there}
 use Rattle.edit_model.proofs.TailEnds.{size_at, size_child, same_steps}
@@ -57,12 +57,12 @@ possible_parts (x ∷ xs) ys s h =
     (both p.0 q.0, q.1)
 
 -- what is past the cap stays past it
-over_steps : (xs : List Step) (s : State) → IsOver s → IsOver (stepped_all xs s)
+over_steps : (xs : List Step) (s : State) → IsPastCap s → IsPastCap (stepped_all xs s)
 unfolding made applied with_change changed
-over_steps xs s h = steps_keep IsOver (λ c t k. record { past = (let p = k.past in omega (arith, p)) }) (λ e t k. record { past = k.past }) xs s h
+over_steps xs s h = steps_keep IsPastCap (λ c t k. record { past = (let p = k.past in omega (arith, p)) }) (λ e t k. record { past = k.past }) xs s h
 
 pub fails_more : (e : EditFault) (xs ys : List Step) (s : State) → Fails e (stepped_all xs s) → Fails e (stepped_all (xs ++ ys) s)
-fails_more Full xs ys s h = subst IsOver (sym (stepped-append xs ys s)) (over_steps ys (stepped_all xs s) h)
+fails_more Full xs ys s h = subst IsPastCap (sym (stepped-append xs ys s)) (over_steps ys (stepped_all xs s) h)
 fails_more Memory xs ys s h = tt
 
 -- the fault that a `?` hands on is the callee's
@@ -150,27 +150,27 @@ module _ (d : ℕ) (xs : List NodeRef) (i : ℕ) (low : i < length xs) (s : Stat
   abbrev here : List Step
   here = carried d ((get_or xs i record { slot = 0; label = 0 }).label ∷ [])
 
-  abbrev left : List Step
-  left = carried d (labels_of (drop (i + 1) xs))
+  abbrev detached : List Step
+  detached = carried d (labels_of (drop (i + 1) xs))
 
-  turn_possible : are_possible (carried d (labels_of (drop i xs))) s ≡ true → (are_possible here s ≡ true) × (are_possible left (stepped_all here s) ≡ true)
-  turn_possible h = possible_parts here left s (subst (λ ys. are_possible ys s ≡ true) (carried_turn d xs i low) h)
+  turn_possible : are_possible (carried d (labels_of (drop i xs))) s ≡ true → (are_possible here s ≡ true) × (are_possible detached (stepped_all here s) ≡ true)
+  turn_possible h = possible_parts here detached s (subst (λ ys. are_possible ys s ≡ true) (carried_turn d xs i low) h)
 
-  turn_ends : stepped_all (carried d (labels_of (drop i xs))) s ≡ stepped_all left (stepped_all here s)
-  turn_ends = ap (λ ys. stepped_all ys s) (carried_turn d xs i low) ∙ stepped-append here left s
+  turn_ends : stepped_all (carried d (labels_of (drop i xs))) s ≡ stepped_all detached (stepped_all here s)
+  turn_ends = ap (λ ys. stepped_all ys s) (carried_turn d xs i low) ∙ stepped-append here detached s
 
   pub carry_may : are_possible (carried d (labels_of (drop i xs))) s ≡ true → are_possible (carried d ((get_or xs i record { slot = 0; label = 0 }).label ∷ [])) s ≡ true
   carry_may h = (turn_possible h).0
 
   pub carry_fault : (e : EditFault) → Fails e (stepped_all (carried d ((get_or xs i record { slot = 0; label = 0 }).label ∷ [])) s) → Fails e (stepped_all (carried d (labels_of (drop i xs))) s)
-  carry_fault e h = subst (λ ys. Fails e (stepped_all ys s)) (sym (carried_turn d xs i low)) (fails_more e here left s h)
+  carry_fault e h = subst (λ ys. Fails e (stepped_all ys s)) (sym (carried_turn d xs i low)) (fails_more e here detached s h)
 
   module _ (t : State) (is : t ≡ stepped_all (carried d ((get_or xs i record { slot = 0; label = 0 }).label ∷ [])) s) where
-    pub left_may : are_possible (carried d (labels_of (drop i xs))) s ≡ true → are_possible (carried d (labels_of (drop (i + 1) xs))) t ≡ true
-    left_may h = ap (are_possible left) is ∙ (turn_possible h).1
+    pub detached_may : are_possible (carried d (labels_of (drop i xs))) s ≡ true → are_possible (carried d (labels_of (drop (i + 1) xs))) t ≡ true
+    detached_may h = ap (are_possible detached) is ∙ (turn_possible h).1
 
-    pub left_ends : stepped_all (carried d (labels_of (drop (i + 1) xs))) t ≡ stepped_all (carried d (labels_of (drop i xs))) s
-    left_ends = ap (stepped_all left) is ∙ sym turn_ends
+    pub detached_ends : stepped_all (carried d (labels_of (drop (i + 1) xs))) t ≡ stepped_all (carried d (labels_of (drop i xs))) s
+    detached_ends = ap (stepped_all detached) is ∙ sym turn_ends
 
 -- ---- the steps are the same beside a new leaf
 
@@ -233,7 +233,7 @@ kids_in f n once c ks is =
       | inr (off, _) ↦ absurd (off refl)
     ]
 
-module _ (s : State) (is : IsLawful s) (from : Point) (c d : ℕ) (known : 0 < count_of s.trees c) where
+module _ (s : State) (is : IsValid s) (from : Point) (c d : ℕ) (known : 0 < count_of s.trees c) where
   abbrev trees : Forest Content
   trees = s.trees
 
@@ -438,7 +438,7 @@ module _ (s : State) (is : IsLawful s) (from : Point) (c d : ℕ) (known : 0 < c
 
 -- ---- the action
 
-module _ (s : State) (is : IsLawful s) (from : Point) (end target : ℕ) (may : may_extract s from end target ≡ true) where
+module _ (s : State) (is : IsValid s) (from : Point) (end target : ℕ) (may : may_extract s from end target ≡ true) where
   tail_is : tail_at s from end target ≡ tail_of s from end target
   unfolding tail_at tail_of
   tail_is =

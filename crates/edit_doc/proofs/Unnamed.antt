@@ -5,22 +5,22 @@ use Rattle.std.specs.Option.{option_and_then}
 use Rattle.std.proofs.lemmas.Bool.Decides.{eqb_tells, nat_tests}
 use Rattle.dom_model.specs.declared.Content.{Content}
 use Rattle.dom_model.specs.Forest.{Forest, Seen, count_of, parent_of}
-use Rattle.dom_model.specs.Shed.{shed, IsWhole}
-use Rattle.dom_model.specs.State.{IsLawful as IsArena}
-use Rattle.dom_model.proofs.Shedding.{count_of-shed, whole_stays}
+use Rattle.dom_model.specs.Pruned.{pruned, IsWhole}
+use Rattle.dom_model.specs.ArenaState.{IsValid as IsArena}
+use Rattle.dom_model.proofs.Pruning.{count_of-pruned, whole_stays}
 use Rattle.dom_model.proofs.Stands.{true_or_false, seek_absent}
 use Rattle.undo_log.specs.Turning.{inverses_back, TurnsBack}
 use Rattle.undo_log.specs.Log.{Log, noted, is_open, is_resumed, joined, committed}
-use Rattle.forest_changes.specs.Change.{Change, Fits, applied, turned}
+use Rattle.forest_changes.specs.Change.{Change, Fits, applied, inverse}
 use Rattle.forest_changes.specs.Named.{Each, named_in}
-use Rattle.forest_changes.specs.Down.{Sheds, IsLeft, GoBackDown, GoForthDown}
+use Rattle.forest_changes.specs.Down.{Prunes, IsLeft, GoBackDown, GoForthDown}
 use Rattle.forest_changes.proofs.ChangeLists.{each_of, back_down, forth_down}
-use Rattle.forest_changes.proofs.DownChange.{sheds_whole}
+use Rattle.forest_changes.proofs.DownChange.{prunes_whole}
 use Rattle.forest_changes.proofs.Twice.{forest_of, back_turns}
 use Rattle.edit_steps.specs.declared.step.Step.{Step}
 use Rattle.edit_steps.specs.Step.{changes_of}
 use Rattle.edit_doc.specs.declared.Doc.TheInside.{Inside}
-use Rattle.edit_doc.specs.declared.command.Beside.{Beside}
+use Rattle.edit_doc.specs.declared.command.EntrySnapshot.{EntrySnapshot}
 use Rattle.edit_doc.specs.declared.command.Command.{Command}
 use Rattle.edit_doc.specs.GivingUp.{is_unnamed}
 use Rattle.edit_doc.specs.Marks.{has_named, IsMarked}
@@ -32,10 +32,10 @@ use Rattle.edit_doc.proofs.HiddenTrees.{is_hidden_from, and_true, true_le, le_tr
 use Rattle.edit_doc.proofs.Inner.{Ok}
 use Rattle.edit_doc.proofs.Joins.{each_named, committed_joined}
 use Rattle.edit_doc.proofs.Laid.{next_first_low}
-use Rattle.edit_doc.proofs.Off.{shed_root}
+use Rattle.edit_doc.proofs.Off.{pruned_root}
 use Rattle.edit_doc.proofs.Records.{committed_made}
 use Rattle.edit_doc.proofs.Rolls.{run, g, xs, forest_g, below_g, whole_those}
-use Rattle.edit_doc.proofs.Turnings.{sheds_after}
+use Rattle.edit_doc.proofs.Turnings.{prunes_after}
 
 -- the entries that are kept after a commit
 entries_take : (k : ℕ → Bool) (f : Forest Content) (n : ℕ) (es : List (List Step)) → EntriesLeft k f es → EntriesLeft k f (take n es)
@@ -61,7 +61,7 @@ module _ (d : Inside) (law : IsArena d.arena) (ok : Ok d) (opened : IsTrue (is_o
   steps = xs d law ok opened
 
   abbrev turns : List Change
-  turns = inverses_back applied turned (changes_of steps) f
+  turns = inverses_back applied inverse (changes_of steps) f
 
   abbrev hides : ℕ → Bool
   hides = is_hidden begun d.command.start
@@ -78,7 +78,7 @@ module _ (d : Inside) (law : IsArena d.arena) (ok : Ok d) (opened : IsTrue (is_o
   pub some_low : 0 < low
   some_low = by_case d.log.redo d.redo_sides.items ok.redo
     where
-      by_case : (es : List (List Step)) (bs : List Beside) → RedoSound d.arena.held d.points.names d.command begun es bs → 0 < next_first d.command.start bs
+      by_case : (es : List (List Step)) (bs : List EntrySnapshot) → RedoSound d.arena.held d.points.names d.command begun es bs → 0 < next_first d.command.start bs
       by_case es [] h = ok.some_label
       by_case [] (b ∷ bs) h = absurd h
       by_case (e ∷ es) (b ∷ bs) h = h.1.0.some_label
@@ -87,7 +87,7 @@ module _ (d : Inside) (law : IsArena d.arena) (ok : Ok d) (opened : IsTrue (is_o
   fresh : AreFresh begun low
   fresh = by_case d.log.redo d.redo_sides.items ok.redo
     where
-      by_case : (es : List (List Step)) (bs : List Beside) → RedoSound d.arena.held d.points.names d.command begun es bs → AreFresh begun (next_first d.command.start bs)
+      by_case : (es : List (List Step)) (bs : List EntrySnapshot) → RedoSound d.arena.held d.points.names d.command begun es bs → AreFresh begun (next_first d.command.start bs)
       by_case es [] h = (let r = run d law ok opened in record {
         loose = λ l from here. r.made.loose l from (below_g d law ok opened l here) here;
         leaf = λ l from here. r.made.leaf l from (below_g d law ok opened l here) here;
@@ -104,22 +104,22 @@ module _ (d : Inside) (law : IsArena d.arena) (ok : Ok d) (opened : IsTrue (is_o
   not_named : (l : ℕ) → unnamed l ≡ true → has_named d.command l ≡ true → ⊥
   not_named l e named = (let t = (and_true (nat_le low l) (not (has_named d.command l)) e).1 in absurd (let t' : not true ≡ true = subst (λ b. not b ≡ true) named t in cc))
 
-  sheds_hidden : Sheds hides f
-  sheds_hidden = sheds_after begun f d.command.start (forest_of d.arena law) ok.hidden
+  prunes_hidden : Prunes hides f
+  prunes_hidden = prunes_after begun f d.command.start (forest_of d.arena law) ok.hidden
 
   -- what the command sees and marks is kept
   kept : (m : ℕ) → IsLeft hides f m → IsMarked d.command m → unnamed m ≡ false
-  kept m left marked = elim (true_or_false (unnamed m)) [
+  kept m detached marked = elim (true_or_false (unnamed m)) [
     | inr t ↦ t
     | inl t ↦ absurd (elim (true_or_false (nat_le d.command.start m)) [
       | inl from ↦ not_named m t (marked_named d.command m (true_le d.command.start m from) marked)
       | inr old ↦ (
-          let here : 0 < count_of begun m = (let le = count_of-shed hides f m in let s = same_labels m in omega (arith, le, s, left)) in
+          let here : 0 < count_of begun m = (let le = count_of-pruned hides f m in let s = same_labels m in omega (arith, le, s, detached)) in
           let loose = fresh.loose m (from_low m t) here in
           let top = root_is_top begun m (forest_g d law ok opened).distinct here loose in
           let inner : 0 < m = (let some = some_low in let le = from_low m t in omega (arith, some, le)) in
           let hid = is_hidden_from begun d.command.start m (record { inner = inner; old = false_le d.command.start m old; root = top }) in
-          true≢false (sym hid ∙ sheds_hidden.out m left))
+          true≢false (sym hid ∙ prunes_hidden.out m detached))
     ])
   ]
 
@@ -128,18 +128,18 @@ module _ (d : Inside) (law : IsArena d.arena) (ok : Ok d) (opened : IsTrue (is_o
 
   each_kept : (ls : List ℕ) → Each (IsLeft hides f) ls → Each (IsMarked d.command) ls → Each IsKept ls
   each_kept [] a b = tt
-  each_kept (m ∷ ms) a b = ((kept m a.0 b.0, (let le = count_of-shed hides f m in let s = same_labels m in let left = a.0 in omega (arith, le, s, left))), each_kept ms a.1 b.1)
+  each_kept (m ∷ ms) a b = ((kept m a.0 b.0, (let le = count_of-pruned hides f m in let s = same_labels m in let detached = a.0 in omega (arith, le, s, detached))), each_kept ms a.1 b.1)
 
   down : GoBackDown hides (changes_of steps) f
-  down = (let r = run d law ok opened in back_down hides (changes_of steps) f sheds_hidden r.can.0 r.names_there)
+  down = (let r = run d law ok opened in back_down hides (changes_of steps) f prunes_hidden r.can.0 r.names_there)
 
   turns_kept : Each IsKept (named_in turns)
-  turns_kept = each_kept (named_in turns) down.names (run d law ok opened).marked_turned
+  turns_kept = each_kept (named_in turns) down.names (run d law ok opened).marked_inverse
 
   steps_kept : Each IsKept (named_in (changes_of steps))
   steps_kept = (let r = run d law ok opened in each_kept (named_in (changes_of steps)) r.names_there r.marked)
 
-  -- labels that aren't kept can be shed, before the command and after it
+  -- labels that aren't kept can be pruned, before the command and after it
   module _ (k : ℕ → Bool) (some : (l : ℕ) → k l ≡ true → unnamed l ≡ true) where
     keeps_document : k 0 ≡ false
     keeps_document = elim (true_or_false (k 0)) [
@@ -150,27 +150,27 @@ module _ (d : Inside) (law : IsArena d.arena) (ok : Ok d) (opened : IsTrue (is_o
     whole : IsWhole k begun
     whole = whole_those k begun (forest_g d law ok opened).distinct (λ l t here. (fresh.loose l (from_low l (some l t)) here, fresh.leaf l (from_low l (some l t)) here))
 
-    left_before : (m : ℕ) → IsKept m → IsLeft k begun m
-    left_before m h =
+    detached_before : (m : ℕ) → IsKept m → IsLeft k begun m
+    detached_before m h =
         let out : k m ≡ false = elim (true_or_false (k m)) [ inl t ↦ absurd (true≢false (sym (some m t) ∙ h.0)) | inr t ↦ t ] in
         let s = whole_stays k begun (forest_g d law ok opened).distinct whole m out in
         let here = h.1 in
         omega (arith, s, here)
 
-    back : TurnsBack applied turned Fits (changes_of steps) f
+    back : TurnsBack applied inverse Fits (changes_of steps) f
     back = back_turns (changes_of steps) f (run d law ok opened).can.0
 
     again : GoForthDown k turns begun
-    again = forth_down k turns begun (sheds_whole k begun (forest_g d law ok opened) keeps_document whole) back.fit (each_of IsKept (IsLeft k begun) (named_in turns) left_before turns_kept)
+    again = forth_down k turns begun (prunes_whole k begun (forest_g d law ok opened) keeps_document whole) back.fit (each_of IsKept (IsLeft k begun) (named_in turns) detached_before turns_kept)
 
-    pub sheds_now : Sheds k f
-    sheds_now = subst (Sheds k) back.state again.sheds
+    pub prunes_now : Prunes k f
+    prunes_now = subst (Prunes k) back.state again.prunes
 
-    stays_now : (l : ℕ) → count_of (shed k f) l ≡ count_of (shed k begun) l
-    stays_now l = subst (λ t. count_of (shed k t) l ≡ count_of (shed k begun) l) back.state (again.stays l)
+    stays_now : (l : ℕ) → count_of (pruned k f) l ≡ count_of (pruned k begun) l
+    stays_now l = subst (λ t. count_of (pruned k t) l ≡ count_of (pruned k begun) l) back.state (again.stays l)
 
-    left_now : (m : ℕ) → IsKept m → IsLeft k f m
-    left_now m h = (let t = left_before m h in let s = stays_now m in omega (arith, t, s))
+    detached_now : (m : ℕ) → IsKept m → IsLeft k f m
+    detached_now m h = (let t = detached_before m h in let s = stays_now m in omega (arith, t, s))
 
   -- they are roots
   pub unnamed_loose : (l : ℕ) → unnamed l ≡ true → parent_of f l ≡ None
@@ -180,8 +180,8 @@ module _ (d : Inside) (law : IsArena d.arena) (ok : Ok d) (opened : IsTrue (is_o
       by_count zero none = ap (λ (o : Option (Seen Content)). option_and_then (λ s. s.parent) o) (seek_absent None f l none)
       by_count (suc n) here =
           let own : (m : ℕ) → (m == l) ≡ true → unnamed m ≡ true = λ m t. elim (eqb_tells m l) [ inl (_, is) ↦ ap unnamed is ∙ e | inr (u, _) ↦ absurd (true≢false (sym t ∙ u)) ] in
-          let out : 0 < count_of (shed (λ m. m == l) f) l → ⊥ = λ left. (let t = (sheds_now (λ m. m == l) own).out l left in true≢false (sym (same l) ∙ t)) in
-          top_loose f l law.distinct (shed_root f l (omega (arith, here)) (none_of (count_of (shed (λ m. m == l) f) l) out))
+          let out : 0 < count_of (pruned (λ m. m == l) f) l → ⊥ = λ detached. (let t = (prunes_now (λ m. m == l) own).out l detached in true≢false (sym (same l) ∙ t)) in
+          top_loose f l law.distinct (pruned_root f l (omega (arith, here)) (none_of (count_of (pruned (λ m. m == l) f) l) out))
         where
           same : (m : ℕ) → (m == m) ≡ true
           same m = grind (arith, nat_tests)
@@ -192,28 +192,28 @@ module _ (d : Inside) (law : IsArena d.arena) (ok : Ok d) (opened : IsTrue (is_o
 
   -- ---- the entries name none of them
 
-  entries_below : (r : Bool) (high : ℕ) (h : Forest Content) (es : List (List Step)) (bs : List Beside) → high ≤ low → ((l : ℕ) → count_of h l ≡ count_of begun l) → UndoSound d.arena.held d.points.names r d.command high h es bs → EntriesLeft unnamed f es
+  entries_below : (r : Bool) (high : ℕ) (h : Forest Content) (es : List (List Step)) (bs : List EntrySnapshot) → high ≤ low → ((l : ℕ) → count_of h l ≡ count_of begun l) → UndoSound d.arena.held d.points.names r d.command high h es bs → EntriesLeft unnamed f es
   entries_below r high h [] bs le same s = tt
   entries_below r high h (e ∷ es) [] le same s = absurd s
   entries_below r high h (e ∷ es) (b ∷ bs) le same s = (
-    old_left (named_in (changes_of e)) s.1.0.names_there s.1.0.names_old,
+    old_detached (named_in (changes_of e)) s.1.0.names_there s.1.0.names_old,
     entries_below false b.sides.first_label (forest_before e h) es bs (let t = s.1.0.drawn in omega (arith, t, le)) (λ l. back_labels (changes_of e) h l s.0.0 ∙ same l) s.1.1,
   )
     where
-      old_left : (ls : List ℕ) → Each (IsLeft (is_hidden (forest_before e h) b.sides.first_label) h) ls → Each (λ l. l < high) ls → Each (IsLeft unnamed f) ls
-      old_left [] a c = tt
-      old_left (m ∷ ms) a c = (
-        left_now unnamed (λ l t. t) m (older m (let lt = c.0 in omega (arith, lt, le)), (let s' = same m in let left = a.0 in let some = count_of-shed (is_hidden (forest_before e h) b.sides.first_label) h m in omega (arith, s', left, some))),
-        old_left ms a.1 c.1,
+      old_detached : (ls : List ℕ) → Each (IsLeft (is_hidden (forest_before e h) b.sides.first_label) h) ls → Each (λ l. l < high) ls → Each (IsLeft unnamed f) ls
+      old_detached [] a c = tt
+      old_detached (m ∷ ms) a c = (
+        detached_now unnamed (λ l t. t) m (older m (let lt = c.0 in omega (arith, lt, le)), (let s' = same m in let detached = a.0 in let some = count_of-pruned (is_hidden (forest_before e h) b.sides.first_label) h m in omega (arith, s', detached, some))),
+        old_detached ms a.1 c.1,
       )
         where
           older : (l : ℕ) → l < low → unnamed l ≡ false
           older l lt = elim (true_or_false (unnamed l)) [ inl t ↦ absurd (let from = from_low l t in omega (arith, lt, from)) | inr t ↦ t ]
 
-  pub kept_left : 0 < length (noted d.log.open_entry) → EntriesLeft unnamed f (committed d.log).undo
-  kept_left some =
+  pub kept_detached : 0 < length (noted d.log.open_entry) → EntriesLeft unnamed f (committed d.log).undo
+  kept_detached some =
       let older : EntriesLeft unnamed f d.log.undo = entries_below d.command.resumed low begun d.log.undo d.undo_sides.items (omega arith) (λ l. refl) ok.undo in
-      let own : Each (IsLeft unnamed f) (named_in (changes_of steps)) = each_of IsKept (IsLeft unnamed f) (named_in (changes_of steps)) (left_now unnamed (λ l t. t)) steps_kept in
+      let own : Each (IsLeft unnamed f) (named_in (changes_of steps)) = each_of IsKept (IsLeft unnamed f) (named_in (changes_of steps)) (detached_now unnamed (λ l t. t)) steps_kept in
       elim (true_or_false (is_resumed d.log.open_entry)) [
         | inl r ↦ subst (λ (l : Log Step). EntriesLeft unnamed f l.undo) (sym (committed_joined d.log d.log.open_entry r)) (entries_joined unnamed f d.log.undo steps older own)
         | inr r ↦ subst (λ (l : Log Step). EntriesLeft unnamed f l.undo) (sym (committed_made d.log d.log.open_entry opened r some)) (entries_take unnamed f d.log.depth (steps ∷ d.log.undo) (own, older))

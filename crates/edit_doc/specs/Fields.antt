@@ -5,7 +5,7 @@ use Rattle.dom_model.specs.Forest.{Forest, depth_of, tree_of}
 use Rattle.dom_model.specs.Places.{levels}
 use Rattle.live_range.specs.declared.places.Places.{Places}
 use Rattle.live_range.specs.LivePoints.{LivePoints}
-use Rattle.live_range.specs.Edit.{has_label}
+use Rattle.live_range.specs.PointsEdit.{has_label}
 use Rattle.live_range.specs.Names.{shown, IsOver}
 use Rattle.node_arena.specs.declared.NodeRef.{NodeRef}
 use Rattle.point_order.specs.PointOrder.{is_in_document}
@@ -13,7 +13,7 @@ use Rattle.edit_model.specs.declared.settings.Setting.{Setting}
 use Rattle.edit_model.specs.declared.settings.Flags.{Flags}
 use Rattle.edit_model.specs.Gives.{labels_of}
 use Rattle.edit_parts.specs.declared.Counts.{Counts}
-use Rattle.edit_doc.specs.declared.command.Beside.{Beside}
+use Rattle.edit_doc.specs.declared.command.EntrySnapshot.{EntrySnapshot}
 use Rattle.edit_doc.specs.declared.command.Sides.{Sides}
 use Rattle.edit_doc.specs.declared.command.Kept.{Kept}
 use Rattle.edit_doc.specs.declared.command.Command.{Command}
@@ -33,8 +33,8 @@ pub record IsEnded (next : ℕ) (c : Command) : Type 0 where
   pub keeping : c.keeping ≡ false
   pub resumed : c.resumed ≡ false
   pub named : c.named.items ≡ []
-  pub left : c.left.items ≡ []
-  pub left_before : c.left_before ≡ 0
+  pub detached : c.detached.items ≡ []
+  pub detached_before : c.detached_before ≡ 0
 
 -- the places of all points but the scratch pair
 pub record AreResting (points : LivePoints) (p : Places) : Type 0 where
@@ -43,23 +43,23 @@ pub record AreResting (points : LivePoints) (p : Places) : Type 0 where
   pub resting : p.scratch ≡ None
 
 -- the left trees of the first entry and those of the command are exchanged
-abbrev pub SwapsLeft : List Beside → List Beside → Command → Command → Type 0
+abbrev pub SwapsLeft : List EntrySnapshot → List EntrySnapshot → Command → Command → Type 0
 SwapsLeft [] us c d = ⊥
-SwapsLeft (b ∷ bs) us c d = (us ≡ record b { left = c.left } ∷ bs) × (d ≡ record c { left = b.left })
+SwapsLeft (b ∷ bs) us c d = (us ≡ record b { detached = c.detached } ∷ bs) × (d ≡ record c { detached = b.detached })
 
 -- what the command left is forgotten, and a resumed entry has its left trees again
-abbrev pub ForgetsIn : Bool → List Beside → List Beside → List NodeRef → Type 0
+abbrev pub ForgetsIn : Bool → List EntrySnapshot → List EntrySnapshot → List NodeRef → Type 0
 ForgetsIn false us new ls = new ≡ us
 ForgetsIn true [] new ls = ⊥
 ForgetsIn true (b ∷ bs) [] ls = ⊥
-ForgetsIn true (b ∷ bs) (b' ∷ bs') ls = (bs' ≡ bs) × ((b'.sides ≡ b.sides) × (b'.left.items ≡ ls))
+ForgetsIn true (b ∷ bs) (b' ∷ bs') ls = (bs' ≡ bs) × ((b'.sides ≡ b.sides) × (b'.detached.items ≡ ls))
 
-abbrev pub Forgets : List Beside → List Beside → Command → Type 0
-Forgets us new c = ForgetsIn c.resumed us new (take c.left_before c.left.items)
+abbrev pub Forgets : List EntrySnapshot → List EntrySnapshot → Command → Type 0
+Forgets us new c = ForgetsIn c.resumed us new (take c.detached_before c.detached.items)
 
--- the command made the node of the label, or loosened its tree
-abbrev pub has_loosened : Command → ℕ → Bool
-has_loosened c l = nat_le c.start l || has_label (labels_of (drop c.left_before c.left.items)) l
+-- the command made the node of the label, or detached its tree
+abbrev pub has_newly_detached : Command → ℕ → Bool
+has_newly_detached c l = nat_le c.start l || has_label (labels_of (drop c.detached_before c.detached.items)) l
 
 -- the sides of an entry that a command makes, and of one that it joins
 abbrev pub made_sides : Command → Places → Counts → Sides
@@ -85,14 +85,14 @@ joined_sides s p counts = record s {
 
 -- The command's entry is the first, in place of the one that it resumed, with these left trees. Where there are too many
 -- the oldest goes out.
-abbrev pub EntersIn : Bool → Sides → List NodeRef → Places → Counts → ℕ → List Beside → List Beside → Option Beside → Type 0
-EntersIn false s left p counts room us new out = (b : Beside) × (b.sides ≡ s) × (b.left.items ≡ left) × (new ≡ take room (b ∷ us)) × (out ≡ slice_get (b ∷ us) room)
-EntersIn true s left p counts room [] new out = ⊥
-EntersIn true s left p counts room (b ∷ bs) [] out = ⊥
-EntersIn true s left p counts room (b ∷ bs) (b' ∷ bs') out = (bs' ≡ bs) × ((b'.sides ≡ joined_sides b.sides p counts) × ((b'.left.items ≡ left) × (out ≡ None)))
+abbrev pub EntersIn : Bool → Sides → List NodeRef → Places → Counts → ℕ → List EntrySnapshot → List EntrySnapshot → Option EntrySnapshot → Type 0
+EntersIn false s detached p counts room us new out = (b : EntrySnapshot) × (b.sides ≡ s) × (b.detached.items ≡ detached) × (new ≡ take room (b ∷ us)) × (out ≡ slice_get (b ∷ us) room)
+EntersIn true s detached p counts room [] new out = ⊥
+EntersIn true s detached p counts room (b ∷ bs) [] out = ⊥
+EntersIn true s detached p counts room (b ∷ bs) (b' ∷ bs') out = (bs' ≡ bs) × ((b'.sides ≡ joined_sides b.sides p counts) × ((b'.detached.items ≡ detached) × (out ≡ None)))
 
-abbrev pub Enters : Command → List NodeRef → Places → Counts → ℕ → List Beside → List Beside → Option Beside → Type 0
-Enters c left p counts room us new out = EntersIn c.resumed (made_sides c p counts) left p counts room us new out
+abbrev pub Enters : Command → List NodeRef → Places → Counts → ℕ → List EntrySnapshot → List EntrySnapshot → Option EntrySnapshot → Type 0
+Enters c detached p counts room us new out = EntersIn c.resumed (made_sides c p counts) detached p counts room us new out
 
 -- a number of the document, with that of a tree if that comes into it
 abbrev pub with_more : Bool → ℕ → ℕ → ℕ

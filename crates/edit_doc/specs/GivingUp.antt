@@ -2,12 +2,12 @@
 use Rattle.std.specs.Prelude.{◌≡◌, ℕ, ◌<◌, Bool, false, not, ◌&&◌, nat_lt, nat_le, List, filter, Option, Some, None}
 use Rattle.dom_model.specs.declared.Content.{Content}
 use Rattle.dom_model.specs.Forest.{Forest, tops, times, count_of}
-use Rattle.dom_model.specs.Shed.{shed}
-use Rattle.dom_model.specs.State.{State as Arena}
+use Rattle.dom_model.specs.Pruned.{pruned}
+use Rattle.dom_model.specs.ArenaState.{ArenaState as Arena}
 use Rattle.node_arena.specs.declared.NodeRef.{NodeRef}
-use Rattle.live_range.specs.Edit.{has_label}
+use Rattle.live_range.specs.PointsEdit.{has_label}
 use Rattle.edit_model.specs.Gives.{labels_of}
-use Rattle.edit_doc.specs.declared.command.Beside.{Beside}
+use Rattle.edit_doc.specs.declared.command.EntrySnapshot.{EntrySnapshot}
 use Rattle.edit_doc.specs.declared.command.Command.{Command}
 use Rattle.edit_doc.specs.Marks.{has_named}
 use Rattle.edit_doc.specs.Sound.{RefIn}
@@ -25,13 +25,13 @@ abbrev pub loose_roots : Forest Content → List NodeRef → List NodeRef
 loose_roots f rs = filter (λ r. is_loose f r.label) rs
 
 -- the entry that goes out, if there is one, left a tree with this root
-abbrev pub has_left : Option Beside → ℕ → Bool
-has_left None l = false
-has_left (Some b) l = has_label (labels_of b.left.items) l
+abbrev pub has_detached : Option EntrySnapshot → ℕ → Bool
+has_detached None l = false
+has_detached (Some b) l = has_label (labels_of b.detached.items) l
 
 -- the trees with these roots are given up, and no other node stops being held
 pub record GivesUp (k : ℕ → Bool) (old new : Arena) : Type 0 where
-  pub trees : new.trees ≡ shed k old.trees
+  pub trees : new.trees ≡ pruned k old.trees
   pub next : new.next ≡ old.next
   pub cap : new.cap ≡ old.cap
-  pub keeps : (q : NodeRef) → RefIn old.held q → 0 < count_of (shed k old.trees) q.label → RefIn new.held q
+  pub keeps : (q : NodeRef) → RefIn old.held q → 0 < count_of (pruned k old.trees) q.label → RefIn new.held q

@@ -3,7 +3,7 @@ use Rattle.std.specs.Prelude.{◌≡◌, ℕ, ◌<◌, Bool, false, List, length
 use Rattle.std.proofs.Common.{get_or}
 use Rattle.dom_model.specs.declared.Content.{Content}
 use Rattle.dom_model.specs.Forest.{Forest, count_of}
-use Rattle.dom_model.specs.Shed.{shed}
+use Rattle.dom_model.specs.Pruned.{pruned}
 use Rattle.node_arena.specs.declared.NodeRef.{NodeRef}
 use Rattle.edit_model.specs.Gives.{label_of}
 use Rattle.edit_doc.specs.Whole.{Whole}
@@ -39,6 +39,6 @@ KeepsThere old new = (r : NodeRef) → Holds old r → 0 < count_of new.state.tr
 
 -- one forest is another without some loose trees
 pub record IsPart (part whole : Forest Content) : Type 0 where
-  pub left_out : ℕ → Bool
-  pub not_document : left_out 0 ≡ false
-  pub is : part ≡ shed left_out whole
+  pub detached_out : ℕ → Bool
+  pub not_document : detached_out 0 ≡ false
+  pub is : part ≡ pruned detached_out whole

@@ -7,15 +7,15 @@ use Rattle.dom_model.specs.declared.Content.{Content}
 use Rattle.dom_model.specs.Change.{Change}
 use Rattle.dom_model.specs.Forest.{Forest, tops, times}
 use Rattle.dom_model.specs.Forest.Forest.{Nil, Tree}
-use Rattle.dom_model.specs.Shed.{shed}
-use Rattle.dom_model.specs.State.{State as Arena}
+use Rattle.dom_model.specs.Pruned.{pruned}
+use Rattle.dom_model.specs.ArenaState.{ArenaState as Arena}
 use Rattle.live_range.specs.declared.places.Places.{Places}
 use Rattle.live_range.specs.LivePoints.{LivePoints}
 use Rattle.live_range.specs.Names.{shown, named, marks_of}
 use Rattle.undo_log.specs.Turning.{back, forth, inverses_back}
 use Rattle.undo_log.specs.Log.{Log, Open, noted}
 use Rattle.undo_log.specs.Log.Open.{Closed, Begun, Resumed}
-use Rattle.forest_changes.specs.Change.{applied, turned}
+use Rattle.forest_changes.specs.Change.{applied, inverse}
 use Rattle.edit_steps.specs.declared.step.Step.{Step}
 use Rattle.edit_steps.specs.Step.{changes_of}
 use Rattle.edit_model.specs.declared.settings.Setting.{Setting}
@@ -23,7 +23,7 @@ use Rattle.edit_model.specs.declared.settings.Flags.{Flags}
 use Rattle.edit_model.specs.State.{State}
 use Rattle.edit_model.specs.Gives.{label_of}
 use Rattle.edit_model.specs.History.{View, Entry, History, document_of, used}
-use Rattle.edit_doc.specs.declared.command.Beside.{Beside}
+use Rattle.edit_doc.specs.declared.command.EntrySnapshot.{EntrySnapshot}
 use Rattle.edit_doc.specs.declared.command.Command.{Command}
 use Rattle.edit_doc.specs.Whole.{Began, Whole}
 
@@ -36,7 +36,7 @@ forest_after xs f = forth applied (changes_of xs) f
 
 -- the edits that the steps take back from the forest
 abbrev pub edits_before : List Step → Forest Content → List Change
-edits_before xs f = inverses_back applied turned (changes_of xs) f
+edits_before xs f = inverses_back applied inverse (changes_of xs) f
 
 -- the roots of the trees from a label on, each with its content
 abbrev pub roots_from : ℕ → Forest Content → List (ℕ × Content)
@@ -54,7 +54,7 @@ abbrev pub is_hidden : Forest Content → ℕ → ℕ → Bool
 is_hidden g start l = nat_lt 0 l && (nat_lt l start && nat_lt 0 (times (tops g) l))
 
 abbrev pub seen_trees : Log Step → ℕ → Forest Content → Forest Content
-seen_trees log start f = shed (is_hidden (begun_forest log f) start) f
+seen_trees log start f = pruned (is_hidden (begun_forest log f) start) f
 
 -- ---- the state
 
@@ -100,7 +100,7 @@ abbrev pub view_at : List (List ℕ) → Forest Content → Places → View
 view_at names f p = record { document = document_of f; selection = p.selection; marks = map (named names) (marks_of p) }
 
 -- the entries that undo would take from the forest on, and redo
-abbrev pub undo_entries : List (List ℕ) → Forest Content → List (List Step) → List Beside → List Entry
+abbrev pub undo_entries : List (List ℕ) → Forest Content → List (List Step) → List EntrySnapshot → List Entry
 undo_entries names f [] bs = []
 undo_entries names f (e ∷ es) [] = []
 undo_entries names f (e ∷ es) (b ∷ bs) =
@@ -111,7 +111,7 @@ undo_entries names f (e ∷ es) (b ∷ bs) =
       made = used (edits_before e f) (roots_from b.sides.first_label (forest_before e f));
     } ∷ undo_entries names (forest_before e f) es bs
 
-abbrev pub redo_entries : List (List ℕ) → Forest Content → List (List Step) → List Beside → List Entry
+abbrev pub redo_entries : List (List ℕ) → Forest Content → List (List Step) → List EntrySnapshot → List Entry
 redo_entries names f [] bs = []
 redo_entries names f (e ∷ es) [] = []
 redo_entries names f (e ∷ es) (b ∷ bs) =
@@ -122,7 +122,7 @@ redo_entries names f (e ∷ es) (b ∷ bs) =
       made = used (changes_of e) (roots_from b.sides.first_label f);
     } ∷ redo_entries names (forest_after e f) es bs
 
-abbrev pub history_of : List (List ℕ) → Forest Content → Log Step → List Beside → List Beside → History
+abbrev pub history_of : List (List ℕ) → Forest Content → Log Step → List EntrySnapshot → List EntrySnapshot → History
 history_of names f log us rs = record {
   undo = undo_entries names f log.undo us;
   redo = redo_entries names f log.redo rs;
@@ -132,7 +132,7 @@ history_of names f log us rs = record {
 
 -- ---- the document
 
-abbrev pub whole_of : Arena → LivePoints → List Setting → Flags → Command → Log Step → List Beside → List Beside → Whole
+abbrev pub whole_of : Arena → LivePoints → List Setting → Flags → Command → Log Step → List EntrySnapshot → List EntrySnapshot → Whole
 whole_of a points overrides flags c log us rs = record {
   state = state_of a points overrides flags c log;
   history = history_of points.names (begun_forest log a.trees) log us rs;

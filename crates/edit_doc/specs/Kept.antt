@@ -2,10 +2,10 @@
 use Rattle.std.specs.Prelude.{◌≡◌, ◌⊎◌, ℕ, ◌<◌, true, List, [], ◌∷◌, Some, None, slice_index_or}
 use Rattle.dom_model.specs.declared.Content.{Content}
 use Rattle.dom_model.specs.Forest.{Forest, count_of, parent_of, IsWithin}
-use Rattle.dom_model.specs.State.{slot_of}
-use Rattle.live_range.specs.Edit.{has_label}
+use Rattle.dom_model.specs.ArenaState.{slot_of}
+use Rattle.live_range.specs.PointsEdit.{has_label}
 use Rattle.undo_log.specs.Turning.{back, forth, inverses_back, FitsBack, FitsForth}
-use Rattle.forest_changes.specs.Change.{Change, IsForest, Fits, applied, turned}
+use Rattle.forest_changes.specs.Change.{Change, IsForest, Fits, applied, inverse}
 use Rattle.forest_changes.specs.Named.{named_in}
 use Rattle.edit_model.specs.History.{Entry, document_of}
 use Rattle.edit_doc.specs.Whole.{Whole}
@@ -14,7 +14,7 @@ use Rattle.edit_doc.specs.Whole.{Whole}
 -- before it
 pub record LeadsBack (f : Forest Content) (xs : List Change) (e : Entry) : Type 0 where
   pub fits : FitsBack applied Fits xs f
-  pub own : inverses_back applied turned xs f ≡ e.edits
+  pub own : inverses_back applied inverse xs f ≡ e.edits
   pub after : e.after.document ≡ document_of f
   pub before : e.before.document ≡ document_of (back applied xs f)
 

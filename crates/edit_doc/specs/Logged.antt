@@ -2,10 +2,11 @@
 use Rattle.std.specs.Prelude.{◌≡◌, ℕ, ◌+◌, ◌<◌, Bool, false, List, [], ◌∷◌, length, slice_index_or, map, Option, Some, None, unwrap_or, if◌then◌else◌, ◌==◌}
 use Rattle.std.specs.Option.{option_map_or, option_and_then}
 use Rattle.dom_model.specs.declared.Content.{Content}
-use Rattle.dom_model.specs.Change.{Change, Loosen, Attach, Shift, Rewrite, Redress}
+use Rattle.dom_model.specs.Change.{Change}
+use Rattle.dom_model.specs.Change as change
 use Rattle.dom_model.specs.Contents.{name_in}
 use Rattle.dom_model.specs.Forest.{Forest, content_of, either}
-use Rattle.live_range.specs.Edit.{has_label}
+use Rattle.live_range.specs.PointsEdit.{has_label}
 use Rattle.edit_model.specs.History.{Entry}
 use Rattle.edit_doc.specs.Whole.{Whole}
 use Rattle.edit_doc.specs.declared.logged.LoggedEdit.{LoggedEdit}
@@ -32,11 +33,11 @@ element_name o = unwrap_or (option_and_then name_in o) []
 
 -- an edit, where each node has the content that is told
 abbrev pub logged_edit : (ℕ → Option Content) → Change → LoggedEdit
-logged_edit content (Loosen n) = Remove n
-logged_edit content (Attach n p b) = Insert n p b
-logged_edit content (Shift n p b) = Move n p b
-logged_edit content (Rewrite n words) = Words n words
-logged_edit content (Redress n list) = Attributes n (element_name (content n)) list
+logged_edit content (change.Remove n) = Remove n
+logged_edit content (change.Insert n p b) = Insert n p b
+logged_edit content (change.Move n p b) = Move n p b
+logged_edit content (change.SetText n words) = Words n words
+logged_edit content (change.SetAttributes n list) = Attributes n (element_name (content n)) list
 
 abbrev pub made_node : ℕ × Content → MadeNode
 made_node n = record { label = n.0; content = n.1 }

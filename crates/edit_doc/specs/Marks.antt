@@ -1,6 +1,6 @@
 -- Which nodes of the running command its edits name. No public clause cites this module.
 use Rattle.std.specs.Prelude.{◌≡◌, ◌⊎◌, ℕ, ◌+◌, ◌-◌, ◌<◌, ◌≤◌, Bool, false, true, ◌&&◌, nat_le, List, [], ◌∷◌, ◌++◌, length, Option, slice_index_or}
-use Rattle.live_range.specs.Edit.{has_label}
+use Rattle.live_range.specs.PointsEdit.{has_label}
 use Rattle.node_arena.specs.declared.NodeRef.{NodeRef}
 use Rattle.forest_changes.specs.Named.{Each, listed}
 use Rattle.edit_model.specs.Gives.{label_of}
@@ -31,6 +31,6 @@ pub record Marks (ls : List ℕ) (old new : Command) : Type 0 where
 
 -- there is one more mark, which isn't set, and one more tree was left
 pub record NotesMade (node : NodeRef) (old new : Command) : Type 0 where
-  pub rest : record new { named = old.named; left = old.left } ≡ old
+  pub rest : record new { named = old.named; detached = old.detached } ≡ old
   pub named : new.named.items ≡ old.named.items ++ false ∷ []
-  pub left : new.left.items ≡ old.left.items ++ node ∷ []
+  pub detached : new.detached.items ≡ old.detached.items ++ node ∷ []

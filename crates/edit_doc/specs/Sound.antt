@@ -3,17 +3,17 @@ use Rattle.std.specs.Prelude.{◌≡◌, ◌⊎◌, ℕ, ◌+◌, ◌<◌, ◌�
 use Rattle.dom_model.specs.declared.Content.{Content}
 use Rattle.dom_model.specs.Document.{node_count, char_count, page_depth}
 use Rattle.dom_model.specs.Forest.{Forest, tops, times, count_of, tree_of, parent_of, first_of}
-use Rattle.dom_model.specs.Shed.{shed}
-use Rattle.dom_model.specs.State.{State as Arena}
+use Rattle.dom_model.specs.Pruned.{pruned}
+use Rattle.dom_model.specs.ArenaState.{ArenaState as Arena}
 use Rattle.live_range.specs.declared.places.Places.{Places}
 use Rattle.live_range.specs.LivePoints.{LivePoints}
-use Rattle.live_range.specs.Edit.{has_label}
+use Rattle.live_range.specs.PointsEdit.{has_label}
 use Rattle.live_range.specs.Names.{shown, IsOver}
 use Rattle.undo_log.specs.Turning.{inverses_back, inverses_forth, FitsBack, FitsForth}
 use Rattle.undo_log.specs.Log.{Log, Open, noted, is_resumed}
 use Rattle.undo_log.specs.Log.Open.{Closed}
 use Rattle.node_arena.specs.declared.NodeRef.{NodeRef}
-use Rattle.forest_changes.specs.Change.{Change, Fits, applied, turned}
+use Rattle.forest_changes.specs.Change.{Change, Fits, applied, inverse}
 use Rattle.forest_changes.specs.Named.{Each, named_in}
 use Rattle.forest_changes.specs.Down.{IsLeft}
 use Rattle.edit_steps.specs.declared.step.Step.{Step}
@@ -21,9 +21,9 @@ use Rattle.edit_steps.specs.Step.{changes_of, nodes_in}
 use Rattle.edit_model.specs.declared.settings.Setting.{Setting}
 use Rattle.edit_model.specs.declared.settings.Flags.{Flags}
 use Rattle.edit_model.specs.Gives.{labels_of}
-use Rattle.edit_model.specs.Lawful.{IsLawful, IsPlaced}
+use Rattle.edit_model.specs.Valid.{IsValid, IsPlaced}
 use Rattle.edit_parts.specs.declared.Counts.{Counts}
-use Rattle.edit_doc.specs.declared.command.Beside.{Beside}
+use Rattle.edit_doc.specs.declared.command.EntrySnapshot.{EntrySnapshot}
 use Rattle.edit_doc.specs.declared.command.Command.{Command}
 use Rattle.edit_doc.specs.Marks.{IsMarked, has_named}
 use Rattle.edit_doc.specs.History.{forest_before, forest_after, begun_forest, is_hidden, seen_trees, state_of}
@@ -84,7 +84,7 @@ AreNeeded start f es fs = (l : ℕ) → 0 < l → l < start → 0 < times (tops 
 -- the document before it, and those that they made, with labels below `high`, the first that a later entry can have; and so
 -- do those that the steps turn into. The trees that they didn't see are still loose after it, and so are those that it
 -- left loose.
-pub record IsBeside (names : List (List ℕ)) (before after : Forest Content) (e : List Step) (turns : List Change) (b : Beside) (left : List NodeRef) (high start : ℕ) : Type 0 where
+pub record IsSnapshot (names : List (List ℕ)) (before after : Forest Content) (e : List Step) (turns : List Change) (b : EntrySnapshot) (detached : List NodeRef) (high start : ℕ) : Type 0 where
   pub was : IsSide names before b.sides.before b.sides.nodes_before b.sides.chars_before b.sides.depth_before
   pub is : IsSide names after b.sides.after b.sides.nodes_after b.sides.chars_after b.sides.depth_after
   pub some_label : 0 < b.sides.first_label
@@ -96,37 +96,37 @@ pub record IsBeside (names : List (List ℕ)) (before after : Forest Content) (e
   pub names_there : Each (IsLeft (is_hidden before b.sides.first_label) after) (named_in (changes_of e))
   pub names_old : Each (λ l. l < high) (named_in (changes_of e))
   pub turns_old : Each (λ l. l < high) (named_in turns)
-  pub left_loose : Each (λ l. (0 < l) × ((l < high) × (parent_of after l ≡ None))) (labels_of left)
-  pub left_all : (l : ℕ) → 0 < l → 0 < times (tops after) l → (Each (IsOff after l) (named_in (changes_of e)) → Each (IsOff after l) (named_in turns) → ⊥) → has_label (labels_of left) l ≡ true
+  pub detached_loose : Each (λ l. (0 < l) × ((l < high) × (parent_of after l ≡ None))) (labels_of detached)
+  pub detached_all : (l : ℕ) → 0 < l → 0 < times (tops after) l → (Each (IsOff after l) (named_in (changes_of e)) → Each (IsOff after l) (named_in turns) → ⊥) → has_label (labels_of detached) l ≡ true
 
 -- ---- the history over a forest
 
 -- what the entry that undo would take left loose: while a command resumes it, the command keeps that
-abbrev pub left_of : Bool → Command → Beside → List NodeRef
-left_of false c b = b.left.items
-left_of true c b = take c.left_before c.left.items
+abbrev pub detached_of : Bool → Command → EntrySnapshot → List NodeRef
+detached_of false c b = b.detached.items
+detached_of true c b = take c.detached_before c.detached.items
 
 -- the first label of the entries that redo would take; without any, the next one as the running command began
-abbrev pub next_first : ℕ → List Beside → ℕ
+abbrev pub next_first : ℕ → List EntrySnapshot → ℕ
 next_first start [] = start
 next_first start (b ∷ bs) = b.sides.first_label
 
-abbrev pub UndoSound : List (Option ℕ) → List (List ℕ) → Bool → Command → ℕ → Forest Content → List (List Step) → List Beside → Type 0
+abbrev pub UndoSound : List (Option ℕ) → List (List ℕ) → Bool → Command → ℕ → Forest Content → List (List Step) → List EntrySnapshot → Type 0
 UndoSound held names resumed c high f [] [] = Unit {0}
 UndoSound held names resumed c high f [] (b ∷ bs) = ⊥
 UndoSound held names resumed c high f (e ∷ es) [] = ⊥
 UndoSound held names resumed c high f (e ∷ es) (b ∷ bs) =
     CanGoBack held e f
-    × (IsBeside names (forest_before e f) f e (inverses_back applied turned (changes_of e) f) b (left_of resumed c b) high c.start
+    × (IsSnapshot names (forest_before e f) f e (inverses_back applied inverse (changes_of e) f) b (detached_of resumed c b) high c.start
     × UndoSound held names false c b.sides.first_label (forest_before e f) es bs)
 
-abbrev pub RedoSound : List (Option ℕ) → List (List ℕ) → Command → Forest Content → List (List Step) → List Beside → Type 0
+abbrev pub RedoSound : List (Option ℕ) → List (List ℕ) → Command → Forest Content → List (List Step) → List EntrySnapshot → Type 0
 RedoSound held names c f [] [] = Unit {0}
 RedoSound held names c f [] (b ∷ bs) = ⊥
 RedoSound held names c f (e ∷ es) [] = ⊥
 RedoSound held names c f (e ∷ es) (b ∷ bs) =
     CanGoForth held e f
-    × (IsBeside names f (forest_after e f) e (inverses_forth applied turned (changes_of e) f) b b.left.items (next_first c.start bs) c.start × RedoSound held names c (forest_after e f) es bs)
+    × (IsSnapshot names f (forest_after e f) e (inverses_forth applied inverse (changes_of e) f) b b.detached.items (next_first c.start bs) c.start × RedoSound held names c (forest_after e f) es bs)
 
 -- ---- the running command
 
@@ -136,8 +136,8 @@ pub record IsIdle (c : Command) (points : LivePoints) (next : ℕ) : Type 0 wher
   pub host : c.host ≡ None
   pub keeping : c.keeping ≡ false
   pub named : c.named.items ≡ []
-  pub left : c.left.items ≡ []
-  pub left_before : c.left_before ≡ 0
+  pub detached : c.detached.items ≡ []
+  pub detached_before : c.detached_before ≡ 0
   pub scratch : points.scratch ≡ None
 
 -- what a command keeps of its begin is as it was, and what it changes is seen
@@ -149,11 +149,11 @@ pub record IsRunning (a : Arena) (names : List (List ℕ)) (c : Command) (xs : L
   pub names_there : Each (IsLeft (is_hidden g c.start) a.trees) (named_in (changes_of xs))
   pub marks : length c.named.items + c.start ≡ a.next
   pub marked : Each (IsMarked c) (named_in (changes_of xs))
-  pub marked_turned : Each (IsMarked c) (named_in (inverses_back applied turned (changes_of xs) a.trees))
-  pub named_all : (l : ℕ) → has_named c l ≡ true → (has_label (named_in (changes_of xs)) l ≡ true) ⊎ (has_label (named_in (inverses_back applied turned (changes_of xs) a.trees)) l ≡ true)
-  pub left_before : c.left_before ≤ length c.left.items
-  pub left_seen : Each (λ l. 0 < count_of (shed (is_hidden g c.start) a.trees) l) (labels_of (drop c.left_before c.left.items))
-  pub loosened : (l : ℕ) → 0 < l → 0 < times (tops (shed (is_hidden g c.start) a.trees)) l → has_label (labels_of (drop c.left_before c.left.items)) l ≡ true
+  pub marked_inverse : Each (IsMarked c) (named_in (inverses_back applied inverse (changes_of xs) a.trees))
+  pub named_all : (l : ℕ) → has_named c l ≡ true → (has_label (named_in (changes_of xs)) l ≡ true) ⊎ (has_label (named_in (inverses_back applied inverse (changes_of xs) a.trees)) l ≡ true)
+  pub detached_before : c.detached_before ≤ length c.detached.items
+  pub detached_seen : Each (λ l. 0 < count_of (pruned (is_hidden g c.start) a.trees) l) (labels_of (drop c.detached_before c.detached.items))
+  pub newly_detached : (l : ℕ) → 0 < l → 0 < times (tops (pruned (is_hidden g c.start) a.trees)) l → has_label (labels_of (drop c.detached_before c.detached.items)) l ≡ true
 
 abbrev pub OpenSound : Arena → LivePoints → Command → Forest Content → Open Step → Type 0
 OpenSound a points c g Closed = IsIdle c points a.next
@@ -161,8 +161,8 @@ OpenSound a points c g o = IsRunning a points.names c (noted o) g
 
 -- ---- all of it
 
-pub record IsSound (a : Arena) (points : LivePoints) (overrides : List Setting) (flags : Flags) (counts : Counts) (c : Command) (log : Log Step) (us rs : List Beside) (us_room rs_room : ℕ) : Type 0 where
-  pub lawful : IsLawful (state_of a points overrides flags c log)
+pub record IsSoundDoc (a : Arena) (points : LivePoints) (overrides : List Setting) (flags : Flags) (counts : Counts) (c : Command) (log : Log Step) (us rs : List EntrySnapshot) (us_room rs_room : ℕ) : Type 0 where
+  pub valid : IsValid (state_of a points overrides flags c log)
   pub some_label : 0 < c.start
   pub nodes : counts.nodes ≡ node_count a.trees
   pub chars : counts.chars ≡ char_count a.trees

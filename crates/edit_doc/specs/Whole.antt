@@ -1,12 +1,12 @@
 -- What a contract sees of a document under edits.
 use Rattle.std.specs.Prelude.{◌≡◌, ℕ, ◌<◌, ◌≤◌, Bool, false, List, [], ◌∷◌, length, Option, Some, None, IsSome}
 use Rattle.dom_model.specs.Forest.{tops}
-use Rattle.dom_model.specs.State.{State as Arena}
+use Rattle.dom_model.specs.ArenaState.{ArenaState as Arena}
 use Rattle.live_range.specs.LivePoints.{no_points}
 use Rattle.edit_model.specs.State.{State}
 use Rattle.edit_model.specs.Overrides.{no_overrides}
 use Rattle.edit_model.specs.History.{Entry, History, rested, begun, recorded}
-use Rattle.edit_model.specs.Lawful.{IsLawful}
+use Rattle.edit_model.specs.Valid.{IsValid}
 
 -- what is kept of the begin of the open command: the state before it, and whether it resumed the last entry
 pub record Began : Type 0 where
@@ -92,7 +92,7 @@ first_edits (e ∷ es) = length e.edits
 -- ---- what holds of every document under edits
 
 pub record IsDoc (d : Whole) : Type 0 where
-  pub lawful : IsLawful d.state
+  pub valid : IsValid d.state
   pub capped : d.state.next ≤ d.state.cap
   pub resting : IsClosed d → rested d.state ≡ d.state
   pub some_depth : 0 < d.history.depth

@@ -1,7 +1,7 @@
 //! A change of the arena with its note in the log.
 
 ghost use Rattle.std.specs.Prelude.{◌≡◌, IsTrue, OnOk, OnErr, IfErr};
-ghost use Rattle.edit_steps.specs.Step.{StepFits, step_applied, step_turned};
+ghost use Rattle.edit_steps.specs.Step.{StepFits, step_applied, step_inverse};
 ghost use Rattle.undo_log.specs.Log.{is_open, with_step};
 
 use crate::EditFault;
@@ -18,7 +18,7 @@ pub(crate) fn make_change(
     requires fits { StepFits change arena.old }
     requires open { IsTrue (is_open log.old.open_entry) }
     ensures arena { OnOk result (arena.new ≡ step_applied change arena.old) }
-    ensures log { OnOk result (log.new ≡ with_step log.old (step_turned change arena.old)) }
+    ensures log { OnOk result (log.new ≡ with_step log.old (step_inverse change arena.old)) }
     ensures fault { IfErr result (λ fault. fault ≡ EditFault.Memory) }
     ensures err { OnErr result ((arena.new ≡ arena.old) × (log.new ≡ log.old)) }
 {

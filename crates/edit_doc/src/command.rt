@@ -1,7 +1,7 @@
 //! What is kept of the running command, and beside each entry of the log.
 
 ghost use Rattle.std.specs.Prelude.{◌≡◌, ℕ, ◌<◌, [], ◌∷◌, length, IfOk, vec_len, vec_capacity};
-ghost use Rattle.edit_doc.specs.Fields.{IsKept, IsEnded, AreResting, has_loosened, made_sides, joined_sides};
+ghost use Rattle.edit_doc.specs.Fields.{IsKept, IsEnded, AreResting, has_newly_detached, made_sides, joined_sides};
 ghost use Rattle.edit_doc.specs.Marks.{Marks, AreMarkable, NotesMade, place_labels};
 
 use crate::Counts;
@@ -26,11 +26,12 @@ pub struct Sides {
     pub depth_after: u32,
 }
 
-// An entry's sides, and the roots of the loose trees that its commands left, which go when the entry does.
+// What is kept beside an entry: its sides, and the roots of the trees that its commands detached, which go when the entry
+// does.
 #[derive(Drop)]
-pub(crate) struct Beside {
+pub(crate) struct EntrySnapshot {
     pub(crate) sides: Sides,
-    pub(crate) left: Vec<NodeRef>,
+    pub(crate) detached: Vec<NodeRef>,
 }
 
 // What a command finds as it begins, for rolling it back.
@@ -51,10 +52,10 @@ pub(crate) struct Command {
     pub(crate) resumed: bool,
     // of each label from `start` on, whether an edit names its node
     pub(crate) named: Vec<bool>,
-    // every tree that is loose now and wasn't as the command began has its root here; the first `left_before` are those
-    // of the resumed entry
-    pub(crate) left: Vec<NodeRef>,
-    pub(crate) left_before: usize,
+    // every tree that is loose now and wasn't as the command began has its root here; the first
+    // `detached_before` are those of the resumed entry
+    pub(crate) detached: Vec<NodeRef>,
+    pub(crate) detached_before: usize,
     pub(crate) kept: Kept,
 }
 
@@ -89,8 +90,8 @@ impl Command {
             keeping: false,
             resumed: false,
             named: Vec::new(alloc),
-            left: Vec::new(alloc),
-            left_before: 0,
+            detached: Vec::new(alloc),
+            detached_before: 0,
             kept,
         }
     }
@@ -104,8 +105,8 @@ impl Command {
         self.keeping = false;
         self.resumed = false;
         self.named.clear();
-        self.left.clear();
-        self.left_before = 0;
+        self.detached.clear();
+        self.detached_before = 0;
     }
 
     // An edit names a node.
@@ -133,22 +134,22 @@ impl Command {
     // A node was made.
     pub(crate) fn note_made(&mut self, node: NodeRef)
         requires marks { vec_len self.old.named < vec_capacity self.old.named }
-        requires room { vec_len self.old.left < vec_capacity self.old.left }
+        requires room { vec_len self.old.detached < vec_capacity self.old.detached }
         ensures { NotesMade node self.old self.new }
     {
         let _ = self.named.push(false);
-        let _ = self.left.push(node);
+        let _ = self.detached.push(node);
     }
 
     // Whether the command made the node or removed it.
-    pub(crate) fn has_loosened(&self, node: NodeRef) -> bool
-        ensures { result ≡ has_loosened self.now node.label }
+    pub(crate) fn has_newly_detached(&self, node: NodeRef) -> bool
+        ensures { result ≡ has_newly_detached self.now node.label }
     {
         if node.label >= self.start {
             return true;
         }
-        for i in self.left_before..self.left.len() {
-            if self.left[i].label == node.label {
+        for i in self.detached_before..self.detached.len() {
+            if self.detached[i].label == node.label {
                 return true;
             }
         }
@@ -156,11 +157,11 @@ impl Command {
     }
 
     // What stands beside the entry of the command.
-    pub(crate) fn beside(&self, alloc: Global, after: Places, counts: Counts) -> Beside
+    pub(crate) fn snapshot(&self, alloc: Global, after: Places, counts: Counts) -> EntrySnapshot
         ensures sides { result.sides ≡ made_sides self.now after counts }
-        ensures left { result.left.items ≡ [] }
+        ensures detached { result.detached.items ≡ [] }
     {
-        Beside {
+        EntrySnapshot {
             sides: Sides {
                 before: self.kept.places,
                 after,
@@ -172,12 +173,12 @@ impl Command {
                 depth_before: self.kept.counts.depth,
                 depth_after: counts.depth,
             },
-            left: Vec::new(alloc),
+            detached: Vec::new(alloc),
         }
     }
 }
 
-impl Beside {
+impl EntrySnapshot {
     pub(crate) fn counts_before(&self) -> Counts
         ensures nodes { result.nodes ≡ self.now.sides.nodes_before }
         ensures chars { result.chars ≡ self.now.sides.chars_before }
@@ -205,13 +206,13 @@ impl Beside {
     // Another command joined the entry.
     pub(crate) fn join(&mut self, after: Places, counts: Counts)
         ensures sides { self.new.sides ≡ joined_sides self.old.sides after counts }
-        ensures left { self.new.left.items ≡ [] }
+        ensures detached { self.new.detached.items ≡ [] }
     {
         self.sides.after = after;
         self.sides.nodes_after = counts.nodes;
         self.sides.chars_after = counts.chars;
         self.sides.depth_after = counts.depth;
-        self.left.clear();
+        self.detached.clear();
     }
 }
 

@@ -7,8 +7,8 @@ ghost use Rattle.edit_doc.specs.Whole.{IsOpen, IsClosed, opened, history_committ
 ghost use Rattle.edit_doc.specs.Fields.{SwapsLeft, Forgets, Enters};
 ghost use Rattle.edit_doc.specs.Held.{IfHeld, KeepsThere};
 
-use crate::command::{Beside, Command, Kept, resting_places};
-use crate::giving_up::{first_undone, give_up_left, give_up_unnamed, keep_loose};
+use crate::command::{Command, EntrySnapshot, Kept, resting_places};
+use crate::giving_up::{first_undone, give_up_detached, give_up_unnamed, keep_loose};
 use crate::{Committed, Counts, Doc, NodeRef};
 use circular_buffer::HeapCircularBuffer;
 use edit_parts::unset_overrides;
@@ -27,7 +27,7 @@ impl Doc {
         ensures begun { IfOk result (λ _. self.new ≡ opened (label_of host) keeping false self.old) }
         ensures err { OnErr result (self.new ≡ self.old) }
     {
-        self.arena.lawful();
+        self.arena.valid();
         let kept = Kept::of(
             self.alloc,
             &self.points,
@@ -50,7 +50,7 @@ impl Doc {
         ensures begun { IfOk result (λ b. self.new ≡ (if b then opened (label_of host) false true self.old else self.old)) }
         ensures err { OnErr result (self.new ≡ self.old) }
     {
-        self.arena.lawful();
+        self.arena.valid();
         let kept = Kept::of(
             self.alloc,
             &self.points,
@@ -61,8 +61,8 @@ impl Doc {
         if !self.log.resume() {
             return Ok(false);
         }
-        swap_left(&mut self.undo_sides, &mut self.command);
-        self.command.left_before = self.command.left.len();
+        swap_detached(&mut self.undo_sides, &mut self.command);
+        self.command.detached_before = self.command.detached.len();
         self.command.kept = kept;
         self.command.host = host;
         self.command.resumed = true;
@@ -78,21 +78,21 @@ impl Doc {
         ensures closed { self.new.began ≡ None }
         ensures keeps { KeepsThere self.old self.new }
     {
-        self.log.lawful();
-        self.arena.lawful();
+        self.log.valid();
+        self.arena.valid();
         let places = resting_places(&self.points);
         self.points.set_places(&places);
         match self.log.commit() {
             Committed::Nothing => {
                 self.arena.drop_made(self.command.start);
-                forget_left(&mut self.undo_sides, &mut self.command);
-                self.arena.lawful();
+                forget_detached(&mut self.undo_sides, &mut self.command);
+                self.arena.valid();
                 self.command.end(self.arena.next_label());
                 return Committed::Nothing;
             }
             Committed::Entry => {}
         }
-        keep_loose(&self.arena, &mut self.command.left);
+        keep_loose(&self.arena, &mut self.command.detached);
         let low = first_undone(&self.redo_sides, self.command.start);
         give_up_unnamed(&mut self.arena, low, &self.command);
         let oldest = keep_entry(
@@ -102,8 +102,8 @@ impl Doc {
             places,
             self.counts,
         );
-        give_up_left(&mut self.arena, oldest);
-        self.arena.lawful();
+        give_up_detached(&mut self.arena, oldest);
+        self.arena.valid();
         self.redo_sides.clear();
         self.command.end(self.arena.next_label());
         Committed::Entry
@@ -117,19 +117,19 @@ impl Doc {
         ensures closed { self.new.began ≡ None }
         ensures keeps { KeepsThere self.old self.new }
     {
-        self.log.lawful();
-        self.arena.lawful();
+        self.log.valid();
+        self.arena.valid();
         self.arena.slotted();
         self.log.abandon(&mut self.arena);
-        self.arena.lawful();
+        self.arena.valid();
         self.arena.drop_made(self.command.start);
         self.arena.rewind(self.command.start);
-        self.arena.lawful();
+        self.arena.valid();
         self.points.set_places(&self.command.kept.places);
         swap(&mut self.overrides, &mut self.command.kept.overrides);
         self.flags = self.command.kept.flags;
         self.counts = self.command.kept.counts;
-        forget_left(&mut self.undo_sides, &mut self.command);
+        forget_detached(&mut self.undo_sides, &mut self.command);
         self.command.end(self.arena.next_label());
     }
 
@@ -140,18 +140,18 @@ impl Doc {
         ensures doc { self.new ≡ record self.old { state = undone_state self.old.history self.old.state; history = undone_history self.old.history } }
         ensures count { steps.new ≡ steps.old + first_edits self.old.history.undo }
     {
-        self.log.lawful();
-        self.arena.lawful();
+        self.log.valid();
+        self.arena.valid();
         self.arena.slotted();
         if !self.log.undo(&mut self.arena, steps) {
             return false;
         }
-        self.arena.lawful();
-        let beside = self.undo_sides.pop_front().unwrap();
-        self.points.set_places(&beside.sides.before);
-        self.counts = beside.counts_before();
+        self.arena.valid();
+        let snapshot = self.undo_sides.pop_front().unwrap();
+        self.points.set_places(&snapshot.sides.before);
+        self.counts = snapshot.counts_before();
         unset_overrides(&mut self.overrides);
-        let _ = self.redo_sides.push_front(beside);
+        let _ = self.redo_sides.push_front(snapshot);
         true
     }
 
@@ -162,18 +162,18 @@ impl Doc {
         ensures doc { self.new ≡ record self.old { state = redone_state self.old.history self.old.state; history = redone_history self.old.history } }
         ensures count { steps.new ≡ steps.old + first_edits self.old.history.redo }
     {
-        self.log.lawful();
-        self.arena.lawful();
+        self.log.valid();
+        self.arena.valid();
         self.arena.slotted();
         if !self.log.redo(&mut self.arena, steps) {
             return false;
         }
-        self.arena.lawful();
-        let beside = self.redo_sides.pop_front().unwrap();
-        self.points.set_places(&beside.sides.after);
-        self.counts = beside.counts_after();
+        self.arena.valid();
+        let snapshot = self.redo_sides.pop_front().unwrap();
+        self.points.set_places(&snapshot.sides.after);
+        self.counts = snapshot.counts_after();
         unset_overrides(&mut self.overrides);
-        let _ = self.undo_sides.push_front(beside);
+        let _ = self.undo_sides.push_front(snapshot);
         true
     }
 
@@ -210,26 +210,26 @@ impl Doc {
 }
 
 // Exchanges the left trees of the command with those of the entry that undo would take.
-fn swap_left(undo_sides: &mut HeapCircularBuffer<Beside>, command: &mut Command)
+fn swap_detached(undo_sides: &mut HeapCircularBuffer<EntrySnapshot>, command: &mut Command)
     requires { 0 < length undo_sides.old.items }
     ensures swapped { SwapsLeft undo_sides.old.items undo_sides.new.items command.old command.new }
     ensures capacity { undo_sides.new.capacity ≡ undo_sides.old.capacity }
 {
     match undo_sides.get_mut(0) {
-        Some(beside) => swap(&mut beside.left, &mut command.left),
+        Some(snapshot) => swap(&mut snapshot.detached, &mut command.detached),
         None => unreachable!(),
     }
 }
 
 // Forgets what the command left; a resumed entry has its left trees again.
-fn forget_left(undo_sides: &mut HeapCircularBuffer<Beside>, command: &mut Command)
+fn forget_detached(undo_sides: &mut HeapCircularBuffer<EntrySnapshot>, command: &mut Command)
     requires { command.old.resumed ≡ true → 0 < length undo_sides.old.items }
     ensures forgotten { Forgets undo_sides.old.items undo_sides.new.items command.old }
     ensures capacity { undo_sides.new.capacity ≡ undo_sides.old.capacity }
 {
     if command.resumed {
-        command.left.truncate(command.left_before);
-        swap_left(undo_sides, command);
+        command.detached.truncate(command.detached_before);
+        swap_detached(undo_sides, command);
     }
 }
 
@@ -237,27 +237,27 @@ fn forget_left(undo_sides: &mut HeapCircularBuffer<Beside>, command: &mut Comman
 // there were too many.
 fn keep_entry(
     alloc: Global,
-    undo_sides: &mut HeapCircularBuffer<Beside>,
+    undo_sides: &mut HeapCircularBuffer<EntrySnapshot>,
     command: &mut Command,
     after: Places,
     counts: Counts,
-) -> Option<Beside>
+) -> Option<EntrySnapshot>
     requires { command.old.resumed ≡ true → 0 < length undo_sides.old.items }
-    ensures entered { Enters command.old command.old.left.items after counts undo_sides.old.capacity undo_sides.old.items undo_sides.new.items result }
+    ensures entered { Enters command.old command.old.detached.items after counts undo_sides.old.capacity undo_sides.old.items undo_sides.new.items result }
     ensures capacity { undo_sides.new.capacity ≡ undo_sides.old.capacity }
 {
     if command.resumed {
         match undo_sides.get_mut(0) {
-            Some(beside) => {
-                beside.join(after, counts);
-                swap(&mut beside.left, &mut command.left);
+            Some(snapshot) => {
+                snapshot.join(after, counts);
+                swap(&mut snapshot.detached, &mut command.detached);
             }
             None => unreachable!(),
         }
         None
     } else {
-        let mut beside = command.beside(alloc, after, counts);
-        swap(&mut beside.left, &mut command.left);
-        undo_sides.push_front(beside)
+        let mut snapshot = command.snapshot(alloc, after, counts);
+        swap(&mut snapshot.detached, &mut command.detached);
+        undo_sides.push_front(snapshot)
     }
 }

@@ -64,7 +64,7 @@ impl Doc {
         ensures count { IfOk result (λ r. r.1 ≡ length (characters_of self.now.state.trees node.label) - at) }
         ensures short { IfOk result (λ r. length r.0 < 2 ^ 32) }
     {
-        self.arena.lawful();
+        self.arena.valid();
         tail_of(self.alloc, self.arena.content(node), at)
     }
 
@@ -73,7 +73,7 @@ impl Doc {
         requires { Holds self.now node }
         ensures { result ≡ index_of self.now.state.trees node.label + 1 }
     {
-        self.arena.lawful();
+        self.arena.valid();
         self.arena.index(node) + 1
     }
 
@@ -121,7 +121,7 @@ impl Doc {
         ensures held { IfOk result (λ list. EachHeld self.now list.items) }
         ensures children { IfOk result (λ list. labels_of list.items ≡ children_of self.now.state.trees node.label) }
     {
-        self.lawful();
+        self.valid();
         let mut list = Vec::new(self.alloc);
         let mut at = self.first_child(node);
         while let Some(child) = at {

@@ -18,7 +18,7 @@ impl Doc {
         requires { Holds self.now node }
         ensures { result ≡ is_editable_for self.now.state node.label }
     {
-        self.arena.lawful();
+        self.arena.valid();
         match self.command.host {
             Some(host) => self.arena.is_editable(host, node),
             None => false,
@@ -61,7 +61,7 @@ impl Doc {
         requires { Holds self.now node }
         ensures { result ≡ is_parent_at self.now.state.trees node.label }
     {
-        self.arena.lawful();
+        self.arena.valid();
         matches!(self.arena.kind(node), Kind::Document | Kind::Element)
     }
 
@@ -70,7 +70,7 @@ impl Doc {
         requires { IfHeld self.now before }
         ensures { result ≡ is_place self.now.state.trees parent.label (label_of before) node.label }
     {
-        self.arena.lawful();
+        self.arena.valid();
         match before {
             None => true,
             Some(before) => match self.arena.parent(before) {
@@ -87,7 +87,7 @@ impl Doc {
         requires node_held { Holds self.now node }
         ensures { result ≡ (is_parent_at self.now.state.trees parent.label && (not (is_within self.now.state.trees node.label parent.label) && is_place self.now.state.trees parent.label (label_of before) node.label)) }
     {
-        self.arena.lawful();
+        self.arena.valid();
         self.is_parent(parent)
             && self.is_place(parent, before, node)
             && !self.arena.is_within(node, parent)
@@ -99,7 +99,7 @@ impl Doc {
         requires node_held { Holds self.now node }
         ensures { result ≡ may_insert self.now.state parent.label (label_of before) node.label }
     {
-        self.arena.lawful();
+        self.arena.valid();
         if node.label == 0 {
             return false;
         }
@@ -115,7 +115,7 @@ impl Doc {
         requires parent_held { Holds self.now parent }
         ensures { result ≡ may_leave self.now.state node.label (Some parent.label) }
     {
-        self.arena.lawful();
+        self.arena.valid();
         self.is_open(parent)
             && (self.is_own(node) || is_break(self, node))
             && (!self.command.keeping || bears_nothing(&self.arena, node))
@@ -132,7 +132,7 @@ impl Doc {
         requires { Holds self.now node }
         ensures { result ≡ stands_so self.now.state.trees node.label from.label parent.label (label_of before) }
     {
-        self.arena.lawful();
+        self.arena.valid();
         from.label == parent.label
             && match (self.arena.next(node), before) {
                 (None, None) => true,
@@ -155,7 +155,7 @@ impl Doc {
         requires before_held { IfHeld self.now before }
         ensures { result ≡ may_go self.now.state node.label (Some from.label) parent.label (label_of before) }
     {
-        self.arena.lawful();
+        self.arena.valid();
         if !self.is_open(from) {
             return false;
         }
@@ -175,7 +175,7 @@ impl Doc {
     pub(crate) fn may_select(&self, at: Point) -> bool
         ensures { result ≡ may_select self.now.state at }
     {
-        self.arena.lawful();
+        self.arena.valid();
         point_order::is_placed(&self.arena, at)
     }
 
@@ -183,7 +183,7 @@ impl Doc {
     pub(crate) fn may_grow(&self, at: Point) -> bool
         ensures { result ≡ may_grow self.now.state at }
     {
-        self.arena.lawful();
+        self.arena.valid();
         match self.arena.find(at.label) {
             Some(node) => {
                 if !is_in_document(&self.arena, node) {
@@ -201,7 +201,7 @@ impl Doc {
         requires tail_held { Holds self.now tail }
         ensures { result ≡ may_send self.now.state node.label at tail.label }
     {
-        self.arena.lawful();
+        self.arena.valid();
         let length = self.arena.length(node) as u64;
         let reach = at as u64 + self.arena.length(tail) as u64;
         if !self.is_own(node) {

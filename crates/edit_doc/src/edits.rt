@@ -15,7 +15,7 @@ use crate::numbers::{chars_replaced, counts_moved, counts_with, counts_without};
 use crate::{Chars, Doc, EditFault, Name, NodeRef};
 use edit_parts::{
     adjust_inserted, adjust_moved, has_value, is_in_document, moving_from, removal_of, replaced,
-    settle, watch_range,
+    unset_overrides_if_range_changed, watch_range,
 };
 use edit_steps::Step;
 use node_arena::Content;
@@ -60,7 +60,7 @@ impl Doc {
         ensures keeps { Keeps self.old self.new }
         ensures err { OnErr result (self.new ≡ self.old) }
     {
-        self.arena.lawful();
+        self.arena.valid();
         self.arena.slotted();
         let watch = watch_range(&self.arena, &self.points, &self.overrides);
         let enters = is_in_document(&self.arena, parent);
@@ -74,7 +74,7 @@ impl Doc {
         self.counts = counts;
         self.command.name_place(node, parent, before);
         adjust_inserted(&self.arena, &mut self.points, parent, node);
-        settle(&self.arena, &self.points, &mut self.overrides, watch);
+        unset_overrides_if_range_changed(&self.arena, &self.points, &mut self.overrides, watch);
         Ok(())
     }
 
@@ -108,19 +108,19 @@ impl Doc {
         ensures keeps { Keeps self.old self.new }
         ensures err { OnErr result (self.new ≡ self.old) }
     {
-        self.arena.lawful();
+        self.arena.valid();
         self.arena.slotted();
-        self.command.left.reserve(1)?;
+        self.command.detached.reserve(1)?;
         let watch = watch_range(&self.arena, &self.points, &self.overrides);
         let removal = removal_of(&self.arena, &self.points, node, parent);
         let counts = counts_without(&self.arena, self.counts, node, parent);
         let next = self.arena.next(node);
         make_change(&mut self.arena, &mut self.log, Step::Unlink { node })?;
         self.counts = counts;
-        let _ = self.command.left.push(node);
+        let _ = self.command.detached.push(node);
         self.command.name_place(node, parent, next);
         removal.adjust(&mut self.points);
-        settle(&self.arena, &self.points, &mut self.overrides, watch);
+        unset_overrides_if_range_changed(&self.arena, &self.points, &mut self.overrides, watch);
         Ok(())
     }
 
@@ -140,7 +140,7 @@ impl Doc {
         ensures keeps { Keeps self.old self.new }
         ensures err { OnErr result (self.new ≡ self.old) }
     {
-        self.arena.lawful();
+        self.arena.valid();
         self.arena.slotted();
         let Some(from) = self.arena.parent(node) else {
             return Ok(false);
@@ -162,7 +162,7 @@ impl Doc {
         self.command.name_place(node, from, next);
         self.command.name_place(node, parent, before);
         adjust_moved(&self.arena, &mut self.points, place, parent, node);
-        settle(&self.arena, &self.points, &mut self.overrides, watch);
+        unset_overrides_if_range_changed(&self.arena, &self.points, &mut self.overrides, watch);
         Ok(true)
     }
 
@@ -180,7 +180,7 @@ impl Doc {
         ensures keeps { Keeps self.old self.new }
         ensures err { OnErr result (self.new ≡ self.old) }
     {
-        self.arena.lawful();
+        self.arena.valid();
         self.arena.slotted();
         if !self.is_own(node) {
             return Ok(false);
@@ -197,7 +197,7 @@ impl Doc {
         self.command.name(node);
         self.points
             .replaced(node.label, at, count, put.len() as u32);
-        settle(&self.arena, &self.points, &mut self.overrides, watch);
+        unset_overrides_if_range_changed(&self.arena, &self.points, &mut self.overrides, watch);
         Ok(true)
     }
 
@@ -215,7 +215,7 @@ impl Doc {
         ensures keeps { Keeps self.old self.new }
         ensures err { OnErr result (self.new ≡ self.old) }
     {
-        self.arena.lawful();
+        self.arena.valid();
         self.arena.slotted();
         if !self.is_own(node) {
             return Ok(false);
@@ -242,7 +242,7 @@ impl Doc {
         ensures keeps { Keeps self.old self.new }
         ensures err { OnErr result (self.new ≡ self.old) }
     {
-        self.arena.lawful();
+        self.arena.valid();
         self.arena.slotted();
         if !self.is_own(node) {
             return Ok(false);

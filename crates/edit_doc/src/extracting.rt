@@ -33,7 +33,7 @@ impl Doc {
         ensures gives { Gives result self.old.state self.new.state (extract_tail from end.label target.label) }
         ensures keeps { Keeps self.old self.new }
     {
-        self.lawful();
+        self.valid();
         let Some(node) = self.find(from.label) else {
             return Ok(());
         };
@@ -84,7 +84,7 @@ impl Doc {
         requires target_held { Holds self.now target }
         ensures { result ≡ may_extract self.now.state from end.label target.label }
     {
-        self.arena.lawful();
+        self.arena.valid();
         if self.command.keeping {
             return false;
         }
@@ -109,7 +109,7 @@ impl Doc {
         ensures steps { MakesSteps result self.old.state self.new.state (tail_at self.old.state from end.label target.label) }
         ensures keeps { Keeps self.old self.new }
     {
-        self.lawful();
+        self.valid();
         let children = self.children_of(end)?;
         if end.label == from.label {
             return self.carry_from(&children, from.offset, target);

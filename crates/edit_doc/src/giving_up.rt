@@ -2,22 +2,22 @@
 
 ghost use Rattle.std.specs.Prelude.{◌≡◌, ℕ, ◌+◌, ◌<◌, ◌==◌, None, length, true};
 ghost use Rattle.dom_model.specs.Forest.{parent_of};
-ghost use Rattle.live_range.specs.Edit.{has_label};
+ghost use Rattle.live_range.specs.PointsEdit.{has_label};
 ghost use Rattle.edit_model.specs.Gives.{labels_of};
-ghost use Rattle.edit_doc.specs.GivingUp.{GivesUp, is_unnamed, is_loose, loose_roots, has_left};
+ghost use Rattle.edit_doc.specs.GivingUp.{GivesUp, is_unnamed, is_loose, loose_roots, has_detached};
 ghost use Rattle.edit_doc.specs.Marks.{has_named};
 ghost use Rattle.edit_doc.specs.Sound.{next_first};
 
-use crate::command::{Beside, Command};
+use crate::command::{Command, EntrySnapshot};
 use circular_buffer::HeapCircularBuffer;
 use node_arena::{Arena, NodeRef};
 
 // The first label of the entries that redo would take; without any, that of the command.
-pub(crate) fn first_undone(redo_sides: &HeapCircularBuffer<Beside>, start: u32) -> u32
+pub(crate) fn first_undone(redo_sides: &HeapCircularBuffer<EntrySnapshot>, start: u32) -> u32
     ensures { result ≡ next_first start redo_sides.now.items }
 {
     match redo_sides.front() {
-        Some(beside) => beside.sides.first_label,
+        Some(snapshot) => snapshot.sides.first_label,
         None => start,
     }
 }
@@ -36,7 +36,7 @@ fn give_up_root(arena: &mut Arena, label: u32)
     requires loose { parent_of arena.old.trees label ≡ None }
     ensures { GivesUp (λ l. l == label) arena.old arena.new }
 {
-    arena.lawful();
+    arena.valid();
     if let Some(node) = arena.find(label) {
         arena.drop_tree(node);
     }
@@ -49,7 +49,7 @@ pub(crate) fn give_up_unnamed(arena: &mut Arena, low: u32, command: &Command)
     requires loose { (l : ℕ) → is_unnamed low command.now l ≡ true → parent_of arena.old.trees l ≡ None }
     ensures { GivesUp (is_unnamed low command.now) arena.old arena.new }
 {
-    arena.lawful();
+    arena.valid();
     for label in low..arena.next_label() {
         if !has_named(command, label) {
             give_up_root(arena, label);
@@ -61,7 +61,7 @@ pub(crate) fn give_up_unnamed(arena: &mut Arena, low: u32, command: &Command)
 fn is_loose(arena: &Arena, label: u32) -> bool
     ensures { result ≡ is_loose arena.now.trees label }
 {
-    arena.lawful();
+    arena.valid();
     match arena.find(label) {
         Some(node) => label > 0 && arena.parent(node).is_none(),
         None => false,
@@ -69,10 +69,10 @@ fn is_loose(arena: &Arena, label: u32) -> bool
 }
 
 // Keeps those of the nodes that are roots of loose trees.
-pub(crate) fn keep_loose(arena: &Arena, left: &mut Vec<NodeRef>)
-    ensures { left.new.items ≡ loose_roots arena.now.trees left.old.items }
+pub(crate) fn keep_loose(arena: &Arena, detached: &mut Vec<NodeRef>)
+    ensures { detached.new.items ≡ loose_roots arena.now.trees detached.old.items }
 {
-    left.retain(|node| is_loose(arena, node.label));
+    detached.retain(|node| is_loose(arena, node.label));
 }
 
 // Gives up the loose trees with these roots, where they are there.
@@ -81,20 +81,20 @@ fn give_up_roots(arena: &mut Arena, roots: &[NodeRef])
     requires loose { (l : ℕ) → has_label (labels_of roots.now) l ≡ true → parent_of arena.old.trees l ≡ None }
     ensures { GivesUp (has_label (labels_of roots.now)) arena.old arena.new }
 {
-    arena.lawful();
+    arena.valid();
     for i in 0..roots.len() {
         give_up_root(arena, roots[i].label);
     }
 }
 
 // Gives up the loose trees that an entry left.
-pub(crate) fn give_up_left(arena: &mut Arena, entry: Option<Beside>)
-    requires inner { (l : ℕ) → has_left entry l ≡ true → 0 < l }
-    requires loose { (l : ℕ) → has_left entry l ≡ true → parent_of arena.old.trees l ≡ None }
-    ensures { GivesUp (has_left entry) arena.old arena.new }
+pub(crate) fn give_up_detached(arena: &mut Arena, entry: Option<EntrySnapshot>)
+    requires inner { (l : ℕ) → has_detached entry l ≡ true → 0 < l }
+    requires loose { (l : ℕ) → has_detached entry l ≡ true → parent_of arena.old.trees l ≡ None }
+    ensures { GivesUp (has_detached entry) arena.old arena.new }
 {
     match entry {
-        Some(beside) => give_up_roots(arena, beside.left.as_slice()),
+        Some(snapshot) => give_up_roots(arena, snapshot.detached.as_slice()),
         None => {}
     }
 }

@@ -26,7 +26,7 @@ mod selecting;
 
 use circular_buffer::HeapCircularBuffer;
 pub use command::Sides;
-use command::{Beside, Command, Kept};
+use command::{Command, EntrySnapshot, Kept};
 pub use dom_model::{Attributes, Chars, Name};
 pub use edit_model::{EditFault, Flags, Setting};
 pub use edit_parts::Counts;
@@ -52,8 +52,8 @@ pub struct Doc {
     flags: Flags,
     counts: Counts,
     log: UndoLog<Step>,
-    undo_sides: HeapCircularBuffer<Beside>,
-    redo_sides: HeapCircularBuffer<Beside>,
+    undo_sides: HeapCircularBuffer<EntrySnapshot>,
+    redo_sides: HeapCircularBuffer<EntrySnapshot>,
     command: Command,
 }
 
@@ -67,11 +67,11 @@ impl Model for Doc {
     ghost coded = { whole_code };
 
     ghost use Rattle.edit_doc.specs.History.{whole_of};
-    ghost use Rattle.edit_doc.specs.Sound.{IsSound};
+    ghost use Rattle.edit_doc.specs.Sound.{IsSoundDoc};
 
     ghost view = { λ d. whole_of d.arena d.points d.overrides.items d.flags d.command d.log d.undo_sides.items d.redo_sides.items };
 
-    ghost invariant = { λ d. IsSound d.arena d.points d.overrides.items d.flags d.counts d.command d.log d.undo_sides.items d.redo_sides.items d.undo_sides.capacity d.redo_sides.capacity };
+    ghost invariant = { λ d. IsSoundDoc d.arena d.points d.overrides.items d.flags d.counts d.command d.log d.undo_sides.items d.redo_sides.items d.undo_sides.capacity d.redo_sides.capacity };
 }
 
 impl Doc {
@@ -81,7 +81,7 @@ impl Doc {
         requires loose { HasNoLoose arena }
         ensures { IfOk result (λ d. d ≡ first_doc arena undo_depth) }
     {
-        arena.lawful();
+        arena.valid();
         let counts = Counts {
             nodes: arena.node_count(),
             chars: arena.char_count(),

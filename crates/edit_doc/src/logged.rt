@@ -9,14 +9,14 @@ ghost use Rattle.node_arena.specs.Held.{Holds};
 ghost use Rattle.edit_steps.specs.Step.{change_of, changes_of, nodes_of, nodes_in};
 ghost use Rattle.edit_model.specs.Gives.{label_of};
 ghost use Rattle.edit_model.specs.History.{used};
-ghost use Rattle.edit_model.specs.Lawful.{IsPlaced};
+ghost use Rattle.edit_model.specs.Valid.{IsPlaced};
 ghost use Rattle.edit_doc.specs.Whole.{IsClosed, with_state};
 ghost use Rattle.edit_doc.specs.History.{roots_from};
 ghost use Rattle.edit_doc.specs.Marks.{place_labels};
 ghost use Rattle.edit_doc.specs.Sound.{AreFresh, next_first};
 ghost use Rattle.edit_doc.specs.Logged.{Logged, element_name, logged_edit, logged_with, logged_entry, made_node, node_at, TellNamed, HasMoved};
 
-use crate::command::{Beside, Kept};
+use crate::command::{EntrySnapshot, Kept};
 use crate::{Arena, Attributes, Chars, Doc, Name, NodeRef};
 use circular_buffer::HeapCircularBuffer;
 use edit_steps::Step;
@@ -133,7 +133,7 @@ impl Doc {
         ensures ok { IfOk result (λ entries. entries.items ≡ map logged_entry (reverse self.old.history.undo)) }
         ensures stays { self.new ≡ self.old }
     {
-        self.lawful();
+        self.valid();
         self.kept_nodes();
         let kept = Kept::of(
             alloc,
@@ -207,7 +207,7 @@ impl Doc {
         requires more { 0 < length self.now.history.redo }
         ensures { IfOk result (λ entry. option_map logged_entry (slice_get self.now.history.redo 0) ≡ Some entry) }
     {
-        self.arena.lawful();
+        self.arena.valid();
         self.arena.slotted();
         let steps = self.log.next_entry().unwrap();
         let first = self.redo_sides.front().unwrap().sides.first_label;
@@ -232,11 +232,11 @@ impl Doc {
 }
 
 // The first label of the entries past the one that redo would take; without any, the next one.
-fn first_later(redo_sides: &HeapCircularBuffer<Beside>, start: u32) -> u32
+fn first_later(redo_sides: &HeapCircularBuffer<EntrySnapshot>, start: u32) -> u32
     ensures { result ≡ next_first start (drop 1 redo_sides.now.items) }
 {
     match redo_sides.get(1) {
-        Some(beside) => beside.sides.first_label,
+        Some(snapshot) => snapshot.sides.first_label,
         None => start,
     }
 }
@@ -354,7 +354,7 @@ fn made_nodes(
     requires within { Each (λ l. l < end) (named_in (changes_of steps.now)) }
     ensures { IfOk result (λ nodes. nodes.items ≡ map made_node (used (changes_of steps.now) (roots_from first arena.now.trees))) }
 {
-    arena.lawful();
+    arena.valid();
     let marks = mark_named(alloc, steps, first, end)?;
     let mut nodes = Vec::new(alloc);
     for label in first..end {

@@ -52,8 +52,8 @@ impl Doc {
         ensures keeps { Keeps self.old self.new }
         ensures err { OnErr result (self.new ≡ self.old) }
     {
-        self.arena.lawful();
-        self.command.left.reserve(1)?;
+        self.arena.valid();
+        self.command.detached.reserve(1)?;
         self.command.named.reserve(1)?;
         match self.arena.make_element(name, attributes) {
             Ok(node) => {
@@ -73,8 +73,8 @@ impl Doc {
         ensures keeps { Keeps self.old self.new }
         ensures err { OnErr result (self.new ≡ self.old) }
     {
-        self.arena.lawful();
-        self.command.left.reserve(1)?;
+        self.arena.valid();
+        self.command.detached.reserve(1)?;
         self.command.named.reserve(1)?;
         match self.arena.make_words(words) {
             Ok(node) => {

@@ -14,9 +14,9 @@ impl Nodes for Doc {
 
     ghost next_label = { λ d. d.state.next };
 
-    fn lawful(&self) {
-        self.arena.lawful();
-        Doc::lawful(self)
+    fn valid(&self) {
+        self.arena.valid();
+        Doc::valid(self)
     }
 
     fn next_label(&self) -> u32 {
@@ -73,23 +73,23 @@ impl Nodes for Doc {
     }
 
     fn is_within(&self, top: NodeRef, node: NodeRef) -> bool {
-        self.arena.lawful();
+        self.arena.valid();
         self.arena.is_within(top, node)
     }
 
     fn before(&self, a: NodeRef, b: NodeRef) -> Option<NodeRef> {
-        self.arena.lawful();
+        self.arena.valid();
         let first = self.arena.before(a, b);
         first
     }
 
     fn is_host(&self, node: NodeRef) -> bool {
-        self.arena.lawful();
+        self.arena.valid();
         self.arena.is_host(node)
     }
 
     fn is_editable(&self, host: NodeRef, node: NodeRef) -> bool {
-        self.arena.lawful();
+        self.arena.valid();
         self.arena.is_editable(host, node)
     }
 

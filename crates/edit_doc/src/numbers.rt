@@ -108,7 +108,7 @@ pub(crate) fn counts_without(
     ensures chars { result.chars ≡ char_count (unlink arena.now.trees node.label) }
     ensures depth { result.depth ≡ counts.depth }
 {
-    arena.lawful();
+    arena.valid();
     if !is_in_document(arena, node) {
         return counts;
     }
@@ -134,7 +134,7 @@ pub(crate) fn chars_replaced(
     requires may { may_change (content_of arena.now.trees node.label) at count put.now ≡ true }
     ensures { result ≡ char_count (revised arena.now.trees node.label (with_replaced at count put.now)) }
 {
-    arena.lawful();
+    arena.valid();
     if !is_in_document(arena, node) {
         return chars;
     }

@@ -20,11 +20,11 @@ use point_order::comes_before;
 
 impl Doc {
     /// What holds of every document under edits, for proofs. It does nothing.
-    pub fn lawful(&self)
+    pub fn valid(&self)
         ensures { IsDoc self.now }
     {
-        self.arena.lawful();
-        self.log.lawful();
+        self.arena.valid();
+        self.log.valid();
     }
 
     /// Which nodes are held outside commands, for proofs: each is in the document, or in a loose tree with a node that a
@@ -33,7 +33,7 @@ impl Doc {
         requires closed { IsClosed self.now }
         ensures { HoldsOnlyNeeded self.now }
     {
-        self.arena.lawful();
+        self.arena.valid();
         self.arena.slotted();
     }
 
@@ -43,7 +43,7 @@ impl Doc {
         requires closed { IsClosed self.now }
         ensures { HasLedOnward self.now }
     {
-        self.arena.lawful();
+        self.arena.valid();
     }
 
     /// The nodes: those of the state, and loose trees of kept entries beside them, which no definition sees.
@@ -54,7 +54,7 @@ impl Doc {
         ensures next { result.now.next ≡ self.now.state.next }
         ensures cap { result.now.cap ≡ self.now.state.cap }
     {
-        self.arena.lawful();
+        self.arena.valid();
         &self.arena
     }
 
@@ -62,7 +62,7 @@ impl Doc {
     pub fn host(&self) -> Option<NodeRef>
         ensures { Finds self.now result self.now.state.host }
     {
-        self.arena.lawful();
+        self.arena.valid();
         self.command.host
     }
 
@@ -72,7 +72,7 @@ impl Doc {
         ensures chars { result.chars ≡ char_count self.now.state.trees }
         ensures depth { page_depth self.now.state.trees ≤ result.depth }
     {
-        self.arena.lawful();
+        self.arena.valid();
         self.counts
     }
 
@@ -80,7 +80,7 @@ impl Doc {
     pub fn page_depth(&self) -> u32
         ensures { result ≡ page_depth self.now.state.trees }
     {
-        self.arena.lawful();
+        self.arena.valid();
         self.arena.page_depth()
     }
 
@@ -89,7 +89,7 @@ impl Doc {
     pub fn is_deeper_than(&self, limit: u32) -> bool
         ensures { result ≡ nat_lt limit (page_depth self.now.state.trees) }
     {
-        self.arena.lawful();
+        self.arena.valid();
         self.counts.depth > limit && self.arena.page_depth() > limit
     }
 
@@ -99,7 +99,7 @@ impl Doc {
         requires second { is_placed self.now.state.trees second ≡ true }
         ensures { result ≡ is_before self.now.state.trees first second }
     {
-        self.arena.lawful();
+        self.arena.valid();
         comes_before(&self.arena, first, second)
     }
 
@@ -108,7 +108,7 @@ impl Doc {
         ensures label { result.label ≡ 0 }
         ensures held { Holds self.now result }
     {
-        self.arena.lawful();
+        self.arena.valid();
         self.arena.document()
     }
 
@@ -117,10 +117,10 @@ impl Doc {
         ensures found { IfSome result (λ r. (r.label ≡ label) × Holds self.now r) }
         ensures absent { (result ≡ None) ↔ (count_of self.now.state.trees label ≡ 0) }
     {
-        self.arena.lawful();
+        self.arena.valid();
         let node = self.arena.find(label)?;
         let root = root_of(&self.arena, node);
-        if root.label == 0 || self.command.has_loosened(root) {
+        if root.label == 0 || self.command.has_newly_detached(root) {
             Some(node)
         } else {
             None
@@ -132,7 +132,7 @@ impl Doc {
         requires { Holds self.now node }
         ensures { Finds self.now result (parent_of self.now.state.trees node.label) }
     {
-        self.arena.lawful();
+        self.arena.valid();
         self.arena.parent(node)
     }
 
@@ -141,7 +141,7 @@ impl Doc {
         requires { Holds self.now node }
         ensures { Finds self.now result (first_of self.now.state.trees node.label) }
     {
-        self.arena.lawful();
+        self.arena.valid();
         self.arena.first_child(node)
     }
 
@@ -150,7 +150,7 @@ impl Doc {
         requires { Holds self.now node }
         ensures { Finds self.now result (last_of self.now.state.trees node.label) }
     {
-        self.arena.lawful();
+        self.arena.valid();
         self.arena.last_child(node)
     }
 
@@ -159,7 +159,7 @@ impl Doc {
         requires { Holds self.now node }
         ensures { Finds self.now result (prev_of self.now.state.trees node.label) }
     {
-        self.arena.lawful();
+        self.arena.valid();
         self.arena.prev(node)
     }
 
@@ -168,7 +168,7 @@ impl Doc {
         requires { Holds self.now node }
         ensures { Finds self.now result (next_of self.now.state.trees node.label) }
     {
-        self.arena.lawful();
+        self.arena.valid();
         self.arena.next(node)
     }
 
@@ -177,7 +177,7 @@ impl Doc {
         requires { Holds self.now node }
         ensures { result ≡ index_of self.now.state.trees node.label }
     {
-        self.arena.lawful();
+        self.arena.valid();
         self.arena.index(node)
     }
 
@@ -186,7 +186,7 @@ impl Doc {
         requires { Holds self.now node }
         ensures { result ≡ length_of self.now.state.trees node.label }
     {
-        self.arena.lawful();
+        self.arena.valid();
         self.arena.length(node)
     }
 
@@ -195,7 +195,7 @@ impl Doc {
         requires { Holds self.now node }
         ensures { kind_of self.now.state.trees node.label ≡ Some result }
     {
-        self.arena.lawful();
+        self.arena.valid();
         self.arena.kind(node)
     }
 
@@ -204,7 +204,7 @@ impl Doc {
         requires { Holds self.now node }
         ensures { content_of self.now.state.trees node.label ≡ Some result.now }
     {
-        self.arena.lawful();
+        self.arena.valid();
         self.arena.content(node)
     }
 
@@ -214,7 +214,7 @@ impl Doc {
         requires element { is_element_at self.now.state.trees node.label ≡ true }
         ensures { name_of self.now.state.trees node.label ≡ Some result.now }
     {
-        self.arena.lawful();
+        self.arena.valid();
         self.arena.name(node)
     }
 
@@ -224,7 +224,7 @@ impl Doc {
         requires element { is_element_at self.now.state.trees node.label ≡ true }
         ensures { attributes_of self.now.state.trees node.label ≡ Some result.now }
     {
-        self.arena.lawful();
+        self.arena.valid();
         self.arena.attributes(node)
     }
 
@@ -234,7 +234,7 @@ impl Doc {
         requires chars { has_chars_at self.now.state.trees node.label ≡ true }
         ensures { chars_of self.now.state.trees node.label ≡ Some result.now }
     {
-        self.arena.lawful();
+        self.arena.valid();
         self.arena.words(node)
     }
 }

@@ -7,13 +7,13 @@ ghost use Rattle.live_range.specs.LivePoints.{has_mark, with_mark, without_mark}
 ghost use Rattle.edit_model.specs.Action.{Select, Extend, Unselect, Grow, Scratch, Override, Flag, acted, Send, with_selection};
 ghost use Rattle.edit_model.specs.Confined.{may_select};
 ghost use Rattle.edit_model.specs.Overrides.{setting_of};
-ghost use Rattle.edit_model.specs.Lawful.{IsPlacedPair};
+ghost use Rattle.edit_model.specs.Valid.{IsPlacedPair};
 ghost use Rattle.edit_model.specs.State.{State};
 ghost use Rattle.edit_doc.specs.Whole.{IsOpen, IsClosed, with_state};
 ghost use Rattle.edit_doc.specs.Held.{Holds, Keeps};
 
 use crate::{Doc, Flags, MarkFault, NodeRef, Pair, Point, Points, Setting};
-use edit_parts::{place_of, settle, stands_at, watch_range};
+use edit_parts::{place_of, stands_at, unset_overrides_if_range_changed, watch_range};
 use html_names::Command;
 
 impl Doc {
@@ -67,11 +67,11 @@ impl Doc {
     pub fn grow(&mut self, at: Point)
         ensures { self.new ≡ with_state self.old (acted (Grow at) self.old.state) }
     {
-        self.arena.lawful();
+        self.arena.valid();
         if self.may_grow(at) {
             let watch = watch_range(&self.arena, &self.points, &self.overrides);
             self.points.grown(at);
-            settle(&self.arena, &self.points, &mut self.overrides, watch);
+            unset_overrides_if_range_changed(&self.arena, &self.points, &mut self.overrides, watch);
         }
     }
 
@@ -164,10 +164,10 @@ impl Doc {
         requires { IfSome pair (IsPlacedPair self.old.state.trees) }
         ensures { self.new ≡ with_state self.old (with_selection pair self.old.state) }
     {
-        self.arena.lawful();
+        self.arena.valid();
         let watch = watch_range(&self.arena, &self.points, &self.overrides);
         self.points.set_selection(pair);
-        settle(&self.arena, &self.points, &mut self.overrides, watch);
+        unset_overrides_if_range_changed(&self.arena, &self.points, &mut self.overrides, watch);
     }
 
     // The points of a text past an offset go to another text.
@@ -176,12 +176,12 @@ impl Doc {
         requires tail_held { Holds self.old tail }
         ensures { self.new ≡ with_state self.old (acted (Send node.label at tail.label) self.old.state) }
     {
-        self.arena.lawful();
+        self.arena.valid();
         if self.may_send(node, at, tail) {
             let watch = watch_range(&self.arena, &self.points, &self.overrides);
             // The points of the parent are moved by the insertion of the tail.
             self.points.split(node.label, at, tail.label, node.label, 0);
-            settle(&self.arena, &self.points, &mut self.overrides, watch);
+            unset_overrides_if_range_changed(&self.arena, &self.points, &mut self.overrides, watch);
         }
     }
 }

@@ -11,8 +11,8 @@ use Rattle.dom_model.proofs.Within.{depth_of-parent}
 use Rattle.live_range.specs.declared.places.Pair.{Pair}
 use Rattle.edit_model.specs.State.{State}
 use Rattle.edit_actions.specs.ActiveRange.{start_of, end_of, host_of_pair, affected_host}
-use Rattle.node_styles.specs.Lineage.{Kin, lineage}
-use Rattle.node_styles.proofs.Lineages.{kin, lineage_absent, lineage-root, lineage-child}
+use Rattle.node_styles.specs.Lineage.{Ancestor, lineage}
+use Rattle.node_styles.proofs.Lineages.{ancestor, lineage_absent, lineage-root, lineage-child}
 use Rattle.node_tests.specs.AffectedHost as nodes
 use Rattle.node_tests.specs.AffectedHost.{is_host_of, common_host, takes_commands}
 
@@ -21,10 +21,10 @@ unfolding lineage
 lineage-none f l none = ap (λ o. unwrap_or o []) (lineage_absent [] f l none)
 
 module _ (f : Forest Content) (once : IsDistinct f) (b h : ℕ) where
-  abbrev Found : Option Kin → Type 0
+  abbrev Found : Option Ancestor → Type 0
   Found o = option_map (λ k. k.label) o ≡ Some h → is_host f h ≡ true
 
-  found_here : (l : ℕ) (c : Content) (rest : Option Kin) → content_of f l ≡ Some c → (v : Bool) → is_host_of f b (kin l c) ≡ v → Found rest → Found (cond v (Some (kin l c)) rest)
+  found_here : (l : ℕ) (c : Content) (rest : Option Ancestor) → content_of f l ≡ Some c → (v : Bool) → is_host_of f b (ancestor l c) ≡ v → Found rest → Found (cond v (Some (ancestor l c)) rest)
   found_here l c rest content true passes above e =
       let same : l ≡ h = (let t : Some l ≡ Some h = e in cc) in
       let stated : is_true_state c ≡ true = (and_parts (is_true_state c) _ passes).0 in
@@ -36,14 +36,14 @@ module _ (f : Forest Content) (once : IsDistinct f) (b h : ℕ) where
   found_in zero l low = absurd (omega (arith, low))
   found_in (suc n) l low = by_count (count_of f l) refl (λ p e. found_in n p (omega (arith, low, depth_of-parent f l p once e)))
     where
-      nothing : (o : Option Kin) → o ≡ None → Found o
+      nothing : (o : Option Ancestor) → o ≡ None → Found o
       nothing o is e = absurd (let t : None ≡ Some h = ap (option_map (λ k. k.label)) (sym is) ∙ e in cc)
 
       by_parent : (c : Content) → 0 < count_of f l → content_of f l ≡ Some c → (o : Option ℕ) → parent_of f l ≡ o → ((p : ℕ) → parent_of f l ≡ Some p → Found (find (is_host_of f b) (lineage f p))) → Found (find (is_host_of f b) (lineage f l))
       by_parent c here content None root above =
-          rw (lineage-root f once l c here root content) (found_here l c None content (is_host_of f b (kin l c)) refl (nothing None refl))
+          rw (lineage-root f once l c here root content) (found_here l c None content (is_host_of f b (ancestor l c)) refl (nothing None refl))
       by_parent c here content (Some p) up above =
-          rw (lineage-child f once l p c up content) (found_here l c (find (is_host_of f b) (lineage f p)) content (is_host_of f b (kin l c)) refl (above p up))
+          rw (lineage-child f once l p c up content) (found_here l c (find (is_host_of f b) (lineage f p)) content (is_host_of f b (ancestor l c)) refl (above p up))
 
       by_count : (k : ℕ) → count_of f l ≡ k → ((p : ℕ) → parent_of f l ≡ Some p → Found (find (is_host_of f b) (lineage f p))) → Found (find (is_host_of f b) (lineage f l))
       by_count zero none above = nothing (find (is_host_of f b) (lineage f l)) (ap (find (is_host_of f b)) (lineage-none f l none))

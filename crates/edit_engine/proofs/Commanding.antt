@@ -5,7 +5,7 @@ use Rattle.std.proofs.lemmas.Bool.Decides.{nat_tests}
 use Rattle.undo_log.specs.declared.log.Committed.{Committed}
 use Rattle.undo_log.specs.declared.log.Committed.TheVariants as committed
 use Rattle.edit_model.specs.declared.settings.EditFault.{EditFault}
-use Rattle.edit_model.specs.State.{State, IsOver}
+use Rattle.edit_model.specs.State.{State, IsPastCap}
 use Rattle.edit_model.specs.Gives.{Fails}
 use Rattle.edit_model.specs.History.{rested}
 use Rattle.edit_model.specs.Run.{Run, final, value}
@@ -46,9 +46,9 @@ module _ (old one two : Whole) (j k : Bool) (m : Run Bool) (begins : one ≡ ope
   answers : (b : Bool) → value m one.state ≡ b → answered old.state k m ≡ b
   answers b is = sym (ap (value m) began_state) ∙ is
 
-  within : final m one.state ≡ two.state → IsDoc two → IsOver (ran old.state k m) → ⊥
+  within : final m one.state ≡ two.state → IsDoc two → IsPastCap (ran old.state k m) → ⊥
   within ends law o =
-      let o' : IsOver two.state = subst IsOver (sym (ends_at ends)) o in
+      let o' : IsPastCap two.state = subst IsPastCap (sym (ends_at ends)) o in
       let capped = law.capped in
       let past = o'.past in
       absurd (omega (arith, capped, past))

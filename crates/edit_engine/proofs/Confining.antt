@@ -6,21 +6,21 @@ use Rattle.std.specs.Option.{option_map_or}
 use Rattle.std.proofs.lemmas.Bool.{ne_eqb, and_parts}
 use Rattle.html_names.specs.Commands.{command_named}
 use Rattle.html_names.specs.declared.commands.Command.{Command}
-use Rattle.dom_model.specs.Change.{Loosen}
+use Rattle.dom_model.specs.Change.{Remove}
 use Rattle.dom_model.specs.Document.{page_depth}
 use Rattle.dom_model.specs.Forest.{tree_of}
 use Rattle.live_range.specs.declared.places.Pair.{Pair}
 use Rattle.edit_model.specs.State.{State}
 use Rattle.edit_model.specs.History.{Entry, begun, rested, entry_of, with_entry, joined, joined_in, recorded}
 use Rattle.edit_model.specs.Laws.{KeepsMark}
-use Rattle.edit_model.specs.Lawful.{IsLawful}
+use Rattle.edit_model.specs.Valid.{IsValid}
 use Rattle.edit_model.specs.Outside.{outside_by, is_island}
 use Rattle.edit_model.specs.Run.{Reaches, Run, final}
-use Rattle.edit_model.proofs.Commands.{lawful_begun}
+use Rattle.edit_model.proofs.Commands.{valid_begun}
 use Rattle.edit_laws.specs.BelowHost.{below}
 use Rattle.edit_laws.specs.Islands.{StaysBelow, IsTakenOut, IslandKept}
 use Rattle.edit_laws.specs.Order.{KeepsLeaves, KeepsOrder}
-use Rattle.edit_laws.specs.Tame.{Tame}
+use Rattle.edit_laws.specs.OrderPreserving.{OrderPreserving}
 use Rattle.edit_laws.proofs.Resting.{island_inside, outside_at_rest, marks_at_rest, islands_at_rest, order_at_rest}
 use Rattle.edit_laws.proofs.Subsequences.{keeps_refl}
 use Rattle.edit_actions.specs.ActiveRange.{affected_host}
@@ -85,22 +85,22 @@ reaches m s = m.by_actions s
 
 -- what holds of an editor between its calls
 pub record Standing (e : Editing) : Type 0 where
-  pub lawful : IsLawful e.state
+  pub valid : IsValid e.state
   pub resting : rested e.state ≡ e.state
   pub depth : 0 < e.history.depth
   pub joinable : e.typing ≡ true → IsJoinable e.history
 
 pub standing : (w : Whole) (typing : Bool) (e : Editing) → shown w typing ≡ e → IsResting w typing → IsDoc w → Standing e
 standing w typing e view rests law =
-    subst Standing view (record { lawful = law.lawful; resting = law.resting rests.closed; depth = law.some_depth; joinable = rests.joinable })
+    subst Standing view (record { valid = law.valid; resting = law.resting rests.closed; depth = law.some_depth; joinable = rests.joinable })
 
 same_marks : (host : Option ℕ) (s : State) (ms : List (List ℕ × Pair)) → AllZip (KeepsMark host s.trees) ms ms
 same_marks host s [] = tt
 same_marks host s (m ∷ ms) = ((refl, λ _ _. refl), same_marks host s ms)
 
 module _ (old new : Editing) (name v : List ℕ) (stands : Standing old) where
-  law : IsLawful old.state
-  law = stands.lawful
+  law : IsValid old.state
+  law = stands.valid
 
   whole : tree_of old.state.trees 0 ≡ old.state.trees
   unfolding rested
@@ -160,8 +160,8 @@ module _ (old new : Editing) (name v : List ℕ) (stands : Standing old) where
 
   some_edit : (b t : State) (l : ℕ) → IsTakenOut b t l → 0 < length t.edits
   some_edit b t l k =
-      let same : length t.edits ≡ length (k.then_at.edits ++ (Loosen k.root ∷ k.later)) = ap length k.listed in
-      omega (arith, same, length-append k.then_at.edits (Loosen k.root ∷ k.later))
+      let same : length t.edits ≡ length (k.then_at.edits ++ (Remove k.root ∷ k.later)) = ap length k.listed in
+      omega (arith, same, length-append k.then_at.edits (Remove k.root ∷ k.later))
 
   island_of : (h l : ℕ) (c : Command) (k : Bool) (m : Run Bool) → IslandKept (begun (Some h) k old.state) (final m (begun (Some h) k old.state)) old.state.trees (rested (final m (begun (Some h) k old.state))).trees h l → StaysBelow old.state.trees (after_run old c (final m (begun (Some h) k old.state))).state.trees h l ⊎ IsGone old (after_run old c (final m (begun (Some h) k old.state))) h l
   island_of h l c k m (inl stays) = inl stays
@@ -179,15 +179,15 @@ module _ (old new : Editing) (name v : List ℕ) (stands : Standing old) where
       let b = begun (Some h) k old.state in
       let hosted = host_is_host old.state law.forest.distinct h host in
       let at_host : after_run old run.command (final m b) ≡ new = ap (λ o. after_run old run.command (final m (begun o k old.state))) (sym host) ∙ run.is in
-      let leaves = (fit run.command v).stateless.leaves b (lawful_begun (Some h) k old.state law) in
+      let leaves = (fit run.command v).stateless.leaves b (valid_begun (Some h) k old.state law) in
       subst (λ (e : Editing). StaysBelow old.state.trees e.state.trees h l ⊎ IsGone old e h l) at_host
       (island_of h l run.command k m (islands_at_rest old.state (final m b) h k law whole hosted (m.by_actions b) leaves l island))
 
   -- ---- characters
 
-  kept_along : (h : ℕ) (k : Bool) (m : Run Bool) → k ≡ true → Tame m → KeepsOrder old.state (final m (begun (Some h) k old.state))
+  kept_along : (h : ℕ) (k : Bool) (m : Run Bool) → k ≡ true → OrderPreserving m → KeepsOrder old.state (final m (begun (Some h) k old.state))
   unfolding begun
-  kept_along h k m keeping t = t.keeps (begun (Some h) k old.state) (record { lawful = lawful_begun (Some h) k old.state law; keeping = keeping })
+  kept_along h k m keeping t = t.keeps (begun (Some h) k old.state) (record { valid = valid_begun (Some h) k old.state law; keeping = keeping })
 
   pub characters_kept : (new ≡ old) ⊎ IsRun old new name v → KeepsCharacters name old new
   characters_kept (inl same) c h named keeps host = subst (λ (e : Editing). KeepsLeaves (below old.state.trees h) (below e.state.trees h)) (sym same) (keeps_refl (below old.state.trees h))
@@ -200,4 +200,4 @@ module _ (old new : Editing) (name v : List ℕ) (stands : Standing old) where
       let hosted = host_is_host old.state law.forest.distinct h host in
       let at_host : after_run old run.command (final m b) ≡ new = ap (λ o. after_run old run.command (final m (begun o k old.state))) (sym host) ∙ run.is in
       subst (λ (e : Editing). KeepsLeaves (below old.state.trees h) (below e.state.trees h)) at_host
-      (order_at_rest old.state (final m b) h k law whole hosted (reaches m b) (kept_along h k m keeping ((fit run.command v).tame keeping)))
+      (order_at_rest old.state (final m b) h k law whole hosted (reaches m b) (kept_along h k m keeping ((fit run.command v).order_preserving keeping)))

@@ -7,18 +7,18 @@ use Rattle.edit_model.specs.Action.{Flag}
 use Rattle.edit_model.specs.Run.{Run, ◌>>=◌, answer, done, given, set_flags}
 use Rattle.edit_model.specs.declared.settings.Flags.{Flags}
 use Rattle.edit_laws.specs.Stateless.{Stateless}
-use Rattle.edit_laws.specs.Tame.{Tame}
+use Rattle.edit_laws.specs.OrderPreserving.{OrderPreserving}
 use Rattle.edit_laws.proofs.StatelessRuns.{stateless_answer, stateless_bind, stateless_look_at, stateless_if, stateless_given, stateless_perform}
-use Rattle.edit_laws.proofs.Tame.{tame_answer, tame_bind, tame_look, tame_if}
-use Rattle.command_laws.proofs.BlockRuns.{tame_format_block, stateless_format_block, tame_justify, stateless_justify}
+use Rattle.edit_laws.proofs.OrderPreserving.{order_preserving_answer, order_preserving_bind, order_preserving_look, order_preserving_if}
+use Rattle.command_laws.proofs.BlockRuns.{order_preserving_format_block, stateless_format_block, order_preserving_justify, stateless_justify}
 use Rattle.command_laws.proofs.DeleteRuns.{stateless_delete}
-use Rattle.command_laws.proofs.FormatRuns.{tame_remove_format, stateless_remove_format}
-use Rattle.command_laws.proofs.IndentRuns.{tame_indent, stateless_indent, tame_outdent, stateless_outdent}
-use Rattle.command_laws.proofs.LinkingRuns.{tame_create_link, stateless_create_link, tame_unlink, stateless_unlink}
-use Rattle.command_laws.proofs.ListToggleRuns.{tame_toggle_lists, stateless_toggle_lists}
+use Rattle.command_laws.proofs.FormatRuns.{order_preserving_remove_format, stateless_remove_format}
+use Rattle.command_laws.proofs.IndentRuns.{order_preserving_indent, stateless_indent, order_preserving_outdent, stateless_outdent}
+use Rattle.command_laws.proofs.LinkingRuns.{order_preserving_create_link, stateless_create_link, order_preserving_unlink, stateless_unlink}
+use Rattle.command_laws.proofs.ListToggleRuns.{order_preserving_toggle_lists, stateless_toggle_lists}
 use Rattle.command_laws.proofs.ObjectRuns.{stateless_insert_line_break, stateless_insert_horizontal_rule, stateless_insert_image}
-use Rattle.command_laws.proofs.RestoringRuns.{tame_restore_states, stateless_restore_states}
-use Rattle.command_laws.proofs.TogglingRuns.{tame_toggle_style, stateless_toggle_style, tame_toggle_script, stateless_toggle_script, tame_apply_value, stateless_apply_value}
+use Rattle.command_laws.proofs.RestoringRuns.{order_preserving_restore_states, stateless_restore_states}
+use Rattle.command_laws.proofs.TogglingRuns.{order_preserving_toggle_style, stateless_toggle_style, order_preserving_toggle_script, stateless_toggle_script, order_preserving_apply_value, stateless_apply_value}
 use Rattle.command_laws.proofs.TypingRuns.{stateless_insert_text, stateless_insert_paragraph}
 use Rattle.inline_value.specs.Overrides.{overrides_of}
 use Rattle.inline_value.specs.declared.overrides.Override.{Override}
@@ -29,13 +29,13 @@ use Rattle.edit_engine.specs.Commands.{row_of, own_action, action_of, is_value, 
 -- a run leaves the states of contenteditable, and a keeping one keeps the order
 pub record IsFit (keeping : Bool) (m : Run Bool) : Type 0 where
   pub stateless : Stateless m
-  pub tame : keeping ≡ true → Tame m
+  pub order_preserving : keeping ≡ true → OrderPreserving m
 
 other : {m : Run Bool} → Stateless m → IsFit false m
-other h = record { stateless = h; tame = λ keeps. absurd (true≢false (sym keeps)) }
+other h = record { stateless = h; order_preserving = λ keeps. absurd (true≢false (sym keeps)) }
 
-keeper : {m : Run Bool} → Stateless m → Tame m → IsFit true m
-keeper h t = record { stateless = h; tame = λ _. t }
+keeper : {m : Run Bool} → Stateless m → OrderPreserving m → IsFit true m
+keeper h t = record { stateless = h; order_preserving = λ _. t }
 
 -- ---- the commands on flags
 
@@ -55,35 +55,35 @@ stateless_separator value =
 -- ---- all commands
 
 own_fit : (c : Command) (value : List ℕ) → IsFit (row_of c).keeping (own_action c value)
-own_fit command.Bold value = keeper (stateless_toggle_style command.Bold) (tame_toggle_style command.Bold)
-own_fit command.Italic value = keeper (stateless_toggle_style command.Italic) (tame_toggle_style command.Italic)
-own_fit command.Underline value = keeper (stateless_toggle_style command.Underline) (tame_toggle_style command.Underline)
-own_fit command.Strikethrough value = keeper (stateless_toggle_style command.Strikethrough) (tame_toggle_style command.Strikethrough)
-own_fit command.Subscript value = keeper (stateless_toggle_script command.Subscript) (tame_toggle_script command.Subscript)
-own_fit command.Superscript value = keeper (stateless_toggle_script command.Superscript) (tame_toggle_script command.Superscript)
-own_fit command.CreateLink value = keeper (stateless_create_link value) (tame_create_link value)
-own_fit command.Unlink value = keeper stateless_unlink tame_unlink
-own_fit command.FontName value = keeper (stateless_apply_value command.FontName value) (tame_apply_value command.FontName value)
-own_fit command.FontSize value = keeper (stateless_apply_value command.FontSize value) (tame_apply_value command.FontSize value)
-own_fit command.ForeColor value = keeper (stateless_apply_value command.ForeColor value) (tame_apply_value command.ForeColor value)
-own_fit command.BackColor value = keeper (stateless_apply_value command.BackColor value) (tame_apply_value command.BackColor value)
-own_fit command.HiliteColor value = keeper (stateless_apply_value command.HiliteColor value) (tame_apply_value command.HiliteColor value)
-own_fit command.RemoveFormat value = keeper stateless_remove_format tame_remove_format
-own_fit command.FormatBlock value = keeper (stateless_format_block value) (tame_format_block value)
-own_fit command.JustifyLeft value = keeper (stateless_justify (codes "left")) (tame_justify (codes "left"))
-own_fit command.JustifyCenter value = keeper (stateless_justify (codes "center")) (tame_justify (codes "center"))
-own_fit command.JustifyRight value = keeper (stateless_justify (codes "right")) (tame_justify (codes "right"))
-own_fit command.JustifyFull value = keeper (stateless_justify (codes "justify")) (tame_justify (codes "justify"))
-own_fit command.Indent value = keeper stateless_indent tame_indent
-own_fit command.Outdent value = keeper stateless_outdent tame_outdent
+own_fit command.Bold value = keeper (stateless_toggle_style command.Bold) (order_preserving_toggle_style command.Bold)
+own_fit command.Italic value = keeper (stateless_toggle_style command.Italic) (order_preserving_toggle_style command.Italic)
+own_fit command.Underline value = keeper (stateless_toggle_style command.Underline) (order_preserving_toggle_style command.Underline)
+own_fit command.Strikethrough value = keeper (stateless_toggle_style command.Strikethrough) (order_preserving_toggle_style command.Strikethrough)
+own_fit command.Subscript value = keeper (stateless_toggle_script command.Subscript) (order_preserving_toggle_script command.Subscript)
+own_fit command.Superscript value = keeper (stateless_toggle_script command.Superscript) (order_preserving_toggle_script command.Superscript)
+own_fit command.CreateLink value = keeper (stateless_create_link value) (order_preserving_create_link value)
+own_fit command.Unlink value = keeper stateless_unlink order_preserving_unlink
+own_fit command.FontName value = keeper (stateless_apply_value command.FontName value) (order_preserving_apply_value command.FontName value)
+own_fit command.FontSize value = keeper (stateless_apply_value command.FontSize value) (order_preserving_apply_value command.FontSize value)
+own_fit command.ForeColor value = keeper (stateless_apply_value command.ForeColor value) (order_preserving_apply_value command.ForeColor value)
+own_fit command.BackColor value = keeper (stateless_apply_value command.BackColor value) (order_preserving_apply_value command.BackColor value)
+own_fit command.HiliteColor value = keeper (stateless_apply_value command.HiliteColor value) (order_preserving_apply_value command.HiliteColor value)
+own_fit command.RemoveFormat value = keeper stateless_remove_format order_preserving_remove_format
+own_fit command.FormatBlock value = keeper (stateless_format_block value) (order_preserving_format_block value)
+own_fit command.JustifyLeft value = keeper (stateless_justify (codes "left")) (order_preserving_justify (codes "left"))
+own_fit command.JustifyCenter value = keeper (stateless_justify (codes "center")) (order_preserving_justify (codes "center"))
+own_fit command.JustifyRight value = keeper (stateless_justify (codes "right")) (order_preserving_justify (codes "right"))
+own_fit command.JustifyFull value = keeper (stateless_justify (codes "justify")) (order_preserving_justify (codes "justify"))
+own_fit command.Indent value = keeper stateless_indent order_preserving_indent
+own_fit command.Outdent value = keeper stateless_outdent order_preserving_outdent
 own_fit command.Delete value = other stateless_delete
 own_fit command.InsertText value = other (stateless_insert_text value)
 own_fit command.InsertParagraph value = other stateless_insert_paragraph
 own_fit command.StyleWithCss value = other (stateless_styling (not (is_value value (codes "false"))))
 own_fit command.UseCss value = other (stateless_styling (is_value value (codes "false")))
 own_fit command.DefaultParagraphSeparator value = other (stateless_separator value)
-own_fit command.InsertOrderedList value = keeper (stateless_toggle_lists true) (tame_toggle_lists true)
-own_fit command.InsertUnorderedList value = keeper (stateless_toggle_lists false) (tame_toggle_lists false)
+own_fit command.InsertOrderedList value = keeper (stateless_toggle_lists true) (order_preserving_toggle_lists true)
+own_fit command.InsertUnorderedList value = keeper (stateless_toggle_lists false) (order_preserving_toggle_lists false)
 own_fit command.InsertLineBreak value = other stateless_insert_line_break
 own_fit command.InsertHorizontalRule value = other stateless_insert_horizontal_rule
 own_fit command.InsertImage value = other (stateless_insert_image value)
@@ -98,19 +98,19 @@ stateless_back list true =
     (λ _. stateless_answer true)
 stateless_back list false = stateless_answer false
 
-tame_back : (list : List Override) (b : Bool) → Tame (give_back list b)
+order_preserving_back : (list : List Override) (b : Bool) → OrderPreserving (give_back list b)
 unfolding restore_collapsed
-tame_back list true =
-    tame_bind (restore_collapsed list) (λ _. answer true)
-    (tame_look (λ s. if is_collapsed s then restore_states list else done) (λ s. tame_if (is_collapsed s) (restore_states list) done (tame_restore_states list) (tame_answer tt)))
-    (λ _. tame_answer true)
-tame_back list false = tame_answer false
+order_preserving_back list true =
+    order_preserving_bind (restore_collapsed list) (λ _. answer true)
+    (order_preserving_look (λ s. if is_collapsed s then restore_states list else done) (λ s. order_preserving_if (is_collapsed s) (restore_states list) done (order_preserving_restore_states list) (order_preserving_answer tt)))
+    (λ _. order_preserving_answer true)
+order_preserving_back list false = order_preserving_answer false
 
 framed_fit : (keeping recording : Bool) (m : Run Bool) → IsFit keeping m → IsFit keeping (framed recording m)
 unfolding recorded_action
 framed_fit keeping true m h = record {
   stateless = stateless_look_at (λ s. m >>= give_back (overrides_of s)) (λ s. stateless_bind m (give_back (overrides_of s)) h.stateless (stateless_back (overrides_of s)));
-  tame = λ keeps. tame_look (λ s. m >>= give_back (overrides_of s)) (λ s. tame_bind m (give_back (overrides_of s)) (h.tame keeps) (tame_back (overrides_of s)));
+  order_preserving = λ keeps. order_preserving_look (λ s. m >>= give_back (overrides_of s)) (λ s. order_preserving_bind m (give_back (overrides_of s)) (h.order_preserving keeps) (order_preserving_back (overrides_of s)));
 }
 framed_fit keeping false m h = h
 

@@ -6,7 +6,7 @@ use Rattle.command_gate.specs.Denied.{is_denied}
 use Rattle.html_names.specs.Commands.{command_named}
 use Rattle.html_names.specs.declared.commands.Command.{Command}
 use Rattle.dom_model.specs.Document.{page_depth}
-use Rattle.edit_model.specs.State.{State, IsOver}
+use Rattle.edit_model.specs.State.{State, IsPastCap}
 use Rattle.edit_model.specs.Gives.{Fails}
 use Rattle.edit_model.specs.declared.settings.EditFault.{EditFault}
 use Rattle.edit_model.specs.declared.settings.EditFault.TheVariants as edit
@@ -30,14 +30,14 @@ ran_cap : (s : State) (k : Bool) (m : Run Bool) → (ran s k m).cap ≡ s.cap
 unfolding begun
 ran_cap s k m = final_cap m (began s k)
 
-not_over : (s : State) (k : Bool) (m : Run Bool) → (IsOver (ran s k m) → ⊥) → nat_lt s.cap (ran s k m).next ≡ false
+not_over : (s : State) (k : Bool) (m : Run Bool) → (IsPastCap (ran s k m) → ⊥) → nat_lt s.cap (ran s k m).next ≡ false
 not_over s k m off = by_test (nat_lt s.cap (ran s k m).next) refl
   where
     by_test : (b : Bool) → nat_lt s.cap (ran s k m).next ≡ b → b ≡ false
     by_test true e = absurd (off (record { past = (let c = ran_cap s k m in rw c (grind (arith, nat_tests, e))) }))
     by_test false e = refl
 
-over : (s : State) (k : Bool) (m : Run Bool) → IsOver (ran s k m) → nat_lt s.cap (ran s k m).next ≡ true
+over : (s : State) (k : Bool) (m : Run Bool) → IsPastCap (ran s k m) → nat_lt s.cap (ran s k m).next ≡ true
 over s k m is = let c = ran_cap s k m in let past = is.past in grind (arith, nat_tests, c, past)
 
 same_editor : (old new : Whole) (typing : Bool) → IsTakenBack old new → shown new typing ≡ shown old typing

@@ -8,20 +8,20 @@ use Rattle.std.proofs.lemmas.Bool.Decides.{eqb_tells, nat_tests}
 use Rattle.dom_model.specs.declared.Content.{Content}
 use Rattle.dom_model.specs.Forest.{Forest, Seen, RisesFrom, tops, times, either, count_of, content_of, tree_of, with_leaf}
 use Rattle.dom_model.specs.Forest.Forest.{Nil, Tree}
-use Rattle.dom_model.specs.Shed.{shed}
+use Rattle.dom_model.specs.Pruned.{pruned}
 use Rattle.dom_model.proofs.Kept.{content_of-with_leaf_new, content_of-with_leaf_other}
-use Rattle.dom_model.proofs.Shedding.{tree_of-shed}
+use Rattle.dom_model.proofs.Pruning.{tree_of-pruned}
 use Rattle.dom_model.proofs.Stands.{times-tops, seek_absent}
 use Rattle.dom_model.proofs.Walks.{document_first}
 use Rattle.undo_log.specs.Turning.{forth, FitsForth}
-use Rattle.forest_changes.specs.Change.{Change, Loosen, Attach, Shift, Rewrite, Redress, IsForest, Fits, applied}
-use Rattle.forest_changes.specs.Down.{Sheds}
+use Rattle.forest_changes.specs.Change.{Change, Remove, Insert, Move, SetText, SetAttributes, IsForest, Fits, applied}
+use Rattle.forest_changes.specs.Down.{Prunes}
 use Rattle.forest_changes.specs.Leaves.{IsBelow, IsMade}
 use Rattle.forest_changes.specs.Named.{Each}
 use Rattle.forest_changes.proofs.BesideLeaf.{fresh}
 use Rattle.forest_changes.proofs.ChangeLists.{each_join, forth_down, forth_fits_up}
-use Rattle.forest_changes.proofs.DownChange.{IsForest-shed, sheds_roots}
-use Rattle.forest_changes.proofs.ManyLeaves.{has_made, shed-with_leaf, Sheds-with_leaf}
+use Rattle.forest_changes.proofs.DownChange.{IsForest-pruned, prunes_roots}
+use Rattle.forest_changes.proofs.ManyLeaves.{has_made, pruned-with_leaf, Prunes-with_leaf}
 use Rattle.forest_changes.proofs.Places.{rising_top}
 use Rattle.edit_model.specs.History.{Entry, History, document_of}
 use Rattle.edit_model.proofs.Resting.{forest-document}
@@ -47,7 +47,7 @@ none_lt a b h = grind (arith, nat_tests)
 abbrev loose_root : Forest Content → ℕ → Bool
 loose_root g l = nat_lt 0 l && nat_lt 0 (times (tops g) l)
 
-all_gone : (k : ℕ → Bool) (f : Forest Content) → ((m : ℕ) → 0 < times (tops f) m → k m ≡ true) → shed k f ≡ Nil
+all_gone : (k : ℕ → Bool) (f : Forest Content) → ((m : ℕ) → 0 < times (tops f) m → k m ≡ true) → pruned k f ≡ Nil
 all_gone k Nil h = refl
 all_gone k (Tree m c ks rest) h =
     let t : k m ≡ true = h m (own m (times (tops rest) m)) in
@@ -57,18 +57,18 @@ all_gone k (Tree m c ks rest) h =
     own m n = grind (arith, nat_tests)
 
 -- without them the document is left
-document_left : (g : Forest Content) → IsForest g → shed (loose_root g) g ≡ tree_of g 0
+document_left : (g : Forest Content) → IsForest g → pruned (loose_root g) g ≡ tree_of g 0
 document_left g is =
     let d = document_first g is.distinct is.rising is.document is.root in
-    subst (λ (w : Forest Content). RisesFrom 0 w → shed (loose_root w) w ≡ tree_of w 0) (sym d.3) (at_tree d.0 d.1 d.2) is.rising
+    subst (λ (w : Forest Content). RisesFrom 0 w → pruned (loose_root w) w ≡ tree_of w 0) (sym d.3) (at_tree d.0 d.1 d.2) is.rising
   where
-    at_tree : (c : Content) (ks rest : Forest Content) → RisesFrom 0 (Tree 0 c ks rest) → shed (loose_root (Tree 0 c ks rest)) (Tree 0 c ks rest) ≡ tree_of (Tree 0 c ks rest) 0
+    at_tree : (c : Content) (ks rest : Forest Content) → RisesFrom 0 (Tree 0 c ks rest) → pruned (loose_root (Tree 0 c ks rest)) (Tree 0 c ks rest) ≡ tree_of (Tree 0 c ks rest) 0
     at_tree c ks rest rises = ap (Tree 0 c ks) (all_gone (loose_root (Tree 0 c ks rest)) rest (λ m top. (
         let from = rising_top rest 1 m rises.1 top in
         both_true (nat_lt 0 m) (nat_lt 0 (times (tops (Tree 0 c ks rest)) m)) (true_lt 0 m (omega (arith, from))) (true_lt 0 (times (tops (Tree 0 c ks rest)) m) (omega (arith, top))))))
 
-loose_sheds : (g : Forest Content) → IsForest g → Sheds (loose_root g) g
-loose_sheds g is = sheds_roots (loose_root g) g is refl (λ l t. (
+loose_prunes : (g : Forest Content) → IsForest g → Prunes (loose_root g) g
+loose_prunes g is = prunes_roots (loose_root g) g is refl (λ l t. (
     let a = and_true (nat_lt 0 l) (nat_lt 0 (times (tops g) l)) t in
     top_loose g l is.distinct (lt_true 0 (times (tops g) l) a.1)))
 
@@ -80,8 +80,8 @@ no_root g next low l from = by_count (times (tops g) l) refl
     by_count zero e = none_lt (times (tops g) l) l e
     by_count (suc n) e = absurd (let lt = low.below l (omega (arith, e, times-tops g l)) in omega (arith, lt, from))
 
-same_document : (k : ℕ → Bool) (f : Forest Content) → k 0 ≡ false → IsForest f → document_of (shed k f) ≡ document_of f
-same_document k f keeps is = tree_of-shed k f 0 is.distinct (IsForest-shed k f keeps is).document
+same_document : (k : ℕ → Bool) (f : Forest Content) → k 0 ≡ false → IsForest f → document_of (pruned k f) ≡ document_of f
+same_document k f keeps is = tree_of-pruned k f 0 is.distinct (IsForest-pruned k f keeps is).document
 
 record IsPage (d : Forest Content) (next : ℕ) : Type 0 where
   forest : IsForest d
@@ -109,17 +109,17 @@ one_made l c g next is low from made =
 record Begins (k : ℕ → Bool) (ns : List (ℕ × Content)) (g : Forest Content) (next : ℕ) : Type 0 where
   forest : IsForest (with_made g ns)
   below : IsBelow (with_made g ns) (next_past next ns)
-  sheds : Sheds k (with_made g ns)
-  same : shed k (with_made g ns) ≡ with_made (shed k g) ns
+  prunes : Prunes k (with_made g ns)
+  same : pruned k (with_made g ns) ≡ with_made (pruned k g) ns
 
-begins : (k : ℕ → Bool) (ns : List (ℕ × Content)) (g : Forest Content) (next : ℕ) → ((l : ℕ) → next ≤ l → k l ≡ false) → IsForest g → IsBelow g next → RiseFrom next ns → Each (λ (n : ℕ × Content). IsMade n.1) ns → Sheds k g → Begins k ns g next
-begins k [] g next high is low rise made sheds = record { forest = is; below = low; sheds = sheds; same = refl }
-begins k (n ∷ ns) g next high is low rise made sheds =
+begins : (k : ℕ → Bool) (ns : List (ℕ × Content)) (g : Forest Content) (next : ℕ) → ((l : ℕ) → next ≤ l → k l ≡ false) → IsForest g → IsBelow g next → RiseFrom next ns → Each (λ (n : ℕ × Content). IsMade n.1) ns → Prunes k g → Begins k ns g next
+begins k [] g next high is low rise made prunes = record { forest = is; below = low; prunes = prunes; same = refl }
+begins k (n ∷ ns) g next high is low rise made prunes =
     let o = one_made n.0 n.1 g next is low rise.0 made.0 in
     let out = high n.0 rise.0 in
     let first = rise.0 in
-    let r = begins k ns (with_leaf g n.0 n.1) (n.0 + 1) (λ l h. high l (omega (arith, first, h))) o.forest o.below rise.1 made.1 (Sheds-with_leaf k n.0 n.1 out g o.own sheds) in
-    record { forest = r.forest; below = r.below; sheds = r.sheds; same = r.same ∙ ap (λ w. with_made w ns) (shed-with_leaf k n.0 n.1 out g) }
+    let r = begins k ns (with_leaf g n.0 n.1) (n.0 + 1) (λ l h. high l (omega (arith, first, h))) o.forest o.below rise.1 made.1 (Prunes-with_leaf k n.0 n.1 out g o.own prunes) in
+    record { forest = r.forest; below = r.below; prunes = r.prunes; same = r.same ∙ ap (λ w. with_made w ns) (pruned-with_leaf k n.0 n.1 out g) }
 
 either_none : (o : Option Content) → either o None ≡ o
 either_none None = refl
@@ -176,15 +176,15 @@ record Starts (xs : List Change) (content : ℕ → Option Content) (f : Forest 
 entry_replayed : (e : Entry) (g : Forest Content) (next cap : ℕ) → IsForest g → IsBelow g next → LeadsOnward next (document_of g) e → next_past next e.made ≤ cap → IsPlainEntry e → AfterEntry e g next cap
 entry_replayed e g next cap is low now room plain =
     let k = loose_root g in
-    let b = begins k e.made g next (no_root g next low) is low now.rise now.made (loose_sheds g is) in
+    let b = begins k e.made g next (no_root g next low) is low now.rise now.made (loose_prunes g is) in
     let f = with_made g e.made in
     let xs = e.edits in
-    let begin : shed k f ≡ at_begin e = b.same ∙ ap (λ w. with_made w e.made) (document_left g is ∙ sym now.before) in
+    let begin : pruned k f ≡ at_begin e = b.same ∙ ap (λ w. with_made w e.made) (document_left g is ∙ sym now.before) in
     let page : IsPage e.before.document next = subst (λ (w : Forest Content). IsPage w next) (sym now.before) (document_page g next is low) in
     let own = own_contents (at_begin e) (content_in e) (content_with e.made e.before.document next page.forest page.below now.rise now.made) in
-    let s : Starts xs (content_in e) (shed k f) = subst (λ (w : Forest Content). Starts xs (content_in e) w) (sym begin) (record { fits = now.fits; shallow = plain.shallow; own = own }) in
-    let whole = forth_fits_up k xs f b.sheds b.forest s.fits in
-    let down = forth_down k xs f b.sheds whole.0 whole.1 in
+    let s : Starts xs (content_in e) (pruned k f) = subst (λ (w : Forest Content). Starts xs (content_in e) w) (sym begin) (record { fits = now.fits; shallow = plain.shallow; own = own }) in
+    let whole = forth_fits_up k xs f b.prunes b.forest s.fits in
+    let down = forth_down k xs f b.prunes whole.0 whole.1 in
     let past = next_past next e.made in
     let forest = forth_forest xs f whole.0 b.forest in
     record {
@@ -194,7 +194,7 @@ entry_replayed e g next cap is low now room plain =
       document = sym (same_document k (forth applied xs f) refl forest) ∙ (ap document_of (down.same ∙ ap (forth applied xs) begin) ∙ now.after);
       go = λ rest r onward m. entry_line m (made_lines e.made) (map (line_with (content_in e)) xs) rest g next cap r
           (makes_replayed e.made g next cap (map (line_with (content_in e)) xs ++ rest) r now.rise room plain.made
-          (edits_replayed k (content_in e) xs f past cap rest r b.sheds b.forest s.fits plain.texts s.shallow s.own onward) (m + 1));
+          (edits_replayed k (content_in e) xs f past cap rest r b.prunes b.forest s.fits plain.texts s.shallow s.own onward) (m + 1));
     }
 
 pub entries_replayed : (es : List Entry) (g : Forest Content) (next from cap : ℕ) (d last : Forest Content) (end : ℕ) → IsForest g → IsBelow g next → next ≤ from → document_of g ≡ d → LeadOnward from d es last end → end ≤ cap → Each IsPlainEntry es → Replayed (lines_of es) g next cap last
@@ -214,11 +214,11 @@ edits_are content [] = refl
 edits_are content (x ∷ xs) = (let rest = edits_are content xs in λ i. edit_is x i ∷ rest i)
   where
     edit_is : (y : Change) → edit_step (logged_edit content y) ≡ line_with content y
-    edit_is (Loosen n) = refl
-    edit_is (Attach n p b) = refl
-    edit_is (Shift n p b) = refl
-    edit_is (Rewrite n words) = refl
-    edit_is (Redress n list) = refl
+    edit_is (Remove n) = refl
+    edit_is (Insert n p b) = refl
+    edit_is (Move n p b) = refl
+    edit_is (SetText n words) = refl
+    edit_is (SetAttributes n list) = refl
 
 makes_are : (ns : List (ℕ × Content)) → flat_map made_steps (map made_node ns) ≡ made_lines ns
 makes_are [] = refl

@@ -9,17 +9,17 @@ use Rattle.dom_model.specs.Document.{page_depth}
 use Rattle.dom_model.specs.Forest.{Forest, parent_of, content_of, with_leaf, unlink}
 use Rattle.dom_model.specs.Places.{levels, kids_in}
 use Rattle.dom_model.specs.Revised.{revised}
-use Rattle.dom_model.specs.Shed.{shed}
+use Rattle.dom_model.specs.Pruned.{pruned}
 use Rattle.dom_model.proofs.Kept.{content_of-link, content_of-unlink}
 use Rattle.dom_model.proofs.Revising.{content_of-revised}
-use Rattle.dom_model.proofs.Shedding.{tree_of-shed}
+use Rattle.dom_model.proofs.Pruning.{tree_of-pruned}
 use Rattle.undo_log.specs.Turning.{forth, FitsForth}
-use Rattle.forest_changes.specs.Change.{Change, Loosen, Attach, Shift, Rewrite, Redress, IsForest, Fits, applied}
-use Rattle.forest_changes.specs.Down.{Sheds, IsLeft}
+use Rattle.forest_changes.specs.Change.{Change, Remove, Insert, Move, SetText, SetAttributes, IsForest, Fits, applied}
+use Rattle.forest_changes.specs.Down.{Prunes, IsLeft}
 use Rattle.forest_changes.specs.Named.{Each, named}
 use Rattle.forest_changes.proofs.Contents.{here_is}
-use Rattle.forest_changes.proofs.DownChange.{down, up, IsForest-shed}
-use Rattle.forest_changes.proofs.ShedChanges.{content_of-shed}
+use Rattle.forest_changes.proofs.DownChange.{down, up, IsForest-pruned}
+use Rattle.forest_changes.proofs.PrunedChanges.{content_of-pruned}
 use Rattle.forest_changes.proofs.Twice.{given_parent, IsForest-unlink, IsForest-applied}
 use Rattle.edit_doc.proofs.Onwards.{below_past}
 use Rattle.step_text.specs.declared.line.Made.{Made}
@@ -71,15 +71,15 @@ stripped_revised f n g same l = ap (option_map stripped) (content_of-revised n g
 -- a change leaves the rest of all contents
 stripped_kept : (x : Change) (f : Forest Content) → Fits x f → (l : ℕ) → option_map stripped (content_of (applied x f) l) ≡ option_map stripped (content_of f l)
 unfolding applied
-stripped_kept (Loosen n) f h l = ap (option_map stripped) (content_of-unlink f (unwrap_or (parent_of f n) 0) n l h.forest.distinct (given_parent f n h.here))
-stripped_kept (Attach n p b) f h l = ap (option_map stripped) (content_of-link f p b n l h.forest.distinct h.here.place)
-stripped_kept (Shift n p b) f h l =
+stripped_kept (Remove n) f h l = ap (option_map stripped) (content_of-unlink f (unwrap_or (parent_of f n) 0) n l h.forest.distinct (given_parent f n h.here))
+stripped_kept (Insert n p b) f h l = ap (option_map stripped) (content_of-link f p b n l h.forest.distinct h.here.place)
+stripped_kept (Move n p b) f h l =
     let q = unwrap_or (parent_of f n) 0 in
     let child = given_parent f n h.here.0 in
     let loose = IsForest-unlink f q n h.forest child in
     ap (option_map stripped) (content_of-link (unlink f n) p b n l loose.distinct h.here.1.place ∙ content_of-unlink f q n l h.forest.distinct child)
-stripped_kept (Rewrite n words) f h l = stripped_revised f n (with_chars words) (stripped_chars words) l
-stripped_kept (Redress n list) f h l = stripped_revised f n (with_attributes list) (stripped_attributes list) l
+stripped_kept (SetText n words) f h l = stripped_revised f n (with_chars words) (stripped_chars words) l
+stripped_kept (SetAttributes n list) f h l = stripped_revised f n (with_attributes list) (stripped_attributes list) l
 
 -- each node of a forest has the content that is told, but for characters and attributes
 pub record AreContents (content : ℕ → Option Content) (f : Forest Content) : Type 0 where
@@ -129,52 +129,52 @@ abbrev pub lab : Forest Content → ℕ → ℕ → Labelled
 lab f next cap = record { trees = f; next = next; cap = cap }
 
 abbrev pub node_in : Change → ℕ
-node_in (Loosen n) = n
-node_in (Attach n p b) = n
-node_in (Shift n p b) = n
-node_in (Rewrite n words) = n
-node_in (Redress n list) = n
+node_in (Remove n) = n
+node_in (Insert n p b) = n
+node_in (Move n p b) = n
+node_in (SetText n words) = n
+node_in (SetAttributes n list) = n
 
 -- the line of a change, where each element has the name that its content tells
 abbrev pub line_with : (ℕ → Option Content) → Change → StepLine
 line_with content x = line_of x (element_name (content (node_in x)))
 
--- ---- lines of changes, where trees are shed
+-- ---- lines of changes, where trees are pruned
 
 module _ (k : ℕ → Bool) (content : ℕ → Option Content) where
-  can_say : (x : Change) (f : Forest Content) → IsForest f → Each (IsLeft k f) (named x) → Fits x (shed k f) → ChangesText content x → AreContents content (shed k f) → CanSay x (element_name (content (node_in x))) f
-  can_say (Loosen n) f is left h text own = tt
-  can_say (Attach n p b) f is left h text own = tt
-  can_say (Shift n p b) f is left h text own = tt
-  can_say (Rewrite n words) f is left h text own =
-      ap (λ o. option_map_or is_text o false) (sym (content_of-shed k f n is left.0))
-      ∙ (sym (text_left (content_of (shed k f) n)) ∙ (ap (λ o. option_map_or is_text o false) (own.are n) ∙ (text_left (content n) ∙ text)))
-  can_say (Redress n list) f is left h text own =
-      ap (option_and_then name_in) (sym (content_of-shed k f n is left.0)) ∙ named_so (shed k f) n (content n) h.here (own.are n)
+  can_say : (x : Change) (f : Forest Content) → IsForest f → Each (IsLeft k f) (named x) → Fits x (pruned k f) → ChangesText content x → AreContents content (pruned k f) → CanSay x (element_name (content (node_in x))) f
+  can_say (Remove n) f is left h text own = tt
+  can_say (Insert n p b) f is left h text own = tt
+  can_say (Move n p b) f is left h text own = tt
+  can_say (SetText n words) f is left h text own =
+      ap (λ o. option_map_or is_text o false) (sym (content_of-pruned k f n is left.0))
+      ∙ (sym (text_left (content_of (pruned k f) n)) ∙ (ap (λ o. option_map_or is_text o false) (own.are n) ∙ (text_left (content n) ∙ text)))
+  can_say (SetAttributes n list) f is left h text own =
+      ap (option_and_then name_in) (sym (content_of-pruned k f n is left.0)) ∙ named_so (pruned k f) n (content n) h.here (own.are n)
 
-  same_depth : (f : Forest Content) → k 0 ≡ false → IsForest f → page_depth (shed k f) ≡ page_depth f
-  same_depth f keeps is = ap (λ t. levels (kids_in t)) (tree_of-shed k f 0 is.distinct (IsForest-shed k f keeps is).document)
+  same_depth : (f : Forest Content) → k 0 ≡ false → IsForest f → page_depth (pruned k f) ≡ page_depth f
+  same_depth f keeps is = ap (λ t. levels (kids_in t)) (tree_of-pruned k f 0 is.distinct (IsForest-pruned k f keeps is).document)
 
   record Steps (xs : List Change) (g : Forest Content) : Type 0 where
     fits : FitsForth applied Fits xs g
     shallow : StayShallow xs g
     own : AreContents content g
 
-  pub edits_replayed : (xs : List Change) (f : Forest Content) (next cap : ℕ) (rest : List StepLine) (r : Labelled) → Sheds k f → IsForest f
-      → FitsForth applied Fits xs (shed k f) → Each (ChangesText content) xs → StayShallow xs (shed k f) → AreContents content (shed k f)
+  pub edits_replayed : (xs : List Change) (f : Forest Content) (next cap : ℕ) (rest : List StepLine) (r : Labelled) → Prunes k f → IsForest f
+      → FitsForth applied Fits xs (pruned k f) → Each (ChangesText content) xs → StayShallow xs (pruned k f) → AreContents content (pruned k f)
       → ((m : ℕ) → replayed_from m rest (lab (forth applied xs f) next cap) ≡ Ok r) → (m : ℕ) → replayed_from m (map (line_with content) xs ++ rest) (lab f next cap) ≡ Ok r
   unfolding forth FitsForth
-  edits_replayed [] f next cap rest r sheds is fits texts shallow own onward m = onward m
-  edits_replayed (x ∷ xs) f next cap rest r sheds is fits texts shallow own onward m =
-      let u = up k x f sheds is fits.0 in
-      let d = down k x f sheds u.0 u.1 in
+  edits_replayed [] f next cap rest r prunes is fits texts shallow own onward m = onward m
+  edits_replayed (x ∷ xs) f next cap rest r prunes is fits texts shallow own onward m =
+      let u = up k x f prunes is fits.0 in
+      let d = down k x f prunes u.0 u.1 in
       let g = applied x f in
       let isg = IsForest-applied x f u.0 in
-      let deep : page_depth g ≡ page_depth (applied x (shed k f)) = sym (same_depth g sheds.document isg) ∙ ap page_depth d.same in
+      let deep : page_depth g ≡ page_depth (applied x (pruned k f)) = sym (same_depth g prunes.document isg) ∙ ap page_depth d.same in
       let led = change_led x (element_name (content (node_in x))) (lab f next cap) u.0 (can_say x f is u.1 fits.0 texts.0 own) (let low = shallow.0 in omega (arith, deep, low)) in
-      let s : Steps xs (shed k g) = subst (λ (w : Forest Content). Steps xs w) (sym d.same) (record { fits = fits.1; shallow = shallow.1; own = contents_kept content x (shed k f) fits.0 own }) in
+      let s : Steps xs (pruned k g) = subst (λ (w : Forest Content). Steps xs w) (sym d.same) (record { fits = fits.1; shallow = shallow.1; own = contents_kept content x (pruned k f) fits.0 own }) in
       one_led m (line_with content x) (map (line_with content) xs ++ rest) (lab f next cap) (lab g next cap) led
-      ∙ edits_replayed xs g next cap rest r d.sheds isg s.fits texts.1 s.shallow s.own onward (m + 1)
+      ∙ edits_replayed xs g next cap rest r d.prunes isg s.fits texts.1 s.shallow s.own onward (m + 1)
 
 -- ---- lines of nodes that were made
 

@@ -8,14 +8,14 @@ use Rattle.dom_model.specs.Forest.{Forest, count_of, tree_of, IsWithin}
 use Rattle.dom_model.specs.Forest.Forest.{Nil, Tree}
 use Rattle.dom_model.specs.Contents.{length_of}
 use Rattle.dom_model.specs.Places.{kids_in}
-use Rattle.dom_model.specs.State as arena
+use Rattle.dom_model.specs.ArenaState as arena
 use Rattle.dom_model.proofs.Walks.{document_first}
 use Rattle.live_range.specs.declared.places.Point.{Point}
 use Rattle.live_range.specs.declared.places.Pair.{Pair}
 use Rattle.live_range.specs.LivePoints.{LivePoints}
 use Rattle.point_order.specs.PointOrder.{is_placed, is_in_document}
 use Rattle.edit_actions.proofs.Placed.{placed_inside}
-use Rattle.edit_model.specs.Lawful.{IsForest, IsPlaced, IsPlacedPair}
+use Rattle.edit_model.specs.Valid.{IsForest, IsPlaced, IsPlacedPair}
 use Rattle.node_paths.specs.Paths.{label_at, label_by, node_in, path_of, node_text}
 use Rattle.page_write.specs.Html.{document_html}
 use Rattle.page_write.specs.Listing.{document_lines}
@@ -30,9 +30,9 @@ pub record Same (f g : Forest Content) : Type 0 where
   pub first : f ≡ Tree 0 content kids rest
   pub second : g ≡ Tree 0 content kids others
 
-pub same_first : (a : arena.State) → arena.IsLawful a → (g : Forest Content) (next : ℕ) → IsForest g next → tree_of a.trees 0 ≡ tree_of g 0 → Same a.trees g
-same_first a lawful g next law same =
-    let d = document_first a.trees lawful.distinct lawful.rising lawful.document lawful.root in
+pub same_first : (a : arena.ArenaState) → arena.IsValid a → (g : Forest Content) (next : ℕ) → IsForest g next → tree_of a.trees 0 ≡ tree_of g 0 → Same a.trees g
+same_first a valid g next law same =
+    let d = document_first a.trees valid.distinct valid.rising valid.document valid.root in
     let e = document_first g law.distinct law.rising law.document law.root in
     let t : Tree 0 d.0 d.1 Nil ≡ Tree 0 e.0 e.1 Nil = sym (ap (λ x. tree_of x 0) d.3) ∙ (same ∙ ap (λ x. tree_of x 0) e.3) in
     let c : e.0 ≡ d.0 = (let t' = t in cc) in

@@ -1,7 +1,7 @@
 -- An editor: the state of its document, the history that undo goes through, and whether it is typing.
 use Rattle.std.specs.Prelude.{◌≡◌, ℕ, ◌<◌, Bool, true, false, List, [], ◌∷◌, length, zero, suc, refl}
 use Rattle.std.specs.Coded.{Coded, code_by, coded×, coded_bool}
-use Rattle.dom_model.specs.State.{State as Arena}
+use Rattle.dom_model.specs.ArenaState.{ArenaState as Arena}
 use Rattle.edit_model.specs.State.{State}
 use Rattle.edit_model.specs.History.{Entry, History, undone_state, undone_history, redone_state, redone_history}
 use Rattle.edit_model.specs.Codes.{state_code, history_code}

@@ -2,7 +2,7 @@
 use Rattle.std.specs.Prelude.{◌≡◌, nat_lt, Bool, true, false, length, Result, Ok, Err, Option, Some, None}
 use Rattle.undo_log.specs.declared.log.Committed.{Committed}
 use Rattle.undo_log.specs.declared.log.Committed.TheVariants as committed
-use Rattle.edit_model.specs.State.{State, IsOver}
+use Rattle.edit_model.specs.State.{State, IsPastCap}
 use Rattle.edit_model.specs.History.{rested, recorded}
 use Rattle.edit_model.specs.Run.{Run}
 use Rattle.edit_model.specs.declared.settings.EditFault.{EditFault}
@@ -16,7 +16,7 @@ pub record IsMade (old new : Whole) (joining keeping : Bool) (m : Run Bool) : Ty
   pub history : new.history ≡ recorded joining old.state (ran old.state keeping m) old.history
   pub closed : new.began ≡ None
   pub answer : answered old.state keeping m ≡ true
-  pub within : IsOver (ran old.state keeping m) → ⊥
+  pub within : IsPastCap (ran old.state keeping m) → ⊥
 
 -- the document is as before
 pub record IsTakenBack (old new : Whole) : Type 0 where
@@ -28,7 +28,7 @@ pub record IsTakenBack (old new : Whole) : Type 0 where
 pub record IsRefused (old new : Whole) (keeping : Bool) (m : Run Bool) : Type 0 where
   pub back : IsTakenBack old new
   pub answer : answered old.state keeping m ≡ false
-  pub within : IsOver (ran old.state keeping m) → ⊥
+  pub within : IsPastCap (ran old.state keeping m) → ⊥
 
 abbrev pub has_entry : Committed → Bool
 has_entry committed.Nothing = false

@@ -226,11 +226,11 @@ pub(crate) fn run_command(
     open(doc, joining, row_of(command).keeping)?;
     match take_action(alloc, doc, command, value) {
         Ok(true) => {
-            doc.lawful();
+            doc.valid();
             Ok(Some(doc.commit()))
         }
         Ok(false) => {
-            doc.lawful();
+            doc.valid();
             doc.roll_back();
             Ok(None)
         }

@@ -77,7 +77,7 @@ impl Editor {
         ensures islands { KeepsIslands self.old self.new }
         ensures characters { KeepsCharacters name.now self.old self.new }
     {
-        self.doc.lawful();
+        self.doc.valid();
         match Command::named(name) {
             Some(command) => self.exec_command(alloc, command, value),
             None => Ok(Answer::No),
@@ -100,7 +100,7 @@ impl Editor {
         ensures islands { KeepsIslands self.old self.new }
         ensures characters { KeepsCharacters name.now self.old self.new }
     {
-        self.doc.lawful();
+        self.doc.valid();
         if gate.denies(name.as_bytes()) {
             return Ok(Answer::No);
         }
@@ -129,7 +129,7 @@ impl Editor {
     fn run(&mut self, alloc: Global, command: Command, value: &[char]) -> Result<Answer, ExecFault>
         ensures { Tells result self.old self.new (run_outcome self.old command (action_of command value.now)) }
     {
-        self.doc.lawful();
+        self.doc.valid();
         let joining = joins(self.typing, command);
         match run_command(alloc, &mut self.doc, joining, command, value) {
             Ok(Some(committed)) => {

@@ -2,7 +2,7 @@
 
 ghost use Rattle.std.specs.Prelude.{◌≡◌, IfSome, true};
 ghost use Rattle.point_order.specs.PointOrder.{is_placed, is_in_document};
-ghost use Rattle.edit_model.specs.Lawful.{IsPlacedPair};
+ghost use Rattle.edit_model.specs.Valid.{IsPlacedPair};
 ghost use Rattle.edit_doc.specs.Whole.{IsClosed};
 ghost use Rattle.edit_doc.specs.Held.{Holds, Finds};
 ghost use Rattle.node_paths.specs.Paths.{label_at};
@@ -35,9 +35,9 @@ pub(crate) fn node_at(doc: &Doc, path: &Path) -> Option<NodeRef>
     ensures found { Finds doc.now result (label_at doc.now.state.trees path.now) }
     ensures inner { IfSome result (λ r. is_in_document doc.now.state.trees r.label ≡ true) }
 {
-    doc.lawful();
+    doc.valid();
     let arena = doc.arena();
-    arena.lawful();
+    arena.valid();
     resolve(arena, path.as_slice())
 }
 

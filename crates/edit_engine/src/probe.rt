@@ -41,9 +41,9 @@ fn push_node(
     match node {
         None => bytes.extend_from_slice(b"none"),
         Some(node) => {
-            doc.lawful();
+            doc.valid();
             let arena = doc.arena();
-            arena.lawful();
+            arena.valid();
             push_path(alloc, bytes, arena, node)
         }
     }

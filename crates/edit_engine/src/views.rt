@@ -17,9 +17,9 @@ pub(crate) fn html_line(alloc: Global, doc: &Doc) -> Result<Vec<u8>, AllocError>
     requires { IsClosed doc.now }
     ensures { IfOk result (λ text. text.items ≡ document_html doc.now.state.trees ++ codes "\n") }
 {
-    doc.lawful();
+    doc.valid();
     let arena = doc.arena();
-    arena.lawful();
+    arena.valid();
     let mut text = write_html(alloc, arena)?;
     text.push(b'\n')?;
     Ok(text)
@@ -29,9 +29,9 @@ pub(crate) fn tree_lines(alloc: Global, doc: &Doc) -> Result<Vec<u8>, AllocError
     requires { IsClosed doc.now }
     ensures { IfOk result (λ text. text.items ≡ document_lines doc.now.state.trees) }
 {
-    doc.lawful();
+    doc.valid();
     let arena = doc.arena();
-    arena.lawful();
+    arena.valid();
     write_tree(alloc, arena)
 }
 
@@ -39,9 +39,9 @@ pub(crate) fn points_lines(alloc: Global, doc: &Doc) -> Result<Vec<u8>, AllocErr
     requires { IsClosed doc.now }
     ensures { IfOk result (λ text. text.items ≡ point_lines doc.now.state.trees doc.now.state.points) }
 {
-    doc.lawful();
+    doc.valid();
     let arena = doc.arena();
-    arena.lawful();
+    arena.valid();
     write_points(alloc, arena, doc.points())
 }
 

@@ -46,7 +46,7 @@ module _ (s : State) (is : IsKeeping s) (n c : ℕ) (e : Content) (root : parent
   empty = ap leaves tree ∙ (leaves-Tree c e Nil Nil ∙ (ap (λ l. l ++ (leaves Nil ++ leaves Nil)) bare ∙ rw leaves-Nil refl))
 
   outside : IsLoose s c
-  outside = none_there (count_of (document_of s.trees) c) (λ h. within_root s.trees 0 is.lawful.forest.distinct is.lawful.forest.document c (λ z. omega (arith, inner, z)) root h)
+  outside = none_there (count_of (document_of s.trees) c) (λ h. within_root s.trees 0 is.valid.forest.distinct is.valid.forest.document c (λ z. omega (arith, inner, z)) root h)
 
   -- where the document stays, c is no part of it
   out : (t : State) → IsKeeping t → document_of t.trees ≡ document_of s.trees → KeepsOrder s (final (move_last c n) t)
@@ -66,16 +66,16 @@ module _ (s : State) (is : IsKeeping s) (n c : ℕ) (e : Content) (root : parent
     unfolding t is_made_edit trees_after
     linked may =
         ap (λ f. tree_of f 0) (trees_made (Insert p (next_of s.trees n) c) s may)
-        ∙ document-link s.trees s.next is.lawful.forest p (next_of s.trees n) c (inserts s p (next_of s.trees n) c may).can
+        ∙ document-link s.trees s.next is.valid.forest p (next_of s.trees n) c (inserts s p (next_of s.trees n) c may).can
 
     seated : may_insert s p (next_of s.trees n) c ≡ true → Seat s n p → KeepsOrder s (final (move_last c n) t)
     unfolding t
     seated may w =
         let f = document_of s.trees in
-        let once = document_distinct s.trees is.lawful.forest.distinct in
+        let once = document_distinct s.trees is.valid.forest.distinct in
         let kids = join w.pre (Tree n w.content w.kids w.post) in
         let others = join w.pre (Tree n w.content w.kids (Tree c e Nil w.post)) in
-        let place : next_of s.trees n ≡ first_in (tops w.post) = next_is s is.lawful p w.pre n w.content w.kids w.post w.spot in
+        let place : next_of s.trees n ≡ first_in (tops w.post) = next_is s is.valid p w.pre n w.content w.kids w.post w.spot in
         let put =
         ap (λ g. put_under g p (next_of s.trees n) (tree_of s.trees c)) w.spot.is
         ∙ (ap (λ b. put_under (fill w.spot.around (Tree p w.spot.content kids w.spot.rest)) p b (tree_of s.trees c)) place
@@ -96,7 +96,7 @@ module _ (s : State) (is : IsKeeping s) (n c : ℕ) (e : Content) (root : parent
       where
         by_count : may_insert s p (next_of s.trees n) c ≡ true → (k : ℕ) → count_of (document_of s.trees) p ≡ k → KeepsOrder s (final (move_last c n) t)
         by_count may zero none = out t is_t (linked may ∙ put_under_nowhere (document_of s.trees) p (next_of s.trees n) (tree_of s.trees c) none)
-        by_count may (suc k) some = seated may (seat s is.lawful n p up (omega (arith, some)))
+        by_count may (suc k) some = seated may (seat s is.valid n p up (omega (arith, some)))
 
   pub taken_in : KeepsOrder s (final (insert_after n c >> move_last c n) s)
   unfolding t

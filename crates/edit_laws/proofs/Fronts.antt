@@ -15,7 +15,7 @@ use Rattle.edit_model.specs.Kept.{borne_by}
 use Rattle.edit_model.specs.Confined.{is_made, is_open, may_move}
 use Rattle.edit_model.specs.Edit.{Move, edited}
 use Rattle.edit_model.specs.History.{document_of}
-use Rattle.edit_model.specs.Lawful.{IsLawful}
+use Rattle.edit_model.specs.Valid.{IsValid}
 use Rattle.edit_model.specs.Run.{Run, final, for_each, ◌>>◌}
 use Rattle.edit_model.proofs.CommandParts.{final_command}
 use Rattle.edit_model.proofs.Documents.{within_below}
@@ -62,8 +62,8 @@ lift_shut : (t : State) (is : IsKeeping t) (q : ℕ) (pre : Forest Content) (o :
     → (list : List ℕ) → ((n : ℕ) → 0 < times list n → 0 < times (tops ks) n) → final (for_each list (move_before o)) t ≡ t
 lift_shut t is q pre o c ks post spot shut list among =
     each_stays list (move_before o) t (λ n h.
-    final_move_before o n q t (node_parent t is.lawful q pre o c ks post spot)
-    ∙ move_stays n q (Some o) t (lift_open t is.lawful q pre o c ks post spot n (among n h) ∙ ap (λ v. v && (is_open t q && is_parent_at t.trees q)) shut))
+    final_move_before o n q t (node_parent t is.valid q pre o c ks post spot)
+    ∙ move_stays n q (Some o) t (lift_open t is.valid q pre o c ks post spot n (among n h) ∙ ap (λ v. v && (is_open t q && is_parent_at t.trees q)) shut))
 
 -- one after the other, where the node before o was made by the command
 part_at : (front list rest : Forest Content) (s : State) → IsKeeping s → (q : ℕ) (pre : Forest Content) (x : ℕ) (e : Content) (g : Forest Content) (o : ℕ) (c : Content) (post : Forest Content) → borne_by o c ≡ [] → may_have_children e ≡ true → is_made s x ≡ true
@@ -86,7 +86,7 @@ part_at front list rest s is q pre x e g o c post bare parent made spot =
     after h k w = spot_as (document_of t.trees) q (join pre (Tree x e h (Tree o c k post))) (join (join pre (Tree x e h Nil)) (Tree o c k post)) (sym (join-assoc pre (Tree x e h Nil) (Tree o c k post))) w
 
     parent_t : (h k : Forest Content) → Spot (document_of t.trees) q (join pre (Tree x e h (Tree o c k post))) → is_parent_at t.trees x ≡ true
-    parent_t h k w = ap (λ (v : Option (Seen Content)). option_map_or may_have_children (option_map (λ (y : Seen Content). y.content) v) false) (node_found t is_t.lawful q pre x e h (Tree o c k post) w) ∙ parent
+    parent_t h k w = ap (λ (v : Option (Seen Content)). option_map_or may_have_children (option_map (λ (y : Seen Content). y.content) v) false) (node_found t is_t.valid q pre x e h (Tree o c k post) w) ∙ parent
 
     then_lift : Ends t q (join pre (Tree x e (join g front) (Tree o c (join list rest) post))) o x (λ went left. join pre (Tree x e went (Tree o c (join left (join list rest)) post))) → KeepsOrder t (final (for_each (tops list) (move_before o)) t)
     then_lift (all_went w) = (lift_all list t is_t q (join pre (Tree x e (join g front) Nil)) o c rest post bare (after (join g front) (join list rest) w)).keeps
@@ -105,7 +105,7 @@ among_second : (a b c : List ℕ) (n : ℕ) → 0 < times b n → 0 < times (a +
 among_second a b c n h = omega (arith, h, times-append a (b ++ c) n, times-append b c n)
 
 -- what a look-up of children tells of each
-pub child_by : (s : State) → IsLawful s → (o n : ℕ) → 0 < times (children_of s.trees o) n → parent_of s.trees n ≡ Some o
+pub child_by : (s : State) → IsValid s → (o n : ℕ) → 0 < times (children_of s.trees o) n → parent_of s.trees n ≡ Some o
 child_by s is o n among = by_seen (seek None s.trees o) refl
   where
     by_seen : (k : Option (Seen Content)) → seek None s.trees o ≡ k → parent_of s.trees n ≡ Some o
@@ -128,11 +128,11 @@ module _ (s : State) (is : IsKeeping s) (front list rest : List ℕ) (o x : ℕ)
     where
       seated : (q : ℕ) → Seat s x q → KeepsOrder s (final (for_each list (move_before o)) (final (for_each front (move_last x)) s))
       seated q w =
-          let after : first_in (tops w.post) ≡ Some o = sym (next_is s is.lawful q w.pre x w.content w.kids w.post w.spot) ∙ next in
+          let after : first_in (tops w.post) ≡ Some o = sym (next_is s is.valid q w.pre x w.content w.kids w.post w.spot) ∙ next in
           let h = headed_first w.post o after in
           let spot = spot_as (document_of s.trees) q _ (join w.pre (Tree x w.content w.kids (Tree o h.content h.kids h.post))) (ap (λ k. join w.pre (Tree x w.content w.kids k)) h.is) w.spot in
           let deeper = spot_as (document_of s.trees) q _ (join (join w.pre (Tree x w.content w.kids Nil)) (Tree o h.content h.kids h.post)) (sym (join-assoc w.pre (Tree x w.content w.kids Nil) (Tree o h.content h.kids h.post))) spot in
-          let found = node_found s is.lawful q (join w.pre (Tree x w.content w.kids Nil)) o h.content h.kids h.post deeper in
+          let found = node_found s is.valid q (join w.pre (Tree x w.content w.kids Nil)) o h.content h.kids h.post deeper in
           let own : children_of s.trees o ≡ tops h.kids = ap (λ (k : Option (Seen Content)). option_map_or (λ (y : Seen Content). y.children) k []) found in
           let a = parts_of h.kids front (list ++ rest) (sym own ∙ kids) in
           let b = parts_of a.second list rest a.seconds in
@@ -145,8 +145,8 @@ module _ (s : State) (is : IsKeeping s) (front list rest : List ℕ) (o x : ℕ)
           (part_at a.first b.first b.second s is q w.pre x w.content w.kids o h.content h.post plain kind made there))
 
       by_count : (q : ℕ) → parent_of s.trees x ≡ Some q → (k : ℕ) → count_of (document_of s.trees) q ≡ k → KeepsOrder s (final (for_each list (move_before o)) (final (for_each front (move_last x)) s))
-      by_count q up zero e = both_still (loose_parent s is.lawful x q up e) (loose_parent s is.lawful o q (parent_of-next s.trees is.lawful.forest.distinct x o q up next) e)
-      by_count q up (suc k) e = seated q (seat s is.lawful x q up (omega (arith, e)))
+      by_count q up zero e = both_still (loose_parent s is.valid x q up e) (loose_parent s is.valid o q (parent_of-next s.trees is.valid.forest.distinct x o q up next) e)
+      by_count q up (suc k) e = seated q (seat s is.valid x q up (omega (arith, e)))
 
       by_parent : (p : Option ℕ) → parent_of s.trees x ≡ p → KeepsOrder s (final (for_each list (move_before o)) (final (for_each front (move_last x)) s))
       by_parent None root = absurd (let k : None ≡ Some o = sym (ap (λ p. option_and_then (λ k. after_in (children_of s.trees k) x) p) root) ∙ next in cc)
@@ -164,8 +164,8 @@ module _ (s : State) (is : IsKeeping s) (front list rest : List ℕ) (o x : ℕ)
       by_count (suc k) e =
           let first : final (for_each front (move_last x)) s ≡ s = each_stays front (move_last x) s (λ n h.
           final_move_last x n s ∙ left_out n x None (λ may. (
-          let child = child_by s is.lawful o n (subst (λ l. 0 < times l n) (sym kids) (no_one front list rest n h)) in
-          let there = within_below s.trees s.next is.lawful.forest o n child (omega (arith, e)) in
+          let child = child_by s is.valid o n (subst (λ l. 0 < times l n) (sym kids) (no_one front list rest n h)) in
+          let there = within_below s.trees s.next is.valid.forest o n child (omega (arith, e)) in
           out (ltb-true 0 (count_of (tree_of s.trees 0) x) ((goes s n x None may).inside (lt-ltb 0 (count_of (tree_of s.trees 0) n) there)))))) in
           let second : final (for_each list (move_before o)) s ≡ s = each_stays list (move_before o) s (λ n h.
           final_move_before o n q s up ∙ left_out n q (Some o) (λ may. true≢false (sym (goes s n q (Some o) may).allowed_to ∙ shut))) in

@@ -14,7 +14,7 @@ use Rattle.edit_model.specs.Kept.{borne_by}
 use Rattle.edit_model.specs.Confined.{is_open, may_move}
 use Rattle.edit_model.specs.Edit.{Move, edited}
 use Rattle.edit_model.specs.History.{document_of}
-use Rattle.edit_model.specs.Lawful.{IsLawful}
+use Rattle.edit_model.specs.Valid.{IsValid}
 use Rattle.edit_model.specs.Run.{final, for_each}
 use Rattle.edit_model.specs.Moves.{move_last}
 use Rattle.edit_model.proofs.Resting.{seek_document}
@@ -32,7 +32,7 @@ final_move_last p n s = rw (final-bind, final-edit, final-answer) refl
 
 -- ---- the children of a node of the document
 
-module _ (s : State) (is : IsLawful s) (q : ℕ) (kids : Forest Content) (spot : Spot (document_of s.trees) q kids) where
+module _ (s : State) (is : IsValid s) (q : ℕ) (kids : Forest Content) (spot : Spot (document_of s.trees) q kids) where
   pub owner_found : seek None s.trees q ≡ Some (record { parent = owner_of None spot.around; content = spot.content; children = tops kids })
   owner_found =
       seek_document s.trees s.next q (record { parent = owner_of None spot.around; content = spot.content; children = tops kids }) is.forest
@@ -64,13 +64,13 @@ module _ (s : State) (is : IsKeeping s) (q : ℕ) (pre : Forest Content) (x : �
 
   pub hand_open : (n : ℕ) → 0 < times (tops ks) n → may_move s n x None ≡ (is_open s o && (is_open s x && is_parent_at s.trees x))
   hand_open n h =
-      let once = is.lawful.forest.distinct in
-      let child = child_parent s is.lawful q (join pre (Tree x e g Nil)) o c ks post spot_after n h in
-      let up = node_parent s is.lawful q (join pre (Tree x e g Nil)) o c ks post spot_after in
-      let beside = node_parent s is.lawful q pre x e g (Tree o c ks post) spot in
+      let once = is.valid.forest.distinct in
+      let child = child_parent s is.valid q (join pre (Tree x e g Nil)) o c ks post spot_after n h in
+      let up = node_parent s is.valid q (join pre (Tree x e g Nil)) o c ks post spot_after in
+      let beside = node_parent s is.valid q pre x e g (Tree o c ks post) spot in
       let kids_once = spot_distinct (document_of s.trees) (document_distinct s.trees once) q (join pre (Tree x e g (Tree o c ks post))) spot in
       goes_where_open s n o x None child (not_within_cousin s.trees once n o q x child up beside) refl
-      (below_inside s is.lawful q (join pre (Tree x e g (Tree o c ks post))) spot x (omega (arith, count-join pre (Tree x e g (Tree o c ks post)) x, self_one x)))
+      (below_inside s is.valid q (join pre (Tree x e g (Tree o c ks post))) spot x (omega (arith, count-join pre (Tree x e g (Tree o c ks post)) x, self_one x)))
       (λ same. pair_apart pre x e g o c ks post kids_once (sym same))
 
 pub hand : (s : State) → IsKeeping s → (q : ℕ) (pre : Forest Content) (x : ℕ) (e : Content) (g : Forest Content) (o : ℕ) (c : Content) (n : ℕ) (d : Content) (j k post : Forest Content) → borne_by o c ≡ []
@@ -78,7 +78,7 @@ pub hand : (s : State) → IsKeeping s → (q : ℕ) (pre : Forest Content) (x :
     → Slide s (edited (Move n x None) s) q (join pre (Tree x e (join g (Tree n d j Nil)) (Tree o c k post))) (may_move s n x None)
 hand s is q pre x e g o c n d j k post bare spot =
     let f = document_of s.trees in
-    let once = document_distinct s.trees is.lawful.forest.distinct in
+    let once = document_distinct s.trees is.valid.forest.distinct in
     let kids = join pre (Tree x e g (Tree o c (Tree n d j k) post)) in
     let others = join pre (Tree x e (join g (Tree n d j Nil)) (Tree o c k post)) in
     let kids_once = spot_distinct f once q kids spot in
@@ -88,7 +88,7 @@ hand s is q pre x e g o c n d j k post bare spot =
     let t = take_first (join pre (Tree x e g Nil)) o c n d j k post (subst IsDistinct (sym same) kids_once) in
     let tree : tree_of kids n ≡ Tree n d j Nil = ap (λ h. tree_of h n) (sym same) ∙ t.tree in
     let out = ap (λ h. without h n) (sym same) ∙ (t.out ∙ join-assoc pre (Tree x e g Nil) (Tree o c k post)) in
-    let apart = node_apart s is.lawful q pre x e g (Tree o c (Tree n d j k) post) spot in
+    let apart = node_apart s is.valid q pre x e g (Tree o c (Tree n d j k) post) spot in
     slide s is q kids others spot n x None inside
     (rw (spot_without f once q kids spot n inside, spot_tree f once q kids spot n inside, tree, out)
     (spot_put_below f once q kids spot (join pre (Tree x e g (Tree o c k post))) x None (Tree n d j Nil) here ∙ ap (λ h. fill spot.around (Tree q spot.content h spot.rest)) (put_last_below pre x e g (Tree o c k post) n d j apart)))
@@ -130,17 +130,17 @@ hand_all (Tree n d j list) s is q pre x e g o c k post bare spot =
 module _ (s : State) (is : IsKeeping s) (q : ℕ) (pre : Forest Content) (p : ℕ) (e : Content) (g post : Forest Content) (spot : Spot (document_of s.trees) q (join pre (Tree p e g post))) where
   pub take_open : (n : ℕ) → 0 < times (tops post) n → may_move s n p None ≡ (is_open s q && (is_open s p && is_parent_at s.trees p))
   take_open n h =
-      let once = is.lawful.forest.distinct in
+      let once = is.valid.forest.distinct in
       let kids = join pre (Tree p e g post) in
       let kids_once = spot_distinct (document_of s.trees) (document_distinct s.trees once) q kids spot in
       let among : 0 < times (tops kids) n = omega (arith, h, tops-join pre (Tree p e g post) n) in
-      let child = top_parent s is.lawful q kids spot n among in
-      let beside = node_parent s is.lawful q pre p e g post spot in
+      let child = top_parent s is.valid q kids spot n among in
+      let beside = node_parent s is.valid q pre p e g post spot in
       let off : n ≢ p = λ same. (
       let h' : 0 < times (tops post) p = subst (λ m. 0 < times (tops post) m) same h in
       omega (arith, h', times-tops post p, kids_once p, count-join pre (Tree p e g post) p, self_one p)) in
       goes_where_open s n q p None child (not_within_beside s.trees once n q p child beside off) refl
-      (below_inside s is.lawful q kids spot p (omega (arith, count-join pre (Tree p e g post) p, self_one p)))
+      (below_inside s is.valid q kids spot p (omega (arith, count-join pre (Tree p e g post) p, self_one p)))
       (λ same. parent_other s.trees once p q beside same)
 
 pub take : (s : State) → IsKeeping s → (q : ℕ) (pre : Forest Content) (p : ℕ) (e : Content) (g : Forest Content) (n : ℕ) (d : Content) (j post : Forest Content)
@@ -148,7 +148,7 @@ pub take : (s : State) → IsKeeping s → (q : ℕ) (pre : Forest Content) (p :
     → Slide s (edited (Move n p None) s) q (join pre (Tree p e (join g (Tree n d j Nil)) post)) (may_move s n p None)
 take s is q pre p e g n d j post spot =
     let f = document_of s.trees in
-    let once = document_distinct s.trees is.lawful.forest.distinct in
+    let once = document_distinct s.trees is.valid.forest.distinct in
     let kids = join pre (Tree p e g (Tree n d j post)) in
     let others = join pre (Tree p e (join g (Tree n d j Nil)) post) in
     let kids_once = spot_distinct f once q kids spot in
@@ -158,7 +158,7 @@ take s is q pre p e g n d j post spot =
     let t = take_one (join pre (Tree p e g Nil)) n d j post (subst IsDistinct (sym same) kids_once) in
     let tree : tree_of kids n ≡ Tree n d j Nil = ap (λ h. tree_of h n) (sym same) ∙ t.tree in
     let out = ap (λ h. without h n) (sym same) ∙ (t.out ∙ join-assoc pre (Tree p e g Nil) post) in
-    let apart = node_apart s is.lawful q pre p e g (Tree n d j post) spot in
+    let apart = node_apart s is.valid q pre p e g (Tree n d j post) spot in
     slide s is q kids others spot n p None inside
     (rw (spot_without f once q kids spot n inside, spot_tree f once q kids spot n inside, tree, out)
     (spot_put_below f once q kids spot (join pre (Tree p e g post)) p None (Tree n d j Nil) here ∙ ap (λ h. fill spot.around (Tree q spot.content h spot.rest)) (put_last_below pre p e g post n d j apart)))

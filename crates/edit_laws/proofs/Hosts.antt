@@ -11,7 +11,7 @@ use Rattle.dom_model.proofs.Hosts.{editing_host-child}
 use Rattle.dom_model.proofs.Links.{parent_count}
 use Rattle.edit_model.specs.State.{State}
 use Rattle.edit_model.specs.Confined.{is_editable_for, is_inside}
-use Rattle.edit_model.specs.Lawful.{IsLawful}
+use Rattle.edit_model.specs.Valid.{IsValid}
 use Rattle.edit_model.proofs.IslandRuns.{content_at}
 use Rattle.edit_model.proofs.Tests.{label_is}
 
@@ -52,7 +52,7 @@ by_host f h p false e = rw (e, eq-eqb h h refl) (either_true (eqb h p))
     either_true true = refl
     either_true false = refl
 
-pub parent_inside : (s : State) → IsLawful s → (n p : ℕ) → parent_of s.trees n ≡ Some p → is_editable_for s n ≡ true → is_inside s p ≡ true
+pub parent_inside : (s : State) → IsValid s → (n p : ℕ) → parent_of s.trees n ≡ Some p → is_editable_for s n ≡ true → is_inside s p ≡ true
 unfolding is_editable_for is_inside
 parent_inside s is n p child editable = with_host s.host editable
   where

@@ -1,7 +1,7 @@
 pub mod Subsequences
 pub mod Leaves
 pub mod QuietActions
-pub mod Tame
+pub mod OrderPreserving
 pub mod Around
 pub mod Patterns
 pub mod Slides

@@ -12,7 +12,7 @@ use Rattle.edit_model.specs.Kept.{borne_by}
 use Rattle.edit_model.specs.Confined.{is_open, is_place, may_move}
 use Rattle.edit_model.specs.Edit.{Move, is_made_edit, edited}
 use Rattle.edit_model.specs.History.{document_of}
-use Rattle.edit_model.specs.Lawful.{IsLawful}
+use Rattle.edit_model.specs.Valid.{IsValid}
 use Rattle.edit_model.specs.Run.{final, for_each}
 use Rattle.edit_model.proofs.Steps.{final-bind, final-answer, final-look, final-edit, for_each-cons, for_each-nil}
 use Rattle.edit_model.proofs.Giving.{edited-left}
@@ -34,7 +34,7 @@ unfolding is_made_edit
 move_stays n p b s off = edited-left (Move n p b) s off
 
 -- the node o among the children of q
-module _ (s : State) (is : IsLawful s) (q : ℕ) (pre : Forest Content) (o : ℕ) (c : Content) (ks post : Forest Content) (spot : Spot (document_of s.trees) q (join pre (Tree o c ks post))) where
+module _ (s : State) (is : IsValid s) (q : ℕ) (pre : Forest Content) (o : ℕ) (c : Content) (ks post : Forest Content) (spot : Spot (document_of s.trees) q (join pre (Tree o c ks post))) where
   pub node_once : IsDistinct (join pre (Tree o c ks post))
   node_once = spot_distinct (tree_of s.trees 0) (document_distinct s.trees is.forest.distinct) q (join pre (Tree o c ks post)) spot
 
@@ -73,12 +73,12 @@ pub lift : (s : State) → IsKeeping s → (q : ℕ) (pre : Forest Content) (o :
     → Slide s (edited (Move n q (Some o)) s) q (join pre (Tree n d j (Tree o c k post))) (may_move s n q (Some o))
 lift s is q pre o c n d j k post bare spot =
     let f = document_of s.trees in
-    let once = document_distinct s.trees is.lawful.forest.distinct in
+    let once = document_distinct s.trees is.valid.forest.distinct in
     let kids = join pre (Tree o c (Tree n d j k) post) in
     let others = join pre (Tree n d j (Tree o c k post)) in
     let inside : 0 < count_of kids n = omega (arith, count-join pre (Tree o c (Tree n d j k) post) n, self_one n) in
     let t = take_first pre o c n d j k post (spot_distinct f once q kids spot) in
-    let apart = node_apart s is.lawful q pre o c (Tree n d j k) post spot in
+    let apart = node_apart s is.valid q pre o c (Tree n d j k) post spot in
     slide s is q kids others spot n q (Some o) inside
     (rw (spot_without f once q kids spot n inside, spot_tree f once q kids spot n inside, t.tree, t.out)
     (spot_put_top f once q kids spot (join pre (Tree o c k post)) (Some o) (Tree n d j Nil) ∙ ap (λ g. fill spot.around (Tree q spot.content g spot.rest)) (put_before_node pre o c k post n d j apart)))
@@ -98,7 +98,7 @@ pub lift_all : (list : Forest Content) (s : State) → IsKeeping s → (q : ℕ)
     → Ran s (final (for_each (tops list) (move_before o)) s) q (join pre (join list (Tree o c k post))) o q (λ went left. join went (Tree o c (join left k) post))
 lift_all Nil s is q pre o c k post bare spot = rw (for_each-nil, final-answer) (record { keeps = keeps_refl (document_of s.trees); ends = all_went spot })
 lift_all (Tree n d j list) s is q pre o c k post bare spot =
-    rw (for_each-cons, final-bind, final_move_before o n q s (node_parent s is.lawful q pre o c (Tree n d j (join list k)) post spot))
+    rw (for_each-cons, final-bind, final_move_before o n q s (node_parent s is.valid q pre o c (Tree n d j (join list k)) post spot))
     (by_made (may_move s n q (Some o)) refl (lift s is q pre o c n d j (join list k) post bare spot)
     (λ next. lift_all list t (keeping_edited (Move n q (Some o)) s is) q (join pre (Tree n d j Nil)) o c k post bare (spot_as (document_of t.trees) q (join pre (Tree n d j (Tree o c (join list k) post))) (join (join pre (Tree n d j Nil)) (Tree o c (join list k) post)) (sym (join-assoc pre (Tree n d j Nil) (Tree o c (join list k) post))) next)))
   where
@@ -116,9 +116,9 @@ lift_all (Tree n d j list) s is q pre o c k post bare spot =
         record { keeps = keeps_trans one.keeps rest.keeps; ends = subst (λ g. Ends (final (for_each (tops list) (move_before o)) t) q g o q stopped) (join-assoc pre (Tree n d j Nil) (join list (Tree o c k post))) rest.ends }
     by_made false e one more =
         let self : 0 < times (tops (Tree n d j (join list k))) n = omega (arith, self_one n) in
-        let shut : (is_open s o && (is_open s q && is_parent_at s.trees q)) ≡ false = sym (lift_open s is.lawful q pre o c (Tree n d j (join list k)) post spot n self) ∙ e in
+        let shut : (is_open s o && (is_open s q && is_parent_at s.trees q)) ≡ false = sym (lift_open s is.valid q pre o c (Tree n d j (join list k)) post spot n self) ∙ e in
         let stays : (m : ℕ) → 0 < times (tops list) m → final (move_before o m) s ≡ s = λ m h.
-        final_move_before o m q s (node_parent s is.lawful q pre o c (Tree n d j (join list k)) post spot)
-        ∙ move_stays m q (Some o) s (lift_open s is.lawful q pre o c (Tree n d j (join list k)) post spot m (omega (arith, h, tops-join list k m)) ∙ shut) in
+        final_move_before o m q s (node_parent s is.valid q pre o c (Tree n d j (join list k)) post spot)
+        ∙ move_stays m q (Some o) s (lift_open s is.valid q pre o c (Tree n d j (join list k)) post spot m (omega (arith, h, tops-join list k m)) ∙ shut) in
         rw (one.left refl, each_stays (tops list) (move_before o) s stays)
         (record { keeps = keeps_refl (document_of s.trees); ends = some_stay pre (Tree n d j list) spot shut })

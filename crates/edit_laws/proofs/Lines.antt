@@ -11,7 +11,7 @@ use Rattle.dom_model.proofs.Within.{within_self, within_child, within_parent, wi
 use Rattle.edit_model.specs.State.{State}
 use Rattle.edit_model.specs.Confined.{may_move}
 use Rattle.edit_model.specs.Edit.{Move, is_made_edit, trees_after, edited}
-use Rattle.edit_model.specs.Lawful.{IsLawful}
+use Rattle.edit_model.specs.Valid.{IsValid}
 use Rattle.edit_model.specs.Moves.{move_before}
 use Rattle.edit_model.specs.Run.{final, for_each}
 use Rattle.edit_model.proofs.Forests.{forest-unlink, can_go}
@@ -44,7 +44,7 @@ pub none_by : (k : ℕ) → (0 < k → ⊥) → k ≡ 0
 none_by zero h = refl
 none_by (suc k) h = absurd (h (omega arith))
 
-module _ (s : State) (is : IsLawful s) (n c : ℕ) (here : 0 < count_of s.trees n) where
+module _ (s : State) (is : IsValid s) (n c : ℕ) (here : 0 < count_of s.trees n) where
   -- no child of c stands above it
   no_child : (l : ℕ) → IsWithin s.trees l c → times (children_of s.trees c) l ≡ 0
   no_child l below = none_by (times (children_of s.trees c) l) (λ h. parent_apart s.trees l c is.forest.distinct (child_by s is c l h) below)
@@ -74,13 +74,13 @@ pub line_within : (f : Forest Content) → IsDistinct f → (n : ℕ) (list : Li
 line_within f once n list l here top = within_self f n once here
 line_within f once n list l here (down m _ up none line) = within_child f n once here l m up (line_within f once n list m here line)
 
-pub line_loose : (s : State) → IsLawful s → (n : ℕ) (list : List ℕ) (l : ℕ) → IsLoose s l → Line s.trees n list l → IsLoose s n
+pub line_loose : (s : State) → IsValid s → (n : ℕ) (list : List ℕ) (l : ℕ) → IsLoose s l → Line s.trees n list l → IsLoose s n
 line_loose s is n list l none top = none
 line_loose s is n list l none (down m _ up out line) = line_loose s is n list m (loose_up s is l m up none) line
 
 -- ---- a node keeps its parent where others move
 
-parent_moved : (s : State) → IsLawful s → (k p : ℕ) (b : Option ℕ) (l q : ℕ) → k ≢ l → parent_of s.trees l ≡ Some q → parent_of (edited (Move k p b) s).trees l ≡ Some q
+parent_moved : (s : State) → IsValid s → (k p : ℕ) (b : Option ℕ) (l q : ℕ) → k ≢ l → parent_of s.trees l ≡ Some q → parent_of (edited (Move k p b) s).trees l ≡ Some q
 unfolding is_made_edit trees_after
 parent_moved s is k p b l q off up = elim (cases_Bool (may_move s k p b)) [
   | inr left ↦ ap (λ f. parent_of f l) (trees_left (Move k p b) s left) ∙ up
@@ -99,7 +99,7 @@ parent_moved s is k p b l q off up = elim (cases_Bool (may_move s k p b)) [
       ∙ (parent_of-link (unlink f k) p b k loose.distinct can l v.0 v.2 ∙ (ap (λ x. cond x (Some p) v.0.parent) (ne_eqb k l off) ∙ own')))
 ]
 
-parent_turn : (o k : ℕ) (s : State) → IsLawful s → (l q : ℕ) → k ≢ l → parent_of s.trees l ≡ Some q → parent_of (final (move_before o k) s).trees l ≡ Some q
+parent_turn : (o k : ℕ) (s : State) → IsValid s → (l q : ℕ) → k ≢ l → parent_of s.trees l ≡ Some q → parent_of (final (move_before o k) s).trees l ≡ Some q
 parent_turn o k s is l q off up = by_parent (parent_of s.trees o) refl
   where
     by_parent : (p : Option ℕ) → parent_of s.trees o ≡ p → parent_of (final (move_before o k) s).trees l ≡ Some q
@@ -111,4 +111,4 @@ parent_each [] o s is l q none up = rw (for_each-nil, final-answer) up
 parent_each (k ∷ list) o s is l q none up =
     let off : k ≢ l = λ same. (let one = self_one l in let e = ap (λ x. eqb x l) same in absurd (let none' = rw e at none in omega (arith, none', one))) in
     rw (for_each-cons, final-bind)
-    (parent_each list o (final (move_before o k) s) (keeping_final (move_before o k) s is) l q (omega (arith, none)) (parent_turn o k s is.lawful l q off up))
+    (parent_each list o (final (move_before o k) s) (keeping_final (move_before o k) s is) l q (omega (arith, none)) (parent_turn o k s is.valid l q off up))

@@ -8,7 +8,7 @@ use Rattle.edit_model.specs.State.{State}
 use Rattle.edit_model.specs.Confined.{may_move}
 use Rattle.edit_model.specs.Edit.{Move, is_made_edit, edited}
 use Rattle.edit_model.specs.History.{document_of}
-use Rattle.edit_model.specs.Lawful.{IsLawful}
+use Rattle.edit_model.specs.Valid.{IsValid}
 use Rattle.edit_model.specs.Run.{Run, final, for_each}
 use Rattle.edit_model.proofs.Documents.{within_above, within_below}
 use Rattle.edit_model.proofs.IslandRuns.{trees_made, trees_left}
@@ -31,11 +31,11 @@ none_there zero h = refl
 none_there (suc k) h = absurd (h (omega arith))
 
 -- what stands below a loose node is loose
-pub loose_parent : (s : State) → IsLawful s → (o q : ℕ) → parent_of s.trees o ≡ Some q → IsLoose s q → IsLoose s o
+pub loose_parent : (s : State) → IsValid s → (o q : ℕ) → parent_of s.trees o ≡ Some q → IsLoose s q → IsLoose s o
 loose_parent s is o q up none = none_there (count_of (document_of s.trees) o) (λ h. (let k = within_above s.trees s.next is.forest q o up h in omega (arith, k, none)))
 
 -- a move to a loose node leaves the document
-pub still_move : (n p : ℕ) (b : Option ℕ) (s : State) → IsLawful s → IsLoose s p → document_of (edited (Move n p b) s).trees ≡ document_of s.trees
+pub still_move : (n p : ℕ) (b : Option ℕ) (s : State) → IsValid s → IsLoose s p → document_of (edited (Move n p b) s).trees ≡ document_of s.trees
 unfolding is_made_edit
 still_move n p b s is none = elim (cases_Bool (may_move s n p b)) [
   | inr off ↦ ap (λ f. tree_of f 0) (trees_left (Move n p b) s off)
@@ -59,10 +59,10 @@ still_each o turn stays (n ∷ list) s is none =
     rw (for_each-cons, final-bind) (still_each o turn stays list (final (turn n) s) (keeping_final (turn n) s is) (ap (λ g. count_of g o) one ∙ none) ∙ one)
 
 pub still_last : (x n : ℕ) (s : State) → IsKeeping s → IsLoose s x → document_of (final (move_last x n) s).trees ≡ document_of s.trees
-still_last x n s is none = rw (final_move_last x n s) (still_move n x None s is.lawful none)
+still_last x n s is none = rw (final_move_last x n s) (still_move n x None s is.valid none)
 
 pub still_first : (p n : ℕ) (s : State) → IsKeeping s → IsLoose s p → document_of (final (move_first p n) s).trees ≡ document_of s.trees
-still_first p n s is none = rw (final_move_first p n s) (still_move n p (first_of s.trees p) s is.lawful none)
+still_first p n s is none = rw (final_move_first p n s) (still_move n p (first_of s.trees p) s is.valid none)
 
 -- ---- a node without a parent has no place beside it
 
@@ -74,7 +74,7 @@ pub after_root : (o n : ℕ) (s : State) → parent_of s.trees o ≡ None → fi
 unfolding move_after
 after_root o n s root = rw (final-look, root, final-answer) refl
 
-pub loose_up : (s : State) → IsLawful s → (o q : ℕ) → parent_of s.trees o ≡ Some q → IsLoose s o → IsLoose s q
+pub loose_up : (s : State) → IsValid s → (o q : ℕ) → parent_of s.trees o ≡ Some q → IsLoose s o → IsLoose s q
 loose_up s is o q up none = none_there (count_of (document_of s.trees) q) (λ h. (let k = within_below s.trees s.next is.forest q o up h in omega (arith, k, none)))
 
 pub still_before : (o n : ℕ) (s : State) → IsKeeping s → IsLoose s o → document_of (final (move_before o n) s).trees ≡ document_of s.trees
@@ -82,11 +82,11 @@ still_before o n s is none = by_parent (parent_of s.trees o) refl
   where
     by_parent : (p : Option ℕ) → parent_of s.trees o ≡ p → document_of (final (move_before o n) s).trees ≡ document_of s.trees
     by_parent None root = rw (before_root o n s root) refl
-    by_parent (Some q) up = rw (final_move_before o n q s up) (still_move n q (Some o) s is.lawful (loose_up s is.lawful o q up none))
+    by_parent (Some q) up = rw (final_move_before o n q s up) (still_move n q (Some o) s is.valid (loose_up s is.valid o q up none))
 
 pub still_after : (o n : ℕ) (s : State) → IsKeeping s → IsLoose s o → document_of (final (move_after o n) s).trees ≡ document_of s.trees
 still_after o n s is none = by_parent (parent_of s.trees o) refl
   where
     by_parent : (p : Option ℕ) → parent_of s.trees o ≡ p → document_of (final (move_after o n) s).trees ≡ document_of s.trees
     by_parent None root = rw (after_root o n s root) refl
-    by_parent (Some q) up = rw (final_move_after o n q s up) (still_move n q (next_of s.trees o) s is.lawful (loose_up s is.lawful o q up none))
+    by_parent (Some q) up = rw (final_move_after o n q s up) (still_move n q (next_of s.trees o) s is.valid (loose_up s is.valid o q up none))

@@ -12,7 +12,7 @@ use Rattle.dom_model.proofs.Neighbours.{parent_of-next}
 use Rattle.edit_model.specs.State.{State}
 use Rattle.edit_model.specs.Kept.{borne_by, leaves}
 use Rattle.edit_model.specs.History.{document_of}
-use Rattle.edit_model.specs.Lawful.{IsLawful}
+use Rattle.edit_model.specs.Valid.{IsValid}
 use Rattle.edit_model.specs.Run.{final, for_each}
 use Rattle.edit_model.proofs.Trees.{tree_of-inside}
 use Rattle.edit_laws.specs.Order.{KeepsOrder, IsKeeping}
@@ -55,7 +55,7 @@ headed_first (Tree m c ks rest) o e =
     record { content = c; kids = ks; post = rest; is = ap (λ k. Tree k c ks rest) head; seconds = refl }
 
 -- a child of a loose node is loose
-pub loose_child : (s : State) → IsLawful s → (p q : ℕ) (before after : List ℕ) → children_of s.trees q ≡ before ++ p ∷ after → IsLoose s q → IsLoose s p
+pub loose_child : (s : State) → IsValid s → (p q : ℕ) (before after : List ℕ) → children_of s.trees q ≡ before ++ p ∷ after → IsLoose s q → IsLoose s p
 loose_child s is p q before after kids none = loose_parent s is p q (by_seen (seek None s.trees q) refl) none
   where
     among : 0 < times (children_of s.trees q) p
@@ -73,11 +73,11 @@ bare_tree : (s : State) → IsKeeping s → (q : ℕ) (pre : Forest Content) (x 
 bare_tree s is q pre x e g post spot bare =
     let f = document_of s.trees in
     let kids = join pre (Tree x e g post) in
-    let once = document_distinct s.trees is.lawful.forest.distinct in
+    let once = document_distinct s.trees is.valid.forest.distinct in
     let inside : 0 < count_of kids x = omega (arith, count-join pre (Tree x e g post) x, self_one x) in
     let tree = take_one pre x e g post (spot_distinct f once q kids spot) in
-    let here = below_inside s is.lawful q kids spot x inside in
-    let is_tree : tree_of s.trees x ≡ Tree x e g Nil = sym (tree_of-inside s.trees 0 x is.lawful.forest.distinct here) ∙ (spot_tree f once q kids spot x inside ∙ tree.tree) in
+    let here = below_inside s is.valid q kids spot x inside in
+    let is_tree : tree_of s.trees x ≡ Tree x e g Nil = sym (tree_of-inside s.trees 0 x is.valid.forest.distinct here) ∙ (spot_tree f once q kids spot x inside ∙ tree.tree) in
     ap (λ l. borne_by x e ++ l) (sym (append-nil (leaves g)))
     ∙ (ap (λ l. borne_by x e ++ (leaves g ++ l)) (sym leaves-Nil)
     ∙ (sym (leaves-Tree x e g Nil) ∙ (ap leaves (sym is_tree) ∙ bare)))
@@ -96,8 +96,8 @@ module _ (s : State) (is : IsKeeping s) where
           subst (λ l. KeepsOrder s (final (for_each l (move_before o)) s)) p.firsts (lift_all p.first s is q w.pre o w.content p.second w.post (bare w.content w.content_is) spot).keeps
 
       by_count : (q : ℕ) → parent_of s.trees o ≡ Some q → (k : ℕ) → count_of (document_of s.trees) q ≡ k → KeepsOrder s (final (for_each list (move_before o)) s)
-      by_count q up zero e = same_document s (final (for_each list (move_before o)) s) (still_each o (move_before o) (still_before o) list s is (loose_parent s is.lawful o q up e))
-      by_count q up (suc k) e = seated q (seat s is.lawful o q up (omega (arith, e)))
+      by_count q up zero e = same_document s (final (for_each list (move_before o)) s) (still_each o (move_before o) (still_before o) list s is (loose_parent s is.valid o q up e))
+      by_count q up (suc k) e = seated q (seat s is.valid o q up (omega (arith, e)))
 
       by_parent : (p : Option ℕ) → parent_of s.trees o ≡ p → KeepsOrder s (final (for_each list (move_before o)) s)
       by_parent None root = rw (each_stays list (move_before o) s (λ n _. before_root o n s root)) (keeps_refl (document_of s.trees))
@@ -116,8 +116,8 @@ module _ (s : State) (is : IsKeeping s) where
           subst (λ l. KeepsOrder s (final (for_each l (move_after o)) s)) (backwards p.second list p.seconds) (drop_all r s is q w.pre o w.content p.first w.post spot).keeps
 
       by_count : (q : ℕ) → parent_of s.trees o ≡ Some q → (k : ℕ) → count_of (document_of s.trees) q ≡ k → KeepsOrder s (final (for_each (reverse list) (move_after o)) s)
-      by_count q up zero e = same_document s (final (for_each (reverse list) (move_after o)) s) (still_each o (move_after o) (still_after o) (reverse list) s is (loose_parent s is.lawful o q up e))
-      by_count q up (suc k) e = seated q (seat s is.lawful o q up (omega (arith, e)))
+      by_count q up zero e = same_document s (final (for_each (reverse list) (move_after o)) s) (still_each o (move_after o) (still_after o) (reverse list) s is (loose_parent s is.valid o q up e))
+      by_count q up (suc k) e = seated q (seat s is.valid o q up (omega (arith, e)))
 
       by_parent : (p : Option ℕ) → parent_of s.trees o ≡ p → KeepsOrder s (final (for_each (reverse list) (move_after o)) s)
       by_parent None root = rw (each_stays (reverse list) (move_after o) s (λ n _. after_root o n s root)) (keeps_refl (document_of s.trees))
@@ -134,11 +134,11 @@ module _ (s : State) (is : IsKeeping s) where
     where
       seated : (q : ℕ) → Seat s x q → KeepsOrder s (final (for_each list (move_last x)) s)
       seated q w =
-          let after : first_in (tops w.post) ≡ Some o = sym (next_is s is.lawful q w.pre x w.content w.kids w.post w.spot) ∙ next in
+          let after : first_in (tops w.post) ≡ Some o = sym (next_is s is.valid q w.pre x w.content w.kids w.post w.spot) ∙ next in
           let h = headed_first w.post o after in
           let spot = spot_as (document_of s.trees) q _ (join w.pre (Tree x w.content w.kids (Tree o h.content h.kids h.post))) (ap (λ k. join w.pre (Tree x w.content w.kids k)) h.is) w.spot in
           let deeper = spot_as (document_of s.trees) q _ (join (join w.pre (Tree x w.content w.kids Nil)) (Tree o h.content h.kids h.post)) (sym (join-assoc w.pre (Tree x w.content w.kids Nil) (Tree o h.content h.kids h.post))) spot in
-          let found = node_found s is.lawful q (join w.pre (Tree x w.content w.kids Nil)) o h.content h.kids h.post deeper in
+          let found = node_found s is.valid q (join w.pre (Tree x w.content w.kids Nil)) o h.content h.kids h.post deeper in
           let own : children_of s.trees o ≡ tops h.kids = ap (λ (k : Option (Seen Content)). option_map_or (λ (y : Seen Content). y.children) k []) found in
           let p = parts_of h.kids list rest (sym own ∙ kids) in
           let there = spot_as (document_of s.trees) q _ (join w.pre (Tree x w.content w.kids (Tree o h.content (join p.first p.second) h.post))) (ap (λ k. join w.pre (Tree x w.content w.kids (Tree o h.content k h.post))) p.is) spot in
@@ -146,8 +146,8 @@ module _ (s : State) (is : IsKeeping s) where
           subst (λ l. KeepsOrder s (final (for_each l (move_last x)) s)) p.firsts (hand_all p.first s is q w.pre x w.content w.kids o h.content p.second h.post plain there).keeps
 
       by_count : (q : ℕ) → parent_of s.trees x ≡ Some q → (k : ℕ) → count_of (document_of s.trees) q ≡ k → KeepsOrder s (final (for_each list (move_last x)) s)
-      by_count q up zero e = same_document s (final (for_each list (move_last x)) s) (still_each x (move_last x) (still_last x) list s is (loose_parent s is.lawful x q up e))
-      by_count q up (suc k) e = seated q (seat s is.lawful x q up (omega (arith, e)))
+      by_count q up zero e = same_document s (final (for_each list (move_last x)) s) (still_each x (move_last x) (still_last x) list s is (loose_parent s is.valid x q up e))
+      by_count q up (suc k) e = seated q (seat s is.valid x q up (omega (arith, e)))
 
       by_parent : (p : Option ℕ) → parent_of s.trees x ≡ p → KeepsOrder s (final (for_each list (move_last x)) s)
       by_parent None root = absurd (let k : None ≡ Some o = sym (ap (λ p. option_and_then (λ k. after_in (children_of s.trees k) x) p) root) ∙ next in cc)
@@ -158,10 +158,10 @@ module _ (s : State) (is : IsKeeping s) where
   go_in before list after p q kids = by_count (count_of (document_of s.trees) q) refl
     where
       by_count : (k : ℕ) → count_of (document_of s.trees) q ≡ k → KeepsOrder s (final (for_each list (move_last p)) s)
-      by_count zero e = same_document s (final (for_each list (move_last p)) s) (still_each p (move_last p) (still_last p) list s is (loose_child s is.lawful p q before (list ++ after) kids e))
+      by_count zero e = same_document s (final (for_each list (move_last p)) s) (still_each p (move_last p) (still_last p) list s is (loose_child s is.valid p q before (list ++ after) kids e))
       by_count (suc k) e =
           let place = spot_here (document_of s.trees) q (omega (arith, e)) in
-          let a = parts_of place.0 before (p ∷ (list ++ after)) (sym (owner_children s is.lawful q place.0 place.1) ∙ kids) in
+          let a = parts_of place.0 before (p ∷ (list ++ after)) (sym (owner_children s is.valid q place.0 place.1) ∙ kids) in
           let h = headed a.second p (list ++ after) a.seconds in
           let b = parts_of h.post list after h.seconds in
           let same : place.0 ≡ join a.first (Tree p h.content h.kids (join b.first b.second)) = a.is ∙ (ap (join a.first) h.is ∙ ap (λ k. join a.first (Tree p h.content h.kids k)) b.is) in
@@ -175,10 +175,10 @@ module _ (s : State) (is : IsKeeping s) where
       by_count : (k : ℕ) → count_of (document_of s.trees) q ≡ k → KeepsOrder s (final (for_each (reverse list) (move_first p)) s)
       by_count zero e =
           same_document s (final (for_each (reverse list) (move_first p)) s)
-          (still_each p (move_first p) (still_first p) (reverse list) s is (loose_child s is.lawful p q (before ++ list) after (kids ∙ sym (append_assoc before list (p ∷ after))) e))
+          (still_each p (move_first p) (still_first p) (reverse list) s is (loose_child s is.valid p q (before ++ list) after (kids ∙ sym (append_assoc before list (p ∷ after))) e))
       by_count (suc k) e =
           let place = spot_here (document_of s.trees) q (omega (arith, e)) in
-          let a = parts_of place.0 before (list ++ p ∷ after) (sym (owner_children s is.lawful q place.0 place.1) ∙ kids) in
+          let a = parts_of place.0 before (list ++ p ∷ after) (sym (owner_children s is.valid q place.0 place.1) ∙ kids) in
           let b = parts_of a.second list (p ∷ after) a.seconds in
           let h = headed b.second p after b.seconds in
           let r = turned b.first Nil in
@@ -186,7 +186,7 @@ module _ (s : State) (is : IsKeeping s) where
           a.is ∙ (ap (join a.first) b.is ∙ (ap (λ k. join a.first (join b.first k)) h.is ∙ ap (λ k. join a.first (join k (Tree p h.content h.kids h.post))) (sym (turned_back b.first)))) in
           let spot = spot_as (document_of s.trees) q place.0 (join a.first (join (turned r Nil) (Tree p h.content h.kids h.post))) same place.1 in
           let deeper = spot_as (document_of s.trees) q _ (join (join a.first (turned r Nil)) (Tree p h.content h.kids h.post)) (sym (join-assoc a.first (turned r Nil) (Tree p h.content h.kids h.post))) spot in
-          let found = node_found s is.lawful q (join a.first (turned r Nil)) p h.content h.kids h.post deeper in
+          let found = node_found s is.valid q (join a.first (turned r Nil)) p h.content h.kids h.post deeper in
           let plain = bare h.content (ap (option_map (λ (y : Seen Content). y.content)) found) in
           subst (λ l. KeepsOrder s (final (for_each l (move_first p)) s)) (backwards b.first list b.firsts) (front_all r s is q a.first p h.content h.kids h.post plain spot).keeps
 
@@ -196,15 +196,15 @@ module _ (s : State) (is : IsKeeping s) where
       seated : (q : ℕ) → parent_of s.trees x ≡ Some q → Seat s x q → KeepsOrder s (final (move_before x n) s)
       seated q up w =
           let f = document_of s.trees in
-          let after : first_in (tops w.post) ≡ Some n = sym (next_is s is.lawful q w.pre x w.content w.kids w.post w.spot) ∙ next in
+          let after : first_in (tops w.post) ≡ Some n = sym (next_is s is.valid q w.pre x w.content w.kids w.post w.spot) ∙ next in
           let h = headed_first w.post n after in
           let spot = spot_as f q _ (join w.pre (Tree x w.content w.kids (Tree n h.content h.kids h.post))) (ap (λ k. join w.pre (Tree x w.content w.kids k)) h.is) w.spot in
           let none = bare_tree s is q w.pre x w.content w.kids w.post w.spot bare in
           rw (final_move_before x n q s up) (swap s is q w.pre x w.content w.kids n h.content h.kids h.post none spot).keeps
 
       by_count : (q : ℕ) → parent_of s.trees x ≡ Some q → (k : ℕ) → count_of (document_of s.trees) q ≡ k → KeepsOrder s (final (move_before x n) s)
-      by_count q up zero e = same_document s (final (move_before x n) s) (still_before x n s is (loose_parent s is.lawful x q up e))
-      by_count q up (suc k) e = seated q up (seat s is.lawful x q up (omega (arith, e)))
+      by_count q up zero e = same_document s (final (move_before x n) s) (still_before x n s is (loose_parent s is.valid x q up e))
+      by_count q up (suc k) e = seated q up (seat s is.valid x q up (omega (arith, e)))
 
       by_parent : (p : Option ℕ) → parent_of s.trees x ≡ p → KeepsOrder s (final (move_before x n) s)
       by_parent None root = rw (before_root x n s root) (keeps_refl (document_of s.trees))
@@ -216,7 +216,7 @@ module _ (s : State) (is : IsKeeping s) where
       seated : (q : ℕ) → Seat s n q → KeepsOrder s (final (move_last x n) s)
       seated q w =
           let f = document_of s.trees in
-          let after : first_in (tops w.post) ≡ Some x = sym (next_is s is.lawful q w.pre n w.content w.kids w.post w.spot) ∙ next in
+          let after : first_in (tops w.post) ≡ Some x = sym (next_is s is.valid q w.pre n w.content w.kids w.post w.spot) ∙ next in
           let h = headed_first w.post x after in
           let spot = spot_as f q _ (join w.pre (Tree n w.content w.kids (Tree x h.content h.kids h.post))) (ap (λ k. join w.pre (Tree n w.content w.kids k)) h.is) w.spot in
           let deeper = spot_as f q _ (join (join w.pre (Tree n w.content w.kids Nil)) (Tree x h.content h.kids h.post)) (sym (join-assoc w.pre (Tree n w.content w.kids Nil) (Tree x h.content h.kids h.post))) spot in
@@ -225,9 +225,9 @@ module _ (s : State) (is : IsKeeping s) where
 
       by_count : (q : ℕ) → parent_of s.trees n ≡ Some q → (k : ℕ) → count_of (document_of s.trees) q ≡ k → KeepsOrder s (final (move_last x n) s)
       by_count q up zero e =
-          let beside = parent_of-next s.trees is.lawful.forest.distinct n x q up next in
-          same_document s (final (move_last x n) s) (still_last x n s is (loose_parent s is.lawful x q beside e))
-      by_count q up (suc k) e = seated q (seat s is.lawful n q up (omega (arith, e)))
+          let beside = parent_of-next s.trees is.valid.forest.distinct n x q up next in
+          same_document s (final (move_last x n) s) (still_last x n s is (loose_parent s is.valid x q beside e))
+      by_count q up (suc k) e = seated q (seat s is.valid n q up (omega (arith, e)))
 
       by_parent : (p : Option ℕ) → parent_of s.trees n ≡ p → KeepsOrder s (final (move_last x n) s)
       by_parent None root = absurd (let k : None ≡ Some x = sym (ap (λ p. option_and_then (λ k. after_in (children_of s.trees k) n) p) root) ∙ next in cc)

@@ -20,7 +20,7 @@ use Rattle.edit_model.specs.Confined.{may_insert, may_move, may_set, may_unset}
 use Rattle.edit_model.specs.Edit.{Insert, Move, Set, Unset, is_made_edit, trees_after, with_set, with_unset, edited}
 use Rattle.edit_model.specs.Action.{made}
 use Rattle.edit_model.specs.History.{document_of}
-use Rattle.edit_model.specs.Lawful.{IsLawful}
+use Rattle.edit_model.specs.Valid.{IsValid}
 use Rattle.edit_model.specs.Moves.{insert_before, move_before, move_all_before, move_last}
 use Rattle.edit_model.specs.Run.{final, for_each}
 use Rattle.edit_model.proofs.Documents.{document-revised}
@@ -46,7 +46,7 @@ use Rattle.edit_laws.proofs.Adopting.{final_insert_before}
 
 -- ---- a node without children
 
-childless : (s : State) → IsLawful s → (x : ℕ) → children_of s.trees x ≡ [] → IsBare s x → leaves (tree_of s.trees x) ≡ []
+childless : (s : State) → IsValid s → (x : ℕ) → children_of s.trees x ≡ [] → IsBare s x → leaves (tree_of s.trees x) ≡ []
 childless s is x none bare = by_count (count_of s.trees x) refl
   where
     by_count : (k : ℕ) → count_of s.trees x ≡ k → leaves (tree_of s.trees x) ≡ []
@@ -94,14 +94,14 @@ module _ (s : State) (is : IsKeeping s) (p n : ℕ) where
       by_made : (v : Bool) → may_move s n p None ≡ v → (q : ℕ) (pre : Forest Content) (e : Content) (j : Forest Content) (d : Content) (post : Forest Content) → borne_by p e ≡ []
           → Slide s t q (join pre (Tree p e (Tree n d j Nil) post)) v → Held t p n
       by_made true w q pre e j d post none one =
-          let found = node_found t (keeping_edited (Move n p None) s is).lawful q pre p e (Tree n d j Nil) post (one.moved refl) in
+          let found = node_found t (keeping_edited (Move n p None) s is).valid q pre p e (Tree n d j Nil) post (one.moved refl) in
           inside (ap (λ (k : Option (Seen Content)). option_map_or (λ (y : Seen Content). y.children) k []) found)
           (λ c h. (let same : Some c ≡ Some e = sym h ∙ ap (option_map (λ (y : Seen Content). y.content)) found in let is_e : c ≡ e = (let k = same in cc) in ap (borne_by p) is_e ∙ none))
       by_made false w q pre e j d post none one = subst (λ u. Held u p n) (sym (one.left refl)) (near (beside next empty bare))
 
       seated : (q : ℕ) → Seat s p q → KeepsOrder s (final (move_last p n) s) × Held (final (move_last p n) s) p n
       seated q w =
-          let after : first_in (tops w.post) ≡ Some n = sym (next_is s is.lawful q w.pre p w.content w.kids w.post w.spot) ∙ next in
+          let after : first_in (tops w.post) ≡ Some n = sym (next_is s is.valid q w.pre p w.content w.kids w.post w.spot) ∙ next in
           let h = headed_first w.post n after in
           let none : w.kids ≡ Nil = no_tops w.kids (sym w.children ∙ empty) in
           let shape : join w.pre (Tree p w.content w.kids w.post) ≡ join w.pre (Tree p w.content Nil (Tree n h.content h.kids h.post)) =
@@ -110,8 +110,8 @@ module _ (s : State) (is : IsKeeping s) (p n : ℕ) where
           rw (final_move_last p n s) (one.keeps, by_made (may_move s n p None) refl q w.pre w.content h.kids h.content h.post (bare w.content w.content_is) one)
 
       by_count : (q : ℕ) → parent_of s.trees p ≡ Some q → (k : ℕ) → count_of (document_of s.trees) q ≡ k → KeepsOrder s (final (move_last p n) s) × Held (final (move_last p n) s) p n
-      by_count q up zero e = loose_last (loose_parent s is.lawful p q up e)
-      by_count q up (suc k) e = seated q (seat s is.lawful p q up (omega (arith, e)))
+      by_count q up zero e = loose_last (loose_parent s is.valid p q up e)
+      by_count q up (suc k) e = seated q (seat s is.valid p q up (omega (arith, e)))
 
       by_parent : (o : Option ℕ) → parent_of s.trees p ≡ o → KeepsOrder s (final (move_last p n) s) × Held (final (move_last p n) s) p n
       by_parent None root = absurd (let k : None ≡ Some n = sym (ap (λ p'. option_and_then (λ k. after_in (children_of s.trees k) p) p') root) ∙ next in cc)
@@ -129,7 +129,7 @@ module _ (s : State) (is : IsKeeping s) (p n : ℕ) where
   pub goes_out : Held s p n → KeepsOrder s (final (move_before p n) s)
   unfolding move_all_before
   goes_out (near (loose none)) = same_document s (final (move_before p n) s) (still_before p n s is none)
-  goes_out (near (beside next empty bare)) = go_past s is p n next (childless s is.lawful p empty bare)
+  goes_out (near (beside next empty bare)) = go_past s is p n next (childless s is.valid p empty bare)
   goes_out (inside kids bare) = subst (λ t. KeepsOrder s t) one_move (go_before s is (n ∷ []) [] p kids bare)
 
 -- ---- attributes that are set
@@ -160,7 +160,7 @@ same_shape s t e = record {
   count = λ l. ap (λ f. count_of (tree_of f 0) l) e;
 }
 
-revised_shape : (s t : State) → IsLawful s → (o : ℕ) (g : Content → Content) → ((l : ℕ) (c : Content) → borne_by l (g c) ≡ borne_by l c) → t.trees ≡ revised s.trees o g → Shaped s t
+revised_shape : (s t : State) → IsValid s → (o : ℕ) (g : Content → Content) → ((l : ℕ) (c : Content) → borne_by l (g c) ≡ borne_by l c) → t.trees ≡ revised s.trees o g → Shaped s t
 revised_shape s t is o g same e = record {
   parent = λ l. ap (λ f. parent_of f l) e ∙ parent_of-revised o g s.trees l;
   children = λ l. ap (λ f. children_of f l) e ∙ children_of-revised o g s.trees l;
@@ -173,14 +173,14 @@ revised_shape s t is o g same e = record {
     still true l h c (Some d) at k = let w : g d ≡ c = (let k' = k in cc) in ap (borne_by l) (sym w) ∙ (same l d ∙ h d at)
     still false l h c (Some d) at k = let w : d ≡ c = (let k' = k in cc) in ap (borne_by l) (sym w) ∙ h d at
 
-pub shaped_set : (o : ℕ) (name value : List ℕ) (s : State) → IsLawful s → Shaped s (edited (Set o name value) s)
+pub shaped_set : (o : ℕ) (name value : List ℕ) (s : State) → IsValid s → Shaped s (edited (Set o name value) s)
 unfolding is_made_edit trees_after
 shaped_set o name value s is = elim (cases_Bool (may_set s o name value)) [
   | inr off ↦ same_shape s (edited (Set o name value) s) (trees_left (Set o name value) s off)
   | inl may ↦ revised_shape s (edited (Set o name value) s) is o (with_set name value) (bears-set name value) (trees_made (Set o name value) s may)
 ]
 
-pub shaped_unset : (o : ℕ) (name : List ℕ) (s : State) → IsLawful s → Shaped s (edited (Unset o name) s)
+pub shaped_unset : (o : ℕ) (name : List ℕ) (s : State) → IsValid s → Shaped s (edited (Unset o name) s)
 unfolding is_made_edit trees_after
 shaped_unset o name s is = elim (cases_Bool (may_unset s o name)) [
   | inr off ↦ same_shape s (edited (Unset o name) s) (trees_left (Unset o name) s off)
@@ -247,7 +247,7 @@ module _ (s : State) (is : IsKeeping s) (name : List ℕ) (attributes : List Att
       | inl may ↦ (
           let now : s2.trees ≡ link s1.trees q (Some n) p = trees_made (Insert q (Some n) p) s1 may in
           let can = (inserts s1 q (Some n) p may).can in
-          let once = is1.lawful.forest.distinct in
+          let once = is1.valid.forest.distinct in
           let apart : q ≢ p = λ same. (
           let here : 0 < count_of s1.trees p = subst (λ k. 0 < count_of s1.trees k) same can.parent in
           let self = within_self s1.trees p once here in

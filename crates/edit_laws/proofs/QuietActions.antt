@@ -13,25 +13,25 @@ use Rattle.edit_model.specs.Action as action
 use Rattle.edit_model.specs.Action.{Action, made, words_content, extended, extracted, acted}
 use Rattle.edit_model.specs.Run.{Reaches, here, onward, Run, final}
 use Rattle.edit_model.specs.History.{document_of}
-use Rattle.edit_model.specs.Lawful.{IsForest}
+use Rattle.edit_model.specs.Valid.{IsForest}
 use Rattle.edit_model.proofs.CommandParts.{command_along}
 use Rattle.edit_model.proofs.Commands.{nothing_kept}
 use Rattle.edit_model.proofs.Documents.{document_shape, document-link, document-unlink, document-with_leaf, document-revised}
 use Rattle.edit_model.proofs.Forests.{inner_child}
 use Rattle.edit_model.proofs.IslandRuns.{trees_made, trees_left}
-use Rattle.edit_model.proofs.LawfulRuns.{lawful_along}
+use Rattle.edit_model.proofs.ValidRuns.{valid_along}
 use Rattle.edit_model.proofs.OutsideRuns.{trees-extended, trees-selected, trees-grown, trees-sent, trees-scratched}
 use Rattle.edit_model.proofs.TailSteps.{extracted_off}
 use Rattle.edit_model.proofs.Tests.{inserts, removes}
 use Rattle.edit_laws.specs.Order.{KeepsLeaves, KeepsOrder, IsKeeping}
-use Rattle.edit_laws.specs.Tame.{IsQuiet}
+use Rattle.edit_laws.specs.OrderPreserving.{IsQuiet}
 use Rattle.edit_laws.proofs.Subsequences.{keeps_same, keeps_refl}
 use Rattle.edit_laws.proofs.Leaves.{ordered-without, kept-without, bears-join, leaves-put_under, leaves-revised}
 
 -- ---- states
 
 pub keeping_along : {s t : State} → Reaches s t → IsKeeping s → IsKeeping t
-keeping_along r is = record { lawful = lawful_along r is.lawful; keeping = (command_along r).keeping ∙ is.keeping }
+keeping_along r is = record { valid = valid_along r is.valid; keeping = (command_along r).keeping ∙ is.keeping }
 
 pub keeping_final : {T : Type 0} (m : Run T) (s : State) → IsKeeping s → IsKeeping (final m s)
 unfolding final
@@ -88,34 +88,34 @@ unfolding is_made_edit trees_after
 remove_keeps n s is = by_made (Remove n) s (λ may. (
     let t = removes s n may in
     let nothing = nothing_kept s.keeping (bears_nothing (tree_of s.trees n)) t.nothing is.keeping in
-    let inner = inner_child s.trees s.next is.lawful.forest t.from n t.child in
-    let e = document-unlink s.trees s.next is.lawful.forest t.from n t.child in
+    let inner = inner_child s.trees s.next is.valid.forest t.from n t.child in
+    let e = document-unlink s.trees s.next is.valid.forest t.from n t.child in
     subst (KeepsLeaves (tree_of s.trees 0)) (sym e) (record {
       in_order = ordered-without (tree_of s.trees 0) n;
-      whole = kept-without (tree_of s.trees 0) n (part_bears_nothing s.trees s.next n is.lawful.forest inner nothing);
+      whole = kept-without (tree_of s.trees 0) n (part_bears_nothing s.trees s.next n is.valid.forest inner nothing);
     })))
 
 set_keeps : (n : ℕ) (name value : List ℕ) (s : State) → IsKeeping s → KeepsOrder s (edited (Set n name value) s)
 unfolding is_made_edit trees_after
 set_keeps n name value s is = by_made (Set n name value) s (λ may.
-    keeps_same (tree_of s.trees 0) _ (ap leaves (document-revised s.trees s.next is.lawful.forest n (with_set name value)) ∙ leaves-revised (tree_of s.trees 0) n (with_set name value) (bears-set name value)))
+    keeps_same (tree_of s.trees 0) _ (ap leaves (document-revised s.trees s.next is.valid.forest n (with_set name value)) ∙ leaves-revised (tree_of s.trees 0) n (with_set name value) (bears-set name value)))
 
 unset_keeps : (n : ℕ) (name : List ℕ) (s : State) → IsKeeping s → KeepsOrder s (edited (Unset n name) s)
 unfolding is_made_edit trees_after
 unset_keeps n name s is = by_made (Unset n name) s (λ may.
-    keeps_same (tree_of s.trees 0) _ (ap leaves (document-revised s.trees s.next is.lawful.forest n (with_unset name)) ∙ leaves-revised (tree_of s.trees 0) n (with_unset name) (bears-unset name)))
+    keeps_same (tree_of s.trees 0) _ (ap leaves (document-revised s.trees s.next is.valid.forest n (with_unset name)) ∙ leaves-revised (tree_of s.trees 0) n (with_unset name) (bears-unset name)))
 
 pub bare_insert_keeps : (p : ℕ) (b : Option ℕ) (n : ℕ) (s : State) → IsKeeping s → leaves (tree_of s.trees n) ≡ [] → KeepsOrder s (edited (Insert p b n) s)
 unfolding is_made_edit trees_after
 bare_insert_keeps p b n s is bare = by_made (Insert p b n) s (λ may. (
     let t = inserts s p b n may in
-    keeps_same (tree_of s.trees 0) _ (ap leaves (document-link s.trees s.next is.lawful.forest p b n t.can) ∙ leaves-put_under (tree_of s.trees 0) p b (tree_of s.trees n) bare)))
+    keeps_same (tree_of s.trees 0) _ (ap leaves (document-link s.trees s.next is.valid.forest p b n t.can) ∙ leaves-put_under (tree_of s.trees 0) p b (tree_of s.trees n) bare)))
 
 -- ---- actions
 
 made_keeps : (c : Content) (s : State) → IsKeeping s → KeepsOrder s (made c s)
 unfolding made
-made_keeps c s is = same_document s (made c s) (document-with_leaf s.trees s.next is.lawful.forest s.next c)
+made_keeps c s is = same_document s (made c s) (document-with_leaf s.trees s.next is.valid.forest s.next c)
 
 unselect_keeps : (s : State) → KeepsOrder s (acted action.Unselect s)
 unfolding acted changed

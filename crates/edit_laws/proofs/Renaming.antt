@@ -27,11 +27,11 @@ use Rattle.edit_model.proofs.Steps.{final-bind, final-answer, final-look, final-
 use Rattle.edit_model.proofs.Tests.{inserts}
 use Rattle.edit_laws.specs.Order.{KeepsOrder, IsKeeping}
 use Rattle.edit_laws.specs.MoveLaws.{IsBare}
-use Rattle.edit_laws.specs.Tame.{Tame}
+use Rattle.edit_laws.specs.OrderPreserving.{OrderPreserving}
 use Rattle.edit_laws.proofs.Subsequences.{keeps_refl, keeps_trans}
 use Rattle.edit_laws.proofs.Leaves.{leaves-Nil, leaves-Tree}
 use Rattle.edit_laws.proofs.QuietActions.{keeping_along, keeping_edited, keeping_final, quiet_keeps, bare_insert_keeps}
-use Rattle.edit_laws.proofs.Tame.{tame_answer, tame_bind, tame_remove}
+use Rattle.edit_laws.proofs.OrderPreserving.{order_preserving_answer, order_preserving_bind, order_preserving_remove}
 use Rattle.edit_laws.proofs.Patterns.{tree_of-join}
 use Rattle.edit_laws.proofs.Slides.{parent_other}
 use Rattle.edit_laws.proofs.MoveLaws.{go_over, go_nowhere}
@@ -55,7 +55,7 @@ keeps_made name attributes s is = quiet_keeps (MakeElement name attributes) tt s
 -- the new node, before it is put in
 module _ (s : State) (is : IsKeeping s) (c : Content) where
   pub new_absent : count_of s.trees s.next ≡ 0
-  new_absent = fresh s.trees s.next is.lawful.forest
+  new_absent = fresh s.trees s.next is.valid.forest
 
   pub new_tree : tree_of (made c s).trees s.next ≡ Tree s.next c Nil Nil
   new_tree = ap (λ f. tree_of f s.next) (made_trees c s) ∙ (tree_of-join s.trees (Tree s.next c Nil Nil) s.next new_absent ∙ rw (eqb_refl_true s.next) refl)
@@ -63,11 +63,11 @@ module _ (s : State) (is : IsKeeping s) (c : Content) where
   pub new_loose : IsWithin (made c s).trees 0 s.next → ⊥
   new_loose h =
       let e = ap (λ f. count_of (tree_of f 0) s.next) (made_trees c s) in
-      let same = ap (λ g. count_of g s.next) (document-with_leaf s.trees s.next is.lawful.forest s.next c) in
+      let same = ap (λ g. count_of g s.next) (document-with_leaf s.trees s.next is.valid.forest s.next c) in
       omega (arith, h, e, same, new_absent, total-without (λ m _. cond (eqb m s.next) 1 0) s.trees 0)
 
   pub new_other : (l p : ℕ) → parent_of s.trees l ≡ Some p → s.next ≢ l
-  new_other l p child e = let k = ap (count_of s.trees) e in omega (arith, k, new_absent, (parent_count s.trees l p is.lawful.forest.distinct child).0)
+  new_other l p child e = let k = ap (count_of s.trees) e in omega (arith, k, new_absent, (parent_count s.trees l p is.valid.forest.distinct child).0)
 
 module _ (s : State) (is : IsKeeping s) (p e : ℕ) (name : List ℕ) (up : parent_of s.trees e ≡ Some p) (bare : IsBare s e) (plain : is_thing name ≡ false) where
   c : Content
@@ -105,12 +105,12 @@ module _ (s : State) (is : IsKeeping s) (p e : ℕ) (name : List ℕ) (up : pare
     | inl may ↦ (
         let now : s2.trees ≡ link s1.trees p (Some e) x = trees_made (Insert p (Some e) x) s1 may in
         let can = (inserts s1 p (Some e) x may).can in
-        let once = is1.lawful.forest.distinct in
-        let absent = fresh s.trees s.next is.lawful.forest in
+        let once = is1.valid.forest.distinct in
+        let absent = fresh s.trees s.next is.valid.forest in
         let next : next_of s2.trees x ≡ Some e =
         ap (λ f. next_of f x) now
         ∙ (next_of-link s1.trees p (Some e) x once can x _ (ap (λ f. seek None f x) (made_trees c s) ∙ seek-with_leaf_new s.trees x c absent) ∙ rw (eqb_refl_true x) refl) in
-        let off : eqb p e ≡ false = ne_eqb p e (parent_other s.trees is.lawful.forest.distinct e p up) in
+        let off : eqb p e ≡ false = ne_eqb p e (parent_other s.trees is.valid.forest.distinct e p up) in
         let kids : children_of s2.trees e ≡ children_of s.trees e ++ [] =
         ap (λ f. children_of f e) now
         ∙ (children_of-link s1.trees p (Some e) x once can e
@@ -126,7 +126,7 @@ module _ (s : State) (is : IsKeeping s) (p e : ℕ) (name : List ℕ) (up : pare
   pub renamed_keeps : KeepsOrder s (final (renamed p s e name) s)
   unfolding renamed s1 s2 x c
   renamed_keeps =
-      let last : Tame (remove e >>= (λ _. answer x)) = tame_bind (remove e) (λ _. answer x) (tame_remove e) (λ _. tame_answer x) in
+      let last : OrderPreserving (remove e >>= (λ _. answer x)) = order_preserving_bind (remove e) (λ _. answer x) (order_preserving_remove e) (λ _. order_preserving_answer x) in
       let s3 : State = final (move_each_last (children_of s.trees e) x) s2 in
       rw (final-bind, final-make_element, value-make_element, final-bind, final-edit, final-bind)
       (keeps_trans (keeps_made name (attribute_list_of s.trees e) s is)

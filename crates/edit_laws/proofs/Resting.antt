@@ -2,7 +2,7 @@
 use Rattle.std.proofs.Common.{◌≡◌, ℕ, ◌<◌, Bool, true, false, cond, eqb, [], ◌∷◌, ◌++◌, Option, Some, None, refl, sym, ap, subst, ◌∙◌, inl, inr, arith, append_assoc, true≢false}
 use Rattle.std.specs.List.{AllZip}
 use Rattle.dom_model.specs.declared.Content.{Content}
-use Rattle.dom_model.specs.Change.{Loosen}
+use Rattle.dom_model.specs.Change as change
 use Rattle.dom_model.specs.Editing.{is_host}
 use Rattle.dom_model.specs.Forest.{Forest, count_of, tree_of, IsDistinct, IsWithin}
 use Rattle.dom_model.proofs.Totals.{total-without}
@@ -13,16 +13,16 @@ use Rattle.edit_model.specs.Action as action
 use Rattle.edit_model.specs.Action.{Action, acted}
 use Rattle.edit_model.specs.Run.{Reaches, here, onward, changes_of}
 use Rattle.edit_model.specs.History.{begun, rested}
-use Rattle.edit_model.specs.Lawful.{IsForest, IsLawful}
+use Rattle.edit_model.specs.Valid.{IsForest, IsValid}
 use Rattle.edit_model.specs.Laws.{KeepsMark, TakesOwn, TakesOwnOn, LeavesStatesOn}
 use Rattle.edit_model.specs.Outside.{hollowed, outside_by, is_island}
 use Rattle.edit_model.proofs.Apart.{marks_along}
-use Rattle.edit_model.proofs.Commands.{lawful_begun, confined_begun, command_confined}
+use Rattle.edit_model.proofs.Commands.{valid_begun, confined_begun, command_confined}
 use Rattle.edit_model.proofs.Documents.{document_shape}
 use Rattle.edit_model.proofs.EditLists.{adds_acted}
 use Rattle.edit_model.proofs.Hollow.{hollowed_le, inside_whole}
 use Rattle.edit_model.proofs.IslandRuns.{island_locked, islands_stay}
-use Rattle.edit_model.proofs.LawfulRuns.{lawful_along}
+use Rattle.edit_model.proofs.ValidRuns.{valid_along}
 use Rattle.edit_model.proofs.OwnRoots.{islands_leave, holder_inside}
 use Rattle.edit_model.proofs.Trees.{none_or_some, tree_of-inside}
 use Rattle.edit_laws.specs.BelowHost.{below}
@@ -39,15 +39,15 @@ outside_again : (host : Option ℕ) (f : Forest Content) (next : ℕ) → IsFore
 outside_again None f next is = document_again f next is
 outside_again (Some h) f next is = ap (λ g. hollowed g h) (document_again f next is)
 
-pub outside_at_rest : (s t : State) (host : Option ℕ) (keeping : Bool) → IsLawful s → Reaches (begun host keeping s) t → outside_by host (rested t).trees ≡ outside_by host s.trees
+pub outside_at_rest : (s t : State) (host : Option ℕ) (keeping : Bool) → IsValid s → Reaches (begun host keeping s) t → outside_by host (rested t).trees ≡ outside_by host s.trees
 unfolding rested
 outside_at_rest s t host keeping is r =
-    let lawful = lawful_along r (lawful_begun host keeping s is) in
-    outside_again host t.trees t.next lawful.forest ∙ command_confined host keeping s t is r
+    let valid = valid_along r (valid_begun host keeping s is) in
+    outside_again host t.trees t.next valid.forest ∙ command_confined host keeping s t is r
 
-pub marks_at_rest : (s t : State) (host : Option ℕ) (keeping : Bool) → IsLawful s → Reaches (begun host keeping s) t → AllZip (KeepsMark host s.trees) s.points.marks (rested t).points.marks
+pub marks_at_rest : (s t : State) (host : Option ℕ) (keeping : Bool) → IsValid s → Reaches (begun host keeping s) t → AllZip (KeepsMark host s.trees) s.points.marks (rested t).points.marks
 unfolding rested begun
-marks_at_rest s t host keeping is r = marks_along r (lawful_begun host keeping s is) (confined_begun host keeping s is)
+marks_at_rest s t host keeping is r = marks_along r (valid_begun host keeping s is) (confined_begun host keeping s is)
 
 -- ---- a removal on the way is listed
 
@@ -62,7 +62,7 @@ further b t l a more k = record {
   below = k.below;
   own = k.own;
   later = k.later ++ changes_of a t;
-  listed = more ∙ (ap (λ xs. xs ++ changes_of a t) k.listed ∙ append_assoc k.then_at.edits (Loosen k.root ∷ k.later) (changes_of a t));
+  listed = more ∙ (ap (λ xs. xs ++ changes_of a t) k.listed ∙ append_assoc k.then_at.edits (change.Remove k.root ∷ k.later) (changes_of a t));
 }
 
 taken_by : (b t : State) (q : Reaches b t) (l : ℕ) (a : Action) → TakesOwn a t l → IsTakenOut b (acted a t) l
@@ -111,12 +111,12 @@ host_there f h hosted = elim (none_or_some (count_of f h)) [
 ]
 
 -- an island stands below its host
-pub island_inside : (s : State) (h l : ℕ) → IsLawful s → is_host s.trees h ≡ true → is_island s.trees h l ≡ true → IsWithin s.trees h l
+pub island_inside : (s : State) (h l : ℕ) → IsValid s → is_host s.trees h ≡ true → is_island s.trees h l ≡ true → IsWithin s.trees h l
 island_inside s h l is hosted island = (island_locked s h l false is hosted island).1.0
 
-module _ (s t : State) (h : ℕ) (keeping : Bool) (is : IsLawful s) (whole : tree_of s.trees 0 ≡ s.trees) (hosted : is_host s.trees h ≡ true) (r : Reaches (begun (Some h) keeping s) t) where
-  at_end : IsLawful t
-  at_end = lawful_along r (lawful_begun (Some h) keeping s is)
+module _ (s t : State) (h : ℕ) (keeping : Bool) (is : IsValid s) (whole : tree_of s.trees 0 ≡ s.trees) (hosted : is_host s.trees h ≡ true) (r : Reaches (begun (Some h) keeping s) t) where
+  at_end : IsValid t
+  at_end = valid_along r (valid_begun (Some h) keeping s is)
 
   -- outside commands all nodes are in the document
   inside_first : (l : ℕ) → 0 < count_of s.trees l → IsWithin s.trees 0 l

@@ -8,7 +8,7 @@ use Rattle.dom_model.specs.Forest.Forest.{Nil, Tree}
 use Rattle.dom_model.proofs.Links.{child_of_parent}
 use Rattle.edit_model.specs.State.{State}
 use Rattle.edit_model.specs.History.{document_of}
-use Rattle.edit_model.specs.Lawful.{IsLawful}
+use Rattle.edit_model.specs.Valid.{IsValid}
 use Rattle.edit_laws.proofs.Around.{Spot, spot_here, spot_as}
 use Rattle.edit_laws.proofs.Lifting.{node_found}
 use Rattle.edit_laws.proofs.Handing.{owner_found}
@@ -73,7 +73,7 @@ pub record Seat (s : State) (o q : ℕ) : Type 0 where
   pub children : children_of s.trees o ≡ tops kids
   pub content_is : content_of s.trees o ≡ Some content
 
-pub seat : (s : State) → IsLawful s → (o q : ℕ) → parent_of s.trees o ≡ Some q → 0 < count_of (document_of s.trees) q → Seat s o q
+pub seat : (s : State) → IsValid s → (o q : ℕ) → parent_of s.trees o ≡ Some q → 0 < count_of (document_of s.trees) q → Seat s o q
 seat s is o q up h =
     let place = spot_here (document_of s.trees) q h in
     let r = child_of_parent s.trees o q is.forest.distinct up in

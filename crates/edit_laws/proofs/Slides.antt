@@ -15,7 +15,7 @@ use Rattle.edit_model.specs.Confined.{is_open, is_place, stands_so, may_go, may_
 use Rattle.point_order.specs.PointOrder.{is_within, is_in_document}
 use Rattle.edit_model.specs.Edit.{Move, is_made_edit, trees_after, edited}
 use Rattle.edit_model.specs.History.{document_of}
-use Rattle.edit_model.specs.Lawful.{IsLawful}
+use Rattle.edit_model.specs.Valid.{IsValid}
 use Rattle.edit_model.specs.Run.{Run, final, for_each}
 use Rattle.edit_model.proofs.Documents.{document-link, document-unlink}
 use Rattle.edit_model.proofs.Forests.{forest-unlink, can_go}
@@ -35,7 +35,7 @@ use Rattle.edit_laws.proofs.Around.{Spot, fill, spot_other, spot_leaves, spot_se
 pub document_distinct : (f : Forest Content) → IsDistinct f → IsDistinct (tree_of f 0)
 document_distinct f once = λ l. omega (arith, total-without (λ m _. cond (eqb m l) 1 0) f 0, once l)
 
-pub document_moved : (s : State) → IsLawful s → (n p : ℕ) (b : Option ℕ) → may_move s n p b ≡ true → tree_of (trees_after (Move n p b) s.trees) 0 ≡ put_under (without (tree_of s.trees 0) n) p b (tree_of s.trees n)
+pub document_moved : (s : State) → IsValid s → (n p : ℕ) (b : Option ℕ) → may_move s n p b ≡ true → tree_of (trees_after (Move n p b) s.trees) 0 ≡ put_under (without (tree_of s.trees 0) n) p b (tree_of s.trees n)
 unfolding trees_after
 document_moved s is n p b may =
     let f = s.trees in
@@ -60,8 +60,8 @@ slide s is q kids others spot n p b inside put same =
     let f = s.trees in
     let here : IsWithin f 0 n = (let e = ap (λ g. count_of g n) spot.is in omega (arith, e, count-fill spot.around (Tree q spot.content kids spot.rest) n, inside)) in
     let now : may_move s n p b ≡ true → tree_of (trees_after (Move n p b) f) 0 ≡ fill spot.around (Tree q spot.content others spot.rest) = λ may.
-    document_moved s is.lawful n p b may
-    ∙ (ap (λ t. put_under (without (tree_of f 0) n) p b t) (sym (tree_of-inside f 0 n is.lawful.forest.distinct here)) ∙ put) in
+    document_moved s is.valid n p b may
+    ∙ (ap (λ t. put_under (without (tree_of f 0) n) p b t) (sym (tree_of-inside f 0 n is.valid.forest.distinct here)) ∙ put) in
     record {
       keeps = by_made (Move n p b) s (λ may. keeps_same (tree_of f 0) (tree_of (trees_after (Move n p b) f) 0) (spot_leaves (tree_of f 0) (tree_of (trees_after (Move n p b) f) 0) q kids others spot (now may) same));
       moved = λ may. spot_other (tree_of f 0) _ q kids others spot (ap (λ g. tree_of g 0) (trees_made (Move n p b) s may) ∙ now may);
@@ -70,7 +70,7 @@ slide s is q kids others spot n p b inside put same =
 
 -- ---- look-ups in the document
 
-pub found_below : (s : State) → IsLawful s → (q : ℕ) (kids : Forest Content) (spot : Spot (document_of s.trees) q kids) (l : ℕ) (seen : Seen Content) → 0 < count_of kids l → seek (Some q) kids l ≡ Some seen → seek None s.trees l ≡ Some seen
+pub found_below : (s : State) → IsValid s → (q : ℕ) (kids : Forest Content) (spot : Spot (document_of s.trees) q kids) (l : ℕ) (seen : Seen Content) → 0 < count_of kids l → seek (Some q) kids l ≡ Some seen → seek None s.trees l ≡ Some seen
 found_below s is q kids spot l seen h e =
     seek_document s.trees s.next l seen is.forest (spot_seek (tree_of s.trees 0) (document_distinct s.trees is.forest.distinct) q kids spot l h ∙ e)
 

@@ -27,7 +27,7 @@ use Rattle.edit_model.specs.Edit.{Insert, Replace, is_made_edit, trees_after, wi
 use Rattle.edit_model.specs.Action as action
 use Rattle.edit_model.specs.Action.{MakeWords, made, words_content, sent, grown, acted}
 use Rattle.edit_model.specs.History.{document_of}
-use Rattle.edit_model.specs.Lawful.{IsLawful}
+use Rattle.edit_model.specs.Valid.{IsValid}
 use Rattle.edit_model.specs.Run.{here, onward, final, answer, given}
 use Rattle.edit_model.specs.Compositions.{characters_of, points_sent, split_under, split_words}
 use Rattle.edit_model.proofs.CommandParts.{final_command, command_acted}
@@ -112,7 +112,7 @@ sent_trees p i n at tail true s = rw (final-bind, final-perform, final-perform) 
 
 -- ---- a text n below p, split
 
-is_positive : (s : State) → IsLawful s → 0 < s.next
+is_positive : (s : State) → IsValid s → 0 < s.next
 is_positive s is = is.forest.below 0 is.forest.document
 
 no_tops : (f : Forest Content) → tops f ≡ [] → f ≡ Nil
@@ -154,9 +154,9 @@ module _ (s : State) (is : IsKeeping s) (p n at : ℕ) (chars : List ℕ) (up : 
 
   short : length chars < 2 ^ 32
   short =
-      let w = seen s.trees n is.lawful.forest.distinct (parent_count s.trees n p is.lawful.forest.distinct up).0 in
+      let w = seen s.trees n is.valid.forest.distinct (parent_count s.trees n p is.valid.forest.distinct up).0 in
       let same : w.0.content ≡ Words chars = (let t : Some w.0.content ≡ Some (Words chars) = ap (option_map (λ (o : Seen Content). o.content)) (sym w.2) ∙ text in cc) in
-      subst (λ d. char_length d < 2 ^ 32) same (is.lawful.forest.nodes n w.0 w.2).short
+      subst (λ d. char_length d < 2 ^ 32) same (is.valid.forest.nodes n w.0 w.2).short
 
   tail_is : c ≡ Words (drop at chars)
   unfolding c
@@ -176,7 +176,7 @@ module _ (s : State) (is : IsKeeping s) (p n at : ℕ) (chars : List ℕ) (up : 
 
   other_p : x ≢ p
   unfolding x
-  other_p = λ e. (let k = ap (count_of s.trees) e in omega (arith, k, absent, (parent_count s.trees n p is.lawful.forest.distinct up).1))
+  other_p = λ e. (let k = ap (count_of s.trees) e in omega (arith, k, absent, (parent_count s.trees n p is.valid.forest.distinct up).1))
 
   other_n : x ≢ n
   unfolding x
@@ -184,7 +184,7 @@ module _ (s : State) (is : IsKeeping s) (p n at : ℕ) (chars : List ℕ) (up : 
 
   not_zero : x ≢ 0
   unfolding x
-  not_zero = λ e. omega (arith, is_positive s is.lawful, e)
+  not_zero = λ e. omega (arith, is_positive s is.valid, e)
 
   leaf_out : nat_lt 0 (count_of leaf p) ≡ false
   unfolding leaf
@@ -195,11 +195,11 @@ module _ (s : State) (is : IsKeeping s) (p n at : ℕ) (chars : List ℕ) (up : 
   parent_may = by (may_have_children above.0.content) refl
     where
       above : (r : Seen Content) × Stands None s.trees p r × (seek None s.trees p ≡ Some r) × (0 < times r.children n)
-      above = child_of_parent s.trees n p is.lawful.forest.distinct up
+      above = child_of_parent s.trees n p is.valid.forest.distinct up
 
       by : (v : Bool) → may_have_children above.0.content ≡ v → is_parent_at s.trees p ≡ true
       by true e = ap (λ (o : Option (Seen Content)). option_map_or may_have_children (option_map (λ (y : Seen Content). y.content) o) false) above.2 ∙ e
-      by false e = absurd (let k = ap (λ l. times l n) ((is.lawful.forest.nodes p above.0 above.2).leaf e) in omega (arith, k, above.3))
+      by false e = absurd (let k = ap (λ l. times l n) ((is.valid.forest.nodes p above.0 above.2).leaf e) in omega (arith, k, above.3))
 
   open1 : is_open s p ≡ true → is_open s1 p ≡ true
   unfolding s1 x made is_open is_inside is_editable_for is_made
@@ -208,8 +208,8 @@ module _ (s : State) (is : IsKeeping s) (p n at : ℕ) (chars : List ℕ) (up : 
   place1 : (o : Option ℕ) → next_of s.trees n ≡ o → is_place s1.trees p o x ≡ true
   place1 None e = refl
   place1 (Some m) e =
-      let beside = parent_of-next s.trees is.lawful.forest.distinct n m p up e in
-      let off : m ≢ x = λ k. (let t = ap (count_of s.trees) k in omega (arith, t, absent, (parent_count s.trees m p is.lawful.forest.distinct beside).0)) in
+      let beside = parent_of-next s.trees is.valid.forest.distinct n m p up e in
+      let off : m ≢ x = λ k. (let t = ap (count_of s.trees) k in omega (arith, t, absent, (parent_count s.trees m p is.valid.forest.distinct beside).0)) in
       let now : parent_of s1.trees m ≡ Some p = ap (λ f. parent_of f m) trees1 ∙ (parent_of-with_leaf s.trees x c absent m ∙ beside) in
       rw (now, eqb_refl_true p, ne_eqb m x off) refl
 
@@ -245,15 +245,15 @@ module _ (s : State) (is : IsKeeping s) (p n at : ℕ) (chars : List ℕ) (up : 
     content2 : content_of s2.trees n ≡ Some (Words chars)
     content2 =
         ap (λ f. content_of f n) linked
-        ∙ (content_of-link s1.trees p b x n is1.lawful.forest.distinct can
+        ∙ (content_of-link s1.trees p b x n is1.valid.forest.distinct can
         ∙ (ap (λ f. content_of f n) trees1 ∙ (content_of-with_leaf_other s.trees x c n absent other_n ∙ text)))
 
     document2 : tree_of s2.trees 0 ≡ put_under (tree_of s.trees 0) p b leaf
     document2 =
         ap (λ f. tree_of f 0) linked
-        ∙ (document-link s1.trees s1.next is1.lawful.forest p b x can
+        ∙ (document-link s1.trees s1.next is1.valid.forest p b x can
         ∙ (ap (λ t. put_under (tree_of s1.trees 0) p b t) tree1
-        ∙ ap (λ f. put_under f p b leaf) (ap (λ f. tree_of f 0) trees1 ∙ document-with_leaf s.trees s.next is.lawful.forest x c)))
+        ∙ ap (λ f. put_under f p b leaf) (ap (λ f. tree_of f 0) trees1 ∙ document-with_leaf s.trees s.next is.valid.forest x c)))
 
   -- ---- the points sent, and the characters cut
 
@@ -286,7 +286,7 @@ module _ (s : State) (is : IsKeeping s) (p n at : ℕ) (chars : List ℕ) (up : 
   unfolding s4 g is_made_edit trees_after
   cut_made may =
       ap (λ f. tree_of f 0) (trees_made (Replace n at (length chars - at) []) s3 may)
-      ∙ (document-revised s3.trees s3.next is3.lawful.forest n (with_replaced at (length chars - at) [])
+      ∙ (document-revised s3.trees s3.next is3.valid.forest n (with_replaced at (length chars - at) [])
       ∙ ap (λ f. revised (tree_of f 0) n (with_replaced at (length chars - at) [])) trees3)
 
   cut_left : may_replace s3 n at (length chars - at) [] ≡ false → tree_of s4.trees 0 ≡ tree_of s2.trees 0
@@ -298,7 +298,7 @@ module _ (s : State) (is : IsKeeping s) (p n at : ℕ) (chars : List ℕ) (up : 
   module _ (editable : is_editable_for s n ≡ true) where
     opened : is_open s p ≡ true
     unfolding is_open
-    opened = ap (λ v. v || is_made s p) (parent_inside s is.lawful n p up editable)
+    opened = ap (λ v. v || is_made s p) (parent_inside s is.valid n p up editable)
 
     new_host : editing_host (put_under s.trees p b leaf) n ≡ editing_host s.trees n
     unfolding leaf
@@ -320,7 +320,7 @@ module _ (s : State) (is : IsKeeping s) (p n at : ℕ) (chars : List ℕ) (up : 
 
     module _ (pre post : Forest Content) (spot : Spot (tree_of s.trees 0) p (join pre (Tree n (Words chars) Nil post))) where
       once : IsDistinct (tree_of s.trees 0)
-      once = document_distinct s.trees is.lawful.forest.distinct
+      once = document_distinct s.trees is.valid.forest.distinct
 
       halves_put : tree_of s2.trees 0 ≡ fill spot.around (Tree p spot.content (join pre (Tree n (Words chars) Nil (Tree x c Nil post))) spot.rest)
       unfolding b leaf
@@ -329,8 +329,8 @@ module _ (s : State) (is : IsKeeping s) (p n at : ℕ) (chars : List ℕ) (up : 
           ∙ (ap (λ f. put_under f p (next_of s.trees n) (Tree x c Nil Nil)) spot.is
           ∙ (spot_put_top (tree_of s.trees 0) once p (join pre (Tree n (Words chars) Nil post)) spot (join pre (Tree n (Words chars) Nil post)) (next_of s.trees n) (Tree x c Nil Nil)
           ∙ ap (λ k. fill spot.around (Tree p spot.content k spot.rest))
-          (ap (λ o. put_before (join pre (Tree n (Words chars) Nil post)) o (Tree x c Nil Nil)) (next_is s is.lawful p pre n (Words chars) Nil post spot)
-          ∙ put_after_node pre n (Words chars) Nil post x c Nil (node_once s is.lawful p pre n (Words chars) Nil post spot))))
+          (ap (λ o. put_before (join pre (Tree n (Words chars) Nil post)) o (Tree x c Nil Nil)) (next_is s is.valid p pre n (Words chars) Nil post spot)
+          ∙ put_after_node pre n (Words chars) Nil post x c Nil (node_once s is.valid p pre n (Words chars) Nil post spot))))
 
       in_place : (k : Content → Content) → revised (fill spot.around (Tree p spot.content (join pre (Tree n (Words chars) Nil (Tree x c Nil post))) spot.rest)) n k ≡ fill spot.around (Tree p spot.content (join pre (Tree n (k (Words chars)) Nil (Tree x c Nil post))) spot.rest)
       in_place k =
@@ -367,9 +367,9 @@ module _ (s : State) (is : IsKeeping s) (p n at : ℕ) (chars : List ℕ) (up : 
     -- a text has no children
     seated_bear : Seat s n p → leaves (tree_of s4.trees 0) ≡ leaves (tree_of s.trees 0)
     seated_bear w =
-        let found = node_found s is.lawful p w.pre n w.content w.kids w.post w.spot in
+        let found = node_found s is.valid p w.pre n w.content w.kids w.post w.spot in
         let words : w.content ≡ Words chars = (let t : Some w.content ≡ Some (Words chars) = sym w.content_is ∙ text in cc) in
-        let no_kids : w.kids ≡ Nil = no_tops w.kids ((is.lawful.forest.nodes n _ found).leaf (ap may_have_children words)) in
+        let no_kids : w.kids ≡ Nil = no_tops w.kids ((is.valid.forest.nodes n _ found).leaf (ap may_have_children words)) in
         let same : join w.pre (Tree n w.content w.kids w.post) ≡ join w.pre (Tree n (Words chars) Nil w.post) = ap (λ d. join w.pre (Tree n d w.kids w.post)) words ∙ ap (λ k. join w.pre (Tree n (Words chars) k w.post)) no_kids in
         halves_bear w.pre w.post (spot_as (tree_of s.trees 0) p (join w.pre (Tree n w.content w.kids w.post)) (join w.pre (Tree n (Words chars) Nil w.post)) same w.spot)
 
@@ -380,7 +380,7 @@ module _ (s : State) (is : IsKeeping s) (p n at : ℕ) (chars : List ℕ) (up : 
     unfolding s2 is_made_edit
     still2 = elim (cases_Bool (may_insert s1 p b x)) [
       | inl may ↦ document2 may ∙ put_under_nowhere (tree_of s.trees 0) p b leaf loose_p
-      | inr off ↦ ap (λ f. tree_of f 0) (trees_left (Insert p b x) s1 off ∙ trees1) ∙ document-with_leaf s.trees s.next is.lawful.forest x c
+      | inr off ↦ ap (λ f. tree_of f 0) (trees_left (Insert p b x) s1 off ∙ trees1) ∙ document-with_leaf s.trees s.next is.valid.forest x c
     ]
 
     loose_bear : tree_of s4.trees 0 ≡ tree_of s.trees 0
@@ -395,8 +395,8 @@ module _ (s : State) (is : IsKeeping s) (p n at : ℕ) (chars : List ℕ) (up : 
   text_bears editable = by_count (count_of (tree_of s.trees 0) p) refl
     where
       by_count : (k : ℕ) → count_of (tree_of s.trees 0) p ≡ k → leaves (tree_of s4.trees 0) ≡ leaves (tree_of s.trees 0)
-      by_count zero e = ap leaves (loose_bear (loose_parent s is.lawful n p up e) e)
-      by_count (suc k) e = seated_bear (editable (within_below s.trees s.next is.lawful.forest p n up (omega (arith, e)))) (seat s is.lawful n p up (omega (arith, e)))
+      by_count zero e = ap leaves (loose_bear (loose_parent s is.valid n p up e) e)
+      by_count (suc k) e = seated_bear (editable (within_below s.trees s.next is.valid.forest p n up (omega (arith, e)))) (seat s is.valid n p up (omega (arith, e)))
 
   chars_is : characters_of s.trees n ≡ chars
   chars_is = ap (λ (o : Option Content). unwrap_or (option_and_then chars_in o) []) text

@@ -6,7 +6,7 @@ use Rattle.edit_model.specs.Action.{Action, Change, MakeElement}
 use Rattle.edit_model.specs.Confined.{is_editable_for}
 use Rattle.edit_model.specs.Compositions.{attribute_list_of, set_tag_name, split_words}
 use Rattle.edit_model.specs.Laws.{LeavesStates, LeavesStatesOn}
-use Rattle.edit_model.specs.Lawful.{IsLawful}
+use Rattle.edit_model.specs.Valid.{IsValid}
 use Rattle.edit_model.specs.Run.{Reaches, here, onward, Run, ◌>>=◌, act, answer, look, given, for_each, while_at_most, edit, make_element, make_words, perform}
 use Rattle.dom_model.specs.declared.attributes.Attribute.{Attribute}
 use Rattle.edit_model.proofs.Each.{Each, EachOn, each_bind, each_answer, each_look, each_if, each_given, each_for_each, each_while, each_act, each_edit, each_make_element, each_make_words, each_perform, leaves_on, copy_stateless}
@@ -32,7 +32,7 @@ stateless_answer a = stateless (each_answer Leaving a)
 pub stateless_bind : {A B : Type 0} (m : Run A) (k : A → Run B) → Stateless m → ((a : A) → Stateless (k a)) → Stateless (m >>= k)
 stateless_bind m k h g = stateless (each_bind Leaving m k (each_of h) (λ a. each_of (g a)))
 
-pub stateless_look : {A : Type 0} (k : State → Run A) → ((s : State) → IsLawful s → Stateless (k s)) → Stateless (look k)
+pub stateless_look : {A : Type 0} (k : State → Run A) → ((s : State) → IsValid s → Stateless (k s)) → Stateless (look k)
 stateless_look k h = stateless (each_look Leaving k (λ s is. each_of (h s is)))
 
 -- the same where nothing is asked of the state
@@ -65,7 +65,7 @@ stateless_make_words chars = stateless (each_make_words Leaving chars (λ s is. 
 pub stateless_perform : (a : Action) → LeavesStates a → Stateless (perform a)
 stateless_perform a h = stateless (each_perform Leaving a (λ s is. h))
 
-pub stateless_copy : (s : State) (e : ℕ) (name : List ℕ) → IsLawful s → is_editable_for s e ≡ true → Stateless (make_element name (attribute_list_of s.trees e))
+pub stateless_copy : (s : State) (e : ℕ) (name : List ℕ) → IsValid s → is_editable_for s e ≡ true → Stateless (make_element name (attribute_list_of s.trees e))
 stateless_copy s e name is editable = stateless_make_element name (attribute_list_of s.trees e) (copy_stateless s e name is editable)
 
 pub stateless_tag_name : (e : ℕ) (name : List ℕ) → Stateless (set_tag_name e name)

@@ -83,7 +83,7 @@ module _ (s : State) (is : IsKeeping s) (n c m : ℕ) (up : parent_of s.trees c 
 
   up_t : parent_of t.trees c ≡ Some m
   unfolding kids
-  up_t = still c m (none_by (times (children_of s.trees c) c) (λ h. parent_other s.trees is.lawful.forest.distinct c c (child_by s is.lawful c c h) refl)) up
+  up_t = still c m (none_by (times (children_of s.trees c) c) (λ h. parent_other s.trees is.valid.forest.distinct c c (child_by s is.valid c c h) refl)) up
 
   line_t : Line t.trees n kids c
   unfolding kids
@@ -110,7 +110,7 @@ module _ (s : State) (is : IsKeeping s) (n c m : ℕ) (up : parent_of s.trees c 
       no_move = elim (cases_Bool (may_move t n c None)) [
         | inr k ↦ k
         | inl may ↦ absurd (
-            let once = is_t.lawful.forest.distinct in
+            let once = is_t.valid.forest.distinct in
             let here = line_there t.trees once n kids c (parent_count t.trees c m once up_t).0 line_t in
             omega (arith, line_within t.trees once n kids c here line_t, (goes t n c None may).apart))
       ]
@@ -130,11 +130,11 @@ module _ (s : State) (is : IsKeeping s) (n c m : ℕ) (up : parent_of s.trees c 
 
     root : parent_of u.trees c ≡ None
     root =
-        let w = seen t.trees c is_t.lawful.forest.distinct (parent_count t.trees c m is_t.lawful.forest.distinct up_t).0 in
-        ap (λ f. parent_of f c) gone ∙ (parent_of-unlink t.trees m c is_t.lawful.forest.distinct up_t c w.0 w.2 ∙ rw (eqb_refl_true c) refl)
+        let w = seen t.trees c is_t.valid.forest.distinct (parent_count t.trees c m is_t.valid.forest.distinct up_t).0 in
+        ap (λ f. parent_of f c) gone ∙ (parent_of-unlink t.trees m c is_t.valid.forest.distinct up_t c w.0 w.2 ∙ rw (eqb_refl_true c) refl)
 
     inner : 0 < c
-    inner = inner_child t.trees t.next is_t.lawful.forest m c up_t
+    inner = inner_child t.trees t.next is_t.valid.forest m c up_t
 
     keeps_u : KeepsOrder s u
     unfolding u
@@ -144,7 +144,7 @@ module _ (s : State) (is : IsKeeping s) (n c m : ℕ) (up : parent_of s.trees c 
     alone : (e : Content) → tree_of t.trees c ≡ Tree c e Nil Nil → borne_by c e ≡ [] → KeepsOrder s (final (insert_after n c >> move_last c n) u)
     alone e tree none =
         keeps_trans keeps_u
-        (taken_in u is_u n c e root inner (ap (λ f. tree_of f c) gone ∙ (tree_of-unlink t.trees m c is_t.lawful.forest.distinct up_t ∙ tree)) none)
+        (taken_in u is_u n c e root inner (ap (λ f. tree_of f c) gone ∙ (tree_of-unlink t.trees m c is_t.valid.forest.distinct up_t ∙ tree)) none)
 
     -- in the document
     seated : Seat s c m → KeepsOrder s (final (insert_after n c >> move_last c n) u)
@@ -156,15 +156,15 @@ module _ (s : State) (is : IsKeeping s) (n c m : ℕ) (up : parent_of s.trees c 
       where
         at_spot : (pre k post : Forest Content) → Spot (document_of t.trees) m (join pre (Tree c w.content k post)) → tree_of t.trees c ≡ Tree c w.content k Nil
         at_spot pre k post spot =
-            let once = is_t.lawful.forest.distinct in
+            let once = is_t.valid.forest.distinct in
             let inside : 0 < count_of (join pre (Tree c w.content k post)) c = omega (arith, count-join pre (Tree c w.content k post) c, self_one c) in
-            sym (tree_of-inside t.trees 0 c once (below_inside t is_t.lawful m (join pre (Tree c w.content k post)) spot c inside))
+            sym (tree_of-inside t.trees 0 c once (below_inside t is_t.valid m (join pre (Tree c w.content k post)) spot c inside))
             ∙ (spot_tree (document_of t.trees) (document_distinct t.trees once) m (join pre (Tree c w.content k post)) spot c inside
             ∙ (take_one pre c w.content k post (spot_distinct (document_of t.trees) (document_distinct t.trees once) m (join pre (Tree c w.content k post)) spot)).tree)
 
         still_plain : (pre k post : Forest Content) → Spot (document_of t.trees) m (join pre (Tree c w.content k post)) → is_break t.trees c ≡ false
         still_plain pre k post spot =
-            let now = ap (option_map (λ (y : Seen Content). y.content)) (node_found t is_t.lawful m pre c w.content k post spot) in
+            let now = ap (option_map (λ (y : Seen Content). y.content)) (node_found t is_t.valid m pre c w.content k post spot) in
             ap (λ (o : Option Content). option_map_or (λ own. bytes_eq own (codes "br")) (option_and_then name_in o) false) (now ∙ sym w.content_is) ∙ plain
 
         by_ends : Ends t m (join w.pre (join w.kids (Tree c w.content Nil w.post))) c m (λ went left. join went (Tree c w.content (join left Nil) w.post)) → KeepsOrder s (final (insert_after n c >> move_last c n) u)
@@ -177,7 +177,7 @@ module _ (s : State) (is : IsKeeping s) (n c m : ℕ) (up : parent_of s.trees c 
             first_fails (is_open t c) (is_open t m) (is_parent_at t.trees m) shut
             (own_open t c (is_break t.trees c) (still_plain went (join some Nil) w.post spot) r.own)
             (subst (λ k. is_open t k ≡ true) from r.allowed)
-            (has_children t.trees t.next is_t.lawful.forest m c up_t))
+            (has_children t.trees t.next is_t.valid.forest m c up_t))
 
     -- out of the document
     astray : IsLoose s c → KeepsOrder s (final (insert_after n c >> move_last c n) u)
@@ -186,9 +186,9 @@ module _ (s : State) (is : IsKeeping s) (n c m : ℕ) (up : parent_of s.trees c 
         let same_t : document_of t.trees ≡ document_of s.trees = still_each c (move_before c) (still_before c) (children_of s.trees c) s is none in
         let none_t : IsLoose t c = ap (λ g. count_of g c) same_t ∙ none in
         let same_u : document_of u.trees ≡ document_of t.trees =
-        ap (λ f. tree_of f 0) gone ∙ (document-unlink t.trees t.next is_t.lawful.forest m c up_t ∙ without_absent (document_of t.trees) c none_t) in
+        ap (λ f. tree_of f 0) gone ∙ (document-unlink t.trees t.next is_t.valid.forest m c up_t ∙ without_absent (document_of t.trees) c none_t) in
         let none_u : IsLoose u c = ap (λ g. count_of g c) same_u ∙ none_t in
-        let above_u : IsLoose u n = ap (λ g. count_of g n) same_u ∙ line_loose t is_t.lawful n (children_of s.trees c) c none_t line_t in
+        let above_u : IsLoose u n = ap (λ g. count_of g n) same_u ∙ line_loose t is_t.valid n (children_of s.trees c) c none_t line_t in
         same_document s (final (insert_after n c >> move_last c n) u) (rw final-bind (by_parent above_u none_u (parent_of u.trees n) refl) ∙ (same_u ∙ same_t))
       where
         by_parent : IsLoose u n → IsLoose u c → (o : Option ℕ) → parent_of u.trees n ≡ o → document_of (final (move_last c n) (final (insert_after n c) u)).trees ≡ document_of u.trees
@@ -203,15 +203,15 @@ module _ (s : State) (is : IsKeeping s) (n c m : ℕ) (up : parent_of s.trees c 
             by_test (inr off) = then_stays (ap (λ f. tree_of f 0) (trees_left (Insert p (next_of u.trees n) c) u off))
             by_test (inl put) = then_stays (
                 ap (λ f. tree_of f 0) (trees_made (Insert p (next_of u.trees n) c) u put)
-                ∙ (document-link u.trees u.next is_u.lawful.forest p (next_of u.trees n) c (inserts u p (next_of u.trees n) c put).can
-                ∙ put_under_nowhere (document_of u.trees) p (next_of u.trees n) (tree_of u.trees c) (loose_up u is_u.lawful n p e above)))
+                ∙ (document-link u.trees u.next is_u.valid.forest p (next_of u.trees n) c (inserts u p (next_of u.trees n) c put).can
+                ∙ put_under_nowhere (document_of u.trees) p (next_of u.trees n) (tree_of u.trees c) (loose_up u is_u.valid n p e above)))
 
     went : KeepsOrder s (final (insert_after n c >> move_last c n) u)
     went = by_count (count_of (document_of s.trees) c) refl
       where
         by_count : (k : ℕ) → count_of (document_of s.trees) c ≡ k → KeepsOrder s (final (insert_after n c >> move_last c n) u)
         by_count zero none = astray none
-        by_count (suc k) some = seated (seat s is.lawful c m up (let h : IsWithin s.trees 0 c = omega (arith, some) in omega (arith, within_above s.trees s.next is.lawful.forest m c up h)))
+        by_count (suc k) some = seated (seat s is.valid c m up (let h : IsWithin s.trees 0 c = omega (arith, some) in omega (arith, within_above s.trees s.next is.valid.forest m c up h)))
 
   swapped_line : KeepsOrder s (final (insert_after n c >> move_last c n) (edited (Remove c) t))
   unfolding u
@@ -221,8 +221,8 @@ pub change_places : (s : State) → IsKeeping s → (n c : ℕ) → IsWithin s.t
     → KeepsOrder s (final (move_all_before (children_of s.trees c) c >> (remove c >> (insert_after n c >> move_last c n))) s)
 unfolding t kids
 change_places s is n c inside off bare plain =
-    let once = is.lawful.forest.distinct in
+    let once = is.valid.forest.distinct in
     let here : 0 < count_of s.trees n = holder_there s.trees n c inside in
     let w = within_parent s.trees n once here c off inside in
-    let line = line_to s is.lawful n c here (depth_of s.trees c) c refl inside (within_self s.trees c once (parent_count s.trees c w.0 once w.1).0) in
+    let line = line_to s is.valid n c here (depth_of s.trees c) c refl inside (within_self s.trees c once (parent_count s.trees c w.0 once w.1).0) in
     rw (final-bind, final-bind, final-edit) (swapped_line s is n c w.0 w.1 line bare plain)

@@ -15,7 +15,7 @@ use Rattle.edit_model.specs.Kept.{borne_by, leaves}
 use Rattle.edit_model.specs.Confined.{is_open, is_place, may_move}
 use Rattle.edit_model.specs.Edit.{Move, edited}
 use Rattle.edit_model.specs.History.{document_of}
-use Rattle.edit_model.specs.Lawful.{IsLawful}
+use Rattle.edit_model.specs.Valid.{IsValid}
 use Rattle.edit_model.specs.Run.{final, for_each}
 use Rattle.edit_model.proofs.Steps.{final-bind, final-answer, final-look, final-edit, for_each-cons, for_each-nil}
 use Rattle.edit_laws.specs.Order.{IsKeeping}
@@ -51,7 +51,7 @@ tops-after (Tree m c ks rest) g = ap (λ r. m ∷ r) (tops-after rest g)
 
 -- ---- the last children of o go to just after it
 
-pub next_is : (s : State) (is : IsLawful s) (q : ℕ) (pre : Forest Content) (o : ℕ) (c : Content) (ks post : Forest Content) → Spot (document_of s.trees) q (join pre (Tree o c ks post)) → next_of s.trees o ≡ first_in (tops post)
+pub next_is : (s : State) (is : IsValid s) (q : ℕ) (pre : Forest Content) (o : ℕ) (c : Content) (ks post : Forest Content) → Spot (document_of s.trees) q (join pre (Tree o c ks post)) → next_of s.trees o ≡ first_in (tops post)
 next_is s is q pre o c ks post spot =
     let none : times (tops pre) o ≡ 0 = omega (arith, times-tops pre o, node_apart s is q pre o c ks post spot) in
     ap (λ p. option_and_then (λ k. after_in (children_of s.trees k) o) p) (node_parent s is q pre o c ks post spot)
@@ -67,25 +67,25 @@ module _ (s : State) (is : IsKeeping s) (q : ℕ) (pre : Forest Content) (o : �
   place_after n child Nil among = refl
   place_after n child (Tree b d j h) among =
       let beside : parent_of s.trees b ≡ Some q = among b (omega (arith, self_one b)) in
-      let up = node_parent s is.lawful q pre o c ks post spot in
-      let off : b ≢ n = λ e. (let k : Some q ≡ Some o = sym beside ∙ (ap (parent_of s.trees) e ∙ child) in let same : q ≡ o = (let k' = k in cc) in parent_other s.trees is.lawful.forest.distinct o q up same) in
+      let up = node_parent s is.valid q pre o c ks post spot in
+      let off : b ≢ n = λ e. (let k : Some q ≡ Some o = sym beside ∙ (ap (parent_of s.trees) e ∙ child) in let same : q ≡ o = (let k' = k in cc) in parent_other s.trees is.valid.forest.distinct o q up same) in
       rw (beside, eqb_refl_true q, ne_eqb b n off) refl
 
   pub drop_open : (n : ℕ) → 0 < times (tops ks) n → may_move s n q (first_in (tops post)) ≡ (is_open s o && (is_open s q && is_parent_at s.trees q))
   drop_open n h =
-      let once = is.lawful.forest.distinct in
-      let child = child_parent s is.lawful q pre o c ks post spot n h in
-      let up = node_parent s is.lawful q pre o c ks post spot in
-      let among : (m : ℕ) → 0 < times (tops post) m → parent_of s.trees m ≡ Some q = λ m k. top_parent s is.lawful q (join pre (Tree o c ks post)) spot m (omega (arith, k, tops-join pre (Tree o c ks post) m)) in
+      let once = is.valid.forest.distinct in
+      let child = child_parent s is.valid q pre o c ks post spot n h in
+      let up = node_parent s is.valid q pre o c ks post spot in
+      let among : (m : ℕ) → 0 < times (tops post) m → parent_of s.trees m ≡ Some q = λ m k. top_parent s is.valid q (join pre (Tree o c ks post)) spot m (omega (arith, k, tops-join pre (Tree o c ks post) m)) in
       goes_where_open s n o q (first_in (tops post)) child (not_within_above s.trees once n o q child up) (place_after n child post among)
-      (owner_inside s is.lawful q pre o c ks post spot) (λ same. parent_other s.trees once o q up (sym same))
+      (owner_inside s is.valid q pre o c ks post spot) (λ same. parent_other s.trees once o q up (sym same))
 
 pub drop : (s : State) → IsKeeping s → (q : ℕ) (pre : Forest Content) (o : ℕ) (c : Content) (n : ℕ) (d : Content) (j k post : Forest Content)
     → Spot (document_of s.trees) q (join pre (Tree o c (join k (Tree n d j Nil)) post))
     → Slide s (edited (Move n q (first_in (tops post))) s) q (join pre (Tree o c k (Tree n d j post))) (may_move s n q (first_in (tops post)))
 drop s is q pre o c n d j k post spot =
     let f = document_of s.trees in
-    let once = document_distinct s.trees is.lawful.forest.distinct in
+    let once = document_distinct s.trees is.valid.forest.distinct in
     let kids = join pre (Tree o c (join k (Tree n d j Nil)) post) in
     let others = join pre (Tree o c k (Tree n d j post)) in
     let kids_once = spot_distinct f once q kids spot in
@@ -104,7 +104,7 @@ drop_all Nil s is q pre o c k post spot =
     rw (for_each-nil, final-answer)
     (record { keeps = keeps_refl (document_of s.trees); ends = all_went (spot_as (document_of s.trees) q (join pre (Tree o c (join k Nil) post)) (join pre (Tree o c k post)) (ap (λ h. join pre (Tree o c h post)) (join-Nil k)) spot) })
 drop_all (Tree n d j r) s is q pre o c k post spot =
-    rw (for_each-cons, final-bind, final_move_after o n q s (node_parent s is.lawful q pre o c (join k (turned r (Tree n d j Nil))) post spot), next_is s is.lawful q pre o c (join k (turned r (Tree n d j Nil))) post spot)
+    rw (for_each-cons, final-bind, final_move_after o n q s (node_parent s is.valid q pre o c (join k (turned r (Tree n d j Nil))) post spot), next_is s is.valid q pre o c (join k (turned r (Tree n d j Nil))) post spot)
     (by_made (may_move s n q (first_in (tops post))) refl (drop s is q pre o c n d j (join k (turned r Nil)) post here)
     (λ next. drop_all r t (keeping_edited (Move n q (first_in (tops post))) s is) q pre o c k (Tree n d j post) next))
   where
@@ -129,8 +129,8 @@ drop_all (Tree n d j r) s is q pre o c k post spot =
         let among : (m : ℕ) → 0 < times (tops (Tree n d j r)) m → 0 < times (tops ks) m = λ m h. omega (arith, h, tops-join k (turned r (Tree n d j Nil)) m, times-turned r (Tree n d j Nil) m) in
         let shut : (is_open s o && (is_open s q && is_parent_at s.trees q)) ≡ false = sym (drop_open s is q pre o c ks post spot n (among n (omega (arith, self_one n)))) ∙ w in
         let stays : (m : ℕ) → 0 < times (tops r) m → final (move_after o m) s ≡ s = λ m h.
-        final_move_after o m q s (node_parent s is.lawful q pre o c ks post spot)
-        ∙ (ap (λ b. edited (Move m q b) s) (next_is s is.lawful q pre o c ks post spot)
+        final_move_after o m q s (node_parent s is.valid q pre o c ks post spot)
+        ∙ (ap (λ b. edited (Move m q b) s) (next_is s is.valid q pre o c ks post spot)
         ∙ move_stays m q (first_in (tops post)) s (drop_open s is q pre o c ks post spot m (among m (omega (arith, h))) ∙ shut)) in
         rw (one.left refl, each_stays (tops r) (move_after o) s stays)
         (record { keeps = keeps_refl (document_of s.trees); ends = some_stay (Tree n d j r) post spot shut })
@@ -143,29 +143,29 @@ final_move_first p n s = rw (final-look, final-bind, final-edit, final-answer) r
 
 module _ (s : State) (is : IsKeeping s) (q : ℕ) (pre : Forest Content) (p : ℕ) (e : Content) (g post : Forest Content) (spot : Spot (document_of s.trees) q (join pre (Tree p e g post))) where
   pub first_is : first_of s.trees p ≡ first_in (tops g)
-  first_is = ap (λ o. first_in (option_map_or (λ (x : Seen Content). x.children) o [])) (node_found s is.lawful q pre p e g post spot)
+  first_is = ap (λ o. first_in (option_map_or (λ (x : Seen Content). x.children) o [])) (node_found s is.valid q pre p e g post spot)
 
   place_first : (n : ℕ) → parent_of s.trees n ≡ Some q → (h : Forest Content) → ((m : ℕ) → 0 < times (tops h) m → parent_of s.trees m ≡ Some p) → is_place s.trees p (first_in (tops h)) n ≡ true
   place_first n child Nil among = refl
   place_first n child (Tree b d j h) among =
       let below : parent_of s.trees b ≡ Some p = among b (omega (arith, self_one b)) in
-      let up = node_parent s is.lawful q pre p e g post spot in
-      let off : b ≢ n = λ w. (let k : Some p ≡ Some q = sym below ∙ (ap (parent_of s.trees) w ∙ child) in let same : p ≡ q = (let k' = k in cc) in parent_other s.trees is.lawful.forest.distinct p q up (sym same)) in
+      let up = node_parent s is.valid q pre p e g post spot in
+      let off : b ≢ n = λ w. (let k : Some p ≡ Some q = sym below ∙ (ap (parent_of s.trees) w ∙ child) in let same : p ≡ q = (let k' = k in cc) in parent_other s.trees is.valid.forest.distinct p q up (sym same)) in
       rw (below, eqb_refl_true p, ne_eqb b n off) refl
 
   pub front_open : (n : ℕ) → 0 < times (tops pre) n → may_move s n p (first_in (tops g)) ≡ (is_open s q && (is_open s p && is_parent_at s.trees p))
   front_open n h =
-      let once = is.lawful.forest.distinct in
+      let once = is.valid.forest.distinct in
       let kids = join pre (Tree p e g post) in
       let kids_once = spot_distinct (document_of s.trees) (document_distinct s.trees once) q kids spot in
-      let child = top_parent s is.lawful q kids spot n (omega (arith, h, tops-join pre (Tree p e g post) n)) in
-      let beside = node_parent s is.lawful q pre p e g post spot in
+      let child = top_parent s is.valid q kids spot n (omega (arith, h, tops-join pre (Tree p e g post) n)) in
+      let beside = node_parent s is.valid q pre p e g post spot in
       let off : n ≢ p = λ same. (
       let h' : 0 < times (tops pre) p = subst (λ m. 0 < times (tops pre) m) same h in
       omega (arith, h', times-tops pre p, kids_once p, count-join pre (Tree p e g post) p, self_one p)) in
       goes_where_open s n q p (first_in (tops g)) child (not_within_beside s.trees once n q p child beside off)
-      (place_first n child g (λ m k. child_parent s is.lawful q pre p e g post spot m k))
-      (below_inside s is.lawful q kids spot p (omega (arith, count-join pre (Tree p e g post) p, self_one p)))
+      (place_first n child g (λ m k. child_parent s is.valid q pre p e g post spot m k))
+      (below_inside s is.valid q kids spot p (omega (arith, count-join pre (Tree p e g post) p, self_one p)))
       (λ same. parent_other s.trees once p q beside same)
 
 pub front : (s : State) → IsKeeping s → (q : ℕ) (pre : Forest Content) (n : ℕ) (d : Content) (j : Forest Content) (p : ℕ) (e : Content) (g post : Forest Content) → borne_by p e ≡ []
@@ -173,7 +173,7 @@ pub front : (s : State) → IsKeeping s → (q : ℕ) (pre : Forest Content) (n 
     → Slide s (edited (Move n p (first_in (tops g))) s) q (join pre (Tree p e (Tree n d j g) post)) (may_move s n p (first_in (tops g)))
 front s is q pre n d j p e g post bare spot =
     let f = document_of s.trees in
-    let once = document_distinct s.trees is.lawful.forest.distinct in
+    let once = document_distinct s.trees is.valid.forest.distinct in
     let kids = join pre (Tree n d j (Tree p e g post)) in
     let others = join pre (Tree p e (Tree n d j g) post) in
     let kids_once = spot_distinct f once q kids spot in
@@ -229,7 +229,7 @@ pub swap : (s : State) → IsKeeping s → (q : ℕ) (pre : Forest Content) (x :
     → Slide s (edited (Move n q (Some x)) s) q (join pre (Tree n d j (Tree x e g post))) (may_move s n q (Some x))
 swap s is q pre x e g n d j post bare spot =
     let f = document_of s.trees in
-    let once = document_distinct s.trees is.lawful.forest.distinct in
+    let once = document_distinct s.trees is.valid.forest.distinct in
     let kids = join pre (Tree x e g (Tree n d j post)) in
     let others = join pre (Tree n d j (Tree x e g post)) in
     let kids_once = spot_distinct f once q kids spot in
@@ -238,7 +238,7 @@ swap s is q pre x e g n d j post bare spot =
     let t = take_one (join pre (Tree x e g Nil)) n d j post (subst IsDistinct (sym same) kids_once) in
     let tree : tree_of kids n ≡ Tree n d j Nil = ap (λ h. tree_of h n) (sym same) ∙ t.tree in
     let out = ap (λ h. without h n) (sym same) ∙ (t.out ∙ join-assoc pre (Tree x e g Nil) post) in
-    let apart = node_apart s is.lawful q pre x e g (Tree n d j post) spot in
+    let apart = node_apart s is.valid q pre x e g (Tree n d j post) spot in
     slide s is q kids others spot n q (Some x) inside
     (rw (spot_without f once q kids spot n inside, spot_tree f once q kids spot n inside, tree, out)
     (spot_put_top f once q kids spot (join pre (Tree x e g post)) (Some x) (Tree n d j Nil) ∙ ap (λ h. fill spot.around (Tree q spot.content h spot.rest)) (put_before_node pre x e g post n d j apart)))
@@ -251,7 +251,7 @@ pub enter : (s : State) → IsKeeping s → (q : ℕ) (pre : Forest Content) (n 
     → Slide s (edited (Move n x None) s) q (join pre (Tree x e (join g (Tree n d j Nil)) post)) (may_move s n x None)
 enter s is q pre n d j x e g post bare spot =
     let f = document_of s.trees in
-    let once = document_distinct s.trees is.lawful.forest.distinct in
+    let once = document_distinct s.trees is.valid.forest.distinct in
     let kids = join pre (Tree n d j (Tree x e g post)) in
     let others = join pre (Tree x e (join g (Tree n d j Nil)) post) in
     let kids_once = spot_distinct f once q kids spot in

@@ -1,7 +1,8 @@
 -- What a command does to an island of its host.
 use Rattle.std.specs.Prelude.{◌≡◌, ◌≢◌, ◌⊎◌, ℕ, true, List, ◌∷◌, ◌++◌}
 use Rattle.dom_model.specs.declared.Content.{Content}
-use Rattle.dom_model.specs.Change.{Change, Loosen}
+use Rattle.dom_model.specs.Change.{Change}
+use Rattle.dom_model.specs.Change as change
 use Rattle.dom_model.specs.Forest.{Forest, tree_of, IsWithin}
 use Rattle.edit_model.specs.State.{State}
 use Rattle.edit_model.specs.Confined.{is_own}
@@ -27,7 +28,7 @@ pub record IsTakenOut (began now : State) (l : ℕ) : Type 0 where
   pub below : root ≢ l
   pub own : is_own then_at root ≡ true
   pub later : List Change
-  pub listed : now.edits ≡ then_at.edits ++ (Loosen root ∷ later)
+  pub listed : now.edits ≡ then_at.edits ++ (change.Remove root ∷ later)
 
 -- in the document with an equal tree below the host, or out of it and taken out by a removal
 abbrev pub IslandKept : (began now : State) (before after : Forest Content) (host l : ℕ) → Type 0

@@ -8,7 +8,7 @@ use Rattle.edit_model.specs.Edit.{Insert}
 use Rattle.edit_model.specs.Action.{Action, Change, acted}
 use Rattle.edit_model.specs.Run.{Reaches, Run, ◌>>=◌, act, answer, look, given, for_each, while_at_most, insert, make_element}
 use Rattle.edit_laws.specs.Order.{KeepsOrder, IsKeeping}
-use Rattle.edit_laws.specs.Tame.{Tame, TameWith, IsQuiet}
+use Rattle.edit_laws.specs.OrderPreserving.{OrderPreserving, OrderPreservingWith, IsQuiet}
 
 -- ---- states
 
@@ -33,50 +33,50 @@ BareInsertsKeep =
 
 -- ---- the certificate, closed under the ways in which runs are composed
 
-abbrev pub TameActs : Type 0 → Type 0
-TameActs A = (a : Action) (tells : State → A) → IsQuiet a → Tame (act a tells)
+abbrev pub OrderPreservingActs : Type 0 → Type 0
+OrderPreservingActs A = (a : Action) (tells : State → A) → IsQuiet a → OrderPreserving (act a tells)
 
-abbrev pub TameAnswers : Type 0 → Type 0
-TameAnswers A = (a : A) → Tame (answer a)
+abbrev pub OrderPreservingAnswers : Type 0 → Type 0
+OrderPreservingAnswers A = (a : A) → OrderPreserving (answer a)
 
-abbrev pub TameFollows : Type 0 → Type 0 → Type 0
-TameFollows A B = (m : Run A) (k : A → Run B) → Tame m → ((a : A) → Tame (k a)) → Tame (m >>= k)
+abbrev pub OrderPreservingFollows : Type 0 → Type 0 → Type 0
+OrderPreservingFollows A B = (m : Run A) (k : A → Run B) → OrderPreserving m → ((a : A) → OrderPreserving (k a)) → OrderPreserving (m >>= k)
 
-abbrev pub TameLooks : Type 0 → Type 0
-TameLooks A = (k : State → Run A) → ((s : State) → Tame (k s)) → Tame (look k)
+abbrev pub OrderPreservingLooks : Type 0 → Type 0
+OrderPreservingLooks A = (k : State → Run A) → ((s : State) → OrderPreserving (k s)) → OrderPreserving (look k)
 
-abbrev pub TameChooses : Type 0 → Type 0
-TameChooses A = (b : Bool) (m n : Run A) → Tame m → Tame n → Tame (if b then m else n)
+abbrev pub OrderPreservingChooses : Type 0 → Type 0
+OrderPreservingChooses A = (b : Bool) (m n : Run A) → OrderPreserving m → OrderPreserving n → OrderPreserving (if b then m else n)
 
-abbrev pub TameGiven : Type 0 → Type 0 → Type 0
-TameGiven A B = (o : Option A) (n : Run B) (f : A → Run B) → Tame n → ((a : A) → Tame (f a)) → Tame (given o n f)
+abbrev pub OrderPreservingGiven : Type 0 → Type 0 → Type 0
+OrderPreservingGiven A B = (o : Option A) (n : Run B) (f : A → Run B) → OrderPreserving n → ((a : A) → OrderPreserving (f a)) → OrderPreserving (given o n f)
 
-abbrev pub TameForEach : Type 0 → Type 0
-TameForEach A = (xs : List A) (f : A → Run (Unit {0})) → ((x : A) → Tame (f x)) → Tame (for_each xs f)
+abbrev pub OrderPreservingForEach : Type 0 → Type 0
+OrderPreservingForEach A = (xs : List A) (f : A → Run (Unit {0})) → ((x : A) → OrderPreserving (f x)) → OrderPreserving (for_each xs f)
 
-abbrev pub TameWhile : Type 0 → Type 0
-TameWhile A =
-    (bound : ℕ) (test : State → A → Bool) (body : A → Run A) (a : A) → ((a : A) → Tame (body a)) → Tame (while_at_most bound test body a)
+abbrev pub OrderPreservingWhile : Type 0 → Type 0
+OrderPreservingWhile A =
+    (bound : ℕ) (test : State → A → Bool) (body : A → Run A) (a : A) → ((a : A) → OrderPreserving (body a)) → OrderPreserving (while_at_most bound test body a)
 
 -- ---- new elements
 
 -- a node whose tree bears nothing may be inserted anywhere
-abbrev pub TameWithInserts : Type 0
-TameWithInserts = (p : ℕ) (b : Option ℕ) (x : ℕ) → TameWith x (insert p b x)
+abbrev pub OrderPreservingWithInserts : Type 0
+OrderPreservingWithInserts = (p : ℕ) (b : Option ℕ) (x : ℕ) → OrderPreservingWith x (insert p b x)
 
-abbrev pub TameWithFollows : Type 0 → Type 0 → Type 0
-TameWithFollows A B = (x : ℕ) (m : Run A) (k : A → Run B) → TameWith x m → ((a : A) → Tame (k a)) → TameWith x (m >>= k)
+abbrev pub OrderPreservingWithFollows : Type 0 → Type 0 → Type 0
+OrderPreservingWithFollows A B = (x : ℕ) (m : Run A) (k : A → Run B) → OrderPreservingWith x m → ((a : A) → OrderPreserving (k a)) → OrderPreservingWith x (m >>= k)
 
-abbrev pub TameWithLooks : Type 0 → Type 0
-TameWithLooks A = (x : ℕ) (k : State → Run A) → ((s : State) → TameWith x (k s)) → TameWith x (look k)
+abbrev pub OrderPreservingWithLooks : Type 0 → Type 0
+OrderPreservingWithLooks A = (x : ℕ) (k : State → Run A) → ((s : State) → OrderPreservingWith x (k s)) → OrderPreservingWith x (look k)
 
-abbrev pub TameWithChooses : Type 0 → Type 0
-TameWithChooses A = (x : ℕ) (b : Bool) (m n : Run A) → TameWith x m → TameWith x n → TameWith x (if b then m else n)
+abbrev pub OrderPreservingWithChooses : Type 0 → Type 0
+OrderPreservingWithChooses A = (x : ℕ) (b : Bool) (m n : Run A) → OrderPreservingWith x m → OrderPreservingWith x n → OrderPreservingWith x (if b then m else n)
 
-abbrev pub TameWithGiven : Type 0 → Type 0 → Type 0
-TameWithGiven A B = (x : ℕ) (o : Option A) (n : Run B) (f : A → Run B) → TameWith x n → ((a : A) → TameWith x (f a)) → TameWith x (given o n f)
+abbrev pub OrderPreservingWithGiven : Type 0 → Type 0 → Type 0
+OrderPreservingWithGiven A B = (x : ℕ) (o : Option A) (n : Run B) (f : A → Run B) → OrderPreservingWith x n → ((a : A) → OrderPreservingWith x (f a)) → OrderPreservingWith x (given o n f)
 
 -- a new element that is neither img nor hr bears nothing
-abbrev pub TameNewElements : Type 0 → Type 0
-TameNewElements A =
-    (name : List ℕ) (attributes : List Attribute) (k : ℕ → Run A) → is_thing name ≡ false → ((x : ℕ) → TameWith x (k x)) → Tame (make_element name attributes >>= k)
+abbrev pub OrderPreservingNewElements : Type 0 → Type 0
+OrderPreservingNewElements A =
+    (name : List ℕ) (attributes : List Attribute) (k : ℕ → Run A) → is_thing name ≡ false → ((x : ℕ) → OrderPreservingWith x (k x)) → OrderPreserving (make_element name attributes >>= k)

@@ -1,5 +1,5 @@
 pub mod Order
-pub mod Tame
+pub mod OrderPreserving
 pub mod Laws
 pub mod MoveLaws
 pub mod CompositionLaws

@@ -5,7 +5,7 @@ use Rattle.dom_model.specs.Forest.{Forest}
 use Rattle.edit_model.specs.Kept.{Leaf, leaves, kept_leaves}
 use Rattle.edit_model.specs.State.{State}
 use Rattle.edit_model.specs.History.{document_of}
-use Rattle.edit_model.specs.Lawful.{IsLawful}
+use Rattle.edit_model.specs.Valid.{IsValid}
 
 -- the first list is the second with members left out
 pub data Subsequence : List Leaf → List Leaf → Type 0 where
@@ -22,7 +22,7 @@ pub record KeepsLeaves (before after : Forest Content) : Type 0 where
 abbrev pub KeepsOrder : State → State → Type 0
 KeepsOrder s t = KeepsLeaves (document_of s.trees) (document_of t.trees)
 
--- a lawful state in which a command runs that keeps contents
+-- a valid state in which a command runs that keeps contents
 pub record IsKeeping (s : State) : Type 0 where
-  pub lawful : IsLawful s
+  pub valid : IsValid s
   pub keeping : s.keeping ≡ true

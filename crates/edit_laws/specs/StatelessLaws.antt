@@ -6,7 +6,7 @@ use Rattle.edit_model.specs.Confined.{is_editable_for}
 use Rattle.edit_model.specs.Compositions.{attribute_list_of, set_tag_name, split_words}
 use Rattle.edit_model.specs.Laws.{LeavesStates}
 use Rattle.edit_model.specs.Moves.{unwrap}
-use Rattle.edit_model.specs.Lawful.{IsLawful}
+use Rattle.edit_model.specs.Valid.{IsValid}
 use Rattle.edit_model.specs.Run.{Run, ◌>>=◌, act, answer, look, given, for_each, while_at_most, make_element}
 use Rattle.edit_laws.specs.Stateless.{Stateless}
 
@@ -20,7 +20,7 @@ abbrev pub StatelessFollows : Type 0 → Type 0 → Type 0
 StatelessFollows A B = (m : Run A) (k : A → Run B) → Stateless m → ((a : A) → Stateless (k a)) → Stateless (m >>= k)
 
 abbrev pub StatelessLooks : Type 0 → Type 0
-StatelessLooks A = (k : State → Run A) → ((s : State) → IsLawful s → Stateless (k s)) → Stateless (look k)
+StatelessLooks A = (k : State → Run A) → ((s : State) → IsValid s → Stateless (k s)) → Stateless (look k)
 
 abbrev pub StatelessChooses : Type 0 → Type 0
 StatelessChooses A = (b : Bool) (m n : Run A) → Stateless m → Stateless n → Stateless (if b then m else n)
@@ -38,7 +38,7 @@ StatelessWhile A =
 -- an element made with the attributes of a node that is editable for the host
 abbrev pub StatelessCopies : Type 0
 StatelessCopies =
-    (s : State) (e : ℕ) (name : List ℕ) → IsLawful s → is_editable_for s e ≡ true → Stateless (make_element name (attribute_list_of s.trees e))
+    (s : State) (e : ℕ) (name : List ℕ) → IsValid s → is_editable_for s e ≡ true → Stateless (make_element name (attribute_list_of s.trees e))
 
 abbrev pub UnwrapsStateless : Type 0
 UnwrapsStateless = (e : ℕ) → Stateless (unwrap e)

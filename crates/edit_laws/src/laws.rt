@@ -1,6 +1,6 @@
 //! The laws, each the contract of a function that does nothing.
 
-ghost use Rattle.edit_laws.specs.Laws.{KeepingStays, OrderFollows, QuietActionsKeep, BareInsertsKeep, TameActs, TameAnswers, TameFollows, TameLooks, TameChooses, TameGiven, TameForEach, TameWhile, TameWithInserts, TameWithFollows, TameWithLooks, TameWithChooses, TameWithGiven, TameNewElements};
+ghost use Rattle.edit_laws.specs.Laws.{KeepingStays, OrderFollows, QuietActionsKeep, BareInsertsKeep, OrderPreservingActs, OrderPreservingAnswers, OrderPreservingFollows, OrderPreservingLooks, OrderPreservingChooses, OrderPreservingGiven, OrderPreservingForEach, OrderPreservingWhile, OrderPreservingWithInserts, OrderPreservingWithFollows, OrderPreservingWithLooks, OrderPreservingWithChooses, OrderPreservingWithGiven, OrderPreservingNewElements};
 
 /// Every action leaves a state in which a command keeps contents such a state.
 pub fn keeping_stays()
@@ -22,72 +22,72 @@ pub fn bare_inserts_keep()
     ensures { BareInsertsKeep }
 {}
 
-/// A run of one such action is tame.
-pub fn tame_acts<A>()
-    ensures { TameActs A }
+/// A run of one such action is order-preserving.
+pub fn order_preserving_acts<A>()
+    ensures { OrderPreservingActs A }
 {}
 
-/// An answer is tame.
-pub fn tame_answers<A>()
-    ensures { TameAnswers A }
+/// An answer is order-preserving.
+pub fn order_preserving_answers<A>()
+    ensures { OrderPreservingAnswers A }
 {}
 
-/// A tame run followed by tame runs is tame.
-pub fn tame_follows<A, B>()
-    ensures { TameFollows A B }
+/// An order-preserving run followed by order-preserving runs is order-preserving.
+pub fn order_preserving_follows<A, B>()
+    ensures { OrderPreservingFollows A B }
 {}
 
-/// So are tame runs that are chosen by what the state now is,
-pub fn tame_looks<A>()
-    ensures { TameLooks A }
+/// So are order-preserving runs that are chosen by what the state now is,
+pub fn order_preserving_looks<A>()
+    ensures { OrderPreservingLooks A }
 {}
 
 /// by a test,
-pub fn tame_chooses<A>()
-    ensures { TameChooses A }
+pub fn order_preserving_chooses<A>()
+    ensures { OrderPreservingChooses A }
 {}
 
 /// or by what is there,
-pub fn tame_given<A, B>()
-    ensures { TameGiven A B }
+pub fn order_preserving_given<A, B>()
+    ensures { OrderPreservingGiven A B }
 {}
 
-/// and loops of tame runs over a list
-pub fn tame_for_each<A>()
-    ensures { TameForEach A }
+/// and loops of order-preserving runs over a list
+pub fn order_preserving_for_each<A>()
+    ensures { OrderPreservingForEach A }
 {}
 
 /// or while a test holds.
-pub fn tame_while<A>()
-    ensures { TameWhile A }
+pub fn order_preserving_while<A>()
+    ensures { OrderPreservingWhile A }
 {}
 
 /// A node whose tree bears nothing is inserted,
-pub fn tame_with_inserts()
-    ensures { TameWithInserts }
+pub fn order_preserving_with_inserts()
+    ensures { OrderPreservingWithInserts }
 {}
 
-/// and tame runs follow,
-pub fn tame_with_follows<A, B>()
-    ensures { TameWithFollows A B }
+/// and order-preserving runs follow,
+pub fn order_preserving_with_follows<A, B>()
+    ensures { OrderPreservingWithFollows A B }
 {}
 
 /// at a place that the state tells,
-pub fn tame_with_looks<A>()
-    ensures { TameWithLooks A }
+pub fn order_preserving_with_looks<A>()
+    ensures { OrderPreservingWithLooks A }
 {}
 
 /// by a test,
-pub fn tame_with_chooses<A>()
-    ensures { TameWithChooses A }
+pub fn order_preserving_with_chooses<A>()
+    ensures { OrderPreservingWithChooses A }
 {}
 
 /// or by what is there:
-pub fn tame_with_given<A, B>()
-    ensures { TameWithGiven A B }
+pub fn order_preserving_with_given<A, B>()
+    ensures { OrderPreservingWithGiven A B }
 {}
 
-/// so a run that makes an element which is neither img nor hr, and inserts it, is tame.
-pub fn tame_new_elements<A>()
-    ensures { TameNewElements A }
+/// so a run that makes an element which is neither img nor hr, and inserts it, is order-preserving.
+pub fn order_preserving_new_elements<A>()
+    ensures { OrderPreservingNewElements A }
 {}

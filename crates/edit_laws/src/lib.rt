@@ -13,10 +13,12 @@ pub use commands::{
 };
 pub use compositions::{split_texts_keep, tag_names_keep, unwraps_keep};
 pub use laws::{
-    bare_inserts_keep, keeping_stays, order_follows, quiet_actions_keep, tame_acts, tame_answers,
-    tame_chooses, tame_follows, tame_for_each, tame_given, tame_looks, tame_new_elements,
-    tame_while, tame_with_chooses, tame_with_follows, tame_with_given, tame_with_inserts,
-    tame_with_looks,
+    bare_inserts_keep, keeping_stays, order_follows, order_preserving_acts,
+    order_preserving_answers, order_preserving_chooses, order_preserving_follows,
+    order_preserving_for_each, order_preserving_given, order_preserving_looks,
+    order_preserving_new_elements, order_preserving_while, order_preserving_with_chooses,
+    order_preserving_with_follows, order_preserving_with_given, order_preserving_with_inserts,
+    order_preserving_with_looks, quiet_actions_keep,
 };
 pub use moves::{
     children_part, children_stay, first_children_go_before, first_children_go_over,

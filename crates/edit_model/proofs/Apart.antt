@@ -8,8 +8,8 @@ use Rattle.dom_model.specs.Places.{index_of}
 use Rattle.dom_model.proofs.Totals.{total-without}
 use Rattle.live_range.specs.declared.places.Point.{Point}
 use Rattle.live_range.specs.declared.places.Pair.{Pair}
-use Rattle.live_range.specs.Edit as range
-use Rattle.live_range.specs.Edit.{adjusted, adjusted_pair, has_label}
+use Rattle.live_range.specs.PointsEdit as range
+use Rattle.live_range.specs.PointsEdit.{adjusted, adjusted_pair, has_label}
 use Rattle.live_range.specs.LivePoints.{LivePoints, mapped, at_pair}
 use Rattle.edit_model.specs.State.{State}
 use Rattle.edit_model.specs.Confined.{is_open, is_own, may_select, may_grow, may_send}
@@ -17,7 +17,7 @@ use Rattle.edit_model.specs.Edit.{Edit, Insert, Remove, Move, Replace, Set, Unse
 use Rattle.edit_model.specs.Action as action
 use Rattle.edit_model.specs.Action.{Action, made, applied, tail_of, extracted, with_selection, selected, extended_from, extended, grown, sent, scratched, acted}
 use Rattle.edit_model.specs.Run.{Reaches, here, onward}
-use Rattle.edit_model.specs.Lawful.{IsLawful}
+use Rattle.edit_model.specs.Valid.{IsValid}
 use Rattle.edit_model.specs.Outside.{hollowed, outside_by, outside, IsConfined, IsApart}
 use Rattle.edit_model.specs.Laws.{KeepsMark}
 use Rattle.edit_model.proofs.Steps.{either_way}
@@ -26,7 +26,7 @@ use Rattle.edit_model.proofs.Tests.{inserts, removes, goes, replaces}
 use Rattle.edit_model.proofs.Documents.{within_inside}
 use Rattle.edit_model.proofs.Points.{has_label-preorder}
 use Rattle.edit_model.proofs.Made.{removed_event, moved_event, parent_is}
-use Rattle.edit_model.proofs.LawfulRuns.{chosen}
+use Rattle.edit_model.proofs.ValidRuns.{chosen}
 use Rattle.edit_model.proofs.Hollow.{hollowed_le, hollowed-without, child_left_out, inside_whole}
 use Rattle.edit_model.proofs.OutsideRuns.{rim, rest_of, outside_is, open_out, own_out, outside_along}
 use Rattle.edit_model.proofs.TailPossible.{tail_possible}
@@ -40,10 +40,10 @@ abbrev Apart : State → ℕ → Type 0
 Apart s l = IsApart s.host s.trees l
 
 -- an adjustment that moves no point that stands apart
-abbrev Rests : State → range.Edit → Type 0
+abbrev Rests : State → range.PointsEdit → Type 0
 Rests s e = (x : Point) → Apart s x.label → adjusted e x ≡ x
 
-module _ (s : State) (is : IsLawful s) (confined : IsConfined s) where
+module _ (s : State) (is : IsValid s) (confined : IsConfined s) where
   apart_rest : (l : ℕ) → Apart s l → 0 < count_of (rest_of s s.trees) l
   unfolding outside
   apart_rest l h = subst (λ g. 0 < count_of g l) (outside_is s.host s.trees s.next is.forest) h.outside
@@ -100,7 +100,7 @@ module _ (s : State) (is : IsLawful s) (confined : IsConfined s) where
 
   -- ---- the rows of the table
 
-  rests-inserted : (p i : ℕ) → is_open s p ≡ true → Rests s (range.Inserted p i)
+  rests-inserted : (p i : ℕ) → is_open s p ≡ true → Rests s (range.Insert p i)
   rests-inserted p i allowed x h = rw (not_open p x.label allowed h) refl
 
   rests-removed : (o n : ℕ) → parent_of s.trees n ≡ Some o → is_open s o ≡ true → Rests s (removed_event s.trees o n)
@@ -108,13 +108,13 @@ module _ (s : State) (is : IsLawful s) (confined : IsConfined s) where
       let unlisted : has_label (preorder (tree_of s.trees n)) x.label ≡ false = has_label-preorder (tree_of s.trees n) x.label ∙ le-ltb 0 (count_of (tree_of s.trees n) x.label) (omega (arith, not_leaving o n x.label child allowed h)) in
       rw (unlisted, not_open o x.label allowed h) refl
 
-  rests-moved : (from to : Point) → is_open s from.label ≡ true → is_open s to.label ≡ true → Rests s (range.Moved from to)
+  rests-moved : (from to : Point) → is_open s from.label ≡ true → is_open s to.label ≡ true → Rests s (range.Move from to)
   rests-moved from to allowed_from allowed_to x h = elim (cases_Bool (eqb from.label to.label)) [
     | inl t ↦ rw (t, not_open from.label x.label allowed_from h) refl
     | inr t ↦ rw (t, not_open from.label x.label allowed_from h, not_open to.label x.label allowed_to h) refl
   ]
 
-  rests-replaced : (n at taken put : ℕ) → is_own s n ≡ true → Rests s (range.Replaced n at taken put)
+  rests-replaced : (n at taken put : ℕ) → is_own s n ≡ true → Rests s (range.Replace n at taken put)
   rests-replaced n at taken put own x h = rw (not_own n x.label own h) refl
 
   rests-grown : (at : Point) → may_grow s at ≡ true → Rests s (range.Grown at)
@@ -154,7 +154,7 @@ apart_later s t same host l h = record {
 }
 
 module _ (s t : State) (same : outside t ≡ outside s) (host : t.host ≡ s.host) where
-  keep_adjusted : (e : range.Edit) → Rests t e → (points : LivePoints) → KeepsMarks s points.marks → KeepsMarks s (mapped e points).marks
+  keep_adjusted : (e : range.PointsEdit) → Rests t e → (points : LivePoints) → KeepsMarks s points.marks → KeepsMarks s (mapped e points).marks
   keep_adjusted e rests points h =
       keep_mapped s (adjusted_pair e)
       (λ p a b. (λ i. record { anchor = (rests p.anchor (apart_later s t same host p.anchor.label a)) i; focus = (rests p.focus (apart_later s t same host p.focus.label b)) i }))
@@ -165,9 +165,9 @@ module _ (s t : State) (same : outside t ≡ outside s) (host : t.host ≡ s.hos
   abbrev KeepsHere : State → Type 0
   KeepsHere u = KeepsMarks s u.points.marks
 
-  marks_after : IsLawful t → IsConfined t → (e : Edit) → is_made_edit e t ≡ true → KeepsHere t → KeepsMarks s (points_after e t.trees t.points).marks
+  marks_after : IsValid t → IsConfined t → (e : Edit) → is_made_edit e t ≡ true → KeepsHere t → KeepsMarks s (points_after e t.trees t.points).marks
   unfolding is_made_edit points_after
-  marks_after is confined (Insert p b n) may h = keep_adjusted (range.Inserted p (index_before t.trees p b)) (rests-inserted t is confined p (index_before t.trees p b) (inserts t p b n may).allowed) t.points h
+  marks_after is confined (Insert p b n) may h = keep_adjusted (range.Insert p (index_before t.trees p b)) (rests-inserted t is confined p (index_before t.trees p b) (inserts t p b n may).allowed) t.points h
   marks_after is confined (Remove n) may h =
       let g = removes t n may in
       subst (λ o. KeepsMarks s (mapped (removed_event t.trees o n) t.points).marks) (sym (parent_is t.trees g.from n g.child))
@@ -176,11 +176,11 @@ module _ (s t : State) (same : outside t ≡ outside s) (host : t.host ≡ s.hos
       let g = goes t n p b may in
       subst (λ o. KeepsMarks s (mapped (moved_event t.trees o n p b) t.points).marks) (sym (parent_is t.trees g.from n g.child))
       (keep_adjusted (moved_event t.trees g.from n p b) (rests-moved t is confined (record { label = g.from; offset = index_of t.trees n }) (record { label = p; offset = index_before (unlink t.trees n) p b }) g.allowed_from g.allowed_to) t.points h)
-  marks_after is confined (Replace n at count put) may h = keep_adjusted (range.Replaced n at count (length put)) (rests-replaced t is confined n at count (length put) (replaces t n at count put may).own) t.points h
+  marks_after is confined (Replace n at count put) may h = keep_adjusted (range.Replace n at count (length put)) (rests-replaced t is confined n at count (length put) (replaces t n at count put may).own) t.points h
   marks_after is confined (Set n name value) may h = h
   marks_after is confined (Unset n name) may h = h
 
-  marks-edited : IsLawful t → IsConfined t → (e : Edit) → KeepsHere t → KeepsHere (edited e t)
+  marks-edited : IsValid t → IsConfined t → (e : Edit) → KeepsHere t → KeepsHere (edited e t)
   unfolding edited changed with_change
   marks-edited is confined e h = chosen KeepsHere (is_made_edit e t) (λ may. marks_after is confined e may h) h
 
@@ -193,11 +193,11 @@ module _ (s t : State) (same : outside t ≡ outside s) (host : t.host ≡ s.hos
   unfolding selected changed
   marks-selected anchor focus h = either_way KeepsHere (may_select t anchor && may_select t focus) h h
 
-  marks-grown : IsLawful t → IsConfined t → (at : Point) → KeepsHere t → KeepsHere (grown at t)
+  marks-grown : IsValid t → IsConfined t → (at : Point) → KeepsHere t → KeepsHere (grown at t)
   unfolding grown changed
   marks-grown is confined at h = chosen KeepsHere (may_grow t at) (λ may. keep_adjusted (range.Grown at) (rests-grown t is confined at may) t.points h) h
 
-  marks-sent : IsLawful t → IsConfined t → (n at tail : ℕ) → KeepsHere t → KeepsHere (sent n at tail t)
+  marks-sent : IsValid t → IsConfined t → (n at tail : ℕ) → KeepsHere t → KeepsHere (sent n at tail t)
   unfolding sent changed
   marks-sent is confined n at tail h = chosen KeepsHere (may_send t n at tail) (λ may. keep_adjusted (range.Split n at tail n 0) (rests-sent t is confined n at tail may) t.points h) h
 
@@ -214,7 +214,7 @@ module _ (s t : State) (same : outside t ≡ outside s) (host : t.host ≡ s.hos
         λ e. eqb-false h l (subst (λ o. is_label o l ≡ false) is_h k.other) (sym e),
       )
 
-  marks-extracted : IsLawful t → IsConfined t → (from : Point) (end target : ℕ) → KeepsHere t → KeepsHere (extracted from end target t)
+  marks-extracted : IsValid t → IsConfined t → (from : Point) (end target : ℕ) → KeepsHere t → KeepsHere (extracted from end target t)
   unfolding made applied with_change changed points_after
   marks-extracted is confined from end target h =
       either_extracted KeepsHere from end target t
@@ -232,7 +232,7 @@ module _ (s t : State) (same : outside t ≡ outside s) (host : t.host ≡ s.hos
         base_removed k.0 base n o u is' moves child q.1,
       ))
       (λ p before n u is' takes _ can q. (
-        keep_mapped s (adjusted_pair (range.Inserted p (index_before u.trees p before)))
+        keep_mapped s (adjusted_pair (range.Insert p (index_before u.trees p before)))
             (λ m a b. (λ i. record { anchor = (still_inserted k.0 base p (index_before u.trees p before) m.anchor takes (apart m.anchor.label a)) i; focus = (still_inserted k.0 base p (index_before u.trees p before) m.focus takes (apart m.focus.label b)) i }))
             s.points.marks u.points.marks q.0,
         base_inserted k.0 base p before n u is' takes can q.1,
@@ -240,7 +240,7 @@ module _ (s t : State) (same : outside t ≡ outside s) (host : t.host ≡ s.hos
       (tail_of t from end target) t (tail_out t is confined from end target may k.0 k.1 k.2) (tail_possible t is from end target may) is (h, refl)).0))
       h
 
-  marks-acted : IsLawful t → IsConfined t → (a : Action) → KeepsHere t → KeepsHere (acted a t)
+  marks-acted : IsValid t → IsConfined t → (a : Action) → KeepsHere t → KeepsHere (acted a t)
   unfolding acted made extended changed
   marks-acted is confined (action.Change e) h = marks-edited is confined e h
   marks-acted is confined (action.MakeElement name attributes) h = h
@@ -255,8 +255,8 @@ module _ (s t : State) (same : outside t ≡ outside s) (host : t.host ≡ s.hos
   marks-acted is confined (action.Flag flags) h = h
   marks-acted is confined (action.Extract from end target) h = marks-extracted is confined from end target h
 
-pub marks_along : {s t : State} (r : Reaches s t) → IsLawful s → IsConfined s → AllZip (KeepsMark s.host s.trees) s.points.marks t.points.marks
+pub marks_along : {s t : State} (r : Reaches s t) → IsValid s → IsConfined s → AllZip (KeepsMark s.host s.trees) s.points.marks t.points.marks
 marks_along {s = s} here is confined = keep_each s s.points.marks
 marks_along {s = s} (onward {t = t} q a) is confined =
     let k = outside_along q is confined in
-    marks-acted s t k.same (command_along q).host k.lawful k.confined a (marks_along q is confined)
+    marks-acted s t k.same (command_along q).host k.valid k.confined a (marks_along q is confined)

@@ -1,4 +1,4 @@
--- A command that begins in a lawful state is confined, and what a keeping one removes bears nothing that is kept.
+-- A command that begins in a valid state is confined, and what a keeping one removes bears nothing that is kept.
 use Rattle.std.proofs.Common.{◌≡◌, ℕ, ◌≤◌, Bool, true, false, ◌||◌, not, cond, eqb, Option, Some, None, sym, ap, ◌∙◌, arith, true≢false}
 use Rattle.dom_model.specs.declared.Content.{Content}
 use Rattle.dom_model.specs.Forest.{Forest, count_of, tree_of}
@@ -10,7 +10,7 @@ use Rattle.edit_model.specs.Action as action
 use Rattle.edit_model.specs.Action.{Action}
 use Rattle.edit_model.specs.Run.{Reaches, here, onward}
 use Rattle.edit_model.specs.History.{begun}
-use Rattle.edit_model.specs.Lawful.{IsLawful}
+use Rattle.edit_model.specs.Valid.{IsValid}
 use Rattle.edit_model.specs.Outside.{outside_by, outside, IsConfined}
 use Rattle.edit_model.specs.Laws.{TakesNothing, TakesNothingOn}
 use Rattle.edit_model.proofs.Tests.{removes}
@@ -20,22 +20,22 @@ use Rattle.edit_model.proofs.OutsideRuns.{outside_along}
 
 -- ---- the begin of a command
 
-pub lawful_begun : (host : Option ℕ) (keeping : Bool) (s : State) → IsLawful s → IsLawful (begun host keeping s)
+pub valid_begun : (host : Option ℕ) (keeping : Bool) (s : State) → IsValid s → IsValid (begun host keeping s)
 unfolding begun
-lawful_begun host keeping s is = record { forest = is.forest; placed = is.placed; started = omega arith; settings = is.settings }
+valid_begun host keeping s is = record { forest = is.forest; placed = is.placed; started = omega arith; settings = is.settings }
 
 outside_le : (host : Option ℕ) (f : Forest Content) (l : ℕ) → count_of (outside_by host f) l ≤ count_of f l
 outside_le None f l = omega (arith, total-without (λ m _. cond (eqb m l) 1 0) f 0)
 outside_le (Some h) f l = omega (arith, hollowed_le (tree_of f 0) h l, total-without (λ m _. cond (eqb m l) 1 0) f 0)
 
-pub confined_begun : (host : Option ℕ) (keeping : Bool) (s : State) → IsLawful s → IsConfined (begun host keeping s)
+pub confined_begun : (host : Option ℕ) (keeping : Bool) (s : State) → IsValid s → IsConfined (begun host keeping s)
 unfolding begun outside
 confined_begun host keeping s is = record { before = λ l some. is.forest.below l (omega (arith, some, outside_le host s.trees l)) }
 
-pub command_confined : (host : Option ℕ) (keeping : Bool) (s t : State) → IsLawful s → Reaches (begun host keeping s) t → outside_by host t.trees ≡ outside_by host s.trees
+pub command_confined : (host : Option ℕ) (keeping : Bool) (s t : State) → IsValid s → Reaches (begun host keeping s) t → outside_by host t.trees ≡ outside_by host s.trees
 unfolding begun outside
 command_confined host keeping s t is r =
-    let k = outside_along r (lawful_begun host keeping s is) (confined_begun host keeping s is) in
+    let k = outside_along r (valid_begun host keeping s is) (confined_begun host keeping s is) in
     ap (λ o. outside_by o t.trees) (sym (command_along r).host) ∙ k.same
 
 -- ---- what a keeping command removes

@@ -7,7 +7,7 @@ use Rattle.edit_model.specs.Confined.{is_editable_for}
 use Rattle.dom_model.specs.Contents.{has_name}
 use Rattle.edit_model.specs.Action.{Action, Send, Grow}
 use Rattle.edit_model.specs.Run.{◌>>=◌, ◌>>◌, answer, done, insert, remove, make_element, send, grow}
-use Rattle.edit_model.specs.Lawful.{IsLawful}
+use Rattle.edit_model.specs.Valid.{IsValid}
 use Rattle.edit_model.specs.Laws.{LeavesStates}
 use Rattle.edit_model.specs.Compositions.{attribute_list_of, points_sent, split_under, split_words, renamed, set_tag_name}
 use Rattle.edit_model.specs.Moves.{move_each_last}
@@ -38,7 +38,7 @@ move_each_leaves ns p = search (each_for_each, each_bind, each_edit, each_answer
 after_leaves : (p : ℕ) (s : State) (e x : ℕ) → Each Leaving (insert p (Some e) x >>= (λ _. move_each_last (children_of s.trees e) x >>= (λ _. remove e >>= (λ _. answer x))))
 after_leaves p s e x = search (each_bind, each_edit, each_answer, move_each_leaves)
 
-renamed_leaves : (p : ℕ) (s : State) (e : ℕ) (name : List ℕ) → IsLawful s → is_editable_for s e ≡ true → Each Leaving (renamed p s e name)
+renamed_leaves : (p : ℕ) (s : State) (e : ℕ) (name : List ℕ) → IsValid s → is_editable_for s e ≡ true → Each Leaving (renamed p s e name)
 unfolding renamed
 renamed_leaves p s e name is editable =
     let copied : Each Leaving (make_element name (attribute_list_of s.trees e)) = each_make_element Leaving name (attribute_list_of s.trees e) (λ _ _. copy_stateless s e name is editable) in

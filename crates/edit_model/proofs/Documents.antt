@@ -18,7 +18,7 @@ use Rattle.dom_model.proofs.Within.{within_root, within_step, within_child}
 use Rattle.dom_model.proofs.Walks.{document_first}
 use Rattle.dom_model.proofs.Kept.{content_of-link, content_of-unlink, content_of-with_leaf_other}
 use Rattle.dom_model.proofs.Revising.{total-revised}
-use Rattle.edit_model.specs.Lawful.{IsForest}
+use Rattle.edit_model.specs.Valid.{IsForest}
 use Rattle.edit_model.proofs.Forests.{forest-unlink, inner_child, fresh}
 
 -- ---- where the document is the first tree

@@ -15,11 +15,11 @@ use Rattle.edit_model.specs.State.{State}
 use Rattle.edit_model.specs.Edit.{Edit}
 use Rattle.edit_model.specs.Action.{Action, Change, MakeElement, MakeWords}
 use Rattle.edit_model.specs.Run.{Reaches, here, onward, reaches_trans, Run, ◌>>=◌, act, answer, look, given, for_each, while_at_most, edit, make_element, make_words, perform}
-use Rattle.edit_model.specs.Lawful.{IsForest, IsLawful}
+use Rattle.edit_model.specs.Valid.{IsForest, IsValid}
 use Rattle.edit_model.specs.Confined.{is_editable_for}
 use Rattle.edit_model.specs.Compositions.{attribute_list_of}
 use Rattle.edit_model.proofs.Tests.{label_is}
-use Rattle.edit_model.proofs.LawfulRuns.{lawful_along}
+use Rattle.edit_model.proofs.ValidRuns.{valid_along}
 use Rattle.edit_model.proofs.IslandRuns.{content_at}
 use Rattle.edit_model.specs.Laws.{LeavesStates, LeavesStatesOn}
 
@@ -28,9 +28,9 @@ abbrev pub EachOn : (P : Action → State → Type 0) → {s t : State} → Reac
 EachOn P here = Unit {0}
 EachOn P (onward {t = t} q a) = EachOn P q × P a t
 
--- each action of a run, from whatever lawful state
+-- each action of a run, from whatever valid state
 pub record Each (P : Action → State → Type 0) {T : Type 0} (m : Run T) : Type 0 where
-  pub on : (s : State) → IsLawful s → EachOn P (m.by_actions s)
+  pub on : (s : State) → IsValid s → EachOn P (m.by_actions s)
 
 module _ (P : Action → State → Type 0) where
   pub each_trans : {s t u : State} (p : Reaches s t) (q : Reaches t u) → EachOn P p → EachOn P q → EachOn P (reaches_trans p q)
@@ -40,13 +40,13 @@ module _ (P : Action → State → Type 0) where
 
   pub each_bind : {A B : Type 0} (m : Run A) (k : A → Run B) → Each P m → ((a : A) → Each P (k a)) → Each P (m >>= k)
   unfolding ◌>>=◌
-  each_bind m k h g = record { on = λ s is. each_trans (m.by_actions s) ((k (m.run s).1).by_actions (m.run s).0) (h.on s is) ((g (m.run s).1).on (m.run s).0 (lawful_along (m.by_actions s) is)) }
+  each_bind m k h g = record { on = λ s is. each_trans (m.by_actions s) ((k (m.run s).1).by_actions (m.run s).0) (h.on s is) ((g (m.run s).1).on (m.run s).0 (valid_along (m.by_actions s) is)) }
 
   pub each_answer : {A : Type 0} (a : A) → Each P (answer a)
   unfolding answer
   each_answer a = record { on = λ s is. tt }
 
-  pub each_look : {A : Type 0} (k : State → Run A) → ((s : State) → IsLawful s → Each P (k s)) → Each P (look k)
+  pub each_look : {A : Type 0} (k : State → Run A) → ((s : State) → IsValid s → Each P (k s)) → Each P (look k)
   unfolding look
   each_look k h = record { on = λ s is. (h s is).on s is }
 
@@ -77,23 +77,23 @@ module _ (P : Action → State → Type 0) where
 
   -- ---- the runs of one action
 
-  pub each_act : {A : Type 0} (a : Action) (tells : State → A) → ((s : State) → IsLawful s → P a s) → Each P (act a tells)
+  pub each_act : {A : Type 0} (a : Action) (tells : State → A) → ((s : State) → IsValid s → P a s) → Each P (act a tells)
   unfolding act
   each_act a tells h = record { on = λ s is. (tt, h s is) }
 
-  pub each_edit : (e : Edit) → ((s : State) → IsLawful s → P (Change e) s) → Each P (edit e)
+  pub each_edit : (e : Edit) → ((s : State) → IsValid s → P (Change e) s) → Each P (edit e)
   unfolding edit act
   each_edit e h = record { on = λ s is. (tt, h s is) }
 
-  pub each_make_element : (name : List ℕ) (attributes : List Attribute) → ((s : State) → IsLawful s → P (MakeElement name attributes) s) → Each P (make_element name attributes)
+  pub each_make_element : (name : List ℕ) (attributes : List Attribute) → ((s : State) → IsValid s → P (MakeElement name attributes) s) → Each P (make_element name attributes)
   unfolding make_element act
   each_make_element name attributes h = record { on = λ s is. (tt, h s is) }
 
-  pub each_make_words : (chars : List ℕ) → ((s : State) → IsLawful s → P (MakeWords chars) s) → Each P (make_words chars)
+  pub each_make_words : (chars : List ℕ) → ((s : State) → IsValid s → P (MakeWords chars) s) → Each P (make_words chars)
   unfolding make_words act
   each_make_words chars h = record { on = λ s is. (tt, h s is) }
 
-  pub each_perform : (a : Action) → ((s : State) → IsLawful s → P a s) → Each P (perform a)
+  pub each_perform : (a : Action) → ((s : State) → IsValid s → P a s) → Each P (perform a)
   unfolding perform act
   each_perform a h = record { on = λ s is. (tt, h s is) }
 
@@ -122,7 +122,7 @@ editable_stateless f next h l is editable c content = by_parent (parent_of f l) 
         no_state (is_true_state c) (is_false_state c) (is_element c || is_element d.0) (cond (is_true_state d.0) (Some p) (editing_host f p)) h (sym (editing_host-child f is.distinct l p c d.0 e content d.1) ∙ hosted)
 
 -- so a copy of its attributes gives none
-pub copy_stateless : (s : State) (l : ℕ) (name : List ℕ) → IsLawful s → is_editable_for s l ≡ true → LeavesStates (MakeElement name (attribute_list_of s.trees l))
+pub copy_stateless : (s : State) (l : ℕ) (name : List ℕ) → IsValid s → is_editable_for s l ≡ true → LeavesStates (MakeElement name (attribute_list_of s.trees l))
 unfolding is_editable_for
 copy_stateless s l name is editable = by_host s.host editable
   where

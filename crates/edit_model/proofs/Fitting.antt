@@ -14,14 +14,14 @@ use Rattle.dom_model.proofs.Few.{some_nodes}
 use Rattle.dom_model.proofs.Indexes.{length-children_of}
 use Rattle.live_range.specs.declared.places.Point.{Point}
 use Rattle.live_range.specs.declared.places.Pair.{Pair}
-use Rattle.live_range.specs.Edit as range
-use Rattle.live_range.specs.Edit.{adjusted, PointFits, PairFits}
+use Rattle.live_range.specs.PointsEdit as range
+use Rattle.live_range.specs.PointsEdit.{adjusted, PointFits, PairFits}
 use Rattle.live_range.specs.LivePoints.{LivePoints, Fits}
 use Rattle.point_order.specs.PointOrder.{is_in_document}
 use Rattle.edit_model.specs.State.{State}
 use Rattle.edit_model.specs.Edit.{index_before, parent_or_0, with_replaced}
 use Rattle.edit_model.specs.Confined.{is_open, is_own, may_insert, may_remove, may_move, may_replace, may_grow, may_send}
-use Rattle.edit_model.specs.Lawful.{IsForest, IsPlacedPair, IsPlaced, IsLawful}
+use Rattle.edit_model.specs.Valid.{IsForest, IsPlacedPair, IsPlaced, IsValid}
 use Rattle.edit_model.proofs.Tests.{inserts, removes, goes, replaces, parent_there}
 use Rattle.edit_model.proofs.Forests.{forest-link, forest-unlink, can_go, parent_at-unlink, few_nodes}
 use Rattle.edit_model.proofs.Points.{Placed, placed_is, Places, places-inserted, places-removed, places-moved, places-replaced, places-grown, places-sent}
@@ -44,7 +44,7 @@ length_small f next l is small = by_seen (seek None f l) refl
     by_seen None e = omega arith
     by_seen (Some s) e = by_content s.content (is.nodes l s e).short
 
-module _ (e : range.Edit) (f g : Forest Content) (places : Places e f g) (small : (l : ℕ) → length_of g l < 2 ^ 32) where
+module _ (e : range.PointsEdit) (f g : Forest Content) (places : Places e f g) (small : (l : ℕ) → length_of g l < 2 ^ 32) where
   point_fits : (x : Point) → Placed f x → PointFits e x
   point_fits x h = λ _. (let after = places x h in let low = small (adjusted e x).label in omega (arith, after.fits, low))
 
@@ -64,14 +64,14 @@ module _ (e : range.Edit) (f g : Forest Content) (places : Places e f g) (small 
 
 -- ---- the edits that move points
 
-pub fits-insert : (s : State) (p : ℕ) (b : Option ℕ) (n : ℕ) → IsLawful s → s.next < 2 ^ 32 → may_insert s p b n ≡ true → Fits (range.Inserted p (index_before s.trees p b)) s.points
+pub fits-insert : (s : State) (p : ℕ) (b : Option ℕ) (n : ℕ) → IsValid s → s.next < 2 ^ 32 → may_insert s p b n ≡ true → Fits (range.Insert p (index_before s.trees p b)) s.points
 fits-insert s p b n is small may =
     let t = inserts s p b n may in
     let f = s.trees in
-    points_fit (range.Inserted p (index_before s.trees p b)) f (link f p b n) (places-inserted f s.next is.forest p b n t.can t.parent)
+    points_fit (range.Insert p (index_before s.trees p b)) f (link f p b n) (places-inserted f s.next is.forest p b n t.can t.parent)
     (λ l. length_small (link f p b n) s.next l (forest-link f s.next is.forest p b n t.can t.parent) small) s.points is.placed
 
-pub fits-remove : (s : State) (n : ℕ) → IsLawful s → s.next < 2 ^ 32 → may_remove s n ≡ true → Fits (range.Removed (preorder (tree_of s.trees n)) (parent_or_0 s.trees n) (index_of s.trees n)) s.points
+pub fits-remove : (s : State) (n : ℕ) → IsValid s → s.next < 2 ^ 32 → may_remove s n ≡ true → Fits (range.Remove (preorder (tree_of s.trees n)) (parent_or_0 s.trees n) (index_of s.trees n)) s.points
 fits-remove s n is small may =
     let t = removes s n may in
     let f = s.trees in
@@ -79,7 +79,7 @@ fits-remove s n is small may =
     (points_fit (removed_event f t.from n) f (unlink f n) (places-removed f s.next is.forest t.from n t.child)
     (λ l. length_small (unlink f n) s.next l (forest-unlink f s.next is.forest t.from n t.child) small) s.points is.placed)
 
-pub fits-move : (s : State) (n p : ℕ) (b : Option ℕ) → IsLawful s → s.next < 2 ^ 32 → may_move s n p b ≡ true → Fits (range.Moved (record { label = parent_or_0 s.trees n; offset = index_of s.trees n }) (record { label = p; offset = index_before (unlink s.trees n) p b })) s.points
+pub fits-move : (s : State) (n p : ℕ) (b : Option ℕ) → IsValid s → s.next < 2 ^ 32 → may_move s n p b ≡ true → Fits (range.Move (record { label = parent_or_0 s.trees n; offset = index_of s.trees n }) (record { label = p; offset = index_before (unlink s.trees n) p b })) s.points
 fits-move s n p b is small may =
     let t = goes s n p b may in
     let f = s.trees in
@@ -88,30 +88,30 @@ fits-move s n p b is small may =
     (points_fit (moved_event f t.from n p b) f (link (unlink f n) p b n) (places-moved f s.next is.forest t.from n p b t.child can t.apart t.parent (inside_goes s n p b t))
     (λ l. length_small (link (unlink f n) p b n) s.next l (forest-link (unlink f n) s.next (forest-unlink f s.next is.forest t.from n t.child) p b n can (parent_at-unlink f s.next is.forest t.from n p t.child t.parent)) small) s.points is.placed)
 
-pub fits-replace : (s : State) (n at count : ℕ) (put : List ℕ) → IsLawful s → s.next < 2 ^ 32 → may_replace s n at count put ≡ true → Fits (range.Replaced n at count (length put)) s.points
+pub fits-replace : (s : State) (n at count : ℕ) (put : List ℕ) → IsValid s → s.next < 2 ^ 32 → may_replace s n at count put ≡ true → Fits (range.Replace n at count (length put)) s.points
 fits-replace s n at count put is small may =
     let t = replaces s n at count put may in
     let f = s.trees in
-    points_fit (range.Replaced n at count (length put)) f (revised f n (with_replaced at count put)) (places-replaced f s.next is.forest n at count put t.chars t.content t.reach)
+    points_fit (range.Replace n at count (length put)) f (revised f n (with_replaced at count put)) (places-replaced f s.next is.forest n at count put t.chars t.content t.reach)
     (λ l. length_small (revised f n (with_replaced at count put)) s.next l (forest-replaced s n at count put is t) small) s.points is.placed
 
 -- ---- the selecting steps that move points
 
-pub places-grow : (s : State) (at : Point) → IsLawful s → may_grow s at ≡ true → Places (range.Grown at) s.trees s.trees
+pub places-grow : (s : State) (at : Point) → IsValid s → may_grow s at ≡ true → Places (range.Grown at) s.trees s.trees
 unfolding may_grow
 places-grow s at is may =
     let t = and_parts (is_in_document s.trees at.label) (nat_lt at.offset (length_of s.trees at.label)) (and_parts (is_open s at.label) _ may).1 in
     places-grown s.trees s.next is.forest at (ltb-true 0 (count_of (tree_of s.trees 0) at.label) t.0) (ltb-true at.offset (length_of s.trees at.label) t.1)
 
-pub places-send : (s : State) (n at tail : ℕ) → IsLawful s → may_send s n at tail ≡ true → Places (range.Split n at tail n 0) s.trees s.trees
+pub places-send : (s : State) (n at tail : ℕ) → IsValid s → may_send s n at tail ≡ true → Places (range.Split n at tail n 0) s.trees s.trees
 unfolding may_send
 places-send s n at tail is may =
     let t = and_parts (is_in_document s.trees tail) _ (and_parts (is_own s n) _ may).1 in
     let u = and_parts (not (eqb n tail)) (nat_le (length_of s.trees n) (at + length_of s.trees tail)) t.1 in
     places-sent s.trees s.next is.forest n at tail (ltb-true 0 (count_of (tree_of s.trees 0) tail) t.0) (leb-true (length_of s.trees n) (at + length_of s.trees tail) u.1)
 
-pub fits-grow : (s : State) (at : Point) → IsLawful s → s.next < 2 ^ 32 → may_grow s at ≡ true → Fits (range.Grown at) s.points
+pub fits-grow : (s : State) (at : Point) → IsValid s → s.next < 2 ^ 32 → may_grow s at ≡ true → Fits (range.Grown at) s.points
 fits-grow s at is small may = points_fit (range.Grown at) s.trees s.trees (places-grow s at is may) (λ l. length_small s.trees s.next l is.forest small) s.points is.placed
 
-pub fits-send : (s : State) (n at tail : ℕ) → IsLawful s → s.next < 2 ^ 32 → may_send s n at tail ≡ true → Fits (range.Split n at tail n 0) s.points
+pub fits-send : (s : State) (n at tail : ℕ) → IsValid s → s.next < 2 ^ 32 → may_send s n at tail ≡ true → Fits (range.Split n at tail n 0) s.points
 fits-send s n at tail is small may = points_fit (range.Split n at tail n 0) s.trees s.trees (places-send s n at tail is may) (λ l. length_small s.trees s.next l is.forest small) s.points is.placed

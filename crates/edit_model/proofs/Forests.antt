@@ -16,7 +16,7 @@ use Rattle.dom_model.proofs.Kept.{content_of-unlink}
 use Rattle.dom_model.proofs.Revising.{total-revised, RisesFrom-revised, parent_of-revised}
 use Rattle.dom_model.proofs.Few.{total-few}
 use Rattle.dom_model.proofs.NodesKept.{nodes-link, nodes-unlink, nodes-with_leaf, nodes-revised}
-use Rattle.edit_model.specs.Lawful.{IsForest}
+use Rattle.edit_model.specs.Valid.{IsForest}
 
 module _ (f : Forest Content) (next : ℕ) (is : IsForest f next) where
   -- ---- a link

@@ -5,7 +5,7 @@ use Rattle.dom_model.specs.declared.Content.TheVariants.{Element}
 use Rattle.dom_model.specs.declared.attributes.Attribute.{Attribute}
 use Rattle.node_arena.specs.declared.NodeRef.{NodeRef}
 use Rattle.edit_model.specs.declared.settings.EditFault.TheVariants.{Full}
-use Rattle.edit_model.specs.State.{State, IsOver}
+use Rattle.edit_model.specs.State.{State, IsPastCap}
 use Rattle.edit_model.specs.Edit.{Edit, is_made_edit, trees_after, points_after, changed, change_of, with_change, edited}
 use Rattle.edit_model.specs.Action.{made, words_content}
 use Rattle.edit_model.specs.Run.{edit, make_element, make_words}
@@ -41,7 +41,7 @@ pub gives_words : (chars : List ℕ) (s t : State) (node : NodeRef) → node.lab
 gives_words chars s t node label is = (final-make_words chars s ∙ sym is, value-make_words chars s ∙ sym label)
 
 -- at the cap the run goes past it
-pub over_made : (c : Content) (s : State) → s.cap ≤ s.next → IsOver (made c s)
+pub over_made : (c : Content) (s : State) → s.cap ≤ s.next → IsPastCap (made c s)
 unfolding made
 over_made c s full = record { past = omega arith }
 

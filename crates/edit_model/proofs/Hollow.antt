@@ -15,7 +15,7 @@ use Rattle.dom_model.proofs.Move.{parent_apart}
 use Rattle.dom_model.proofs.Within.{within_self, within_child, depth_of-parent}
 use Rattle.dom_model.proofs.Hosts.{editing_host-root, editing_host-child}
 use Rattle.edit_model.specs.Outside.{hollowed}
-use Rattle.edit_model.specs.Lawful.{IsForest}
+use Rattle.edit_model.specs.Valid.{IsForest}
 use Rattle.edit_model.proofs.Documents.{document_shape, part_of_tree, tree_inside, within_above}
 
 -- ---- what stays without the children of h
@@ -158,7 +158,7 @@ module _ (f : Forest Content) (once : IsDistinct f) where
   pub editable_below : (l h : ℕ) → editing_host f l ≡ Some h → IsWithin f h l × (l ≢ h)
   editable_below l h e = editable_at (depth_of f l) l h refl e
 
--- ---- in the document of lawful trees
+-- ---- in the document of valid trees
 
 module _ (f : Forest Content) (next : ℕ) (is : IsForest f next) where
   document_once : IsDistinct (tree_of f 0)

@@ -22,7 +22,7 @@ use Rattle.edit_model.specs.Action as action
 use Rattle.edit_model.specs.Action.{Action, made, words_content, with_selection, selected, extended_from, extended, grown, sent, scratched, acted}
 use Rattle.edit_model.specs.Run.{Reaches, here, onward}
 use Rattle.edit_model.specs.History.{begun}
-use Rattle.edit_model.specs.Lawful.{IsForest, IsLawful}
+use Rattle.edit_model.specs.Valid.{IsForest, IsValid}
 use Rattle.edit_model.specs.Laws.{TakesOut, TakesOutOn}
 use Rattle.edit_model.specs.Outside.{hollowed, is_within_host, is_island}
 use Rattle.edit_model.proofs.CommandParts.{command_along}
@@ -30,12 +30,12 @@ use Rattle.edit_model.proofs.Tests.{label_is, inserts, removes, goes, replaces, 
 use Rattle.edit_model.proofs.Forests.{forest-unlink, can_go, inner_child}
 use Rattle.edit_model.proofs.Documents.{has_children, within-link, within-unlink, within-with_leaf, within-revised, within-move}
 use Rattle.edit_model.proofs.Made.{inside_goes}
-use Rattle.edit_model.proofs.LawfulRuns.{chosen, lawful_along}
+use Rattle.edit_model.proofs.ValidRuns.{chosen, valid_along}
 use Rattle.edit_model.proofs.Trees.{none_or_some, tree_of-revised_other, tree_of-with_leaf_other, within_trans}
 use Rattle.edit_model.proofs.Hollow.{editable_below, child_below, below_left_out, hollowed_split, inside_part}
 use Rattle.edit_model.proofs.Islands.{link_elsewhere, unlink_elsewhere, host_within}
 use Rattle.edit_model.proofs.OutsideRuns.{trees-extended, trees-selected, trees-grown, trees-sent, trees-scratched}
-use Rattle.edit_model.proofs.Commands.{lawful_begun, command_confined}
+use Rattle.edit_model.proofs.Commands.{valid_begun, command_confined}
 use Rattle.edit_model.proofs.TailSteps.{extract_tests, either_extracted}
 use Rattle.edit_model.proofs.TailIslands.{tree_extracted}
 use Rattle.edit_model.proofs.TailDocument.{document_extracted}
@@ -59,7 +59,7 @@ root_content f l c ks once is =
       | inr (off, _) ↦ absurd (off refl)
     ]
 
-module _ (T : Forest Content) (l h : ℕ) (s : State) (is : IsLawful s) (host : s.host ≡ Some h) (locked : Locked T l s.start h) (same : tree_of s.trees l ≡ T) where
+module _ (T : Forest Content) (l h : ℕ) (s : State) (is : IsValid s) (host : s.host ≡ Some h) (locked : Locked T l s.start h) (same : tree_of s.trees l ≡ T) where
   there : 0 < count_of s.trees l
   there =
       let t : eqb l l ≡ true = eq-eqb l l refl in
@@ -156,11 +156,11 @@ module _ (T : Forest Content) (l h : ℕ) (s : State) (is : IsLawful s) (host : 
       tree_extracted T l s is from end target may same there (ap (λ g. count_of g from.label) (sym same) ∙ editable_closed from.label t.from_editable) (ap (λ g. count_of g target) (sym same) ∙ made_closed target t.made)))
       same
 
-pub locked_along : (l h : ℕ) {s t : State} → IsLawful s → s.host ≡ Some h → Locked (tree_of s.trees l) l s.start h → (r : Reaches s t) → tree_of t.trees l ≡ tree_of s.trees l
+pub locked_along : (l h : ℕ) {s t : State} → IsValid s → s.host ≡ Some h → Locked (tree_of s.trees l) l s.start h → (r : Reaches s t) → tree_of t.trees l ≡ tree_of s.trees l
 locked_along l h is host locked here = refl
 locked_along l h {s = s} is host locked (onward {t = t} q a) =
     let k = command_along q in
-    tree_acted (tree_of s.trees l) l h t (lawful_along q is) (k.host ∙ host) (subst (λ n. Locked (tree_of s.trees l) l n h) (sym k.start) locked) (locked_along l h is host locked q) a
+    tree_acted (tree_of s.trees l) l h t (valid_along q is) (k.host ∙ host) (subst (λ n. Locked (tree_of s.trees l) l n h) (sym k.start) locked) (locked_along l h is host locked q) a
 
 -- ---- an island as the command begins
 
@@ -263,7 +263,7 @@ locked_under f next h l p is child uneditable offers =
       child_below f is.distinct h p l child offers.below,
     )
 
-pub island_locked : (s : State) (h l : ℕ) (keeping : Bool) → IsLawful s → is_host s.trees h ≡ true → is_island s.trees h l ≡ true → Locked (tree_of s.trees l) l s.next h × (IsWithin s.trees h l × (l ≢ h))
+pub island_locked : (s : State) (h l : ℕ) (keeping : Bool) → IsValid s → is_host s.trees h ≡ true → is_island s.trees h l ≡ true → Locked (tree_of s.trees l) l s.next h × (IsWithin s.trees h l × (l ≢ h))
 unfolding is_island is_within_host
 island_locked s h l keeping is hosted island = by_parent (parent_of s.trees l) refl ((and_parts (not (is_break s.trees l)) _ (and_parts (not (is_editable s.trees h l)) _ island).1).1)
   where
@@ -283,7 +283,7 @@ island_locked s h l keeping is hosted island = by_parent (parent_of s.trees l) r
 -- ---- where an island goes
 
 -- the root of a locked tree is neither own nor, as it isn't one at first, a br
-pub root_closed : (T : Forest Content) (l h : ℕ) (s : State) → IsLawful s → s.host ≡ Some h → Locked T l s.start h → tree_of s.trees l ≡ T → (f : Forest Content) → IsDistinct f → tree_of f l ≡ T → is_break f l ≡ false → (is_own s l || is_break s.trees l) ≡ true → ⊥
+pub root_closed : (T : Forest Content) (l h : ℕ) (s : State) → IsValid s → s.host ≡ Some h → Locked T l s.start h → tree_of s.trees l ≡ T → (f : Forest Content) → IsDistinct f → tree_of f l ≡ T → is_break f l ≡ false → (is_own s l || is_break s.trees l) ≡ true → ⊥
 root_closed T l h s is host locked same f once was no_break e = elim (or_cases (is_own s l) (is_break s.trees l) e) [
   | inl own ↦ (
       let none = own_closed T l h s is host locked same l own in
@@ -304,7 +304,7 @@ pub trees_left : (e : Edit) (s : State) → is_made_edit e s ≡ false → (edit
 unfolding edited changed with_change
 trees_left e s off = rw off refl
 
-edit_out : (e : Edit) (s : State) (l : ℕ) → IsLawful s → ((is_own s l || is_break s.trees l) ≡ true → ⊥) → IsWithin s.trees 0 l → is_made_edit e s ≡ true → IsWithin (trees_after e s.trees) 0 l ⊎ TakesOut (action.Change e) s l
+edit_out : (e : Edit) (s : State) (l : ℕ) → IsValid s → ((is_own s l || is_break s.trees l) ≡ true → ⊥) → IsWithin s.trees 0 l → is_made_edit e s ≡ true → IsWithin (trees_after e s.trees) 0 l ⊎ TakesOut (action.Change e) s l
 unfolding is_made_edit trees_after
 edit_out (Insert p b n) s l is never inside may = inl (within-link s.trees s.next is.forest p b n l (inserts s p b n may).can inside)
 edit_out (Remove n) s l is never inside may =
@@ -323,7 +323,7 @@ edit_out (Set n name value) s l is never inside may = inl (within-revised s.tree
 edit_out (Unset n name) s l is never inside may = inl (within-revised s.trees s.next is.forest n l (with_unset name) inside)
 
 -- a node of the document stays in it, or a tree that holds it is removed
-pub goes_out : (a : Action) (s : State) (l : ℕ) → IsLawful s → ((is_own s l || is_break s.trees l) ≡ true → ⊥) → IsWithin s.trees 0 l → IsWithin (acted a s).trees 0 l ⊎ TakesOut a s l
+pub goes_out : (a : Action) (s : State) (l : ℕ) → IsValid s → ((is_own s l || is_break s.trees l) ≡ true → ⊥) → IsWithin s.trees 0 l → IsWithin (acted a s).trees 0 l ⊎ TakesOut a s l
 unfolding acted made extended changed
 goes_out (action.Change e) s l is never inside = elim (cases_Bool (is_made_edit e s)) [
   | inl may ↦ elim (edit_out e s l is never inside may) [
@@ -344,32 +344,32 @@ goes_out (action.Override command setting) s l is never inside = inl inside
 goes_out (action.Flag flags) s l is never inside = inl inside
 goes_out (action.Extract from end target) s l is never inside = inl (document_extracted from end target s l is inside)
 
-goes_out_on : (l h : ℕ) {s t : State} → IsLawful s → s.host ≡ Some h → Locked (tree_of s.trees l) l s.start h → is_break s.trees l ≡ false → (r : Reaches s t) → IsWithin s.trees 0 l → IsWithin t.trees 0 l ⊎ TakesOutOn r l
+goes_out_on : (l h : ℕ) {s t : State} → IsValid s → s.host ≡ Some h → Locked (tree_of s.trees l) l s.start h → is_break s.trees l ≡ false → (r : Reaches s t) → IsWithin s.trees 0 l → IsWithin t.trees 0 l ⊎ TakesOutOn r l
 goes_out_on l h is host locked no_break here inside = inl inside
 goes_out_on l h {s = s} is host locked no_break (onward {t = t} q a) inside =
     let k = command_along q in
     elim (goes_out_on l h is host locked no_break q inside) [
       | inr taken ↦ inr (inl taken)
-      | inl still ↦ elim (goes_out a t l (lawful_along q is)
-          (root_closed (tree_of s.trees l) l h t (lawful_along q is) (k.host ∙ host) (subst (λ n. Locked (tree_of s.trees l) l n h) (sym k.start) locked) (locked_along l h is host locked q) s.trees is.forest.distinct refl no_break) still) [
+      | inl still ↦ elim (goes_out a t l (valid_along q is)
+          (root_closed (tree_of s.trees l) l h t (valid_along q is) (k.host ∙ host) (subst (λ n. Locked (tree_of s.trees l) l n h) (sym k.start) locked) (locked_along l h is host locked q) s.trees is.forest.distinct refl no_break) still) [
             | inl yes_inside ↦ inl yes_inside
             | inr out ↦ inr (inr out)
           ]
     ]
 
-pub islands_stay : (s t : State) (h : ℕ) (keeping : Bool) → IsLawful s → is_host s.trees h ≡ true → (r : Reaches (begun (Some h) keeping s) t) → (l : ℕ) → is_island s.trees h l ≡ true → (tree_of t.trees l ≡ tree_of s.trees l) × ((IsWithin t.trees 0 l → IsWithin t.trees h l) × (IsWithin s.trees 0 l → IsWithin t.trees 0 l ⊎ TakesOutOn r l))
+pub islands_stay : (s t : State) (h : ℕ) (keeping : Bool) → IsValid s → is_host s.trees h ≡ true → (r : Reaches (begun (Some h) keeping s) t) → (l : ℕ) → is_island s.trees h l ≡ true → (tree_of t.trees l ≡ tree_of s.trees l) × ((IsWithin t.trees 0 l → IsWithin t.trees h l) × (IsWithin s.trees 0 l → IsWithin t.trees 0 l ⊎ TakesOutOn r l))
 unfolding begun is_island
 islands_stay s t h keeping is hosted r l island =
     let k = island_locked s h l keeping is hosted island in
-    let lawful = lawful_along r (lawful_begun (Some h) keeping s is) in
+    let valid = valid_along r (valid_begun (Some h) keeping s is) in
     let outside_same = command_confined (Some h) keeping s t is r in
     let out : count_of (hollowed (tree_of t.trees 0) h) l ≡ 0 = ap (λ g. count_of g l) outside_same ∙ below_left_out s.trees s.next is.forest h l k.1.0 k.1.1 in
-    let once : IsDistinct (tree_of t.trees 0) = λ m. omega (arith, lawful.forest.distinct m, total-without (λ j _. cond (eqb j m) 1 0) t.trees 0) in
+    let once : IsDistinct (tree_of t.trees 0) = λ m. omega (arith, valid.forest.distinct m, total-without (λ j _. cond (eqb j m) 1 0) t.trees 0) in
     let tests = and_parts (not (is_editable s.trees h l)) _ island in
     let no_break : is_break s.trees l ≡ false = not-true (is_break s.trees l) (and_parts (not (is_break s.trees l)) _ tests.1).0 in (
-      locked_along l h (lawful_begun (Some h) keeping s is) refl k.0 r,
+      locked_along l h (valid_begun (Some h) keeping s is) refl k.0 r,
       (
-        (λ inside. omega (arith, inside, out, hollowed_split (tree_of t.trees 0) h l once k.1.1, inside_part t.trees t.next lawful.forest h l)),
-        λ inside. goes_out_on l h (lawful_begun (Some h) keeping s is) refl k.0 no_break r inside,
+        (λ inside. omega (arith, inside, out, hollowed_split (tree_of t.trees 0) h l once k.1.1, inside_part t.trees t.next valid.forest h l)),
+        λ inside. goes_out_on l h (valid_begun (Some h) keeping s is) refl k.0 no_break r inside,
       ),
     )

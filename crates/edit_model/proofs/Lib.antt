@@ -7,10 +7,10 @@ pub mod Documents
 pub mod Points
 pub mod Made
 pub mod Fitting
-pub mod LawfulParts
+pub mod ValidParts
 pub mod TailPossible
 pub mod TailEnds
-pub mod LawfulRuns
+pub mod ValidRuns
 pub mod Hollow
 pub mod TailRuns
 pub mod TailOutside

@@ -1,4 +1,4 @@
--- The trees after an edit that is made are lawful, and the kept points are placed in them.
+-- The trees after an edit that is made are valid, and the kept points are placed in them.
 use Rattle.std.proofs.Common.{◌≡◌, ◌↔◌, ℕ, ◌<◌, ◌^◌, true, List, length, Option, Some, refl, sym, ap, subst}
 use Rattle.std.proofs.lemmas.Bool.{ltb-true, lt-ltb}
 use Rattle.dom_model.specs.declared.Content.{Content}
@@ -8,12 +8,12 @@ use Rattle.dom_model.specs.Forest.{Forest, count_of, tree_of, parent_of, content
 use Rattle.dom_model.specs.Places.{index_of}
 use Rattle.dom_model.specs.Revised.{revised}
 use Rattle.std.specs.Prelude.{unwrap_or}
-use Rattle.live_range.specs.Edit as range
+use Rattle.live_range.specs.PointsEdit as range
 use Rattle.live_range.specs.LivePoints.{mapped}
 use Rattle.edit_model.specs.State.{State}
 use Rattle.edit_model.specs.Edit.{Edit, Insert, Remove, Move, Replace, Set, Unset, is_made_edit, trees_after, points_after, index_before, parent_or_0, with_replaced, with_set, with_unset}
 use Rattle.edit_model.specs.Confined.{spliced}
-use Rattle.edit_model.specs.Lawful.{IsForest, IsPlaced, IsLawful}
+use Rattle.edit_model.specs.Valid.{IsForest, IsPlaced, IsValid}
 use Rattle.edit_model.proofs.Tests.{inserts, removes, Goes, goes, Replaces, replaces, parent_there}
 use Rattle.edit_model.proofs.Forests.{forest-link, forest-unlink, forest-revised, can_go, parent_at-unlink}
 use Rattle.edit_model.proofs.Points.{mapped_placed, points_left, places-inserted, places-removed, places-moved, places-replaced, leaves-revised}
@@ -22,18 +22,18 @@ pub inside_goes : (s : State) (n p : ℕ) (b : Option ℕ) → Goes s n p b → 
 inside_goes s n p b t h = ltb-true 0 (count_of (tree_of s.trees 0) p) (t.inside (lt-ltb 0 (count_of (tree_of s.trees 0) n) h))
 
 -- what a removal and a move are to points
-abbrev pub removed_event : Forest Content → ℕ → ℕ → range.Edit
-removed_event f o n = range.Removed (preorder (tree_of f n)) o (index_of f n)
+abbrev pub removed_event : Forest Content → ℕ → ℕ → range.PointsEdit
+removed_event f o n = range.Remove (preorder (tree_of f n)) o (index_of f n)
 
-abbrev pub moved_event : Forest Content → ℕ → ℕ → ℕ → Option ℕ → range.Edit
-moved_event f o n p b = range.Moved (record { label = o; offset = index_of f n }) (record { label = p; offset = index_before (unlink f n) p b })
+abbrev pub moved_event : Forest Content → ℕ → ℕ → ℕ → Option ℕ → range.PointsEdit
+moved_event f o n p b = range.Move (record { label = o; offset = index_of f n }) (record { label = p; offset = index_before (unlink f n) p b })
 
 pub parent_is : (f : Forest Content) (o n : ℕ) → parent_of f n ≡ Some o → parent_or_0 f n ≡ o
 parent_is f o n child = ap (λ (q : Option ℕ). unwrap_or q 0) child
 
 -- ---- contents
 
-pub forest-replaced : (s : State) (n at count : ℕ) (put : List ℕ) → IsLawful s → Replaces s n at count put → IsForest (revised s.trees n (with_replaced at count put)) s.next
+pub forest-replaced : (s : State) (n at count : ℕ) (put : List ℕ) → IsValid s → Replaces s n at count put → IsForest (revised s.trees n (with_replaced at count put)) s.next
 forest-replaced s n at count put is t = forest-revised s.trees s.next is.forest n (with_replaced at count put) keeps
   where
     keeps : (c : Content) → content_of s.trees n ≡ Some c → char_length c < 2 ^ 32 → ((with_replaced at count put c ≡ Document) ↔ (c ≡ Document)) × (may_have_children (with_replaced at count put c) ≡ may_have_children c) × (char_length (with_replaced at count put c) < 2 ^ 32)
@@ -45,7 +45,7 @@ forest-replaced s n at count put is t = forest-revised s.trees s.next is.forest 
         let same' : t.chars ≡ chars = (let a = same in cc) in
         (((λ h. absurd cc), λ h. absurd cc), refl, subst (λ xs. length (spliced xs at count put) < 2 ^ 32) same' t.short)
 
-pub forest-set : (s : State) (n : ℕ) (name value : List ℕ) → IsLawful s → IsForest (revised s.trees n (with_set name value)) s.next
+pub forest-set : (s : State) (n : ℕ) (name value : List ℕ) → IsValid s → IsForest (revised s.trees n (with_set name value)) s.next
 forest-set s n name value is = forest-revised s.trees s.next is.forest n (with_set name value) (λ c _ short. keeps c short)
   where
     keeps : (c : Content) → char_length c < 2 ^ 32 → ((with_set name value c ≡ Document) ↔ (c ≡ Document)) × (may_have_children (with_set name value c) ≡ may_have_children c) × (char_length (with_set name value c) < 2 ^ 32)
@@ -54,7 +54,7 @@ forest-set s n name value is = forest-revised s.trees s.next is.forest n (with_s
     keeps (Remark chars) short = (((λ h. h), λ h. h), refl, short)
     keeps (Words chars) short = (((λ h. h), λ h. h), refl, short)
 
-pub forest-unset : (s : State) (n : ℕ) (name : List ℕ) → IsLawful s → IsForest (revised s.trees n (with_unset name)) s.next
+pub forest-unset : (s : State) (n : ℕ) (name : List ℕ) → IsValid s → IsForest (revised s.trees n (with_unset name)) s.next
 forest-unset s n name is = forest-revised s.trees s.next is.forest n (with_unset name) (λ c _ short. keeps c short)
   where
     keeps : (c : Content) → char_length c < 2 ^ 32 → ((with_unset name c ≡ Document) ↔ (c ≡ Document)) × (may_have_children (with_unset name c) ≡ may_have_children c) × (char_length (with_unset name c) < 2 ^ 32)
@@ -77,7 +77,7 @@ length_in-unset name (Remark chars) kids = refl
 
 -- ---- each edit that is made
 
-pub made_forest : (e : Edit) (s : State) → IsLawful s → is_made_edit e s ≡ true → IsForest (trees_after e s.trees) s.next
+pub made_forest : (e : Edit) (s : State) → IsValid s → is_made_edit e s ≡ true → IsForest (trees_after e s.trees) s.next
 unfolding is_made_edit trees_after
 made_forest (Insert p b n) s is may = let t = inserts s p b n may in forest-link s.trees s.next is.forest p b n t.can t.parent
 made_forest (Remove n) s is may = let t = removes s n may in forest-unlink s.trees s.next is.forest t.from n t.child
@@ -90,11 +90,11 @@ made_forest (Replace n at count put) s is may = forest-replaced s n at count put
 made_forest (Set n name value) s is may = forest-set s n name value is
 made_forest (Unset n name) s is may = forest-unset s n name is
 
-pub made_placed : (e : Edit) (s : State) → IsLawful s → is_made_edit e s ≡ true → IsPlaced (trees_after e s.trees) (points_after e s.trees s.points)
+pub made_placed : (e : Edit) (s : State) → IsValid s → is_made_edit e s ≡ true → IsPlaced (trees_after e s.trees) (points_after e s.trees s.points)
 unfolding is_made_edit trees_after points_after
 made_placed (Insert p b n) s is may =
     let t = inserts s p b n may in
-    mapped_placed (range.Inserted p (index_before s.trees p b)) s.trees (link s.trees p b n) (places-inserted s.trees s.next is.forest p b n t.can t.parent) s.points is.placed
+    mapped_placed (range.Insert p (index_before s.trees p b)) s.trees (link s.trees p b n) (places-inserted s.trees s.next is.forest p b n t.can t.parent) s.points is.placed
 made_placed (Remove n) s is may =
     let t = removes s n may in
     let f = s.trees in
@@ -108,6 +108,6 @@ made_placed (Move n p b) s is may =
     (mapped_placed (moved_event f t.from n p b) f (link (unlink f n) p b n) (places-moved f s.next is.forest t.from n p b t.child can t.apart t.parent (inside_goes s n p b t)) s.points is.placed)
 made_placed (Replace n at count put) s is may =
     let t = replaces s n at count put may in
-    mapped_placed (range.Replaced n at count (length put)) s.trees (revised s.trees n (with_replaced at count put)) (places-replaced s.trees s.next is.forest n at count put t.chars t.content t.reach) s.points is.placed
+    mapped_placed (range.Replace n at count (length put)) s.trees (revised s.trees n (with_replaced at count put)) (places-replaced s.trees s.next is.forest n at count put t.chars t.content t.reach) s.points is.placed
 made_placed (Set n name value) s is may = points_left s.trees (revised s.trees n (with_set name value)) (leaves-revised s.trees s.next is.forest n (with_set name value) (length_in-set name value)) s.points is.placed
 made_placed (Unset n name) s is may = points_left s.trees (revised s.trees n (with_unset name)) (leaves-revised s.trees s.next is.forest n (with_unset name) (length_in-unset name)) s.points is.placed

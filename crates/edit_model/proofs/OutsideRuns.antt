@@ -17,7 +17,7 @@ use Rattle.edit_model.specs.Edit.{Edit, Insert, Remove, Move, Replace, Set, Unse
 use Rattle.edit_model.specs.Action as action
 use Rattle.edit_model.specs.Action.{Action, made, words_content, with_selection, selected, extended_from, extended, grown, sent, scratched, acted}
 use Rattle.edit_model.specs.Run.{Reaches}
-use Rattle.edit_model.specs.Lawful.{IsForest, IsLawful}
+use Rattle.edit_model.specs.Valid.{IsForest, IsValid}
 use Rattle.edit_model.specs.Outside.{hollowed, outside_by, outside, IsConfined}
 use Rattle.edit_model.proofs.Steps.{along, either_way}
 use Rattle.edit_model.proofs.CommandParts.{command_acted}
@@ -25,7 +25,7 @@ use Rattle.edit_model.proofs.Tests.{label_is, inserts, removes, goes, replaces, 
 use Rattle.edit_model.proofs.Forests.{forest-unlink, fresh, can_go}
 use Rattle.edit_model.proofs.Documents.{document-link, document-unlink, document-with_leaf, document-revised}
 use Rattle.edit_model.proofs.Made.{made_forest}
-use Rattle.edit_model.proofs.LawfulRuns.{chosen, lawful_acted}
+use Rattle.edit_model.proofs.ValidRuns.{chosen, valid_acted}
 use Rattle.edit_model.proofs.TailOutside.{outside-extracted}
 use Rattle.edit_model.proofs.Hollow.{hollowed_absent, hollowed-put_under, hollowed-without, hollowed-revised, editable_below, below_left_out, child_left_out}
 
@@ -47,7 +47,7 @@ outside_is None f next is =
 
 -- ---- what the tests of nodes tell
 
-module _ (s : State) (is : IsLawful s) (confined : IsConfined s) where
+module _ (s : State) (is : IsValid s) (confined : IsConfined s) where
   editable_out : (l : ℕ) → is_editable_for s l ≡ true → count_of (rest_of s s.trees) l ≡ 0
   unfolding is_editable_for
   editable_out l h = by_host s.host h
@@ -170,7 +170,7 @@ pub trees-scratched : (pair : Pair) (s : State) → (scratched pair s).trees ≡
 unfolding scratched
 trees-scratched pair s = either_way (SameTrees s) (may_select s pair.anchor && may_select s pair.focus) refl refl
 
-pub outside-acted : (a : Action) (s : State) → IsLawful s → IsConfined s → outside (acted a s) ≡ outside s
+pub outside-acted : (a : Action) (s : State) → IsValid s → IsConfined s → outside (acted a s) ≡ outside s
 unfolding acted extended changed
 outside-acted (action.Change e) s is confined = outside_edited s is confined e
 outside-acted (action.MakeElement name attributes) s is confined = outside_made s is confined (Element name attributes)
@@ -188,18 +188,18 @@ outside-acted (action.Extract from end target) s is confined = outside-extracted
 -- ---- every run
 
 pub record KeepsOutside (s t : State) : Type 0 where
-  pub lawful : IsLawful t
+  pub valid : IsValid t
   pub confined : IsConfined t
   pub same : outside t ≡ outside s
 
 pub keeps_outside : (s : State) (a : Action) (t : State) → KeepsOutside s t → KeepsOutside s (acted a t)
 keeps_outside s a t h =
-    let same = outside-acted a t h.lawful h.confined in
+    let same = outside-acted a t h.valid h.confined in
     record {
-      lawful = lawful_acted a t h.lawful;
+      valid = valid_acted a t h.valid;
       confined = record { before = λ l some. subst (λ k. l < k) (sym (command_acted a t).start) (h.confined.before l (subst (λ g. 0 < count_of g l) same some)) };
       same = same ∙ h.same;
     }
 
-pub outside_along : {s t : State} → Reaches s t → IsLawful s → IsConfined s → KeepsOutside s t
-outside_along {s = s} r is confined = along (KeepsOutside s) (keeps_outside s) r (record { lawful = is; confined = confined; same = refl })
+pub outside_along : {s t : State} → Reaches s t → IsValid s → IsConfined s → KeepsOutside s t
+outside_along {s = s} r is confined = along (KeepsOutside s) (keeps_outside s) r (record { valid = is; confined = confined; same = refl })

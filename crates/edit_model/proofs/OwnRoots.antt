@@ -20,16 +20,16 @@ use Rattle.edit_model.specs.Action as action
 use Rattle.edit_model.specs.Action.{Action, acted}
 use Rattle.edit_model.specs.Run.{Reaches, here, onward}
 use Rattle.edit_model.specs.History.{begun}
-use Rattle.edit_model.specs.Lawful.{IsForest, IsLawful}
+use Rattle.edit_model.specs.Valid.{IsForest, IsValid}
 use Rattle.edit_model.specs.Outside.{hollowed, IsConfined, is_within_host, is_island}
 use Rattle.edit_model.specs.Laws.{TakesOut, TakesOwn, TakesOwnOn, LeavesStatesOn}
 use Rattle.edit_model.proofs.CommandParts.{command_along}
 use Rattle.edit_model.proofs.Tests.{label_is, removes}
 use Rattle.edit_model.proofs.Documents.{document_shape, tree_inside, within_above}
-use Rattle.edit_model.proofs.LawfulRuns.{lawful_along}
+use Rattle.edit_model.proofs.ValidRuns.{valid_along}
 use Rattle.edit_model.proofs.Trees.{none_or_some, within_trans}
 use Rattle.edit_model.proofs.Hollow.{below_left_out, hollowed_split, hollowed_le, inside_part}
-use Rattle.edit_model.proofs.Commands.{lawful_begun, confined_begun, command_confined}
+use Rattle.edit_model.proofs.Commands.{valid_begun, confined_begun, command_confined}
 use Rattle.edit_model.proofs.OutsideRuns.{outside_along}
 use Rattle.edit_model.proofs.Islands.{host_within}
 use Rattle.edit_model.proofs.IslandRuns.{Locked, Offers, root_content, content_at, host_offers, editable_offers, locked_under, locked_along, island_locked, goes_out, root_closed}
@@ -62,9 +62,9 @@ offers_within f n p h c once known content stated inside offers = by_state (is_t
     by_state true e = let same : p ≡ h = (let t = e in cc) in subst (λ k. IsWithin f n k) same inside
     by_state false e = host_within f once n known c content stated p h inside e
 
-module _ (s : State) (h : ℕ) (keeping : Bool) (is : IsLawful s) (hosted : is_host s.trees h ≡ true) (h_inside : IsWithin s.trees 0 h) (u : State) (q : Reaches (begun (Some h) keeping s) u) (states : SameStates (begun (Some h) keeping s) u) where
-  lawful : IsLawful u
-  lawful = lawful_along q (lawful_begun (Some h) keeping s is)
+module _ (s : State) (h : ℕ) (keeping : Bool) (is : IsValid s) (hosted : is_host s.trees h ≡ true) (h_inside : IsWithin s.trees 0 h) (u : State) (q : Reaches (begun (Some h) keeping s) u) (states : SameStates (begun (Some h) keeping s) u) where
+  valid : IsValid u
+  valid = valid_along q (valid_begun (Some h) keeping s is)
 
   host_u : u.host ≡ Some h
   unfolding begun
@@ -91,7 +91,7 @@ module _ (s : State) (h : ℕ) (keeping : Bool) (is : IsLawful s) (hosted : is_h
   left_out : (x : ℕ) → IsWithin u.trees h x → x ≢ h → count_of (hollowed (tree_of s.trees 0) h) x ≡ 0
   left_out x inside off =
       ap (λ g. count_of g x) (sym (command_confined (Some h) keeping s u is q))
-      ∙ below_left_out u.trees u.next lawful.forest h x inside off
+      ∙ below_left_out u.trees u.next valid.forest h x inside off
 
   -- a node that is below the host now never held it
   not_above : (x : ℕ) → IsWithin u.trees h x → x ≢ h → count_of (tree_of s.trees x) h ≡ 0
@@ -132,7 +132,7 @@ module _ (s : State) (h : ℕ) (keeping : Bool) (is : IsLawful s) (hosted : is_h
 
   locked_tree : (x : ℕ) → Locked (tree_of s.trees x) x s.next h → tree_of u.trees x ≡ tree_of s.trees x
   unfolding begun
-  locked_tree x locked = locked_along x h (lawful_begun (Some h) keeping s is) refl locked q
+  locked_tree x locked = locked_along x h (valid_begun (Some h) keeping s is) refl locked q
 
   -- ---- a node that the command made, and that is below the host, is editable
 
@@ -153,12 +153,12 @@ module _ (s : State) (h : ℕ) (keeping : Bool) (is : IsLawful s) (hosted : is_h
     editable_step : (x : ℕ) → ((p : ℕ) → parent_of u.trees x ≡ Some p → IsWithin u.trees p o → IsWithin u.trees h p → p ≢ h → editing_host u.trees p ≡ Some h) → IsWithin u.trees x o → IsWithin u.trees h x → x ≢ h → editing_host u.trees x ≡ Some h
     editable_step x above holds inside off =
         let f = u.trees in
-        let once = lawful.forest.distinct in
+        let once = valid.forest.distinct in
         let h_known = root_known f h x inside in
         let up = within_parent f h once h_known x (λ e. off (sym e)) inside in
         let offers : Offers f h up.0 = elim (eqb_tells up.0 h) [
           | inl (_, e) ↦ subst (λ k. Offers f h k) (sym e) (host_offers f h once h_known hosted_u)
-          | inr (_, off_p) ↦ editable_offers f u.next h up.0 x lawful.forest up.1 (above up.0 up.1 (within_up f once x up.0 o up.1 holds) up.2 off_p)
+          | inr (_, off_p) ↦ editable_offers f u.next h up.0 x valid.forest up.1 (above up.0 up.1 (within_up f once x up.0 o up.1 holds) up.2 off_p)
         ] in
         let c = content_at f once x (parent_count f x up.0 once up.1).0 in
         let none : (is_true_state c.0 || is_false_state c.0) ≡ false = sym (stated_is f x c.0 c.1) ∙ stateless x holds inside off in
@@ -166,11 +166,11 @@ module _ (s : State) (h : ℕ) (keeping : Bool) (is : IsLawful s) (hosted : is_h
         ∙ hosted_by (is_true_state c.0 || is_false_state c.0) (is_element c.0) (cond (is_true_state offers.content) (Some up.0) (editing_host f up.0)) h (is_element offers.content) none offers.element offers.offer
 
     editable_at : (n x : ℕ) → depth_of u.trees x ≡ n → IsWithin u.trees x o → IsWithin u.trees h x → x ≢ h → editing_host u.trees x ≡ Some h
-    editable_at zero x deep holds inside off = editable_step x (λ p e _ _ _. absurd (let more = depth_of-parent u.trees x p lawful.forest.distinct e in omega (arith, deep, more))) holds inside off
-    editable_at (suc n) x deep holds inside off = editable_step x (λ p e k i z. editable_at n p (let more = depth_of-parent u.trees x p lawful.forest.distinct e in omega (arith, deep, more)) k i z) holds inside off
+    editable_at zero x deep holds inside off = editable_step x (λ p e _ _ _. absurd (let more = depth_of-parent u.trees x p valid.forest.distinct e in omega (arith, deep, more))) holds inside off
+    editable_at (suc n) x deep holds inside off = editable_step x (λ p e k i z. editable_at n p (let more = depth_of-parent u.trees x p valid.forest.distinct e in omega (arith, deep, more)) k i z) holds inside off
 
   made_editable : (o : ℕ) → s.next ≤ o → 0 < count_of u.trees o → IsWithin u.trees h o → o ≢ h → editing_host u.trees o ≡ Some h
-  made_editable o made known inside off = editable_at o made (depth_of u.trees o) o refl (within_self u.trees o lawful.forest.distinct known) inside off
+  made_editable o made known inside off = editable_at o made (depth_of u.trees o) o refl (within_self u.trees o valid.forest.distinct known) inside off
 
   -- ---- the root of a removed tree that holds an island
 
@@ -181,7 +181,7 @@ module _ (s : State) (h : ℕ) (keeping : Bool) (is : IsLawful s) (hosted : is_h
     | inl at ↦ elim (or_cases (is_label u.host o) (is_editable_for u o) at) [
       | inl host ↦ (
           let same : h ≡ o = (let e : Some h ≡ Some o = sym host_u ∙ label_is u.host o host in cc) in
-          subst (λ k. Offers u.trees h k) same (host_offers u.trees h lawful.forest.distinct (subst (λ k. 0 < count_of u.trees k) (sym same) known) hosted_u))
+          subst (λ k. Offers u.trees h k) same (host_offers u.trees h valid.forest.distinct (subst (λ k. 0 < count_of u.trees k) (sym same) known) hosted_u))
       | inr editable ↦ by_editing (label_is (editing_host u.trees o) h (ap (λ (w : Option ℕ). option_map_or (λ k. is_editable u.trees k o) w false) (sym host_u) ∙ editable))
     ]
     | inr own ↦ (
@@ -191,14 +191,14 @@ module _ (s : State) (h : ℕ) (keeping : Bool) (is : IsLawful s) (hosted : is_h
   ]
     where
       known : 0 < count_of u.trees o
-      known = (parent_count u.trees n o lawful.forest.distinct child).1
+      known = (parent_count u.trees n o valid.forest.distinct child).1
 
       by_editing : editing_host u.trees o ≡ Some h → Offers u.trees h o
-      by_editing e = editable_offers u.trees u.next h o n lawful.forest child e
+      by_editing e = editable_offers u.trees u.next h o n valid.forest child e
 
       below_h : s.next ≤ o → o ≢ h → IsWithin u.trees h o
       below_h high off =
-          let once : IsDistinct (tree_of u.trees 0) = λ m. omega (arith, lawful.forest.distinct m, total-without (λ j _. cond (eqb j m) 1 0) u.trees 0) in
+          let once : IsDistinct (tree_of u.trees 0) = λ m. omega (arith, valid.forest.distinct m, total-without (λ j _. cond (eqb j m) 1 0) u.trees 0) in
           let early : count_of (hollowed (tree_of u.trees 0) h) o ≡ 0 = elim (none_or_some (count_of (hollowed (tree_of u.trees 0) h) o)) [
             | inl none ↦ none
             | inr some ↦ absurd (
@@ -206,7 +206,7 @@ module _ (s : State) (h : ℕ) (keeping : Bool) (is : IsLawful s) (hosted : is_h
                 let low = is.forest.below o (omega (arith, old, hollowed_le (tree_of s.trees 0) h o, total-without (λ m _. cond (eqb m o) 1 0) s.trees 0)) in
                 omega (arith, low, high))
           ] in
-          omega (arith, inside, early, hollowed_split (tree_of u.trees 0) h o once off, inside_part u.trees u.next lawful.forest h o)
+          omega (arith, inside, early, hollowed_split (tree_of u.trees 0) h o once off, inside_part u.trees u.next valid.forest h o)
 
   own_root : (l p n : ℕ) → parent_of s.trees l ≡ Some p → Offers s.trees h p → is_made_edit (Remove n) u ≡ true → IsWithin u.trees 0 l → IsWithin u.trees n l → n ≢ l → IsConfined u → is_own u n ≡ true
   unfolding is_made_edit is_own is_editable_for is_made
@@ -222,11 +222,11 @@ module _ (s : State) (h : ℕ) (keeping : Bool) (is : IsLawful s) (hosted : is_h
           let parts = or_parts (is_editable_for u n) (is_made u n) none in
           let low : n < s.next = (let k = leb-false u.start n parts.1 in omega (arith, k, start_u)) in
           let uneditable : is_editable f h n ≡ false = ap (λ (w : Option ℕ). option_map_or (λ k. is_editable f k n) w false) (sym host_u) ∙ parts.0 in
-          let n_inside = holder_inside f u.next n l lawful.forest holds inside in
-          let o_inside = within_above f u.next lawful.forest t.from n t.child n_inside in
+          let n_inside = holder_inside f u.next n l valid.forest holds inside in
+          let o_inside = within_above f u.next valid.forest t.from n t.child n_inside in
           let offers = open_offers t.from n t.child t.allowed o_inside confined in
-          let under = locked_under f u.next h n t.from lawful.forest t.child uneditable offers in
-          let content = root_content f n under.0.content under.0.kids lawful.forest.distinct under.0.top in
+          let under = locked_under f u.next h n t.from valid.forest t.child uneditable offers in
+          let content = root_content f n under.0.content under.0.kids valid.forest.distinct under.0.top in
           let stated : stated_value (editable_value f n) ≡ true = stated_is f n under.0.content content ∙ under.0.stated in
           let locked = stated_locked n low under.1.0 under.1.1 stated in
           let held : IsWithin s.trees n l = subst (λ g. 0 < count_of g l) (locked_tree n locked) holds in
@@ -240,7 +240,7 @@ module _ (s : State) (h : ℕ) (keeping : Bool) (is : IsLawful s) (hosted : is_h
 -- ---- every run
 
 -- the parent of an island offers the host
-island_offers : (s : State) (h l : ℕ) (keeping : Bool) → IsLawful s → is_host s.trees h ≡ true → is_island s.trees h l ≡ true → (p : ℕ) × (parent_of s.trees l ≡ Some p) × Offers s.trees h p
+island_offers : (s : State) (h l : ℕ) (keeping : Bool) → IsValid s → is_host s.trees h ≡ true → is_island s.trees h l ≡ true → (p : ℕ) × (parent_of s.trees l ≡ Some p) × Offers s.trees h p
 unfolding is_island is_within_host
 island_offers s h l keeping is hosted island = by_parent (parent_of s.trees l) refl ((and_parts (not (is_break s.trees l)) _ (and_parts (not (is_editable s.trees h l)) _ island).1).1)
   where
@@ -273,7 +273,7 @@ own_out (action.Override command setting) u l own h = absurd h
 own_out (action.Flag flags) u l own h = absurd h
 own_out (action.Extract from end target) u l own h = absurd h
 
-module _ (s : State) (h : ℕ) (keeping : Bool) (is : IsLawful s) (hosted : is_host s.trees h ≡ true) (l : ℕ) (island : is_island s.trees h l ≡ true) (inside : IsWithin s.trees 0 l) where
+module _ (s : State) (h : ℕ) (keeping : Bool) (is : IsValid s) (hosted : is_host s.trees h ≡ true) (l : ℕ) (island : is_island s.trees h l ≡ true) (inside : IsWithin s.trees 0 l) where
   host_inside : IsWithin s.trees 0 h
   host_inside = holder_inside s.trees s.next h l is.forest (island_locked s h l keeping is hosted island).1.0 inside
 
@@ -286,21 +286,21 @@ module _ (s : State) (h : ℕ) (keeping : Bool) (is : IsLawful s) (hosted : is_h
   never_own u q =
       let locked = (island_locked s h l keeping is hosted island).0 in
       let k = command_along q in
-      root_closed (tree_of s.trees l) l h u (lawful_along q (lawful_begun (Some h) keeping s is)) k.host (subst (λ n. Locked (tree_of s.trees l) l n h) (sym k.start) locked)
-      (locked_along l h (lawful_begun (Some h) keeping s is) refl locked q) s.trees is.forest.distinct refl no_break
+      root_closed (tree_of s.trees l) l h u (valid_along q (valid_begun (Some h) keeping s is)) k.host (subst (λ n. Locked (tree_of s.trees l) l n h) (sym k.start) locked)
+      (locked_along l h (valid_begun (Some h) keeping s is) refl locked q) s.trees is.forest.distinct refl no_break
 
   leave_on : (b : State) → b ≡ begun (Some h) keeping s → {t : State} (r : Reaches b t) → LeavesStatesOn r → IsWithin b.trees 0 l → IsWithin t.trees 0 l ⊎ TakesOwnOn r l
   leave_on b e here leaves in_b = inl in_b
   leave_on b e (onward {t = t} q a) leaves in_b = elim (leave_on b e q leaves.0 in_b) [
     | inr taken ↦ inr (inl taken)
     | inl still ↦ (
-        let lawful_b : IsLawful b = subst IsLawful (sym e) (lawful_begun (Some h) keeping s is) in
+        let valid_b : IsValid b = subst IsValid (sym e) (valid_begun (Some h) keeping s is) in
         let confined_b : IsConfined b = subst IsConfined (sym e) (confined_begun (Some h) keeping s is) in
         let p = subst (λ z. Reaches z t) e q in
-        let states = subst (λ z. SameStates z t) e (states_along q lawful_b leaves.0) in
-        let k = outside_along q lawful_b confined_b in
+        let states = subst (λ z. SameStates z t) e (states_along q valid_b leaves.0) in
+        let k = outside_along q valid_b confined_b in
         let up = island_offers s h l keeping is hosted island in
-        elim (goes_out a t l k.lawful (never_own t p) still) [
+        elim (goes_out a t l k.valid (never_own t p) still) [
           | inl stays ↦ inl stays
           | inr out ↦ inr (inr (own_out a t l (λ n may holds off. own_root s h keeping is hosted host_inside t p states l up.0 n up.1 up.2 may still holds off k.confined) out))
         ])

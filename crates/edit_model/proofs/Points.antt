@@ -17,13 +17,13 @@ use Rattle.dom_model.proofs.Move.{parent_apart}
 use Rattle.dom_model.proofs.Revising.{children_of-revised, content_of-revised}
 use Rattle.live_range.specs.declared.places.Point.{Point}
 use Rattle.live_range.specs.declared.places.Pair.{Pair}
-use Rattle.live_range.specs.Edit as range
-use Rattle.live_range.specs.Edit.{adjusted, adjusted_pair, with_offset, after_insert, after_removal, after_replacement, after_loss, has_label, PointFits, PairFits}
+use Rattle.live_range.specs.PointsEdit as range
+use Rattle.live_range.specs.PointsEdit.{adjusted, adjusted_pair, with_offset, after_insert, after_removal, after_replacement, after_loss, has_label, PointFits, PairFits}
 use Rattle.live_range.specs.LivePoints.{LivePoints, mapped, at_pair}
 use Rattle.point_order.specs.PointOrder.{is_in_document, is_placed}
 use Rattle.edit_model.specs.Edit.{index_before, with_replaced}
 use Rattle.edit_model.specs.Confined.{spliced}
-use Rattle.edit_model.specs.Lawful.{IsForest, IsPlacedPair, IsPlaced}
+use Rattle.edit_model.specs.Valid.{IsForest, IsPlacedPair, IsPlaced}
 use Rattle.edit_model.proofs.Forests.{forest-unlink, parent_at-unlink}
 use Rattle.edit_model.proofs.Documents.{within-link, within-unlink, within-with_leaf, within-revised, within_inside, within_above, within_below, within-move, place_in_length, length_of-parent, length_of-link, length_of-link_other, length_of-unlink, length_of-unlink_other, length_of-with_leaf, index_below}
 
@@ -44,20 +44,20 @@ unfolding is_placed
 placed_from f x h = and_from (is_in_document f x.label) (nat_le x.offset (length_of f x.label)) (lt-ltb 0 (count_of (tree_of f 0) x.label) h.inside) (le-leb x.offset (length_of f x.label) h.fits)
 
 -- an adjustment that keeps each point placed
-abbrev pub Places : range.Edit → Forest Content → Forest Content → Type 0
+abbrev pub Places : range.PointsEdit → Forest Content → Forest Content → Type 0
 Places e f g = (x : Point) → Placed f x → Placed g (adjusted e x)
 
-pub pair_placed : (e : range.Edit) (f g : Forest Content) → Places e f g → (p : Pair) → IsPlacedPair f p → IsPlacedPair g (adjusted_pair e p)
+pub pair_placed : (e : range.PointsEdit) (f g : Forest Content) → Places e f g → (p : Pair) → IsPlacedPair f p → IsPlacedPair g (adjusted_pair e p)
 pair_placed e f g places p h = record {
   anchor = placed_from g (adjusted e p.anchor) (places p.anchor (placed_is f p.anchor h.anchor));
   focus = placed_from g (adjusted e p.focus) (places p.focus (placed_is f p.focus h.focus));
 }
 
-some_placed : (e : range.Edit) (f g : Forest Content) → Places e f g → (o : Option Pair) → IfSome o (IsPlacedPair f) → IfSome (option_map (adjusted_pair e) o) (IsPlacedPair g)
+some_placed : (e : range.PointsEdit) (f g : Forest Content) → Places e f g → (o : Option Pair) → IfSome o (IsPlacedPair f) → IfSome (option_map (adjusted_pair e) o) (IsPlacedPair g)
 some_placed e f g places None h = tt
 some_placed e f g places (Some p) h = pair_placed e f g places p h
 
-pub mapped_placed : (e : range.Edit) (f g : Forest Content) → Places e f g → (points : LivePoints) → IsPlaced f points → IsPlaced g (mapped e points)
+pub mapped_placed : (e : range.PointsEdit) (f g : Forest Content) → Places e f g → (points : LivePoints) → IsPlaced f points → IsPlaced g (mapped e points)
 mapped_placed e f g places points h = record {
   selection = some_placed e f g places points.selection h.selection;
   scratch = some_placed e f g places points.scratch h.scratch;
@@ -126,7 +126,7 @@ at_node : (x : Point) (l : ℕ) → x.label ≡ l → eqb x.label l ≡ true
 at_node x l e = eq-eqb x.label l e
 
 module _ (f : Forest Content) (next : ℕ) (is : IsForest f next) where
-  pub places-inserted : (p : ℕ) (b : Option ℕ) (n : ℕ) → CanPut f p b n → is_parent_at f p ≡ true → Places (range.Inserted p (index_before f p b)) f (link f p b n)
+  pub places-inserted : (p : ℕ) (b : Option ℕ) (n : ℕ) → CanPut f p b n → is_parent_at f p ≡ true → Places (range.Insert p (index_before f p b)) f (link f p b n)
   places-inserted p b n can parent x h =
       let inside = within-link f next is p b n x.label can h.inside in
       elim (eqb_tells x.label p) [
@@ -142,7 +142,7 @@ module _ (f : Forest Content) (next : ℕ) (is : IsForest f next) where
         })
       ]
 
-  pub places-removed : (o n : ℕ) → parent_of f n ≡ Some o → Places (range.Removed (preorder (tree_of f n)) o (index_of f n)) f (unlink f n)
+  pub places-removed : (o n : ℕ) → parent_of f n ≡ Some o → Places (range.Remove (preorder (tree_of f n)) o (index_of f n)) f (unlink f n)
   places-removed o n child x h = by_count (count_of (tree_of f n) x.label) refl
     where
       less : length_of (unlink f n) o + 1 ≡ length_of f o
@@ -158,7 +158,7 @@ module _ (f : Forest Content) (next : ℕ) (is : IsForest f next) where
           by_zero zero e = refl
           by_zero (suc k) e = absurd (parent_apart f n o is.distinct child (omega (arith, e)))
 
-      by_count : (k : ℕ) → count_of (tree_of f n) x.label ≡ k → Placed (unlink f n) (adjusted (range.Removed (preorder (tree_of f n)) o (index_of f n)) x)
+      by_count : (k : ℕ) → count_of (tree_of f n) x.label ≡ k → Placed (unlink f n) (adjusted (range.Remove (preorder (tree_of f n)) o (index_of f n)) x)
       by_count (suc k) e =
           let listed : has_label (preorder (tree_of f n)) x.label ≡ true = has_label-preorder (tree_of f n) x.label ∙ lt-ltb 0 (count_of (tree_of f n) x.label) (omega (arith, e)) in
           let up = within_above f next is o n child (within_inside f next is o n x.label child (omega (arith, e)) h.inside) in
@@ -180,7 +180,7 @@ module _ (f : Forest Content) (next : ℕ) (is : IsForest f next) where
             })
           ])
 
-  pub places-moved : (o n p : ℕ) (b : Option ℕ) → parent_of f n ≡ Some o → CanPut (unlink f n) p b n → count_of (tree_of f n) p ≡ 0 → is_parent_at f p ≡ true → (IsWithin f 0 n → IsWithin f 0 p) → Places (range.Moved (record { label = o; offset = index_of f n }) (record { label = p; offset = index_before (unlink f n) p b })) f (link (unlink f n) p b n)
+  pub places-moved : (o n p : ℕ) (b : Option ℕ) → parent_of f n ≡ Some o → CanPut (unlink f n) p b n → count_of (tree_of f n) p ≡ 0 → is_parent_at f p ≡ true → (IsWithin f 0 n → IsWithin f 0 p) → Places (range.Move (record { label = o; offset = index_of f n }) (record { label = p; offset = index_before (unlink f n) p b })) f (link (unlink f n) p b n)
   places-moved o n p b child can apart parent goes x h = elim (eqb_tells o p) [
     | inl (t, e) ↦ rw t (within_one e)
     | inr (t, off) ↦ rw t (between off)
@@ -301,7 +301,7 @@ module _ (f : Forest Content) (next : ℕ) (is : IsForest f next) where
       off : next ≢ x.label
       off e = (let b = is.below x.label (omega (arith, h.inside, total-without (λ m _. cond (eqb m x.label) 1 0) f 0)) in omega (arith, b, e))
 
-  pub places-replaced : (n at count : ℕ) (put chars : List ℕ) → content_of f n ≡ Some (Words chars) → at + count ≤ length chars → Places (range.Replaced n at count (length put)) f (revised f n (with_replaced at count put))
+  pub places-replaced : (n at count : ℕ) (put chars : List ℕ) → content_of f n ≡ Some (Words chars) → at + count ≤ length chars → Places (range.Replace n at count (length put)) f (revised f n (with_replaced at count put))
   places-replaced n at count put chars content reach x h = elim (eqb_tells x.label n) [
     | inl (t, e) ↦ rw t (record {
       inside = within-revised f next is n x.label (with_replaced at count put) h.inside;

@@ -1,4 +1,4 @@
--- A state without its loose trees is lawful, and so are the views that the history keeps.
+-- A state without its loose trees is valid, and so are the views that the history keeps.
 use Rattle.std.proofs.Common.{◌≡◌, ℕ, ◌≤◌, cond, eqb, [], length, Option, Some, None, refl, sym, ap, subst, ◌∙◌, inl, inr, arith}
 use Rattle.std.specs.Option.{option_map, option_map_or}
 use Rattle.std.proofs.lemmas.Bool.Decides.{eqb_tells}
@@ -12,7 +12,7 @@ use Rattle.dom_model.proofs.Within.{within_self}
 use Rattle.edit_model.specs.State.{State}
 use Rattle.edit_model.specs.Overrides.{no_overrides}
 use Rattle.edit_model.specs.History.{View, view_of, at_view, rested}
-use Rattle.edit_model.specs.Lawful.{IsForest, IsLawful, IsView}
+use Rattle.edit_model.specs.Valid.{IsForest, IsValid, IsView}
 use Rattle.edit_model.proofs.Documents.{document_shape}
 use Rattle.edit_model.proofs.Points.{Leaves, points_left}
 
@@ -69,9 +69,9 @@ module _ (f : Forest Content) (next : ℕ) (is : IsForest f next) where
 
 -- ---- outside commands
 
-pub lawful_rested : (s : State) → IsLawful s → IsLawful (rested s)
+pub valid_rested : (s : State) → IsValid s → IsValid (rested s)
 unfolding rested
-lawful_rested s is =
+valid_rested s is =
     let placed = points_left s.trees (tree_of s.trees 0) (leaves-document s.trees s.next is.forest) s.points is.placed in
     record {
       forest = forest-document s.trees s.next is.forest;
@@ -80,13 +80,13 @@ lawful_rested s is =
       settings = is.settings;
     }
 
-pub view_lawful : (s : State) → IsLawful s → IsView (view_of s) s.next
+pub view_valid : (s : State) → IsValid s → IsView (view_of s) s.next
 unfolding view_of
-view_lawful s is =
+view_valid s is =
     let placed = points_left s.trees (tree_of s.trees 0) (leaves-document s.trees s.next is.forest) s.points is.placed in
     record { forest = forest-document s.trees s.next is.forest; selection = placed.selection; marks = placed.marks }
 
--- a view stays lawful as labels are drawn
+-- a view stays valid as labels are drawn
 pub view_later : (v : View) (next later : ℕ) → next ≤ later → IsView v next → IsView v later
 view_later v next later h is = record {
   forest = record {
@@ -105,9 +105,9 @@ none_length : length no_overrides ≡ 32
 unfolding no_overrides
 none_length = refl
 
-pub lawful_at_view : (v : View) (s : State) → IsView v s.next → s.start ≤ s.next → IsLawful (at_view v s)
+pub valid_at_view : (v : View) (s : State) → IsView v s.next → s.start ≤ s.next → IsValid (at_view v s)
 unfolding at_view
-lawful_at_view v s is started = record {
+valid_at_view v s is started = record {
   forest = is.forest;
   placed = record { selection = is.selection; scratch = tt; marks = is.marks };
   started = started;

@@ -25,12 +25,12 @@ use Rattle.edit_model.specs.Action as action
 use Rattle.edit_model.specs.Tail.{copy_of, document_size}
 use Rattle.edit_model.specs.Action.{Action, made, applied, tail_of, extracted, words_content, extended, acted}
 use Rattle.edit_model.specs.Run.{Reaches, here, onward}
-use Rattle.edit_model.specs.Lawful.{IsLawful}
+use Rattle.edit_model.specs.Valid.{IsValid}
 use Rattle.edit_model.specs.Laws.{LeavesStates, LeavesStatesOn}
 use Rattle.edit_model.proofs.Steps.{next_along}
 use Rattle.edit_model.proofs.Tests.{inserts, removes, goes, parent_there}
 use Rattle.edit_model.proofs.Forests.{forest-unlink, can_go, fresh}
-use Rattle.edit_model.proofs.LawfulRuns.{lawful_along}
+use Rattle.edit_model.proofs.ValidRuns.{valid_along}
 use Rattle.edit_model.proofs.OutsideRuns.{trees-extended, trees-selected, trees-grown, trees-sent, trees-scratched}
 use Rattle.edit_model.proofs.IslandRuns.{trees_made, trees_left}
 use Rattle.edit_model.proofs.TailPossible.{tail_possible}
@@ -100,7 +100,7 @@ value-revised f n k g same = ap (option_map contenteditable) (content_of-revised
     each true (Some c) = ap Some (same c)
     each false (Some c) = refl
 
-value_after : (e : Edit) (s : State) (k : ℕ) → IsLawful s → is_made_edit e s ≡ true → LeavesStates (action.Change e) → editable_value (trees_after e s.trees) k ≡ editable_value s.trees k
+value_after : (e : Edit) (s : State) (k : ℕ) → IsValid s → is_made_edit e s ≡ true → LeavesStates (action.Change e) → editable_value (trees_after e s.trees) k ≡ editable_value s.trees k
 unfolding is_made_edit trees_after
 value_after (Insert p b n) s k is may leaves = ap (option_map contenteditable) (content_of-link s.trees p b n k is.forest.distinct (inserts s p b n may).can)
 value_after (Remove n) s k is may leaves = let t = removes s n may in ap (option_map contenteditable) (content_of-unlink s.trees t.from n k is.forest.distinct t.child)
@@ -150,7 +150,7 @@ states_kept s t u equal h = record {
   made = λ k high. ap stated_value (equal k) ∙ h.made k high;
 }
 
-states_made : (s t : State) (c : Content) → IsLawful t → s.next ≤ t.next → (is_true_state c || is_false_state c) ≡ false → SameStates s t → SameStates s (made c t)
+states_made : (s t : State) (c : Content) → IsValid t → s.next ≤ t.next → (is_true_state c || is_false_state c) ≡ false → SameStates s t → SameStates s (made c t)
 unfolding made
 states_made s t c is later stateless h = record {
   same = λ k low. other k (λ e. omega (arith, e, low, later)) ∙ h.same k low;
@@ -187,7 +187,7 @@ copy_stateless f k c content h = subst (λ o. (is_true_state (copied o) || is_fa
     by (Words chars) h = refl
     by (Remark chars) h = refl
 
-states_extracted : (s t : State) (from : Point) (end target : ℕ) → IsLawful t → s.next ≤ t.next → SameStates s t → SameStates s (extracted from end target t)
+states_extracted : (s t : State) (from : Point) (end target : ℕ) → IsValid t → s.next ≤ t.next → SameStates s t → SameStates s (extracted from end target t)
 unfolding tail_of made applied with_change changed trees_after
 states_extracted s t from end target is later h =
     either_extracted (SameStates s) from end target t
@@ -210,7 +210,7 @@ states_extracted s t from end target is later h =
     (tail_possible t is from end target may) is (h, later)).0))
     h
 
-states_acted : (s t : State) (a : Action) → IsLawful t → s.next ≤ t.next → LeavesStates a → SameStates s t → SameStates s (acted a t)
+states_acted : (s t : State) (a : Action) → IsValid t → s.next ≤ t.next → LeavesStates a → SameStates s t → SameStates s (acted a t)
 unfolding acted extended changed
 states_acted s t (action.Change e) is later leaves h = elim (cases_Bool (is_made_edit e t)) [
   | inl may ↦ states_kept s t (edited e t) (λ k. ap (λ f. editable_value f k) (trees_made e t may) ∙ value_after e t k is may leaves) h
@@ -228,12 +228,12 @@ states_acted s t (action.Override command setting) is later leaves h = states_ke
 states_acted s t (action.Flag flags) is later leaves h = states_kept s t (acted (action.Flag flags) t) (λ k. refl) h
 states_acted s t (action.Extract from end target) is later leaves h = states_extracted s t from end target is later h
 
-absent_value : (s : State) → IsLawful s → (k : ℕ) → s.next ≤ k → stated_value (editable_value s.trees k) ≡ false
+absent_value : (s : State) → IsValid s → (k : ℕ) → s.next ≤ k → stated_value (editable_value s.trees k) ≡ false
 absent_value s is k high = ap (λ (o : Option (Seen Content)). stated_value (option_map contenteditable (option_map (λ x. x.content) o))) (seek_absent None s.trees k none)
   where
     none : count_of s.trees k ≡ 0
     none = elim (none_or_some (count_of s.trees k)) [ inl z ↦ z | inr some ↦ absurd (let b = is.forest.below k some in omega (arith, b, high)) ]
 
-pub states_along : {s t : State} (r : Reaches s t) → IsLawful s → LeavesStatesOn r → SameStates s t
+pub states_along : {s t : State} (r : Reaches s t) → IsValid s → LeavesStatesOn r → SameStates s t
 states_along {s = s} here is leaves = record { same = λ k low. refl; made = λ k high. absent_value s is k high }
-states_along {s = s} (onward {t = t} q a) is leaves = states_acted s t a (lawful_along q is) (next_along q) leaves.1 (states_along q is leaves.0)
+states_along {s = s} (onward {t = t} q a) is leaves = states_acted s t a (valid_along q is) (next_along q) leaves.1 (states_along q is leaves.0)

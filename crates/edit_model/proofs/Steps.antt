@@ -13,7 +13,7 @@ use Rattle.live_range.specs.declared.places.Point.{Point}
 use Rattle.node_arena.specs.declared.NodeRef.{NodeRef}
 use Rattle.edit_model.specs.declared.settings.EditFault.{EditFault}
 use Rattle.edit_model.specs.declared.settings.EditFault.TheVariants.{Full, Memory}
-use Rattle.edit_model.specs.State.{State, IsOver}
+use Rattle.edit_model.specs.State.{State, IsPastCap}
 use Rattle.edit_model.specs.Edit.{Edit, is_made_edit, edited, changed, with_change}
 use Rattle.edit_model.specs.Action as action
 use Rattle.edit_model.specs.Action.{Action, made, applied, words_content, with_selection, with_scratch, selected, extended_from, extended, grown, sent, scratched, acted}
@@ -169,17 +169,17 @@ final_next m s = let P : State → Type 0 = λ t. s.next ≤ t.next in final_kee
 pub final_cap : {T : Type 0} (m : Run T) (s : State) → (final m s).cap ≡ s.cap
 final_cap m s = let P : State → Type 0 = λ t. t.cap ≡ s.cap in final_keeps P (λ a t h. cap-acted a t ∙ h) m s refl
 
-pub over_acted : (a : Action) (s : State) → IsOver s → IsOver (acted a s)
+pub over_acted : (a : Action) (s : State) → IsPastCap s → IsPastCap (acted a s)
 over_acted a s h = record { past = rw (cap-acted a s) (next_acted (suc s.cap) a s h.past) }
 
-pub final_over : {T : Type 0} (m : Run T) (s : State) → IsOver s → IsOver (final m s)
-final_over m s h = final_keeps IsOver over_acted m s h
+pub final_over : {T : Type 0} (m : Run T) (s : State) → IsPastCap s → IsPastCap (final m s)
+final_over m s h = final_keeps IsPastCap over_acted m s h
 
 -- a run whose first step ends past the cap ends past it
-pub over-bind : {A B : Type 0} (m : Run A) (k : A → Run B) (s : State) → IsOver (final m s) → IsOver (final (m >>= k) s)
+pub over-bind : {A B : Type 0} (m : Run A) (k : A → Run B) (s : State) → IsPastCap (final m s) → IsPastCap (final (m >>= k) s)
 over-bind m k s h = rw (final-bind m k s) (final_over (k (value m s)) (final m s) h)
 
-pub over-look : {A : Type 0} (k : State → Run A) (s : State) → IsOver (final (k s) s) → IsOver (final (look k) s)
+pub over-look : {A : Type 0} (k : State → Run A) (s : State) → IsPastCap (final (k s) s) → IsPastCap (final (look k) s)
 over-look k s h = rw (final-look k s) h
 
 pub fails-bind : {A B : Type 0} (e : EditFault) (m : Run A) (k : A → Run B) (s : State) → Fails e (final m s) → Fails e (final (m >>= k) s)

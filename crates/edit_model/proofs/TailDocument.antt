@@ -14,11 +14,11 @@ use Rattle.edit_model.specs.Edit.{Insert, Remove, is_made_edit, trees_after, cha
 use Rattle.edit_model.specs.Tail.{Step, Copy, Do, carried, later, copy_of, tail_steps, document_size}
 use Rattle.edit_model.specs.Action.{Extract, acted, made, applied, stepped, stepped_all, tail_of, may_extract, extracted}
 use Rattle.edit_model.specs.Possible.{freed, are_possible}
-use Rattle.edit_model.specs.Lawful.{IsLawful}
+use Rattle.edit_model.specs.Valid.{IsValid}
 use Rattle.edit_model.proofs.Tests.{inserts, removes}
 use Rattle.edit_model.proofs.Trees.{none_or_some, within_trans}
 use Rattle.edit_model.proofs.Documents.{within-link, within-unlink, within-with_leaf}
-use Rattle.edit_model.proofs.LawfulParts.{lawful_applied, lawful_copied, lawful_steps}
+use Rattle.edit_model.proofs.ValidParts.{valid_applied, valid_copied, valid_steps}
 use Rattle.edit_model.proofs.TailPossible.{tail_possible}
 use Rattle.edit_model.proofs.TailPlan.{AllOf, Fits, IsCopy, is_copy, tail_fits}
 use Rattle.edit_model.proofs.TailSteps.{Extracts, extract_tests, either_extracted}
@@ -36,21 +36,21 @@ module _ (f : Forest Content) (target : ℕ) where
   abbrev Kept : State → Type 0
   Kept u = IsWithin u.trees 0 target × ((y : ℕ) → Apart y → count_of (tree_of u.trees y) target ≡ 0)
 
-  kept_made : (c : Content) (u : State) → IsLawful u → Kept u → Kept (made c u)
+  kept_made : (c : Content) (u : State) → IsValid u → Kept u → Kept (made c u)
   unfolding made
   kept_made c u is h =
       let known = is.forest.below target (omega (arith, h.0, total-without (λ m _. cond (eqb m target) 1 0) u.trees 0)) in
       let other : eqb u.next target ≡ false = ne_eqb u.next target (λ e. omega (arith, known, e)) in
       (within-with_leaf u.trees u.next is.forest u.next target c h.0, λ y apart. away-with_leaf u.trees u.next c y target other (h.1 y apart))
 
-  kept_removed : (n o : ℕ) (u : State) → IsLawful u → Apart n → parent_of u.trees n ≡ Some o → Kept u → Kept (applied (Remove n) u)
+  kept_removed : (n o : ℕ) (u : State) → IsValid u → Apart n → parent_of u.trees n ≡ Some o → Kept u → Kept (applied (Remove n) u)
   unfolding applied with_change changed trees_after
   kept_removed n o u is apart child h = (
     within-unlink u.trees u.next is.forest o n target child (h.1 n apart) h.0,
     λ y k. away-unlink u.trees n y target is.forest.distinct (h.1 n apart) (h.1 y k),
   )
 
-  kept_inserted : (p : ℕ) (b : Option ℕ) (n : ℕ) (u : State) → IsLawful u → Apart n → CanPut u.trees p b n → Kept u → Kept (applied (Insert p b n) u)
+  kept_inserted : (p : ℕ) (b : Option ℕ) (n : ℕ) (u : State) → IsValid u → Apart n → CanPut u.trees p b n → Kept u → Kept (applied (Insert p b n) u)
   unfolding applied with_change changed trees_after
   kept_inserted p b n u is apart can h = (
     within-link u.trees u.next is.forest p b n target can h.0,
@@ -60,7 +60,7 @@ module _ (f : Forest Content) (target : ℕ) where
 not_in : (n : ℕ) → (0 < n → ⊥) → n ≡ 0
 not_in n never = elim (none_or_some n) [ inl none ↦ none | inr some ↦ absurd (never some) ]
 
-target_stays : (s : State) → IsLawful s → (from : Point) (end target : ℕ) → may_extract s from end target ≡ true → IsWithin (stepped_all (tail_of s from end target) s).trees 0 target
+target_stays : (s : State) → IsValid s → (from : Point) (end target : ℕ) → may_extract s from end target ≡ true → IsWithin (stepped_all (tail_of s from end target) s).trees 0 target
 unfolding tail_of
 target_stays s is from end target may =
     (fit_steps IsCopy (Apart s.trees target) (λ _. Unit {0}) (λ c k. k) (Kept s.trees target)
@@ -98,7 +98,7 @@ target_stays s is from end target may =
 abbrev Holds : State → ℕ → ℕ → Type 0
 Holds u d l = IsWithin u.trees 0 l ⊎ IsWithin u.trees d l
 
-holds_insert : (u : State) (d x l : ℕ) → IsLawful u → is_made_edit (Insert d None x) (freed u) ≡ true → Holds u x l → Holds (applied (Insert d None x) u) d l
+holds_insert : (u : State) (d x l : ℕ) → IsValid u → is_made_edit (Insert d None x) (freed u) ≡ true → Holds u x l → Holds (applied (Insert d None x) u) d l
 unfolding applied with_change changed trees_after is_made_edit
 holds_insert u d x l is may h =
     let can = (inserts (freed u) d None x may).can in
@@ -108,13 +108,13 @@ holds_insert u d x l is may h =
     ]
 
 -- a removal and the insertion after it
-holds_pair : (u : State) (d x l : ℕ) → IsLawful u → is_made_edit (Remove x) (freed u) ≡ true → is_made_edit (Insert d None x) (freed (applied (Remove x) u)) ≡ true → Holds u d l → Holds (applied (Insert d None x) (applied (Remove x) u)) d l
+holds_pair : (u : State) (d x l : ℕ) → IsValid u → is_made_edit (Remove x) (freed u) ≡ true → is_made_edit (Insert d None x) (freed (applied (Remove x) u)) ≡ true → Holds u d l → Holds (applied (Insert d None x) (applied (Remove x) u)) d l
 unfolding applied with_change changed trees_after is_made_edit
 holds_pair u d x l is may_remove may_insert h =
     let f = u.trees in
     let once = is.forest.distinct in
     let t = removes (freed u) x may_remove in
-    let loose = lawful_applied (Remove x) u is may_remove in
+    let loose = valid_applied (Remove x) u is may_remove in
     let can = (inserts (freed (applied (Remove x) u)) d None x may_insert).can in
     let same : tree_of (applied (Remove x) u).trees x ≡ tree_of f x = tree_of-unlink f t.from x once t.child in
     elim (none_or_some (count_of (tree_of f x) l)) [
@@ -128,7 +128,7 @@ holds_pair u d x l is may_remove may_insert h =
       ]
     ]
 
-holds_carried : (d : ℕ) (xs : List ℕ) (u : State) (l : ℕ) → IsLawful u → are_possible (carried d xs) u ≡ true → Holds u d l → Holds (stepped_all (carried d xs) u) d l
+holds_carried : (d : ℕ) (xs : List ℕ) (u : State) (l : ℕ) → IsValid u → are_possible (carried d xs) u ≡ true → Holds u d l → Holds (stepped_all (carried d xs) u) d l
 unfolding carried stepped_all stepped are_possible
 holds_carried d [] u l is may h = h
 holds_carried d (x ∷ xs) u l is may h =
@@ -136,8 +136,8 @@ holds_carried d (x ∷ xs) u l is may h =
     let v = applied (Remove x) u in
     let p2 = and_parts (is_made_edit (Insert d None x) (freed v)) _ p1.1 in
     let w = applied (Insert d None x) v in
-    let is_v = lawful_applied (Remove x) u is p1.0 in
-    holds_carried d xs w l (lawful_applied (Insert d None x) v is_v p2.0) p2.1 (holds_pair u d x l is p1.0 p2.0 h)
+    let is_v = valid_applied (Remove x) u is p1.0 in
+    holds_carried d xs w l (valid_applied (Insert d None x) v is_v p2.0) p2.1 (holds_pair u d x l is p1.0 p2.0 h)
 
 stepped-append : (xs ys : List Step) (u : State) → stepped_all (xs ++ ys) u ≡ stepped_all ys (stepped_all xs u)
 unfolding stepped_all
@@ -158,9 +158,9 @@ module _ (f : Forest Content) (once : IsDistinct f) (from : Point) (l : ℕ) whe
   plain fuel c d n = tail_fits IsCopy (λ _. Unit {0}) (λ _. Unit {0}) f once 0 from (λ _. Unit {0}) (λ _ _ _ _ _. tt) (λ _ _ _ _. tt) (λ k _. is_copy f k) (λ _ _. tt) (λ _ _. tt) fuel c d n tt tt (omega arith)
 
   abbrev Inner : ℕ → ℕ → Type 0
-  Inner fuel n = (k : ℕ) (v : State) → IsLawful v → are_possible (tail_steps fuel f from k n (n + 1)) v ≡ true → v.next ≡ n + 1 → IsWithin v.trees 0 l → Holds (stepped_all (tail_steps fuel f from k n (n + 1)) v) n l
+  Inner fuel n = (k : ℕ) (v : State) → IsValid v → are_possible (tail_steps fuel f from k n (n + 1)) v ≡ true → v.next ≡ n + 1 → IsWithin v.trees 0 l → Holds (stepped_all (tail_steps fuel f from k n (n + 1)) v) n l
 
-  holds_tail : (fuel c d n : ℕ) (u : State) → IsLawful u → are_possible (tail_steps fuel f from c d n) u ≡ true → u.next ≡ n → IsWithin u.trees 0 l → Holds (stepped_all (tail_steps fuel f from c d n) u) d l
+  holds_tail : (fuel c d n : ℕ) (u : State) → IsValid u → are_possible (tail_steps fuel f from c d n) u ≡ true → u.next ≡ n → IsWithin u.trees 0 l → Holds (stepped_all (tail_steps fuel f from c d n) u) d l
   unfolding tail_steps stepped_all stepped are_possible made
   holds_tail zero c d n u is may next inside = inl inside
   holds_tail (suc fuel) c d n u is may next inside = elim (cases_Bool (eqb from.label c)) [
@@ -174,19 +174,19 @@ module _ (f : Forest Content) (once : IsDistinct f) (from : Point) (l : ℕ) whe
           let xs = tail_steps fuel f from k n (n + 1) in
           let ys = carried d (later (children_of f c) k) in
           let v = made (copy_of f k) u in
-          let is_v = lawful_copied (copy_of f k) u (is_copy f k) is in
+          let is_v = valid_copied (copy_of f k) u (is_copy f k) is in
           let parts = possible-append xs (Do (Insert d None n) ∷ ys) v may in
           let w = stepped_all xs v in
-          let is_w = lawful_steps xs v (plain fuel k n (n + 1)) parts.0 is_v in
+          let is_w = valid_steps xs v (plain fuel k n (n + 1)) parts.0 is_v in
           let tests = and_parts (is_made_edit (Insert d None n) (freed w)) _ parts.1 in
           let held = inner k v is_v parts.0 (ap (λ j. j + 1) next) (within-with_leaf u.trees u.next is.forest u.next l (copy_of f k) inside) in
           let put = holds_insert w d n l is_w tests.0 held in
           subst (λ z. Holds z d l) (sym (stepped-append xs (Do (Insert d None n) ∷ ys) v))
-          (holds_carried d (later (children_of f c) k) (applied (Insert d None n) w) l (lawful_applied (Insert d None n) w is_w tests.0) tests.1 put)
+          (holds_carried d (later (children_of f c) k) (applied (Insert d None n) w) l (valid_applied (Insert d None n) w is_w tests.0) tests.1 put)
 
 -- ---- the action
 
-pub document_extracted : (from : Point) (end target : ℕ) (s : State) (l : ℕ) → IsLawful s → IsWithin s.trees 0 l → IsWithin (extracted from end target s).trees 0 l
+pub document_extracted : (from : Point) (end target : ℕ) (s : State) (l : ℕ) → IsValid s → IsWithin s.trees 0 l → IsWithin (extracted from end target s).trees 0 l
 unfolding tail_of
 document_extracted from end target s l is inside =
     either_extracted (λ u. IsWithin u.trees 0 l) from end target s
@@ -194,13 +194,13 @@ document_extracted from end target s l is inside =
     let xs = tail_of s from end target in
     let tests = extract_tests s from end target may in
     let u = stepped_all xs s in
-    let is_u = lawful_steps xs s (plain s.trees is.forest.distinct from l (document_size s.trees) end target s.next) (tail_possible s is from end target may) is in
+    let is_u = valid_steps xs s (plain s.trees is.forest.distinct from l (document_size s.trees) end target s.next) (tail_possible s is from end target may) is in
     elim (holds_tail s.trees is.forest.distinct from l (document_size s.trees) end target s.next s is (tail_possible s is from end target may) refl inside) [
       | inl still ↦ still
       | inr below ↦ within_trans u.trees 0 target l is_u.forest.distinct (target_stays s is from end target may) below
     ]))
     inside
 
-pub tail_stays : (s : State) (from : Point) (end target l : ℕ) → IsLawful s → IsWithin s.trees 0 l → IsWithin (acted (Extract from end target) s).trees 0 l
+pub tail_stays : (s : State) (from : Point) (end target l : ℕ) → IsValid s → IsWithin s.trees 0 l → IsWithin (acted (Extract from end target) s).trees 0 l
 unfolding acted
 tail_stays s from end target l is inside = document_extracted from end target s l is inside

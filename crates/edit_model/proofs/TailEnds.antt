@@ -16,7 +16,7 @@ use Rattle.edit_model.specs.State.{State}
 use Rattle.edit_model.specs.Edit.{Insert}
 use Rattle.edit_model.specs.Tail.{Copy, Do, carried, later, copy_of, tail_steps, document_size}
 use Rattle.edit_model.specs.Action.{tail_of, may_extract}
-use Rattle.edit_model.specs.Lawful.{IsLawful}
+use Rattle.edit_model.specs.Valid.{IsValid}
 use Rattle.edit_model.proofs.Trees.{none_or_some, tree_of-inside}
 use Rattle.edit_model.proofs.TailPlan.{parent_among, find_some}
 use Rattle.edit_model.proofs.TailSteps.{extract_tests}
@@ -77,7 +77,7 @@ module _ (f : Forest Content) (once : IsDistinct f) (from : Point) where
           let less = size_child c k (parent_among f once c k r.1) in
           ap (λ xs. Copy (copy_of f k) ∷ (xs ++ (Do (Insert d None n) ∷ carried d (later (children_of f c) k)))) (inner k (omega (arith, less, low)) (omega (arith, less, high)))
 
-pub tails_end : (s : State) (from : Point) (end target fuel : ℕ) → IsLawful s → may_extract s from end target ≡ true → document_size s.trees ≤ fuel → tail_steps fuel s.trees from end target s.next ≡ tail_of s from end target
+pub tails_end : (s : State) (from : Point) (end target fuel : ℕ) → IsValid s → may_extract s from end target ≡ true → document_size s.trees ≤ fuel → tail_steps fuel s.trees from end target s.next ≡ tail_of s from end target
 unfolding tail_of
 tails_end s from end target fuel is may enough =
     let f = s.trees in

@@ -13,7 +13,7 @@ use Rattle.edit_model.specs.State.{State}
 use Rattle.edit_model.specs.Edit.{Insert, Remove, trees_after, changed, with_change}
 use Rattle.edit_model.specs.Tail.{document_size}
 use Rattle.edit_model.specs.Action.{made, applied, stepped_all, tail_of, may_extract}
-use Rattle.edit_model.specs.Lawful.{IsLawful}
+use Rattle.edit_model.specs.Valid.{IsValid}
 use Rattle.edit_model.proofs.Trees.{none_or_some, tree_of-with_leaf_other, within_trans}
 use Rattle.edit_model.proofs.Islands.{link_elsewhere, unlink_elsewhere}
 use Rattle.edit_model.proofs.TailPossible.{tail_possible}
@@ -33,14 +33,14 @@ module _ (T : Forest Content) (l : ℕ) where
   abbrev Takes : ℕ → Type 0
   Takes p = count_of T p ≡ 0
 
-  has_made : (c : Content) (u : State) → IsLawful u → Has u → Has (made c u)
+  has_made : (c : Content) (u : State) → IsValid u → Has u → Has (made c u)
   unfolding made
   has_made c u is h = (
     tree_of-with_leaf_other u.trees u.next l c (λ e. (let b = is.forest.below l h.1 in omega (arith, b, e))) ∙ h.0,
     omega (arith, h.1, total-join (λ m _. cond (eqb m l) 1 0) u.trees (Tree u.next c Nil Nil)),
   )
 
-  has_removed : (n o : ℕ) (u : State) → IsLawful u → Moves n → parent_of u.trees n ≡ Some o → Has u → Has (applied (Remove n) u)
+  has_removed : (n o : ℕ) (u : State) → IsValid u → Moves n → parent_of u.trees n ≡ Some o → Has u → Has (applied (Remove n) u)
   unfolding applied with_change changed trees_after
   has_removed n o u is moves child h =
       let f = u.trees in
@@ -56,14 +56,14 @@ module _ (T : Forest Content) (l : ℕ) where
         omega (arith, h.1, total-unlink (λ m _. cond (eqb m l) 1 0) f n),
       )
 
-  has_inserted : (p : ℕ) (b : Option ℕ) (n : ℕ) (u : State) → IsLawful u → Takes p → CanPut u.trees p b n → Has u → Has (applied (Insert p b n) u)
+  has_inserted : (p : ℕ) (b : Option ℕ) (n : ℕ) (u : State) → IsValid u → Takes p → CanPut u.trees p b n → Has u → Has (applied (Insert p b n) u)
   unfolding applied with_change changed trees_after
   has_inserted p b n u is takes can h = (
     link_elsewhere u.trees p b n l is.forest.distinct can h.1 (ap (λ g. count_of g p) h.0 ∙ takes) ∙ h.0,
     omega (arith, h.1, total-link u.trees p b n is.forest.distinct can (λ m _. cond (eqb m l) 1 0)),
   )
 
-  pub tree_extracted : (s : State) → IsLawful s → (from : Point) (end target : ℕ) → may_extract s from end target ≡ true → tree_of s.trees l ≡ T → 0 < count_of s.trees l → count_of T from.label ≡ 0 → count_of T target ≡ 0 → tree_of (stepped_all (tail_of s from end target) s).trees l ≡ T
+  pub tree_extracted : (s : State) → IsValid s → (from : Point) (end target : ℕ) → may_extract s from end target ≡ true → tree_of s.trees l ≡ T → 0 < count_of s.trees l → count_of T from.label ≡ 0 → count_of T target ≡ 0 → tree_of (stepped_all (tail_of s from end target) s).trees l ≡ T
   unfolding tail_of
   tree_extracted s is from end target may same there from_out target_out =
       (fit_steps IsCopy Moves Takes (λ c k. k) Has (λ c u is' _ h. has_made c u is' h) (λ n o u is' moves child h. has_removed n o u is' moves child h) (λ p b n u is' takes _ can h. has_inserted p b n u is' takes can h)

@@ -6,10 +6,10 @@ use Rattle.dom_model.specs.Forest.{Forest, count_of, tree_of, preorder, parent_o
 use Rattle.dom_model.proofs.Totals.{total-without}
 use Rattle.dom_model.proofs.Within.{within_step}
 use Rattle.live_range.specs.declared.places.Point.{Point}
-use Rattle.live_range.specs.Edit as range
-use Rattle.live_range.specs.Edit.{adjusted, has_label}
+use Rattle.live_range.specs.PointsEdit as range
+use Rattle.live_range.specs.PointsEdit.{adjusted, has_label}
 use Rattle.edit_model.specs.State.{State}
-use Rattle.edit_model.specs.Lawful.{IsLawful}
+use Rattle.edit_model.specs.Valid.{IsValid}
 use Rattle.edit_model.specs.Outside.{hollowed}
 use Rattle.edit_model.proofs.Trees.{none_or_some}
 use Rattle.edit_model.proofs.Documents.{within_inside, within_below}
@@ -23,12 +23,12 @@ module _ (h : ℕ) (base : Forest Content) where
   abbrev pub StandsApart : ℕ → Type 0
   StandsApart l = (0 < count_of base l) × (l ≢ h)
 
-  pub still_inserted : (p i : ℕ) (x : Point) → Takes h base p → StandsApart x.label → adjusted (range.Inserted p i) x ≡ x
+  pub still_inserted : (p i : ℕ) (x : Point) → Takes h base p → StandsApart x.label → adjusted (range.Insert p i) x ≡ x
   still_inserted p i x takes apart =
       let off : eqb x.label p ≡ false = ne_eqb x.label p (λ e. (let same = ap (count_of base) e in omega (arith, takes, apart.0, same))) in
       rw off refl
 
-  module _ (u : State) (is : IsLawful u) (b : Base h base u) (n o : ℕ) (moves : Moves h base n) (child : parent_of u.trees n ≡ Some o) where
+  module _ (u : State) (is : IsValid u) (b : Base h base u) (n o : ℕ) (moves : Moves h base n) (child : parent_of u.trees n ≡ Some o) where
     document : Forest Content
     document = tree_of u.trees 0
 

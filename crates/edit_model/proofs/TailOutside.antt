@@ -13,7 +13,7 @@ use Rattle.edit_model.specs.Confined.{is_editable_for, is_made}
 use Rattle.edit_model.specs.Edit.{Insert, Remove, trees_after, changed, with_change}
 use Rattle.edit_model.specs.Tail.{document_size}
 use Rattle.edit_model.specs.Action.{made, applied, stepped_all, tail_of, may_extract, extracted}
-use Rattle.edit_model.specs.Lawful.{IsLawful}
+use Rattle.edit_model.specs.Valid.{IsValid}
 use Rattle.edit_model.specs.Outside.{hollowed, outside_by, outside, IsConfined}
 use Rattle.edit_model.proofs.CommandParts.{command_steps}
 use Rattle.edit_model.proofs.Tests.{label_is}
@@ -48,17 +48,17 @@ module _ (h : ℕ) (base : Forest Content) where
   abbrev pub Takes : ℕ → Type 0
   Takes p = count_of base p ≡ 0
 
-  pub base_made : (c : Content) (u : State) → IsLawful u → Base u → Base (made c u)
+  pub base_made : (c : Content) (u : State) → IsValid u → Base u → Base (made c u)
   unfolding made
   base_made c u is b = ap (λ g. hollowed g h) (document-with_leaf u.trees u.next is.forest u.next c) ∙ b
 
-  pub base_removed : (n o : ℕ) (u : State) → IsLawful u → Moves n → parent_of u.trees n ≡ Some o → Base u → Base (applied (Remove n) u)
+  pub base_removed : (n o : ℕ) (u : State) → IsValid u → Moves n → parent_of u.trees n ≡ Some o → Base u → Base (applied (Remove n) u)
   unfolding applied with_change changed trees_after
   base_removed n o u is out child b =
       ap (λ g. hollowed g h) (document-unlink u.trees u.next is.forest o n child)
       ∙ (hollowed-without (tree_of u.trees 0) h n (ap (λ g. count_of g n) b ∙ out.0) ∙ b)
 
-  pub base_inserted : (p : ℕ) (b : Option ℕ) (n : ℕ) (u : State) → IsLawful u → Takes p → CanPut u.trees p b n → Base u → Base (applied (Insert p b n) u)
+  pub base_inserted : (p : ℕ) (b : Option ℕ) (n : ℕ) (u : State) → IsValid u → Takes p → CanPut u.trees p b n → Base u → Base (applied (Insert p b n) u)
   unfolding applied with_change changed trees_after
   base_inserted p before n u is out can b =
       ap (λ g. hollowed g h) (document-link u.trees u.next is.forest p before n can)
@@ -73,7 +73,7 @@ root_there f n l held = elim (none_or_some (count_of f n)) [
   | inl none ↦ absurd (let empty = tree_of_absent f n none in let held' = rw empty at held in omega (arith, held'))
 ]
 
-module _ (s : State) (is : IsLawful s) (confined : IsConfined s) (from : Point) (end target : ℕ) (may : may_extract s from end target ≡ true) where
+module _ (s : State) (is : IsValid s) (confined : IsConfined s) (from : Point) (end target : ℕ) (may : may_extract s from end target ≡ true) where
   tests : Extracts s from end target
   tests = extract_tests s from end target may
 
@@ -132,7 +132,7 @@ module _ (s : State) (is : IsLawful s) (confined : IsConfined s) (from : Point) 
         ap (λ o. outside_by o u.trees) ((command_steps (tail_of s from end target) s).host ∙ host)
         ∙ (base_after ∙ ap (λ o. outside_by o s.trees) (sym host))
 
-pub outside-extracted : (from : Point) (end target : ℕ) (s : State) → IsLawful s → IsConfined s → outside (extracted from end target s) ≡ outside s
+pub outside-extracted : (from : Point) (end target : ℕ) (s : State) → IsValid s → IsConfined s → outside (extracted from end target s) ≡ outside s
 outside-extracted from end target s is confined =
     either_extracted (λ u. outside u ≡ outside s) from end target s
     (λ may. (let k = tail_host s is confined from end target may in outside_after s is confined from end target may k.0 k.1 k.2))

@@ -68,7 +68,7 @@ Fits K N D (Do (Replace n at count put)) = ⊥
 Fits K N D (Do (Set n name value)) = ⊥
 Fits K N D (Do (Unset n name)) = ⊥
 
--- what a copy is to a lawful state
+-- what a copy is to a valid state
 abbrev pub IsCopy : Content → Type 0
 IsCopy c = (c ≡ Document → ⊥) × (char_length c < 2 ^ 32)
 

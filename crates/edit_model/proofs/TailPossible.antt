@@ -21,12 +21,12 @@ use Rattle.edit_model.specs.Edit.{Insert, Remove, is_made_edit, trees_after, cha
 use Rattle.edit_model.specs.Tail.{Step, Copy, Do, carried, later, copy_of, tail_steps, document_size}
 use Rattle.edit_model.specs.Action.{made, applied, stepped, stepped_all, tail_of, may_extract}
 use Rattle.edit_model.specs.Possible.{freed, are_possible}
-use Rattle.edit_model.specs.Lawful.{IsLawful}
+use Rattle.edit_model.specs.Valid.{IsValid}
 use Rattle.edit_model.proofs.Tests.{parent_there}
 use Rattle.edit_model.proofs.Trees.{none_or_some, tree_of-with_leaf_other, within_trans}
 use Rattle.edit_model.proofs.Forests.{can_go, parent_at-unlink, fresh}
 use Rattle.edit_model.proofs.CommandParts.{command_steps}
-use Rattle.edit_model.proofs.LawfulParts.{lawful_applied, lawful_copied, lawful_steps}
+use Rattle.edit_model.proofs.ValidParts.{valid_applied, valid_copied, valid_steps}
 use Rattle.edit_model.proofs.TailPlan.{AllOf, Fits, IsCopy, is_copy, tail_fits, parent_among, find_some}
 use Rattle.edit_model.proofs.TailSteps.{Extracts, extract_tests}
 use Rattle.edit_model.proofs.TailRuns.{fit_steps}
@@ -109,7 +109,7 @@ later_none (x ∷ xs) k few = elim (eqb_tells x k) [
 
 -- ---- a list of nodes that go
 
-carried_possible : (d : ℕ) (xs : List ℕ) (u : State) → IsLawful u → u.keeping ≡ false → is_parent_at u.trees d ≡ true → ((x : ℕ) → 0 < times xs x → (o : ℕ) × (parent_of u.trees x ≡ Some o) × (count_of (tree_of u.trees x) d ≡ 0)) → ((x : ℕ) → times xs x ≤ 1) → are_possible (carried d xs) u ≡ true
+carried_possible : (d : ℕ) (xs : List ℕ) (u : State) → IsValid u → u.keeping ≡ false → is_parent_at u.trees d ≡ true → ((x : ℕ) → 0 < times xs x → (o : ℕ) × (parent_of u.trees x ≡ Some o) × (count_of (tree_of u.trees x) d ≡ 0)) → ((x : ℕ) → times xs x ≤ 1) → are_possible (carried d xs) u ≡ true
 unfolding carried are_possible stepped applied with_change changed trees_after
 carried_possible d [] u is keeps parent nodes few = refl
 carried_possible d (x ∷ xs) u is keeps parent nodes few =
@@ -120,12 +120,12 @@ carried_possible d (x ∷ xs) u is keeps parent nodes few =
     let o = me.0 in
     let may_remove = possible_remove x o u keeps me.1 in
     let v = applied (Remove x) u in
-    let is_v = lawful_applied (Remove x) u is may_remove in
+    let is_v = valid_applied (Remove x) u is may_remove in
     let can : CanPut (unlink f x) d None x = can_go f u.next is.forest o x d None me.1 me.2 parent (parent_there f d parent) tt in
     let parent_v : is_parent_at (unlink f x) d ≡ true = parent_at-unlink f u.next is.forest o x d me.1 parent in
     let may_insert = possible_insert d x v can parent_v in
     let w = applied (Insert d None x) v in
-    let is_w = lawful_applied (Insert d None x) v is_v may_insert in
+    let is_w = valid_applied (Insert d None x) v is_v may_insert in
     let less : (y : ℕ) → 0 < times xs y → x ≢ y = λ y some e. (
     let most = few x in
     let most' = rw own at most in
@@ -159,7 +159,7 @@ module _ (f : Forest Content) (once : IsDistinct f) (next : ℕ) (low : (l : ℕ
 
   -- what stands below c is as it was, and d can take it
   record Begins (c d n : ℕ) (u : State) : Type 0 where
-    lawful : IsLawful u
+    valid : IsValid u
     keeping : u.keeping ≡ false
     known : 0 < count_of f c
     later_labels : next ≤ n
@@ -207,7 +207,7 @@ module _ (f : Forest Content) (once : IsDistinct f) (next : ℕ) (low : (l : ℕ
     no_other m x (inl (inside, off)) held never e = never (subst (λ j. IsWithin f k j) e inside)
     no_other m x (inr more) held never e = let b = known_within c x held in omega (arith, b, more, e, high)
 
-    between_made : (content : Content) (z : State) → IsLawful z → Between c k d n z → Between c k d n (made content z)
+    between_made : (content : Content) (z : State) → IsValid z → Between c k d n z → Between c k d n (made content z)
     unfolding made
     between_made content z is h =
         let new = fresh z.trees z.next is.forest in
@@ -221,7 +221,7 @@ module _ (f : Forest Content) (once : IsDistinct f) (next : ℕ) (low : (l : ℕ
           same = λ x inside other never. parent_of-with_leaf z.trees z.next content new x ∙ h.same x inside other never;
         }
 
-    between_removed : (m o : ℕ) (z : State) → IsLawful z → Goes k (n + 1) m → parent_of z.trees m ≡ Some o → Between c k d n z → Between c k d n (applied (Remove m) z)
+    between_removed : (m o : ℕ) (z : State) → IsValid z → Goes k (n + 1) m → parent_of z.trees m ≡ Some o → Between c k d n z → Between c k d n (applied (Remove m) z)
     unfolding applied with_change changed trees_after
     between_removed m o z is goes up h =
         let g = z.trees in
@@ -235,7 +235,7 @@ module _ (f : Forest Content) (once : IsDistinct f) (next : ℕ) (low : (l : ℕ
           same = λ x inside other never. parent-unlink_other g o m x once' up (no_other m x goes inside never) ∙ h.same x inside other never;
         }
 
-    between_inserted : (p : ℕ) (b : Option ℕ) (m : ℕ) (z : State) → IsLawful z → Goes k (n + 1) m → CanPut z.trees p b m → Between c k d n z → Between c k d n (applied (Insert p b m) z)
+    between_inserted : (p : ℕ) (b : Option ℕ) (m : ℕ) (z : State) → IsValid z → Goes k (n + 1) m → CanPut z.trees p b m → Between c k d n z → Between c k d n (applied (Insert p b m) z)
     unfolding applied with_change changed trees_after
     between_inserted p b m z is goes can h =
         let g = z.trees in
@@ -249,7 +249,7 @@ module _ (f : Forest Content) (once : IsDistinct f) (next : ℕ) (low : (l : ℕ
           same = λ x inside other never. parent-link_other g p b m x once' can (no_other m x goes inside never) ∙ h.same x inside other never;
         }
 
-    between_after : (fuel : ℕ) (v : State) → IsLawful v → are_possible (tail_steps fuel f from k n (n + 1)) v ≡ true → Between c k d n v → Between c k d n (stepped_all (tail_steps fuel f from k n (n + 1)) v)
+    between_after : (fuel : ℕ) (v : State) → IsValid v → are_possible (tail_steps fuel f from k n (n + 1)) v ≡ true → Between c k d n v → Between c k d n (stepped_all (tail_steps fuel f from k n (n + 1)) v)
     between_after fuel v is may h =
         fit_steps IsCopy (Goes k (n + 1)) (λ _. Unit {0}) (λ _ q. q) (Between c k d n)
         (λ content z is' _ q. between_made content z is' q) (λ m o z is' goes up q. between_removed m o z is' goes up q) (λ p b m z is' _ goes can q. between_inserted p b m z is' goes can q)
@@ -269,11 +269,11 @@ module _ (f : Forest Content) (once : IsDistinct f) (next : ℕ) (low : (l : ℕ
     begins_below : (u : State) → Begins c d n u → Begins k n (n + 1) (made (copy_of f k) u)
     unfolding made copy_of
     begins_below u h =
-        let is = h.lawful in
+        let is = h.valid in
         let new = fresh u.trees u.next is.forest in
         let at = h.drawn in
         record {
-          lawful = lawful_copied (copy_of f k) u (is_copy f k) is;
+          valid = valid_copied (copy_of f k) u (is_copy f k) is;
           keeping = h.keeping;
           known = (parent_count f k c once child).0;
           later_labels = omega (arith, high);
@@ -290,7 +290,7 @@ module _ (f : Forest Content) (once : IsDistinct f) (next : ℕ) (low : (l : ℕ
     between_begins : (u : State) → Begins c d n u → Between c k d n (made (copy_of f k) u)
     unfolding made
     between_begins u h =
-        let is = h.lawful in
+        let is = h.valid in
         let new = fresh u.trees u.next is.forest in
         let d_there = is.forest.below d (parent_there u.trees d h.parent) in
         let off : u.next ≢ d = λ e. omega (arith, d_there, e) in
@@ -315,7 +315,7 @@ module _ (f : Forest Content) (once : IsDistinct f) (next : ℕ) (low : (l : ℕ
   unfolding tail_steps are_possible stepped_all stepped applied with_change changed trees_after
   possible_tail zero c d n u h = refl
   possible_tail (suc fuel) c d n u h = elim (cases_Bool (eqb from.label c)) [
-    | inl t ↦ rw t (carried_possible d (drop from.offset (children_of f c)) u h.lawful h.keeping h.parent own_children (λ x. (let most = children_once f once c x in omega (arith, most, times-drop from.offset (children_of f c) x))))
+    | inl t ↦ rw t (carried_possible d (drop from.offset (children_of f c)) u h.valid h.keeping h.parent own_children (λ x. (let most = children_once f once c x in omega (arith, most, times-drop from.offset (children_of f c) x))))
     | inr t ↦ rw t (toward (λ k v. possible_tail fuel k n (n + 1) v) (child_toward f c from.label) refl)
   ]
     where
@@ -335,10 +335,10 @@ module _ (f : Forest Content) (once : IsDistinct f) (next : ℕ) (low : (l : ℕ
           let below = begins_below c k d n h.known child h.later_labels u h in
           let possible = inner k v below in
           let w = stepped_all xs v in
-          let between = between_after c k d n h.known child h.later_labels fuel v below.lawful possible (between_begins c k d n h.known child h.later_labels u h) in
-          let is_w = lawful_steps xs v (plain fuel k n (n + 1)) possible below.lawful in
+          let between = between_after c k d n h.known child h.later_labels fuel v below.valid possible (between_begins c k d n h.known child h.later_labels u h) in
+          let is_w = valid_steps xs v (plain fuel k n (n + 1)) possible below.valid in
           let keeps : w.keeping ≡ false = (command_steps xs v).keeping ∙ below.keeping in
-          let inner_n : 0 < n = (let z = below.lawful.forest.below 0 below.lawful.forest.document in let q = h.lawful.forest.below 0 h.lawful.forest.document in omega (arith, q, h.drawn)) in
+          let inner_n : 0 < n = (let z = below.valid.forest.below 0 below.valid.forest.document in let q = h.valid.forest.below 0 h.valid.forest.document in omega (arith, q, h.drawn)) in
           let can : CanPut w.trees d None n = record {
             parent = parent_there w.trees d between.parent;
             node = between.there;
@@ -349,7 +349,7 @@ module _ (f : Forest Content) (once : IsDistinct f) (next : ℕ) (low : (l : ℕ
           } in
           let put = possible_insert d n w can between.parent in
           let z = applied (Insert d None n) w in
-          let is_z = lawful_applied (Insert d None n) w is_w put in
+          let is_z = valid_applied (Insert d None n) w is_w put in
           let once_w = is_w.forest.distinct in
           possible-join xs (Do (Insert d None n) ∷ carried d (later (children_of f c) k)) v possible
           (both put
@@ -377,12 +377,12 @@ module _ (f : Forest Content) (once : IsDistinct f) (next : ℕ) (low : (l : ℕ
 
 -- ---- the action
 
-pub tail_possible : (s : State) → IsLawful s → (from : Point) (end target : ℕ) → may_extract s from end target ≡ true → are_possible (tail_of s from end target) s ≡ true
+pub tail_possible : (s : State) → IsValid s → (from : Point) (end target : ℕ) → may_extract s from end target ≡ true → are_possible (tail_of s from end target) s ≡ true
 unfolding tail_of
 tail_possible s is from end target may =
     possible_tail s.trees is.forest.distinct s.next is.forest.below from (document_size s.trees) end target s.next s
     (record {
-      lawful = is;
+      valid = is;
       keeping = tests.keeping;
       known = end_there;
       later_labels = omega arith;

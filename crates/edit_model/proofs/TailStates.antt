@@ -6,7 +6,7 @@ use Rattle.dom_model.specs.Editing.{is_true_state, is_false_state, editing_host,
 use Rattle.dom_model.specs.Forest.{Forest, is_label, count_of, parent_of, content_of, IsWithin}
 use Rattle.dom_model.proofs.Totals.{total-without}
 use Rattle.dom_model.proofs.Links.{parent_count}
-use Rattle.edit_model.specs.Lawful.{IsForest}
+use Rattle.edit_model.specs.Valid.{IsForest}
 use Rattle.edit_model.proofs.Tests.{label_is}
 use Rattle.edit_model.proofs.Hollow.{editable_below}
 use Rattle.edit_model.proofs.Islands.{host_within}

@@ -18,13 +18,13 @@ use Rattle.edit_model.specs.Edit.{Edit, Insert, Remove, Move, Replace, Set, Unse
 use Rattle.edit_model.specs.Action as action
 use Rattle.edit_model.specs.Action.{Action, made, words_content, extended, acted}
 use Rattle.edit_model.specs.Run.{Reaches, here, onward}
-use Rattle.edit_model.specs.Lawful.{IsLawful}
+use Rattle.edit_model.specs.Valid.{IsValid}
 use Rattle.edit_model.proofs.CommandParts.{command_along}
 use Rattle.edit_model.proofs.Tests.{inserts, removes, goes, parent_there}
 use Rattle.edit_model.proofs.Forests.{forest-unlink, can_go, fresh}
 use Rattle.edit_model.proofs.Documents.{within-link, within-unlink, within-with_leaf, within-revised, within-move}
 use Rattle.edit_model.proofs.Made.{inside_goes}
-use Rattle.edit_model.proofs.LawfulRuns.{lawful_along}
+use Rattle.edit_model.proofs.ValidRuns.{valid_along}
 use Rattle.edit_model.proofs.Trees.{none_or_some}
 use Rattle.edit_model.proofs.Commands.{nothing_kept}
 use Rattle.edit_model.proofs.OutsideRuns.{trees-extended, trees-selected, trees-grown, trees-sent, trees-scratched}
@@ -88,7 +88,7 @@ module _ (l : ℕ) (name : List ℕ) (thing : is_thing name ≡ true) where
   abbrev IsThere : Forest Content → Type 0
   IsThere f = IsWithin f 0 l × (name_of f l ≡ Some name)
 
-  there_after : (e : Edit) (s : State) → IsLawful s → s.keeping ≡ true → is_made_edit e s ≡ true → IsThere s.trees → IsThere (trees_after e s.trees)
+  there_after : (e : Edit) (s : State) → IsValid s → s.keeping ≡ true → is_made_edit e s ≡ true → IsThere s.trees → IsThere (trees_after e s.trees)
   unfolding is_made_edit trees_after
   there_after (Insert p b n) s is keeps may h =
       let t = inserts s p b n may in
@@ -111,12 +111,12 @@ module _ (l : ℕ) (name : List ℕ) (thing : is_thing name ≡ true) where
   there_after (Set n own value) s is keeps may h = (within-revised s.trees s.next is.forest n l (with_set own value) h.0, name_of-revised s.trees n l (with_set own value) (name-set own value) ∙ h.1)
   there_after (Unset n own) s is keeps may h = (within-revised s.trees s.next is.forest n l (with_unset own) h.0, name_of-revised s.trees n l (with_unset own) (name-unset own) ∙ h.1)
 
-  there_made : (c : Content) (s : State) → IsLawful s → IsThere s.trees → IsThere (with_leaf s.trees s.next c)
+  there_made : (c : Content) (s : State) → IsValid s → IsThere s.trees → IsThere (with_leaf s.trees s.next c)
   there_made c s is h =
       let off : s.next ≢ l = λ e. (let b = is.forest.below l (omega (arith, h.0, total-without (λ m _. cond (eqb m l) 1 0) s.trees 0)) in omega (arith, b, e)) in
       (within-with_leaf s.trees s.next is.forest s.next l c h.0, ap (option_and_then name_in) (content_of-with_leaf_other s.trees s.next c l (fresh s.trees s.next is.forest) off) ∙ h.1)
 
-  there_acted : (a : Action) (s : State) → IsLawful s → s.keeping ≡ true → IsThere s.trees → IsThere (acted a s).trees
+  there_acted : (a : Action) (s : State) → IsValid s → s.keeping ≡ true → IsThere s.trees → IsThere (acted a s).trees
   unfolding acted made extended changed
   there_acted (action.Change e) s is keeps h = elim (cases_Bool (is_made_edit e s)) [
     | inl may ↦ subst IsThere (sym (trees_made e s may)) (there_after e s is keeps may h)
@@ -134,6 +134,6 @@ module _ (l : ℕ) (name : List ℕ) (thing : is_thing name ≡ true) where
   there_acted (action.Flag flags) s is keeps h = h
   there_acted (action.Extract from end target) s is keeps h = subst (λ t. IsThere t.trees) (sym (extracted_off from end target s keeps)) h
 
-  pub things_stay : {s t : State} → Reaches s t → IsLawful s → s.keeping ≡ true → IsWithin s.trees 0 l → name_of s.trees l ≡ Some name → IsWithin t.trees 0 l × (name_of t.trees l ≡ Some name)
+  pub things_stay : {s t : State} → Reaches s t → IsValid s → s.keeping ≡ true → IsWithin s.trees 0 l → name_of s.trees l ≡ Some name → IsWithin t.trees 0 l × (name_of t.trees l ≡ Some name)
   things_stay here is keeps inside named = (inside, named)
-  things_stay (onward {t = t} q a) is keeps inside named = there_acted a t (lawful_along q is) ((command_along q).keeping ∙ keeps) (things_stay q is keeps inside named)
+  things_stay (onward {t = t} q a) is keeps inside named = there_acted a t (valid_along q is) ((command_along q).keeping ∙ keeps) (things_stay q is keeps inside named)

@@ -8,7 +8,7 @@ use Rattle.dom_model.specs.Forest.{with_leaf}
 use Rattle.html_names.specs.declared.commands.Command.{Command}
 use Rattle.live_range.specs.declared.places.Point.{Point}
 use Rattle.live_range.specs.declared.places.Pair.{Pair}
-use Rattle.live_range.specs.Edit as range
+use Rattle.live_range.specs.PointsEdit as range
 use Rattle.live_range.specs.LivePoints.{mapped}
 use Rattle.point_order.specs.PointOrder.{is_within, is_in_document}
 use Rattle.edit_model.specs.declared.settings.Setting.{Setting}

@@ -3,12 +3,13 @@ use Rattle.std.specs.Prelude.{ℕ, Bool, List, [], ◌∷◌, ◌++◌, length, 
 use Rattle.dom_model.specs.declared.Content.{Content}
 use Rattle.dom_model.specs.declared.Content.TheVariants.{Element, Words}
 use Rattle.dom_model.specs.AttributeList.{set_in, unset_in}
-use Rattle.dom_model.specs.Change.{Change, Loosen, Attach, Shift, Rewrite, Redress}
+use Rattle.dom_model.specs.Change.{Change}
+use Rattle.dom_model.specs.Change as change
 use Rattle.dom_model.specs.Contents.{chars_of, attributes_of}
 use Rattle.dom_model.specs.Forest.{Forest, parent_of, children_of, preorder, tree_of, link, unlink}
 use Rattle.dom_model.specs.Places.{place_in, index_of}
 use Rattle.dom_model.specs.Revised.{revised}
-use Rattle.live_range.specs.Edit as range
+use Rattle.live_range.specs.PointsEdit as range
 use Rattle.live_range.specs.LivePoints.{LivePoints, mapped}
 use Rattle.live_range.specs.ActiveRange.{range_changed}
 use Rattle.point_order.specs.PointOrder.{is_before}
@@ -60,15 +61,15 @@ abbrev pub parent_or_0 : Forest Content → ℕ → ℕ
 parent_or_0 f n = unwrap_or (parent_of f n) 0
 
 unfoldable pub points_after : Edit → Forest Content → LivePoints → LivePoints
-points_after (Insert p b n) f points = mapped (range.Inserted p (index_before f p b)) points
-points_after (Remove n) f points = mapped (range.Removed (preorder (tree_of f n)) (parent_or_0 f n) (index_of f n)) points
+points_after (Insert p b n) f points = mapped (range.Insert p (index_before f p b)) points
+points_after (Remove n) f points = mapped (range.Remove (preorder (tree_of f n)) (parent_or_0 f n) (index_of f n)) points
 points_after (Move n p b) f points =
     mapped
-    (range.Moved
+    (range.Move
     (record { label = parent_or_0 f n; offset = index_of f n })
     (record { label = p; offset = index_before (unlink f n) p b }))
     points
-points_after (Replace n at count put) f points = mapped (range.Replaced n at count (length put)) points
+points_after (Replace n at count put) f points = mapped (range.Replace n at count (length put)) points
 points_after (Set n name value) f points = points
 points_after (Unset n name) f points = points
 
@@ -94,12 +95,12 @@ is_made_edit (Unset n name) s = may_unset s n name
 
 -- the edit as a change with the whole contents afterwards
 unfoldable pub change_of : Edit → Forest Content → Change
-change_of (Insert p b n) f = Attach n p b
-change_of (Remove n) f = Loosen n
-change_of (Move n p b) f = Shift n p b
-change_of (Replace n at count put) f = Rewrite n (spliced (unwrap_or (chars_of f n) []) at count put)
-change_of (Set n name value) f = Redress n (set_in (unwrap_or (attributes_of f n) []) name value)
-change_of (Unset n name) f = Redress n (unset_in (unwrap_or (attributes_of f n) []) name)
+change_of (Insert p b n) f = change.Insert n p b
+change_of (Remove n) f = change.Remove n
+change_of (Move n p b) f = change.Move n p b
+change_of (Replace n at count put) f = change.SetText n (spliced (unwrap_or (chars_of f n) []) at count put)
+change_of (Set n name value) f = change.SetAttributes n (set_in (unwrap_or (attributes_of f n) []) name value)
+change_of (Unset n name) f = change.SetAttributes n (unset_in (unwrap_or (attributes_of f n) []) name)
 
 unfoldable pub with_change : Change → State → State
 with_change x s = record s { edits = s.edits ++ x ∷ [] }

@@ -3,7 +3,7 @@ use Rattle.std.specs.Prelude.{◌≡◌, ℕ, List, [], ◌∷◌, Option, Some,
 use Rattle.node_arena.specs.declared.NodeRef.{NodeRef}
 use Rattle.edit_model.specs.declared.settings.EditFault.{EditFault}
 use Rattle.edit_model.specs.declared.settings.EditFault.TheVariants.{Full, Memory}
-use Rattle.edit_model.specs.State.{State, IsOver}
+use Rattle.edit_model.specs.State.{State, IsPastCap}
 use Rattle.edit_model.specs.Run.{Run, final, value}
 
 -- the labels of a list of references
@@ -17,7 +17,7 @@ label_of (Some r) = Some r.label
 
 -- what a fault means: Full comes where the run ends past the cap, and want of memory at any time
 abbrev pub Fails : EditFault → State → Type 0
-Fails Full s = IsOver s
+Fails Full s = IsPastCap s
 Fails Memory s = Unit {0}
 
 -- The call's answer and the state after it are those of the run, where `shows` tells the run's answer of the call's; or it

@@ -8,7 +8,7 @@ use Rattle.dom_model.specs.Contents.{name_of, is_break}
 use Rattle.dom_model.specs.Forest.{Forest, tree_of, IsWithin}
 use Rattle.live_range.specs.declared.places.Pair.{Pair}
 use Rattle.live_range.specs.declared.places.Point.{Point}
-use Rattle.edit_model.specs.State.{State, IsOver}
+use Rattle.edit_model.specs.State.{State, IsPastCap}
 use Rattle.edit_model.specs.Kept.{bears_nothing, is_thing}
 use Rattle.edit_model.specs.Confined.{is_own}
 use Rattle.edit_model.specs.Edit.{Remove, Set, Unset, is_made_edit}
@@ -17,7 +17,7 @@ use Rattle.edit_model.specs.Action.{Action, Change, MakeElement, Extract, tail_o
 use Rattle.edit_model.specs.Possible.{are_possible}
 use Rattle.edit_model.specs.Run.{Reaches, here, onward, reaches_trans, edits_on, changes_on, nodes_on}
 use Rattle.edit_model.specs.History.{begun}
-use Rattle.edit_model.specs.Lawful.{IsLawful}
+use Rattle.edit_model.specs.Valid.{IsValid}
 use Rattle.edit_model.specs.Outside.{outside_by, outside, IsConfined, IsApart, is_island}
 
 -- ---- labels and the cap
@@ -28,7 +28,7 @@ LabelsRise = (s t : State) → Reaches s t → s.next ≤ t.next
 
 -- what is past the cap stays past it
 abbrev pub CapStaysPassed : Type 0
-CapStaysPassed = (s t : State) → Reaches s t → IsOver s → IsOver t
+CapStaysPassed = (s t : State) → Reaches s t → IsPastCap s → IsPastCap t
 
 -- ---- the list of edits
 
@@ -44,21 +44,21 @@ NodesAreListed = (s t : State) (r : Reaches s t) → t.made ≡ s.made ++ nodes_
 abbrev pub EditsFollow : Type 0
 EditsFollow = (s t u : State) (p : Reaches s t) (q : Reaches t u) → edits_on (reaches_trans p q) ≡ edits_on p ++ edits_on q
 
--- ---- lawful states
+-- ---- valid states
 
-abbrev pub LawfulStays : Type 0
-LawfulStays = (s t : State) → Reaches s t → IsLawful s → IsLawful t
+abbrev pub ValidStays : Type 0
+ValidStays = (s t : State) → Reaches s t → IsValid s → IsValid t
 
 -- ---- confinement
 
 -- what lies outside the affected host stays, its own attributes too, and nothing that the command made lies there
 abbrev pub OutsideStays : Type 0
-OutsideStays = (s t : State) → Reaches s t → IsLawful s → IsConfined s → (outside t ≡ outside s) × IsConfined t
+OutsideStays = (s t : State) → Reaches s t → IsValid s → IsConfined s → (outside t ≡ outside s) × IsConfined t
 
--- so it is with a command that begins in a lawful state, whatever its host
+-- so it is with a command that begins in a valid state, whatever its host
 abbrev pub CommandsAreConfined : Type 0
 CommandsAreConfined =
-    (s t : State) (host : Option ℕ) (keeping : Bool) → IsLawful s → Reaches (begun host keeping s) t → outside_by host t.trees ≡ outside_by host s.trees
+    (s t : State) (host : Option ℕ) (keeping : Bool) → IsValid s → Reaches (begun host keeping s) t → outside_by host t.trees ≡ outside_by host s.trees
 
 -- the name of a mark stays, and so do its points where both stand apart from the host
 abbrev pub KeepsMark : Option ℕ → Forest Content → List ℕ × Pair → List ℕ × Pair → Type 0
@@ -66,7 +66,7 @@ KeepsMark host f m n = (n.0 ≡ m.0) × (IsApart host f m.1.anchor.label → IsA
 
 -- the marks stay in their order, and one that stands apart stays where it is
 abbrev pub MarksStay : Type 0
-MarksStay = (s t : State) → Reaches s t → IsLawful s → IsConfined s → AllZip (KeepsMark s.host s.trees) s.points.marks t.points.marks
+MarksStay = (s t : State) → Reaches s t → IsValid s → IsConfined s → AllZip (KeepsMark s.host s.trees) s.points.marks t.points.marks
 
 -- a removal, at the state where it is made, of a tree that holds l below its root; the root is editable, made by the command or
 -- a br
@@ -84,7 +84,7 @@ TakesOutOn (onward {t = t} q a) l = TakesOutOn q l ⊎ TakesOut a t l
 -- document only with a tree that holds it
 abbrev pub IslandsStay : Type 0
 IslandsStay =
-    (s t : State) (h : ℕ) (keeping : Bool) → IsLawful s → is_host s.trees h ≡ true → (r : Reaches (begun (Some h) keeping s) t)
+    (s t : State) (h : ℕ) (keeping : Bool) → IsValid s → is_host s.trees h ≡ true → (r : Reaches (begun (Some h) keeping s) t)
     → (l : ℕ) → is_island s.trees h l ≡ true
     → (tree_of t.trees l ≡ tree_of s.trees l) × ((IsWithin t.trees 0 l → IsWithin t.trees h l) × (IsWithin s.trees 0 l → IsWithin t.trees 0 l ⊎ TakesOutOn r l))
 
@@ -112,7 +112,7 @@ TakesOwnOn (onward {t = t} q a) l = TakesOwnOn q l ⊎ TakesOwn a t l
 -- so an island leaves the document where no state of contenteditable is given or taken on the way
 abbrev pub IslandsLeave : Type 0
 IslandsLeave =
-    (s t : State) (h : ℕ) (keeping : Bool) → IsLawful s → is_host s.trees h ≡ true → (r : Reaches (begun (Some h) keeping s) t) → LeavesStatesOn r
+    (s t : State) (h : ℕ) (keeping : Bool) → IsValid s → is_host s.trees h ≡ true → (r : Reaches (begun (Some h) keeping s) t) → LeavesStatesOn r
     → (l : ℕ) → is_island s.trees h l ≡ true → IsWithin s.trees 0 l → IsWithin t.trees 0 l ⊎ TakesOwnOn r l
 
 -- ---- the extraction of a tail
@@ -120,17 +120,17 @@ IslandsLeave =
 -- the trees allow each step of a tail where it is taken
 abbrev pub TailsArePossible : Type 0
 TailsArePossible =
-    (s : State) (from : Point) (end target : ℕ) → IsLawful s → may_extract s from end target ≡ true → are_possible (tail_of s from end target) s ≡ true
+    (s : State) (from : Point) (end target : ℕ) → IsValid s → may_extract s from end target ≡ true → are_possible (tail_of s from end target) s ≡ true
 
 -- its steps end by themselves: they are the same however much deeper they might nest
 abbrev pub TailsEnd : Type 0
 TailsEnd =
-    (s : State) (from : Point) (end target fuel : ℕ) → IsLawful s → may_extract s from end target ≡ true
+    (s : State) (from : Point) (end target fuel : ℕ) → IsValid s → may_extract s from end target ≡ true
     → document_size s.trees ≤ fuel → tail_steps fuel s.trees from end target s.next ≡ tail_of s from end target
 
 -- and no node of the document leaves it
 abbrev pub TailsStay : Type 0
-TailsStay = (s : State) (from : Point) (end target l : ℕ) → IsLawful s → IsWithin s.trees 0 l → IsWithin (acted (Extract from end target) s).trees 0 l
+TailsStay = (s : State) (from : Point) (end target l : ℕ) → IsValid s → IsWithin s.trees 0 l → IsWithin (acted (Extract from end target) s).trees 0 l
 
 -- ---- keeping commands
 
@@ -150,6 +150,6 @@ KeptStays = (s t : State) (r : Reaches s t) → s.keeping ≡ true → TakesNoth
 -- so it loses no image and no rule of the document
 abbrev pub ThingsStay : Type 0
 ThingsStay =
-    (s t : State) → Reaches s t → IsLawful s → s.keeping ≡ true → (l : ℕ) (name : List ℕ)
+    (s t : State) → Reaches s t → IsValid s → s.keeping ≡ true → (l : ℕ) (name : List ℕ)
     → IsWithin s.trees 0 l → name_of s.trees l ≡ Some name → is_thing name ≡ true
     → IsWithin t.trees 0 l × (name_of t.trees l ≡ Some name)

@@ -12,7 +12,7 @@ pub mod Moves
 pub mod Compositions
 pub mod History
 pub mod Codes
-pub mod Lawful
+pub mod Valid
 pub mod Outside
 pub mod Laws
 pub mod Heights

@@ -26,5 +26,5 @@ pub record State : Type 0 where
   pub made : List (ℕ × Content)
 
 -- a label that isn't below the cap was drawn
-pub record IsOver (s : State) : Type 0 where
+pub record IsPastCap (s : State) : Type 0 where
   pub past : s.cap < s.next

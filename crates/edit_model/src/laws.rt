@@ -1,7 +1,7 @@
 //! The laws of editing. Each is the contract of a function that does nothing, over every way that actions lead from one
 //! state to another: the end of every run is reached so.
 
-ghost use Rattle.edit_model.specs.Laws.{LabelsRise, ThingsStay, CapStaysPassed, EditsAreListed, NodesAreListed, EditsFollow, LawfulStays, OutsideStays, CommandsAreConfined, IslandsLeave, IslandsStay, MarksStay, KeptStays, TailsArePossible, TailsEnd, TailsStay};
+ghost use Rattle.edit_model.specs.Laws.{LabelsRise, ThingsStay, CapStaysPassed, EditsAreListed, NodesAreListed, EditsFollow, ValidStays, OutsideStays, CommandsAreConfined, IslandsLeave, IslandsStay, MarksStay, KeptStays, TailsArePossible, TailsEnd, TailsStay};
 
 /// The next label never falls.
 pub fn labels_rise()
@@ -28,9 +28,9 @@ pub fn edits_follow()
     ensures { EditsFollow }
 {}
 
-/// Every action keeps a state lawful.
-pub fn lawful_stays()
-    ensures { LawfulStays }
+/// Every action keeps a state valid.
+pub fn valid_stays()
+    ensures { ValidStays }
 {}
 
 /// What lies outside the affected host stays.
@@ -38,7 +38,7 @@ pub fn outside_stays()
     ensures { OutsideStays }
 {}
 
-/// A command that begins in a lawful state changes nothing outside its affected host.
+/// A command that begins in a valid state changes nothing outside its affected host.
 pub fn commands_are_confined()
     ensures { CommandsAreConfined }
 {}

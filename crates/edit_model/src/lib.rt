@@ -13,7 +13,7 @@ mod settings;
 
 pub use laws::{
     cap_stays_passed, commands_are_confined, edits_are_listed, edits_follow, islands_leave,
-    islands_stay, kept_stays, labels_rise, lawful_stays, marks_stay, nodes_are_listed,
-    outside_stays, tails_are_possible, tails_end, tails_stay, things_stay,
+    islands_stay, kept_stays, labels_rise, marks_stay, nodes_are_listed, outside_stays,
+    tails_are_possible, tails_end, tails_stay, things_stay, valid_stays,
 };
 pub use settings::{EditFault, Flags, Setting};

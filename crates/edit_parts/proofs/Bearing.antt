@@ -2,7 +2,7 @@
 use Rattle.std.proofs.Common.{◌≡◌, ◌⊎◌, ℕ, ◌+◌, ◌<◌, ◌≤◌, Bool, true, false, not, ◌&&◌, List, [], ◌∷◌, ◌++◌, filter, Some, cond, refl, sym, ap, ◌∙◌, inl, inr, arith}
 use Rattle.std.specs.Prelude.{if◌then◌else◌}
 use Rattle.dom_model.specs.declared.Content.{Content}
-use Rattle.dom_model.specs.State.{State, IsLawful}
+use Rattle.dom_model.specs.ArenaState.{ArenaState, IsValid}
 use Rattle.dom_model.specs.Forest.{Forest, total, tree_of, content_of, count_of}
 use Rattle.dom_model.specs.Forest.Forest.{Nil, Tree}
 use Rattle.dom_model.specs.TreeOrder.{total_from, total_after}
@@ -63,7 +63,7 @@ pub some_in : (g : Forest Content) → 0 < total weight g → false ≡ bears_no
 unfolding bears_nothing kept_leaves
 some_in g h = elim (sum_tells g) [ inl (e, _) ↦ absurd (omega (arith, e, h)) | inr (_, t) ↦ sym t ]
 
-module _ (s : State) (law : IsLawful s) (top : NodeRef) (top_held : Holds s top) where
+module _ (s : ArenaState) (law : IsValid s) (top : NodeRef) (top_held : Holds s top) where
   -- a node of the tree bears something
   pub bearing : (at : Place) (c : Content) → IsIn s top at → content_of s.trees at.node.label ≡ Some c → weight at.node.label c ≡ 1 → total_from weight s.trees at.node.label ≡ total_from weight s.trees top.label → false ≡ bears_nothing (tree_of s.trees top.label)
   bearing at c place e one same =

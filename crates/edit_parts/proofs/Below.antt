@@ -5,7 +5,7 @@ use Rattle.std.specs.Option.{option_map, option_map_or}
 use Rattle.dom_model.specs.declared.Content.{Content}
 use Rattle.dom_model.specs.declared.Content.TheVariants.{Document, Element, Words, Remark}
 use Rattle.dom_model.specs.Contents.{words_length, char_length}
-use Rattle.dom_model.specs.State.{State, IsLawful}
+use Rattle.dom_model.specs.ArenaState.{ArenaState, IsValid}
 use Rattle.dom_model.specs.Forest.{Forest, Seen, IsDistinct, total, count_of, parent_of, first_of, next_of, children_of, content_of, depth_of, tree_of, IsWithin, join, first_in, tops, times}
 use Rattle.dom_model.specs.Forest.Forest.{Nil, Tree}
 use Rattle.dom_model.specs.Places.{levels}
@@ -113,7 +113,7 @@ module _ {C : Type 0} (f : Forest C) (once : IsDistinct f) where
   within_deep : (top l : ℕ) → 0 < count_of f top → IsWithin f top l → depth_of f top ≤ depth_of f l
   within_deep top l here h = within_deep_at top here (depth_of f l) l refl h
 
-module _ (s : State) (law : IsLawful s) (top : NodeRef) (top_held : Holds s top) where
+module _ (s : ArenaState) (law : IsValid s) (top : NodeRef) (top_held : Holds s top) where
   abbrev f : Forest Content
   f = s.trees
 

@@ -5,7 +5,7 @@ use Rattle.std.specs.Option.{option_map}
 use Rattle.std.proofs.lemmas.Bool.Decides.{eqb_tells}
 use Rattle.live_range.specs.declared.places.Point.{Point}
 use Rattle.live_range.specs.declared.places.Pair.{Pair}
-use Rattle.live_range.specs.Edit.{Edit, Inserted, Removed, Grown, adjusted, adjusted_pair, has_label}
+use Rattle.live_range.specs.PointsEdit.{PointsEdit, Insert, Remove, Grown, adjusted, adjusted_pair, has_label}
 use Rattle.live_range.specs.LivePoints.{LivePoints, at_pair, labels_of, mapped, option_labels, pair_labels}
 use Rattle.dom_model.specs.declared.Content.{Content}
 use Rattle.dom_model.specs.Forest.{Forest, preorder, tree_of}
@@ -28,10 +28,10 @@ second_of_two : (x y : ℕ) → has_label (x ∷ y ∷ []) y ≡ true
 second_of_two x y = elim (eqb_tells y y) [ inl (t, _) ↦ rw t (in_right (eqb x y) true refl) | inr (_, off) ↦ absurd (off refl) ]
 
 -- the edit leaves every point of a listed label
-abbrev pub Leaves : Edit → List ℕ → Type 0
+abbrev pub Leaves : PointsEdit → List ℕ → Type 0
 Leaves e labels = (p : Point) → has_label labels p.label ≡ true → adjusted e p ≡ p
 
-module _ (e : Edit) where
+module _ (e : PointsEdit) where
   left : (xs ys : List ℕ) → Leaves e (xs ++ ys) → Leaves e xs
   left xs ys h p is = h p (has_label-append xs ys p.label ∙ in_left _ _ is)
 
@@ -68,8 +68,8 @@ module _ (e : Edit) where
       ∙ ap (λ m. record s { marks = m }) three))
 
 -- where no point stands at the parent an insertion leaves them
-pub inserted_same : (s : LivePoints) (parent index : ℕ) → has_label (labels_of s) parent ≡ false → s ≡ mapped (Inserted parent index) s
-inserted_same s parent index off = mapped_same (Inserted parent index) s (λ p is. elim (eqb_tells p.label parent) [
+pub inserted_same : (s : LivePoints) (parent index : ℕ) → has_label (labels_of s) parent ≡ false → s ≡ mapped (Insert parent index) s
+inserted_same s parent index off = mapped_same (Insert parent index) s (λ p is. elim (eqb_tells p.label parent) [
   | inl (_, at) ↦ absurd (let is' = rw at at is in cc)
   | inr (t, _) ↦ rw t refl
 ])
@@ -82,8 +82,8 @@ grown_same s at off = mapped_same (Grown at) s (λ p is. elim (eqb_tells p.label
 ])
 
 -- where no point stands in the tree or at its parent a removal leaves them
-pub removed_same : (s : LivePoints) (r : Removal) (f : Forest Content) (n p : ℕ) → r.place ≡ None → IsRemoval f s n p r → s ≡ mapped (Removed (preorder (tree_of f n)) p (index_of f n)) s
-removed_same s r f n p none is = mapped_same (Removed (preorder (tree_of f n)) p (index_of f n)) s (λ x here.
+pub removed_same : (s : LivePoints) (r : Removal) (f : Forest Content) (n p : ℕ) → r.place ≡ None → IsRemoval f s n p r → s ≡ mapped (Remove (preorder (tree_of f n)) p (index_of f n)) s
+removed_same s r f n p none is = mapped_same (Remove (preorder (tree_of f n)) p (index_of f n)) s (λ x here.
     let off = is.apart none x.label here in
     elim (eqb_tells x.label p) [
       | inl (_, at) ↦ absurd (off.1 at)

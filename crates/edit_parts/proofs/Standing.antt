@@ -12,8 +12,8 @@ use Rattle.edit_model.proofs.Points.{has_label-preorder}
 use Rattle.std.proofs.lemmas.Option.{slice_get_within}
 use Rattle.indexmap.specs.IndexSet.{insert_key, insert_all}
 use Rattle.live_range.specs.declared.places.Pair.{Pair}
-use Rattle.live_range.specs.Edit.{has_label}
-use Rattle.live_range.specs.LivePoints.{LivePoints, IsLawful, labels_of, option_labels, pair_labels, standing}
+use Rattle.live_range.specs.PointsEdit.{has_label}
+use Rattle.live_range.specs.LivePoints.{LivePoints, IsValid, labels_of, option_labels, pair_labels, standing}
 
 or_false : (b : Bool) → (b || false) ≡ b
 or_false true = refl
@@ -81,7 +81,7 @@ mark_labels-length [] = refl
 mark_labels-length (m ∷ ms) = omega (arith, mark_labels-length ms)
 
 -- there are few points
-pub standing-few : (points : LivePoints) → IsLawful points → length (standing points) ≤ 36
+pub standing-few : (points : LivePoints) → IsValid points → length (standing points) ≤ 36
 standing-few points law =
     let marks = flat_map (λ (m : List ℕ × Pair). pair_labels m.1) points.marks in
     omega (

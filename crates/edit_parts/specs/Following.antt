@@ -6,7 +6,7 @@ use Rattle.dom_model.specs.Forest.{Forest, tree_of, preorder}
 use Rattle.dom_model.specs.Places.{index_of}
 use Rattle.live_range.specs.declared.places.Pair.{Pair}
 use Rattle.live_range.specs.declared.places.Point.{Point}
-use Rattle.live_range.specs.Edit.{has_label}
+use Rattle.live_range.specs.PointsEdit.{has_label}
 use Rattle.live_range.specs.LivePoints.{LivePoints, TellsAlike, labels_of}
 use Rattle.live_range.specs.ActiveRange.{range_start, range_end, range_changed}
 use Rattle.point_order.specs.PointOrder.{is_before}

@@ -3,22 +3,22 @@ use Rattle.std.specs.Prelude.{◌≡◌, ℕ, ◌+◌, Some, not, filter}
 use Rattle.dom_model.specs.declared.Content.{Content}
 use Rattle.dom_model.specs.Forest.{content_of, depth_of, IsWithin}
 use Rattle.dom_model.specs.TreeOrder.{total_from, total_after}
-use Rattle.dom_model.specs.State.{State}
+use Rattle.dom_model.specs.ArenaState.{ArenaState}
 use Rattle.node_arena.specs.declared.NodeRef.{NodeRef}
 use Rattle.node_arena.specs.Held.{Holds}
 use Rattle.edit_parts.specs.declared.trees.Place.{Place}
 
 -- a held node of the tree of top, and how deep it is below that
-pub record IsIn (s : State) (top : NodeRef) (p : Place) : Type 0 where
+pub record IsIn (s : ArenaState) (top : NodeRef) (p : Place) : Type 0 where
   pub held : Holds s p.node
   pub inside : IsWithin s.trees top.label p.node.label
   pub deep : p.depth + depth_of s.trees top.label ≡ depth_of s.trees p.node.label
 
 -- the walk goes from a place to the next: the sums from the first on are its own share and those from the next on
-pub record Goes (s : State) (top : NodeRef) (from to : Place) : Type 0 where
+pub record Goes (s : ArenaState) (top : NodeRef) (from to : Place) : Type 0 where
   pub place : IsIn s top to
   pub weighs : (w : ℕ → Content → ℕ) (c : Content) → content_of s.trees from.node.label ≡ Some c → total_from w s.trees from.node.label ≡ w from.node.label c + total_from w s.trees to.node.label
 
 -- the walk stops at a place: after it comes only what comes after the tree of top
-pub record Stops (s : State) (top : NodeRef) (at : Place) : Type 0 where
+pub record Stops (s : ArenaState) (top : NodeRef) (at : Place) : Type 0 where
   pub weighs : (w : ℕ → Content → ℕ) (c : Content) → content_of s.trees at.node.label ≡ Some c → total_from w s.trees at.node.label ≡ w at.node.label c + total_after w s.trees top.label

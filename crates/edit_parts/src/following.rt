@@ -5,7 +5,7 @@ ghost use Rattle.dom_model.specs.declared.Content.{Content};
 ghost use Rattle.dom_model.specs.Forest.{Forest, preorder, tree_of};
 ghost use Rattle.dom_model.specs.Places.{index_of};
 ghost use Rattle.edit_parts.specs.Following.{IsRemoval, IsFrom};
-ghost use Rattle.live_range.specs.Edit.{Inserted, Moved, Removed, has_label};
+ghost use Rattle.live_range.specs.PointsEdit.{Insert, Move, Remove, has_label};
 ghost use Rattle.live_range.specs.LivePoints.{Fits, LivePoints, TellsAlike, labels_of, mapped};
 ghost use Rattle.node_arena.specs.Held.{Holds};
 
@@ -20,7 +20,7 @@ const MOST_POINTS: usize = 36;
 pub fn stands_at(points: &Points, node: NodeRef) -> bool
     ensures { result ≡ has_label (labels_of points.now) node.label }
 {
-    points.lawful();
+    points.valid();
     let mut place = 0;
     while let Some(label) = points.standing(place) {
         if label == node.label {
@@ -46,7 +46,7 @@ fn labels_within(arena: &Arena, points: &Points, top: NodeRef) -> ([u32; MOST_PO
     ensures few { result.1 ≤ 36 }
     ensures tells { TellsAlike points.now (take result.1 result.0) (preorder (tree_of arena.now.trees top.label)) }
 {
-    points.lawful();
+    points.valid();
     let mut labels = [0; MOST_POINTS];
     let mut count = 0;
     let mut place = 0;
@@ -83,7 +83,7 @@ impl Removal {
     /// The points follow the removal.
     pub fn adjust(&self, points: &mut Points)
         requires { self.now.count ≤ 36 }
-        ensures { (f : Forest Content) (n p : ℕ) → IsRemoval f points.old n p self.now → points.new ≡ mapped (Removed (preorder (tree_of f n)) p (index_of f n)) points.old }
+        ensures { (f : Forest Content) (n p : ℕ) → IsRemoval f points.old n p self.now → points.new ≡ mapped (Remove (preorder (tree_of f n)) p (index_of f n)) points.old }
     {
         if let Some(place) = self.place {
             points.removed(&self.gone[..self.count], place.label, place.offset);
@@ -94,8 +94,8 @@ impl Removal {
 /// The points follow a node that was inserted.
 pub fn adjust_inserted(arena: &Arena, points: &mut Points, parent: NodeRef, node: NodeRef)
     requires held { Holds arena.now node }
-    requires fits { Fits (Inserted parent.label (index_of arena.now.trees node.label)) points.old }
-    ensures { points.new ≡ mapped (Inserted parent.label (index_of arena.now.trees node.label)) points.old }
+    requires fits { Fits (Insert parent.label (index_of arena.now.trees node.label)) points.old }
+    ensures { points.new ≡ mapped (Insert parent.label (index_of arena.now.trees node.label)) points.old }
 {
     if stands_at(points, parent) {
         points.inserted(parent.label, arena.index(node));
@@ -132,8 +132,8 @@ pub fn adjust_moved(
     node: NodeRef,
 )
     requires held { Holds arena.now node }
-    requires fits { IfSome from (λ at. Fits (Moved at (record { label = parent.label; offset = index_of arena.now.trees node.label })) points.old) }
-    ensures moved { IfSome from (λ at. points.new ≡ mapped (Moved at (record { label = parent.label; offset = index_of arena.now.trees node.label })) points.old) }
+    requires fits { IfSome from (λ at. Fits (Move at (record { label = parent.label; offset = index_of arena.now.trees node.label })) points.old) }
+    ensures moved { IfSome from (λ at. points.new ≡ mapped (Move at (record { label = parent.label; offset = index_of arena.now.trees node.label })) points.old) }
     ensures none { IsNone from → points.new ≡ points.old }
 {
     if let Some(from) = from {

@@ -13,8 +13,8 @@ pub use following::{
     take_counts,
 };
 pub use overrides::{
-    ActiveRange, Watch, copy_overrides, no_overrides, place_of, settle, unset_overrides,
-    watch_range,
+    ActiveRange, Watch, copy_overrides, no_overrides, place_of, unset_overrides,
+    unset_overrides_if_range_changed, watch_range,
 };
 pub use texts::{fault_of, has_value, replaced, tail_of};
 pub use trees::{bears_nothing, is_in_document, root_of, tree_counts};

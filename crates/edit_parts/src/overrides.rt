@@ -3,7 +3,7 @@
 ghost use Rattle.std.specs.Prelude.{◌≡◌, ℕ, ◌<◌, false, length, IfOk, IfSome};
 ghost use Rattle.dom_model.specs.declared.Content.{Content};
 ghost use Rattle.dom_model.specs.Forest.{Forest};
-ghost use Rattle.edit_model.specs.Lawful.{IsPlacedPair};
+ghost use Rattle.edit_model.specs.Valid.{IsPlacedPair};
 ghost use Rattle.edit_model.specs.Overrides.{no_overrides, place_of};
 ghost use Rattle.edit_parts.specs.Following.{Watches, range_in, settled};
 ghost use Rattle.live_range.specs.LivePoints.{LivePoints};
@@ -128,7 +128,12 @@ pub fn watch_range(arena: &Arena, points: &Points, overrides: &[Setting]) -> Opt
 }
 
 /// Unsets the overrides after a step that changed the active range.
-pub fn settle(arena: &Arena, points: &Points, overrides: &mut [Setting], watch: Option<Watch>)
+pub fn unset_overrides_if_range_changed(
+    arena: &Arena,
+    points: &Points,
+    overrides: &mut [Setting],
+    watch: Option<Watch>,
+)
     requires settings { length overrides.old ≡ 32 }
     requires placed { IfSome points.now.selection (IsPlacedPair arena.now.trees) }
     ensures { (f : Forest Content) (before : LivePoints) → Watches f before overrides.old watch → overrides.new ≡ settled f before arena.now.trees points.now overrides.old }

@@ -1,6 +1,6 @@
 ghost use Rattle.std.specs.Prelude.{◌≡◌, ◌<◌, IsTrue, IfSome, length, true};
 ghost use Rattle.dom_model.specs.Contents.{is_parent_at};
-ghost use Rattle.edit_model.specs.Lawful.{IsPlacedPair};
+ghost use Rattle.edit_model.specs.Valid.{IsPlacedPair};
 ghost use Rattle.node_arena.specs.Held.{Holds};
 
 use super::*;
@@ -46,7 +46,7 @@ fn can_hold(arena: &Arena, parent: NodeRef) -> bool
 
 // Links a node as the last child, where it can be linked.
 fn put<L: Ledger>(arena: &mut Arena, parent: NodeRef, node: NodeRef, steps: &mut Steps<L>) -> bool {
-    arena.lawful();
+    arena.valid();
     if !can_hold(arena, parent) || !arena.holds(node) || node.label == 0 {
         return false;
     }
@@ -280,7 +280,7 @@ fn stays_bold(alloc: Global, arena: &Arena, was: Pair, is: Pair) -> Result<bool,
     if !are_placed(arena, &points) {
         return Ok(false);
     }
-    settle(arena, &points, &mut overrides, watch);
+    unset_overrides_if_range_changed(arena, &points, &mut overrides, watch);
     Ok(matches!(overrides[0], Setting::On))
 }
 

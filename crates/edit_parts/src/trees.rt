@@ -29,7 +29,7 @@ fn after(arena: &Arena, top: NodeRef, place: Place) -> Option<Place>
     ensures found { IfSome result (λ next. IsIn arena.now top next × ((w : ℕ → Content → ℕ) → total_after w arena.now.trees place.node.label ≡ total_from w arena.now.trees next.node.label)) }
     ensures none { (result ≡ None) → (w : ℕ → Content → ℕ) → total_after w arena.now.trees place.node.label ≡ total_after w arena.now.trees top.label }
 {
-    arena.lawful();
+    arena.valid();
     let mut at = place;
     while at.node.label != top.label {
         if let Some(next) = arena.next(at.node) {
@@ -58,7 +58,7 @@ fn following(arena: &Arena, top: NodeRef, place: Place) -> Option<Place>
     ensures found { IfSome result (Goes arena.now top place) }
     ensures none { (result ≡ None) → Stops arena.now top place }
 {
-    arena.lawful();
+    arena.valid();
     match arena.first_child(place.node) {
         Some(child) => Some(Place {
             node: child,
@@ -75,7 +75,7 @@ pub fn root_of(arena: &Arena, node: NodeRef) -> NodeRef
     ensures root { parent_of arena.now.trees result.label ≡ None }
     ensures above { IsWithin arena.now.trees result.label node.label }
 {
-    arena.lawful();
+    arena.valid();
     let mut at = node;
     while let Some(parent) = arena.parent(at) {
         at = parent;
@@ -107,7 +107,7 @@ pub fn tree_counts(arena: &Arena, top: NodeRef) -> Counts
     ensures chars { result.chars ≡ total (λ _ c. words_length c) (tree_of arena.now.trees top.label) }
     ensures depth { levels (tree_of arena.now.trees top.label) ≡ result.depth + 1 }
 {
-    arena.lawful();
+    arena.valid();
     let mut at = Place {
         node: top,
         depth: 0,
@@ -167,7 +167,7 @@ pub fn bears_nothing(arena: &Arena, top: NodeRef) -> bool
     requires { Holds arena.now top }
     ensures { result ≡ bears_nothing (tree_of arena.now.trees top.label) }
 {
-    arena.lawful();
+    arena.valid();
     let mut at = Place {
         node: top,
         depth: 0,

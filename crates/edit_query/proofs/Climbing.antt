@@ -5,13 +5,13 @@ use Rattle.std.specs.Option.{option_map}
 use Rattle.dom_model.specs.declared.Content.{Content}
 use Rattle.dom_model.specs.Forest.{Forest, count_of, parent_of, IsDistinct}
 use Rattle.dom_model.proofs.Parts.{at_label}
-use Rattle.node_styles.specs.Lineage.{Kin}
+use Rattle.node_styles.specs.Lineage.{Ancestor}
 use Rattle.node_styles.proofs.Lineages.{lineage-child, lineage-root}
 use Rattle.node_styles.specs.NameClasses.{is_formattable_block}
 use Rattle.edit_query.specs.BlockTypes.{goes_up, block_at}
 
 module _ (f : Forest Content) (host : ℕ) (once : IsDistinct f) (l : ℕ) (here : 0 < count_of f l) where
-  abbrev ends_in : List Kin → Option ℕ
+  abbrev ends_in : List Ancestor → Option ℕ
   ends_in ks = option_map (λ k. k.label) (find (λ k. not (goes_up f host k.label)) ks)
 
   stays_by : (o : Option ℕ) → parent_of f l ≡ o → goes_up f host l ≡ false → block_at f host l ≡ Some l

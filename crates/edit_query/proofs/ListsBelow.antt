@@ -29,10 +29,10 @@ module _ (ordered : Bool) (d : Whole) (law : IsDoc d) (r : NodeRef) (at : At d (
   has o = has_list ordered (onward_at f o)
 
   abbrev c : Content
-  c = (at_label f law.lawful.forest.distinct r.label at.held.here).content
+  c = (at_label f law.valid.forest.distinct r.label at.held.here).content
 
   v : Visit f r.label c
-  v = visit f r.label c law.lawful.forest.distinct at.held.here at.inner (at_label f law.lawful.forest.distinct r.label at.held.here).content_is
+  v = visit f r.label c law.valid.forest.distinct at.held.here at.inner (at_label f law.valid.forest.distinct r.label at.held.here).content_is
 
   pub first_at : (o : Option NodeRef) → Finds d o (first_of f r.label) → At d o
   first_at o finds = record { held = finds.held; inner = rw finds.is v.first }
@@ -48,7 +48,7 @@ module _ (ordered : Bool) (d : Whole) (law : IsDoc d) (r : NodeRef) (at : At d (
 
   named : is_list_of ordered f r.label ≡ is_named (list_name ordered) c
   unfolding is_named
-  named = rw (at_label f law.lawful.forest.distinct r.label at.held.here).content_is refl
+  named = rw (at_label f law.valid.forest.distinct r.label at.held.here).content_is refl
 
   parted : has (Some r.label) ≡ (is_list_of ordered f r.label || (has (first_of f r.label) || has (next_of f r.label)))
   parted = ap (has_list ordered) v.is ∙ ap (λ b. b || (has (first_of f r.label) || has (next_of f r.label))) (sym named)
@@ -71,4 +71,4 @@ module _ (ordered : Bool) (d : Whole) (law : IsDoc d) (r : NodeRef) (at : At d (
 
 -- where the walk below a node begins
 pub begins : (d : Whole) (law : IsDoc d) (r : NodeRef) → Holds d r → (o : Option NodeRef) → Finds d o (first_of d.state.trees r.label) → IsInner d.state.trees (label_of o)
-begins d law r held o finds = rw finds.is (inner_first d.state.trees r.label law.lawful.forest.distinct held.here)
+begins d law r held o finds = rw finds.is (inner_first d.state.trees r.label law.valid.forest.distinct held.here)

@@ -31,7 +31,7 @@ fn block_at(doc: &Doc, host: NodeRef, node: NodeRef) -> NodeRef
     ensures held { Holds doc.now result }
     ensures block { block_at doc.now.state.trees host.label node.label ≡ Some result.label }
 {
-    doc.lawful();
+    doc.valid();
     let mut at = node;
     while let Some(parent) = doc.parent(at) {
         if !goes_up(doc, host, at, parent) {

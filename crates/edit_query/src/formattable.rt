@@ -2,7 +2,7 @@
 
 ghost use Rattle.std.specs.Prelude.{◌≡◌, IfOk};
 ghost use Rattle.edit_model.specs.Gives.{label_of, labels_of};
-ghost use Rattle.edit_model.specs.Lawful.{IsPlacedPair};
+ghost use Rattle.edit_model.specs.Valid.{IsPlacedPair};
 ghost use Rattle.edit_doc.specs.Held.{Holds, IfHeld, EachHeld, Finds};
 ghost use Rattle.node_tests.specs.Ranges.{effective_nodes};
 ghost use Rattle.edit_actions.specs.ActiveRange.{start_of, end_of};
@@ -75,7 +75,7 @@ pub fn formattable_nodes(
     ensures held { IfOk result (λ list. EachHeld doc.now list.items) }
     ensures nodes { IfOk result (λ list. labels_of list.items ≡ formattable_nodes doc.now.state (label_of host)) }
 {
-    doc.lawful();
+    doc.valid();
     match (host, doc.points().selection()) {
         (Some(host), Some(pair)) => formattable_between(alloc, doc, host, pair),
         _ => Ok(Vec::new(alloc)),
@@ -92,7 +92,7 @@ pub fn first_formattable(
     requires { IfHeld doc.now host }
     ensures { IfOk result (λ node. Finds doc.now node (first_formattable doc.now.state (label_of host))) }
 {
-    doc.lawful();
+    doc.valid();
     match (host, doc.points().selection()) {
         (Some(host), Some(pair)) => first_between(alloc, doc, host, pair),
         _ => Ok(None),
@@ -104,7 +104,7 @@ pub fn first_formattable(
 pub(crate) fn start_node(doc: &Doc) -> Option<NodeRef>
     ensures { Finds doc.now result (start_node doc.now.state) }
 {
-    doc.lawful();
+    doc.valid();
     match doc.points().selection() {
         Some(pair) => Some(node_of(doc, ends_of(doc, pair).0)),
         None => None,

@@ -3,7 +3,7 @@
 ghost use Rattle.std.specs.Prelude.{◌≡◌, ◌<◌, IfOk};
 ghost use Rattle.dom_model.specs.Forest.{count_of};
 ghost use Rattle.edit_model.specs.Gives.{label_of, labels_of};
-ghost use Rattle.edit_model.specs.Lawful.{IsPlacedPair};
+ghost use Rattle.edit_model.specs.Valid.{IsPlacedPair};
 ghost use Rattle.edit_doc.specs.Held.{Holds, IfHeld, EachHeld, Finds};
 ghost use Rattle.edit_query.specs.Formattable.{first_in};
 ghost use Rattle.edit_query.specs.Leaves.{is_leaf, nodes_in, extended_nodes, leaves_between, leaves, first_leaf};
@@ -91,7 +91,7 @@ pub(crate) fn leaves(
     ensures held { IfOk result (λ list. EachHeld doc.now list.items) }
     ensures nodes { IfOk result (λ list. labels_of list.items ≡ leaves doc.now.state (label_of host)) }
 {
-    doc.lawful();
+    doc.valid();
     match (host, doc.points().selection()) {
         (Some(host), Some(pair)) => leaves_between(alloc, doc, host, pair),
         _ => Ok(Vec::new(alloc)),
@@ -108,7 +108,7 @@ pub(crate) fn first_leaf(
     requires { IfHeld doc.now host }
     ensures { IfOk result (λ node. Finds doc.now node (first_leaf doc.now.state (label_of host))) }
 {
-    doc.lawful();
+    doc.valid();
     match (host, doc.points().selection()) {
         (Some(host), Some(pair)) => first_between(alloc, doc, host, pair),
         _ => Ok(None),

@@ -7,7 +7,7 @@ ghost use Rattle.dom_model.specs.Editing.{is_editable};
 ghost use Rattle.dom_model.specs.Forest.{parent_of, count_of};
 ghost use Rattle.node_paths.specs.Onward.{onward_at, IsInner};
 ghost use Rattle.edit_model.specs.Gives.{label_of, labels_of};
-ghost use Rattle.edit_model.specs.Lawful.{IsPlacedPair};
+ghost use Rattle.edit_model.specs.Valid.{IsPlacedPair};
 ghost use Rattle.edit_doc.specs.Held.{Holds, IfHeld, EachHeld};
 ghost use Rattle.edit_query.specs.ListStates as lists;
 
@@ -86,7 +86,7 @@ fn is_in_any_list(doc: &Doc, node: NodeRef) -> bool
     requires { Holds doc.now node }
     ensures { result ≡ option_map_or (lists.is_any_list doc.now.state.trees) (parent_of doc.now.state.trees node.label) Bool.false }
 {
-    doc.lawful();
+    doc.valid();
     match doc.parent(node) {
         Some(parent) => is_any_list(doc, parent),
         None => false,
@@ -165,7 +165,7 @@ pub fn is_child_of(doc: &Doc, ordered: bool, node: NodeRef) -> bool
     requires { Holds doc.now node }
     ensures { result ≡ lists.is_child_of ordered doc.now.state.trees node.label }
 {
-    doc.lawful();
+    doc.valid();
     match doc.parent(node) {
         Some(parent) => is_list_of(doc, ordered, parent),
         None => false,
@@ -178,7 +178,7 @@ fn is_in_item_of(doc: &Doc, ordered: bool, node: NodeRef) -> bool
     requires { Holds doc.now node }
     ensures { result ≡ lists.is_in_item_of ordered doc.now.state.trees node.label }
 {
-    doc.lawful();
+    doc.valid();
     match doc.parent(node) {
         Some(parent) => has_name(doc, parent, b"li") && is_child_of(doc, ordered, parent),
         None => false,
@@ -202,7 +202,7 @@ fn has_list(doc: &Doc, ordered: bool, first: Option<NodeRef>) -> bool
     requires inner { IsInner doc.now.state.trees (label_of first) }
     ensures { result ≡ lists.has_list ordered (onward_at doc.now.state.trees (label_of first)) }
 {
-    doc.lawful();
+    doc.valid();
     let mut at = first;
     while let Some(node) = at {
         if is_list_of(doc, ordered, node) || has_list(doc, ordered, doc.first_child(node)) {
@@ -219,7 +219,7 @@ fn is_above_list(doc: &Doc, ordered: bool, node: NodeRef) -> bool
     requires { Holds doc.now node }
     ensures { result ≡ lists.is_above_list ordered doc.now.state.trees node.label }
 {
-    doc.lawful();
+    doc.valid();
     has_list(doc, ordered, doc.first_child(node))
 }
 
@@ -318,7 +318,7 @@ pub fn list_state(alloc: Global, doc: &Doc, host: Option<NodeRef>) -> Result<Lis
     requires { IfHeld doc.now host }
     ensures { IfOk result (λ state. state ≡ lists.list_state doc.now.state (label_of host)) }
 {
-    doc.lawful();
+    doc.valid();
     match doc.points().selection() {
         Some(pair) => state_between(alloc, doc, host, pair),
         None => Ok(ListState::Nothing),

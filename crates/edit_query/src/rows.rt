@@ -5,7 +5,7 @@ ghost use Rattle.std.specs.Option.{option_map_or, option_copied, unwrap_or, opti
 ghost use Rattle.css_value.specs.Numbers as sizes;
 ghost use Rattle.command_value.specs.EffectiveValues as values;
 ghost use Rattle.edit_model.specs.Gives.{label_of};
-ghost use Rattle.edit_model.specs.Lawful.{IsPlacedPair};
+ghost use Rattle.edit_model.specs.Valid.{IsPlacedPair};
 ghost use Rattle.edit_doc.specs.Held.{Holds, IfHeld, Finds};
 ghost use Rattle.edit_query.specs.Formattable.{formattable_between, first_formattable, start_node};
 ghost use Rattle.edit_query.specs.Leaves.{leaves};
@@ -136,7 +136,7 @@ fn is_on(
     requires { IfHeld doc.now host }
     ensures { IfOk result (λ flag. flag ≡ is_on doc.now.state (label_of host) command) }
 {
-    doc.lawful();
+    doc.valid();
     match (host, doc.points().selection()) {
         (Some(host), Some(pair)) => is_on_between(alloc, doc, host, pair, command),
         _ => Ok(is_on_at_start(doc, command)),

@@ -3,41 +3,41 @@ use Rattle.std.specs.Prelude.{◌≡◌, ℕ, List, [], ◌∷◌, ◌++◌, unw
 use Rattle.std.specs.Option.{option_map}
 use Rattle.dom_model.specs.Contents.{chars_of, attributes_of}
 use Rattle.dom_model.specs.Forest.{parent_of, next_of}
-use Rattle.dom_model.specs.State.{State, IsSlotted, slot_of}
+use Rattle.dom_model.specs.ArenaState.{ArenaState, IsSlotted, slot_of}
 use Rattle.node_arena.specs.declared.NodeRef.{NodeRef}
 use Rattle.node_arena.specs.Held.{Holds, label}
 use Rattle.undo_log.specs.Turning.{back, forth, inverses_back, inverses_forth, FitsBack, FitsForth}
-use Rattle.forest_changes.specs.Change.{Change, Loosen, Attach, Shift, Rewrite, Redress, Fits, applied, turned}
+use Rattle.forest_changes.specs.Change.{Change, Remove, Insert, Move, SetText, SetAttributes, Fits, applied, inverse}
 use Rattle.forest_changes.specs.Named.{listed, Each}
 use Rattle.edit_steps.specs.declared.step.Step.{Step}
 use Rattle.edit_steps.specs.declared.step.Step.TheVariants.{Unlink, Link, Place, Words, Attributes}
 
 -- the change of labels that a step is
 abbrev pub change_of : Step → Change
-change_of (Unlink n) = Loosen n.label
-change_of (Link n p b) = Attach n.label p.label (label b)
-change_of (Place n p b) = Shift n.label p.label (label b)
-change_of (Words n words) = Rewrite n.label words
-change_of (Attributes n list) = Redress n.label list
+change_of (Unlink n) = Remove n.label
+change_of (Link n p b) = Insert n.label p.label (label b)
+change_of (Place n p b) = Move n.label p.label (label b)
+change_of (Words n words) = SetText n.label words
+change_of (Attributes n list) = SetAttributes n.label list
 
 abbrev pub changes_of : List Step → List Change
 changes_of xs = map change_of xs
 
 -- the reference to a label
-abbrev pub ref_at : State → ℕ → NodeRef
+abbrev pub ref_at : ArenaState → ℕ → NodeRef
 ref_at a l = record { slot = slot_of a.held l; label = l }
 
 -- the arena after a step
-unfoldable pub step_applied : Step → State → State
+unfoldable pub step_applied : Step → ArenaState → ArenaState
 step_applied x a = record a { trees = applied (change_of x) a.trees }
 
 -- the step that takes it back
-unfoldable pub step_turned : Step → State → Step
-step_turned (Unlink n) a = Link n (ref_at a (unwrap_or (parent_of a.trees n.label) 0)) (option_map (ref_at a) (next_of a.trees n.label))
-step_turned (Link n p b) a = Unlink n
-step_turned (Place n p b) a = Place n (ref_at a (unwrap_or (parent_of a.trees n.label) 0)) (option_map (ref_at a) (next_of a.trees n.label))
-step_turned (Words n words) a = Words n (unwrap_or (chars_of a.trees n.label) words)
-step_turned (Attributes n list) a = Attributes n (unwrap_or (attributes_of a.trees n.label) list)
+unfoldable pub step_inverse : Step → ArenaState → Step
+step_inverse (Unlink n) a = Link n (ref_at a (unwrap_or (parent_of a.trees n.label) 0)) (option_map (ref_at a) (next_of a.trees n.label))
+step_inverse (Link n p b) a = Unlink n
+step_inverse (Place n p b) a = Place n (ref_at a (unwrap_or (parent_of a.trees n.label) 0)) (option_map (ref_at a) (next_of a.trees n.label))
+step_inverse (Words n words) a = Words n (unwrap_or (chars_of a.trees n.label) words)
+step_inverse (Attributes n list) a = Attributes n (unwrap_or (attributes_of a.trees n.label) list)
 
 -- the nodes that a step names
 abbrev pub nodes_of : Step → List NodeRef
@@ -52,22 +52,22 @@ nodes_in [] = []
 nodes_in (x ∷ xs) = nodes_of x ++ nodes_in xs
 
 -- a step can be applied to an arena
-pub record StepFits (x : Step) (a : State) : Type 0 where
+pub record StepFits (x : Step) (a : ArenaState) : Type 0 where
   pub fits : Fits (change_of x) a.trees
   pub slotted : IsSlotted a
   pub held : Each (Holds a) (nodes_of x)
 
 -- steps applied from the last of a list to the first are changes of the forest and keep the slots, and so do
 -- the steps that take them back
-pub record GoBack (xs : List Step) (a : State) : Type 0 where
+pub record GoBack (xs : List Step) (a : ArenaState) : Type 0 where
   pub fits : FitsBack applied Fits (changes_of xs) a.trees
   pub state : back step_applied xs a ≡ record a { trees = back applied (changes_of xs) a.trees }
-  pub turns : changes_of (inverses_back step_applied step_turned xs a) ≡ inverses_back applied turned (changes_of xs) a.trees
-  pub held : Each (Holds a) (nodes_in (inverses_back step_applied step_turned xs a))
+  pub turns : changes_of (inverses_back step_applied step_inverse xs a) ≡ inverses_back applied inverse (changes_of xs) a.trees
+  pub held : Each (Holds a) (nodes_in (inverses_back step_applied step_inverse xs a))
 
 -- and from the first to the last
-pub record GoForth (xs : List Step) (a : State) : Type 0 where
+pub record GoForth (xs : List Step) (a : ArenaState) : Type 0 where
   pub fits : FitsForth applied Fits (changes_of xs) a.trees
   pub state : forth step_applied xs a ≡ record a { trees = forth applied (changes_of xs) a.trees }
-  pub turns : changes_of (inverses_forth step_applied step_turned xs a) ≡ inverses_forth applied turned (changes_of xs) a.trees
-  pub held : Each (Holds a) (nodes_in (inverses_forth step_applied step_turned xs a))
+  pub turns : changes_of (inverses_forth step_applied step_inverse xs a) ≡ inverses_forth applied inverse (changes_of xs) a.trees
+  pub held : Each (Holds a) (nodes_in (inverses_forth step_applied step_inverse xs a))

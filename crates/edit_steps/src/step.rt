@@ -1,7 +1,7 @@
 //! The steps of the log.
 
 ghost use Rattle.std.specs.Prelude.{◌≡◌, ◌<◌};
-ghost use Rattle.edit_steps.specs.Step.{StepFits, step_applied, step_turned};
+ghost use Rattle.edit_steps.specs.Step.{StepFits, step_applied, step_inverse};
 
 use node_arena::{Arena, Attributes, Chars, NodeRef};
 use std::marker::Brand;
@@ -48,7 +48,7 @@ impl Invertible<Arena> for Step {
 
     ghost applied = { step_applied };
 
-    ghost inverse = { step_turned };
+    ghost inverse = { step_inverse };
 
     ghost fits_again = { step_fits_again };
 
@@ -56,7 +56,7 @@ impl Invertible<Arena> for Step {
 
     ghost step_again = { step_step_again };
 
-    #[tactic(auto, unfolding(crate::specs::Step::step_applied, crate::specs::Step::step_turned, forest_changes::specs::Change::applied))]
+    #[tactic(auto, unfolding(crate::specs::Step::step_applied, crate::specs::Step::step_inverse, forest_changes::specs::Change::applied))]
     fn apply(&mut self, arena: &mut Arena) {
         match self {
             Step::Unlink { node } => *self = unlinked::<Brand>(arena, *node, Blank::new(1)),
@@ -77,14 +77,14 @@ impl Invertible<Arena> for Step {
 }
 
 // Makes the tree of a node loose, and tells how to link it where it was.
-#[tactic(auto, unfolding(crate::specs::Step::step_applied, crate::specs::Step::step_turned, forest_changes::specs::Change::applied))]
+#[tactic(auto, unfolding(crate::specs::Step::step_applied, crate::specs::Step::step_inverse, forest_changes::specs::Change::applied))]
 fn unlinked<L: Ledger>(arena: &mut Arena, node: NodeRef, blank: Blank) -> Step
     requires name { blank.name ≡ L.name }
     requires parts { blank.parts ≡ L.parts }
     requires some { 0 < blank.parts }
     requires fits { StepFits (Step.Unlink node) arena.old }
     ensures arena { arena.new ≡ step_applied (Step.Unlink node) arena.old }
-    ensures step { result ≡ step_turned (Step.Unlink node) arena.old }
+    ensures step { result ≡ step_inverse (Step.Unlink node) arena.old }
 {
     let mut steps = Steps::<L>::open(blank);
     let parent = arena.parent(node).unwrap();
@@ -98,7 +98,7 @@ fn unlinked<L: Ledger>(arena: &mut Arena, node: NodeRef, blank: Blank) -> Step
 }
 
 // Links a loose tree, and tells how to make it loose again.
-#[tactic(auto, unfolding(crate::specs::Step::step_applied, crate::specs::Step::step_turned, forest_changes::specs::Change::applied))]
+#[tactic(auto, unfolding(crate::specs::Step::step_applied, crate::specs::Step::step_inverse, forest_changes::specs::Change::applied))]
 fn linked<L: Ledger>(
     arena: &mut Arena,
     node: NodeRef,
@@ -111,7 +111,7 @@ fn linked<L: Ledger>(
     requires some { 0 < blank.parts }
     requires fits { StepFits (Step.Link node parent before) arena.old }
     ensures arena { arena.new ≡ step_applied (Step.Link node parent before) arena.old }
-    ensures step { result ≡ step_turned (Step.Link node parent before) arena.old }
+    ensures step { result ≡ step_inverse (Step.Link node parent before) arena.old }
 {
     let mut steps = Steps::<L>::open(blank);
     arena.link(parent, before, node, &mut steps);
@@ -119,7 +119,7 @@ fn linked<L: Ledger>(
 }
 
 // Moves the tree of a node, and tells how to move it back.
-#[tactic(auto, unfolding(crate::specs::Step::step_applied, crate::specs::Step::step_turned, forest_changes::specs::Change::applied))]
+#[tactic(auto, unfolding(crate::specs::Step::step_applied, crate::specs::Step::step_inverse, forest_changes::specs::Change::applied))]
 fn placed<L: Ledger>(
     arena: &mut Arena,
     node: NodeRef,
@@ -132,7 +132,7 @@ fn placed<L: Ledger>(
     requires some { 0 < blank.parts }
     requires fits { StepFits (Step.Place node parent before) arena.old }
     ensures arena { arena.new ≡ step_applied (Step.Place node parent before) arena.old }
-    ensures step { result ≡ step_turned (Step.Place node parent before) arena.old }
+    ensures step { result ≡ step_inverse (Step.Place node parent before) arena.old }
 {
     let mut steps = Steps::<L>::open(blank);
     let old_parent = arena.parent(node).unwrap();

@@ -21,7 +21,7 @@ fn once<T: Invertible<S>, S>(step: &mut T, state: &mut S)
 fn can_unlink(arena: &Arena, node: NodeRef) -> bool
     ensures { IsTrue result → StepFits (Step.Unlink node) arena.now }
 {
-    arena.lawful();
+    arena.valid();
     arena.slotted();
     arena.holds(node) && arena.parent(node).is_some()
 }
@@ -44,7 +44,7 @@ fn can_hold(arena: &Arena, parent: NodeRef) -> bool
 fn can_link(arena: &Arena, node: NodeRef, parent: NodeRef) -> bool
     ensures { IsTrue result → StepFits (Step.Link node parent None) arena.now }
 {
-    arena.lawful();
+    arena.valid();
     arena.slotted();
     if !can_hold(arena, parent) || !arena.holds(node) || node.label == 0 {
         return false;
@@ -55,7 +55,7 @@ fn can_link(arena: &Arena, node: NodeRef, parent: NodeRef) -> bool
 fn can_place(arena: &Arena, node: NodeRef, parent: NodeRef) -> bool
     ensures { IsTrue result → StepFits (Step.Place node parent None) arena.now }
 {
-    arena.lawful();
+    arena.valid();
     arena.slotted();
     if !can_hold(arena, parent) || !arena.holds(node) {
         return false;
@@ -69,7 +69,7 @@ fn can_place(arena: &Arena, node: NodeRef, parent: NodeRef) -> bool
 fn can_write(arena: &Arena, node: NodeRef, words: &Chars) -> bool
     ensures { IsTrue result → StepFits (Step.Words node words.now) arena.now }
 {
-    arena.lawful();
+    arena.valid();
     arena.slotted();
     arena.holds(node) && arena.kind(node) == Kind::Words && words.len() < 9
 }
@@ -77,7 +77,7 @@ fn can_write(arena: &Arena, node: NodeRef, words: &Chars) -> bool
 fn can_dress(arena: &Arena, node: NodeRef, list: &Attributes) -> bool
     ensures { IsTrue result → StepFits (Step.Attributes node list.now) arena.now }
 {
-    arena.lawful();
+    arena.valid();
     arena.slotted();
     arena.holds(node) && arena.kind(node) == Kind::Element
 }

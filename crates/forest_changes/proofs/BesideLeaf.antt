@@ -7,7 +7,7 @@ use Rattle.dom_model.specs.Contents.{may_have_children, has_chars, is_element, w
 use Rattle.dom_model.specs.Forest.{Forest, join, with_leaf, count_of, content_of, parent_of, tree_of, without, put_under, put_rising, link, unlink, CanPut}
 use Rattle.dom_model.specs.Forest.Forest.{Nil, Tree}
 use Rattle.dom_model.specs.Revised.{revised}
-use Rattle.dom_model.specs.State.{CanLink}
+use Rattle.dom_model.specs.ArenaState.{CanLink}
 use Rattle.dom_model.proofs.Totals.{total-unlink}
 use Rattle.dom_model.proofs.Stands.{true_or_false, times-tops}
 use Rattle.dom_model.proofs.Rising.{RisesFrom-with_leaf}
@@ -15,7 +15,7 @@ use Rattle.dom_model.proofs.Kept.{content_of-with_leaf_other}
 use Rattle.dom_model.proofs.Links.{total-with_leaf, parent_of-with_leaf, parent_count, tree_is, total-link}
 use Rattle.dom_model.proofs.NodesKept.{nodes-with_leaf}
 use Rattle.dom_model.proofs.Revising.{total-revised}
-use Rattle.forest_changes.specs.Change.{Change, Loosen, Attach, Shift, Rewrite, Redress, IsForest, Fits, applied}
+use Rattle.forest_changes.specs.Change.{Change, Remove, Insert, Move, SetText, SetAttributes, IsForest, Fits, applied}
 use Rattle.forest_changes.specs.Leaves.{IsBelow, IsMade, Beside}
 use Rattle.forest_changes.proofs.Contents.{stands}
 use Rattle.forest_changes.proofs.Twice.{given_parent, IsForest-unlink, IsForest-link, IsForest-rewritten, IsForest-redressed}
@@ -126,7 +126,7 @@ module _ (l : ℕ) (c : Content) where
 
   pub beside : (x : Change) (f : Forest Content) → IsBelow f l → IsMade c → Fits x f → Beside l c x f
   unfolding applied
-  beside (Loosen n) f low made h =
+  beside (Remove n) f low made h =
       let p = unwrap_or (parent_of f n) 0 in
       let child = given_parent f n h.here in
       let here = parent_count f n p h.forest.distinct child in
@@ -136,13 +136,13 @@ module _ (l : ℕ) (c : Content) where
         forest = IsForest-unlink f p n h.forest child;
         below = still_below f (unlink f n) low (λ m. total-unlink (λ j _. cond (eqb j m) 1 0) f n);
       }
-  beside (Attach n p b) f low made h = record {
+  beside (Insert n p b) f low made h = record {
     fits = record { forest = IsForest-with_leaf f h.forest low made; here = CanLink-with_leaf f p b n low h.here };
     same = link-with_leaf l c f p b n (low.below n h.here.place.node) (low.below p h.here.place.parent);
     forest = IsForest-link f p b n h.forest h.here;
     below = still_below f (link f p b n) low (λ m. total-link f p b n h.forest.distinct h.here.place (λ j _. cond (eqb j m) 1 0));
   }
-  beside (Shift n p b) f low made h =
+  beside (Move n p b) f low made h =
       let q = unwrap_or (parent_of f n) 0 in
       let child = given_parent f n h.here.0 in
       let here = parent_count f n q h.forest.distinct child in
@@ -155,7 +155,7 @@ module _ (l : ℕ) (c : Content) where
         forest = IsForest-link (unlink f n) p b n g h.here.1;
         below = still_below (unlink f n) (link (unlink f n) p b n) lowg (λ m. total-link (unlink f n) p b n g.distinct h.here.1.place (λ j _. cond (eqb j m) 1 0));
       }
-  beside (Rewrite n words) f low made h =
+  beside (SetText n words) f low made h =
       let lt = low.below n (stands f n has_chars h.here.0) in
       record {
         fits = record { forest = IsForest-with_leaf f h.forest low made; here = (ap (λ o. option_map_or has_chars o false) (same_content f n low lt) ∙ h.here.0, h.here.1) };
@@ -163,7 +163,7 @@ module _ (l : ℕ) (c : Content) where
         forest = IsForest-rewritten f n words h.here.1 h.forest;
         below = still_below f (revised f n (with_chars words)) low (λ m. total-revised n (with_chars words) (λ j. cond (eqb j m) 1 0) f);
       }
-  beside (Redress n list) f low made h =
+  beside (SetAttributes n list) f low made h =
       let lt = low.below n (stands f n is_element h.here) in
       record {
         fits = record { forest = IsForest-with_leaf f h.forest low made; here = ap (λ o. option_map_or is_element o false) (same_content f n low lt) ∙ h.here };

@@ -2,7 +2,7 @@ pub mod Places
 pub mod Contents
 pub mod Twice
 pub mod BesideLeaf
-pub mod ShedChanges
+pub mod PrunedChanges
 pub mod DownChange
 pub mod ChangeLists
 pub mod ManyLeaves

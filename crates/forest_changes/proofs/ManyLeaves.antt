@@ -4,13 +4,13 @@ use Rattle.std.proofs.lemmas.Bool.Decides.{eqb_tells, nat_tests}
 use Rattle.dom_model.specs.declared.Content.{Content}
 use Rattle.dom_model.specs.Forest.{Forest, with_leaf, count_of, parent_of}
 use Rattle.dom_model.specs.Forest.Forest.{Nil, Tree}
-use Rattle.dom_model.specs.Shed.{shed}
-use Rattle.dom_model.proofs.Shedding.{count_of-shed}
+use Rattle.dom_model.specs.Pruned.{pruned}
+use Rattle.dom_model.proofs.Pruning.{count_of-pruned}
 use Rattle.dom_model.proofs.Stands.{true_or_false}
 use Rattle.dom_model.proofs.Links.{total-with_leaf, parent_of-with_leaf, parent_count, eqb_refl_true}
 use Rattle.undo_log.specs.Turning.{back, forth, FitsBack, FitsForth}
 use Rattle.forest_changes.specs.Change.{Change, IsForest, Fits, applied}
-use Rattle.forest_changes.specs.Down.{Sheds}
+use Rattle.forest_changes.specs.Down.{Prunes}
 use Rattle.forest_changes.specs.Leaves.{IsBelow, EachMade, with_leaves, BackBeside, ForthBeside, HasMade}
 use Rattle.forest_changes.proofs.BesideLeaf.{fresh, IsForest-with_leaf, beside}
 use Rattle.forest_changes.proofs.Twice.{count_of-applied}
@@ -74,22 +74,22 @@ is_high l m le = grind (arith, nat_tests)
 is_low : (l m : ℕ) → m < l → nat_le l m ≡ false
 is_low l m lt = grind (arith, nat_tests)
 
-shed_leaf : (l m : ℕ) (c : Content) (f : Forest Content) → l ≤ m → shed (nat_le l) (with_leaf f m c) ≡ shed (nat_le l) f
-shed_leaf l m c Nil le = rw (is_high l m le) refl
-shed_leaf l m c (Tree j d ks rest) le = elim (true_or_false (nat_le l j)) [
-  | inl t ↦ rw t (shed_leaf l m c rest le)
-  | inr t ↦ rw t (ap (Tree j d ks) (shed_leaf l m c rest le))
+pruned_leaf : (l m : ℕ) (c : Content) (f : Forest Content) → l ≤ m → pruned (nat_le l) (with_leaf f m c) ≡ pruned (nat_le l) f
+pruned_leaf l m c Nil le = rw (is_high l m le) refl
+pruned_leaf l m c (Tree j d ks rest) le = elim (true_or_false (nat_le l j)) [
+  | inl t ↦ rw t (pruned_leaf l m c rest le)
+  | inr t ↦ rw t (ap (Tree j d ks) (pruned_leaf l m c rest le))
 ]
 
-shed_none : (l : ℕ) (f : Forest Content) → ((m : ℕ) → 0 < count_of f m → m < l) → shed (nat_le l) f ≡ f
-shed_none l Nil low = refl
-shed_none l (Tree j d ks rest) low =
+pruned_none : (l : ℕ) (f : Forest Content) → ((m : ℕ) → 0 < count_of f m → m < l) → pruned (nat_le l) f ≡ f
+pruned_none l Nil low = refl
+pruned_none l (Tree j d ks rest) low =
     let own : j < l = low j (let t = eqb_refl_true j in rw t (omega arith)) in
-    rw (is_low l j own) (ap (Tree j d ks) (shed_none l rest (λ m here. low m (omega (arith, here)))))
+    rw (is_low l j own) (ap (Tree j d ks) (pruned_none l rest (λ m here. low m (omega (arith, here)))))
 
-shed_leaves : (l m : ℕ) (cs : List Content) (f : Forest Content) → l ≤ m → shed (nat_le l) (with_leaves f m cs) ≡ shed (nat_le l) f
-shed_leaves l m [] f le = refl
-shed_leaves l m (c ∷ cs) f le = shed_leaves l (m + 1) cs (with_leaf f m c) (omega (arith, le)) ∙ shed_leaf l m c f le
+pruned_leaves : (l m : ℕ) (cs : List Content) (f : Forest Content) → l ≤ m → pruned (nat_le l) (with_leaves f m cs) ≡ pruned (nat_le l) f
+pruned_leaves l m [] f le = refl
+pruned_leaves l m (c ∷ cs) f le = pruned_leaves l (m + 1) cs (with_leaf f m c) (omega (arith, le)) ∙ pruned_leaf l m c f le
 
 parents : (l : ℕ) (cs : List Content) (f : Forest Content) → IsBelow f l → (j : ℕ) → parent_of (with_leaves f l cs) j ≡ parent_of f j
 parents l [] f low j = refl
@@ -122,30 +122,30 @@ has_made l cs f ok low made = record {
         let here = parent_count f j p ok.distinct (sym (parents l cs f low j) ∙ h) in
         is_low l j (low.below j here.0) ∙ sym (is_low l p (low.below p here.1)));
   };
-  without = shed_leaves l l cs f (omega arith) ∙ shed_none l f low.below;
+  without = pruned_leaves l l cs f (omega arith) ∙ pruned_none l f low.below;
   one_more = one_more l cs f;
 }
 
--- ---- where other trees are shed
+-- ---- where other trees are pruned
 
 module _ (k : ℕ → Bool) (l : ℕ) (c : Content) (out : k l ≡ false) where
-  pub shed-with_leaf : (f : Forest Content) → shed k (with_leaf f l c) ≡ with_leaf (shed k f) l c
-  shed-with_leaf Nil = rw out refl
-  shed-with_leaf (Tree j d ks rest) = elim (true_or_false (k j)) [
-    | inl t ↦ rw t (shed-with_leaf rest)
-    | inr t ↦ rw t (ap (Tree j d ks) (shed-with_leaf rest))
+  pub pruned-with_leaf : (f : Forest Content) → pruned k (with_leaf f l c) ≡ with_leaf (pruned k f) l c
+  pruned-with_leaf Nil = rw out refl
+  pruned-with_leaf (Tree j d ks rest) = elim (true_or_false (k j)) [
+    | inl t ↦ rw t (pruned-with_leaf rest)
+    | inr t ↦ rw t (ap (Tree j d ks) (pruned-with_leaf rest))
   ]
 
-  pub Sheds-with_leaf : (f : Forest Content) → IsBelow f l → Sheds k f → Sheds k (with_leaf f l c)
-  Sheds-with_leaf f low sheds = record {
-    document = sheds.document;
+  pub Prunes-with_leaf : (f : Forest Content) → IsBelow f l → Prunes k f → Prunes k (with_leaf f l c)
+  Prunes-with_leaf f low prunes = record {
+    document = prunes.document;
     out = λ m here. elim (eqb_tells l m) [
       | inl (_, is) ↦ ap k (sym is) ∙ out
       | inr (e, _) ↦ (
-          let none : count_of (shed k f) l ≡ 0 = (let all = count_of-shed k f l in let gone = fresh l c f low in omega (arith, all, gone)) in
-          let t = total-with_leaf (shed k f) l c none (λ j _. cond (eqb j m) 1 0) in
+          let none : count_of (pruned k f) l ≡ 0 = (let all = count_of-pruned k f l in let gone = fresh l c f low in omega (arith, all, gone)) in
+          let t = total-with_leaf (pruned k f) l c none (λ j _. cond (eqb j m) 1 0) in
           let u = rw e at t in
-          let here' = subst (λ (g : Forest Content). 0 < count_of g m) (shed-with_leaf f) here in
-          sheds.out m (omega (arith, u, here')))
+          let here' = subst (λ (g : Forest Content). 0 < count_of g m) (pruned-with_leaf f) here in
+          prunes.out m (omega (arith, u, here')))
     ];
   }

@@ -150,9 +150,9 @@ module _ {C : Type 0} where
       ]
   put_under_back q (Tree m c ks rest) p n r once (inr (inl h)) kid =
       let pin = count_of-Stands (Some m) ks p r h in
-      let kin = times-children (Some m) ks p r n h in
+      let ancestor = times-children (Some m) ks p r n h in
       elim (eqb_tells m n) [
-        | inl (e, _) ↦ absurd (let one = rw e at (once n) in omega (arith, one, kin, kid))
+        | inl (e, _) ↦ absurd (let one = rw e at (once n) in omega (arith, one, ancestor, kid))
         | inr (e, _) ↦ elim (eqb_tells m p) [
           | inl (t, _) ↦ absurd (let one = rw t at (once p) in omega (arith, one, pin))
           | inr (t, _) ↦ (
@@ -168,9 +168,9 @@ module _ {C : Type 0} where
       ]
   put_under_back q (Tree m c ks rest) p n r once (inr (inr h)) kid =
       let pin = count_of-Stands q rest p r h in
-      let kin = times-children q rest p r n h in
+      let ancestor = times-children q rest p r n h in
       elim (eqb_tells m n) [
-        | inl (e, _) ↦ absurd (let one = rw e at (once n) in omega (arith, one, kin, kid))
+        | inl (e, _) ↦ absurd (let one = rw e at (once n) in omega (arith, one, ancestor, kid))
         | inr (e, _) ↦ elim (eqb_tells m p) [
           | inl (t, _) ↦ absurd (let one = rw t at (once p) in omega (arith, one, pin))
           | inr (t, _) ↦ (

@@ -6,7 +6,7 @@ use Rattle.dom_model.specs.declared.Content.{Content}
 use Rattle.dom_model.specs.Contents.{IsNode, may_have_children, is_parent_at, chars_in, attributes_in, chars_of, attributes_of, with_chars, with_attributes}
 use Rattle.dom_model.specs.Forest.{Forest, Seen, tops, count_of, IsDistinct, times, parent_of, next_of, after_in, tree_of, without, link, unlink, CanPut, IsWithin}
 use Rattle.dom_model.specs.Revised.{revised}
-use Rattle.dom_model.specs.State.{State, CanLink, IsLawful}
+use Rattle.dom_model.specs.ArenaState.{ArenaState, CanLink, IsValid}
 use Rattle.dom_model.proofs.Totals.{total-unlink}
 use Rattle.dom_model.proofs.Lists.{is_label_after, after_not_self}
 use Rattle.dom_model.proofs.Rising.{RisesFrom-without, RisesFrom-put_under, RisesFrom-put_rising}
@@ -18,7 +18,8 @@ use Rattle.dom_model.proofs.Revising.{total-revised, RisesFrom-revised, parent_o
 use Rattle.dom_model.proofs.NodesKept.{nodes-link, nodes-unlink, nodes-revised, chars_node, attributes_node}
 use Rattle.undo_log.specs.Turning.{FitsBack, FitsForth, TurnsBack, TurnsForth}
 use Rattle.undo_log.proofs.Turns.{turns_back, turns_forth}
-use Rattle.forest_changes.specs.Change.{Change, Loosen, Attach, Shift, Rewrite, Redress, IsForest, Fits, applied, turned, Turns}
+use Rattle.forest_changes.specs.Change.{Change, IsForest, Fits, applied, inverse, Turns}
+use Rattle.dom_model.specs.Change as change
 use Rattle.forest_changes.proofs.Places.{without-put_under, tree_of-put_under, without-put_rising, put_rising_back, put_under_back}
 use Rattle.forest_changes.proofs.Contents.{revised_back, chars_back, attributes_back, chars_set, attributes_set, chars_there, attributes_there, still_chars, still_element, stands}
 
@@ -140,8 +141,8 @@ pub IsForest-redressed : (f : Forest Content) (n : ℕ) (list : List Attribute) 
 IsForest-redressed f n list ok = IsForest-revised f n (with_attributes list) (λ l o. attributes_node l list o) ok
 
 pub turns : (x : Change) (f : Forest Content) → Fits x f → Turns x f
-unfolding applied turned
-turns (Loosen n) f h =
+unfolding applied inverse
+turns (change.Remove n) f h =
     let p = unwrap_or (parent_of f n) 0 in
     let child = given_parent f n h.here in
     record {
@@ -149,7 +150,7 @@ turns (Loosen n) f h =
       back = link-unlink f p n h.forest.distinct child;
       same = refl;
     }
-turns (Attach n p b) f h =
+turns (change.Insert n p b) f h =
     let put = h.here.place in
     let s = seen f n h.forest.distinct put.node in
     let up : parent_of (link f p b n) n ≡ Some p = parent_of-link f p b n h.forest.distinct put n s.0 s.2 ∙ rw (eqb_refl_true n) refl in
@@ -157,9 +158,9 @@ turns (Attach n p b) f h =
     record {
       fits = record { forest = IsForest-link f p b n h.forest h.here; here = rw up refl };
       back = unlink-link f p b n h.forest put;
-      same = λ i. Attach n (unwrap_or (up i) 0) (after i);
+      same = λ i. change.Insert n (unwrap_or (up i) 0) (after i);
     }
-turns (Shift n p b) f h =
+turns (change.Move n p b) f h =
     let q = unwrap_or (parent_of f n) 0 in
     let child = given_parent f n h.here.0 in
     let g = IsForest-unlink f q n h.forest child in
@@ -171,49 +172,49 @@ turns (Shift n p b) f h =
     record {
       fits = record { forest = IsForest-link (unlink f n) p b n g h.here.1; here = (rw up refl, rw e (can_go_back f q n h.forest child)) };
       back = rw e (link-unlink f q n h.forest.distinct child);
-      same = λ i. Shift n (unwrap_or (up i) 0) (after i);
+      same = λ i. change.Move n (unwrap_or (up i) 0) (after i);
     }
-turns (Rewrite n words) f h =
+turns (change.SetText n words) f h =
     let there = chars_there f n h.forest.distinct h.forest.nodes h.here.0 in
     let old : chars_of f n ≡ Some there.0 = there.1 in
     let now : chars_of (revised f n (with_chars words)) n ≡ Some words = chars_set f n words h.here.0 in
     record {
       fits = record { forest = IsForest-rewritten f n words h.here.1 h.forest; here = (still_chars f n words h.here.0, rw old there.2) };
       back = rw old (revised_back f n (with_chars words) (with_chars there.0) h.forest.distinct (λ s e. chars_back s.content words there.0 (sym (ap (λ o. option_and_then chars_in (option_map (λ (t : Seen Content). t.content) o)) e) ∙ old)));
-      same = λ i. Rewrite n (unwrap_or (now i) (unwrap_or (chars_of f n) words));
+      same = λ i. change.SetText n (unwrap_or (now i) (unwrap_or (chars_of f n) words));
     }
-turns (Redress n list) f h =
+turns (change.SetAttributes n list) f h =
     let there = attributes_there f n h.here in
     let old : attributes_of f n ≡ Some there.0 = there.1 in
     let now : attributes_of (revised f n (with_attributes list)) n ≡ Some list = attributes_set f n list h.here in
     record {
       fits = record { forest = IsForest-redressed f n list h.forest; here = still_element f n list h.here };
       back = rw old (revised_back f n (with_attributes list) (with_attributes there.0) h.forest.distinct (λ s e. attributes_back s.content list there.0 (sym (ap (λ o. option_and_then attributes_in (option_map (λ (t : Seen Content). t.content) o)) e) ∙ old)));
-      same = λ i. Redress n (unwrap_or (now i) (unwrap_or (attributes_of f n) list));
+      same = λ i. change.SetAttributes n (unwrap_or (now i) (unwrap_or (attributes_of f n) list));
     }
 
 -- each label stands as often as before
 pub count_of-applied : (x : Change) (f : Forest Content) → Fits x f → (l : ℕ) → count_of (applied x f) l ≡ count_of f l
 unfolding applied
-count_of-applied (Loosen n) f h l = total-unlink (λ m _. cond (eqb m l) 1 0) f n
-count_of-applied (Attach n p b) f h l = total-link f p b n h.forest.distinct h.here.place (λ m _. cond (eqb m l) 1 0)
-count_of-applied (Shift n p b) f h l =
+count_of-applied (change.Remove n) f h l = total-unlink (λ m _. cond (eqb m l) 1 0) f n
+count_of-applied (change.Insert n p b) f h l = total-link f p b n h.forest.distinct h.here.place (λ m _. cond (eqb m l) 1 0)
+count_of-applied (change.Move n p b) f h l =
     let g = IsForest-unlink f (unwrap_or (parent_of f n) 0) n h.forest (given_parent f n h.here.0) in
     total-link (unlink f n) p b n g.distinct h.here.1.place (λ m _. cond (eqb m l) 1 0) ∙ total-unlink (λ m _. cond (eqb m l) 1 0) f n
-count_of-applied (Rewrite n words) f h l = total-revised n (with_chars words) (λ m. cond (eqb m l) 1 0) f
-count_of-applied (Redress n list) f h l = total-revised n (with_attributes list) (λ m. cond (eqb m l) 1 0) f
+count_of-applied (change.SetText n words) f h l = total-revised n (with_chars words) (λ m. cond (eqb m l) 1 0) f
+count_of-applied (change.SetAttributes n list) f h l = total-revised n (with_attributes list) (λ m. cond (eqb m l) 1 0) f
 
 pub IsForest-applied : (x : Change) (f : Forest Content) → Fits x f → IsForest (applied x f)
 IsForest-applied x f h = (turns x f h).fits.forest
 
-pub forest_of : (s : State) → IsLawful s → IsForest s.trees
+pub forest_of : (s : ArenaState) → IsValid s → IsForest s.trees
 forest_of s law = record { distinct = law.distinct; rising = law.rising; document = law.document; root = law.root; nodes = law.nodes }
 
-pub back_turns : (xs : List Change) (f : Forest Content) → FitsBack applied Fits xs f → TurnsBack applied turned Fits xs f
-back_turns = turns_back applied turned Fits (λ x f h. (turns x f h).fits) (λ x f h. (turns x f h).back) (λ x f h. (turns x f h).same)
+pub back_turns : (xs : List Change) (f : Forest Content) → FitsBack applied Fits xs f → TurnsBack applied inverse Fits xs f
+back_turns = turns_back applied inverse Fits (λ x f h. (turns x f h).fits) (λ x f h. (turns x f h).back) (λ x f h. (turns x f h).same)
 
-pub forth_turns : (xs : List Change) (f : Forest Content) → FitsForth applied Fits xs f → TurnsForth applied turned Fits xs f
-forth_turns = turns_forth applied turned Fits (λ x f h. (turns x f h).fits) (λ x f h. (turns x f h).back) (λ x f h. (turns x f h).same)
+pub forth_turns : (xs : List Change) (f : Forest Content) → FitsForth applied Fits xs f → TurnsForth applied inverse Fits xs f
+forth_turns = turns_forth applied inverse Fits (λ x f h. (turns x f h).fits) (λ x f h. (turns x f h).back) (λ x f h. (turns x f h).same)
 
 -- ---- a move
 
@@ -221,7 +222,7 @@ below_root : (f : Forest Content) (p n k : ℕ) → IsForest f → parent_of f n
 below_root f p n zero ok child e = absurd (let root = ok.root in let h : parent_of f 0 ≡ Some p = subst (λ k. parent_of f k ≡ Some p) e child in let q : Some p ≡ None = sym h ∙ root in cc)
 below_root f p n (suc k) ok child e = omega (arith, e)
 
-pub can_shift : (f : Forest Content) (n p q : ℕ) (b : Option ℕ) → IsForest f → parent_of f n ≡ Some p → is_parent_at f q ≡ true → (IsWithin f n q → ⊥) → IfSome b (λ m. (parent_of f m ≡ Some q) × (m ≢ n)) → Fits (Shift n q b) f
+pub can_shift : (f : Forest Content) (n p q : ℕ) (b : Option ℕ) → IsForest f → parent_of f n ≡ Some p → is_parent_at f q ≡ true → (IsWithin f n q → ⊥) → IfSome b (λ m. (parent_of f m ≡ Some q) × (m ≢ n)) → Fits (change.Move n q b) f
 can_shift f n p q b ok child parent off before = record {
   forest = ok;
   here = (

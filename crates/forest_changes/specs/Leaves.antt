@@ -4,7 +4,7 @@ use Rattle.dom_model.specs.declared.Content.{Content}
 use Rattle.dom_model.specs.declared.Content.TheVariants.{Document}
 use Rattle.dom_model.specs.Contents.{char_length}
 use Rattle.dom_model.specs.Forest.{Forest, count_of, with_leaf}
-use Rattle.dom_model.specs.Shed.{shed, IsWhole}
+use Rattle.dom_model.specs.Pruned.{pruned, IsWhole}
 use Rattle.undo_log.specs.Turning.{back, forth, FitsBack, FitsForth}
 use Rattle.forest_changes.specs.Change.{Change, Fits, IsForest, applied}
 
@@ -50,5 +50,5 @@ pub record HasMade (l : ℕ) (cs : List Content) (f : Forest Content) : Type 0 w
   pub forest : IsForest (with_leaves f l cs)
   pub below : IsBelow (with_leaves f l cs) (l + length cs)
   pub whole : IsWhole (nat_le l) (with_leaves f l cs)
-  pub without : shed (nat_le l) (with_leaves f l cs) ≡ f
+  pub without : pruned (nat_le l) (with_leaves f l cs) ≡ f
   pub one_more : (c : Content) → with_leaf (with_leaves f l cs) (l + length cs) c ≡ with_leaves f l (cs ++ c ∷ [])

@@ -8,7 +8,7 @@ use Rattle.edit_io.proofs.Told.{takes_whole, with_end-nil, with_end-with_end, ta
 use Rattle.edit_io.proofs.Faults.{Rose-after}
 use Rattle.dom_model.specs.declared.Content.{Content}
 use Rattle.dom_model.specs.Forest.{Forest}
-use Rattle.dom_model.specs.State.{State}
+use Rattle.dom_model.specs.ArenaState.{ArenaState}
 use Rattle.page_grammar.specs.Page.{Siblings}
 use Rattle.page_grammar.specs.Kind.{Kind}
 use Rattle.page_grammar.specs.Nodes.{document_of}
@@ -206,15 +206,15 @@ none_left denied e empty (b ∷ text) is so = absurd (let z : (length (b ∷ tex
 
 -- ---- a page's editor
 
-pub page_replies : (denied : List (List ℕ)) (a : State) (cap undo : ℕ) (f : Siblings) (lines : List (List ℕ)) → IsDocument a cap f → replies_to denied (new_editing a undo) lines ≡ replies_to denied (page_editing cap undo f) lines
+pub page_replies : (denied : List (List ℕ)) (a : ArenaState) (cap undo : ℕ) (f : Siblings) (lines : List (List ℕ)) → IsDocument a cap f → replies_to denied (new_editing a undo) lines ≡ replies_to denied (page_editing cap undo f) lines
 unfolding first_state
 page_replies denied a cap undo f lines d = ap (λ e. replies_to denied e lines) (by_parts a.trees a.next a.cap d.trees d.next d.cap)
   where
     by_parts : (t : Forest Content) (n k : ℕ) → t ≡ document_of f → n ≡ suc (size f) → k ≡ cap → new_editing (record { trees = t; next = n; cap = k; held = [] }) undo ≡ page_editing cap undo f
     by_parts t n k et en ek = rw (et, en, ek) refl
 
-pub alone : (a : State) (cap : ℕ) (f : Siblings) → IsDocument a cap f → tops a.trees ≡ 0 ∷ []
+pub alone : (a : ArenaState) (cap : ℕ) (f : Siblings) → IsDocument a cap f → tops a.trees ≡ 0 ∷ []
 alone a cap f d = rw d.trees refl
 
-pub page_labelled : (a : State) (f : Siblings) → IsDocument a 2000000 f → labelled a ≡ page_document f
+pub page_labelled : (a : ArenaState) (f : Siblings) → IsDocument a 2000000 f → labelled a ≡ page_document f
 page_labelled a f d = rw (d.trees, d.next, d.cap) refl

@@ -7,7 +7,7 @@ use Rattle.dom_model.specs.Forest.{Forest, tops, seek, first_of, preorder, IsDis
 use Rattle.dom_model.specs.Forest.Forest.{Tree}
 use Rattle.dom_model.proofs.Walks.{document_first}
 use Rattle.live_range.specs.declared.places.Point.{Point}
-use Rattle.edit_model.specs.Lawful.{IsForest}
+use Rattle.edit_model.specs.Valid.{IsForest}
 use Rattle.edit_model.specs.State.{State}
 use Rattle.inline_commands.specs.Unlink.{is_link, is_touched, links_in}
 use Rattle.node_paths.specs.Onward.{onward_at}

@@ -14,15 +14,15 @@ use Rattle.dom_model.proofs.Walks.{document_first}
 use Rattle.dom_model.proofs.Within.{within_step, within_child, within_root}
 use Rattle.live_range.specs.declared.places.Point.{Point}
 use Rattle.point_order.specs.PointOrder.{is_within, is_ancestor, is_before}
-use Rattle.node_styles.specs.Lineage.{Kin, lineage_from, lineage}
-use Rattle.node_styles.proofs.Lineages.{kin, lineage_absent}
-use Rattle.edit_model.specs.Lawful.{IsForest}
+use Rattle.node_styles.specs.Lineage.{Ancestor, lineage_from, lineage}
+use Rattle.node_styles.proofs.Lineages.{ancestor, lineage_absent}
+use Rattle.edit_model.specs.Valid.{IsForest}
 use Rattle.inline_commands.specs.Linking.{links_above}
 use Rattle.inline_commands.specs.Unlink.{is_link, is_touched, links_in}
 use Rattle.inline_commands.proofs.Above.{none_above, above_child}
 use Rattle.inline_commands.proofs.Walking.{preorder_tree}
 
-abbrev pub labels : List Kin → List ℕ
+abbrev pub labels : List Ancestor → List ℕ
 labels ks = map (λ k. k.label) ks
 
 -- the trees of labels below the first tree, and after it
@@ -87,12 +87,12 @@ none_listed W (Tree m c ks rest) n once tells none =
     ]
 
 -- the lineage of a node in these trees, which stand below others, is what the test finds in tree order, from the innermost on
-record Listed (W : ℕ → Bool) (above : List Kin) (g : Forest Content) (n : ℕ) : Type 0 where
-  line : List Kin
+record Listed (W : ℕ → Bool) (above : List Ancestor) (g : Forest Content) (n : ℕ) : Type 0 where
+  line : List Ancestor
   is : lineage_from above g n ≡ Some line
   back : reverse (labels line) ≡ reverse (labels above) ++ filter W (preorder g)
 
-above_listed : (W : ℕ → Bool) (above : List Kin) (g : Forest Content) (n : ℕ) → IsDistinct g → TellsAbove W g n → 0 < count_of g n → Listed W above g n
+above_listed : (W : ℕ → Bool) (above : List Ancestor) (g : Forest Content) (n : ℕ) → IsDistinct g → TellsAbove W g n → 0 < count_of g n → Listed W above g n
 above_listed W above Nil n once tells here = absurd (omega (arith, here))
 above_listed W above (Tree m c ks rest) n once tells here =
     let in_ks : (k : ℕ) → count_of ks k ≤ 1 = λ k. omega (arith, once k) in
@@ -110,11 +110,11 @@ above_listed W above (Tree m c ks rest) n once tells here =
           let yes : W m ≡ true = top ∙ (rw t (grind (arith, nat_tests))) in
           let found : filter W (preorder (Tree m c ks rest)) ≡ m ∷ [] = parts W m c ks rest ∙ rw (kept W m yes, none_listed W ks n in_ks below_tell no_ks, none_listed W rest n in_rest after_tell no_rest) refl in
           record {
-            line = kin m c ∷ above;
+            line = ancestor m c ∷ above;
             is = rw t refl;
             back = reverse-cons m (labels above) ∙ ap (λ xs. reverse (labels above) ++ xs) (sym found);
           })
-      | inr (t, _) ↦ by_count (count_of ks n) refl t in_ks in_rest below_tell after_tell top (λ h. above_listed W (kin m c ∷ above) ks n in_ks below_tell h) (λ h. above_listed W above rest n in_rest after_tell h)
+      | inr (t, _) ↦ by_count (count_of ks n) refl t in_ks in_rest below_tell after_tell top (λ h. above_listed W (ancestor m c ∷ above) ks n in_ks below_tell h) (λ h. above_listed W above rest n in_rest after_tell h)
     ]
   where
     from_rest : Listed W above rest n → eqb m n ≡ false → count_of ks n ≡ 0 → W m ≡ false → filter W (preorder ks) ≡ [] → Listed W above (Tree m c ks rest) n
@@ -122,14 +122,14 @@ above_listed W above (Tree m c ks rest) n once tells here =
         let found : filter W (preorder (Tree m c ks rest)) ≡ filter W (preorder rest) = parts W m c ks rest ∙ rw (dropped W m out, none) refl in
         record {
           line = r.line;
-          is = rw (t, lineage_absent (kin m c ∷ above) ks n e) r.is;
+          is = rw (t, lineage_absent (ancestor m c ∷ above) ks n e) r.is;
           back = r.back ∙ ap (λ xs. reverse (labels above) ++ xs) (sym found);
         }
 
-    from_below : Listed W (kin m c ∷ above) ks n → eqb m n ≡ false → W m ≡ true → filter W (preorder rest) ≡ [] → Listed W above (Tree m c ks rest) n
+    from_below : Listed W (ancestor m c ∷ above) ks n → eqb m n ≡ false → W m ≡ true → filter W (preorder rest) ≡ [] → Listed W above (Tree m c ks rest) n
     from_below r t held none =
         let found : filter W (preorder (Tree m c ks rest)) ≡ (m ∷ []) ++ filter W (preorder ks) = parts W m c ks rest ∙ rw (kept W m held, none) (ap (λ xs. m ∷ xs) (append-nil (filter W (preorder ks)))) in
-        let more : reverse (labels (kin m c ∷ above)) ++ filter W (preorder ks) ≡ reverse (labels above) ++ ((m ∷ []) ++ filter W (preorder ks)) =
+        let more : reverse (labels (ancestor m c ∷ above)) ++ filter W (preorder ks) ≡ reverse (labels above) ++ ((m ∷ []) ++ filter W (preorder ks)) =
         ap (λ xs. xs ++ filter W (preorder ks)) (reverse-cons m (labels above)) ∙ append_assoc (reverse (labels above)) (m ∷ []) (filter W (preorder ks)) in
         record {
           line = r.line;
@@ -138,7 +138,7 @@ above_listed W above (Tree m c ks rest) n once tells here =
         }
 
     by_count : (k : ℕ) → count_of ks n ≡ k → eqb m n ≡ false → ((k : ℕ) → count_of ks k ≤ 1) → ((k : ℕ) → count_of rest k ≤ 1) → TellsAbove W ks n → TellsAbove W rest n → W m ≡ nat_lt 0 (count_of (Tree m c ks Nil) n)
-        → (0 < count_of ks n → Listed W (kin m c ∷ above) ks n) → (0 < count_of rest n → Listed W above rest n) → Listed W above (Tree m c ks rest) n
+        → (0 < count_of ks n → Listed W (ancestor m c ∷ above) ks n) → (0 < count_of rest n → Listed W above rest n) → Listed W above (Tree m c ks rest) n
     by_count zero e t in_ks in_rest below_tell after_tell top below after =
         let out : W m ≡ false = top ∙ (rw t (grind (arith, nat_tests, e))) in
         let low : 0 < count_of rest n = (let h = rw t at here in omega (arith, h, e)) in

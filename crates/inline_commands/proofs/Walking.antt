@@ -18,14 +18,14 @@ pub here_at : (d : Whole) → IsDoc d → (o : Option NodeRef) (node : NodeRef) 
 here_at d law o node is held inner =
     let held' : Holds d node = rw is at held in
     let inner' : IsSome (parent_of d.state.trees node.label) = rw is at inner in
-    let at = at_label d.state.trees law.lawful.forest.distinct node.label held'.here in
-    (at.content, visit d.state.trees node.label at.content law.lawful.forest.distinct held'.here inner' at.content_is)
+    let at = at_label d.state.trees law.valid.forest.distinct node.label held'.here in
+    (at.content, visit d.state.trees node.label at.content law.valid.forest.distinct held'.here inner' at.content_is)
 
 pub led_at : (d : Whole) (o : Option NodeRef) (named : Option ℕ) → Finds d o named → IsInner d.state.trees named → IsInner d.state.trees (label_of o)
 led_at d o named finds inner = rw finds.is inner
 
 pub first_inner_at : (d : Whole) → IsDoc d → (r : NodeRef) → Holds d r → IsInner d.state.trees (first_of d.state.trees r.label)
-first_inner_at d law r held = inner_first d.state.trees r.label law.lawful.forest.distinct held.here
+first_inner_at d law r held = inner_first d.state.trees r.label law.valid.forest.distinct held.here
 
 pub size_found : (d : Whole) (o : Option NodeRef) (named : Option ℕ) → Finds d o named → size_from d.state.trees (label_of o) ≡ size_from d.state.trees named
 size_found d o named finds = rw finds.is refl

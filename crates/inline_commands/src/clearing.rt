@@ -46,7 +46,7 @@ fn touched_links(alloc: Global, doc: &Doc) -> Result<Vec<NodeRef>, AllocError>
     ensures held { IfOk result (λ list. EachHeld doc.now list.items) }
     ensures links { IfOk result (λ list. labels_of list.items ≡ links_touched doc.now.state) }
 {
-    doc.lawful();
+    doc.valid();
     match doc.points().selection() {
         Some(pair) => links_of(alloc, doc, pair),
         None => Ok(Vec::new(alloc)),

@@ -4,7 +4,7 @@ ghost use Rattle.std.specs.Prelude.{◌≡◌, ◌++◌, ◌∷◌, ◌||◌, �
 ghost use Rattle.dom_model.specs.Contents.{is_element_at};
 ghost use Rattle.dom_model.specs.Forest.{count_of, preorder};
 ghost use Rattle.point_order.specs.PointOrder.{is_placed};
-ghost use Rattle.edit_model.specs.Lawful.{IsPlacedPair};
+ghost use Rattle.edit_model.specs.Valid.{IsPlacedPair};
 ghost use Rattle.edit_model.specs.Gives.{label_of, labels_of};
 ghost use Rattle.edit_doc.specs.Held.{Holds, IfHeld, EachHeld};
 ghost use Rattle.node_styles.specs.Lineage.{lineage};
@@ -97,7 +97,7 @@ fn push_touched(
     ensures held { EachHeld doc.now list.new.items }
     ensures ok { OnOk result (labels_of list.new.items ≡ labels_of list.old.items ++ filter (λ l. is_link doc.now.state.trees l && is_touched doc.now.state.trees start end l) (preorder (onward_at doc.now.state.trees (label_of first)))) }
 {
-    doc.lawful();
+    doc.valid();
     let mut at = first;
     while let Some(node) = at {
         push_if_touched(list, doc, start, end, node)?;
@@ -114,7 +114,7 @@ fn push_above(list: &mut Vec<NodeRef>, doc: &Doc, node: NodeRef) -> Result<(), A
     ensures held { EachHeld doc.now list.new.items }
     ensures ok { OnOk result (labels_of list.new.items ≡ labels_of list.old.items ++ filter (is_link doc.now.state.trees) (reverse (map (λ k. k.label) (lineage doc.now.state.trees node.label)))) }
 {
-    doc.lawful();
+    doc.valid();
     match doc.parent(node) {
         None => push_if_link(list, doc, node),
         Some(parent) => {
@@ -134,7 +134,7 @@ pub(crate) fn links_above(
     ensures held { IfOk result (λ list. EachHeld doc.now list.items) }
     ensures links { IfOk result (λ list. labels_of list.items ≡ links_above doc.now.state.trees node.label) }
 {
-    doc.lawful();
+    doc.valid();
     let mut list = Vec::new(alloc);
     match doc.parent(node) {
         None => Ok(list),
@@ -152,7 +152,7 @@ fn links_around(alloc: Global, doc: &Doc, caret: Point) -> Result<Vec<NodeRef>, 
     ensures held { IfOk result (λ list. EachHeld doc.now list.items) }
     ensures links { IfOk result (λ list. labels_of list.items ≡ links_in doc.now.state.trees caret caret) }
 {
-    doc.lawful();
+    doc.valid();
     links_above(alloc, doc, node_of(doc, caret))
 }
 
@@ -168,7 +168,7 @@ fn links_between(
     ensures held { IfOk result (λ list. EachHeld doc.now list.items) }
     ensures links { IfOk result (λ list. labels_of list.items ≡ links_in doc.now.state.trees start end) }
 {
-    doc.lawful();
+    doc.valid();
     let mut list = Vec::new(alloc);
     push_touched(&mut list, doc, start, end, doc.first_child(doc.document()))?;
     Ok(list)

@@ -19,7 +19,7 @@ pub(crate) fn nodes_in_range(alloc: Global, doc: &Doc) -> Result<NodeList, Alloc
     ensures held { IfOk result (λ list. EachHeld doc.now list) }
     ensures nodes { IfOk result (λ list. labels_of list ≡ nodes_in_range doc.now.state) }
 {
-    doc.lawful();
+    doc.valid();
     match doc.points().selection() {
         Some(pair) => effective_nodes(alloc, doc, ends_of(doc, pair)),
         None => NodeList::from_slice(alloc, &[]),

@@ -4,8 +4,8 @@ use Rattle.dom_model.specs.declared.Content.{Content}
 use Rattle.dom_model.specs.Forest.{Forest, count_of, parent_of, depth_of, IsDistinct}
 use Rattle.dom_model.proofs.Parts.{at_label}
 use Rattle.dom_model.proofs.Within.{depth_of-parent}
-use Rattle.node_styles.specs.Lineage.{Kin, lineage}
-use Rattle.node_styles.proofs.Lineages.{kin, lineage-child, lineage-root}
+use Rattle.node_styles.specs.Lineage.{Ancestor, lineage}
+use Rattle.node_styles.proofs.Lineages.{ancestor, lineage-child, lineage-root}
 use Rattle.node_arena.specs.declared.NodeRef.{NodeRef}
 use Rattle.edit_model.specs.Gives.{label_of, labels_of}
 use Rattle.edit_model.proofs.Steps.{labels_of_push}

@@ -7,7 +7,7 @@ use Rattle.dom_model.specs.Forest.{Forest, count_of, parent_of, content_of, IsDi
 use Rattle.dom_model.proofs.Links.{parent_count}
 use Rattle.dom_model.proofs.Parts.{at_label}
 use Rattle.html_names.specs.declared.commands.Command.{Command}
-use Rattle.node_styles.specs.Lineage.{Kin, lineage}
+use Rattle.node_styles.specs.Lineage.{Ancestor, lineage}
 use Rattle.node_styles.proofs.Lineages.{nearest-here, nearest-root, nearest-parent, lineage-child, lineage-root}
 use Rattle.command_value.specs.SpecifiedValues.{specified, specified_in}
 use Rattle.inline_value.specs.Forcing.{above, ancestors}
@@ -18,8 +18,8 @@ module _ (f : Forest Content) (once : IsDistinct f) (l : ℕ) (here : 0 < count_
     abbrev gives : Content → Bool
     gives c = is_some (specified_in c command)
 
-    abbrev given_by_kin : Option Kin → Option (List ℕ)
-    given_by_kin o = option_and_then (λ k. specified_in k.content command) o
+    abbrev given_by_ancestor : Option Ancestor → Option (List ℕ)
+    given_by_ancestor o = option_and_then (λ k. specified_in k.content command) o
 
     own : (c : Content) → content_of f l ≡ Some c → specified f l command ≡ specified_in c command
     unfolding specified
@@ -30,21 +30,21 @@ module _ (f : Forest Content) (once : IsDistinct f) (l : ℕ) (here : 0 < count_
     given_here is =
         let at = at_label f once l here in
         let o = own at.content at.content_is in
-        ap given_by_kin (nearest-here gives f once l at.content here at.content_is (ap is_some (sym o) ∙ is)) ∙ sym o
+        ap given_by_ancestor (nearest-here gives f once l at.content here at.content_is (ap is_some (sym o) ∙ is)) ∙ sym o
 
     pub given_none : parent_of f l ≡ None → is_some (specified f l command) ≡ false → given_value f l command ≡ None
     unfolding given_value giver
     given_none root is =
         let at = at_label f once l here in
         let o = own at.content at.content_is in
-        ap given_by_kin (nearest-root gives f once l at.content here at.content_is root (ap is_some (sym o) ∙ is))
+        ap given_by_ancestor (nearest-root gives f once l at.content here at.content_is root (ap is_some (sym o) ∙ is))
 
     pub given_above : (p : ℕ) → parent_of f l ≡ Some p → is_some (specified f l command) ≡ false → given_value f l command ≡ given_value f p command
     unfolding given_value giver
     given_above p child is =
         let at = at_label f once l here in
         let o = own at.content at.content_is in
-        ap given_by_kin (nearest-parent gives f once l at.content here at.content_is p child (ap is_some (sym o) ∙ is))
+        ap given_by_ancestor (nearest-parent gives f once l at.content here at.content_is p child (ap is_some (sym o) ∙ is))
 
   -- ---- the ancestors
 
@@ -62,7 +62,7 @@ module _ (f : Forest Content) (once : IsDistinct f) (l : ℕ) (here : 0 < count_
       let up = at_label f once p (parent_count f l p once child).1 in
       ap above (lineage-child f once l p at.content child at.content_is) ∙ by_parent (parent_of f p) refl up.content up.content_is
     where
-      labels : List Kin → List ℕ
+      labels : List Ancestor → List ℕ
       labels ks = map (λ k. k.label) ks
 
       by_parent : (o : Option ℕ) → parent_of f p ≡ o → (c : Content) → content_of f p ≡ Some c → labels (lineage f p) ≡ p ∷ above (lineage f p)

@@ -6,7 +6,7 @@ use Rattle.dom_model.specs.Document.{node_count}
 use Rattle.dom_model.specs.Forest.{Forest, parent_of, prev_of, next_of, children_of}
 use Rattle.html_names.specs.declared.commands.Command.{Command}
 use Rattle.node_styles.specs.Allowed.{allowed_in_name}
-use Rattle.node_styles.specs.Lineage.{Kin, lineage}
+use Rattle.node_styles.specs.Lineage.{Ancestor, lineage}
 use Rattle.command_value.specs.EffectiveValues.{effective}
 use Rattle.command_value.specs.Equivalence.{alike}
 use Rattle.command_value.specs.Modifiable.{specifies_other}
@@ -36,7 +36,7 @@ is_phrase s n = allowed_in_name s.trees n (codes "span")
 unfoldable pub has_alike : State → ℕ → Command → Option (List ℕ) → Bool
 has_alike s n command v = alike command (effective s.trees n command) v
 
-abbrev pub above : List Kin → List ℕ
+abbrev pub above : List Ancestor → List ℕ
 above [] = []
 above (k ∷ line) = map (λ j. j.label) line
 

@@ -6,7 +6,7 @@ use Rattle.dom_model.specs.declared.Content.{Content}
 use Rattle.dom_model.specs.Forest.{Forest}
 use Rattle.html_names.specs.declared.commands.Command.{Command}
 use Rattle.html_names.specs.declared.commands.Command.TheVariants as command
-use Rattle.node_styles.specs.Lineage.{Kin, nearest}
+use Rattle.node_styles.specs.Lineage.{Ancestor, nearest}
 use Rattle.command_value.specs.Equivalence.{equivalent}
 use Rattle.command_value.specs.SpecifiedValues.{specified_in}
 use Rattle.edit_model.specs.State.{State}
@@ -27,7 +27,7 @@ recorded_commands =
     ∷ command.Strikethrough ∷ command.Underline ∷ []
 
 -- the nearest element, the node or an ancestor, that gives the command a value
-unfoldable pub giver : Forest Content → ℕ → Command → Option Kin
+unfoldable pub giver : Forest Content → ℕ → Command → Option Ancestor
 giver f n command = nearest (λ c. is_some (specified_in c command)) f n
 
 -- the value that it gives

@@ -67,7 +67,7 @@ pub fn has_place(doc: &Doc, node: NodeRef) -> bool
     requires { Holds doc.now node }
     ensures { result ≡ has_place doc.now.state node.label }
 {
-    doc.lawful();
+    doc.valid();
     let mut at = node;
     while let Some(parent) = doc.parent(at) {
         if takes(doc, node, parent) {

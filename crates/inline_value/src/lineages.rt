@@ -14,7 +14,7 @@ pub(crate) fn ancestors(alloc: Global, doc: &Doc, node: NodeRef) -> Result<Vec<N
     ensures held { IfOk result (λ list. EachHeld doc.now list.items) }
     ensures labels { IfOk result (λ list. labels_of list.items ≡ ancestors doc.now.state.trees node.label) }
 {
-    doc.lawful();
+    doc.valid();
     let mut list = Vec::new(alloc);
     let mut at = doc.parent(node);
     while let Some(above) = at {

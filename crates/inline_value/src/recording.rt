@@ -80,7 +80,7 @@ fn giver(doc: &Doc, node: NodeRef, command: Command) -> Option<NodeRef>
     ensures value { option_and_then (λ l. specified doc.now.state.trees l command) (label_of result) ≡ given_value doc.now.state.trees node.label command }
     ensures some { IfSome result (λ r. is_some (specified doc.now.state.trees r.label command) ≡ Bool.true) }
 {
-    doc.lawful();
+    doc.valid();
     let mut at = node;
     while !specifies(doc, at, command) {
         match doc.parent(at) {

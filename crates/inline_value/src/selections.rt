@@ -9,7 +9,7 @@ ghost use Rattle.html_names.specs.ActivatedValues as activated;
 ghost use Rattle.html_names.specs.ElementNames.{is_one_of};
 ghost use Rattle.edit_model.specs.Confined.{is_editable_for};
 ghost use Rattle.edit_model.specs.Gives.{Gives, labels_of};
-ghost use Rattle.edit_model.specs.Lawful.{IsPlacedPair};
+ghost use Rattle.edit_model.specs.Valid.{IsPlacedPair};
 ghost use Rattle.edit_model.specs.Run.{done, for_each, given, set_setting};
 ghost use Rattle.edit_doc.specs.Whole.{IsOpen};
 ghost use Rattle.edit_doc.specs.Held.{Holds, EachHeld, Keeps};
@@ -84,7 +84,7 @@ fn set_start(doc: &mut Doc, at: Point) -> Result<(), EditFault>
     ensures gives { Gives result doc.old.state doc.new.state (set_start at) }
     ensures keeps { Keeps doc.old doc.new }
 {
-    doc.lawful();
+    doc.valid();
     match doc.points().selection() {
         Some(pair) => set_start_of(doc, pair, at),
         None => Ok(()),
@@ -133,7 +133,7 @@ fn split_start(doc: &mut Doc) -> Result<(), EditFault>
     ensures gives { Gives result doc.old.state doc.new.state split_start }
     ensures keeps { Keeps doc.old doc.new }
 {
-    doc.lawful();
+    doc.valid();
     match doc.points().selection() {
         Some(pair) => {
             let (start, _end) = ends_of(doc, pair);
@@ -150,7 +150,7 @@ fn split_end(doc: &mut Doc) -> Result<(), EditFault>
     ensures gives { Gives result doc.old.state doc.new.state split_end }
     ensures keeps { Keeps doc.old doc.new }
 {
-    doc.lawful();
+    doc.valid();
     match doc.points().selection() {
         Some(pair) => {
             let (_start, end) = ends_of(doc, pair);
@@ -227,7 +227,7 @@ fn editable_in_range(alloc: Global, doc: &Doc) -> Result<Vec<NodeRef>, AllocErro
     ensures held { IfOk result (λ list. EachHeld doc.now list.items) }
     ensures nodes { IfOk result (λ list. labels_of list.items ≡ editable_in_range doc.now.state) }
 {
-    doc.lawful();
+    doc.valid();
     match doc.points().selection() {
         Some(pair) => editable_between(alloc, doc, pair),
         None => Ok(Vec::new(alloc)),

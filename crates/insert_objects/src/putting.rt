@@ -137,7 +137,7 @@ fn part_start(doc: &mut Doc) -> Result<(), EditFault>
     ensures gives { Gives result doc.old.state doc.new.state putting.part_start }
     ensures keeps { Keeps doc.old doc.new }
 {
-    doc.lawful();
+    doc.valid();
     let Some(pair) = doc.points().selection() else {
         return Ok(());
     };

@@ -89,7 +89,7 @@ fn widen_range(doc: &mut Doc) -> Result<(), EditFault>
     ensures gives { Gives result doc.old.state doc.new.state command.widen_range }
     ensures keeps { Keeps doc.old doc.new }
 {
-    doc.lawful();
+    doc.valid();
     let Some(pair) = doc.points().selection() else {
         return Ok(());
     };

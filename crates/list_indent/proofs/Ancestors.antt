@@ -5,7 +5,7 @@ use Rattle.dom_model.specs.declared.Content.{Content}
 use Rattle.dom_model.specs.Forest.{Forest, IsDistinct, count_of, parent_of, depth_of}
 use Rattle.dom_model.proofs.Parts.{at_label}
 use Rattle.dom_model.proofs.Within.{depth_of-parent}
-use Rattle.node_styles.specs.Lineage.{Kin, lineage}
+use Rattle.node_styles.specs.Lineage.{Ancestor, lineage}
 use Rattle.node_styles.proofs.Lineages.{lineage-root, lineage-child}
 use Rattle.node_arena.specs.declared.NodeRef.{NodeRef}
 use Rattle.edit_model.specs.Gives.{label_of, labels_of}
@@ -20,12 +20,12 @@ use Rattle.list_indent.specs.Outdenting.{beyond}
 -- a node with its ancestors, if there is one
 abbrev pub chain : Forest Content → Option ℕ → List ℕ
 chain f None = []
-chain f (Some l) = map (λ (k : Kin). k.label) (lineage f l)
+chain f (Some l) = map (λ (k : Ancestor). k.label) (lineage f l)
 
 module _ (f : Forest Content) (once : IsDistinct f) (l : ℕ) (here : 0 < count_of f l) where
   chain_by : (o : Option ℕ) → parent_of f l ≡ o → chain f (Some l) ≡ l ∷ chain f o
-  chain_by None e = let at = at_label f once l here in ap (map (λ (k : Kin). k.label)) (lineage-root f once l at.content here e at.content_is)
-  chain_by (Some p) e = let at = at_label f once l here in ap (map (λ (k : Kin). k.label)) (lineage-child f once l p at.content e at.content_is)
+  chain_by None e = let at = at_label f once l here in ap (map (λ (k : Ancestor). k.label)) (lineage-root f once l at.content here e at.content_is)
+  chain_by (Some p) e = let at = at_label f once l here in ap (map (λ (k : Ancestor). k.label)) (lineage-child f once l p at.content e at.content_is)
 
   -- a node with its ancestors is the node, and its parent with its ancestors
   chain_up : chain f (Some l) ≡ l ∷ chain f (parent_of f l)
@@ -90,7 +90,7 @@ module _ (d : Whole) (test : ℕ → Bool) (xs : List NodeRef) (whole : List ℕ
     here = let h : Holds d r = rw is at held in h.here
 
     once : IsDistinct d.state.trees
-    once = law.lawful.forest.distinct
+    once = law.valid.forest.distinct
 
     pub stop_passed : test r.label ≡ false → at_passed o xs → labels_of xs ≡ whole
     stop_passed off made =

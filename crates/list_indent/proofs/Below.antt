@@ -29,10 +29,10 @@ module _ (d : Whole) (law : IsDoc d) (r : NodeRef) (at : At d (Some r)) where
   has o = has_editable d.state (onward_at f o)
 
   abbrev c : Content
-  c = (at_label f law.lawful.forest.distinct r.label at.held.here).content
+  c = (at_label f law.valid.forest.distinct r.label at.held.here).content
 
   v : Visit f r.label c
-  v = visit f r.label c law.lawful.forest.distinct at.held.here at.inner (at_label f law.lawful.forest.distinct r.label at.held.here).content_is
+  v = visit f r.label c law.valid.forest.distinct at.held.here at.inner (at_label f law.valid.forest.distinct r.label at.held.here).content_is
 
   pub first_at : (o : Option NodeRef) → Finds d o (first_of f r.label) → At d o
   first_at o finds = record { held = finds.held; inner = rw finds.is v.first }
@@ -67,4 +67,4 @@ module _ (d : Whole) (law : IsDoc d) (r : NodeRef) (at : At d (Some r)) where
 
 -- where the walk below a node begins
 pub begins : (d : Whole) (law : IsDoc d) (r : NodeRef) → Holds d r → (o : Option NodeRef) → Finds d o (first_of d.state.trees r.label) → IsInner d.state.trees (label_of o)
-begins d law r held o finds = rw finds.is (inner_first d.state.trees r.label law.lawful.forest.distinct held.here)
+begins d law r held o finds = rw finds.is (inner_first d.state.trees r.label law.valid.forest.distinct held.here)

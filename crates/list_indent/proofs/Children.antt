@@ -58,7 +58,7 @@ module _ (d : Whole) (law : IsDoc d) (node : NodeRef) where
   g = d.state.trees
 
   once : IsDistinct g
-  once = law.lawful.forest.distinct
+  once = law.valid.forest.distinct
 
   there : (p : ℕ) → parent_of g node.label ≡ Some p → 0 < times (children_of g p) node.label
   there p child =

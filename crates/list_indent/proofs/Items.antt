@@ -7,7 +7,7 @@ use Rattle.dom_model.specs.declared.Content.{Content}
 use Rattle.dom_model.specs.Contents.{has_name}
 use Rattle.dom_model.specs.Forest.{Forest, IsDistinct, count_of, parent_of}
 use Rattle.dom_model.proofs.Parts.{at_label}
-use Rattle.node_styles.specs.Lineage.{Kin, lineage}
+use Rattle.node_styles.specs.Lineage.{Ancestor, lineage}
 use Rattle.node_styles.proofs.Lineages.{lineage-root, lineage-child}
 use Rattle.list_indent.specs.Commands.{items_over}
 
@@ -22,12 +22,12 @@ module _ (f : Forest Content) (once : IsDistinct f) (l : ℕ) where
   unfolding items_over
   items_root here root =
       let at = at_label f once l here in
-      ap (λ ks. filter (is_li f) (reverse (map (λ (k : Kin). k.label) ks))) (lineage-root f once l at.content here root at.content_is)
+      ap (λ ks. filter (is_li f) (reverse (map (λ (k : Ancestor). k.label) ks))) (lineage-root f once l at.content here root at.content_is)
 
   pub items_child : (p : ℕ) → 0 < count_of f l → parent_of f l ≡ Some p → items_over f l ≡ items_over f p ++ filter (is_li f) (l ∷ [])
   unfolding items_over
   items_child p here up =
       let at = at_label f once l here in
-      ap (λ ks. filter (is_li f) (reverse (map (λ (k : Kin). k.label) ks))) (lineage-child f once l p at.content up at.content_is)
-      ∙ (ap (filter (is_li f)) (reverse-cons l (map (λ (k : Kin). k.label) (lineage f p)))
-      ∙ filter-append (is_li f) (reverse (map (λ (k : Kin). k.label) (lineage f p))) (l ∷ []))
+      ap (λ ks. filter (is_li f) (reverse (map (λ (k : Ancestor). k.label) ks))) (lineage-child f once l p at.content up at.content_is)
+      ∙ (ap (filter (is_li f)) (reverse-cons l (map (λ (k : Ancestor). k.label) (lineage f p)))
+      ∙ filter-append (is_li f) (reverse (map (λ (k : Ancestor). k.label) (lineage f p))) (l ∷ []))

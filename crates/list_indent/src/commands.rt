@@ -52,7 +52,7 @@ fn shown_before(doc: &Doc, node: NodeRef) -> Option<NodeRef>
     requires { Holds doc.now node }
     ensures { Finds doc.now result (shown_before doc.now.state node.label) }
 {
-    doc.lawful();
+    doc.valid();
     let mut at = doc.prev(node);
     while let Some(sibling) = at {
         if is_visible(doc, sibling) {

@@ -6,7 +6,7 @@ ghost use Rattle.node_styles.specs.Lineage.{lineage};
 ghost use Rattle.node_paths.specs.Onward.{onward_at, IsInner};
 ghost use Rattle.point_order.specs.PointOrder.{is_within};
 ghost use Rattle.edit_model.specs.Gives.{label_of, labels_of};
-ghost use Rattle.edit_model.specs.Lawful.{IsPlacedPair};
+ghost use Rattle.edit_model.specs.Valid.{IsPlacedPair};
 ghost use Rattle.edit_doc.specs.Held.{Holds, IfHeld, EachHeld};
 ghost use Rattle.list_indent.specs.Commands.{items_over, items_around, items_by, range_items, range_nodes, gathered_by, is_indentable, is_outdentable, has_editable, has_editable_below};
 
@@ -38,7 +38,7 @@ pub fn push_items(list: &mut Vec<NodeRef>, doc: &Doc, node: NodeRef) -> Result<(
     ensures held { EachHeld doc.now list.new.items }
     ensures ok { OnOk result (labels_of list.new.items ≡ labels_of list.old.items ++ items_over doc.now.state.trees node.label) }
 {
-    doc.lawful();
+    doc.valid();
     match doc.parent(node) {
         None => push_if_item(list, doc, node),
         Some(parent) => {
@@ -106,7 +106,7 @@ pub(crate) fn range_items(alloc: Global, doc: &Doc) -> Result<Vec<NodeRef>, Allo
     ensures held { IfOk result (λ list. EachHeld doc.now list.items) }
     ensures items { IfOk result (λ list. labels_of list.items ≡ range_items doc.now.state) }
 {
-    doc.lawful();
+    doc.valid();
     match doc.points().selection() {
         Some(pair) => items_of(alloc, doc, pair),
         None => Ok(Vec::new(alloc)),
@@ -135,7 +135,7 @@ fn has_editable(doc: &Doc, first: Option<NodeRef>) -> bool
     requires inner { IsInner doc.now.state.trees (label_of first) }
     ensures { result ≡ has_editable doc.now.state (onward_at doc.now.state.trees (label_of first)) }
 {
-    doc.lawful();
+    doc.valid();
     let mut at = first;
     while let Some(node) = at {
         if doc.is_editable_for(node) || has_editable(doc, doc.first_child(node)) {
@@ -152,7 +152,7 @@ pub fn has_editable_below(doc: &Doc, node: NodeRef) -> bool
     requires { Holds doc.now node }
     ensures { result ≡ has_editable_below doc.now.state node.label }
 {
-    doc.lawful();
+    doc.valid();
     has_editable(doc, doc.first_child(node))
 }
 
@@ -199,7 +199,7 @@ pub(crate) fn range_nodes<C: Choice<Doc>>(
     ensures held { IfOk result (λ list. EachHeld doc.now list) }
     ensures nodes { IfOk result (λ list. labels_of list ≡ gathered_by (C.chosen choice.now doc.now) doc.now.state.trees doc.now.state.points.selection) }
 {
-    doc.lawful();
+    doc.valid();
     match doc.points().selection() {
         Some(pair) => gathered_of(alloc, doc, pair, choice),
         None => NodeList::from_slice(alloc, &Vec::new(alloc)),

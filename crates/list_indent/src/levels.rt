@@ -32,7 +32,7 @@ fn child_on_way(
     requires { Holds doc.now element }
     ensures { Finds doc.now result (child_on_way doc.now.state element.label node.label (label_of below)) }
 {
-    doc.lawful();
+    doc.valid();
     let mut at = doc.first_child(element);
     while let Some(child) = at {
         if is_on_way(node, below, child) {

@@ -81,7 +81,7 @@ pub(crate) fn has_list(doc: &Doc, node: NodeRef) -> bool
     requires { Holds doc.now node }
     ensures { result ≡ list_any (is_list doc.now.state) (children_of doc.now.state.trees node.label) }
 {
-    doc.lawful();
+    doc.valid();
     let mut at = doc.first_child(node);
     while let Some(child) = at {
         if is_list(doc, child) {

@@ -138,7 +138,7 @@ fn way_by(alloc: Global, doc: &Doc, simple: bool, node: NodeRef) -> Result<Way, 
     ensures passed { IfOk result (λ way. labels_of way.passed.items ≡ passed_by simple doc.now.state node.label) }
     ensures end { IfOk result (λ way. Finds doc.now way.end (indenter_by simple doc.now.state node.label)) }
 {
-    doc.lawful();
+    doc.valid();
     let mut passed = Vec::new(alloc);
     let mut at = doc.parent(node);
     while let Some(ancestor) = at {

@@ -32,7 +32,7 @@ fn is_beside_fit(doc: &Doc, ordered: bool, node: NodeRef) -> bool
     requires { Holds doc.now node }
     ensures { result ≡ convert.is_beside_fit ordered doc.now.state node.label }
 {
-    doc.lawful();
+    doc.valid();
     is_fit(doc, ordered, doc.prev(node)) || is_fit(doc, ordered, doc.next(node))
 }
 

@@ -3,7 +3,7 @@
 ghost use Rattle.std.specs.Prelude.{◌≡◌, Some, IfOk};
 ghost use Rattle.edit_model.specs.Action.{Scratch, acted};
 ghost use Rattle.edit_model.specs.Gives.{Gives, labels_of};
-ghost use Rattle.edit_model.specs.Lawful.{IsPlacedPair};
+ghost use Rattle.edit_model.specs.Valid.{IsPlacedPair};
 ghost use Rattle.edit_doc.specs.Held.{EachHeld, Keeps};
 ghost use Rattle.edit_doc.specs.Whole.{IsOpen, with_state};
 ghost use Rattle.list_toggle.specs.Ranges.{pair_of, extended_pair, keep_range, free_range, other_lists_by, other_lists, members_by, range_members, range_lines};
@@ -42,7 +42,7 @@ pub(crate) fn keep_range(doc: &mut Doc) -> Result<(), EditFault>
     ensures gives { Gives result doc.old.state doc.new.state keep_range }
     ensures keeps { Keeps doc.old doc.new }
 {
-    doc.lawful();
+    doc.valid();
     if let Some(pair) = doc.points().selection() {
         let range = extended_pair(doc, pair);
         keep(doc, range);
@@ -111,7 +111,7 @@ pub(crate) fn other_lists(
     ensures held { IfOk result (λ list. EachHeld doc.now list.items) }
     ensures nodes { IfOk result (λ list. labels_of list.items ≡ other_lists ordered doc.now.state) }
 {
-    doc.lawful();
+    doc.valid();
     match doc.points().scratch() {
         Some(pair) => other_lists_of(alloc, doc, ordered, pair),
         None => Ok(Vec::new(alloc)),
@@ -133,7 +133,7 @@ pub(crate) fn range_members(alloc: Global, doc: &Doc) -> Result<NodeList, AllocE
     ensures held { IfOk result (λ list. EachHeld doc.now list) }
     ensures nodes { IfOk result (λ list. labels_of list ≡ range_members doc.now.state) }
 {
-    doc.lawful();
+    doc.valid();
     match doc.points().scratch() {
         Some(pair) => members_of(alloc, doc, pair),
         None => NodeList::from_slice(alloc, &[]),

@@ -9,7 +9,7 @@ use Rattle.live_range.specs.declared.places.Pair.{Pair}
 use Rattle.live_range.specs.declared.places.MarkPlace.{MarkPlace}
 use Rattle.live_range.specs.declared.places.Places.{Places}
 use Rattle.live_range.specs.declared.rows.RowSet.{RowSet}
-use Rattle.live_range.specs.Edit.{Edit, Inserted, Removed, Moved, Replaced, Split, Grown, adjusted, adjusted_pair, named_nodes, has_label, PointFits, PairFits}
+use Rattle.live_range.specs.PointsEdit.{PointsEdit, Insert, Remove, Move, Replace, Split, Grown, adjusted, adjusted_pair, named_nodes, has_label, PointFits, PairFits}
 use Rattle.live_range.specs.Names.{marks_of, at_place, PlacesFit}
 use Rattle.live_range.specs.Rows.{RowsByNode, pair_at, point_at, has_row, listed_at, side, Lists}
 use Rattle.live_range.proofs.Apart.{All-head, All-tail}
@@ -27,18 +27,18 @@ apart_right : (a b : Bool) → (a || b) ≡ false → b ≡ false
 apart_right true b h = absurd (true≢false h)
 apart_right false b h = h
 
-unnamed : (e : Edit) (x : Point) → has_label (named_nodes e) x.label ≡ false → adjusted e x ≡ x
-unnamed (Inserted parent index) x h = grind (arith, nat_tests)
-unnamed (Removed tree parent index) x h = grind (arith, nat_tests)
-unnamed (Moved from to) x h = grind (arith, nat_tests)
-unnamed (Replaced node at taken put) x h = grind (arith, nat_tests)
+unnamed : (e : PointsEdit) (x : Point) → has_label (named_nodes e) x.label ≡ false → adjusted e x ≡ x
+unnamed (Insert parent index) x h = grind (arith, nat_tests)
+unnamed (Remove tree parent index) x h = grind (arith, nat_tests)
+unnamed (Move from to) x h = grind (arith, nat_tests)
+unnamed (Replace node at taken put) x h = grind (arith, nat_tests)
 unnamed (Split node at tail parent index) x h = grind (arith, nat_tests)
 unnamed (Grown at) x h = grind (arith, nat_tests)
 
 -- ---- the rows in turn
 
 -- the rows in `rest` are still to be adjusted, and each has a point
-pub record Halfway (e : Edit) (p q : Places) (rest : RowSet) : Type 0 where
+pub record Halfway (e : PointsEdit) (p q : Places) (rest : RowSet) : Type 0 where
   pub points : (r : ℕ) → r < 64 → point_at q r ≡ (if has_row rest r then point_at p r else option_map (adjusted e) (point_at p r))
   pub there : (r : ℕ) → r < 64 → has_row rest r ≡ true → IsSome (point_at p r)
 
@@ -62,7 +62,7 @@ module _ (n : RowsByNode) (p : Places) (listed : Lists p n) where
   row_among [] r h = refl
   row_among (l ∷ ls) r h = λ i. listed l r h i || row_among ls r h i
 
-  module _ (e : Edit) (rest : RowSet) (rows : (r : ℕ) → has_row rest r ≡ list_any (λ l. listed_at n l r) (named_nodes e)) where
+  module _ (e : PointsEdit) (rest : RowSet) (rows : (r : ℕ) → has_row rest r ≡ list_any (λ l. listed_at n l r) (named_nodes e)) where
     at_start : (o : Option Point) (b : Bool) → b ≡ stands_among (named_nodes e) o → o ≡ (if b then o else option_map (adjusted e) o)
     at_start None true h = refl
     at_start None false h = refl
@@ -79,7 +79,7 @@ module _ (n : RowsByNode) (p : Places) (listed : Lists p n) where
       there = λ r h t. has_point (point_at p r) (sym (rows r ∙ row_among (named_nodes e) r h) ∙ t);
     }
 
-module _ (e : Edit) (p q : Places) (rest : RowSet) (half : Halfway e p q rest) (row : ℕ) (within : row < 64) (on : has_row rest row ≡ true) where
+module _ (e : PointsEdit) (p q : Places) (rest : RowSet) (half : Halfway e p q rest) (row : ℕ) (within : row < 64) (on : has_row rest row ≡ true) where
   -- the point of a row that is still to be adjusted
   pub untouched : point_at q row ≡ point_at p row
   untouched = half.points row within ∙ ap (λ b. if b then point_at p row else option_map (adjusted e) (point_at p row)) on
@@ -110,7 +110,7 @@ module _ (e : Edit) (p q : Places) (rest : RowSet) (half : Halfway e p q rest) (
 
 -- ---- a row's point fits
 
-module _ (e : Edit) where
+module _ (e : PointsEdit) where
   mark_fits : (ms : List MarkPlace) (k : ℕ) → All (λ m. PairFits e m.pair) ms → IfSome (option_map (λ (m : MarkPlace). m.pair) (slice_get ms k)) (PairFits e)
   mark_fits [] k h = tt
   mark_fits (m ∷ ms) zero h = All-head (λ m. PairFits e m.pair) m ms h
@@ -133,7 +133,7 @@ module _ (e : Edit) where
   point_fits p r x h at = subst (λ o. IfSome o (PointFits e)) (sym at) (side_fits r (pair_at p (r / 2)) (pair_fits p (r / 2) h))
 
 -- the point that is found at a row still to be adjusted
-pub looked_fits : (e : Edit) (p q : Places) (rest : RowSet) (half : Halfway e p q rest) (row : ℕ) → row < 64 → has_row rest row ≡ true → (o : Option Point) (x : Point)
+pub looked_fits : (e : PointsEdit) (p q : Places) (rest : RowSet) (half : Halfway e p q rest) (row : ℕ) → row < 64 → has_row rest row ≡ true → (o : Option Point) (x : Point)
     → o ≡ Some x → o ≡ point_at q row → PlacesFit e p → PointFits e x
 looked_fits e p q rest half row within on o x is at fits = point_fits e p row x fits (sym is ∙ at ∙ untouched e p q rest half row within on)
 
@@ -161,7 +161,7 @@ module _ (p : Places) (k : ℕ) where
       let odd : (2 * k + 1) % 2 ≡ 1 = omega arith in
       λ i. option_map (λ (q : Pair). if odd i == 0 then q.anchor else q.focus) (pair_at p (half i))
 
-both_sides : (e : Edit) (a b : Option Pair)
+both_sides : (e : PointsEdit) (a b : Option Pair)
     → option_map (λ (q : Pair). q.anchor) b ≡ option_map (adjusted e) (option_map (λ (q : Pair). q.anchor) a)
     → option_map (λ (q : Pair). q.focus) b ≡ option_map (adjusted e) (option_map (λ (q : Pair). q.focus) a) → b ≡ option_map (adjusted_pair e) a
 both_sides e None None h k = refl
@@ -199,7 +199,7 @@ marks_adjusted f (m ∷ ms) (n ∷ ns) names h =
     let rest = marks_adjusted f ms ns (same_tail n.name m.name (map (λ m. m.name) ns) (map (λ m. m.name) ms) names) (λ k l. h (suc k) (omega (arith, l))) in
     λ i. record { name = name i; pair = pair i } ∷ rest i
 
-module _ (e : Edit) (p q : Places) (few : p.count ≤ 16) (points : (r : ℕ) → r < 64 → point_at q r ≡ option_map (adjusted e) (point_at p r)) where
+module _ (e : PointsEdit) (p q : Places) (few : p.count ≤ 16) (points : (r : ℕ) → r < 64 → point_at q r ≡ option_map (adjusted e) (point_at p r)) where
   pub pair_done : (k : ℕ) → k < 32 → pair_at q k ≡ option_map (adjusted_pair e) (pair_at p k)
   pair_done k h =
       both_sides e (pair_at p k) (pair_at q k)
@@ -211,6 +211,6 @@ module _ (e : Edit) (p q : Places) (few : p.count ≤ 16) (points : (r : ℕ) �
       marks_adjusted (adjusted_pair e) (marks_of p) (marks_of q) names
       (λ k l. pair_done (suc (suc k)) (omega (arith, l, few, length-take p.count p.marks)))
 
-pub points_done : (e : Edit) (p q : Places) (rest : RowSet) → Halfway e p q rest → ((r : ℕ) → has_row rest r ≡ false)
+pub points_done : (e : PointsEdit) (p q : Places) (rest : RowSet) → Halfway e p q rest → ((r : ℕ) → has_row rest r ≡ false)
     → (r : ℕ) → r < 64 → point_at q r ≡ option_map (adjusted e) (point_at p r)
 points_done e p q rest half none r h = half.points r h ∙ ap (λ b. if b then point_at p r else option_map (adjusted e) (point_at p r)) (none r)

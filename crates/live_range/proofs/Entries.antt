@@ -9,7 +9,7 @@ use Rattle.std.proofs.lemmas.Slice.Eq.{bytes_eq-Decides}
 use Rattle.indexmap.specs.IndexMap.{insert_entry}
 use Rattle.indexmap.specs.IndexSet.{insert_key}
 use Rattle.live_range.specs.declared.places.Pair.{Pair}
-use Rattle.live_range.specs.LivePoints.{LivePoints, IsLawful, has_mark, with_mark, without_mark, with_value_at}
+use Rattle.live_range.specs.LivePoints.{LivePoints, IsValid, has_mark, with_mark, without_mark, with_value_at}
 use Rattle.live_range.proofs.Apart.{position-None, All-head, All-tail}
 
 one_more : (k : ℕ) → 1 + k ≡ suc k
@@ -105,10 +105,10 @@ named_among name names (m ∷ ms) all h =
     by false e t rest = rest t
 
 module _ (name : List ℕ) (pair : Pair) (s : LivePoints) where
-  known_names : IsLawful s → has_mark name s ≡ true → insert_key bytes_eq s.names name ≡ s.names
+  known_names : IsValid s → has_mark name s ≡ true → insert_key bytes_eq s.names name ≡ s.names
   known_names laws h = ap (λ b. if b then s.names else s.names ++ name ∷ []) (named_among name s.names s.marks laws.marks_are_named h)
 
-  pub set_found : (k : ℕ) → IsLawful s → position (λ e. bytes_eq name e.0) s.marks ≡ Some k → record s { marks = with_value_at s.marks k pair } ≡ with_mark name pair s
+  pub set_found : (k : ℕ) → IsValid s → position (λ e. bytes_eq name e.0) s.marks ≡ Some k → record s { marks = with_value_at s.marks k pair } ≡ with_mark name pair s
   set_found k laws h =
       let marks = insert_at name pair s.marks (found_has name s k h) ∙ ap (λ i. with_value_at s.marks i pair) (position_is _ s.marks k h) in
       let names = known_names laws (found_has name s k h) in

@@ -8,7 +8,7 @@ use Rattle.std.proofs.lemmas.Bool.Decides.{Decides-eqb, nat_tests}
 use Rattle.live_range.specs.declared.places.Point.{Point}
 use Rattle.live_range.specs.declared.places.Places.{Places}
 use Rattle.live_range.specs.declared.rows.RowSet.{RowSet}
-use Rattle.live_range.specs.Edit.{has_label}
+use Rattle.live_range.specs.PointsEdit.{has_label}
 use Rattle.live_range.specs.Names.{place_labels}
 use Rattle.live_range.specs.Rows.{RowsByNode, point_at, has_row, listed_at, side, Lists}
 use Rattle.live_range.proofs.RowLists.{pair_past}

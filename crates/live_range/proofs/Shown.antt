@@ -14,8 +14,8 @@ use Rattle.live_range.specs.declared.places.Point.{Point}
 use Rattle.live_range.specs.declared.places.Pair.{Pair}
 use Rattle.live_range.specs.declared.places.MarkPlace.{MarkPlace}
 use Rattle.live_range.specs.declared.places.Places.{Places}
-use Rattle.live_range.specs.Edit.{Edit, Removed, adjusted, adjusted_pair, after_removal, with_offset, has_label, PairFits}
-use Rattle.live_range.specs.LivePoints.{LivePoints, Fits, TellsAlike, IsLawful, at_pair, mapped, labels_of, option_labels, pair_labels}
+use Rattle.live_range.specs.PointsEdit.{PointsEdit, Remove, adjusted, adjusted_pair, after_removal, with_offset, has_label, PairFits}
+use Rattle.live_range.specs.LivePoints.{LivePoints, Fits, TellsAlike, IsValid, at_pair, mapped, labels_of, option_labels, pair_labels}
 use Rattle.live_range.specs.Names.{named, marks_of, at_place, place_labels, shown, IsOver, PlacesFit}
 use Rattle.live_range.proofs.Apart.{distinct_keys, All-head, All-tail}
 
@@ -27,20 +27,20 @@ module _ (ns : List (List ℕ)) where
   pub labels_shown : (p : Places) → labels_of (shown ns p) ≡ place_labels p
   labels_shown p = ap (λ r. (option_labels p.selection ++ option_labels p.scratch) ++ r) (labels_named (marks_of p))
 
-  fit_named : (e : Edit) (xs : List MarkPlace) → All (λ m. PairFits e m.1) (map (named ns) xs) → All (λ m. PairFits e m.pair) xs
+  fit_named : (e : PointsEdit) (xs : List MarkPlace) → All (λ m. PairFits e m.1) (map (named ns) xs) → All (λ m. PairFits e m.pair) xs
   fit_named e [] h = λ k d l. absurd (omega (arith, l))
   fit_named e (x ∷ xs) h =
       All-cons (λ m. PairFits e m.pair) x xs (All-head (λ m. PairFits e m.1) (named ns x) (map (named ns) xs) h)
       (fit_named e xs (All-tail (λ m. PairFits e m.1) (named ns x) (map (named ns) xs) h))
 
-  pub fit_shown : (e : Edit) (p : Places) → Fits e (shown ns p) → PlacesFit e p
+  pub fit_shown : (e : PointsEdit) (p : Places) → Fits e (shown ns p) → PlacesFit e p
   fit_shown e p h = record { selection = h.selection; scratch = h.scratch; marks = fit_named e (marks_of p) h.marks }
 
   mapped_named : (f : Pair → Pair) (xs : List MarkPlace) → map (named ns) (map (at_place f) xs) ≡ map (at_pair f) (map (named ns) xs)
   mapped_named f [] = refl
   mapped_named f (x ∷ xs) = ap (λ r. (get_or ns x.name [], f x.pair) ∷ r) (mapped_named f xs)
 
-  pub mapped_shown : (e : Edit) (p q : Places) → q.selection ≡ option_map (adjusted_pair e) p.selection → q.scratch ≡ option_map (adjusted_pair e) p.scratch
+  pub mapped_shown : (e : PointsEdit) (p q : Places) → q.selection ≡ option_map (adjusted_pair e) p.selection → q.scratch ≡ option_map (adjusted_pair e) p.scratch
       → marks_of q ≡ map (at_place (adjusted_pair e)) (marks_of p) → shown ns q ≡ mapped e (shown ns p)
   mapped_shown e p q s c m =
       λ i. record { selection = s i; scratch = c i; marks = (ap (map (named ns)) m ∙ mapped_named (adjusted_pair e) (marks_of p)) i; names = ns }
@@ -63,8 +63,8 @@ module _ (ns : List (List ℕ)) where
       let m = get_or xs k d in
       list_any_at (bytes_eq (get_or ns m.name [])) ns m.name [] (met k d l) ((bytes_eq-Decides (get_or ns m.name []) (get_or ns m.name [])).1 refl))
 
-  pub lawful_shown : (p : Places) → IsDistinct bytes_eq ns → IsOver ns p → IsLawful (shown ns p)
-  lawful_shown p apart h = record {
+  pub valid_shown : (p : Places) → IsDistinct bytes_eq ns → IsOver ns p → IsValid (shown ns p)
+  valid_shown p apart h = record {
     few_marks = omega (arith, length-map (marks_of p) (named ns), length-take p.count p.marks, h.few);
     distinct_marks = distinct_keys ns apart (marks_of p) h.met h.distinct;
     distinct_names = apart;
@@ -80,15 +80,15 @@ module _ (parent index : ℕ) where
   removal_point false true p h l = grind (arith, nat_tests)
   removal_point false false p h l = l
 
-  removal_pair : (gone : List ℕ) (p : Pair) → index < 2 ^ 32 → PairFits (Removed gone parent index) p
+  removal_pair : (gone : List ℕ) (p : Pair) → index < 2 ^ 32 → PairFits (Remove gone parent index) p
   removal_pair gone p h =
       (removal_point (has_label gone p.anchor.label) (p.anchor.label == parent) p.anchor h, removal_point (has_label gone p.focus.label) (p.focus.label == parent) p.focus h)
 
-  removal_option : (gone : List ℕ) (o : Option Pair) → index < 2 ^ 32 → IfSome o (PairFits (Removed gone parent index))
+  removal_option : (gone : List ℕ) (o : Option Pair) → index < 2 ^ 32 → IfSome o (PairFits (Remove gone parent index))
   removal_option gone None h = tt
   removal_option gone (Some p) h = removal_pair gone p h
 
-  pub removal_fits : (gone : List ℕ) (s : LivePoints) → index < 2 ^ 32 → Fits (Removed gone parent index) s
+  pub removal_fits : (gone : List ℕ) (s : LivePoints) → index < 2 ^ 32 → Fits (Remove gone parent index) s
   removal_fits gone s h = record {
     selection = removal_option gone s.selection h;
     scratch = removal_option gone s.scratch h;
@@ -114,29 +114,29 @@ module _ (xs ys : List ℕ) (parent index : ℕ) where
   unfolding Told
   told-right us vs h = λ l t. h l (any-right l us vs t)
 
-  told_point : (p : Point) → has_label xs p.label ≡ has_label ys p.label → adjusted (Removed xs parent index) p ≡ adjusted (Removed ys parent index) p
+  told_point : (p : Point) → has_label xs p.label ≡ has_label ys p.label → adjusted (Remove xs parent index) p ≡ adjusted (Remove ys parent index) p
   told_point p h = ap (λ b. if b then record { label = parent; offset = index } else (if p.label == parent then with_offset p (after_removal index p.offset) else p)) h
 
-  told_pair : (p : Pair) → Told (pair_labels p) → adjusted_pair (Removed xs parent index) p ≡ adjusted_pair (Removed ys parent index) p
+  told_pair : (p : Pair) → Told (pair_labels p) → adjusted_pair (Remove xs parent index) p ≡ adjusted_pair (Remove ys parent index) p
   unfolding Told
   told_pair p h =
       let a = told_point p.anchor (h p.anchor.label (grind (arith, nat_tests))) in
       let f = told_point p.focus (h p.focus.label (grind (arith, nat_tests))) in
       λ i. record { anchor = a i; focus = f i }
 
-  told_option : (o : Option Pair) → Told (option_labels o) → option_map (adjusted_pair (Removed xs parent index)) o ≡ option_map (adjusted_pair (Removed ys parent index)) o
+  told_option : (o : Option Pair) → Told (option_labels o) → option_map (adjusted_pair (Remove xs parent index)) o ≡ option_map (adjusted_pair (Remove ys parent index)) o
   told_option None h = refl
   told_option (Some p) h = ap Some (told_pair p h)
 
   told_marks : (ms : List (List ℕ × Pair)) → Told (flat_map (λ m. pair_labels m.1) ms)
-      → map (at_pair (adjusted_pair (Removed xs parent index))) ms ≡ map (at_pair (adjusted_pair (Removed ys parent index))) ms
+      → map (at_pair (adjusted_pair (Remove xs parent index))) ms ≡ map (at_pair (adjusted_pair (Remove ys parent index))) ms
   told_marks [] h = refl
   told_marks (m ∷ ms) h =
       let here = told_pair m.1 (told-left (pair_labels m.1) (flat_map (λ m. pair_labels m.1) ms) h) in
       let there = told_marks ms (told-right (pair_labels m.1) (flat_map (λ m. pair_labels m.1) ms) h) in
       λ i. (m.0, here i) ∷ there i
 
-  pub mapped_alike : (s : LivePoints) → TellsAlike s xs ys → mapped (Removed xs parent index) s ≡ mapped (Removed ys parent index) s
+  pub mapped_alike : (s : LivePoints) → TellsAlike s xs ys → mapped (Remove xs parent index) s ≡ mapped (Remove ys parent index) s
   unfolding Told
   mapped_alike s h =
       let pairs = told-left (option_labels s.selection ++ option_labels s.scratch) (flat_map (λ m. pair_labels m.1) s.marks) h in

@@ -1,4 +1,4 @@
-pub mod Edit
+pub mod PointsEdit
 pub mod LivePoints
 pub mod Names
 pub mod Rows

@@ -8,7 +8,7 @@ use Rattle.std.specs.Str.{bytes_eq}
 use Rattle.indexmap.specs.IndexMap.{insert_entry}
 use Rattle.indexmap.specs.IndexSet.{insert_key, insert_all}
 use Rattle.live_range.specs.declared.places.Pair.{Pair}
-use Rattle.live_range.specs.Edit.{Edit, adjusted_pair, has_label, PairFits}
+use Rattle.live_range.specs.PointsEdit.{PointsEdit, adjusted_pair, has_label, PairFits}
 
 pub record LivePoints : Type 0 where
   pub selection : Option Pair
@@ -25,7 +25,7 @@ abbrev pub at_pair : (Pair → Pair) → List ℕ × Pair → List ℕ × Pair
 at_pair f m = (m.0, f m.1)
 
 -- every kept point, changed by the edit
-abbrev pub mapped : Edit → LivePoints → LivePoints
+abbrev pub mapped : PointsEdit → LivePoints → LivePoints
 mapped e s = record s {
   selection = option_map (adjusted_pair e) s.selection;
   scratch = option_map (adjusted_pair e) s.scratch;
@@ -33,7 +33,7 @@ mapped e s = record s {
 }
 
 -- no kept point passes the greatest offset by the edit
-pub record Fits (e : Edit) (s : LivePoints) : Type 0 where
+pub record Fits (e : PointsEdit) (s : LivePoints) : Type 0 where
   pub selection : IfSome s.selection (PairFits e)
   pub scratch : IfSome s.scratch (PairFits e)
   pub marks : All (λ m. PairFits e m.1) s.marks
@@ -80,7 +80,7 @@ abbrev pub has_mark : List ℕ → LivePoints → Bool
 has_mark name s = list_any (λ m. bytes_eq name m.0) s.marks
 
 -- what holds of all kept points
-pub record IsLawful (s : LivePoints) : Type 0 where
+pub record IsValid (s : LivePoints) : Type 0 where
   pub few_marks : length s.marks ≤ 16
   pub distinct_marks : IsDistinct bytes_eq (keys_of s.marks)
   pub distinct_names : IsDistinct bytes_eq s.names

@@ -4,7 +4,7 @@ use Rattle.std.specs.List.{All, IsDistinct, flat_map}
 use Rattle.live_range.specs.declared.places.Pair.{Pair}
 use Rattle.live_range.specs.declared.places.MarkPlace.{MarkPlace}
 use Rattle.live_range.specs.declared.places.Places.{Places}
-use Rattle.live_range.specs.Edit.{Edit, PairFits}
+use Rattle.live_range.specs.PointsEdit.{PointsEdit, PairFits}
 use Rattle.live_range.specs.LivePoints.{LivePoints, option_labels, pair_labels}
 
 -- the mark with its name
@@ -40,7 +40,7 @@ pub record IsOver (names : List (List ℕ)) (p : Places) : Type 0 where
   pub distinct : IsDistinct nat_eq (map (λ m. m.name) (marks_of p))
 
 -- no point at the places passes the greatest offset by the edit
-pub record PlacesFit (e : Edit) (p : Places) : Type 0 where
+pub record PlacesFit (e : PointsEdit) (p : Places) : Type 0 where
   pub selection : IfSome p.selection (PairFits e)
   pub scratch : IfSome p.scratch (PairFits e)
   pub marks : All (λ m. PairFits e m.pair) (marks_of p)

@@ -49,6 +49,6 @@ any_below t zero = false
 any_below t (suc n) = any_below t n || t n
 
 -- what holds of the fields of Points
-pub record IsSound (names : List (List ℕ)) (p : Places) (n : RowsByNode) : Type 0 where
+pub record AreSoundRows (names : List (List ℕ)) (p : Places) (n : RowsByNode) : Type 0 where
   pub over : IsOver names p
   pub listed : Lists p n

@@ -2,7 +2,7 @@
 ghost use Rattle.std.specs.Prelude.{◌≡◌, ℕ, ◌+◌, ◌^◌, ◌<◌, ◌≤◌, map};
 ghost use Rattle.std.specs.List.{list_any, count_by};
 ghost use Rattle.std.specs.Option.{option_map};
-ghost use Rattle.live_range.specs.Edit.{Inserted, Removed, Moved, Replaced, Split, Grown, adjusted, adjusted_pair, after_insert, after_removal, after_replacement, after_loss, has_label, named_nodes, PointFits};
+ghost use Rattle.live_range.specs.PointsEdit.{Insert, Remove, Move, Replace, Split, Grown, adjusted, adjusted_pair, after_insert, after_removal, after_replacement, after_loss, has_label, named_nodes, PointFits};
 ghost use Rattle.live_range.specs.Names.{at_place, marks_of, place_labels, PlacesFit};
 ghost use Rattle.live_range.specs.Rows.{has_row, listed_at, Lists};
 ghost use Rattle.live_range.specs.Adjustments.{edit_of};
@@ -18,20 +18,20 @@ use step_count::Steps;
 // An edit of the tree, as far as points are concerned.
 #[derive(Drop)]
 pub(crate) enum Adjustment<'a> {
-    Inserted {
+    Insert {
         parent: u32,
         index: u32,
     },
-    Removed {
+    Remove {
         gone: &'a [u32],
         parent: u32,
         index: u32,
     },
-    Moved {
+    Move {
         from: Point,
         to: Point,
     },
-    Replaced {
+    Replace {
         node: u32,
         at: u32,
         taken: u32,
@@ -97,8 +97,8 @@ fn point_after_loss(from: Point, to: Point, point: Point) -> Point
 
 // A point of the node that lost a child or of the node that got it, which may be the same.
 fn point_after_move(from: Point, to: Point, point: Point) -> Point
-    requires { (adjusted (Moved from to) point).offset < 2 ^ 32 }
-    ensures { result ≡ adjusted (Moved from to) point }
+    requires { (adjusted (Move from to) point).offset < 2 ^ 32 }
+    ensures { result ≡ adjusted (Move from to) point }
 {
     if from.label == to.label && point.label == from.label {
         let without = offset_after_removal(from.offset, point.offset);
@@ -119,7 +119,7 @@ fn point_after_move(from: Point, to: Point, point: Point) -> Point
 }
 
 fn point_after_removal(gone: &[u32], parent: u32, index: u32, point: Point) -> Point
-    ensures { result ≡ adjusted (Removed gone.now parent index) point }
+    ensures { result ≡ adjusted (Remove gone.now parent index) point }
 {
     if gone.contains(&point.label) {
         Point {
@@ -160,8 +160,8 @@ fn point_after_split(node: u32, at: u32, tail: u32, parent: u32, index: u32, poi
 }
 
 fn point_after_insert(parent: u32, index: u32, point: Point) -> Point
-    requires { (adjusted (Inserted parent index) point).offset < 2 ^ 32 }
-    ensures { result ≡ adjusted (Inserted parent index) point }
+    requires { (adjusted (Insert parent index) point).offset < 2 ^ 32 }
+    ensures { result ≡ adjusted (Insert parent index) point }
 {
     if point.label == parent {
         Point {
@@ -174,8 +174,8 @@ fn point_after_insert(parent: u32, index: u32, point: Point) -> Point
 }
 
 fn point_after_replacement(node: u32, at: u32, taken: u32, put: u32, point: Point) -> Point
-    requires { (adjusted (Replaced node at taken put) point).offset < 2 ^ 32 }
-    ensures { result ≡ adjusted (Replaced node at taken put) point }
+    requires { (adjusted (Replace node at taken put) point).offset < 2 ^ 32 }
+    ensures { result ≡ adjusted (Replace node at taken put) point }
 {
     if point.label == node {
         Point {
@@ -218,14 +218,14 @@ impl Adjustment<'_> {
         ensures { result ≡ adjusted (edit_of self.now) point }
     {
         match self {
-            Adjustment::Inserted { parent, index } => point_after_insert(*parent, *index, point),
-            Adjustment::Removed {
+            Adjustment::Insert { parent, index } => point_after_insert(*parent, *index, point),
+            Adjustment::Remove {
                 gone,
                 parent,
                 index,
             } => point_after_removal(gone, *parent, *index, point),
-            Adjustment::Moved { from, to } => point_after_move(*from, *to, point),
-            Adjustment::Replaced {
+            Adjustment::Move { from, to } => point_after_move(*from, *to, point),
+            Adjustment::Replace {
                 node,
                 at,
                 taken,
@@ -247,12 +247,12 @@ impl Adjustment<'_> {
         ensures { (r : ℕ) → has_row result r ≡ list_any (λ l. listed_at nodes.now l r) (named_nodes (edit_of self.now)) }
     {
         match self {
-            Adjustment::Inserted { parent, .. } => nodes.at(*parent),
-            Adjustment::Removed { gone, parent, .. } => {
+            Adjustment::Insert { parent, .. } => nodes.at(*parent),
+            Adjustment::Remove { gone, parent, .. } => {
                 nodes.at(*parent).or(rows_at_any(nodes, gone))
             }
-            Adjustment::Moved { from, to } => nodes.at(from.label).or(nodes.at(to.label)),
-            Adjustment::Replaced { node, .. } => nodes.at(*node),
+            Adjustment::Move { from, to } => nodes.at(from.label).or(nodes.at(to.label)),
+            Adjustment::Replace { node, .. } => nodes.at(*node),
             Adjustment::Split { node, parent, .. } => nodes.at(*node).or(nodes.at(*parent)),
             Adjustment::Grown { at } => nodes.at(at.label),
         }

@@ -37,7 +37,7 @@ impl Names {
     }
 
     // What holds of every list of names. It does nothing.
-    pub(crate) fn lawful(&self)
+    pub(crate) fn valid(&self)
         ensures { IsDistinct bytes_eq self.now }
     {
         let _ = &self.alloc;

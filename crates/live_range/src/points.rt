@@ -4,9 +4,9 @@ ghost use Rattle.std.specs.Option.{option_map};
 ghost use Rattle.std.specs.Str.{bytes_eq};
 ghost use Rattle.std.specs.List.{remove};
 ghost use Rattle.indexmap.specs.IndexSet.{insert_key};
-ghost use Rattle.live_range.specs.Edit.{Inserted, Removed, Moved, Replaced, Split, Grown, named_nodes};
+ghost use Rattle.live_range.specs.PointsEdit.{Insert, Remove, Move, Replace, Split, Grown, named_nodes};
 ghost use Rattle.live_range.specs.Adjustments.{edit_of};
-ghost use Rattle.live_range.specs.LivePoints.{Fits, IsLawful, TellsAlike, mapped, no_points, points_at, standing, has_mark, with_mark, without_mark, with_value_at};
+ghost use Rattle.live_range.specs.LivePoints.{Fits, IsValid, TellsAlike, mapped, no_points, points_at, standing, has_mark, with_mark, without_mark, with_value_at};
 ghost use Rattle.live_range.specs.Names.{shown, IsOver};
 
 use crate::adjust::Adjustment;
@@ -59,11 +59,11 @@ impl Model for Points {
     ghost Value = { LivePoints };
 
     ghost use Rattle.live_range.specs.Names.{shown};
-    ghost use Rattle.live_range.specs.Rows.{IsSound};
+    ghost use Rattle.live_range.specs.Rows.{AreSoundRows};
 
     ghost view = { λ p. shown p.names p.places };
 
-    ghost invariant = { λ p. IsSound p.names p.places p.nodes };
+    ghost invariant = { λ p. AreSoundRows p.names p.places p.nodes };
 }
 
 impl From<AllocError> for MarkFault {
@@ -103,10 +103,10 @@ impl Points {
     }
 
     /// What holds of all kept points. It does nothing.
-    pub fn lawful(&self)
-        ensures { IsLawful self.now }
+    pub fn valid(&self)
+        ensures { IsValid self.now }
     {
-        self.names.lawful();
+        self.names.valid();
     }
 
     /// The anchor and the focus of the selection, if there is one.
@@ -151,7 +151,7 @@ impl Points {
     fn place_of(&self, name: &[u8]) -> Option<usize>
         ensures { result ≡ position (λ m. bytes_eq name.now m.0) self.now.marks }
     {
-        self.names.lawful();
+        self.names.valid();
         match self.names.position(name) {
             Some(known) => find_mark(&self.places, known),
             None => None,
@@ -162,7 +162,7 @@ impl Points {
         requires { place < length self.old.marks }
         ensures { self.new ≡ record self.old { marks = with_value_at self.old.marks place pair } }
     {
-        self.lawful();
+        self.valid();
         let number = place as u8 + 2;
         let was = pair_of(&self.places, number);
         set_pair(&mut self.places, place, pair);
@@ -199,7 +199,7 @@ impl Points {
         ensures too_many { (result ≡ Err MarkFault.TooManyMarks) ↔ ((length self.old.marks ≡ 16) × (has_mark name.now self.old ≡ false)) }
         ensures err { OnErr result (self.new ≡ self.old) }
     {
-        self.lawful();
+        self.valid();
         match self.place_of(name) {
             Some(place) => {
                 self.change_mark(place, pair);
@@ -275,18 +275,18 @@ impl Points {
 
     /// A node was put into `parent` at `index`.
     pub fn inserted(&mut self, parent: u32, index: u32)
-        requires { Fits (Inserted parent index) self.old }
-        ensures { self.new ≡ mapped (Inserted parent index) self.old }
+        requires { Fits (Insert parent index) self.old }
+        ensures { self.new ≡ mapped (Insert parent index) self.old }
     {
-        self.adjust(&Adjustment::Inserted { parent, index });
+        self.adjust(&Adjustment::Insert { parent, index });
     }
 
     /// A tree was taken out of `parent` at `index`. Of each label at which a point stands `gone` has to tell whether it is
     /// of that tree; other labels may be in it or not.
     pub fn removed(&mut self, gone: &[u32], parent: u32, index: u32)
-        ensures { (tree : List ℕ) → TellsAlike self.old gone.now tree → self.new ≡ mapped (Removed tree parent index) self.old }
+        ensures { (tree : List ℕ) → TellsAlike self.old gone.now tree → self.new ≡ mapped (Remove tree parent index) self.old }
     {
-        self.adjust(&Adjustment::Removed {
+        self.adjust(&Adjustment::Remove {
             gone,
             parent,
             index,
@@ -296,18 +296,18 @@ impl Points {
     /// A node was taken from one parent and place to another. The offset of `to` counts its new parent's children
     /// without it. Points inside the node stay where they are.
     pub fn moved(&mut self, from: Point, to: Point)
-        requires { Fits (Moved from to) self.old }
-        ensures { self.new ≡ mapped (Moved from to) self.old }
+        requires { Fits (Move from to) self.old }
+        ensures { self.new ≡ mapped (Move from to) self.old }
     {
-        self.adjust(&Adjustment::Moved { from, to });
+        self.adjust(&Adjustment::Move { from, to });
     }
 
     /// In a text or a comment `taken` characters at `at` gave way to `put` others.
     pub fn replaced(&mut self, node: u32, at: u32, taken: u32, put: u32)
-        requires { Fits (Replaced node at taken put) self.old }
-        ensures { self.new ≡ mapped (Replaced node at taken put) self.old }
+        requires { Fits (Replace node at taken put) self.old }
+        ensures { self.new ≡ mapped (Replace node at taken put) self.old }
     {
-        self.adjust(&Adjustment::Replaced {
+        self.adjust(&Adjustment::Replace {
             node,
             at,
             taken,

@@ -2,7 +2,7 @@
 use Rattle.std.proofs.Common.{◌≡◌, ◌≢◌, ℕ, ◌+◌, ◌<◌, ◌≤◌, Option, Some, None, IsSome, refl, sym, ap, ◌∙◌, arith}
 use Rattle.std.specs.Option.{option_map_or}
 use Rattle.dom_model.specs.declared.Content.{Content}
-use Rattle.dom_model.specs.State.{State, IsLawful}
+use Rattle.dom_model.specs.ArenaState.{ArenaState, IsValid}
 use Rattle.dom_model.specs.Forest.{Forest, count_of, parent_of, children_of, depth_of, IsWithin}
 use Rattle.dom_model.specs.Places.{place_in, index_of, first_of_two}
 use Rattle.dom_model.proofs.Within.{has_parent, depth_of-parent, depth_of-root}
@@ -15,7 +15,7 @@ pub named_some : (o : Option NodeRef) (k : ℕ) → label o ≡ Some k → IsSom
 named_some None k e = absurd (let e' = e in cc)
 named_some (Some r) k e = refl
 
-module _ (s : State) (law : IsLawful s) where
+module _ (s : ArenaState) (law : IsValid s) where
   abbrev f : Forest Content
   f = s.trees
 

@@ -6,7 +6,7 @@ use Rattle.dom_model.specs.declared.Content.{Content}
 use Rattle.dom_model.specs.declared.Content.TheVariants.{Document, Element, Words, Remark}
 use Rattle.dom_model.specs.Contents.{words_length, char_length}
 use Rattle.dom_model.specs.Document.{node_count, char_count, page_depth}
-use Rattle.dom_model.specs.State.{State, IsLawful}
+use Rattle.dom_model.specs.ArenaState.{ArenaState, IsValid}
 use Rattle.dom_model.specs.Forest.{Forest, Seen, total, count_of, parent_of, first_of, next_of, content_of, depth_of, tree_of, IsWithin}
 use Rattle.dom_model.specs.Forest.Forest.{Tree}
 use Rattle.dom_model.specs.TreeOrder.{total_from, total_after}
@@ -21,7 +21,7 @@ use Rattle.node_arena.specs.declared.counts.Place.{Place}
 use Rattle.node_arena.specs.Held.{Holds}
 use Rattle.node_arena.specs.Walk.{IsPlace, Goes, Stops}
 
-module _ (s : State) (law : IsLawful s) where
+module _ (s : ArenaState) (law : IsValid s) where
   abbrev f : Forest Content
   f = s.trees
 

@@ -3,7 +3,7 @@ use Rattle.std.proofs.Common.{◌≡◌, ◌≢◌, ℕ, ◌+◌, ◌<◌, cond,
 use Rattle.std.proofs.lemmas.Bool.Decides.{eqb_tells}
 use Rattle.std.specs.Option.{option_map_or, option_and_then}
 use Rattle.dom_model.specs.declared.Content.{Content}
-use Rattle.dom_model.specs.State.{State}
+use Rattle.dom_model.specs.ArenaState.{ArenaState}
 use Rattle.dom_model.specs.Forest.{Forest, Seen, count_of, IsDistinct, seek, parent_of, children_of, first_of, before_in, after_in, first_in, last_in, tree_of, without}
 use Rattle.dom_model.specs.Forest.Forest.{Nil, Tree}
 use Rattle.dom_model.proofs.Totals.{total-without}
@@ -14,13 +14,13 @@ use Rattle.dom_model.proofs.Rising.{RisesFrom-without}
 use Rattle.node_arena.specs.declared.Node.{Node}
 use Rattle.node_arena.specs.declared.NodeRef.{NodeRef}
 use Rattle.node_arena.specs.Nodes.{label_in, link_to, node_for, trees_of, state_of}
-use Rattle.node_arena.specs.Sound.{IsSound, IsArena}
+use Rattle.node_arena.specs.Sound.{IsSoundArena, IsArena}
 use Rattle.node_arena.specs.Held.{Holds, Drops}
 use Rattle.dom_model.proofs.NodesKept.{AreNodes, nodes-without}
 use Rattle.node_arena.proofs.Rebuild.{trees_of-sound}
 use Rattle.node_arena.proofs.SoundLink.{get_or-map-label_in, held_node, same_node}
 
-module _ (slots new : List (Option Node)) (next cap : ℕ) (sound : IsSound slots next cap) (n : ℕ) (here : 0 < count_of sound.trees n) (root : parent_of sound.trees n ≡ None) (leaf : first_of sound.trees n ≡ None) (gone : get_or new (sound.at n) None ≡ None) (others : (j : ℕ) → j ≢ sound.at n → get_or new j None ≡ get_or slots j None) where
+module _ (slots new : List (Option Node)) (next cap : ℕ) (sound : IsSoundArena slots next cap) (n : ℕ) (here : 0 < count_of sound.trees n) (root : parent_of sound.trees n ≡ None) (leaf : first_of sound.trees n ≡ None) (gone : get_or new (sound.at n) None ≡ None) (others : (j : ℕ) → j ≢ sound.at n → get_or new j None ≡ get_or slots j None) where
   abbrev f : Forest Content
   f = sound.trees
 
@@ -77,7 +77,7 @@ module _ (slots new : List (Option Node)) (next cap : ℕ) (sound : IsSound slot
       each_after None = refl
       each_after (Some p) = ap (λ ks. link_to sound.at (after_in ks l)) (sym (kids p))
 
-  pub sound-drop : IsSound new next cap
+  pub sound-drop : IsSoundArena new next cap
   sound-drop = record {
     trees = g;
     at = sound.at;
@@ -118,13 +118,13 @@ module _ (slots new : List (Option Node)) (next cap : ℕ) (sound : IsSound slot
 
 -- ---- for the value that a contract sees
 
-pub record DropsTo (old : State) (new : List (Option Node)) (next cap : ℕ) (index : List ℕ) (r : NodeRef) : Type 0 where
+pub record DropsTo (old : ArenaState) (new : List (Option Node)) (next cap : ℕ) (index : List ℕ) (r : NodeRef) : Type 0 where
   pub arena : IsArena new next cap index
   pub drops : Drops old (state_of new next cap) r
 
-pub drop_state : (slots new : List (Option Node)) (next cap : ℕ) (index : List ℕ) → IsArena slots next cap index → (old : State) → state_of slots next cap ≡ old → (r : NodeRef) → Holds old r → 0 < r.label → parent_of old.trees r.label ≡ None → first_of old.trees r.label ≡ None → get_or new r.slot None ≡ None → ((j : ℕ) → j ≢ r.slot → get_or new j None ≡ get_or slots j None) → DropsTo old new next cap index r
+pub drop_state : (slots new : List (Option Node)) (next cap : ℕ) (index : List ℕ) → IsArena slots next cap index → (old : ArenaState) → state_of slots next cap ≡ old → (r : NodeRef) → Holds old r → 0 < r.label → parent_of old.trees r.label ≡ None → first_of old.trees r.label ≡ None → get_or new r.slot None ≡ None → ((j : ℕ) → j ≢ r.slot → get_or new j None ≡ get_or slots j None) → DropsTo old new next cap index r
 drop_state slots new next cap index arena old is r =
-    subst (λ (o : State). Holds o r → 0 < r.label → parent_of o.trees r.label ≡ None → first_of o.trees r.label ≡ None → get_or new r.slot None ≡ None → ((j : ℕ) → j ≢ r.slot → get_or new j None ≡ get_or slots j None) → DropsTo o new next cap index r) is
+    subst (λ (o : ArenaState). Holds o r → 0 < r.label → parent_of o.trees r.label ≡ None → first_of o.trees r.label ≡ None → get_or new r.slot None ≡ None → ((j : ℕ) → j ≢ r.slot → get_or new j None ≡ get_or slots j None) → DropsTo o new next cap index r) is
     (λ held inner root leaf gone others.
     let s = arena.sound in
     let same : trees_of slots next ≡ s.trees = trees_of-sound slots next cap s in

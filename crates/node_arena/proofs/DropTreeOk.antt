@@ -2,7 +2,7 @@
 use Rattle.std.proofs.Common.{◌≡◌, ◌≢◌, ℕ, ◌-◌, ◌*◌, ◌<◌, ◌≤◌, cond, Option, Some, None, IsSome, refl, sym, ap, subst, ◌∙◌, inl, inr, arith, eqb}
 use Rattle.std.proofs.lemmas.Bool.Decides.{eqb_tells}
 use Rattle.dom_model.specs.declared.Content.{Content}
-use Rattle.dom_model.specs.State.{State, IsLawful}
+use Rattle.dom_model.specs.ArenaState.{ArenaState, IsValid}
 use Rattle.dom_model.specs.Forest.{Forest, total, count_of, IsDistinct, parent_of, first_of, depth_of, tree_of, without, unlink, IsWithin}
 use Rattle.dom_model.specs.Forest.Forest.{Nil, Tree}
 use Rattle.dom_model.proofs.Totals.{total-without}
@@ -30,9 +30,9 @@ module _ {C : Type 0} (f : Forest C) (once : IsDistinct f) where
   parent_apart p n child is = (let deep = depth_of-parent f n p once child in let e = ap (depth_of f) is in omega (arith, deep, e))
 
 -- what a child that is given up leaves
-pub drops_child : (old made new : State) (r : NodeRef) (p : ℕ) → IsDistinct old.trees → parent_of old.trees r.label ≡ Some p → made ≡ record old { trees = unlink old.trees r.label } → Drops made new r → Drops old new r
+pub drops_child : (old made new : ArenaState) (r : NodeRef) (p : ℕ) → IsDistinct old.trees → parent_of old.trees r.label ≡ Some p → made ≡ record old { trees = unlink old.trees r.label } → Drops made new r → Drops old new r
 drops_child old made new r p once child is drops =
-    let d : Drops (record old { trees = unlink old.trees r.label }) new r = subst (λ (s : State). Drops s new r) is drops in
+    let d : Drops (record old { trees = unlink old.trees r.label }) new r = subst (λ (s : ArenaState). Drops s new r) is drops in
     record {
       trees = d.trees ∙ without-unlink old.trees p r.label once child;
       next = d.next;
@@ -43,7 +43,7 @@ drops_child old made new r p once child is drops =
     }
 
 -- so far leaves of the tree of top were given up, and `at` is a node that is left
-pub record Dropping (start now : State) (top at : NodeRef) : Type 0 where
+pub record Dropping (start now : ArenaState) (top at : NodeRef) : Type 0 where
   pub held : Holds now at
   pub inside : IsWithin now.trees top.label at.label
   pub kept : Holds now top
@@ -55,7 +55,7 @@ pub record Dropping (start now : State) (top at : NodeRef) : Type 0 where
   pub was : (q : NodeRef) → Holds now q → Holds start q
   pub keeps : (q : NodeRef) → Holds start q → count_of (tree_of start.trees top.label) q.label ≡ 0 → Holds now q
 
-pub dropping_start : (s : State) (top : NodeRef) → IsLawful s → Holds s top → parent_of s.trees top.label ≡ None → Dropping s s top top
+pub dropping_start : (s : ArenaState) (top : NodeRef) → IsValid s → Holds s top → parent_of s.trees top.label ≡ None → Dropping s s top top
 dropping_start s top law held loose = record {
   held = held;
   inside = within_self s.trees top.label law.distinct (law.here top.slot top.label held);
@@ -69,7 +69,7 @@ dropping_start s top law held loose = record {
   keeps = λ q h out. h;
 }
 
-module _ (start now : State) (top at : NodeRef) (law : IsLawful now) (d : Dropping start now top at) where
+module _ (start now : ArenaState) (top at : NodeRef) (law : IsValid now) (d : Dropping start now top at) where
   abbrev f : Forest Content
   f = now.trees
 
@@ -102,7 +102,7 @@ module _ (start now : State) (top at : NodeRef) (law : IsLawful now) (d : Droppi
     | inr (_, off) ↦ absurd (let w = within_root f top.label law.distinct here at.label off root d.inside in w)
   ]
 
-  module _ (parent : NodeRef) (child : parent_of f at.label ≡ Some parent.label) (leaf : first_of f at.label ≡ None) (held : Holds now parent) (after : State) (drops : Drops now after at) where
+  module _ (parent : NodeRef) (child : parent_of f at.label ≡ Some parent.label) (leaf : first_of f at.label ≡ None) (held : Holds now parent) (after : ArenaState) (drops : Drops now after at) where
     off : top.label ≢ at.label
     off is = (let t : None ≡ Some parent.label = sym d.loose ∙ (ap (parent_of f) is ∙ child) in cc)
 
@@ -145,7 +145,7 @@ module _ (start now : State) (top at : NodeRef) (law : IsLawful now) (d : Droppi
 
 -- ---- the end: the top itself
 
-pub dropping_end : (start now new : State) (top at : NodeRef) → IsLawful start → IsLawful now → IsLawful new → Dropping start now top at → first_of now.trees at.label ≡ None → parent_of now.trees at.label ≡ None → Drops now new at → DropsTree start new top
+pub dropping_end : (start now new : ArenaState) (top at : NodeRef) → IsValid start → IsValid now → IsValid new → Dropping start now top at → first_of now.trees at.label ≡ None → parent_of now.trees at.label ≡ None → Drops now new at → DropsTree start new top
 dropping_end start now new top at begun law over d leaf root drops =
     let is : at.label ≡ top.label = top_is start now top at law d root in
     let trees : new.trees ≡ without start.trees top.label = drops.trees ∙ (ap (without now.trees) is ∙ d.same) in

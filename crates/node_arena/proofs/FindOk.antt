@@ -1,7 +1,7 @@
 -- The index tells the slot of each label that is there.
 use Rattle.std.proofs.Common.{◌≡◌, ℕ, zero, suc, ◌<◌, List, get_or, map, Option, Some, None, refl, ap, subst, ◌∙◌, arith}
 use Rattle.dom_model.specs.Forest.{count_of}
-use Rattle.dom_model.specs.State.{State}
+use Rattle.dom_model.specs.ArenaState.{ArenaState}
 use Rattle.dom_model.proofs.Links.{seen}
 use Rattle.node_arena.specs.declared.Node.{Node}
 use Rattle.node_arena.specs.Nodes.{label_in, state_of}
@@ -10,9 +10,9 @@ use Rattle.node_arena.specs.Held.{Holds}
 use Rattle.node_arena.proofs.Rebuild.{trees_of-sound}
 use Rattle.node_arena.proofs.SoundLink.{get_or-map-label_in}
 
-pub indexed_here : (slots : List (Option Node)) (next cap : ℕ) (index : List ℕ) → IsArena slots next cap index → (old : State) → state_of slots next cap ≡ old → (l : ℕ) → 0 < count_of old.trees l → (l < next) × Holds old (record { slot = get_or index l 0; label = l })
+pub indexed_here : (slots : List (Option Node)) (next cap : ℕ) (index : List ℕ) → IsArena slots next cap index → (old : ArenaState) → state_of slots next cap ≡ old → (l : ℕ) → 0 < count_of old.trees l → (l < next) × Holds old (record { slot = get_or index l 0; label = l })
 indexed_here slots next cap index arena old is l =
-    subst (λ (o : State). 0 < count_of o.trees l → (l < next) × Holds o (record { slot = get_or index l 0; label = l })) is
+    subst (λ (o : ArenaState). 0 < count_of o.trees l → (l < next) × Holds o (record { slot = get_or index l 0; label = l })) is
     (λ here.
     let s = arena.sound in
     let here' : 0 < count_of s.trees l = subst (λ f. 0 < count_of f l) (trees_of-sound slots next cap s) here in

@@ -8,9 +8,9 @@ use Rattle.dom_model.proofs.Rising.{RisesFrom-without, RisesFrom-put_under}
 use Rattle.node_arena.specs.declared.Node.{Node}
 use Rattle.node_arena.specs.declared.NodeRef.{NodeRef}
 use Rattle.node_arena.specs.Nodes.{label_in, link_to, node_for, trees_of, state_of}
-use Rattle.node_arena.specs.Sound.{IsSound, IsArena}
+use Rattle.node_arena.specs.Sound.{IsSoundArena, IsArena}
 use Rattle.node_arena.specs.Held.{Holds, label}
-use Rattle.dom_model.specs.State.{State, CanLink}
+use Rattle.dom_model.specs.ArenaState.{ArenaState, CanLink}
 use Rattle.node_arena.specs.Change.{placed, with_first, with_last, with_prev, with_next, next_changed, prev_changed, linked_slots, prior_link}
 use Rattle.node_arena.proofs.ChangeLemmas.{map-label_in-change}
 use Rattle.dom_model.proofs.NodesKept.{AreNodes, nodes-link}
@@ -29,8 +29,8 @@ pub labels-linked : (xs : List (Option Node)) (p : NodeRef) (prior before : Opti
 labels-linked xs p prior before n =
     labels-prev_changed _ p before (Some n) ∙ (labels-next_changed _ p prior (Some n) ∙ map-label_in-change xs n.slot (placed (Some p) prior before) (λ x. refl))
 
-module _ (slots : List (Option Node)) (next cap : ℕ) (sound : IsSound slots next cap) (p : ℕ) (b : Option ℕ) (n : ℕ) (can : CanPut sound.trees p b n) where
-  pub sound-link : IsSound (new_slots slots next cap sound p b n can) next cap
+module _ (slots : List (Option Node)) (next cap : ℕ) (sound : IsSoundArena slots next cap) (p : ℕ) (b : Option ℕ) (n : ℕ) (can : CanPut sound.trees p b n) where
+  pub sound-link : IsSoundArena (new_slots slots next cap sound p b n can) next cap
   sound-link = record {
     trees = link sound.trees p b n;
     at = sound.at;
@@ -69,7 +69,7 @@ module _ (slots : List (Option Node)) (next cap : ℕ) (sound : IsSound slots ne
 abbrev pub Held : List (Option Node) → NodeRef → Type 0
 Held slots r = get_or (map label_in slots) r.slot None ≡ Some r.label
 
-module _ (slots : List (Option Node)) (next cap : ℕ) (sound : IsSound slots next cap) where
+module _ (slots : List (Option Node)) (next cap : ℕ) (sound : IsSoundArena slots next cap) where
   pub ref_is : (r : NodeRef) → Held slots r → Some r ≡ link_to sound.at (Some r.label)
   ref_is r h = ap (λ k. Some (record { slot = k; label = r.label })) (held_node slots next cap sound r.slot r.label h).2
 
@@ -93,16 +93,16 @@ module _ (slots : List (Option Node)) (next cap : ℕ) (sound : IsSound slots ne
   pub some_of_held : (r : NodeRef) → Held slots r → IsSome (get_or slots r.slot None)
   some_of_held r h = rw (held_node slots next cap sound r.slot r.label h).3 refl
 
-pub distinct_trees : (slots : List (Option Node)) (next cap : ℕ) → IsSound slots next cap → IsDistinct (trees_of slots next)
+pub distinct_trees : (slots : List (Option Node)) (next cap : ℕ) → IsSoundArena slots next cap → IsDistinct (trees_of slots next)
 distinct_trees slots next cap sound = subst IsDistinct (sym (trees_of-sound slots next cap sound)) sound.distinct
 
 -- the slots are sound for this list
 pub record Gives (slots new : List (Option Node)) (next cap : ℕ) (f : Forest Content) : Type 0 where
-  pub sound : IsSound new next cap
+  pub sound : IsSoundArena new next cap
   pub trees : trees_of new next ≡ f
   pub held : map label_in new ≡ map label_in slots
 
-module _ (slots : List (Option Node)) (next cap : ℕ) (sound : IsSound slots next cap) (parent : NodeRef) (before : Option NodeRef) (node : NodeRef) (hp : Held slots parent) (hb : IfSome before (Held slots)) (hn : Held slots node) where
+module _ (slots : List (Option Node)) (next cap : ℕ) (sound : IsSoundArena slots next cap) (parent : NodeRef) (before : Option NodeRef) (node : NodeRef) (hp : Held slots parent) (hb : IfSome before (Held slots)) (hn : Held slots node) where
   same_trees : trees_of slots next ≡ sound.trees
   same_trees = trees_of-sound slots next cap sound
 
@@ -142,18 +142,18 @@ module _ (slots : List (Option Node)) (next cap : ℕ) (sound : IsSound slots ne
 
 -- ---- for the value that a contract sees
 
-pub record LinksTo (slots new : List (Option Node)) (next cap : ℕ) (index : List ℕ) (value : State) (prior : Option NodeRef) : Type 0 where
+pub record LinksTo (slots new : List (Option Node)) (next cap : ℕ) (index : List ℕ) (value : ArenaState) (prior : Option NodeRef) : Type 0 where
   pub arena : IsArena new next cap index
   pub is : state_of new next cap ≡ value
   pub prior_some : IfSome prior (λ r. IsSome (get_or slots r.slot None))
 
-link_root : (slots : List (Option Node)) (next cap : ℕ) → IsSound slots next cap → parent_of (trees_of slots next) 0 ≡ None → (p : ℕ) (b : Option ℕ) (n : ℕ) → CanPut (trees_of slots next) p b n → parent_of (link (trees_of slots next) p b n) 0 ≡ None
+link_root : (slots : List (Option Node)) (next cap : ℕ) → IsSoundArena slots next cap → parent_of (trees_of slots next) 0 ≡ None → (p : ℕ) (b : Option ℕ) (n : ℕ) → CanPut (trees_of slots next) p b n → parent_of (link (trees_of slots next) p b n) 0 ≡ None
 link_root slots next cap sound root p b n can =
     parent_of-link_root (trees_of slots next) p b n (distinct_trees slots next cap sound) can 0 (λ e. (let inner = can.inner in let none = rw e at inner in omega (arith, none))) root
 
-pub link_state : (slots : List (Option Node)) (next cap : ℕ) (index : List ℕ) → IsArena slots next cap index → (old : State) → state_of slots next cap ≡ old → (parent : NodeRef) (before : Option NodeRef) (node : NodeRef) → Holds old parent → IfSome before (λ r. Holds old r) → Holds old node → CanLink old.trees parent.label (label before) node.label → LinksTo slots (linked_slots slots parent (prior_link slots parent before) before node) next cap index (record old { trees = link old.trees parent.label (label before) node.label }) (prior_link slots parent before)
+pub link_state : (slots : List (Option Node)) (next cap : ℕ) (index : List ℕ) → IsArena slots next cap index → (old : ArenaState) → state_of slots next cap ≡ old → (parent : NodeRef) (before : Option NodeRef) (node : NodeRef) → Holds old parent → IfSome before (λ r. Holds old r) → Holds old node → CanLink old.trees parent.label (label before) node.label → LinksTo slots (linked_slots slots parent (prior_link slots parent before) before node) next cap index (record old { trees = link old.trees parent.label (label before) node.label }) (prior_link slots parent before)
 link_state slots next cap index arena old is parent before node =
-    subst (λ (o : State). Holds o parent → IfSome before (λ r. Holds o r) → Holds o node → CanLink o.trees parent.label (label before) node.label → LinksTo slots (linked_slots slots parent (prior_link slots parent before) before node) next cap index (record o { trees = link o.trees parent.label (label before) node.label }) (prior_link slots parent before)) is
+    subst (λ (o : ArenaState). Holds o parent → IfSome before (λ r. Holds o r) → Holds o node → CanLink o.trees parent.label (label before) node.label → LinksTo slots (linked_slots slots parent (prior_link slots parent before) before node) next cap index (record o { trees = link o.trees parent.label (label before) node.label }) (prior_link slots parent before)) is
     (λ hp hb hn can.
     let g = link_gives slots next cap arena.sound parent before node hp hb hn can.place in
     let once = distinct_trees slots next cap arena.sound in

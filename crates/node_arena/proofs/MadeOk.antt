@@ -4,16 +4,16 @@ use Rattle.std.proofs.lemmas.Bool.Decides.{nat_tests}
 use Rattle.std.specs.Prelude.{nat_le}
 use Rattle.std.specs.Option.{option_and_then}
 use Rattle.dom_model.specs.declared.Content.{Content}
-use Rattle.dom_model.specs.State.{State}
+use Rattle.dom_model.specs.ArenaState.{ArenaState}
 use Rattle.dom_model.specs.Forest.{Forest, Seen, count_of, seek, parent_of, children_of, before_in, after_in, first_in, last_in}
-use Rattle.dom_model.specs.Shed.{shed, IsWhole}
+use Rattle.dom_model.specs.Pruned.{pruned, IsWhole}
 use Rattle.dom_model.proofs.Few.{total-few}
 use Rattle.dom_model.proofs.Links.{found_count, parent_count}
 use Rattle.dom_model.proofs.Stands.{true_or_false}
-use Rattle.dom_model.proofs.Shedding.{count_of-shed, IsDistinct-shed, RisesFrom-shed, seek-shed, parent_of-shed, children_of-shed, whole_out, whole_stays}
+use Rattle.dom_model.proofs.Pruning.{count_of-pruned, IsDistinct-pruned, RisesFrom-pruned, seek-pruned, parent_of-pruned, children_of-pruned, whole_out, whole_stays}
 use Rattle.node_arena.specs.declared.Node.{Node}
 use Rattle.node_arena.specs.Nodes.{label_in, link_to, node_for, trees_of, state_of}
-use Rattle.node_arena.specs.Sound.{IsSound, IsArena, IsIndexed}
+use Rattle.node_arena.specs.Sound.{IsSoundArena, IsArena, IsIndexed}
 use Rattle.node_arena.specs.Held.{DropsMade}
 use Rattle.node_arena.specs.Made.{kept_below}
 use Rattle.dom_model.proofs.NodesKept.{AreNodes}
@@ -32,7 +32,7 @@ above a b e = grind (arith, nat_tests)
 below : (a b : ℕ) → b < a → nat_le a b ≡ false
 below a b lt = grind (arith, nat_tests)
 
-module _ (slots new : List (Option Node)) (next cap first : ℕ) (sound : IsSound slots next cap) (whole : IsWhole (nat_le first) sound.trees) (kept : (j : ℕ) → get_or new j None ≡ kept_below first (get_or slots j None)) where
+module _ (slots new : List (Option Node)) (next cap first : ℕ) (sound : IsSoundArena slots next cap) (whole : IsWhole (nat_le first) sound.trees) (kept : (j : ℕ) → get_or new j None ≡ kept_below first (get_or slots j None)) where
   abbrev f : Forest Content
   f = sound.trees
 
@@ -40,7 +40,7 @@ module _ (slots new : List (Option Node)) (next cap first : ℕ) (sound : IsSoun
   k l = nat_le first l
 
   abbrev g : Forest Content
-  g = shed k f
+  g = pruned k f
 
   pub left_low : (l : ℕ) → 0 < count_of g l → l < first
   left_low l here = above first l (whole_out k f sound.distinct whole l here)
@@ -49,10 +49,10 @@ module _ (slots new : List (Option Node)) (next cap first : ℕ) (sound : IsSoun
   left_here l low here = omega (arith, here, whole_stays k f sound.distinct whole l (below first l low))
 
   pub left_parent : (l : ℕ) → 0 < count_of g l → parent_of g l ≡ parent_of f l
-  left_parent l here = parent_of-shed k f l sound.distinct here
+  left_parent l here = parent_of-pruned k f l sound.distinct here
 
   kids : (l : ℕ) → 0 < count_of g l → children_of g l ≡ children_of f l
-  kids l here = children_of-shed k f l sound.distinct here
+  kids l here = children_of-pruned k f l sound.distinct here
 
   node_same : (l : ℕ) (s : Seen Content) → 0 < count_of g l → node_for f sound.at l s ≡ node_for g sound.at l s
   node_same l s here =
@@ -67,11 +67,11 @@ module _ (slots new : List (Option Node)) (next cap first : ℕ) (sound : IsSoun
     where
       each_before : (o : Option ℕ) → parent_of g l ≡ o → link_to sound.at (option_and_then (λ p. before_in (children_of f p) l) o) ≡ link_to sound.at (option_and_then (λ p. before_in (children_of g p) l) o)
       each_before None e = refl
-      each_before (Some p) e = ap (λ ks. link_to sound.at (before_in ks l)) (sym (kids p (parent_count g l p (IsDistinct-shed k f sound.distinct) e).1))
+      each_before (Some p) e = ap (λ ks. link_to sound.at (before_in ks l)) (sym (kids p (parent_count g l p (IsDistinct-pruned k f sound.distinct) e).1))
 
       each_after : (o : Option ℕ) → parent_of g l ≡ o → link_to sound.at (option_and_then (λ p. after_in (children_of f p) l) o) ≡ link_to sound.at (option_and_then (λ p. after_in (children_of g p) l) o)
       each_after None e = refl
-      each_after (Some p) e = ap (λ ks. link_to sound.at (after_in ks l)) (sym (kids p (parent_count g l p (IsDistinct-shed k f sound.distinct) e).1))
+      each_after (Some p) e = ap (λ ks. link_to sound.at (after_in ks l)) (sym (kids p (parent_count g l p (IsDistinct-pruned k f sound.distinct) e).1))
 
   -- a slot with a lower label keeps its node, and no other does
   stays : (j : ℕ) (n : Node) → get_or slots j None ≡ Some n → n.label < first → get_or new j None ≡ Some n
@@ -88,22 +88,22 @@ module _ (slots new : List (Option Node)) (next cap first : ℕ) (sound : IsSoun
             (t ∙ h', subst (λ (x : Node). x.label < first) same (above first m.label u)))
       ]
 
-  pub sound-made : IsSound new next cap
+  pub sound-made : IsSoundArena new next cap
   sound-made = record {
     trees = g;
     at = sound.at;
     stored = λ l s e. (
         let here = found_count g l s e in
-        let old : seek None f l ≡ Some s = sym (seek-shed k None f l sound.distinct here) ∙ e in
+        let old : seek None f l ≡ Some s = sym (seek-pruned k None f l sound.distinct here) ∙ e in
         stays (sound.at l) (node_for f sound.at l s) (sound.stored l s old) (left_low l here) ∙ ap Some (node_same l s here));
     back = λ slot x e. (
         let w = was slot x e in
         let b = sound.back slot x w.0 in
         (left_here x.label w.1 b.0, b.1));
-    distinct = IsDistinct-shed k f sound.distinct;
-    rising = RisesFrom-shed k f 0 sound.rising;
-    below = λ l h. sound.below l (omega (arith, h, count_of-shed k f l));
-    few = total-few g next (IsDistinct-shed k f sound.distinct) (λ l h. sound.below l (omega (arith, h, count_of-shed k f l)));
+    distinct = IsDistinct-pruned k f sound.distinct;
+    rising = RisesFrom-pruned k f 0 sound.rising;
+    below = λ l h. sound.below l (omega (arith, h, count_of-pruned k f l));
+    few = total-few g next (IsDistinct-pruned k f sound.distinct) (λ l h. sound.below l (omega (arith, h, count_of-pruned k f l)));
     capped = sound.capped;
   }
 
@@ -112,14 +112,14 @@ module _ (slots new : List (Option Node)) (next cap first : ℕ) (sound : IsSoun
   made_trees = trees_of-sound new next cap sound-made
 
   pub made_nodes : AreNodes f → AreNodes g
-  made_nodes nodes l s e = nodes l s (sym (seek-shed k None f l sound.distinct (found_count g l s e)) ∙ e)
+  made_nodes nodes l s e = nodes l s (sym (seek-pruned k None f l sound.distinct (found_count g l s e)) ∙ e)
 
   pub made_root : 0 < first → 0 < count_of f 0 → parent_of f 0 ≡ None → parent_of g 0 ≡ None
   made_root inner here root = left_parent 0 (left_here 0 inner here) ∙ root
 
 -- ---- for the value that a contract sees
 
-pub record MadeTo (old : State) (new : List (Option Node)) (next cap : ℕ) (index : List ℕ) (first : ℕ) : Type 0 where
+pub record MadeTo (old : ArenaState) (new : List (Option Node)) (next cap : ℕ) (index : List ℕ) (first : ℕ) : Type 0 where
   pub arena : IsArena new next cap index
   pub drops : DropsMade old (state_of new next cap) first
   pub spent : (l : ℕ) → 0 < count_of (trees_of new next) l → l < first
@@ -138,9 +138,9 @@ kept_was first (Some m) l h = elim (true_or_false (nat_le first m.label)) [
   | inr u ↦ (let h' : Some m.label ≡ Some l = rw u at h in let same : m.label ≡ l = cc in (h', subst (λ i. i < first) same (above first m.label u)))
 ]
 
-pub made_state : (slots new : List (Option Node)) (next cap : ℕ) (index : List ℕ) → IsArena slots next cap index → (old : State) → state_of slots next cap ≡ old → (first : ℕ) → 0 < first → IsWhole (nat_le first) old.trees → ((j : ℕ) → get_or new j None ≡ kept_below first (get_or slots j None)) → MadeTo old new next cap index first
+pub made_state : (slots new : List (Option Node)) (next cap : ℕ) (index : List ℕ) → IsArena slots next cap index → (old : ArenaState) → state_of slots next cap ≡ old → (first : ℕ) → 0 < first → IsWhole (nat_le first) old.trees → ((j : ℕ) → get_or new j None ≡ kept_below first (get_or slots j None)) → MadeTo old new next cap index first
 made_state slots new next cap index arena old is first inner =
-    subst (λ (o : State). IsWhole (nat_le first) o.trees → ((j : ℕ) → get_or new j None ≡ kept_below first (get_or slots j None)) → MadeTo o new next cap index first) is
+    subst (λ (o : ArenaState). IsWhole (nat_le first) o.trees → ((j : ℕ) → get_or new j None ≡ kept_below first (get_or slots j None)) → MadeTo o new next cap index first) is
     (λ whole kept.
     let s = arena.sound in
     let same : trees_of slots next ≡ s.trees = trees_of-sound slots next cap s in
@@ -161,7 +161,7 @@ made_state slots new next cap index arena old is first inner =
         indexed = λ slot l h. arena.indexed slot l (was_held slot l h).0;
       };
       drops = record {
-        trees = trees ∙ ap (shed (nat_le first)) (sym same);
+        trees = trees ∙ ap (pruned (nat_le first)) (sym same);
         next = refl;
         cap = refl;
         held = λ q. (λ h. was_held q.slot q.label h, λ h. keeps q.slot q.label h.0 h.1);

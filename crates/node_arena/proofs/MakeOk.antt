@@ -6,7 +6,7 @@ use Rattle.std.proofs.lemmas.Bool.Decides.{eqb_tells}
 use Rattle.std.specs.Option.{option_and_then}
 use Rattle.dom_model.specs.declared.Content.{Content}
 use Rattle.dom_model.specs.declared.Content.TheVariants.{Document}
-use Rattle.dom_model.specs.State.{State, IsLawful}
+use Rattle.dom_model.specs.ArenaState.{ArenaState, IsValid}
 use Rattle.dom_model.specs.Contents.{IsNode, char_length}
 use Rattle.dom_model.specs.Forest.{Forest, Seen, total, count_of, IsDistinct, seek, parent_of, children_of, first_of, last_of, prev_of, next_of, before_in, after_in, first_in, last_in, with_leaf, RisesFrom}
 use Rattle.dom_model.specs.Forest.Forest.{Nil, Tree}
@@ -16,13 +16,13 @@ use Rattle.dom_model.proofs.Rising.{RisesFrom-with_leaf}
 use Rattle.node_arena.specs.declared.Node.{Node}
 use Rattle.node_arena.specs.declared.NodeRef.{NodeRef}
 use Rattle.node_arena.specs.Nodes.{label_in, link_to, node_for, trees_of, state_of}
-use Rattle.node_arena.specs.Sound.{IsSound, IsArena}
+use Rattle.node_arena.specs.Sound.{IsSoundArena, IsArena}
 use Rattle.node_arena.specs.Held.{Holds, label, leaf_node, Makes, IsNew}
 use Rattle.dom_model.proofs.NodesKept.{AreNodes, nodes-with_leaf}
 use Rattle.node_arena.proofs.Rebuild.{trees_of-sound}
 use Rattle.node_arena.proofs.SoundLink.{get_or-map-label_in, held_node, same_node}
 
-module _ (slots new : List (Option Node)) (next cap : ℕ) (sound : IsSound slots next cap) (key : ℕ) (c : Content) (room : next < cap) (vacant : get_or slots key None ≡ None) (put : get_or new key None ≡ Some (leaf_node next c)) (others : (j : ℕ) → j ≢ key → get_or new j None ≡ get_or slots j None) where
+module _ (slots new : List (Option Node)) (next cap : ℕ) (sound : IsSoundArena slots next cap) (key : ℕ) (c : Content) (room : next < cap) (vacant : get_or slots key None ≡ None) (put : get_or new key None ≡ Some (leaf_node next c)) (others : (j : ℕ) → j ≢ key → get_or new j None ≡ get_or slots j None) where
   abbrev f : Forest Content
   f = sound.trees
 
@@ -93,7 +93,7 @@ module _ (slots new : List (Option Node)) (next cap : ℕ) (sound : IsSound slot
       (ap (λ o. link_to at' (option_and_then (λ p. before_in (children_of g p) next) o)) par)
       (ap (λ o. link_to at' (option_and_then (λ p. after_in (children_of g p) next) o)) par)
 
-  sound-make : IsSound new (next + 1) cap
+  sound-make : IsSoundArena new (next + 1) cap
   sound-make = record {
     trees = g;
     at = at';
@@ -146,7 +146,7 @@ module _ (slots new : List (Option Node)) (next cap : ℕ) (sound : IsSound slot
             (omega (arith, b.0, counts x.label), b.1 ∙ rw (off_next x.label b.0) refl))
       ]
 
-  pub make_sound : IsSound new (next + 1) cap
+  pub make_sound : IsSoundArena new (next + 1) cap
   make_sound = sound-make
 
   pub make_trees : trees_of new (next + 1) ≡ with_leaf (trees_of slots next) next c
@@ -167,7 +167,7 @@ module _ (slots new : List (Option Node)) (next cap : ℕ) (sound : IsSound slot
 
 -- ---- for the value that a contract sees
 
-pub record MakesTo (old : State) (new : List (Option Node)) (next cap : ℕ) (index : List ℕ) (r : NodeRef) (c : Content) : Type 0 where
+pub record MakesTo (old : ArenaState) (new : List (Option Node)) (next cap : ℕ) (index : List ℕ) (r : NodeRef) (c : Content) : Type 0 where
   pub arena : IsArena new next cap index
   pub makes : Makes old (state_of new next cap) r c
 
@@ -186,7 +186,7 @@ indexed_more slots new next index key long old put others slot l h = elim (eqb_t
       get_or-append index (key ∷ []) 0 l (omega (arith, r.0, long)) ∙ r.1)
 ]
 
-pub make_state : (slots new : List (Option Node)) (next cap : ℕ) (index : List ℕ) → IsArena slots next cap index → (old : State) → state_of slots next cap ≡ old → (key : ℕ) (c : Content) → (c ≡ Document → ⊥) → char_length c < 2 ^ 32 → next ≢ cap → get_or slots key None ≡ None → get_or new key None ≡ Some (leaf_node next c) → ((j : ℕ) → j ≢ key → get_or new j None ≡ get_or slots j None) → MakesTo old new (next + 1) cap (index ++ key ∷ []) (record { slot = key; label = next }) c
+pub make_state : (slots new : List (Option Node)) (next cap : ℕ) (index : List ℕ) → IsArena slots next cap index → (old : ArenaState) → state_of slots next cap ≡ old → (key : ℕ) (c : Content) → (c ≡ Document → ⊥) → char_length c < 2 ^ 32 → next ≢ cap → get_or slots key None ≡ None → get_or new key None ≡ Some (leaf_node next c) → ((j : ℕ) → j ≢ key → get_or new j None ≡ get_or slots j None) → MakesTo old new (next + 1) cap (index ++ key ∷ []) (record { slot = key; label = next }) c
 make_state slots new next cap index arena old is key c plain short ne vacant put others =
     let room : next < cap = omega (arith, arena.sound.capped, ne) in
     let trees = make_trees slots new next cap arena.sound key c room vacant put others in
@@ -204,13 +204,13 @@ make_state slots new next cap index arena old is key c plain short ne vacant put
         indexed = indexed_more slots new next index key arena.long (λ slot l h. (held_below slot l h, arena.indexed slot l h)) held (make_others slots new next cap arena.sound key c room vacant put others);
       };
       makes = record {
-        trees = trees ∙ ap (λ (o : State). with_leaf o.trees o.next c) is;
-        next = ap (λ (o : State). o.next + 1) is;
-        cap = ap (λ (o : State). o.cap) is;
-        label = ap (λ (o : State). o.next) is;
+        trees = trees ∙ ap (λ (o : ArenaState). with_leaf o.trees o.next c) is;
+        next = ap (λ (o : ArenaState). o.next + 1) is;
+        cap = ap (λ (o : ArenaState). o.cap) is;
+        label = ap (λ (o : ArenaState). o.next) is;
         held = held;
-        keeps = λ q h. keeps q.slot q.label (subst (λ (o : State). Holds o q) (sym is) h);
-        others = λ q h off. subst (λ (o : State). Holds o q) is (sym (make_others slots new next cap arena.sound key c room vacant put others q.slot off) ∙ h);
+        keeps = λ q h. keeps q.slot q.label (subst (λ (o : ArenaState). Holds o q) (sym is) h);
+        others = λ q h off. subst (λ (o : ArenaState). Holds o q) is (sym (make_others slots new next cap arena.sound key c room vacant put others q.slot off) ∙ h);
       };
     }
   where
@@ -220,7 +220,7 @@ make_state slots new next cap index arena old is key c plain short ne vacant put
     held_below : (slot l : ℕ) → get_or (map label_in slots) slot None ≡ Some l → l < next
     held_below slot l h = (let r = held_node slots next cap arena.sound slot l h in arena.sound.below l (found_count arena.sound.trees l r.0 r.1))
 
-empty_sound : (cap : ℕ) → IsSound [] 0 cap
+empty_sound : (cap : ℕ) → IsSoundArena [] 0 cap
 empty_sound cap = record {
   trees = Nil;
   at = λ _. 0;
@@ -264,8 +264,8 @@ new_state new cap room small put others =
       };
     }
 
-pub lawful_state : (slots : List (Option Node)) (next cap : ℕ) (index : List ℕ) → IsArena slots next cap index → (old : State) → state_of slots next cap ≡ old → IsLawful old
-lawful_state slots next cap index arena old is = subst IsLawful is (record {
+pub valid_state : (slots : List (Option Node)) (next cap : ℕ) (index : List ℕ) → IsArena slots next cap index → (old : ArenaState) → state_of slots next cap ≡ old → IsValid old
+valid_state slots next cap index arena old is = subst IsValid is (record {
   distinct = subst IsDistinct back s.distinct;
   rising = subst (RisesFrom 0) back s.rising;
   below = subst (λ h. (l : ℕ) → 0 < count_of h l → l < next) back s.below;
@@ -278,7 +278,7 @@ lawful_state slots next cap index arena old is = subst IsLawful is (record {
   nodes = arena.nodes;
 })
   where
-    s : IsSound slots next cap
+    s : IsSoundArena slots next cap
     s = arena.sound
 
     back : arena.sound.trees ≡ trees_of slots next

@@ -3,7 +3,7 @@ use Rattle.std.proofs.Common.{◌≡◌, ℕ, ◌<◌, true, false, cond, List, 
 use Rattle.std.specs.Option.{option_map, option_and_then}
 use Rattle.dom_model.specs.declared.Content.{Content}
 use Rattle.dom_model.specs.Contents.{IsNode}
-use Rattle.dom_model.specs.State.{State}
+use Rattle.dom_model.specs.ArenaState.{ArenaState}
 use Rattle.dom_model.specs.Forest.{Forest, Seen, count_of, seek, parent_of, children_of, first_in, last_in, before_in, after_in}
 use Rattle.dom_model.specs.Revised.{revised, revised_seen}
 use Rattle.dom_model.proofs.Links.{found_count}
@@ -11,7 +11,7 @@ use Rattle.dom_model.proofs.Revising.{total-revised, seek-revised, RisesFrom-rev
 use Rattle.node_arena.specs.declared.Node.{Node}
 use Rattle.node_arena.specs.declared.NodeRef.{NodeRef}
 use Rattle.node_arena.specs.Nodes.{label_in, link_to, node_for, trees_of, state_of}
-use Rattle.node_arena.specs.Sound.{IsSound, IsArena}
+use Rattle.node_arena.specs.Sound.{IsSoundArena, IsArena}
 use Rattle.node_arena.specs.Held.{Holds}
 use Rattle.node_arena.specs.Change.{change, with_content}
 use Rattle.node_arena.proofs.ChangeLemmas.{map-label_in-change}
@@ -20,7 +20,7 @@ use Rattle.node_arena.proofs.Rebuild.{trees_of-sound}
 use Rattle.node_arena.proofs.SoundLink.{get_or-map-label_in, held_node, changed_at, at_apart, same_node}
 use Rattle.node_arena.proofs.UnlinkOk.{Leaves}
 
-module _ (slots : List (Option Node)) (next cap : ℕ) (sound : IsSound slots next cap) (n : ℕ) (here : 0 < count_of sound.trees n) (g : Content → Content) where
+module _ (slots : List (Option Node)) (next cap : ℕ) (sound : IsSoundArena slots next cap) (n : ℕ) (here : 0 < count_of sound.trees n) (g : Content → Content) where
   abbrev f : Forest Content
   f = sound.trees
 
@@ -64,7 +64,7 @@ module _ (slots : List (Option Node)) (next cap : ℕ) (sound : IsSound slots ne
           (ap (link_to sound.at) (ap (option_and_then (λ p. before_in (children_of f p) l)) par ∙ each_before (parent_of (revised f n g) l)))
           (ap (link_to sound.at) (ap (option_and_then (λ p. after_in (children_of f p) l)) par ∙ each_after (parent_of (revised f n g) l)))
 
-  pub sound-revised : IsSound new next cap
+  pub sound-revised : IsSoundArena new next cap
   sound-revised = record {
     trees = revised f n g;
     at = sound.at;
@@ -100,9 +100,9 @@ module _ (slots : List (Option Node)) (next cap : ℕ) (sound : IsSound slots ne
   pub revised_labels : map label_in new ≡ map label_in slots
   revised_labels = labels
 
-pub revise_state : (slots : List (Option Node)) (next cap : ℕ) (index : List ℕ) → IsArena slots next cap index → (old : State) → state_of slots next cap ≡ old → (r : NodeRef) (g : Content → Content) → Holds old r → ((o : Seen Content) → seek None old.trees r.label ≡ Some o → IsNode r.label o → IsNode r.label (record { parent = o.parent; content = g o.content; children = o.children })) → Leaves (change slots r.slot (with_content g)) next cap index (record old { trees = revised old.trees r.label g })
+pub revise_state : (slots : List (Option Node)) (next cap : ℕ) (index : List ℕ) → IsArena slots next cap index → (old : ArenaState) → state_of slots next cap ≡ old → (r : NodeRef) (g : Content → Content) → Holds old r → ((o : Seen Content) → seek None old.trees r.label ≡ Some o → IsNode r.label o → IsNode r.label (record { parent = o.parent; content = g o.content; children = o.children })) → Leaves (change slots r.slot (with_content g)) next cap index (record old { trees = revised old.trees r.label g })
 revise_state slots next cap index arena old is r g =
-    subst (λ (o : State). Holds o r → ((x : Seen Content) → seek None o.trees r.label ≡ Some x → IsNode r.label x → IsNode r.label (record { parent = x.parent; content = g x.content; children = x.children })) → Leaves (change slots r.slot (with_content g)) next cap index (record o { trees = revised o.trees r.label g })) is
+    subst (λ (o : ArenaState). Holds o r → ((x : Seen Content) → seek None o.trees r.label ≡ Some x → IsNode r.label x → IsNode r.label (record { parent = x.parent; content = g x.content; children = x.children })) → Leaves (change slots r.slot (with_content g)) next cap index (record o { trees = revised o.trees r.label g })) is
     (λ held keeps.
     let s = arena.sound in
     let x = held_node slots next cap s r.slot r.label held in

@@ -2,19 +2,19 @@
 use Rattle.std.proofs.Common.{◌≡◌, ℕ, ◌+◌, ◌-◌, ◌≤◌, List, ◌++◌, length, take, map, Option, sym, ap, subst, ◌∙◌, arith}
 use Rattle.std.specs.Prelude.{replicate}
 use Rattle.std.proofs.lemmas.List.{get_or_append_left, take_all, length-append, length-replicate}
-use Rattle.dom_model.specs.State.{State}
+use Rattle.dom_model.specs.ArenaState.{ArenaState}
 use Rattle.dom_model.specs.Forest.{parent_of}
 use Rattle.dom_model.proofs.Links.{found_count}
 use Rattle.node_arena.specs.declared.Node.{Node}
 use Rattle.node_arena.specs.Nodes.{label_in, trees_of, state_of}
-use Rattle.node_arena.specs.Sound.{IsSound, IsArena}
+use Rattle.node_arena.specs.Sound.{IsSoundArena, IsArena}
 use Rattle.dom_model.proofs.NodesKept.{AreNodes}
 use Rattle.node_arena.proofs.Rebuild.{trees_of-sound}
 use Rattle.node_arena.proofs.SoundLink.{held_node}
 use Rattle.node_arena.proofs.UnlinkOk.{Leaves}
 
-module _ (slots : List (Option Node)) (next cap : ℕ) (sound : IsSound slots next cap) (label : ℕ) (le : next ≤ label) (high : label ≤ cap) where
-  pub sound-skipped : IsSound slots label cap
+module _ (slots : List (Option Node)) (next cap : ℕ) (sound : IsSoundArena slots next cap) (label : ℕ) (le : next ≤ label) (high : label ≤ cap) where
+  pub sound-skipped : IsSoundArena slots label cap
   sound-skipped = record {
     trees = sound.trees;
     at = sound.at;
@@ -31,9 +31,9 @@ module _ (slots : List (Option Node)) (next cap : ℕ) (sound : IsSound slots ne
   unfolding sound-skipped
   skipped_trees = trees_of-sound slots label cap sound-skipped ∙ sym (trees_of-sound slots next cap sound)
 
-pub skip_state : (slots : List (Option Node)) (next cap : ℕ) (index : List ℕ) → IsArena slots next cap index → (old : State) → state_of slots next cap ≡ old → (label : ℕ) → old.next ≤ label → label ≤ old.cap → Leaves slots label cap (take label index ++ replicate (label - length index) 0) (record old { next = label })
+pub skip_state : (slots : List (Option Node)) (next cap : ℕ) (index : List ℕ) → IsArena slots next cap index → (old : ArenaState) → state_of slots next cap ≡ old → (label : ℕ) → old.next ≤ label → label ≤ old.cap → Leaves slots label cap (take label index ++ replicate (label - length index) 0) (record old { next = label })
 skip_state slots next cap index arena old is label =
-    subst (λ (o : State). o.next ≤ label → label ≤ o.cap → Leaves slots label cap (take label index ++ replicate (label - length index) 0) (record o { next = label })) is
+    subst (λ (o : ArenaState). o.next ≤ label → label ≤ o.cap → Leaves slots label cap (take label index ++ replicate (label - length index) 0) (record o { next = label })) is
     (λ le high.
     let s = arena.sound in
     let trees = skipped_trees slots next cap s label le high in

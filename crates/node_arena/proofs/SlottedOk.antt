@@ -1,13 +1,13 @@
 -- Every arena has one slot for each node.
 use Rattle.std.proofs.Common.{◌≡◌, ℕ, zero, suc, ◌<◌, true, List, [], ◌∷◌, get_or, map, Option, Some, None, sym, ap, subst, ◌∙◌, inl, inr, arith, add-one}
 use Rattle.dom_model.specs.Forest.{count_of, is_label}
-use Rattle.dom_model.specs.State.{State}
+use Rattle.dom_model.specs.ArenaState.{ArenaState}
 use Rattle.dom_model.proofs.Stands.{true_or_false}
 use Rattle.dom_model.proofs.Links.{seen, found_count, eqb_refl_true}
 use Rattle.node_arena.specs.declared.Node.{Node}
 use Rattle.node_arena.specs.Nodes.{label_in, trees_of, state_of}
-use Rattle.node_arena.specs.Sound.{IsSound, IsArena}
-use Rattle.dom_model.specs.State.{slot_of, IsSlotted}
+use Rattle.node_arena.specs.Sound.{IsSoundArena, IsArena}
+use Rattle.dom_model.specs.ArenaState.{slot_of, IsSlotted}
 use Rattle.node_arena.proofs.Rebuild.{trees_of-sound}
 use Rattle.node_arena.proofs.SoundLink.{get_or-map-label_in, held_node}
 
@@ -26,7 +26,7 @@ first_slot (o ∷ os) (suc i) l e =
     is_it None u = absurd (cc)
     is_it (Some m) u = ap Some (let u' = u in grind (arith))
 
-pub slotted : (slots : List (Option Node)) (next cap : ℕ) (index : List ℕ) → IsArena slots next cap index → (s : State) → state_of slots next cap ≡ s → IsSlotted s
+pub slotted : (slots : List (Option Node)) (next cap : ℕ) (index : List ℕ) → IsArena slots next cap index → (s : ArenaState) → state_of slots next cap ≡ s → IsSlotted s
 slotted slots next cap index arena s is = subst IsSlotted is (record {
   kept = λ l here. (
       let here' : 0 < count_of sound.trees l = subst (λ f. 0 < count_of f l) same here in
@@ -41,7 +41,7 @@ slotted slots next cap index arena s is = subst IsSlotted is (record {
       subst (λ f. 0 < count_of f l) (sym same) (found_count sound.trees l a.0 a.1));
 })
   where
-    sound : IsSound slots next cap
+    sound : IsSoundArena slots next cap
     sound = arena.sound
 
     same : trees_of slots next ≡ sound.trees

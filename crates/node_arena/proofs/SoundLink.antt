@@ -8,7 +8,7 @@ use Rattle.dom_model.proofs.Lists.{is_label_prior}
 use Rattle.node_arena.specs.declared.Node.{Node}
 use Rattle.node_arena.specs.declared.NodeRef.{NodeRef}
 use Rattle.node_arena.specs.Nodes.{label_in, link_to, node_for}
-use Rattle.node_arena.specs.Sound.{IsSound}
+use Rattle.node_arena.specs.Sound.{IsSoundArena}
 use Rattle.node_arena.specs.Change.{change, placed, with_first, with_last, with_prev, with_next, next_changed, prev_changed, linked_slots}
 use Rattle.node_arena.proofs.ChangeLemmas.{get_or-change}
 use Rattle.node_arena.proofs.Merge.{mark, next_step, prev_step, after_link, merge_link}
@@ -22,7 +22,7 @@ pub changed_at : (slots : List (Option Node)) (k j : ℕ) (g : Node → Node) (x
 changed_at slots k j g x true e t = rw (get_or-change slots k j g, t, e) refl
 changed_at slots k j g x false e t = rw (get_or-change slots k j g, t, e) refl
 
-module _ (slots : List (Option Node)) (next cap : ℕ) (sound : IsSound slots next cap) where
+module _ (slots : List (Option Node)) (next cap : ℕ) (sound : IsSoundArena slots next cap) where
   -- a slot with a label has the node that the nested list says
   pub held_node : (slot label : ℕ) → get_or (map label_in slots) slot None ≡ Some label → (s : Seen Content) × (seek None sound.trees label ≡ Some s) × (slot ≡ sound.at label) × (get_or slots slot None ≡ Some (node_for sound.trees sound.at label s))
   held_node slot label held = by_slot (get_or slots slot None) refl (sym (get_or-map-label_in slots slot) ∙ held)
@@ -88,7 +88,7 @@ pub pick_outer : (at : ℕ → ℕ) (v w w' : Bool) (a b c : Option ℕ) → w �
 pick_outer at true w w' a b c e = refl
 pick_outer at false w w' a b c e = rw e (sym (link_to-cond at w' b c))
 
-module _ (slots : List (Option Node)) (next cap : ℕ) (sound : IsSound slots next cap) (p : ℕ) (b : Option ℕ) (n : ℕ) (can : CanPut sound.trees p b n) where
+module _ (slots : List (Option Node)) (next cap : ℕ) (sound : IsSoundArena slots next cap) (p : ℕ) (b : Option ℕ) (n : ℕ) (can : CanPut sound.trees p b n) where
   abbrev ref : ℕ → NodeRef
   ref l = record { slot = sound.at l; label = l }
 

@@ -3,7 +3,7 @@ use Rattle.std.proofs.Common.{◌≡◌, ℕ, ◌<◌, Bool, true, false, cond, 
 use Rattle.std.proofs.lemmas.Bool.Decides.{eqb_tells}
 use Rattle.std.specs.Option.{option_map}
 use Rattle.dom_model.specs.declared.Content.{Content}
-use Rattle.dom_model.specs.State.{State}
+use Rattle.dom_model.specs.ArenaState.{ArenaState}
 use Rattle.dom_model.specs.Forest.{Seen, count_of, seek, parent_of, children_of, first_of, last_of, prev_of, next_of, is_label, tops, times, without, put_rising, unlink, unlinked, RisesFrom}
 use Rattle.dom_model.proofs.Totals.{total-unlink}
 use Rattle.dom_model.proofs.Stands.{times-tops}
@@ -13,7 +13,7 @@ use Rattle.dom_model.proofs.Rising.{RisesFrom-without, RisesFrom-put_rising}
 use Rattle.node_arena.specs.declared.Node.{Node}
 use Rattle.node_arena.specs.declared.NodeRef.{NodeRef}
 use Rattle.node_arena.specs.Nodes.{label_in, link_to, node_for, trees_of, state_of}
-use Rattle.node_arena.specs.Sound.{IsSound, IsArena}
+use Rattle.node_arena.specs.Sound.{IsSoundArena, IsArena}
 use Rattle.node_arena.specs.Held.{Holds, Names}
 use Rattle.node_arena.specs.Change.{placed, unlinked_slots}
 use Rattle.node_arena.proofs.ChangeLemmas.{map-label_in-change}
@@ -32,7 +32,7 @@ pub pick_none : (at : ℕ → ℕ) (v w w' : Bool) (b c : Option ℕ) → w ≡ 
 pick_none at true w w' b c e = refl
 pick_none at false w w' b c e = rw e (sym (link_to-cond at w' b c))
 
-module _ (slots : List (Option Node)) (next cap : ℕ) (sound : IsSound slots next cap) (p n : ℕ) (child : parent_of sound.trees n ≡ Some p) where
+module _ (slots : List (Option Node)) (next cap : ℕ) (sound : IsSoundArena slots next cap) (p n : ℕ) (child : parent_of sound.trees n ≡ Some p) where
   abbrev ref : ℕ → NodeRef
   ref l = record { slot = sound.at l; label = l }
 
@@ -80,7 +80,7 @@ module _ (slots : List (Option Node)) (next cap : ℕ) (sound : IsSound slots ne
           (pick_none sound.at (eqb n l) _ _ prior (prev_of sound.trees l) (mark-link_to sound.at after l) ∙ ap (link_to sound.at) (sym (prev_of-unlink sound.trees p n sound.distinct child l s e)))
           (pick_none sound.at (eqb n l) _ _ after (next_of sound.trees l) (mark-link_to sound.at prior l) ∙ ap (link_to sound.at) (sym (next_of-unlink sound.trees p n sound.distinct child l s e)))
 
-  sound-unlink : IsSound loose_slots next cap
+  sound-unlink : IsSoundArena loose_slots next cap
   sound-unlink = record {
     trees = unlink sound.trees n;
     at = sound.at;
@@ -130,13 +130,13 @@ module _ (slots : List (Option Node)) (next cap : ℕ) (sound : IsSound slots ne
 
 -- ---- for the value that a contract sees
 
-pub record Leaves (new : List (Option Node)) (next cap : ℕ) (index : List ℕ) (value : State) : Type 0 where
+pub record Leaves (new : List (Option Node)) (next cap : ℕ) (index : List ℕ) (value : ArenaState) : Type 0 where
   pub arena : IsArena new next cap index
   pub is : state_of new next cap ≡ value
 
-pub unlink_state : (slots : List (Option Node)) (next cap : ℕ) (index : List ℕ) → IsArena slots next cap index → (old : State) → state_of slots next cap ≡ old → (parent : NodeRef) (prior after : Option NodeRef) (node : NodeRef) → Holds old node → Names old (Some parent) (parent_of old.trees node.label) → Names old prior (prev_of old.trees node.label) → Names old after (next_of old.trees node.label) → Leaves (unlinked_slots slots parent prior after node) next cap index (record old { trees = unlink old.trees node.label })
+pub unlink_state : (slots : List (Option Node)) (next cap : ℕ) (index : List ℕ) → IsArena slots next cap index → (old : ArenaState) → state_of slots next cap ≡ old → (parent : NodeRef) (prior after : Option NodeRef) (node : NodeRef) → Holds old node → Names old (Some parent) (parent_of old.trees node.label) → Names old prior (prev_of old.trees node.label) → Names old after (next_of old.trees node.label) → Leaves (unlinked_slots slots parent prior after node) next cap index (record old { trees = unlink old.trees node.label })
 unlink_state slots next cap index arena old is parent prior after node =
-    subst (λ (o : State). Holds o node → Names o (Some parent) (parent_of o.trees node.label) → Names o prior (prev_of o.trees node.label) → Names o after (next_of o.trees node.label) → Leaves (unlinked_slots slots parent prior after node) next cap index (record o { trees = unlink o.trees node.label })) is
+    subst (λ (o : ArenaState). Holds o node → Names o (Some parent) (parent_of o.trees node.label) → Names o prior (prev_of o.trees node.label) → Names o after (next_of o.trees node.label) → Leaves (unlinked_slots slots parent prior after node) next cap index (record o { trees = unlink o.trees node.label })) is
     (λ hn np nb na.
     let sound = arena.sound in
     let f = sound.trees in

@@ -2,19 +2,19 @@
 use Rattle.std.proofs.Common.{◌≡◌, ℕ, ◌<◌, List, get_or, map, Option, Some, None, IfSome, refl, sym, ap, subst}
 use Rattle.std.specs.Option.{option_map, option_and_then}
 use Rattle.dom_model.specs.declared.Content.{Content}
-use Rattle.dom_model.specs.State.{State}
+use Rattle.dom_model.specs.ArenaState.{ArenaState}
 use Rattle.dom_model.specs.Forest.{Seen, count_of, parent_of, first_of, last_of, prev_of, next_of, content_of}
 use Rattle.dom_model.proofs.Links.{found_count, parent_here, first_here, last_here, prev_here, next_here}
 use Rattle.node_arena.specs.declared.Node.{Node}
 use Rattle.node_arena.specs.declared.NodeRef.{NodeRef}
 use Rattle.node_arena.specs.Nodes.{label_in, link_to, node_for, state_of}
-use Rattle.node_arena.specs.Sound.{IsSound, IsArena}
+use Rattle.node_arena.specs.Sound.{IsSoundArena, IsArena}
 use Rattle.node_arena.specs.Held.{Holds, Names, Shows}
 use Rattle.node_arena.proofs.Rebuild.{trees_of-sound, label_at-link_to}
 use Rattle.node_arena.proofs.SoundLink.{held_node}
 use Rattle.node_arena.proofs.LinkOk.{link_held}
 
-module _ (slots : List (Option Node)) (next cap : ℕ) (sound : IsSound slots next cap) where
+module _ (slots : List (Option Node)) (next cap : ℕ) (sound : IsSoundArena slots next cap) where
   names : (o : Option ℕ) → IfSome o (λ k. 0 < count_of sound.trees k) → Names (record { trees = sound.trees; next = next; cap = cap; held = map label_in slots }) (link_to sound.at o) o
   names o h = record { is = label_at-link_to sound.at o; held = link_held slots next cap sound o h }
 
@@ -38,19 +38,19 @@ module _ (slots : List (Option Node)) (next cap : ℕ) (sound : IsSound slots ne
       subst (λ g. Shows (record { trees = g; next = next; cap = cap; held = map label_in slots }) r.label n) (sym (trees_of-sound slots next cap sound))
       (subst (λ m. Shows (record { trees = f; next = next; cap = cap; held = map label_in slots }) r.label m) same about)
 
-pub shows_state : (slots : List (Option Node)) (next cap : ℕ) (index : List ℕ) → IsArena slots next cap index → (old : State) → state_of slots next cap ≡ old → (r : NodeRef) (n : Node) → Holds old r → get_or slots r.slot None ≡ Some n → Shows old r.label n
+pub shows_state : (slots : List (Option Node)) (next cap : ℕ) (index : List ℕ) → IsArena slots next cap index → (old : ArenaState) → state_of slots next cap ≡ old → (r : NodeRef) (n : Node) → Holds old r → get_or slots r.slot None ≡ Some n → Shows old r.label n
 shows_state slots next cap index sound old is r n =
-    subst (λ (o : State). Holds o r → get_or slots r.slot None ≡ Some n → Shows o r.label n) is (shows slots next cap sound.sound r n)
+    subst (λ (o : ArenaState). Holds o r → get_or slots r.slot None ≡ Some n → Shows o r.label n) is (shows slots next cap sound.sound r n)
 
 -- the node that a held reference names
-pub record Stored (slots : List (Option Node)) (old : State) (r : NodeRef) : Type 0 where
+pub record Stored (slots : List (Option Node)) (old : ArenaState) (r : NodeRef) : Type 0 where
   pub node : Node
   pub at : get_or slots r.slot None ≡ Some node
   pub content : content_of old.trees r.label ≡ Some node.content
 
-pub stored_state : (slots : List (Option Node)) (next cap : ℕ) (index : List ℕ) → IsArena slots next cap index → (old : State) → state_of slots next cap ≡ old → (r : NodeRef) → Holds old r → Stored slots old r
+pub stored_state : (slots : List (Option Node)) (next cap : ℕ) (index : List ℕ) → IsArena slots next cap index → (old : ArenaState) → state_of slots next cap ≡ old → (r : NodeRef) → Holds old r → Stored slots old r
 stored_state slots next cap index arena old is r held =
-    let x = held_node slots next cap arena.sound r.slot r.label (subst (λ (o : State). Holds o r) (sym is) held) in
+    let x = held_node slots next cap arena.sound r.slot r.label (subst (λ (o : ArenaState). Holds o r) (sym is) held) in
     record {
       node = node_for arena.sound.trees arena.sound.at r.label x.0;
       at = x.3;

@@ -16,7 +16,7 @@ pub record Names (holds : NodeRef → Type 0) (link : Option NodeRef) (named : O
   pub held : IfSome link (λ r. holds r)
 
 -- what holds of all nodes that can be read
-pub record IsLawful (holds : NodeRef → Type 0) (f : Forest Content) (next : ℕ) : Type 0 where
+pub record IsValid (holds : NodeRef → Type 0) (f : Forest Content) (next : ℕ) : Type 0 where
   pub distinct : IsDistinct f
   pub rising : RisesFrom 0 f
   pub below : (l : ℕ) → 0 < count_of f l → l < next

@@ -7,7 +7,7 @@ use Rattle.node_arena.specs.declared.Node.{Node}
 use Rattle.node_arena.specs.Nodes.{node_for, label_in, trees_of}
 
 -- the slots hold the nodes of a labelled nested list, each linked as that list says
-pub record IsSound (slots : List (Option Node)) (next cap : ℕ) : Type 0 where
+pub record IsSoundArena (slots : List (Option Node)) (next cap : ℕ) : Type 0 where
   pub trees : Forest Content
   pub at : ℕ → ℕ
   pub stored : (l : ℕ) (s : Seen Content) → seek None trees l ≡ Some s → slice_index_or slots (at l) None ≡ Some (node_for trees at l s)
@@ -21,7 +21,7 @@ pub record IsSound (slots : List (Option Node)) (next cap : ℕ) : Type 0 where
 -- and the document stands in the first slot, each node is one that may be, and the index tells the slot of
 -- each label that is held
 pub record IsArena (slots : List (Option Node)) (next cap : ℕ) (index : List ℕ) : Type 0 where
-  pub sound : IsSound slots next cap
+  pub sound : IsSoundArena slots next cap
   pub document : slice_index_or (map label_in slots) 0 None ≡ Some 0
   pub root : parent_of (trees_of slots next) 0 ≡ None
   pub small : cap < 2 ^ 32

@@ -23,7 +23,7 @@ impl Arena {
         ensures label { result.node.label ≡ 0 }
         ensures depth { result.depth ≡ 0 }
     {
-        self.lawful();
+        self.valid();
         Place {
             node: self.document(),
             depth: 0,
@@ -36,7 +36,7 @@ impl Arena {
         ensures found { IfSome result (λ next. IsPlace self.now next × ((w : ℕ → Content → ℕ) → total_after w self.now.trees place.node.label ≡ total_from w self.now.trees next.node.label)) }
         ensures none { (result ≡ None) → (w : ℕ → Content → ℕ) → total_after w self.now.trees place.node.label ≡ total_after w self.now.trees 0 }
     {
-        self.lawful();
+        self.valid();
         let mut at = place;
         while let Some(parent) = self.parent(at.node) {
             if let Some(next) = self.next(at.node) {
@@ -59,7 +59,7 @@ impl Arena {
         ensures found { IfSome result (Goes self.now place) }
         ensures none { (result ≡ None) → Stops self.now place }
     {
-        self.lawful();
+        self.valid();
         match self.first_child(place.node) {
             Some(child) => Some(Place {
                 node: child,
@@ -73,7 +73,7 @@ impl Arena {
     pub fn node_count(&self) -> u32
         ensures { result ≡ node_count self.now.trees }
     {
-        self.lawful();
+        self.valid();
         let mut at = self.document_place();
         let mut count = 1;
         while let Some(next) = self.following(at) {
@@ -87,7 +87,7 @@ impl Arena {
     pub fn char_count(&self) -> u64
         ensures { result ≡ char_count self.now.trees }
     {
-        self.lawful();
+        self.valid();
         let mut at = self.document_place();
         let mut count = words_length(self.content(at.node));
         while let Some(next) = self.following(at) {
@@ -101,7 +101,7 @@ impl Arena {
     pub fn page_depth(&self) -> u32
         ensures { result ≡ page_depth self.now.trees }
     {
-        self.lawful();
+        self.valid();
         let mut at = self.document_place();
         let mut deepest: u32 = 0;
         while let Some(next) = self.following(at) {

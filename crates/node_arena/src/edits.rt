@@ -6,8 +6,8 @@ ghost use Rattle.slab.specs.Slab.{get};
 ghost use Rattle.dom_model.specs.Forest.{count_of, parent_of, first_of, link, unlink};
 ghost use Rattle.dom_model.specs.Contents.{is_element, has_chars, chars_in, attributes_in, chars_of, attributes_of, is_element_at, has_chars_at, with_chars, with_attributes};
 ghost use Rattle.dom_model.specs.Revised.{revised};
-ghost use Rattle.dom_model.specs.Shed.{IsWhole};
-ghost use Rattle.dom_model.specs.State.{CanLink};
+ghost use Rattle.dom_model.specs.Pruned.{IsWhole};
+ghost use Rattle.dom_model.specs.ArenaState.{CanLink};
 ghost use Rattle.node_arena.specs.Change.{change, with_content};
 ghost use Rattle.node_arena.specs.Held.{Holds, Drops, DropsTree, DropsMade, label};
 ghost use Rattle.node_arena.specs.Made.{has_label, kept_but, kept_below};
@@ -96,7 +96,7 @@ impl Arena {
         requires leaf { first_of self.old.trees node.label ≡ None }
         ensures { Drops self.old self.new node }
     {
-        self.lawful();
+        self.valid();
         self.unlink(node, steps);
         self.drop_leaf(node);
     }
@@ -111,11 +111,11 @@ impl Arena {
         requires loose { parent_of self.old.trees top.label ≡ None }
         ensures { DropsTree self.old self.new top }
     {
-        self.lawful();
+        self.valid();
         let mut steps = Steps::<L>::open(blank);
         let mut at = top;
         loop {
-            self.lawful();
+            self.valid();
             if let Some(child) = self.first_child(at) {
                 at = child;
                 continue;
@@ -129,7 +129,7 @@ impl Arena {
             }
         }
         self.drop_leaf(at);
-        self.lawful();
+        self.valid();
     }
 
     /// Gives up a loose tree. Its labels stay spent.

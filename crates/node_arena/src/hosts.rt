@@ -24,7 +24,7 @@ impl Arena {
         requires node_held { Holds self.now node }
         ensures { result ≡ is_editable self.now.trees host.label node.label }
     {
-        self.lawful();
+        self.valid();
         let mut at = node;
         while let Some(parent) = self.parent(at) {
             let above = self.content(parent);

@@ -12,7 +12,7 @@
 ghost use Rattle.std.specs.Prelude.{◌≡◌, ◌≢◌, ℕ, ◌+◌, ◌<◌, ◌≤◌, ◌^◌, IsTrue, ◌↔◌, Some, None, Err, IsSome, IfSome, IfOk, OnOk, OnErr, length, true};
 ghost use Rattle.dom_model.specs.Forest.{count_of};
 ghost use Rattle.dom_model.specs.Contents.{char_length};
-ghost use Rattle.dom_model.specs.State.{State, HoldsAt, IsLawful, IsSlotted};
+ghost use Rattle.dom_model.specs.ArenaState.{ArenaState, HoldsAt, IsValid, IsSlotted};
 ghost use Rattle.node_arena.specs.Held.{Holds, Makes, IsNew, leaf_node};
 
 mod counts;
@@ -80,9 +80,9 @@ pub struct Arena {
 }
 
 impl Model for Arena {
-    ghost use Rattle.dom_model.specs.State.{State, state_code};
+    ghost use Rattle.dom_model.specs.ArenaState.{ArenaState, state_code};
 
-    ghost Value = { State };
+    ghost Value = { ArenaState };
 
     ghost coded = { state_code };
 
@@ -129,8 +129,8 @@ impl Arena {
     }
 
     /// What holds of every arena, for proofs. It does nothing.
-    pub fn lawful(&self)
-        ensures { IsLawful self.now }
+    pub fn valid(&self)
+        ensures { IsValid self.now }
     {
         let _ = &self.nodes;
     }

@@ -7,7 +7,7 @@ ghost use Rattle.dom_model.specs.Places.{index_of, first_of_two};
 ghost use Rattle.dom_model.specs.Document.{node_count, char_count};
 ghost use Rattle.dom_model.specs.Editing as editing;
 ghost use Rattle.node_arena.specs.Kinds.{kind_of};
-ghost use Rattle.node_arena.specs.Reads.{IsLawful, Names};
+ghost use Rattle.node_arena.specs.Reads.{IsValid, Names};
 
 use crate::{Arena, Content, Kind, NodeRef};
 
@@ -25,8 +25,8 @@ pub trait Nodes {
     ghost next_label: { Self → ℕ };
 
     /// What holds of all of them, for proofs. It does nothing.
-    fn lawful(&self)
-        ensures { IsLawful (holds self.now) (trees self.now) (next_label self.now) };
+    fn valid(&self)
+        ensures { IsValid (holds self.now) (trees self.now) (next_label self.now) };
 
     /// The label that the next node gets.
     fn next_label(&self) -> u32
@@ -128,8 +128,8 @@ impl Nodes for Arena {
 
     ghost next_label = { λ s. s.next };
 
-    fn lawful(&self) {
-        Arena::lawful(self)
+    fn valid(&self) {
+        Arena::valid(self)
     }
 
     fn next_label(&self) -> u32 {

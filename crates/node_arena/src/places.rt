@@ -29,7 +29,7 @@ impl Arena {
         requires { Holds self.now node }
         ensures { result ≡ index_of self.now.trees node.label }
     {
-        self.lawful();
+        self.valid();
         let mut at = node;
         let mut index = 0;
         while let Some(prev) = self.prev(at) {
@@ -44,7 +44,7 @@ impl Arena {
         requires { Holds self.now node }
         ensures { result ≡ length_of self.now.trees node.label }
     {
-        self.lawful();
+        self.valid();
         match self.content(node) {
             Content::Words(chars) => chars.len() as u32,
             Content::Remark(chars) => chars.len() as u32,
@@ -57,7 +57,7 @@ impl Arena {
         requires { Holds self.now node }
         ensures { result ≡ length (children_of self.now.trees node.label) }
     {
-        self.lawful();
+        self.valid();
         match self.last_child(node) {
             None => 0,
             Some(last) => self.index(last) + 1,
@@ -69,7 +69,7 @@ impl Arena {
         requires { Holds self.now node }
         ensures { result ≡ depth_of self.now.trees node.label }
     {
-        self.lawful();
+        self.valid();
         let mut at = node;
         let mut depth = 0;
         while let Some(parent) = self.parent(at) {
@@ -85,7 +85,7 @@ impl Arena {
         requires node_held { Holds self.now node }
         ensures { IsTrue result ↔ IsWithin self.now.trees top.label node.label }
     {
-        self.lawful();
+        self.valid();
         let mut at = node;
         while at.label != top.label {
             match self.parent(at) {
@@ -104,7 +104,7 @@ impl Arena {
         ensures deep { depth_of self.now.trees result.label ≡ min (depth_of self.now.trees node.label) depth }
         ensures start { depth_of self.now.trees node.label ≤ depth → result ≡ node }
     {
-        self.lawful();
+        self.valid();
         let mut at = node;
         let mut left = self.depth(node);
         while left > depth {
@@ -123,7 +123,7 @@ impl Arena {
         requires second_child { parent_of self.now.trees y.label ≡ Some parent.label }
         ensures { result ≡ nat_lt (index_of self.now.trees x.label) (index_of self.now.trees y.label) }
     {
-        self.lawful();
+        self.valid();
         let mut before_x = x;
         let mut before_y = y;
         let mut after_x = x;
@@ -170,7 +170,7 @@ impl Arena {
         requires apart { above_a.label ≢ above_b.label }
         ensures { Names self.now result (first_of_two self.now.trees a.label b.label) }
     {
-        self.lawful();
+        self.valid();
         let mut x = above_a;
         let mut y = above_b;
         while let Some(p) = self.parent(x) {
@@ -190,7 +190,7 @@ impl Arena {
         requires second_held { Holds self.now b }
         ensures { Names self.now result (first_of_two self.now.trees a.label b.label) }
     {
-        self.lawful();
+        self.valid();
         let a_depth = self.depth(a);
         let b_depth = self.depth(b);
         let above_a = self.lifted(a, b_depth);

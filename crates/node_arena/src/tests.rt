@@ -82,7 +82,7 @@ fn put<L: Ledger>(
     node: NodeRef,
     steps: &mut Steps<L>,
 ) -> bool {
-    arena.lawful();
+    arena.valid();
     if !can_hold(arena, parent) || !is_child(arena, parent, before) {
         return false;
     }
@@ -200,7 +200,7 @@ fn drop_last(arena: &mut Arena, node: NodeRef) -> bool {
     if !drop_loose(arena, node) {
         return false;
     }
-    arena.lawful();
+    arena.valid();
     if arena.next_label() as u64 != node.label as u64 + 1 || arena.find(node.label).is_some() {
         return false;
     }

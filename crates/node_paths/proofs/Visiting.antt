@@ -4,7 +4,7 @@ use Rattle.std.proofs.lemmas.Bool.Decides.{eqb_tells}
 use Rattle.dom_model.specs.declared.Content.{Content}
 use Rattle.dom_model.specs.Forest.{Forest, total, count_of, content_of, parent_of, first_of, next_of, IsDistinct, RisesFrom}
 use Rattle.dom_model.specs.Forest.Forest.{Nil, Tree}
-use Rattle.dom_model.specs.State.{State, IsLawful}
+use Rattle.dom_model.specs.ArenaState.{ArenaState, IsValid}
 use Rattle.dom_model.specs.Places.{kids_in}
 use Rattle.node_arena.specs.declared.NodeRef.{NodeRef}
 use Rattle.node_arena.specs.Held.{Holds, Names, label}
@@ -55,20 +55,20 @@ visit f l c distinct here inner content =
     }
 
 -- at a node of an arena that a walk has come to
-pub come_to : (a : State) → IsLawful a → (o : Option NodeRef) (node : NodeRef) (c : Content) → o ≡ Some node → IfSome o (λ r. Holds a r) → IsInner a.trees (label o) → content_of a.trees node.label ≡ Some c → Visit a.trees node.label c
-come_to a lawful o node c is held inner content =
+pub come_to : (a : ArenaState) → IsValid a → (o : Option NodeRef) (node : NodeRef) (c : Content) → o ≡ Some node → IfSome o (λ r. Holds a r) → IsInner a.trees (label o) → content_of a.trees node.label ≡ Some c → Visit a.trees node.label c
+come_to a valid o node c is held inner content =
     let held' : Holds a node = rw is at held in
     let inner' : IsSome (parent_of a.trees node.label) = rw is at inner in
-    visit a.trees node.label c lawful.distinct (lawful.here node.slot node.label held') inner' content
+    visit a.trees node.label c valid.distinct (valid.here node.slot node.label held') inner' content
 
 -- a link that names the first child, or the next sibling, leads to an inner node
-pub led : (a : State) (link : Option NodeRef) (named : Option ℕ) → Names a link named → IsInner a.trees named → IsInner a.trees (label link)
+pub led : (a : ArenaState) (link : Option NodeRef) (named : Option ℕ) → Names a link named → IsInner a.trees named → IsInner a.trees (label link)
 led a link named names inner = rw names.is inner
 
-pub size_led : (a : State) (link : Option NodeRef) (named : Option ℕ) → Names a link named → size_from a.trees (label link) ≡ size_from a.trees named
+pub size_led : (a : ArenaState) (link : Option NodeRef) (named : Option ℕ) → Names a link named → size_from a.trees (label link) ≡ size_from a.trees named
 size_led a link named names = rw names.is refl
 
-pub size_here : (a : State) (o : Option NodeRef) (node : NodeRef) → o ≡ Some node → size_from a.trees (label o) ≡ size_from a.trees (Some node.label)
+pub size_here : (a : ArenaState) (o : Option NodeRef) (node : NodeRef) → o ≡ Some node → size_from a.trees (label o) ≡ size_from a.trees (Some node.label)
 size_here a o node is = ap (λ q. size_from a.trees (label q)) is
 
 -- the document is the first tree
@@ -94,8 +94,8 @@ document_kids (Tree m c ks rest) distinct rising here root =
     subst (λ (k : ℕ). onward_at (Tree m c ks rest) (first_of (Tree m c ks rest) k) ≡ ks) is (first_leads m c ks rest distinct)
 
 -- the document's children lead to all that stands below it
-pub document_leads : (a : State) → IsLawful a → onward_at a.trees (first_of a.trees 0) ≡ kids_in a.trees
-document_leads a lawful = document_kids a.trees lawful.distinct lawful.rising lawful.document lawful.root
+pub document_leads : (a : ArenaState) → IsValid a → onward_at a.trees (first_of a.trees 0) ≡ kids_in a.trees
+document_leads a valid = document_kids a.trees valid.distinct valid.rising valid.document valid.root
 
-pub document_inner : (a : State) → IsLawful a → IsInner a.trees (first_of a.trees 0)
-document_inner a lawful = inner_first a.trees 0 lawful.distinct lawful.document
+pub document_inner : (a : ArenaState) → IsValid a → IsInner a.trees (first_of a.trees 0)
+document_inner a valid = inner_first a.trees 0 valid.distinct valid.document

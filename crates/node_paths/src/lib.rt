@@ -18,7 +18,7 @@ fn child_at(arena: &Arena, node: NodeRef, index: u32) -> Option<NodeRef>
     ensures held { IfSome result (λ r. Holds arena.now r) }
     ensures way { (rest : List ℕ) → node_below arena.now.trees node.label (index ∷ rest) ≡ option_and_then (λ l. node_below arena.now.trees l rest) (label result) }
 {
-    arena.lawful();
+    arena.valid();
     let mut left = index;
     let mut at = arena.first_child(node);
     while let Some(child) = at {
@@ -36,7 +36,7 @@ fn child_at(arena: &Arena, node: NodeRef, index: u32) -> Option<NodeRef>
 pub fn resolve(arena: &Arena, path: &[u32]) -> Option<NodeRef>
     ensures { Names arena.now result (label_at arena.now.trees path.now) }
 {
-    arena.lawful();
+    arena.valid();
     let mut at = arena.document();
     for index in path {
         at = child_at(arena, at, *index)?;
@@ -67,7 +67,7 @@ fn push_indexes(
     requires inner { IsWithin arena.now.trees 0 node.label }
     ensures ok { OnOk result (bytes.new.items ≡ bytes.old.items ++ indexes_at arena.now.trees node.label) }
 {
-    arena.lawful();
+    arena.valid();
     match arena.parent(parent) {
         None => push_decimal(alloc, bytes, arena.index(node)),
         Some(above) => {
@@ -89,7 +89,7 @@ pub fn push_path(
     requires inner { IsWithin arena.now.trees 0 node.label }
     ensures ok { OnOk result (bytes.new.items ≡ bytes.old.items ++ node_text arena.now.trees node.label) }
 {
-    arena.lawful();
+    arena.valid();
     match arena.parent(node) {
         Some(parent) => push_indexes(alloc, bytes, arena, node, parent),
         None => {

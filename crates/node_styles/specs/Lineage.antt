@@ -7,23 +7,23 @@ use Rattle.dom_model.specs.Forest.{Forest, parent_of}
 use Rattle.dom_model.specs.Forest.Forest.{Nil, Tree}
 
 -- a node, by its label and its content
-pub record Kin : Type 0 where
+pub record Ancestor : Type 0 where
   pub label : ℕ
   pub content : Content
 
 -- the node of a label and its ancestors, the innermost first, in trees that stand below these
-abbrev pub lineage_from : List Kin → Forest Content → ℕ → Option (List Kin)
+abbrev pub lineage_from : List Ancestor → Forest Content → ℕ → Option (List Ancestor)
 lineage_from above Nil l = None
 lineage_from above (Tree m c ks rest) l =
     if m == l then Some (record { label = m; content = c } ∷ above)
     else option_or (lineage_from (record { label = m; content = c } ∷ above) ks l) (lineage_from above rest l)
 
 -- the node of a label and its ancestors, the innermost first
-unfoldable pub lineage : Forest Content → ℕ → List Kin
+unfoldable pub lineage : Forest Content → ℕ → List Ancestor
 lineage f l = unwrap_or (lineage_from [] f l) []
 
 -- the innermost of a node and its ancestors whose content passes a test
-unfoldable pub nearest : (Content → Bool) → Forest Content → ℕ → Option Kin
+unfoldable pub nearest : (Content → Bool) → Forest Content → ℕ → Option Ancestor
 nearest test f l = find (λ k. test k.content) (lineage f l)
 
 -- its label

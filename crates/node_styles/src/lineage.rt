@@ -83,7 +83,7 @@ pub fn nearest<N: Nodes, T: Test>(nodes: &N, node: NodeRef, wanted: &T) -> Optio
     ensures found { IfSome result (λ r. IsNearest (T.test wanted.now) (N.holds nodes.now) (N.trees nodes.now) node.label r) }
     ensures none { IfNone result (line.nearest (T.test wanted.now) (N.trees nodes.now) node.label ≡ None) }
 {
-    nodes.lawful();
+    nodes.valid();
     let mut at = node;
     while !wanted.passes(nodes.content(at)) {
         match nodes.parent(at) {

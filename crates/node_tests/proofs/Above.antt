@@ -9,7 +9,7 @@ use Rattle.dom_model.proofs.Links.{parent_count, eqb_refl_true}
 use Rattle.dom_model.proofs.Within.{within_parent, depth_of-parent}
 use Rattle.live_range.specs.declared.places.Point.{Point}
 use Rattle.node_arena.specs.declared.NodeRef.{NodeRef}
-use Rattle.node_arena.specs.Reads.{IsLawful}
+use Rattle.node_arena.specs.Reads.{IsValid}
 use Rattle.point_order.specs.PointOrder.{is_before}
 use Rattle.node_tests.specs.BlockPoints.{child_at}
 use Rattle.node_tests.specs.declared.listing.Wanted.{Wanted}
@@ -62,7 +62,7 @@ module _ (f : Forest Content) where
             omega (arith, down, high))
       ]
 
-module _ {holds : NodeRef → Type 0} {f : Forest Content} {upper : ℕ} (law : IsLawful holds f upper) (start end : Point) where
+module _ {holds : NodeRef → Type 0} {f : Forest Content} {upper : ℕ} (law : IsValid holds f upper) (start end : Point) where
   starts_in : (top : ℕ) → 0 < count_of f top → IsWithin f top start.label → is_before f start (front top) ≡ false
   starts_in top here inside =
       elim (eqb_tells start.label top) [

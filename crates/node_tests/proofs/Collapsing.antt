@@ -4,7 +4,7 @@ use Rattle.std.specs.Option.{option_or, option_map, option_map_or, unwrap_or}
 use Rattle.std.proofs.lemmas.Bool.Decides.{eqb_tells}
 use Rattle.dom_model.specs.declared.Content.{Content}
 use Rattle.dom_model.specs.declared.Content.TheVariants.{Document, Element, Words, Remark}
-use Rattle.node_arena.specs.Reads.{IsLawful}
+use Rattle.node_arena.specs.Reads.{IsValid}
 use Rattle.dom_model.specs.Contents.{may_have_children, is_break}
 use Rattle.dom_model.specs.Forest.{Forest, Seen, join, count_of, IsDistinct, tree_of, preorder, preorder_onto, parent_of, first_of, first_in, prev_of}
 use Rattle.dom_model.specs.Forest.Forest.{Nil, Tree}
@@ -179,7 +179,7 @@ module _ (f : Forest Content) (once : IsDistinct f) where
   top_collapses l here root = sym (ap (collapses_at f) (labels-root f once l here root) ∙ none_left f)
 
 -- whitespace has no children
-pub whitespace_leaf : {holds : NodeRef → Type 0} {f : Forest Content} {upper : ℕ} → IsLawful holds f upper → (l : ℕ) → 0 < count_of f l → is_whitespace f l ≡ true → first_of f l ≡ None
+pub whitespace_leaf : {holds : NodeRef → Type 0} {f : Forest Content} {upper : ℕ} → IsValid holds f upper → (l : ℕ) → 0 < count_of f l → is_whitespace f l ≡ true → first_of f l ≡ None
 unfolding is_whitespace
 whitespace_leaf {f = f} law l here white =
     let t = seen f l law.distinct here in

@@ -6,7 +6,7 @@ use Rattle.dom_model.specs.Contents.{length_of}
 use Rattle.dom_model.specs.Forest.{Forest, count_of, IsWithin, parent_of, children_of, first_of, last_of, prev_of, next_of}
 use Rattle.dom_model.specs.Forest.Forest.{Tree}
 use Rattle.dom_model.specs.Places.{index_of}
-use Rattle.node_arena.specs.Reads.{IsLawful}
+use Rattle.node_arena.specs.Reads.{IsValid}
 use Rattle.dom_model.specs.TreeOrder.{total_after}
 use Rattle.dom_model.proofs.Indexes.{index_of-first, index_of-last}
 use Rattle.dom_model.proofs.Links.{parent_count}
@@ -71,7 +71,7 @@ goes_out f l places next e = by_parent (parent_of f l) e
     by_parent None e = absurd (no_answer true next e)
     by_parent (Some p) e = (p, refl, sym (same_place (record { node = p; offset = index_of f l + places }) next e))
 
-module _ {holds : NodeRef → Type 0} {f : Forest Content} {upper : ℕ} (law : IsLawful holds f upper) where
+module _ {holds : NodeRef → Type 0} {f : Forest Content} {upper : ℕ} (law : IsValid holds f upper) where
   child_before_of : (l o k : ℕ) → child_before f l o ≡ Some k → parent_of f k ≡ Some l
   child_before_of l zero k e = absurd (let t = e in cc)
   child_before_of l (suc o) k e = parent_among f law.distinct l k (get_times (children_of f l) o k e)

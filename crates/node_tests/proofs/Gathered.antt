@@ -14,7 +14,7 @@ use Rattle.dom_model.proofs.Within.{within_self}
 use Rattle.live_range.specs.declared.places.Point.{Point}
 use Rattle.node_arena.specs.declared.NodeRef.{NodeRef}
 use Rattle.node_arena.specs.Held.{label}
-use Rattle.node_arena.specs.Reads.{IsLawful}
+use Rattle.node_arena.specs.Reads.{IsValid}
 use Rattle.point_order.specs.PointOrder.{is_before}
 use Rattle.node_tests.specs.declared.listing.Reach.{Reach}
 use Rattle.node_tests.specs.declared.listing.Sides.{Sides}
@@ -34,7 +34,7 @@ use Rattle.node_tests.proofs.Toward.{through}
 use Rattle.node_tests.proofs.Turning.{first_get, get_none, index_first, index_under, next_index, no_next}
 use Rattle.node_tests.proofs.Wanting.{passed, passed_every, passed_join, tree_passed}
 
-module _ {holds : NodeRef → Type 0} {f : Forest Content} {upper : ℕ} (law : IsLawful holds f upper) (p : ℕ) where
+module _ {holds : NodeRef → Type 0} {f : Forest Content} {upper : ℕ} (law : IsValid holds f upper) (p : ℕ) where
   -- a node with a child has a first one
   no_first : (k : ℕ) → parent_of f k ≡ Some p → first_of f p ≡ None → ⊥
   no_first k child e = (let low = get_none (children_of f p) 0 (first_get (children_of f p) ∙ e) in omega (arith, low, index_under law k p child))
@@ -185,7 +185,7 @@ is_on : (b : Bool) → (b ≡ true) ⊎ (b ≡ false)
 is_on true = inl refl
 is_on false = inr refl
 
-module _ {holds : NodeRef → Type 0} {f : Forest Content} {upper : ℕ} (law : IsLawful holds f upper) (start end : Point) (top : ℕ) where
+module _ {holds : NodeRef → Type 0} {f : Forest Content} {upper : ℕ} (law : IsValid holds f upper) (start end : Point) (top : ℕ) where
   pub stands_first : (sides : Sides) → Lies f start end sides top → is_before f start end ≡ true
       → (from upto : Reach) (stop : Option NodeRef) → Reaches holds f start top from → (sides.after ≡ true → label from.child ≡ first_of f top) → Ends holds f end top upto stop
       → Stands f (label from.child) (label from.child) (label stop)
@@ -282,7 +282,7 @@ module _ {holds : NodeRef → Type 0} {f : Forest Content} {upper : ℕ} (law : 
 
 -- ---- the tree of a node between the ends
 
-module _ {holds : NodeRef → Type 0} {f : Forest Content} {upper : ℕ} (law : IsLawful holds f upper) (start end : Point) (ordered : is_before f start end ≡ true) (k : ℕ) (here : 0 < count_of f k) (after : LiesAfter f start k) (before : LiesBefore f end k) where
+module _ {holds : NodeRef → Type 0} {f : Forest Content} {upper : ℕ} (law : IsValid holds f upper) (start end : Point) (ordered : is_before f start end ≡ true) (k : ℕ) (here : 0 < count_of f k) (after : LiesAfter f start k) (before : LiesBefore f end k) where
   inside : (w : Wanted) (l : ℕ) → IsWithin f k l → is_wanted w f start end l ≡ true
   inside w l within =
       let l_here : 0 < count_of f l = (let fewer = count_in_tree f k l in omega (arith, fewer, within)) in
@@ -299,7 +299,7 @@ module _ {holds : NodeRef → Type 0} {f : Forest Content} {upper : ℕ} (law : 
 
 -- ---- the first child that the range reaches
 
-module _ {holds : NodeRef → Type 0} {f : Forest Content} {upper : ℕ} (law : IsLawful holds f upper) (p : ℕ) (here : 0 < count_of f p) where
+module _ {holds : NodeRef → Type 0} {f : Forest Content} {upper : ℕ} (law : IsValid holds f upper) (p : ℕ) (here : 0 < count_of f p) where
   fewer : (n k m : ℕ) → parent_of f k ≡ Some p → parent_of f m ≡ Some p → index_of f m ≡ n + index_of f k → nodes (onward f m) ≤ nodes (onward f k)
   fewer zero k m ck cm e = (let same = same_index law p k m ck cm (omega (arith, e)) in rw same (omega arith))
   fewer (suc n) k m ck cm e = by_next (next_of f k) refl (λ j cj e'. fewer n j m cj cm e')

@@ -11,7 +11,7 @@ use Rattle.dom_model.proofs.Hosts.{editing_host-root, editing_host-child}
 use Rattle.dom_model.proofs.Links.{seen, parent_count}
 use Rattle.dom_model.proofs.Within.{within_self, within_child, within_step, within_root, depth_of-parent}
 use Rattle.node_styles.specs.Lineage.{lineage}
-use Rattle.node_styles.proofs.Lineages.{kin, lineage-root, lineage-child}
+use Rattle.node_styles.proofs.Lineages.{ancestor, lineage-root, lineage-child}
 use Rattle.node_tests.specs.AffectedHost.{own_host, takes_commands, is_host_of, common_host, affected_host}
 
 -- a node has its host of its parent, or none
@@ -100,7 +100,7 @@ module _ (f : Forest Content) (once : IsDistinct f) where
           ap (λ v. v || is_editable f h l) apart ∙ (ap (λ o. is_label o h) no_host ∙ sym (takes_none l none))
 
   -- the lineage of a node, by its parent
-  pub lineage-next : (l : ℕ) (c : Content) → 0 < count_of f l → content_of f l ≡ Some c → (o : Option ℕ) → parent_of f l ≡ o → lineage f l ≡ kin l c ∷ option_map_or (lineage f) o []
+  pub lineage-next : (l : ℕ) (c : Content) → 0 < count_of f l → content_of f l ≡ Some c → (o : Option ℕ) → parent_of f l ≡ o → lineage f l ≡ ancestor l c ∷ option_map_or (lineage f) o []
   lineage-next l c here content None e = lineage-root f once l c here e content
   lineage-next l c here content (Some p) e = lineage-child f once l p c e content
 
@@ -171,7 +171,7 @@ module _ (f : Forest Content) (once : IsDistinct f) where
         by_list true e = refl
         by_list false e = absurd (unlisted l here (suc (depth_of f b)) b (omega arith) there e within)
 
-    passed : (c : Content) → content_of f l ≡ Some c → (is_host f l ≡ false) ⊎ (IsWithin f l b → ⊥) → is_host_of f b (kin l c) ≡ false
+    passed : (c : Content) → content_of f l ≡ Some c → (is_host f l ≡ false) ⊎ (IsWithin f l b → ⊥) → is_host_of f b (ancestor l c) ≡ false
     passed c content (inl off) = let is_false : is_true_state c ≡ false = sym (host_content l c content) ∙ off in rw is_false refl
     passed c content (inr out) =
         let is_out : list_any (λ j. eqb j.label l) (lineage f b) ≡ false = by_list (list_any (λ j. eqb j.label l) (lineage f b)) refl in
@@ -187,7 +187,7 @@ module _ (f : Forest Content) (once : IsDistinct f) where
         let line = lineage-next l c.0 here c.1 o e in
         let past = passed c.0 c.1 off in
         ap (λ ks. option_map (λ k. k.label) (find (is_host_of f b) ks)) line
-        ∙ ap (λ v. option_map (λ k. k.label) (cond v (Some (kin l c.0)) (find (is_host_of f b) (option_map_or (lineage f) o [])))) past
+        ∙ ap (λ v. option_map (λ k. k.label) (cond v (Some (ancestor l c.0)) (find (is_host_of f b) (option_map_or (lineage f) o [])))) past
 
 module _ (f : Forest Content) (once : IsDistinct f) (l h : ℕ) (host : is_host f h ≡ true) (own : IsNoneOr (own_host f l) (Some h)) where
   pub takes_at : h ≡ l → eqb h l ≡ takes_commands f l

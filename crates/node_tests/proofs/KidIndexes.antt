@@ -6,11 +6,11 @@ use Rattle.dom_model.specs.Places.{index_of}
 use Rattle.dom_model.proofs.Neighbours.{parent_of-first, parent_of-next}
 use Rattle.node_arena.specs.declared.NodeRef.{NodeRef}
 use Rattle.node_arena.specs.Held.{label}
-use Rattle.node_arena.specs.Reads.{IsLawful}
+use Rattle.node_arena.specs.Reads.{IsValid}
 use Rattle.node_tests.proofs.Kids.{Kid}
 use Rattle.node_tests.proofs.Turning.{index_first, next_index}
 
-module _ {holds : NodeRef → Type 0} {f : Forest Content} {upper : ℕ} (law : IsLawful holds f upper) where
+module _ {holds : NodeRef → Type 0} {f : Forest Content} {upper : ℕ} (law : IsValid holds f upper) where
   pub first_place : (l : ℕ) (o : Option NodeRef) → label o ≡ first_of f l → IfSome o (λ k. 0 ≡ index_of f k.label)
   first_place l None e = tt
   first_place l (Some k) e = sym (index_first law k.label l (parent_of-first f law.distinct l k.label (sym e)) (sym e))

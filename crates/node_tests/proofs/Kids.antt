@@ -5,7 +5,7 @@ use Rattle.dom_model.specs.Forest.{Forest, tree_of, parent_of, first_of, next_of
 use Rattle.dom_model.proofs.Neighbours.{parent_of-first, parent_of-next}
 use Rattle.node_arena.specs.declared.NodeRef.{NodeRef}
 use Rattle.node_arena.specs.Held.{label}
-use Rattle.node_arena.specs.Reads.{IsLawful, Names}
+use Rattle.node_arena.specs.Reads.{IsValid, Names}
 use Rattle.node_tests.specs.Listing.{siblings}
 use Rattle.node_tests.proofs.Inside.{nodes, fewer_kids, fewer_onward, some_node}
 
@@ -15,7 +15,7 @@ pub record Kid (holds : NodeRef → Type 0) (f : Forest Content) (p : ℕ) (o : 
   pub under : IfSome o (λ r. parent_of f r.label ≡ Some p)
   pub less : nodes (siblings f (label o)) < nodes (tree_of f p)
 
-module _ {holds : NodeRef → Type 0} {f : Forest Content} {upper : ℕ} (law : IsLawful holds f upper) where
+module _ {holds : NodeRef → Type 0} {f : Forest Content} {upper : ℕ} (law : IsValid holds f upper) where
   pub first_kid : (r : NodeRef) (o : Option NodeRef) → holds r → Names holds o (first_of f r.label) → Kid holds f r.label o
   first_kid r o held named = record {
     held = named.held;

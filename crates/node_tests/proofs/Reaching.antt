@@ -13,7 +13,7 @@ use Rattle.dom_model.proofs.Within.{within_self, within_child, within_parent, de
 use Rattle.live_range.specs.declared.places.Point.{Point}
 use Rattle.node_arena.specs.declared.NodeRef.{NodeRef}
 use Rattle.node_arena.specs.Held.{label}
-use Rattle.node_arena.specs.Reads.{IsLawful, Names}
+use Rattle.node_arena.specs.Reads.{IsValid, Names}
 use Rattle.point_order.specs.PointOrder.{is_before, child_toward}
 use Rattle.node_tests.specs.BlockPoints.{child_at}
 use Rattle.node_tests.specs.declared.listing.Reach.{Reach}
@@ -102,7 +102,7 @@ module _ (f : Forest Content) (once : IsDistinct f) where
       let t = toward_is f once top x r.0 r.1 in
       (r.0, t.0, t.1)
 
-module _ {holds : NodeRef → Type 0} {f : Forest Content} {upper : ℕ} (law : IsLawful holds f upper) where
+module _ {holds : NodeRef → Type 0} {f : Forest Content} {upper : ℕ} (law : IsValid holds f upper) where
   pub same_index : (top j k : ℕ) → parent_of f j ≡ Some top → parent_of f k ≡ Some top → index_of f j ≡ index_of f k → j ≡ k
   same_index top j k cj ck e =
       let t : Some j ≡ Some k = sym (at_index law j top cj) ∙ ap (child_at f top) e ∙ at_index law k top ck in

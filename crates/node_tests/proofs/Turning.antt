@@ -12,7 +12,7 @@ use Rattle.dom_model.proofs.Lists.{before_from_some}
 use Rattle.dom_model.proofs.Links.{parent_count, times-children_of}
 use Rattle.node_arena.specs.declared.NodeRef.{NodeRef}
 use Rattle.node_arena.specs.Held.{label}
-use Rattle.node_arena.specs.Reads.{IsLawful}
+use Rattle.node_arena.specs.Reads.{IsValid}
 use Rattle.node_tests.specs.BlockPoints.{child_before, child_at}
 use Rattle.node_tests.specs.Gaps.{StandsAt}
 use Rattle.node_tests.proofs.Around.{content_at, family, next_in, prev_in}
@@ -170,7 +170,7 @@ or_true : (a : Bool) → (a || true) ≡ true
 or_true true = refl
 or_true false = refl
 
-module _ {holds : NodeRef → Type 0} {f : Forest Content} {upper : ℕ} (law : IsLawful holds f upper) where
+module _ {holds : NodeRef → Type 0} {f : Forest Content} {upper : ℕ} (law : IsValid holds f upper) where
   -- Words and Remarks have no children
   leaf_children : (l : ℕ) (c : Content) → content_of f l ≡ Some c → may_have_children c ≡ false → children_of f l ≡ []
   leaf_children l c is = by_seen (seek None f l) refl is

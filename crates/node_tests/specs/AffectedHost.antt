@@ -5,14 +5,14 @@ use Rattle.std.specs.Option.{option_map}
 use Rattle.dom_model.specs.declared.Content.{Content}
 use Rattle.dom_model.specs.Editing.{is_host, is_true_state, editing_host}
 use Rattle.dom_model.specs.Forest.{Forest}
-use Rattle.node_styles.specs.Lineage.{Kin, lineage}
+use Rattle.node_styles.specs.Lineage.{Ancestor, lineage}
 
 -- editable, whatever its host, or a host
 unfoldable pub takes_commands : Forest Content → ℕ → Bool
 takes_commands f l = is_host f l || is_some (editing_host f l)
 
 -- it is a host, and a node or an ancestor of that node
-abbrev pub is_host_of : Forest Content → ℕ → Kin → Bool
+abbrev pub is_host_of : Forest Content → ℕ → Ancestor → Bool
 is_host_of f l k = is_true_state k.content && list_any (λ j. j.label == k.label) (lineage f l)
 
 -- the node itself where it is a host, else the host with which it is editable

@@ -5,7 +5,7 @@ use Rattle.dom_model.specs.declared.Content.{Content}
 use Rattle.dom_model.specs.Forest.{Forest, join, count_of, preorder, tree_of}
 use Rattle.dom_model.specs.Forest.Forest.{Nil, Tree}
 use Rattle.dom_model.specs.Places.{kids_in}
-use Rattle.node_styles.specs.Lineage.{Kin, lineage}
+use Rattle.node_styles.specs.Lineage.{Ancestor, lineage}
 use Rattle.node_styles.specs.Blocks.{nearest_block}
 
 -- the labels after l in a list
@@ -37,7 +37,7 @@ module _ {C : Type 0} where
       else (if nat_lt 0 (count_of ks l) then join (later ks l) rest else later rest l)
 
 -- the outermost of a lineage
-abbrev pub outermost : ℕ → List Kin → ℕ
+abbrev pub outermost : ℕ → List Ancestor → ℕ
 outermost l [] = l
 outermost l (k ∷ ks) = outermost k.label ks
 

@@ -17,7 +17,7 @@ pub(crate) fn child_at<N: Nodes>(nodes: &N, node: NodeRef, offset: u32) -> Optio
     requires { N.holds nodes.now node }
     ensures { Names (N.holds nodes.now) result (points.child_at (N.trees nodes.now) node.label offset) }
 {
-    nodes.lawful();
+    nodes.valid();
     let mut child = nodes.first_child(node);
     let mut left = offset;
     while left > 0 {

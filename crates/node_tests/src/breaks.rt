@@ -34,7 +34,7 @@ fn start_of<N: Nodes>(nodes: &N, node: NodeRef) -> Gap
     ensures held { HoldsGap (N.holds nodes.now) result }
     ensures place { StandsAt (N.trees nodes.now) result (record { node = node.label; offset = 0 }) }
 {
-    nodes.lawful();
+    nodes.valid();
     Gap {
         node,
         before: None,
@@ -48,7 +48,7 @@ fn end_of<N: Nodes>(nodes: &N, node: NodeRef) -> Gap
     ensures held { HoldsGap (N.holds nodes.now) result }
     ensures place { StandsAt (N.trees nodes.now) result (record { node = node.label; offset = length_of (N.trees nodes.now) node.label }) }
 {
-    nodes.lawful();
+    nodes.valid();
     Gap {
         node,
         before: nodes.last_child(node),
@@ -61,7 +61,7 @@ fn out_before<N: Nodes>(nodes: &N, node: NodeRef) -> Turn
     requires { N.holds nodes.now node }
     ensures { Comes (N.holds nodes.now) (N.trees nodes.now) result (line_breaks.out_of (N.trees nodes.now) node.label 0) }
 {
-    nodes.lawful();
+    nodes.valid();
     match nodes.parent(node) {
         Some(parent) => Turn::GoOn(Gap {
             node: parent,
@@ -77,7 +77,7 @@ fn out_after<N: Nodes>(nodes: &N, node: NodeRef) -> Turn
     requires { N.holds nodes.now node }
     ensures { Comes (N.holds nodes.now) (N.trees nodes.now) result (line_breaks.out_of (N.trees nodes.now) node.label 1) }
 {
-    nodes.lawful();
+    nodes.valid();
     match nodes.parent(node) {
         Some(parent) => Turn::GoOn(Gap {
             node: parent,
@@ -141,7 +141,7 @@ fn turns<N: Nodes>(nodes: &N, node: NodeRef) -> u128
     ensures back { line_breaks.walk (line_breaks.turn_back (N.trees nodes.now)) result (record { node = node.label; offset = 0 }) ≡ line_breaks.follows_break (N.trees nodes.now) node.label }
     ensures forth { line_breaks.walk (line_breaks.turn_forth (N.trees nodes.now)) result (record { node = node.label; offset = length_of (N.trees nodes.now) node.label }) ≡ line_breaks.precedes_break (N.trees nodes.now) node.label }
 {
-    nodes.lawful();
+    nodes.valid();
     if nodes.is_within(nodes.document(), node) {
         2 * nodes.next_label() as u128 + 2
     } else {

@@ -103,7 +103,7 @@ fn reach_of<N: Nodes>(
     ensures own { point.label ≡ node.label → label result.child ≡ child_at (N.trees nodes.now) node.label point.offset }
     ensures leads { (m : ℕ) → result.holds ≡ Bool.true → label result.child ≡ Some m → Leads (N.holds nodes.now) (N.trees nodes.now) line.now point.label (left - 1) m }
 {
-    nodes.lawful();
+    nodes.valid();
     if left == 0 {
         return Reach {
             child: child_at(nodes, node, point.offset),
@@ -132,7 +132,7 @@ fn start_reach<N: Nodes>(
     ensures first { sides.after ≡ Bool.true → label result.child ≡ first_of (N.trees nodes.now) node.label }
     ensures leads { (m : ℕ) → result.holds ≡ Bool.true → label result.child ≡ Some m → Leads (N.holds nodes.now) (N.trees nodes.now) line.now start.label (sides.start_left - 1) m }
 {
-    nodes.lawful();
+    nodes.valid();
     if sides.after {
         return Reach {
             child: nodes.first_child(node),
@@ -158,7 +158,7 @@ fn end_reach<N: Nodes>(
     ensures own { sides.before ≡ Bool.false → end.label ≡ node.label → label result.child ≡ child_at (N.trees nodes.now) node.label end.offset }
     ensures leads { (m : ℕ) → result.holds ≡ Bool.true → label result.child ≡ Some m → Leads (N.holds nodes.now) (N.trees nodes.now) line.now end.label (sides.end_left - 1) m }
 {
-    nodes.lawful();
+    nodes.valid();
     if sides.before {
         return Reach {
             child: None,
@@ -173,7 +173,7 @@ fn first_after<N: Nodes>(nodes: &N, point: Point, top: NodeRef, reach: Reach) ->
     requires { Reaches (N.holds nodes.now) (N.trees nodes.now) point top.label reach }
     ensures { Ends (N.holds nodes.now) (N.trees nodes.now) point top.label reach result }
 {
-    nodes.lawful();
+    nodes.valid();
     match reach.child {
         Some(child) if reach.holds => nodes.next(child),
         child => child,
@@ -216,7 +216,7 @@ fn is_contained_above<N: Nodes>(
     requires next { sides.before ≡ Bool.false → range.1.label ≡ node.label → label next ≡ child_at (N.trees nodes.now) node.label range.1.offset }
     ensures { result ≡ ranges.is_contained (N.trees nodes.now) range.0 range.1 node.label }
 {
-    nodes.lawful();
+    nodes.valid();
     if !sides.after {
         return false;
     }
@@ -247,7 +247,7 @@ fn is_effective_above<N: Nodes>(
     requires whole { whole ≡ ranges.all_effective (N.trees nodes.now) range.0 range.1 (siblings (N.trees nodes.now) (label first)) }
     ensures { result ≡ ranges.all_effective (N.trees nodes.now) range.0 range.1 (tree_of (N.trees nodes.now) node.label) }
 {
-    nodes.lawful();
+    nodes.valid();
     if contained {
         return true;
     }
@@ -295,7 +295,7 @@ fn push_all<N: Nodes>(nodes: &N, node: NodeRef, found: &mut Vec<NodeRef>) -> Res
     ensures nodes { OnOk result (map (λ r. r.label) found.new.items ≡ map (λ r. r.label) found.old.items ++ preorder (tree_of (N.trees nodes.now) node.label)) }
     ensures held { OnOk result (All (N.holds nodes.now) found.new.items) }
 {
-    nodes.lawful();
+    nodes.valid();
     found.push(node)?;
     let mut child = nodes.first_child(node);
     while let Some(at) = child {
@@ -329,7 +329,7 @@ fn push_tree<N: Nodes>(
     ensures held { OnOk result (All (N.holds nodes.now) found.new.items) }
     ensures effective { IfOk result (λ e. e ≡ ranges.all_effective (N.trees nodes.now) range.0 range.1 (tree_of (N.trees nodes.now) node.label)) }
 {
-    nodes.lawful();
+    nodes.valid();
     if lies_between(sides) {
         push_all(nodes, node, found)?;
         return Ok(true);
@@ -383,7 +383,7 @@ fn root_of<N: Nodes>(nodes: &N, node: NodeRef) -> NodeRef
     ensures root { parent_of (N.trees nodes.now) result.label ≡ None }
     ensures within { IsWithin (N.trees nodes.now) result.label node.label }
 {
-    nodes.lawful();
+    nodes.valid();
     let mut at = node;
     while let Some(parent) = nodes.parent(at) {
         at = parent;
@@ -403,7 +403,7 @@ fn line_to<N: Nodes>(
     requires inside { IsWithin (N.trees nodes.now) top.label node.label }
     ensures { IfOk result (λ line. Leads (N.holds nodes.now) (N.trees nodes.now) line.items node.label (length line.items) top.label) }
 {
-    nodes.lawful();
+    nodes.valid();
     let mut line = Vec::new(alloc);
     let mut at = node;
     while at.label != top.label {
@@ -428,7 +428,7 @@ fn wanted_nodes<N: Nodes>(
     ensures nodes { IfOk result (λ list. map (λ r. r.label) list ≡ filter (is_wanted wanted (N.trees nodes.now) range.0 range.1) (preorder (N.trees nodes.now))) }
     ensures held { IfOk result (λ list. All (N.holds nodes.now) list) }
 {
-    nodes.lawful();
+    nodes.valid();
     let mut found = Vec::new(alloc);
     if !comes_before(nodes, range.0, range.1) {
         return NodeList::from_slice(alloc, &found);

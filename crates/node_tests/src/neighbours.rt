@@ -59,7 +59,7 @@ fn first_inside<N: Nodes>(nodes: &N, node: NodeRef) -> Option<Neighbour>
     requires { N.holds nodes.now node }
     ensures { result ≡ neighbours.first_met (N.trees nodes.now) (tree_of (N.trees nodes.now) node.label) }
 {
-    nodes.lawful();
+    nodes.valid();
     if let Some(met) = met_at(nodes, node) {
         return Some(met);
     }
@@ -78,7 +78,7 @@ fn last_inside<N: Nodes>(nodes: &N, node: NodeRef) -> Option<Neighbour>
     requires { N.holds nodes.now node }
     ensures { result ≡ neighbours.last_met (N.trees nodes.now) (tree_of (N.trees nodes.now) node.label) }
 {
-    nodes.lawful();
+    nodes.valid();
     if let Some(met) = met_at(nodes, node) {
         return Some(met);
     }
@@ -96,7 +96,7 @@ pub(crate) fn last_in_order<N: Nodes>(nodes: &N, node: NodeRef) -> Option<Neighb
     requires { N.holds nodes.now node }
     ensures { result ≡ neighbours.last_in_order (N.trees nodes.now) (tree_of (N.trees nodes.now) node.label) }
 {
-    nodes.lawful();
+    nodes.valid();
     let mut last = met_at(nodes, node);
     let mut child = nodes.first_child(node);
     while let Some(at) = child {
@@ -111,7 +111,7 @@ pub(crate) fn neighbour_after<N: Nodes>(nodes: &N, node: NodeRef) -> Neighbour
     requires { N.holds nodes.now node }
     ensures { result ≡ neighbours.neighbour_after (N.trees nodes.now) node.label }
 {
-    nodes.lawful();
+    nodes.valid();
     let mut at = node;
     'walk: loop {
         if let Some(next) = nodes.next(at) {
@@ -133,7 +133,7 @@ fn neighbour_before<N: Nodes>(nodes: &N, node: NodeRef) -> Neighbour
     requires { N.holds nodes.now node }
     ensures { result ≡ neighbours.neighbour_before (N.trees nodes.now) node.label }
 {
-    nodes.lawful();
+    nodes.valid();
     let mut at = node;
     'walk: loop {
         if let Some(prev) = nodes.prev(at) {
@@ -183,7 +183,7 @@ fn is_sole_in_item<N: Nodes>(nodes: &N, node: NodeRef) -> bool
     requires { N.holds nodes.now node }
     ensures { result ≡ neighbours.is_sole_in_item (N.trees nodes.now) node.label }
 {
-    nodes.lawful();
+    nodes.valid();
     match nodes.parent(node) {
         Some(parent) => has_name(nodes, parent, b"li") && is_alone(nodes, node),
         None => false,

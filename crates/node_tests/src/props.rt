@@ -48,7 +48,7 @@ pub fn is_block_prop<N: Nodes>(nodes: &N, node: NodeRef) -> bool
     requires { N.holds nodes.now node }
     ensures { result ≡ props.is_block_prop (N.trees nodes.now) node.label }
 {
-    nodes.lawful();
+    nodes.valid();
     if is_break_prop(nodes, node) {
         return true;
     }

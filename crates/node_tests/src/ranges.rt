@@ -17,7 +17,7 @@ pub fn is_contained<N: Nodes>(nodes: &N, node: NodeRef, range: (Point, Point)) -
     requires end_held { 0 < count_of (N.trees nodes.now) range.1.label }
     ensures { result ≡ ranges.is_contained (N.trees nodes.now) range.0 range.1 node.label }
 {
-    nodes.lawful();
+    nodes.valid();
     let front = Point {
         label: node.label,
         offset: 0,
@@ -90,7 +90,7 @@ pub(crate) fn is_effective<N: Nodes>(nodes: &N, node: NodeRef, range: (Point, Po
     requires end_held { 0 < count_of (N.trees nodes.now) range.1.label }
     ensures { result ≡ ranges.all_effective (N.trees nodes.now) range.0 range.1 (tree_of (N.trees nodes.now) node.label) }
 {
-    nodes.lawful();
+    nodes.valid();
     if is_touched(nodes, node, range) {
         return true;
     }

@@ -28,7 +28,7 @@ fn shows_inside<N: Nodes>(nodes: &N, node: NodeRef) -> bool
     requires { N.holds nodes.now node }
     ensures { result ≡ visible.shows_in (N.trees nodes.now) (tree_of (N.trees nodes.now) node.label) }
 {
-    nodes.lawful();
+    nodes.valid();
     if has_no_box(nodes, node) {
         return false;
     }

@@ -15,7 +15,7 @@ fn collapses_before<N: Nodes>(nodes: &N, node: NodeRef) -> bool
     requires { N.holds nodes.now node }
     ensures { result ≡ whitespace.collapses_at (N.trees nodes.now) (before.nodes_before (N.trees nodes.now) node.label) }
 {
-    nodes.lawful();
+    nodes.valid();
     let mut at = node;
     'walk: loop {
         if let Some(prev) = nodes.prev(at) {
@@ -43,7 +43,7 @@ fn collapses_after<N: Nodes>(nodes: &N, node: NodeRef) -> bool
     requires leaf { first_of (N.trees nodes.now) node.label ≡ None }
     ensures { result ≡ whitespace.collapses_at (N.trees nodes.now) (before.nodes_after (N.trees nodes.now) node.label) }
 {
-    nodes.lawful();
+    nodes.valid();
     !is_solid_neighbour(neighbour_after(nodes, node))
 }
 
@@ -63,7 +63,7 @@ pub fn is_collapsed_whitespace<N: Nodes>(nodes: &N, node: NodeRef) -> bool
     requires { N.holds nodes.now node }
     ensures { result ≡ whitespace.is_collapsed_whitespace (N.trees nodes.now) node.label }
 {
-    nodes.lawful();
+    nodes.valid();
     is_whitespace(nodes, node)
         && (is_empty_words(nodes.content(node))
             || is_hidden(nodes, node)

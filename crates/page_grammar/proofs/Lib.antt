@@ -17,5 +17,5 @@ pub mod Telling
 pub mod Outputs
 pub mod Labels
 pub mod Due
-pub mod PlantingLemmas
+pub mod TreeConstructionLemmas
 pub mod ReaderAnswers

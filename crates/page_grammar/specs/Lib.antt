@@ -9,4 +9,4 @@ pub mod Kind
 pub mod Rows
 pub mod Nodes
 pub mod Reading
-pub mod Planting
+pub mod TreeConstruction

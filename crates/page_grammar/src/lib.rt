@@ -2,7 +2,7 @@
 //!
 //! The definitions stand in specs/: the relation between characters and children (`Page`), the same of bytes (`Bytes`), a machine that
 //! decides it (`Machine`, `Decoder`, `Reader`), the fault that it computes (`Kind`), what that fault means (`Rows`), what reading a page
-//! tells (`Reading`), and the document that it makes (`Nodes`, `Planting`). Each function here has an empty body: its contract is a law
+//! tells (`Reading`), and the document that it makes (`Nodes`, `TreeConstruction`). Each function here has an empty body: its contract is a law
 //! about the definitions.
 #![tactic(auto)]
 
@@ -15,7 +15,7 @@ ghost use Rattle.page_grammar.specs.Reader.{Reader, begin, read_byte, read_bytes
 ghost use Rattle.page_grammar.specs.Bytes.{PageBytes, BeginsPage};
 ghost use Rattle.page_grammar.specs.Kind.{Kind, page_limit, kind_of_byte, kind_at, page_fault, text_fault, refusal, refused_place, TooLong, Unclosed, NotUtf8, TooDeep, Full, UnsupportedElement, RepeatedAttribute, UnknownReference, StrayEnd, BadAttribute, BadTag};
 ghost use Rattle.page_grammar.specs.Rows.{IsFault};
-ghost use Rattle.page_grammar.specs.Planting.{plant_all, seed, grown};
+ghost use Rattle.page_grammar.specs.TreeConstruction.{plant_all, seed, grown};
 ghost use Rattle.page_grammar.specs.Reading.{Reading, Children, Refused, page_reading, IsReading};
 
 /// The machine reads each page to its end, and tells its children.

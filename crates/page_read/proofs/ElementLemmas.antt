@@ -13,8 +13,8 @@ use Rattle.page_read.specs.declared.scanner.Open.{Open}
 use Rattle.page_read.specs.declared.scanner.Lexical.{Lexical}
 use Rattle.page_read.specs.declared.scanner.Lexical.TheVariants.{Data, EndTagName, AfterEndTagName}
 use Rattle.page_grammar.specs.Nodes.{attributes_of}
-use Rattle.page_grammar.specs.Planting.{Planting, with_last}
-use Rattle.page_read.specs.View.{machine_of, planting_of, Goes, names_of, labels_of, opened_of, read_attributes, EachText, MakesElement}
+use Rattle.page_grammar.specs.TreeConstruction.{TreeConstruction, with_last}
+use Rattle.page_read.specs.View.{machine_of, tree_construction_of, Goes, names_of, labels_of, opened_of, read_attributes, EachText, MakesElement}
 use Rattle.page_read.specs.Steady.{Steady, EachOpen, taken}
 use Rattle.page_read.proofs.OpenLemmas.{names_push, labels_push, each_push, each_moves}
 
@@ -40,7 +40,7 @@ module _ (old mid : Scanner) (node : NodeRef) (steady : Steady old) (tag : taken
   ws = names_of old.opened.items
 
   next_is : suc old.arena.next ≡ mid.arena.next
-  next_is = sym (ap (λ (p : Planting). p.next) made.planted)
+  next_is = sym (ap (λ (p : TreeConstruction). p.next) made.planted)
 
   back : attributes_of (read_attributes old.attributes) ≡ old.attributes
   back = attributes_back old.attributes steady.texts
@@ -60,8 +60,8 @@ module _ (old mid : Scanner) (node : NodeRef) (steady : Steady old) (tag : taken
   count : length mid.opened.items ≡ length old.opened.items
   count = ap (λ (o : Vec Open Global). length o.items) made.opened
 
-  grown : planting_of mid ≡ with_last (planting_of old) (Element old.tag.items (attributes_of (read_attributes old.attributes)))
-  grown = made.planted ∙ ap (λ ts. with_last (planting_of old) (Element old.tag.items ts)) (sym back)
+  grown : tree_construction_of mid ≡ with_last (tree_construction_of old) (Element old.tag.items (attributes_of (read_attributes old.attributes)))
+  grown = made.planted ∙ ap (λ ts. with_last (tree_construction_of old) (Element old.tag.items ts)) (sym back)
 
   pub void_goes : is_void old.tag.items ≡ true → Goes (Some (machine.started (machine_of old) old.tag.items (read_attributes old.attributes))) old (record mid { lexical = Data; room = mid.room + 1 })
   void_goes void = rw void (
@@ -88,7 +88,7 @@ module _ (old mid : Scanner) (node : NodeRef) (steady : Steady old) (tag : taken
     pub start_goes : is_void old.tag.items ≡ false → Goes (Some (machine.started (machine_of old) old.tag.items (read_attributes old.attributes))) old (record mid { lexical = Data; opened = v })
     start_goes void = rw void (
       same_parts machine.Data (old.tag.items ∷ opened_of old.lexical ws) (names_of v.items) old.room mid.room (suc old.arena.next) mid.arena.next (ap (λ us. old.tag.items ∷ us) (opened_taken old.lexical ws tag) ∙ sym names_are) (sym made.room) next_is,
-      ap (λ (p : Planting). record p { opened = labels_of v.items }) grown ∙ ap (λ ls. record { trees = (with_last (planting_of old) (Element old.tag.items (attributes_of (read_attributes old.attributes)))).trees; opened = ls; next = suc old.arena.next }) labels_are,
+      ap (λ (p : TreeConstruction). record p { opened = labels_of v.items }) grown ∙ ap (λ ls. record { trees = (with_last (tree_construction_of old) (Element old.tag.items (attributes_of (read_attributes old.attributes)))).trees; opened = ls; next = suc old.arena.next }) labels_are,
     )
 
     pub start_steady : Steady (record mid { lexical = Data; opened = v })

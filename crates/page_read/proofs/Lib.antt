@@ -1,4 +1,4 @@
-pub mod GrowthLemmas
+pub mod ConstructionLemmas
 pub mod OpenLemmas
 pub mod NameLemmas
 pub mod ElementLemmas

@@ -1,16 +1,16 @@
 -- From the reader's bytes to the answer.
 use Rattle.std.proofs.Common.{◌≡◌, ℕ, suc, ◌+◌, ◌<◌, ◌≤◌, Bool, true, false, if◌then◌else◌, List, [], ◌∷◌, ◌++◌, length, take, drop, append-nil, drop-cons, length-take-le, get_or, Option, Some, None, refl, sym, ap, subst, ◌∙◌, arith}
 use Rattle.std.proofs.lemmas.List.{take_more, take_all, take-append-drop}
-use Rattle.dom_model.specs.State.{State}
+use Rattle.dom_model.specs.ArenaState.{ArenaState}
 use Rattle.page_grammar.specs.Machine.{Machine, Lexical, Data, InText, Event, step, quiet, told, after_telling}
 use Rattle.page_grammar.specs.Kind.{Kind, page_limit, kind_of_byte, kind_decoded, begins_node, Unclosed}
 use Rattle.page_grammar.specs.Decoder.{Pending, Decoded, Bad, Part, Whole, decode}
 use Rattle.page_grammar.specs.Reader as readers
 use Rattle.page_grammar.specs.Reading.{page_reading, Children, Refused}
-use Rattle.page_grammar.specs.Planting.{Planting, plant, plant_all, seed, grown}
+use Rattle.page_grammar.specs.TreeConstruction.{TreeConstruction, plant, plant_all, seed, grown}
 use Rattle.page_grammar.specs.Page.{Siblings}
 use Rattle.page_grammar.proofs.Outputs.{step_tells, told_tells}
-use Rattle.page_grammar.proofs.PlantingLemmas.{planted}
+use Rattle.page_grammar.proofs.TreeConstructionLemmas.{planted}
 use Rattle.page_grammar.proofs.WiderReading.{read_one_more}
 use Rattle.page_grammar.proofs.ReaderAnswers.{stopped, unclosed, ended}
 use Rattle.page_read.specs.declared.scanner.Scanner.{Scanner}
@@ -18,14 +18,14 @@ use Rattle.page_read.specs.declared.reader.Reader.{Reader}
 use Rattle.page_read.specs.declared.faults.PageKind.{PageKind}
 use Rattle.page_read.specs.Faults.{kind_of}
 use Rattle.page_read.specs.Answer.{IsDocument, IsFaultAnswer}
-use Rattle.page_read.specs.View.{machine_of, planting_of, Goes, Went}
-use Rattle.page_read.specs.Reading.{reader_of, growth_of, quieted, told_in, Takes, Finishes}
+use Rattle.page_read.specs.View.{machine_of, tree_construction_of, Goes, Went}
+use Rattle.page_read.specs.Reading.{reader_of, construction_of, quieted, told_in, Takes, Finishes}
 
 pub went_goes : (b : Bool) (o : Option Machine) (old new : Scanner) → b ≡ true → Went b o old new → Goes o old new
 went_goes true o old new e w = w
 went_goes false o old new e w = cc
 
-pub whole_read : (o : Option Machine) (old new : Scanner) → Goes o old new → (quieted (readers.read_whole o) ≡ Some (readers.between (machine_of new))) × (planting_of new ≡ plant_all (told_in (readers.read_whole o)) (planting_of old))
+pub whole_read : (o : Option Machine) (old new : Scanner) → Goes o old new → (quieted (readers.read_whole o) ≡ Some (readers.between (machine_of new))) × (tree_construction_of new ≡ plant_all (told_in (readers.read_whole o)) (tree_construction_of old))
 whole_read None old new h = let e = h.0 in cc
 whole_read (Some m) old new h = ((let e = h.0 in cc), h.1)
 
@@ -70,21 +70,21 @@ decoded_tells c m (Whole x) = ap readers.read_whole (step_tells c m x) ∙ whole
 byte_tells : (c : ℕ) (r : readers.Reader) (b : ℕ) → readers.read_byte c r b ≡ telling r.machine.out (readers.read_byte c (quiet_reader r) b)
 byte_tells c r b = decoded_tells c r.machine (decode r.part b)
 
-plant_append : (xs ys : List Event) (p : Planting) → plant_all (xs ++ ys) p ≡ plant_all ys (plant_all xs p)
+plant_append : (xs ys : List Event) (p : TreeConstruction) → plant_all (xs ++ ys) p ≡ plant_all ys (plant_all xs p)
 plant_append [] ys p = refl
 plant_append (e ∷ xs) ys p = plant_append xs ys (plant e p)
 
 -- the grammar's reader has read these bytes, and is as viewed but for what it has told, which is planted
-pub record HasRead (c : ℕ) (p : List ℕ) (view : readers.Reader) (growth : Planting) : Type 0 where
+pub record HasRead (c : ℕ) (p : List ℕ) (view : readers.Reader) (construction : TreeConstruction) : Type 0 where
   pub real : readers.Reader
   pub reads : readers.read_bytes c (readers.begin 200) p ≡ Some real
   pub is : view ≡ quiet_reader real
-  pub planted : growth ≡ plant_all real.machine.out seed
+  pub planted : construction ≡ plant_all real.machine.out seed
 
 pub has_begun : (c : ℕ) → HasRead c [] (readers.begin 200) seed
 has_begun c = record { real = readers.begin 200; reads = refl; is = refl; planted = refl }
 
-pub has_read_more : (c : ℕ) (p : List ℕ) (b : ℕ) (v v2 : readers.Reader) (g g2 : Planting) → HasRead c p v g → quieted (readers.read_byte c v b) ≡ Some v2 → g2 ≡ plant_all (told_in (readers.read_byte c v b)) g → HasRead c (p ++ b ∷ []) v2 g2
+pub has_read_more : (c : ℕ) (p : List ℕ) (b : ℕ) (v v2 : readers.Reader) (g g2 : TreeConstruction) → HasRead c p v g → quieted (readers.read_byte c v b) ≡ Some v2 → g2 ≡ plant_all (told_in (readers.read_byte c v b)) g → HasRead c (p ++ b ∷ []) v2 g2
 has_read_more c p b v v2 g g2 h e t =
     by_byte (readers.read_byte c v b) (subst (λ (k : readers.Reader). readers.read_byte c h.real b ≡ telling h.real.machine.out (readers.read_byte c k b)) (sym h.is) (byte_tells c h.real b)) e t
   where
@@ -101,7 +101,7 @@ length_taken : (i : ℕ) (s : List ℕ) → i < length s → length (take i s) �
 length_taken i s h = length-take-le i s (omega (arith, h))
 
 -- where a byte is refused
-pub refused_here : (c : ℕ) (s : List ℕ) (i b : ℕ) (v : readers.Reader) (g : Planting) (k : Kind) → i < length s → b ≡ get_or s i 0 → length s ≤ page_limit → HasRead c (take i s) v g → readers.read_byte c v b ≡ None → k ≡ kind_of_byte v b → page_reading 200 c s ≡ Refused i k
+pub refused_here : (c : ℕ) (s : List ℕ) (i b : ℕ) (v : readers.Reader) (g : TreeConstruction) (k : Kind) → i < length s → b ≡ get_or s i 0 → length s ≤ page_limit → HasRead c (take i s) v g → readers.read_byte c v b ≡ None → k ≡ kind_of_byte v b → page_reading 200 c s ≡ Refused i k
 refused_here c s i b v g k inside at short h none kind =
     let cut : drop i s ≡ get_or s i 0 ∷ drop (suc i) s = rw (drop-cons s i 0) refl in
     let whole : take i s ++ b ∷ drop (suc i) s ≡ s = ap (λ k. take i s ++ k) (ap (λ y. y ∷ drop (suc i) s) at ∙ sym cut) ∙ take-append-drop i s in
@@ -112,25 +112,25 @@ refused_here c s i b v g k inside at short h none kind =
     subst (λ (z : List ℕ). page_reading 200 c z ≡ Refused i k) whole (found ∙ ap (λ n. Refused n (kind_of_byte h.real b)) place ∙ ap (Refused i) same)
 
 -- the bytes end with the page
-pub ends_page : (c : ℕ) (s : List ℕ) (v : readers.Reader) (g : Planting) (a : State) → length s ≤ page_limit → HasRead c s v g → Finishes (Some a) c v g → (f : Siblings) × (page_reading 200 c s ≡ Children f) × IsDocument a c f
+pub ends_page : (c : ℕ) (s : List ℕ) (v : readers.Reader) (g : TreeConstruction) (a : ArenaState) → length s ≤ page_limit → HasRead c s v g → Finishes (Some a) c v g → (f : Siblings) × (page_reading 200 c s ≡ Children f) × IsDocument a c f
 ends_page c s v g a short h fin =
     let r = h.real in
     let viewed : Finishes (Some a) c (quiet_reader r) g = subst (λ (k : readers.Reader). Finishes (Some a) c k g) h.is fin in
-    let planted_so : Finishes (Some a) c (quiet_reader r) (plant_all r.machine.out seed) = subst (λ (k : Planting). Finishes (Some a) c (quiet_reader r) k) h.planted viewed in
+    let planted_so : Finishes (Some a) c (quiet_reader r) (plant_all r.machine.out seed) = subst (λ (k : TreeConstruction). Finishes (Some a) c (quiet_reader r) k) h.planted viewed in
     let e = ended 200 c s r short h.reads planted_so.0 planted_so.1.0 in
     let full : plant_all (told (quiet r.machine)) (plant_all r.machine.out seed) ≡ grown e.0 =
     sym (plant_append r.machine.out (told (quiet r.machine)) seed) ∙ ap (λ es. plant_all es seed) (sym (told_tells r.machine) ∙ e.3) ∙ planted 200 c s e.0 e.2 in (
       e.0,
       e.1,
       record {
-        trees = planted_so.1.1 ∙ ap (λ (k : Planting). k.trees) full;
-        next = planted_so.1.2 ∙ ap (λ (k : Planting). k.next) full;
+        trees = planted_so.1.1 ∙ ap (λ (k : TreeConstruction). k.trees) full;
+        next = planted_so.1.2 ∙ ap (λ (k : TreeConstruction). k.next) full;
         cap = planted_so.1.3;
       },
     )
 
 -- the bytes end before the page does
-pub ends_early : (c : ℕ) (s : List ℕ) (v : readers.Reader) (g : Planting) → length s ≤ page_limit → HasRead c s v g → Finishes None c v g → page_reading 200 c s ≡ Refused (length s) Unclosed
+pub ends_early : (c : ℕ) (s : List ℕ) (v : readers.Reader) (g : TreeConstruction) → length s ≤ page_limit → HasRead c s v g → Finishes None c v g → page_reading 200 c s ≡ Refused (length s) Unclosed
 ends_early c s v g short h fin =
     let r = h.real in
     let viewed : Finishes None c (quiet_reader r) g = subst (λ (k : readers.Reader). Finishes None c k g) h.is fin in
@@ -139,30 +139,30 @@ ends_early c s v g short h fin =
 pub kind_is : (x : PageKind) (k : Kind) (c n : ℕ) (s : List ℕ) → kind_of x ≡ Some k → page_reading 200 c s ≡ Refused n k → IsFaultAnswer c s (record { at = n; kind = x }) (kind_of x)
 kind_is x k c n s e h = subst (λ (o : Option Kind). IsFaultAnswer c s (record { at = n; kind = x }) o) (sym e) h
 
-pub takes_more : (c i : ℕ) (s : List ℕ) (old new : Reader) (x : Option PageKind) → x ≡ None → old.scanner.arena.cap ≡ c → i < length s → Takes x (get_or s i 0) old new → HasRead c (take i s) (reader_of old) (growth_of old) → HasRead c (take (i + 1) s) (reader_of new) (growth_of new)
+pub takes_more : (c i : ℕ) (s : List ℕ) (old new : Reader) (x : Option PageKind) → x ≡ None → old.scanner.arena.cap ≡ c → i < length s → Takes x (get_or s i 0) old new → HasRead c (take i s) (reader_of old) (construction_of old) → HasRead c (take (i + 1) s) (reader_of new) (construction_of new)
 takes_more c i s old new (Some x) e cap inside t h = cc
 takes_more c i s old new None e cap inside t h =
     let b : ℕ = get_or s i 0 in
-    let went : (quieted (readers.read_byte c (reader_of old) b) ≡ Some (reader_of new)) × (growth_of new ≡ plant_all (told_in (readers.read_byte c (reader_of old) b)) (growth_of old)) =
-    subst (λ (k : ℕ). (quieted (readers.read_byte k (reader_of old) b) ≡ Some (reader_of new)) × (growth_of new ≡ plant_all (told_in (readers.read_byte k (reader_of old) b)) (growth_of old))) cap t in
-    subst (λ (p : List ℕ). HasRead c p (reader_of new) (growth_of new)) (sym (take_more s i 0 inside)) (has_read_more c (take i s) b (reader_of old) (reader_of new) (growth_of old) (growth_of new) h went.0 went.1)
+    let went : (quieted (readers.read_byte c (reader_of old) b) ≡ Some (reader_of new)) × (construction_of new ≡ plant_all (told_in (readers.read_byte c (reader_of old) b)) (construction_of old)) =
+    subst (λ (k : ℕ). (quieted (readers.read_byte k (reader_of old) b) ≡ Some (reader_of new)) × (construction_of new ≡ plant_all (told_in (readers.read_byte k (reader_of old) b)) (construction_of old))) cap t in
+    subst (λ (p : List ℕ). HasRead c p (reader_of new) (construction_of new)) (sym (take_more s i 0 inside)) (has_read_more c (take i s) b (reader_of old) (reader_of new) (construction_of old) (construction_of new) h went.0 went.1)
 
-pub takes_no_more : (c i : ℕ) (s : List ℕ) (old new : Reader) (x : Option PageKind) (kind : PageKind) → x ≡ Some kind → old.scanner.arena.cap ≡ c → i < length s → length s ≤ page_limit → Takes x (get_or s i 0) old new → HasRead c (take i s) (reader_of old) (growth_of old) → IsFaultAnswer c s (record { at = i; kind = kind }) (kind_of kind)
+pub takes_no_more : (c i : ℕ) (s : List ℕ) (old new : Reader) (x : Option PageKind) (kind : PageKind) → x ≡ Some kind → old.scanner.arena.cap ≡ c → i < length s → length s ≤ page_limit → Takes x (get_or s i 0) old new → HasRead c (take i s) (reader_of old) (construction_of old) → IsFaultAnswer c s (record { at = i; kind = kind }) (kind_of kind)
 takes_no_more c i s old new None kind e cap inside short t h = cc
 takes_no_more c i s old new (Some x) kind e cap inside short t h =
     let b : ℕ = get_or s i 0 in
     let same : x ≡ kind = cc in
     let none : readers.read_byte c (reader_of old) b ≡ None = subst (λ (k : ℕ). readers.read_byte k (reader_of old) b ≡ None) cap t.0 in
-    kind_is kind (kind_of_byte (reader_of old) b) c i s (ap kind_of (sym same) ∙ t.1) (refused_here c s i b (reader_of old) (growth_of old) (kind_of_byte (reader_of old) b) inside refl short h none refl)
+    kind_is kind (kind_of_byte (reader_of old) b) c i s (ap kind_of (sym same) ∙ t.1) (refused_here c s i b (reader_of old) (construction_of old) (kind_of_byte (reader_of old) b) inside refl short h none refl)
 
-pub ends_so : (c i : ℕ) (s : List ℕ) (old : Reader) (x : Option State) (a : State) → x ≡ Some a → old.scanner.arena.cap ≡ c → length s ≤ i → length s ≤ page_limit → Finishes x old.scanner.arena.cap (reader_of old) (growth_of old) → HasRead c (take i s) (reader_of old) (growth_of old) → (f : Siblings) × (page_reading 200 c s ≡ Children f) × IsDocument a c f
+pub ends_so : (c i : ℕ) (s : List ℕ) (old : Reader) (x : Option ArenaState) (a : ArenaState) → x ≡ Some a → old.scanner.arena.cap ≡ c → length s ≤ i → length s ≤ page_limit → Finishes x old.scanner.arena.cap (reader_of old) (construction_of old) → HasRead c (take i s) (reader_of old) (construction_of old) → (f : Siblings) × (page_reading 200 c s ≡ Children f) × IsDocument a c f
 ends_so c i s old x a e cap all short fin h =
-    ends_page c s (reader_of old) (growth_of old) a short
-    (subst (λ (p : List ℕ). HasRead c p (reader_of old) (growth_of old)) (take_all i s all) h)
-    (subst (λ (y : Option State). Finishes y c (reader_of old) (growth_of old)) e (subst (λ (k : ℕ). Finishes x k (reader_of old) (growth_of old)) cap fin))
+    ends_page c s (reader_of old) (construction_of old) a short
+    (subst (λ (p : List ℕ). HasRead c p (reader_of old) (construction_of old)) (take_all i s all) h)
+    (subst (λ (y : Option ArenaState). Finishes y c (reader_of old) (construction_of old)) e (subst (λ (k : ℕ). Finishes x k (reader_of old) (construction_of old)) cap fin))
 
-pub ends_not : (c i : ℕ) (s : List ℕ) (old : Reader) (x : Option State) → x ≡ None → old.scanner.arena.cap ≡ c → length s ≤ i → length s ≤ page_limit → Finishes x old.scanner.arena.cap (reader_of old) (growth_of old) → HasRead c (take i s) (reader_of old) (growth_of old) → page_reading 200 c s ≡ Refused (length s) Unclosed
+pub ends_not : (c i : ℕ) (s : List ℕ) (old : Reader) (x : Option ArenaState) → x ≡ None → old.scanner.arena.cap ≡ c → length s ≤ i → length s ≤ page_limit → Finishes x old.scanner.arena.cap (reader_of old) (construction_of old) → HasRead c (take i s) (reader_of old) (construction_of old) → page_reading 200 c s ≡ Refused (length s) Unclosed
 ends_not c i s old x e cap all short fin h =
-    ends_early c s (reader_of old) (growth_of old) short
-    (subst (λ (p : List ℕ). HasRead c p (reader_of old) (growth_of old)) (take_all i s all) h)
-    (subst (λ (y : Option State). Finishes y c (reader_of old) (growth_of old)) e (subst (λ (k : ℕ). Finishes x k (reader_of old) (growth_of old)) cap fin))
+    ends_early c s (reader_of old) (construction_of old) short
+    (subst (λ (p : List ℕ). HasRead c p (reader_of old) (construction_of old)) (take_all i s all) h)
+    (subst (λ (y : Option ArenaState). Finishes y c (reader_of old) (construction_of old)) e (subst (λ (k : ℕ). Finishes x k (reader_of old) (construction_of old)) cap fin))

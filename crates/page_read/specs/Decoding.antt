@@ -24,12 +24,12 @@ IsSoundAfter (suc zero) v lo hi = AreCharacters ((v * 64 + (lo - 128)) * 64) ((v
 IsSoundAfter (suc (suc zero)) v lo hi = AreCharacters ((v * 64 + (lo - 128)) * 4096) ((v * 64 + (hi - 128)) * 4096 + 4095)
 IsSoundAfter n v lo hi = ⊥
 
-pub record IsSound (p : Pending) : Type 0 where
+pub record IsSoundPending (p : Pending) : Type 0 where
   pub low : 128 ≤ p.low
   pub high : p.high ≤ 191
   pub after : IsSoundAfter p.after p.bits p.low p.high
 
 abbrev pub IsSoundDecoded : Decoded → Type 0
 IsSoundDecoded Bad = Unit {0}
-IsSoundDecoded (Part p) = IsSound p
+IsSoundDecoded (Part p) = IsSoundPending p
 IsSoundDecoded (Whole x) = Unit {0}

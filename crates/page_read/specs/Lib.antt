@@ -1,6 +1,6 @@
 pub mod References
 pub mod Faults
-pub mod Growth
+pub mod Construction
 pub mod View
 pub mod Steady
 pub mod Decoding

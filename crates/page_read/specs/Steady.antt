@@ -3,17 +3,17 @@ use Rattle.std.specs.Prelude.{◌≡◌, ℕ, ◌+◌, ◌<◌, ◌≤◌, ◌^�
 use Rattle.std.proofs.Math.Utf8.{scalars, encodes}
 use Rattle.dom_model.specs.declared.attributes.Attribute.{Attribute}
 use Rattle.dom_model.specs.AttributeList.{value_of}
-use Rattle.dom_model.specs.State.{State}
+use Rattle.dom_model.specs.ArenaState.{ArenaState}
 use Rattle.page_read.specs.declared.scanner.Scanner.{Scanner}
 use Rattle.page_read.specs.declared.scanner.Open.{Open}
 use Rattle.page_read.specs.declared.scanner.Lexical.{Lexical}
 use Rattle.page_read.specs.declared.scanner.Lexical.TheVariants.{Data, InText, TextReference, TagOpen, MarkupDeclaration, CommentStart, InComment, TagName, BeforeAttributeName, AttributeName, AfterAttributeName, BeforeAttributeValue, InAttributeValue, ValueReference, AfterAttributeValue, SelfClosing, EndTagName, AfterEndTagName}
 use Rattle.page_read.specs.References.{IsSmall}
-use Rattle.page_read.specs.Growth.{IsOpen}
+use Rattle.page_read.specs.Construction.{IsOpen}
 use Rattle.page_read.specs.View.{names_of, first_or_empty, EachText}
 
 -- each of these elements is in the arena and may have children
-abbrev pub EachOpen : State → List Open → Type 0
+abbrev pub EachOpen : ArenaState → List Open → Type 0
 EachOpen s [] = Unit {0}
 EachOpen s (o ∷ os) = IsOpen s o.node × EachOpen s os
 
@@ -22,7 +22,7 @@ abbrev pub IsFresh : List Attribute → List ℕ → Type 0
 IsFresh list name = is_some (value_of list (encodes name)) ≡ false
 
 -- a node can be made
-abbrev pub IsBelowCap : State → Type 0
+abbrev pub IsBelowCap : ArenaState → Type 0
 IsBelowCap s = s.next < s.cap
 
 -- a level is taken for the element of a start tag
@@ -44,7 +44,7 @@ is_closing (EndTagName n) = true
 is_closing AfterEndTagName = true
 is_closing l = false
 
-abbrev pub SteadyAt : Lexical → State → List Attribute → (name value : List ℕ) → List Open → Type 0
+abbrev pub SteadyAt : Lexical → ArenaState → List Attribute → (name value : List ℕ) → List Open → Type 0
 SteadyAt Data s ts k v opened = Unit {0}
 SteadyAt InText s ts k v opened = IsBelowCap s
 SteadyAt (TextReference r) s ts k v opened = IsBelowCap s × IsSmall r

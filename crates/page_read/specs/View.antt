@@ -4,7 +4,7 @@ use Rattle.std.specs.Str.{chars}
 use Rattle.std.proofs.Math.Utf8.{encodes}
 use Rattle.dom_model.specs.declared.attributes.Attribute.{Attribute}
 use Rattle.dom_model.specs.declared.Content.TheVariants.{Element}
-use Rattle.dom_model.specs.State.{State}
+use Rattle.dom_model.specs.ArenaState.{ArenaState}
 use Rattle.node_arena.specs.declared.NodeRef.{NodeRef}
 use Rattle.page_grammar.specs.Page as page
 use Rattle.page_grammar.specs.Machine as machine
@@ -15,8 +15,8 @@ use Rattle.page_read.specs.declared.scanner.Dashes.TheVariants.{NoDash, OneDash,
 use Rattle.page_read.specs.declared.scanner.Lexical.{Lexical}
 use Rattle.page_read.specs.declared.scanner.Lexical.TheVariants.{Data, InText, TextReference, TagOpen, MarkupDeclaration, CommentStart, InComment, TagName, BeforeAttributeName, AttributeName, AfterAttributeName, BeforeAttributeValue, InAttributeValue, ValueReference, AfterAttributeValue, SelfClosing, EndTagName, AfterEndTagName}
 use Rattle.page_read.specs.References.{reference_of}
-use Rattle.page_read.specs.Growth.{IsOpen}
-use Rattle.page_grammar.specs.Planting.{Planting, tail, plant_all, with_last}
+use Rattle.page_read.specs.Construction.{IsOpen}
+use Rattle.page_grammar.specs.TreeConstruction.{TreeConstruction, tail, plant_all, with_last}
 
 -- an attribute's name as characters
 abbrev pub read_attribute : Attribute → page.Attribute
@@ -82,8 +82,8 @@ machine_of s = record {
   out = [];
 }
 
-abbrev pub planting_of : Scanner → Planting
-planting_of s = record { trees = s.arena.trees; opened = labels_of s.opened.items; next = s.arena.next }
+abbrev pub tree_construction_of : Scanner → TreeConstruction
+tree_construction_of s = record { trees = s.arena.trees; opened = labels_of s.opened.items; next = s.arena.next }
 
 -- the machine as if it had told nothing, and what it has told
 abbrev pub silenced : Option machine.Machine → Option machine.Machine
@@ -96,7 +96,7 @@ told_by (Some m) = m.out
 
 -- the scanner is where the machine is, and has planted what it told
 abbrev pub Goes : Option machine.Machine → (old new : Scanner) → Type 0
-Goes o old new = (silenced o ≡ Some (machine_of new)) × (planting_of new ≡ plant_all (told_by o) (planting_of old))
+Goes o old new = (silenced o ≡ Some (machine_of new)) × (tree_construction_of new ≡ plant_all (told_by o) (tree_construction_of old))
 
 -- whether the machine went on; where it didn't, the scanner is as before
 abbrev pub Went : Bool → Option machine.Machine → (old new : Scanner) → Type 0
@@ -105,14 +105,14 @@ Went false o old new = (o ≡ None) × (machine_of new ≡ machine_of old)
 
 -- nothing is told
 abbrev pub Keeps : (old new : Scanner) → Type 0
-Keeps old new = planting_of new ≡ planting_of old
+Keeps old new = tree_construction_of new ≡ tree_construction_of old
 
 -- the element of the start tag is made: only the arena and the attributes have changed
 pub record MakesElement (old new : Scanner) (node : NodeRef) : Type 0 where
   pub label : node.label ≡ old.arena.next
   pub here : IsOpen new.arena node
   pub opens : (r : NodeRef) → IsOpen old.arena r → IsOpen new.arena r
-  pub planted : planting_of new ≡ with_last (planting_of old) (Element old.tag.items old.attributes)
+  pub planted : tree_construction_of new ≡ with_last (tree_construction_of old) (Element old.tag.items old.attributes)
   pub cap : new.arena.cap ≡ old.arena.cap
   pub tag : new.tag ≡ old.tag
   pub opened : new.opened ≡ old.opened
@@ -128,7 +128,7 @@ pub record AddsAttribute (old new : Scanner) : Type 0 where
   pub rest : new ≡ record old { attributes = new.attributes; lexical = AfterAttributeValue }
 
 -- the arena that the end of the characters gives, if they may end here
-abbrev pub Ends : Option State → (c : ℕ) → machine.Machine → Planting → Type 0
+abbrev pub Ends : Option ArenaState → (c : ℕ) → machine.Machine → TreeConstruction → Type 0
 Ends (Some a) c m p = machine.IsEnd m × (a.trees ≡ (plant_all (machine.told m) p).trees) × (a.next ≡ (plant_all (machine.told m) p).next) × (a.cap ≡ c)
 Ends None c m p = machine.IsEnd m → ⊥
 

@@ -3,7 +3,7 @@
 ghost use Rattle.std.specs.Prelude.{◌≡◌, ◌≤◌, ◌<◌, IfSome};
 ghost use Rattle.std.specs.Option.{option_map};
 ghost use Rattle.page_grammar.specs.Decoder as decoder;
-ghost use Rattle.page_read.specs.Decoding.{pending_of, decoded_of, IsSound, IsSoundDecoded};
+ghost use Rattle.page_read.specs.Decoding.{pending_of, decoded_of, IsSoundPending, IsSoundDecoded};
 
 /// A character of which some bytes have come: its bits so far, how many bytes follow the next one, and the bounds of the
 /// next one (Encoding Standard, "UTF-8 decoder").
@@ -77,7 +77,7 @@ fn lead(byte: u8) -> Decoded
 }
 
 fn continued(pending: Pending, byte: u8) -> Decoded
-    requires { IsSound pending }
+    requires { IsSoundPending pending }
     ensures value { decoded_of result ≡ decoder.continued (pending_of pending) byte }
     ensures sound { IsSoundDecoded result }
 {
@@ -96,7 +96,7 @@ fn continued(pending: Pending, byte: u8) -> Decoded
 
 /// The next byte, between characters or inside one.
 pub(crate) fn decode(pending: Option<Pending>, byte: u8) -> Decoded
-    requires { IfSome pending (λ p. IsSound p) }
+    requires { IfSome pending (λ p. IsSoundPending p) }
     ensures value { decoded_of result ≡ decoder.decode (option_map pending_of pending) byte }
     ensures sound { IsSoundDecoded result }
 {

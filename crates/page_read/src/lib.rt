@@ -6,9 +6,9 @@ ghost use Rattle.page_grammar.specs.Reading.{page_reading, IsReading};
 ghost use Rattle.page_read.specs.Answer.{IsAnswer};
 
 mod classes;
+mod construction;
 mod decoder;
 mod faults;
-mod growth;
 mod names;
 mod reader;
 mod reference;

@@ -2,10 +2,10 @@
 
 ghost use Rattle.std.specs.Prelude.{◌≡◌, ◌<◌, IfOk, OnOk};
 ghost use Rattle.page_grammar.specs.Reader as readers;
-ghost use Rattle.page_grammar.specs.Planting.{seed};
+ghost use Rattle.page_grammar.specs.TreeConstruction.{seed};
 ghost use Rattle.page_grammar.specs.Decoder.{decode, Part, Whole};
-ghost use Rattle.page_read.specs.Decoding.{IsSound, pending_of};
-ghost use Rattle.page_read.specs.Reading.{reader_of, growth_of, Takes, IsHeld, Finishes};
+ghost use Rattle.page_read.specs.Decoding.{IsSoundPending, pending_of};
+ghost use Rattle.page_read.specs.Reading.{reader_of, construction_of, Takes, IsHeld, Finishes};
 
 use crate::decoder::{Decoded, Pending, decode};
 use crate::faults::PageKind;
@@ -25,7 +25,7 @@ impl Reader {
     pub(crate) fn new(alloc: Global, cap: u32) -> Result<Reader, AllocError>
         requires { 0 < cap }
         ensures view { IfOk result (λ reader. reader_of reader ≡ readers.begin 200) }
-        ensures seed { IfOk result (λ reader. growth_of reader ≡ seed) }
+        ensures seed { IfOk result (λ reader. construction_of reader ≡ seed) }
         ensures held { IfOk result (λ reader. IsHeld reader cap) }
     {
         Ok(Reader {
@@ -37,7 +37,7 @@ impl Reader {
     // A byte of a character, after which others come.
     fn read_part(&mut self, pending: Pending, byte: u8) -> Result<Option<PageKind>, AllocError>
         requires held { IsHeld self.old self.old.scanner.arena.cap }
-        requires sound { IsSound pending }
+        requires sound { IsSoundPending pending }
         requires decoded { decode (reader_of self.old).part byte ≡ Part (pending_of pending) }
         ensures takes { IfOk result (λ kind. Takes kind byte self.old self.new) }
         ensures held { OnOk result (IsHeld self.new self.old.scanner.arena.cap) }
@@ -79,7 +79,7 @@ impl Reader {
     /// The bytes have ended: the tree of the page, if they are one.
     pub(crate) fn finish(self) -> Result<Option<Arena>, AllocError>
         requires { IsHeld self self.scanner.arena.cap }
-        ensures { IfOk result (λ end. Finishes end self.scanner.arena.cap (reader_of self) (growth_of self)) }
+        ensures { IfOk result (λ end. Finishes end self.scanner.arena.cap (reader_of self) (construction_of self)) }
     {
         let Reader { scanner, pending } = self;
         if pending.is_some() {

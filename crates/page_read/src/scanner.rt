@@ -8,14 +8,14 @@ ghost use Rattle.page_grammar.specs.Kind as kinds;
 ghost use Rattle.page_grammar.specs.Reader.{takes_wide};
 ghost use Rattle.page_read.specs.Faults.{kind_of};
 ghost use Rattle.page_read.specs.declared.scanner.Lexical.TheVariants.{Data, InText, TextReference, TagOpen, MarkupDeclaration, CommentStart, InComment, TagName, BeforeAttributeName, AttributeName, AfterAttributeName, BeforeAttributeValue, InAttributeValue, ValueReference, AfterAttributeValue, SelfClosing, EndTagName, AfterEndTagName};
-ghost use Rattle.page_read.specs.View.{machine_of, planting_of, Went, Goes, names_of, labels_of, dashes_of, first_or_empty, Ends, LeavesAt};
+ghost use Rattle.page_read.specs.View.{machine_of, tree_construction_of, Went, Goes, names_of, labels_of, dashes_of, first_or_empty, Ends, LeavesAt};
 ghost use Rattle.page_read.specs.Steady.{Steady, EachOpen, is_closing};
-ghost use Rattle.page_read.specs.Growth.{IsOpen};
-ghost use Rattle.page_grammar.specs.Planting.{plant, innermost, seed};
+ghost use Rattle.page_read.specs.Construction.{IsOpen};
+ghost use Rattle.page_grammar.specs.TreeConstruction.{plant, innermost, seed};
 
 use crate::classes::{is_letter, is_space, lower};
+use crate::construction::{append_remark, append_words};
 use crate::faults::PageKind;
-use crate::growth::{append_remark, append_words};
 use crate::names::is_refused;
 use crate::reference::{Reference, Turn};
 use dom_model::{Attributes, Chars};
@@ -111,7 +111,7 @@ impl Scanner {
     pub(crate) fn new(alloc: Global, cap: u32) -> Result<Scanner, AllocError>
         requires { 0 < cap }
         ensures view { IfOk result (λ scanner. machine_of scanner ≡ machine.start 200) }
-        ensures seed { IfOk result (λ scanner. planting_of scanner ≡ seed) }
+        ensures seed { IfOk result (λ scanner. tree_construction_of scanner ≡ seed) }
         ensures cap { IfOk result (λ scanner. scanner.arena.cap ≡ cap) }
         ensures steady { IfOk result (λ scanner. Steady scanner) }
     {
@@ -160,7 +160,7 @@ impl Scanner {
         match self.opened.last() {
             Some(open) => open.node,
             None => {
-                self.arena.lawful();
+                self.arena.valid();
                 self.arena.document()
             }
         }
@@ -198,7 +198,7 @@ impl Scanner {
         requires state { self.old.lexical ≡ InText }
         requires steady { Steady self.old }
         ensures leaf { OnOk result (machine_of self.new ≡ machine.quiet (machine.after_leaf (machine_of self.old) (machine.TextEvent self.old.text.items))) }
-        ensures planted { OnOk result (planting_of self.new ≡ plant (machine.TextEvent self.old.text.items) (planting_of self.old)) }
+        ensures planted { OnOk result (tree_construction_of self.new ≡ plant (machine.TextEvent self.old.text.items) (tree_construction_of self.old)) }
         ensures cap { OnOk result (self.new.arena.cap ≡ self.old.arena.cap) }
         ensures steady { OnOk result (Steady self.new) }
     {
@@ -259,7 +259,7 @@ impl Scanner {
         requires room { machine.has_room self.old.arena.cap (machine_of self.old) ≡ true }
         requires letter { classes.is_letter c ≡ true }
         ensures tag { OnOk result (machine_of self.new ≡ machine.begin_tag (machine_of self.old) c) }
-        ensures kept { OnOk result (planting_of self.new ≡ planting_of self.old) }
+        ensures kept { OnOk result (tree_construction_of self.new ≡ tree_construction_of self.old) }
         ensures cap { OnOk result (self.new.arena.cap ≡ self.old.arena.cap) }
         ensures steady { OnOk result (Steady self.new) }
     {
@@ -332,7 +332,7 @@ impl Scanner {
         requires state { self.old.lexical ≡ InComment Dashes.TwoDashes }
         requires steady { Steady self.old }
         ensures leaf { OnOk result (machine_of self.new ≡ machine.quiet (machine.after_leaf (machine_of self.old) (machine.CommentEvent self.old.text.items))) }
-        ensures planted { OnOk result (planting_of self.new ≡ plant (machine.CommentEvent self.old.text.items) (planting_of self.old)) }
+        ensures planted { OnOk result (tree_construction_of self.new ≡ plant (machine.CommentEvent self.old.text.items) (tree_construction_of self.old)) }
         ensures cap { OnOk result (self.new.arena.cap ≡ self.old.arena.cap) }
         ensures steady { OnOk result (Steady self.new) }
     {
@@ -348,7 +348,7 @@ impl Scanner {
         requires state { self.old.lexical ≡ InComment dashes }
         requires steady { Steady self.old }
         ensures dash { OnOk result (machine_of self.new ≡ machine.at (machine_of self.old) (machine.dash self.old.text.items (dashes_of dashes))) }
-        ensures kept { OnOk result (planting_of self.new ≡ planting_of self.old) }
+        ensures kept { OnOk result (tree_construction_of self.new ≡ tree_construction_of self.old) }
         ensures cap { OnOk result (self.new.arena.cap ≡ self.old.arena.cap) }
         ensures steady { OnOk result (Steady self.new) }
     {
@@ -365,7 +365,7 @@ impl Scanner {
         requires state { self.old.lexical ≡ InComment dashes }
         requires steady { Steady self.old }
         ensures text { OnOk result (machine_of self.new ≡ machine.at (machine_of self.old) (machine.InComment (self.old.text.items ++ (machine.dashes (dashes_of dashes) ++ c ∷ [])) machine.NoDash)) }
-        ensures kept { OnOk result (planting_of self.new ≡ planting_of self.old) }
+        ensures kept { OnOk result (tree_construction_of self.new ≡ tree_construction_of self.old) }
         ensures cap { OnOk result (self.new.arena.cap ≡ self.old.arena.cap) }
         ensures steady { OnOk result (Steady self.new) }
     {
@@ -571,7 +571,7 @@ impl Scanner {
     #[tactic(auto, using(crate::proofs::EndLemmas::none_open, crate::proofs::EndLemmas::still_open))]
     pub(crate) fn finish(mut self) -> Result<Option<Arena>, AllocError>
         requires { Steady self }
-        ensures { IfOk result (λ end. Ends end self.arena.cap (machine_of self) (planting_of self)) }
+        ensures { IfOk result (λ end. Ends end self.arena.cap (machine_of self) (tree_construction_of self)) }
     {
         match self.lexical {
             Lexical::Data => {

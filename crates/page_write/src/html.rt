@@ -145,7 +145,7 @@ fn push_trees(bytes: &mut Vec<u8>, arena: &Arena, first: Option<NodeRef>) -> Res
     requires inner { IsInner arena.now.trees (label first) }
     ensures ok { OnOk result (bytes.new.items ≡ bytes.old.items ++ html_of (onward_at arena.now.trees (label first))) }
 {
-    arena.lawful();
+    arena.valid();
     let mut at = first;
     while let Some(node) = at {
         let content = arena.content(node);
@@ -161,7 +161,7 @@ fn push_trees(bytes: &mut Vec<u8>, arena: &Arena, first: Option<NodeRef>) -> Res
 pub fn write_html(alloc: Global, arena: &Arena) -> Result<Vec<u8>, AllocError>
     ensures { IfOk result (λ bytes. bytes.items ≡ document_html arena.now.trees) }
 {
-    arena.lawful();
+    arena.valid();
     let mut bytes = Vec::new(alloc);
     push_trees(&mut bytes, arena, arena.first_child(arena.document()))?;
     Ok(bytes)

@@ -103,7 +103,7 @@ fn push_lines(
     requires room { level + total (λ _ _. 1) (onward_at arena.now.trees (label first)) < 2 ^ 64 }
     ensures ok { OnOk result (bytes.new.items ≡ bytes.old.items ++ lines_of level (onward_at arena.now.trees (label first))) }
 {
-    arena.lawful();
+    arena.valid();
     let mut at = first;
     while let Some(node) = at {
         push_line(alloc, bytes, level, arena.content(node))?;
@@ -119,7 +119,7 @@ fn push_lines(
 pub fn write_tree(alloc: Global, arena: &Arena) -> Result<Vec<u8>, AllocError>
     ensures { IfOk result (λ bytes. bytes.items ≡ document_lines arena.now.trees) }
 {
-    arena.lawful();
+    arena.valid();
     let mut bytes = Vec::new(alloc);
     push_lines(
         alloc,

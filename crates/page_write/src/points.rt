@@ -19,7 +19,7 @@ fn push_point(
     requires { IsWithin arena.now.trees 0 point.label }
     ensures ok { OnOk result (bytes.new.items ≡ bytes.old.items ++ point_text arena.now.trees point) }
 {
-    arena.lawful();
+    arena.valid();
     match arena.find(point.label) {
         None => unreachable!(),
         Some(node) => {
@@ -92,7 +92,7 @@ fn push_marks(
     requires { AreIn arena.now.trees points.now }
     ensures ok { OnOk result (bytes.new.items ≡ bytes.old.items ++ mark_lines arena.now.trees points.now.marks) }
 {
-    points.lawful();
+    points.valid();
     let mut place = 0;
     while let Some((name, pair)) = points.mark_at(place) {
         push_mark(alloc, bytes, arena, name, pair)?;

@@ -19,7 +19,7 @@ pub fn child_toward<N: Nodes>(nodes: &N, top: NodeRef, node: NodeRef) -> Option<
     requires node_held { N.holds nodes.now node }
     ensures { Names (N.holds nodes.now) result (child_toward (N.trees nodes.now) top.label node.label) }
 {
-    nodes.lawful();
+    nodes.valid();
     let mut at = node;
     while let Some(parent) = nodes.parent(at) {
         if parent.label == top.label {
@@ -96,7 +96,7 @@ pub fn comes_before<N: Nodes>(nodes: &N, point: Point, other: Point) -> bool
 pub fn is_in_document<N: Nodes>(nodes: &N, label: u32) -> bool
     ensures { result ≡ is_in_document (N.trees nodes.now) label }
 {
-    nodes.lawful();
+    nodes.valid();
     match nodes.find(label) {
         Some(node) => nodes.is_within(nodes.document(), node),
         None => false,
@@ -108,7 +108,7 @@ fn has_children<N: Nodes>(nodes: &N, node: NodeRef, count: u32) -> bool
     requires { N.holds nodes.now node }
     ensures { result ≡ nat_le count (length (children_of (N.trees nodes.now) node.label)) }
 {
-    nodes.lawful();
+    nodes.valid();
     let mut child = nodes.first_child(node);
     let mut left = count;
     while left > 0 {
@@ -136,7 +136,7 @@ fn has_place<N: Nodes>(nodes: &N, node: NodeRef, offset: u32) -> bool
 pub fn is_placed<N: Nodes>(nodes: &N, point: Point) -> bool
     ensures { result ≡ is_placed (N.trees nodes.now) point }
 {
-    nodes.lawful();
+    nodes.valid();
     match nodes.find(point.label) {
         Some(node) => {
             nodes.is_within(nodes.document(), node) && has_place(nodes, node, point.offset)

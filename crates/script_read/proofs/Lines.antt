@@ -18,7 +18,7 @@ use Rattle.script_read.specs.declared.verb.Verb.{Verb}
 use Rattle.script_read.specs.declared.verb.Verb.TheVariants as verbs
 use Rattle.script_read.specs.Acts.{word_of, BeginsWith, IsName, IsNumber, IsPath, IsPoint, IsValue, Spells, IsUnknown, IsOutside}
 use Rattle.script_read.specs.Reading.{◌>>=◌, cut, name_of, number_of, count_of, path_of, point_of, value_of, select_of, mark_of, unmark_of, exec_parts, exec_of, query_of, undo_of, redo_of, probe_of, word_act, arguments_act, verb_of, first_word, after_word, Line, Long, Unknown, Known, known_line, line_parts, line_of, IsLine}
-use Rattle.script_read.specs.Answers.{Reads, Gives}
+use Rattle.script_read.specs.Answers.{Reads, GivesAct}
 use Rattle.script_read.proofs.Tests.{some-is, chosen, differs, bound}
 use Rattle.script_read.proofs.Cutting.{Avoids, cut-found, cut-none, cut-parts}
 use Rattle.script_read.proofs.Numbers.{number_back, number_sound, name_back, name_sound, name_avoids_space}
@@ -409,33 +409,33 @@ one_meaning line (Known (Some act)) is = spelled_at line act is.0 is.1
 
 -- ---- what is answered
 
-pub act_is : (line : List ℕ) (result : Result Act LineFault) (l : Line) → IsLine line l → Gives result l → IfOk result (λ act. (length line ≤ 8192) × Spells line act)
+pub act_is : (line : List ℕ) (result : Result Act LineFault) (l : Line) → IsLine line l → GivesAct result l → IfOk result (λ act. (length line ≤ 8192) × Spells line act)
 act_is line (Err fault) l is gives = tt
 act_is line (Ok act) Long is gives = absurd (cc)
 act_is line (Ok act) Unknown is gives = absurd (cc)
 act_is line (Ok act) (Known None) is gives = absurd (cc)
 act_is line (Ok act) (Known (Some read)) is gives = (is.0, subst (Spells line) (some-is gives) is.1)
 
-pub spelled_is : (line : List ℕ) (result : Result Act LineFault) → Gives result (line_of line) → (act : Act) → length line ≤ 8192 → Spells line act → Reads result (Some act)
-spelled_is line result gives act le spells = subst (Gives result) (spelled_at line act le spells) gives
+pub spelled_is : (line : List ℕ) (result : Result Act LineFault) → GivesAct result (line_of line) → (act : Act) → length line ≤ 8192 → Spells line act → Reads result (Some act)
+spelled_is line result gives act le spells = subst (GivesAct result) (spelled_at line act le spells) gives
 
-is_long : (line : List ℕ) (result : Result Act LineFault) (l : Line) → IsLine line l → Gives result l → result ≡ Err LongLine → 8192 < length line
+is_long : (line : List ℕ) (result : Result Act LineFault) (l : Line) → IsLine line l → GivesAct result l → result ≡ Err LongLine → 8192 < length line
 is_long line result Long is gives e = is
 is_long line result Unknown is gives e = absurd (let f = sym gives ∙ e in cc)
 is_long line result (Known o) is gives e = absurd (subst (λ (r : Result Act LineFault). Reads r o) e gives)
 
-pub long_is : (line : List ℕ) (result : Result Act LineFault) → Gives result (line_of line) → (result ≡ Err LongLine) ↔ (8192 < length line)
-long_is line result gives = (is_long line result (line_of line) (means line) gives, λ lt. subst (Gives result) (one_meaning line Long lt) gives)
+pub long_is : (line : List ℕ) (result : Result Act LineFault) → GivesAct result (line_of line) → (result ≡ Err LongLine) ↔ (8192 < length line)
+long_is line result gives = (is_long line result (line_of line) (means line) gives, λ lt. subst (GivesAct result) (one_meaning line Long lt) gives)
 
-is_unknown : (line : List ℕ) (result : Result Act LineFault) (l : Line) → IsLine line l → Gives result l → result ≡ Err UnknownAct → IsUnknown line
+is_unknown : (line : List ℕ) (result : Result Act LineFault) (l : Line) → IsLine line l → GivesAct result l → result ≡ Err UnknownAct → IsUnknown line
 is_unknown line result Long is gives e = absurd (let f = sym gives ∙ e in cc)
 is_unknown line result Unknown is gives e = is
 is_unknown line result (Known o) is gives e = absurd (subst (λ (r : Result Act LineFault). Reads r o) e gives)
 
-pub unknown_is : (line : List ℕ) (result : Result Act LineFault) → Gives result (line_of line) → (result ≡ Err UnknownAct) ↔ IsUnknown line
-unknown_is line result gives = (is_unknown line result (line_of line) (means line) gives, λ lacks. subst (Gives result) (one_meaning line Unknown lacks) gives)
+pub unknown_is : (line : List ℕ) (result : Result Act LineFault) → GivesAct result (line_of line) → (result ≡ Err UnknownAct) ↔ IsUnknown line
+unknown_is line result gives = (is_unknown line result (line_of line) (means line) gives, λ lacks. subst (GivesAct result) (one_meaning line Unknown lacks) gives)
 
-pub syntax_is : (line : List ℕ) (result : Result Act LineFault) (l : Line) → IsLine line l → Gives result l → result ≡ Err Syntax → IsOutside line
+pub syntax_is : (line : List ℕ) (result : Result Act LineFault) (l : Line) → IsLine line l → GivesAct result l → result ≡ Err Syntax → IsOutside line
 syntax_is line result Long is gives e = absurd (let f = sym gives ∙ e in cc)
 syntax_is line result Unknown is gives e = absurd (let f = sym gives ∙ e in cc)
 syntax_is line result (Known None) is gives e = is
@@ -448,5 +448,5 @@ none_read (Err UnknownAct) e = absurd e
 none_read (Err LongLine) e = absurd e
 none_read (Err Memory) e = inr refl
 
-pub outside_is : (line : List ℕ) (result : Result Act LineFault) → Gives result (line_of line) → IsOutside line → (result ≡ Err Syntax) ⊎ (result ≡ Err Memory)
-outside_is line result gives lacks = none_read result (subst (Gives result) (one_meaning line (Known None) lacks) gives)
+pub outside_is : (line : List ℕ) (result : Result Act LineFault) → GivesAct result (line_of line) → IsOutside line → (result ≡ Err Syntax) ⊎ (result ≡ Err Memory)
+outside_is line result gives lacks = none_read result (subst (GivesAct result) (one_meaning line (Known None) lacks) gives)

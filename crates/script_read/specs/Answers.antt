@@ -16,7 +16,7 @@ abbrev pub Reads : {X : Type 0} → Result X LineFault → Option X → Type 0
 Reads (Ok x) read = read ≡ Some x
 Reads (Err fault) read = Fails fault read
 
-abbrev pub Gives : Result Act LineFault → Line → Type 0
-Gives result Long = result ≡ Err LongLine
-Gives result Unknown = result ≡ Err UnknownAct
-Gives result (Known act) = Reads result act
+abbrev pub GivesAct : Result Act LineFault → Line → Type 0
+GivesAct result Long = result ≡ Err LongLine
+GivesAct result Unknown = result ≡ Err UnknownAct
+GivesAct result (Known act) = Reads result act

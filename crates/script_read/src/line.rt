@@ -3,7 +3,7 @@
 ghost use Rattle.std.specs.Prelude.{◌≡◌, ◌<◌, ◌≤◌, ◌⊎◌, ◌↔◌, IfOk, length};
 ghost use Rattle.script_read.specs.declared.act.Act.{Act};
 ghost use Rattle.script_read.specs.Acts.{Spells, IsUnknown, IsOutside};
-ghost use Rattle.script_read.specs.Answers.{Reads, Gives};
+ghost use Rattle.script_read.specs.Answers.{Reads, GivesAct};
 ghost use Rattle.script_read.specs.Reading.{now_of, cut, name_of, count_of, select_of, mark_of, unmark_of, exec_of, query_of, undo_of, redo_of, probe_of, word_act, arguments_act, act_of, first_word, after_word, line_parts, Line, line_of, IsLine};
 
 use crate::act::{Act, LineFault};
@@ -176,7 +176,7 @@ fn part_line(line: &[u8]) -> (&[u8], Option<&[u8]>)
 
 // A line that isn't too long.
 fn read_short(alloc: Global, line: &[u8]) -> Result<Act, LineFault>
-    ensures { Gives result (line_parts line.now (cut 32 line.now)) }
+    ensures { GivesAct result (line_parts line.now (cut 32 line.now)) }
 {
     let (word, rest) = part_line(line);
     match Verb::from_word(word) {
@@ -187,7 +187,7 @@ fn read_short(alloc: Global, line: &[u8]) -> Result<Act, LineFault>
 
 #[tactic(auto, unfolding(crate::specs::Reading::line_of))]
 fn read(alloc: Global, line: &[u8]) -> Result<Act, LineFault>
-    ensures { Gives result (line_of line.now) }
+    ensures { GivesAct result (line_of line.now) }
 {
     if line.len() > 8192 {
         return Err(LineFault::LongLine);
@@ -200,7 +200,7 @@ fn read(alloc: Global, line: &[u8]) -> Result<Act, LineFault>
 /// The faults are tried in this order: the line has more than 8,192 bytes; its first word, up to the first space, is no
 /// act's; it is outside the grammar or outside UTF-8. Memory may run out for the parts that the act holds.
 pub fn read_line(alloc: Global, line: &[u8]) -> Result<Act, LineFault>
-    ensures computed { Gives result (line_of line.now) }
+    ensures computed { GivesAct result (line_of line.now) }
     ensures meaning { IsLine line.now (line_of line.now) }
     ensures one_meaning { (l : Line) → IsLine line.now l → line_of line.now ≡ l }
     ensures act { IfOk result (λ act. (length line.now ≤ 8192) × Spells line.now act) }

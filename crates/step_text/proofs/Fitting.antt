@@ -8,12 +8,13 @@ use Rattle.dom_model.specs.declared.Content.{Content}
 use Rattle.dom_model.specs.declared.Content.TheVariants as content
 use Rattle.dom_model.specs.Contents.{has_chars, has_name, is_element, is_parent_at, name_in}
 use Rattle.dom_model.specs.Forest.{Forest, is_label, count_of, parent_of, content_of, tree_of}
-use Rattle.dom_model.specs.State.{State, IsLawful, IsSlotted}
+use Rattle.dom_model.specs.ArenaState.{ArenaState, IsValid, IsSlotted}
 use Rattle.edit_model.specs.Confined.{is_there, is_place}
 use Rattle.edit_model.proofs.Tests.{label_is, none_is, not_zero, not_within, parent_there}
 use Rattle.edit_steps.specs.declared.step.Step.{Step}
 use Rattle.edit_steps.specs.declared.step.Step.TheVariants as step
-use Rattle.forest_changes.specs.Change.{Fits, IsForest, Attach, Shift}
+use Rattle.forest_changes.specs.Change.{Fits, IsForest}
+use Rattle.dom_model.specs.Change as change
 use Rattle.forest_changes.specs.Named.{Each, listed}
 use Rattle.forest_changes.proofs.Twice.{forest_of, given_parent, can_shift}
 use Rattle.node_arena.specs.declared.NodeRef.{NodeRef}
@@ -47,7 +48,7 @@ module _ (x : StepLine) (d : Labelled) where
   fine h k r = rw (h, k, r) refl
 
 -- a refused line at the exit of a `?`
-pub exit : (x : StepLine) (a : State) (r : Result Step StepFault) (fault : StepFault) → r ≡ Err fault → fault ≡ BadLabel → fault_of x (labelled a) ≡ Some BadLabel → Plans x a r
+pub exit : (x : StepLine) (a : ArenaState) (r : Result Step StepFault) (fault : StepFault) → r ≡ Err fault → fault ≡ BadLabel → fault_of x (labelled a) ≡ Some BadLabel → Plans x a r
 exit x a r fault is same h = subst (λ r. Plans x a r) (sym is) (h ∙ ap Some (sym same))
 
 -- ---- tests of places
@@ -86,7 +87,7 @@ stands f l p b h =
 
 -- ---- the changes that lines stand for fit
 
-pub attach_fits : (f : Forest Content) (l p : ℕ) (b : Option ℕ) → IsForest f → 0 < count_of f l → is_loose f l ≡ true → can_stand f l p b ≡ true → Fits (Attach l p b) f
+pub attach_fits : (f : Forest Content) (l p : ℕ) (b : Option ℕ) → IsForest f → 0 < count_of f l → is_loose f l ≡ true → can_stand f l p b ≡ true → Fits (change.Insert l p b) f
 attach_fits f l p b ok there loose can =
     let s = stands f l p b can in
     let h = and_parts (is_none (parent_of f l)) (not (eqb l 0)) loose in
@@ -105,7 +106,7 @@ attach_fits f l p b ok there loose can =
       };
     }
 
-pub shift_fits : (f : Forest Content) (l p : ℕ) (b : Option ℕ) → IsForest f → is_some (parent_of f l) ≡ true → can_stand f l p b ≡ true → Fits (Shift l p b) f
+pub shift_fits : (f : Forest Content) (l p : ℕ) (b : Option ℕ) → IsForest f → is_some (parent_of f l) ≡ true → can_stand f l p b ≡ true → Fits (change.Move l p b) f
 shift_fits f l p b ok child can =
     let s = stands f l p b can in
     can_shift f l (unwrap_or (parent_of f l) 0) p b ok (given_parent f l child) s.parent (λ w. let none = s.apart in omega (arith, w, none)) s.before
@@ -153,11 +154,11 @@ module _ (d : Labelled) (l : ℕ) where
 
 -- ---- the steps of lines
 
-each_held : (a : State) (b : Option NodeRef) → IfSome b (λ r. Holds a r) → Each (Holds a) (listed b)
+each_held : (a : ArenaState) (b : Option NodeRef) → IfSome b (λ r. Holds a r) → Each (Holds a) (listed b)
 each_held a None h = tt
 each_held a (Some r) h = (h, tt)
 
-module _ (a : State) (law : IsLawful a) (slotted : IsSlotted a) where
+module _ (a : ArenaState) (law : IsValid a) (slotted : IsSlotted a) where
   here : (l : ℕ) → is_there a.trees l ≡ true → 0 < count_of a.trees l
   here l h = ltb-true 0 (count_of a.trees l) h
 

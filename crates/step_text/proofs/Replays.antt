@@ -10,7 +10,7 @@ use Rattle.dom_model.specs.Contents.{has_name, is_parent_at, may_have_children, 
 use Rattle.dom_model.specs.Document.{page_depth}
 use Rattle.dom_model.specs.Forest.{Forest, Seen, is_label, count_of, parent_of, tree_of, link, unlink, with_leaf}
 use Rattle.dom_model.specs.Revised.{revised}
-use Rattle.dom_model.specs.State.{CanLink}
+use Rattle.dom_model.specs.ArenaState.{CanLink}
 use Rattle.dom_model.proofs.Heights.{page_depth-revised, page_depth-unlink, page_depth-with_leaf}
 use Rattle.dom_model.proofs.Kept.{content_of-unlink}
 use Rattle.dom_model.proofs.Links.{seen, eqb_refl_true, parent_count, parent_of-unlink, IsDistinct-unlink}
@@ -20,7 +20,8 @@ use Rattle.dom_model.proofs.Totals.{total-unlink}
 use Rattle.dom_model.proofs.Walks.{document_first}
 use Rattle.edit_model.specs.Confined.{is_there, is_place}
 use Rattle.edit_model.specs.Heights.{reach_of}
-use Rattle.forest_changes.specs.Change.{Change, Fits, IsForest, Attach, Shift, Loosen, Rewrite, Redress, applied}
+use Rattle.forest_changes.specs.Change.{Change, Fits, IsForest, applied}
+use Rattle.dom_model.specs.Change as change
 use Rattle.forest_changes.proofs.Contents.{stands as there_by}
 use Rattle.forest_changes.proofs.Twice.{given_parent}
 use Rattle.point_order.specs.PointOrder.{is_within, is_in_document}
@@ -169,10 +170,10 @@ named f n name is = ap (λ o. option_map_or (λ own. bytes_eq own name) o false)
 
 pub change_led : (x : Change) (name : List ℕ) (d : Labelled) → Fits x d.trees → CanSay x name d.trees → page_depth (applied x d.trees) ≤ 1000 → LeadsTo (line_of x name) d (record d { trees = applied x d.trees })
 unfolding applied has_labels has_place has_room trees_after line_applied
-change_led (Loosen n) name d h say low =
+change_led (change.Remove n) name d h say low =
     let c = parent_count d.trees n (unwrap_or (parent_of d.trees n) 0) h.forest.distinct (given_parent d.trees n h.here) in
     record { fine = fine (Remove n) d (there d.trees n c.0) h.here refl; applied = refl }
-change_led (Attach n p b) name d h say low =
+change_led (change.Insert n p b) name d h say low =
     let f = d.trees in
     let can = h.here.place in
     let before = beside_loose f p b n can.loose can.before in
@@ -183,7 +184,7 @@ change_led (Attach n p b) name d h say low =
           (has_room_there f h.forest n p b can.inner can.apart low);
       applied = refl;
     }
-change_led (Shift n p b) name d h say low =
+change_led (change.Move n p b) name d h say low =
     let f = d.trees in
     let o = unwrap_or (parent_of f n) 0 in
     let child = given_parent f n h.here.0 in
@@ -194,9 +195,9 @@ change_led (Shift n p b) name d h say low =
           (has_room_there f h.forest n p b h.here.1.place.inner m.apart (subst (λ g. page_depth g ≤ 1000) (moved_same f o n p b h.forest child h.here.1.place.inner) low));
       applied = refl;
     }
-change_led (Rewrite n words) name d h say low =
+change_led (change.SetText n words) name d h say low =
     record { fine = fine (Words n words) d (there d.trees n (there_by d.trees n _ say)) say refl; applied = refl }
-change_led (Redress n list) name d h say low =
+change_led (change.SetAttributes n list) name d h say low =
     record { fine = fine (Tag n name list) d (there d.trees n (there_by d.trees n _ h.here)) (named d.trees n name say) refl; applied = refl }
 
 pub make_led : (l : ℕ) (made : Made) (d : Labelled) → d.next ≤ l → l < d.cap → LeadsTo (Make l made) d (record d { trees = with_leaf d.trees l (made_content made); next = l + 1 })

@@ -2,7 +2,7 @@
 use Rattle.std.proofs.Common.{◌≡◌, ℕ, true, false, true≢false, ◌&&◌, Some, None, IfSome, Result, Ok, Err, refl, sym, ap, subst, ◌∙◌}
 use Rattle.std.specs.Prelude.{IfNone, IfOk, OnErr, IsErrOf, IsOkUnless, nat_le, nat_lt}
 use Rattle.std.specs.Result.{is_err}
-use Rattle.dom_model.specs.State.{State}
+use Rattle.dom_model.specs.ArenaState.{ArenaState}
 use Rattle.edit_steps.specs.declared.step.Step.{Step}
 use Rattle.edit_steps.specs.Step.{StepFits, step_applied}
 use Rattle.node_arena.specs.declared.NodeRef.{NodeRef}
@@ -16,7 +16,7 @@ use Rattle.step_text.specs.Applying.{labelled, fault_of, has_labels, has_place, 
 use Rattle.step_text.specs.Planning.{Applies, IsStepOf, Plans}
 use Rattle.step_text.proofs.Fitting.{bad_label, fine}
 
-module _ {A : Type 0} (x : StepLine) (a : State) where
+module _ {A : Type 0} (x : StepLine) (a : ArenaState) where
   pub refusal : (fault : StepFault) → fault_of x (labelled a) ≡ Some fault → Applies {A = A} x a a (Err fault)
   refusal fault h = record {
     refused = subst (λ o. IfSome o (λ e. IsErrOf {T = A} (Err fault) e)) (sym h) refl;
@@ -45,11 +45,11 @@ module _ {A : Type 0} (x : StepLine) (a : State) where
     err = tt;
   }
 
-make_fine : (l : ℕ) (made : Made) (a : State) → (nat_le a.next l && nat_lt l a.cap) ≡ true → fault_of (Make l made) (labelled a) ≡ None
+make_fine : (l : ℕ) (made : Made) (a : ArenaState) → (nat_le a.next l && nat_lt l a.cap) ≡ true → fault_of (Make l made) (labelled a) ≡ None
 unfolding has_labels has_place has_room
 make_fine l made a may = fine (Make l made) (labelled a) may refl refl
 
-module _ {A : Type 0} (l : ℕ) (made : Made) (a : State) where
+module _ {A : Type 0} (l : ℕ) (made : Made) (a : ArenaState) where
   pub make_refused : (nat_le a.next l && nat_lt l a.cap) ≡ false → Applies {A = A} (Make l made) a a (Err BadLabel)
   unfolding has_labels
   make_refused off = refusal (Make l made) a BadLabel (bad_label (Make l made) (labelled a) off)
@@ -57,7 +57,7 @@ module _ {A : Type 0} (l : ℕ) (made : Made) (a : State) where
   pub make_failed : (nat_le a.next l && nat_lt l a.cap) ≡ true → Applies {A = A} (Make l made) a a (Err Memory)
   make_failed may = failure (Make l made) a (make_fine l made a may)
 
-  pub make_done : (now : State) (r : NodeRef) (value : A) → (nat_le a.next l && nat_lt l a.cap) ≡ true → Makes (record a { next = l }) now r (made_content made) → Applies (Make l made) a now (Ok value)
+  pub make_done : (now : ArenaState) (r : NodeRef) (value : A) → (nat_le a.next l && nat_lt l a.cap) ≡ true → Makes (record a { next = l }) now r (made_content made) → Applies (Make l made) a now (Ok value)
   unfolding line_applied trees_after
   make_done now r value may m = record {
     refused = subst (λ o. IfSome o (λ e. IsErrOf {E = StepFault} (Ok value) e)) (sym (make_fine l made a may)) tt;
@@ -67,7 +67,7 @@ module _ {A : Type 0} (l : ℕ) (made : Made) (a : State) where
     err = tt;
   }
 
-pub entry_taken : {A : Type 0} (a : State) (value : A) → Applies Entry a a (Ok value)
+pub entry_taken : {A : Type 0} (a : ArenaState) (value : A) → Applies Entry a a (Ok value)
 unfolding has_labels has_place has_room line_applied trees_after
 entry_taken {A} a value =
     let h = fine Entry (labelled a) refl refl refl in
@@ -80,7 +80,7 @@ entry_taken {A} a value =
     }
 
 -- the step of a line fits
-pub planned_fits : (x : StepLine) (a : State) (r : Result Step StepFault) → Plans x a r → IfOk r (λ step. StepFits step a)
+pub planned_fits : (x : StepLine) (a : ArenaState) (r : Result Step StepFault) → Plans x a r → IfOk r (λ step. StepFits step a)
 planned_fits x a (Ok step) plan = plan.fits
 planned_fits x a (Err fault) plan = tt
 
@@ -95,6 +95,6 @@ at_ok P (Ok value) test h = (value, h)
 at_ok P (Err e) test h = absurd (true≢false test)
 
 -- the next label set on and back again
-pub set_back : (old skipped failed now : State) (l n : ℕ) → skipped ≡ record old { next = l } → failed ≡ skipped → n ≡ old.next → now ≡ record failed { next = n } → now ≡ old
+pub set_back : (old skipped failed now : ArenaState) (l n : ℕ) → skipped ≡ record old { next = l } → failed ≡ skipped → n ≡ old.next → now ≡ record failed { next = n } → now ≡ old
 set_back old skipped failed now l n on same is back =
-    back ∙ (ap (λ (s : State). record s { next = n }) (same ∙ on) ∙ ap (λ (k : ℕ). record old { next = k }) is)
+    back ∙ (ap (λ (s : ArenaState). record s { next = n }) (same ∙ on) ∙ ap (λ (k : ℕ). record old { next = k }) is)

@@ -5,10 +5,11 @@ use Rattle.dom_model.specs.declared.Content.{Content}
 use Rattle.dom_model.specs.declared.Content.TheVariants as content
 use Rattle.dom_model.specs.Contents.{has_name, is_parent_at}
 use Rattle.dom_model.specs.Forest.{Forest, content_of, parent_of, with_leaf}
-use Rattle.dom_model.specs.State.{State}
+use Rattle.dom_model.specs.ArenaState.{ArenaState}
 use Rattle.edit_model.specs.Confined.{is_there, is_place}
 use Rattle.edit_model.specs.Heights.{reach_of}
-use Rattle.forest_changes.specs.Change.{Loosen, Attach, Shift, Rewrite, Redress, applied}
+use Rattle.forest_changes.specs.Change.{applied}
+use Rattle.dom_model.specs.Change as change
 use Rattle.point_order.specs.PointOrder.{is_within, is_in_document}
 use Rattle.step_text.specs.declared.line.Made.{Made}
 use Rattle.step_text.specs.declared.line.Made.TheVariants.{Element, Words as OfWords}
@@ -23,7 +24,7 @@ pub record Labelled : Type 0 where
   pub next : ℕ
   pub cap : ℕ
 
-abbrev pub labelled : State → Labelled
+abbrev pub labelled : ArenaState → Labelled
 labelled a = record { trees = a.trees; next = a.next; cap = a.cap }
 
 -- ---- which lines fit
@@ -94,11 +95,11 @@ made_content (OfWords words) = content.Words words
 unfoldable pub trees_after : StepLine → Forest Content → Forest Content
 trees_after Entry f = f
 trees_after (Make l made) f = with_leaf f l (made_content made)
-trees_after (Insert l p b) f = applied (Attach l p b) f
-trees_after (Remove l) f = applied (Loosen l) f
-trees_after (Move l p b) f = applied (Shift l p b) f
-trees_after (Words l words) f = applied (Rewrite l words) f
-trees_after (Tag l name attributes) f = applied (Redress l attributes) f
+trees_after (Insert l p b) f = applied (change.Insert l p b) f
+trees_after (Remove l) f = applied (change.Remove l) f
+trees_after (Move l p b) f = applied (change.Move l p b) f
+trees_after (Words l words) f = applied (change.SetText l words) f
+trees_after (Tag l name attributes) f = applied (change.SetAttributes l attributes) f
 
 abbrev pub next_after : StepLine → ℕ → ℕ
 next_after (Make l made) next = l + 1

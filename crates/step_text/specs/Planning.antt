@@ -1,7 +1,7 @@
 -- How a step line is turned into a step of the arena before it is applied. Only `labelled` and the rest of `Applying`
 -- stand in public clauses.
 use Rattle.std.specs.Prelude.{◌≡◌, ℕ, Option, Some, None, IfSome, IfNone, Result, Ok, Err, OnOk, OnErr, IsErrOf, IsOkUnless}
-use Rattle.dom_model.specs.State.{State}
+use Rattle.dom_model.specs.ArenaState.{ArenaState}
 use Rattle.edit_steps.specs.declared.step.Step.{Step}
 use Rattle.edit_steps.specs.Step.{StepFits, change_of}
 use Rattle.forest_changes.specs.Change.{applied}
@@ -13,19 +13,19 @@ use Rattle.step_text.specs.declared.line.StepLine.{StepLine}
 use Rattle.step_text.specs.declared.apply.Placing.{Placing}
 
 -- the line fits, and the step fits the arena and does what the line does
-pub record IsStepOf (x : StepLine) (a : State) (step : Step) : Type 0 where
+pub record IsStepOf (x : StepLine) (a : ArenaState) (step : Step) : Type 0 where
   pub fine : fault_of x (labelled a) ≡ None
   pub fits : StepFits step a
   pub trees : trees_after x a.trees ≡ applied (change_of step) a.trees
   pub next : next_after x a.next ≡ a.next
 
 -- the step of the line, or why it doesn't fit
-abbrev pub Plans : StepLine → State → Result Step StepFault → Type 0
+abbrev pub Plans : StepLine → ArenaState → Result Step StepFault → Type 0
 Plans x a (Ok step) = IsStepOf x a step
 Plans x a (Err fault) = fault_of x (labelled a) ≡ Some fault
 
 -- the line is applied, or refused, and then all stays
-pub record Applies {A : Type 0} (x : StepLine) (old new : State) (result : Result A StepFault) : Type 0 where
+pub record Applies {A : Type 0} (x : StepLine) (old new : ArenaState) (result : Result A StepFault) : Type 0 where
   pub refused : IfSome (fault_of x (labelled old)) (λ fault. IsErrOf result fault)
   pub taken : IfNone (fault_of x (labelled old)) (IsOkUnless result Memory)
   pub applied : OnOk result (labelled new ≡ line_applied x (labelled old))
@@ -33,7 +33,7 @@ pub record Applies {A : Type 0} (x : StepLine) (old new : State) (result : Resul
   pub err : OnErr result (new ≡ old)
 
 -- the nodes of these labels
-pub record Places (a : State) (l p : ℕ) (b : Option ℕ) (found : Placing) : Type 0 where
+pub record Places (a : ArenaState) (l p : ℕ) (b : Option ℕ) (found : Placing) : Type 0 where
   pub node : found.node.label ≡ l
   pub parent : found.parent.label ≡ p
   pub before : label found.before ≡ b

@@ -3,23 +3,24 @@ use Rattle.std.specs.Prelude.{◌≡◌, ℕ, List, true, Some, None}
 use Rattle.dom_model.specs.declared.Content.{Content}
 use Rattle.dom_model.specs.Contents.{name_of}
 use Rattle.dom_model.specs.Forest.{Forest}
-use Rattle.forest_changes.specs.Change.{Change, Loosen, Attach, Shift, Rewrite, Redress}
+use Rattle.forest_changes.specs.Change.{Change}
+use Rattle.dom_model.specs.Change as change
 use Rattle.step_text.specs.Applying.{Labelled, fault_of, is_text_at, line_applied}
 use Rattle.step_text.specs.declared.line.StepLine.{StepLine}
 use Rattle.step_text.specs.declared.line.StepLine.TheVariants.{Insert, Remove, Move, Words, Tag}
 
 -- the line of a change, where the name is that of the element whose attributes change
 abbrev pub line_of : Change → List ℕ → StepLine
-line_of (Loosen n) name = Remove n
-line_of (Attach n p b) name = Insert n p b
-line_of (Shift n p b) name = Move n p b
-line_of (Rewrite n words) name = Words n words
-line_of (Redress n list) name = Tag n name list
+line_of (change.Remove n) name = Remove n
+line_of (change.Insert n p b) name = Insert n p b
+line_of (change.Move n p b) name = Move n p b
+line_of (change.SetText n words) name = Words n words
+line_of (change.SetAttributes n list) name = Tag n name list
 
 -- a line can say the change: it is one of the characters of a Text node, or the name is that of the element
 abbrev pub CanSay : Change → List ℕ → Forest Content → Type 0
-CanSay (Rewrite n words) name f = is_text_at f n ≡ true
-CanSay (Redress n list) name f = name_of f n ≡ Some name
+CanSay (change.SetText n words) name f = is_text_at f n ≡ true
+CanSay (change.SetAttributes n list) name f = name_of f n ≡ Some name
 CanSay _ name f = Unit {0}
 
 -- the line fits one document and makes another of it

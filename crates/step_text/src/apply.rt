@@ -81,7 +81,7 @@ fn make(arena: &mut Arena, label: u32, made: Made) -> Result<(), StepFault>
     if !can_draw(arena, label) {
         return Err(StepFault::BadLabel);
     }
-    arena.lawful();
+    arena.valid();
     let next = arena.next_label();
     if arena.skip_to(label).is_err() {
         return Err(StepFault::Memory);
@@ -143,7 +143,7 @@ fn find_placing(
     ensures found { IfOk result (Places arena.now label parent before) }
     ensures absent { IsOkUnless result StepFault.BadLabel }
 {
-    arena.lawful();
+    arena.valid();
     arena.slotted();
     let node = find(arena, label)?;
     let parent = find(arena, parent)?;
@@ -261,7 +261,7 @@ fn is_named(arena: &Arena, node: NodeRef, name: &Name) -> bool
 fn insertion(arena: &Arena, label: u32, parent: u32, before: Option<u32>) -> Result<Step, StepFault>
     ensures { Plans (StepLine.Insert label parent before) arena.now result }
 {
-    arena.lawful();
+    arena.valid();
     arena.slotted();
     let at = find_placing(arena, label, parent, before)?;
     if !may_insert(arena, at) {
@@ -281,7 +281,7 @@ fn insertion(arena: &Arena, label: u32, parent: u32, before: Option<u32>) -> Res
 fn removal(arena: &Arena, label: u32) -> Result<Step, StepFault>
     ensures { Plans (StepLine.Remove label) arena.now result }
 {
-    arena.lawful();
+    arena.valid();
     arena.slotted();
     let node = find(arena, label)?;
     if !has_parent(arena, node) {
@@ -294,7 +294,7 @@ fn removal(arena: &Arena, label: u32) -> Result<Step, StepFault>
 fn shift(arena: &Arena, label: u32, parent: u32, before: Option<u32>) -> Result<Step, StepFault>
     ensures { Plans (StepLine.Move label parent before) arena.now result }
 {
-    arena.lawful();
+    arena.valid();
     arena.slotted();
     let at = find_placing(arena, label, parent, before)?;
     if !may_move(arena, at) {
@@ -315,7 +315,7 @@ fn rewriting(arena: &Arena, label: u32, words: Chars) -> Result<Step, StepFault>
     requires { length words < 2 ^ 32 }
     ensures { Plans (StepLine.Words label words) arena.now result }
 {
-    arena.lawful();
+    arena.valid();
     arena.slotted();
     let node = find(arena, label)?;
     if !is_text(arena, node) {
@@ -333,7 +333,7 @@ fn redressing(
 ) -> Result<Step, StepFault>
     ensures { Plans (StepLine.Tag label name attributes) arena.now result }
 {
-    arena.lawful();
+    arena.valid();
     arena.slotted();
     let node = find(arena, label)?;
     if !is_named(arena, node, &name) {

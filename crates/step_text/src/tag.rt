@@ -206,7 +206,7 @@ fn read_start_tag(alloc: Global, text: &[u8]) -> Result<(Name, Attributes), Step
     let (name, attributes) = part_tag(text);
     let name = read_element_name(alloc, name)?;
     let attributes = read_attributes(alloc, attributes)?;
-    attributes.lawful();
+    attributes.valid();
     Ok((name, attributes))
 }
 

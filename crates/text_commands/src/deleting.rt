@@ -139,7 +139,7 @@ fn delete_at_start(alloc: Global, doc: &mut Doc) -> Result<bool, EditFault>
     ensures gives { Gives result doc.old.state doc.new.state command.delete_at_start }
     ensures keeps { Keeps doc.old doc.new }
 {
-    doc.lawful();
+    doc.valid();
     let Some(pair) = doc.points().selection() else {
         return Ok(true);
     };

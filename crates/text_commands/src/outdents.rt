@@ -28,7 +28,7 @@ fn has_indenter(doc: &Doc, node: NodeRef) -> bool
     requires { Holds doc.now node }
     ensures { result ≡ entries.has_indenter doc.now.state node.label }
 {
-    doc.lawful();
+    doc.valid();
     let mut at = node;
     while let Some(parent) = doc.parent(at) {
         if indents_line(doc, parent) {

@@ -71,7 +71,7 @@ fn first_between(
 fn first_content(alloc: Global, doc: &Doc) -> Result<Option<NodeRef>, AllocError>
     ensures { IfOk result (λ found. Finds doc.now found (containers.first_content doc.now.state)) }
 {
-    doc.lawful();
+    doc.valid();
     let Some(pair) = doc.points().selection() else {
         return Ok(None);
     };

@@ -20,7 +20,7 @@ pub(crate) fn active_start(doc: &Doc) -> Option<Point>
     ensures gives { result ≡ start.active_start doc.now.state }
     ensures there { IfSome result (λ at. 0 < count_of doc.now.state.trees at.label) }
 {
-    doc.lawful();
+    doc.valid();
     let pair = doc.points().selection()?;
     let (at, _) = ends_of(doc, pair);
     Some(at)

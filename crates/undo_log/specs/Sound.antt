@@ -45,7 +45,7 @@ module _ {T : Type 0} where
   shown us rs None n dropped = record { undo = us; redo = rs; open_entry = Closed; depth = n; dropped = dropped }
   shown us rs (Some o) n dropped = shown_with us rs o.noted o.kept n dropped
 
-pub record IsSound {T : Type 0} (undo_room redo_room : ℕ) (l : Log T) : Type 0 where
+pub record IsSoundLog {T : Type 0} (undo_room redo_room : ℕ) (l : Log T) : Type 0 where
   pub undo_room_is : undo_room ≡ l.depth
   pub redo_room_is : redo_room ≡ l.depth
   pub log : IsLog l

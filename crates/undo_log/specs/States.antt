@@ -24,17 +24,17 @@ pub record Both (T S : Type 0) : Type 0 where
   pub state : S
 
 -- the state after an edit, and the step that takes the edit back
-pub record Edit (T S : Type 0) : Type 0 where
+pub record LogEdit (T S : Type 0) : Type 0 where
   pub state : S
   pub step : T
 
 module _ {T S : Type 0} where
   -- the log with the steps of the edits noted, and the state after them
-  abbrev pub noted_all : Log T → List (Edit T S) → Log T
+  abbrev pub noted_all : Log T → List (LogEdit T S) → Log T
   noted_all l [] = l
   noted_all l (e ∷ es) = noted_all (with_step l e.step) es
 
-  abbrev pub state_after : S → List (Edit T S) → S
+  abbrev pub state_after : S → List (LogEdit T S) → S
   state_after s [] = s
   state_after s (e ∷ es) = state_after e.state es
 
@@ -102,7 +102,7 @@ module _ {T S : Type 0} (applied : T → S → S) where
     FitsAfter (e ∷ es) s = FitsForth applied fits e s × FitsAfter es (forth applied e s)
 
     -- each edit in turn is taken back by its step
-    abbrev pub TakenBack : S → List (Edit T S) → Type 0
+    abbrev pub TakenBack : S → List (LogEdit T S) → Type 0
     TakenBack s [] = Unit {0}
     TakenBack s (e ∷ es) = fits e.step e.state × (applied e.step e.state ≡ s) × TakenBack e.state es
 
@@ -156,7 +156,7 @@ module _ {T S : Type 0} (applied : T → S → S) (inverse : T → S → T) (fit
   -- A command: the log `opened` has an entry open since the state s, with no step noted, and then come the
   -- edits. Abandon gives the state s and the log `closed`; undo after a commit gives the state `before`,
   -- and redo after it the state at the commit
-  pub record Command (closed opened : Log T) (before s : S) (es : List (Edit T S)) : Type 0 where
+  pub record Command (closed opened : Log T) (before s : S) (es : List (LogEdit T S)) : Type 0 where
     pub follows : Follows applied fits (noted_all opened es) (state_after s es)
     pub abandon_state : start applied (noted_all opened es) (state_after s es) ≡ s
     pub abandon_log : abandoned (noted_all opened es) ≡ closed

@@ -9,7 +9,7 @@ ghost use Rattle.std.specs.Prelude.{◌≡◌, ℕ, ◌<◌, List, [], ◌∷◌
 ghost use Rattle.undo_log.specs.Turning.{FitsBack, FitsForth, TurnsBack, TurnsForth};
 ghost use Rattle.undo_log.specs.Log.{Log, IsLog, is_open, noted, empty, begun, resumed, with_step, undone_state};
 ghost use Rattle.undo_log.specs.Log.Open.{Closed};
-ghost use Rattle.undo_log.specs.States.{Move, Edit, TakenBack, start, kept_states, Follows, Keeps, Allows, Commits, Drops, Walks, Returns, Command};
+ghost use Rattle.undo_log.specs.States.{Move, LogEdit, TakenBack, start, kept_states, Follows, Keeps, Allows, Commits, Drops, Walks, Returns, Command};
 
 use crate::entry::Invertible;
 
@@ -72,9 +72,9 @@ where
 pub fn commands<T, S>()
 where
     T: Invertible<S>,
-    ensures begin { (l : Log T) (s : S) (es : List (Edit T S)) → IsLog l → l.open_entry ≡ Closed → Follows T.applied T.fits l s → TakenBack T.applied T.fits s es →
+    ensures begin { (l : Log T) (s : S) (es : List (LogEdit T S)) → IsLog l → l.open_entry ≡ Closed → Follows T.applied T.fits l s → TakenBack T.applied T.fits s es →
         Command T.applied T.inverse T.fits l (begun l) s s es }
-    ensures resume { (l : Log T) (s : S) (es : List (Edit T S)) → IsLog l → l.open_entry ≡ Closed → 0 < length l.undo → l.redo ≡ [] →
+    ensures resume { (l : Log T) (s : S) (es : List (LogEdit T S)) → IsLog l → l.open_entry ≡ Closed → 0 < length l.undo → l.redo ≡ [] →
         Follows T.applied T.fits l s → TakenBack T.applied T.fits s es → Command T.applied T.inverse T.fits l (resumed l) (undone_state T.applied l.undo s) s es }
 {}
 

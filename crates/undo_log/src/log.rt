@@ -35,7 +35,7 @@ pub struct UndoLog<T> {
 
 impl<T> Model for UndoLog<T> {
     ghost use Rattle.undo_log.specs.Log.{Log, log_code};
-    ghost use Rattle.undo_log.specs.Sound.{shown, IsSound};
+    ghost use Rattle.undo_log.specs.Sound.{shown, IsSoundLog};
 
     ghost Value = { Log T };
 
@@ -43,7 +43,7 @@ impl<T> Model for UndoLog<T> {
 
     ghost view = { λ l. shown l.undo.items l.redo.items l.open_entry l.depth l.dropped };
 
-    ghost invariant = { λ l. IsSound l.undo.capacity l.redo.capacity (shown l.undo.items l.redo.items l.open_entry l.depth l.dropped) };
+    ghost invariant = { λ l. IsSoundLog l.undo.capacity l.redo.capacity (shown l.undo.items l.redo.items l.open_entry l.depth l.dropped) };
 }
 
 impl<T: Drop> UndoLog<T> {
@@ -65,7 +65,7 @@ impl<T: Drop> UndoLog<T> {
     }
 
     /// What holds of every log. It does nothing.
-    pub fn lawful(&self)
+    pub fn valid(&self)
         ensures { IsLog self.now }
     {
         // What holds of the fields is known once one of them is used.

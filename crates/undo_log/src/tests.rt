@@ -126,7 +126,7 @@ impl<T: Invertible<S> + Drop, S: Drop, L: Ledger> Session<T, S, L> {
             return Committed::Nothing;
         }
         laws::commits::<T, S>();
-        self.log.lawful();
+        self.log.valid();
         self.busy = false;
         self.log.commit()
     }

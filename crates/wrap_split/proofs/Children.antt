@@ -44,7 +44,7 @@ module _ (d : Whole) (law : IsDoc d) (node : NodeRef) where
   f = d.state.trees
 
   once : IsDistinct f
-  once = law.lawful.forest.distinct
+  once = law.valid.forest.distinct
 
   kids_once : IsOnce (children_of f node.label)
   kids_once n = times-children_of f node.label n once

@@ -92,8 +92,8 @@ unfoldable pub prepend_break : ℕ → Run (Unit {0})
 prepend_break p = make_break >>= λ x. look λ s. insert p (first_of s.trees p) x >> done
 
 -- wrap, steps 8 and 11: whether a br has to part what p ends with from what comes after it there
-unfoldable pub joins_end : State → ℕ → Option ℕ → Option ℕ → Bool
-joins_end s p before after = is_block s.trees p && (is_inline s before && (is_inline s after && is_other s (last_of s.trees p)))
+unfoldable pub needs_br : State → ℕ → Option ℕ → Option ℕ → Bool
+needs_br s p before after = is_block s.trees p && (is_inline s before && (is_inline s after && is_other s (last_of s.trees p)))
 
 -- wrap, step 9: and what p begins with from the list that comes before it there
 unfoldable pub joins_front : State → ℕ → List ℕ → Bool
@@ -101,24 +101,24 @@ joins_front s p list =
     is_block s.trees p && (is_inline s (first_visible s (children_of s.trees p)) && (is_inline s (last_visible s list) && is_other s (last_in list)))
 
 -- wrap, steps 8 and 11
-unfoldable pub parted_end : ℕ → Option ℕ → Option ℕ → Run (Unit {0})
-parted_end p before after = look λ s. if joins_end s p before after then append_break p else done
+unfoldable pub separate_with_br : ℕ → Option ℕ → Option ℕ → Run (Unit {0})
+separate_with_br p before after = look λ s. if needs_br s p before after then append_break p else done
 
 -- wrap, step 8
-unfoldable pub to_end : ℕ → List ℕ → Run (Unit {0})
-to_end p list = look λ s. parted_end p (last_visible s (children_of s.trees p)) (first_visible s list) >> move_each_last list p
+unfoldable pub append_all : ℕ → List ℕ → Run (Unit {0})
+append_all p list = look λ s. separate_with_br p (last_visible s (children_of s.trees p)) (first_visible s list) >> move_each_last list p
 
 -- wrap, step 9
 unfoldable pub parted_front : ℕ → List ℕ → Run (Unit {0})
 parted_front p list = look λ s. if joins_front s p list then prepend_break p else done
 
 -- wrap, step 9
-unfoldable pub to_front : ℕ → List ℕ → Run (Unit {0})
-to_front p list = parted_front p list >> move_all_first list p
+unfoldable pub prepend_all : ℕ → List ℕ → Run (Unit {0})
+prepend_all p list = parted_front p list >> move_all_first list p
 
 -- wrap, steps 8 and 9: a is the first member
 unfoldable pub moved_in : ℕ → List ℕ → ℕ → Run (Unit {0})
-moved_in p list a = look λ s. if is_earlier s.trees p a then to_end p list else to_front p list
+moved_in p list a = look λ s. if is_earlier s.trees p a then append_all p list else prepend_all p list
 
 -- ---- the whole
 
@@ -127,8 +127,8 @@ unfoldable pub grow_at : ℕ → Run (Unit {0})
 grow_at p = look λ s. given (parent_of s.trees p) done λ q. grow (record { label = q; offset = index_of s.trees p })
 
 -- wrap, step 6: a p without a parent is put before a; points there then come after it
-unfoldable pub stood : ℕ → ℕ → Run (Unit {0})
-stood p a = look λ s. if is_none (parent_of s.trees p) then (insert_before a p >> grow_at p) else done
+unfoldable pub insert_if_loose : ℕ → ℕ → Run (Unit {0})
+insert_if_loose p a = look λ s. if is_none (parent_of s.trees p) then (insert_before a p >> grow_at p) else done
 
 -- wrap, step 10
 unfoldable pub drop_empty : ℕ → Run (Unit {0})
@@ -143,7 +143,7 @@ move_children p q = look λ s. move_each_last (children_of s.trees q) p
 -- wrap, step 11: the children of q, the sibling after p, go to the end of p, and q goes
 unfoldable pub merged : ℕ → ℕ → Run (Unit {0})
 merged p q = look λ s. do
-  parted_end p (last_of s.trees p) (first_of s.trees q)
+  separate_with_br p (last_of s.trees p) (first_of s.trees q)
   move_children p q
   remove q
   done
@@ -163,7 +163,7 @@ filled_from c p list a o = do
 
 -- wrap, steps 6 and 7, and then from 8 on
 unfoldable pub filled : Criterion → ℕ → List ℕ → ℕ → Run (Option ℕ)
-filled c p list a = stood p a >> look λ s. filled_from c p list a (parent_of s.trees a)
+filled c p list a = insert_if_loose p a >> look λ s. filled_from c p list a (parent_of s.trees a)
 
 unfoldable pub into_target : Criterion → List ℕ → ℕ → Option ℕ → Run (Option ℕ)
 into_target c list a p = given p (answer None) λ q. filled c q list a

@@ -5,7 +5,7 @@ ghost use Rattle.edit_model.specs.Gives.{Gives, label_of, labels_of};
 ghost use Rattle.edit_model.specs.Run.{final};
 ghost use Rattle.edit_doc.specs.Whole.{IsOpen, with_state};
 ghost use Rattle.edit_doc.specs.Held.{Holds, IfHeld, EachHeld, Keeps};
-ghost use Rattle.wrap_split.specs.Wrap.{is_inline, is_other, append_break, prepend_break, joins_end, joins_front, parted_end, to_end, parted_front, to_front, moved_in, grow_at, stood, drop_parent, move_children, merged};
+ghost use Rattle.wrap_split.specs.Wrap.{is_inline, is_other, append_break, prepend_break, needs_br, joins_front, separate_with_br, append_all, parted_front, prepend_all, moved_in, grow_at, insert_if_loose, drop_parent, move_children, merged};
 
 use crate::listing::{first_visible, last_visible};
 use crate::siblings::{first_visible_child, last_visible_child};
@@ -63,12 +63,12 @@ fn prepend_break(alloc: Global, doc: &mut Doc, node: NodeRef) -> Result<(), Edit
 }
 
 // Wrap, steps 8 and 11: whether a br has to part what the node ends with from what comes after it there.
-#[tactic(auto, unfolding(crate::specs::Wrap::joins_end))]
-fn joins_end(doc: &Doc, node: NodeRef, before: Option<NodeRef>, after: Option<NodeRef>) -> bool
+#[tactic(auto, unfolding(crate::specs::Wrap::needs_br))]
+fn needs_br(doc: &Doc, node: NodeRef, before: Option<NodeRef>, after: Option<NodeRef>) -> bool
     requires node_held { Holds doc.now node }
     requires before_held { IfHeld doc.now before }
     requires after_held { IfHeld doc.now after }
-    ensures { result ≡ joins_end doc.now.state node.label (label_of before) (label_of after) }
+    ensures { result ≡ needs_br doc.now.state node.label (label_of before) (label_of after) }
 {
     is_block(doc, node)
         && is_inline(doc, before)
@@ -91,7 +91,7 @@ fn joins_front(doc: &Doc, node: NodeRef, list: &[NodeRef]) -> bool
 }
 
 // Wrap, steps 8 and 11.
-#[tactic(auto, using(edit_model::proofs::Steps::steps, edit_model::proofs::Steps::exits), unfolding(crate::specs::Wrap::parted_end))]
+#[tactic(auto, using(edit_model::proofs::Steps::steps, edit_model::proofs::Steps::exits), unfolding(crate::specs::Wrap::separate_with_br))]
 fn part_end(
     alloc: Global,
     doc: &mut Doc,
@@ -103,18 +103,18 @@ fn part_end(
     requires node_held { Holds doc.old node }
     requires before_held { IfHeld doc.old before }
     requires after_held { IfHeld doc.old after }
-    ensures gives { Gives result doc.old.state doc.new.state (parted_end node.label (label_of before) (label_of after)) }
+    ensures gives { Gives result doc.old.state doc.new.state (separate_with_br node.label (label_of before) (label_of after)) }
     ensures keeps { Keeps doc.old doc.new }
 {
-    if joins_end(doc, node, before, after) {
+    if needs_br(doc, node, before, after) {
         append_break(alloc, doc, node)?;
     }
     Ok(())
 }
 
 // Wrap, step 8.
-#[tactic(auto, using(edit_model::proofs::Steps::steps, edit_model::proofs::Steps::exits), unfolding(crate::specs::Wrap::to_end))]
-fn move_to_end(
+#[tactic(auto, using(edit_model::proofs::Steps::steps, edit_model::proofs::Steps::exits), unfolding(crate::specs::Wrap::append_all))]
+fn move_append_all(
     alloc: Global,
     doc: &mut Doc,
     node: NodeRef,
@@ -123,7 +123,7 @@ fn move_to_end(
     requires open { IsOpen doc.old }
     requires node_held { Holds doc.old node }
     requires list_held { EachHeld doc.old list.now }
-    ensures gives { Gives result doc.old.state doc.new.state (to_end node.label (labels_of list.now)) }
+    ensures gives { Gives result doc.old.state doc.new.state (append_all node.label (labels_of list.now)) }
     ensures keeps { Keeps doc.old doc.new }
 {
     let before = last_visible_child(doc, node);
@@ -154,8 +154,8 @@ fn part_front(
 }
 
 // Wrap, step 9.
-#[tactic(auto, using(edit_model::proofs::Steps::steps, edit_model::proofs::Steps::exits), unfolding(crate::specs::Wrap::to_front))]
-fn move_to_front(
+#[tactic(auto, using(edit_model::proofs::Steps::steps, edit_model::proofs::Steps::exits), unfolding(crate::specs::Wrap::prepend_all))]
+fn move_prepend_all(
     alloc: Global,
     doc: &mut Doc,
     node: NodeRef,
@@ -165,7 +165,7 @@ fn move_to_front(
     requires some { 0 < length list.now }
     requires node_held { Holds doc.old node }
     requires list_held { EachHeld doc.old list.now }
-    ensures gives { Gives result doc.old.state doc.new.state (to_front node.label (labels_of list.now)) }
+    ensures gives { Gives result doc.old.state doc.new.state (prepend_all node.label (labels_of list.now)) }
     ensures keeps { Keeps doc.old doc.new }
 {
     part_front(alloc, doc, node, list)?;
@@ -190,9 +190,9 @@ pub(crate) fn move_in(
     ensures keeps { Keeps doc.old doc.new }
 {
     if is_earlier(doc, node, first) {
-        return move_to_end(alloc, doc, node, list);
+        return move_append_all(alloc, doc, node, list);
     }
-    move_to_front(alloc, doc, node, list)
+    move_prepend_all(alloc, doc, node, list)
 }
 
 // Wrap, step 6: the points at the place of a node, which was inserted there, grow.
@@ -206,12 +206,12 @@ fn grow_at(doc: &mut Doc, node: NodeRef)
 }
 
 // Wrap, step 6: puts a node that has no parent before the first member.
-#[tactic(auto, using(edit_model::proofs::Steps::steps, edit_model::proofs::Steps::exits), unfolding(crate::specs::Wrap::stood))]
+#[tactic(auto, using(edit_model::proofs::Steps::steps, edit_model::proofs::Steps::exits), unfolding(crate::specs::Wrap::insert_if_loose))]
 pub(crate) fn put_before(doc: &mut Doc, node: NodeRef, first: NodeRef) -> Result<(), EditFault>
     requires open { IsOpen doc.old }
     requires node_held { Holds doc.old node }
     requires first_held { Holds doc.old first }
-    ensures gives { Gives result doc.old.state doc.new.state (stood node.label first.label) }
+    ensures gives { Gives result doc.old.state doc.new.state (insert_if_loose node.label first.label) }
     ensures keeps { Keeps doc.old doc.new }
 {
     if doc.parent(node).is_none() {

@@ -12,7 +12,7 @@ pub(crate) fn first_visible_child(doc: &Doc, node: NodeRef) -> Option<NodeRef>
     requires { Holds doc.now node }
     ensures { Finds doc.now result (first_visible doc.now.state (children_of doc.now.state.trees node.label)) }
 {
-    doc.lawful();
+    doc.valid();
     let mut at = doc.first_child(node);
     while let Some(child) = at {
         if is_visible(doc, child) {
@@ -28,7 +28,7 @@ pub(crate) fn last_visible_child(doc: &Doc, node: NodeRef) -> Option<NodeRef>
     requires { Holds doc.now node }
     ensures { Finds doc.now result (last_visible doc.now.state (children_of doc.now.state.trees node.label)) }
 {
-    doc.lawful();
+    doc.valid();
     let mut at = doc.last_child(node);
     while let Some(child) = at {
         if is_visible(doc, child) {

@@ -20,7 +20,7 @@ fn last_within(doc: &Doc, node: NodeRef) -> NodeRef
     ensures last { last_within doc.now.state.trees node.label ≡ Some result.label }
     ensures held { Holds doc.now result }
 {
-    doc.lawful();
+    doc.valid();
     let mut at = node;
     while let Some(child) = doc.last_child(at) {
         at = child;

@@ -1,4 +1,4 @@
-use Rattle.page_grammar.proofs.PlantingLemmas.{planted}
+use Rattle.page_grammar.proofs.TreeConstructionLemmas.{planted}
 use Rattle.page_grammar.proofs.planted_events_are_the_document.Goals as goal
 
 pub returns : goal.returns

@@ -1,7 +1,7 @@
 use Rattle.std.proofs.Common.{ℕ, [], sym, subst, arith}
 use Rattle.page_grammar.specs.Reader as readers
-use Rattle.page_grammar.specs.Planting.{Planting}
-use Rattle.page_read.specs.Reading.{growth_of, IsHeld}
+use Rattle.page_grammar.specs.TreeConstruction.{TreeConstruction}
+use Rattle.page_read.specs.Reading.{construction_of, IsHeld}
 use Rattle.page_read.proofs.ReadLemmas.{HasRead, has_begun, takes_more, takes_no_more, ends_so, ends_not}
 use Rattle.page_read.proofs.read_page.Goals as goal
 
@@ -9,7 +9,7 @@ pub loop-at-init : goal.loop-at-init
 loop-at-init c =
     let reader = c.in_ok-reader.reader in
     record {
-      read = subst (λ (v : readers.Reader). HasRead c.args.cap [] v (growth_of reader)) (sym c.in_ok-reader.ensures.view) (subst (λ (g : Planting). HasRead c.args.cap [] (readers.begin 200) g) (sym c.in_ok-reader.ensures.seed) (has_begun c.args.cap));
+      read = subst (λ (v : readers.Reader). HasRead c.args.cap [] v (construction_of reader)) (sym c.in_ok-reader.ensures.view) (subst (λ (g : TreeConstruction). HasRead c.args.cap [] (readers.begin 200) g) (sym c.in_ok-reader.ensures.seed) (has_begun c.args.cap));
       held = c.in_ok-reader.ensures.held;
     }
 

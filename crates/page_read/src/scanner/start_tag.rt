@@ -8,13 +8,13 @@ ghost use Rattle.page_grammar.specs.Chars as classes;
 ghost use Rattle.page_grammar.specs.Page.{has_attribute};
 ghost use Rattle.dom_model.specs.AttributeList.{value_of};
 ghost use Rattle.page_read.specs.declared.scanner.Lexical.TheVariants.{Data, TagName, BeforeAttributeName, AttributeName, AfterAttributeName, BeforeAttributeValue, InAttributeValue, ValueReference, AfterAttributeValue, SelfClosing};
-ghost use Rattle.page_read.specs.View.{machine_of, planting_of, Went, Goes, read_attributes, AddsAttribute, MakesElement};
+ghost use Rattle.page_read.specs.View.{machine_of, tree_construction_of, Went, Goes, read_attributes, AddsAttribute, MakesElement};
 ghost use Rattle.page_read.specs.Steady.{Steady, IsFresh, taken};
-ghost use Rattle.page_grammar.specs.Planting.{innermost};
+ghost use Rattle.page_grammar.specs.TreeConstruction.{innermost};
 
 use super::{Lexical, Open, Scanner, encoded};
 use crate::classes::{is_attribute_name_char, is_name_char, is_quote, is_space, lower};
-use crate::growth::append_element;
+use crate::construction::append_element;
 use crate::names::is_refused;
 use crate::reference::{Reference, Turn};
 use dom_model::{Attributes, Chars, Name};
@@ -109,7 +109,7 @@ impl Scanner {
         requires below { self.old.arena.next < self.old.arena.cap }
         requires tag { taken self.old.lexical ≡ 1 }
         ensures name { OnOk result (machine_of self.new ≡ machine.at (machine_of self.old) (machine.AttributeName self.old.tag.items (read_attributes self.old.attributes) (classes.lower c ∷ []))) }
-        ensures kept { OnOk result (planting_of self.new ≡ planting_of self.old) }
+        ensures kept { OnOk result (tree_construction_of self.new ≡ tree_construction_of self.old) }
         ensures cap { OnOk result (self.new.arena.cap ≡ self.old.arena.cap) }
         ensures steady { OnOk result (Steady self.new) }
     {

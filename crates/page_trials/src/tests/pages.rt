@@ -36,7 +36,7 @@ pub(crate) fn node_of<N: Nodes>(nodes: &N, label: u32) -> Result<NodeRef, Fail>
 pub(crate) fn point_of<N: Nodes>(nodes: &N, at: (u32, u32)) -> Result<Point, Fail>
     ensures { IfOk result (λ p. 0 < count_of (N.trees nodes.now) p.label) }
 {
-    nodes.lawful();
+    nodes.valid();
     let node = node_of(nodes, at.0)?;
     Ok(point((node.label, at.1)))
 }

@@ -7,7 +7,7 @@ use Rattle.point_order.proofs.has_children.Goals as goal
 pub loop-left-init : goal.loop-left-init
 loop-left-init g c = record {
   held = c.first_child-child.ensures.held;
-  walked = walked_none (g.N.Nodes.trees c.args.nodes.now) c.lawful.ensures.distinct c.args.node.label c.args.count (label c.first_child-child.result) c.first_child-child.ensures.is;
+  walked = walked_none (g.N.Nodes.trees c.args.nodes.now) c.valid.ensures.distinct c.args.node.label c.args.count (label c.first_child-child.result) c.first_child-child.ensures.is;
 }
 
 pub next-child-requires : goal.next-child-requires
@@ -18,7 +18,7 @@ loop-left-preserved g c =
     let walked = rw c.in-Some.is at c.loop-left.invariant.walked in
     record {
       held = c.next-child.ensures.held;
-      walked = walked_on (g.N.Nodes.trees c.args.nodes.now) c.lawful.ensures.distinct c.args.node.label c.loop-left.left c.args.count c.in-Some.at.label (label c.next-child.result) c.loop-left-test.true walked c.next-child.ensures.is;
+      walked = walked_on (g.N.Nodes.trees c.args.nodes.now) c.valid.ensures.distinct c.args.node.label c.loop-left.left c.args.count c.in-Some.at.label (label c.next-child.result) c.loop-left-test.true walked c.next-child.ensures.is;
     }
 
 pub returns-in-None : goal.returns-in-None

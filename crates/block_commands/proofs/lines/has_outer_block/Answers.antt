@@ -18,7 +18,7 @@ returns-then-is_outer_block c =
     let s = c.args.doc.now.state in
     let held = rw c.in-Some.is at c.loop-at.invariant.held in
     let same = rw c.in-Some.is at c.loop-at.invariant.same in
-    let here = any_here (is_outer_block s) s.trees c.lawful.ensures.lawful.forest.distinct c.in-Some.above.label held.here in
+    let here = any_here (is_outer_block s) s.trees c.valid.ensures.valid.forest.distinct c.in-Some.above.label held.here in
     let met = sym c.is_outer_block.ensures ∙ c.if-is_outer_block.true in
     sym (ap (λ b. b || any_from (is_outer_block s) s.trees (parent_of s.trees c.in-Some.above.label)) met) ∙ sym here ∙ same
 
@@ -26,14 +26,14 @@ pub loop-at-smaller : goal.loop-at-smaller
 loop-at-smaller c =
     let f = c.args.doc.now.state.trees in
     let held = rw c.in-Some.is at c.loop-at.invariant.held in
-    rw (c.in-Some.is, c.parent-at-in-Some.ensures.is) (lower (is_outer_block c.args.doc.now.state) f c.lawful.ensures.lawful.forest.distinct c.in-Some.above.label held.here)
+    rw (c.in-Some.is, c.parent-at-in-Some.ensures.is) (lower (is_outer_block c.args.doc.now.state) f c.valid.ensures.valid.forest.distinct c.in-Some.above.label held.here)
 
 pub loop-at-preserved : goal.loop-at-preserved
 loop-at-preserved c =
     let s = c.args.doc.now.state in
     let held = rw c.in-Some.is at c.loop-at.invariant.held in
     let same = rw c.in-Some.is at c.loop-at.invariant.same in
-    let here = any_here (is_outer_block s) s.trees c.lawful.ensures.lawful.forest.distinct c.in-Some.above.label held.here in
+    let here = any_here (is_outer_block s) s.trees c.valid.ensures.valid.forest.distinct c.in-Some.above.label held.here in
     let off = sym c.is_outer_block.ensures ∙ c.if-is_outer_block.false in
     record {
       held = c.parent-at-in-Some.ensures.held;

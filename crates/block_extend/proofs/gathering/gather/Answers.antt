@@ -18,7 +18,7 @@ loop-node-init g c =
     record {
       held = λ k d low. absurd (omega (arith, ap length empty, low));
       last = tt;
-      same = ap (λ ys. labels ys ++ gather_after f None chosen) empty ∙ sym (gather_in_order f c.lawful.ensures.distinct chosen c.requires.order.among);
+      same = ap (λ ys. labels ys ++ gather_after f None chosen) empty ∙ sym (gather_in_order f c.valid.ensures.distinct chosen c.requires.order.among);
     }
 
 pub loop-node-preserved : goal.loop-node-preserved

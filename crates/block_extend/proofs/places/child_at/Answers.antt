@@ -9,6 +9,6 @@ loop-index-preserved g c =
     let next = c.next-child.ensures in
     let low = c.loop-index-test.true in
     record {
-      named = record { is = next.is ∙ kid_next f c.lawful.ensures.distinct c.args.node.label c.loop-index.index c.in-Some.at.label (sym named.is); held = next.held };
+      named = record { is = next.is ∙ kid_next f c.valid.ensures.distinct c.args.node.label c.loop-index.index c.in-Some.at.label (sym named.is); held = next.held };
       low = omega (arith, low);
     }

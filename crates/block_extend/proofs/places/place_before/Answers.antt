@@ -17,4 +17,4 @@ returns-in-Some g c =
     let index : c.index.result ≡ index_of f l = c.index.ensures in
     let to : out_of f l 0 ≡ Some (record { label = p.label; offset = c.index.result }) =
     ap (option_map (λ q. record { label = q; offset = index_of f l + 0 })) child ∙ ap (λ n. Some (record { label = p.label; offset = n })) (rw add-zero (sym index)) in
-    (to, subst (λ n. Stands (g.N.Nodes.holds c.args.nodes.now) f (record { node = p; offset = n; before = c.prev.result; after = Some c.args.node })) (sym index) (stands_before c.lawful.ensures c.args.node p child c.requires named.held c.prev.result c.prev.ensures))
+    (to, subst (λ n. Stands (g.N.Nodes.holds c.args.nodes.now) f (record { node = p; offset = n; before = c.prev.result; after = Some c.args.node })) (sym index) (stands_before c.valid.ensures c.args.node p child c.requires named.held c.prev.result c.prev.ensures))

@@ -1,5 +1,5 @@
-use Rattle.command_laws.proofs.TogglingRuns.{tame_toggle_script}
+use Rattle.command_laws.proofs.TogglingRuns.{order_preserving_toggle_script}
 use Rattle.command_laws.proofs.inline.toggle_script_keeps_order.Goals as goal
 
 pub returns : goal.returns
-returns c = λ command. tame_toggle_script command
+returns c = λ command. order_preserving_toggle_script command

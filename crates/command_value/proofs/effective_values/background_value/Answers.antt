@@ -12,13 +12,13 @@ pub returns-then-not-colour : goal.returns-then-not-colour
 returns-then-not-colour g c =
     let shown = c.background_color-colour.ensures in
     shown
-    ∙ shows_here c.lawful.ensures c.walk.left c.walk.at c.walk.invariant.held (ap (λ (x : Colour). x.clear) (sym shown) ∙ opaque c.background_color-colour.result.clear c.if-not-colour.true)
+    ∙ shows_here c.valid.ensures c.walk.left c.walk.at c.walk.invariant.held (ap (λ (x : Colour). x.clear) (sym shown) ∙ opaque c.background_color-colour.result.clear c.if-not-colour.true)
     ∙ c.walk.invariant.same
 
 pub returns-in-None : goal.returns-in-None
 returns-in-None g c =
     c.background_color-colour.ensures
-    ∙ top_shows c.lawful.ensures c.walk.left c.walk.at c.walk.invariant.held (sym c.in-None.ensures.is)
+    ∙ top_shows c.valid.ensures c.walk.left c.walk.at c.walk.invariant.held (sym c.in-None.ensures.is)
     ∙ c.walk.invariant.same
 
 pub walk-preserved : goal.walk-preserved
@@ -29,7 +29,7 @@ walk-preserved g c =
     record {
       held = c.in-Some.ensures.held;
       same =
-          sym (goes_up c.lawful.ensures (c.walk.left - 1) c.walk.at p c.walk.invariant.held c.in-Some.ensures.held (ap (λ (x : Colour). x.clear) (sym c.background_color-colour.ensures) ∙ transparent_one c.background_color-colour.result.clear c.if-not-colour.false) (sym c.in-Some.ensures.is))
+          sym (goes_up c.valid.ensures (c.walk.left - 1) c.walk.at p c.walk.invariant.held c.in-Some.ensures.held (ap (λ (x : Colour). x.clear) (sym c.background_color-colour.ensures) ∙ transparent_one c.background_color-colour.result.clear c.if-not-colour.false) (sym c.in-Some.ensures.is))
           ∙ ap (λ n. background_in n (lineage f c.walk.at.label)) more
           ∙ c.walk.invariant.same;
     }
@@ -39,6 +39,6 @@ returns g c =
     let f = g.N.Nodes.trees c.args.nodes.now in
     let none : 0 ≡ c.walk.left = omega (arith, c.walk-test.false) in
     c.background_color.ensures
-    ∙ last_turn c.lawful.ensures c.walk.at c.walk.invariant.held
+    ∙ last_turn c.valid.ensures c.walk.at c.walk.invariant.held
     ∙ ap (λ n. background_in n (lineage f c.walk.at.label)) none
     ∙ c.walk.invariant.same

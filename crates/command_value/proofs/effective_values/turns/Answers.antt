@@ -13,7 +13,7 @@ returns-then-is_within g c =
     let f = g.N.Nodes.trees c.args.nodes.now in
     let l = c.args.node.label in
     let inside : IsWithin f 0 l = subst (λ k. IsWithin f k l) c.document.ensures.label (c.is_within.ensures.0 c.if-is_within.true) in
-    enough c.next_label.result (turn_bound f) (lineage f l) (omega (arith, lineage_short f l, c.lawful.ensures.few, c.next_label.ensures)) (omega (arith, lineage_within c.lawful.ensures l inside))
+    enough c.next_label.result (turn_bound f) (lineage f l) (omega (arith, lineage_short f l, c.valid.ensures.few, c.next_label.ensures)) (omega (arith, lineage_within c.valid.ensures l inside))
 
 pub returns-else-is_within : goal.returns-else-is_within
 returns-else-is_within g c =

@@ -10,9 +10,9 @@ pub returns-in-Some : goal.returns-in-Some
 unfolding is_activated
 returns-in-Some g c =
     c.is_on.ensures
-    ∙ sym (ap (λ (v : Option (List ℕ)). option_map_or (is_one_of (activated_values c.args.command)) v false) (value_some c.lawful.ensures c.args.node.label c.args.command c.in-Some.element c.in-Some.ensures.held c.in-Some.ensures.line))
+    ∙ sym (ap (λ (v : Option (List ℕ)). option_map_or (is_one_of (activated_values c.args.command)) v false) (value_some c.valid.ensures c.args.node.label c.args.command c.in-Some.element c.in-Some.ensures.held c.in-Some.ensures.line))
 
 pub returns-in-None : goal.returns-in-None
 unfolding is_activated
 returns-in-None g c =
-    sym (ap (λ (v : Option (List ℕ)). option_map_or (is_one_of (activated_values c.args.command)) v false) (value_none c.lawful.ensures c.args.node.label c.args.command c.in-None.ensures.line))
+    sym (ap (λ (v : Option (List ℕ)). option_map_or (is_one_of (activated_values c.args.command)) v false) (value_none c.valid.ensures c.args.node.label c.args.command c.in-None.ensures.line))

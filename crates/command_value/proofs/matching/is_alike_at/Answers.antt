@@ -7,8 +7,8 @@ use Rattle.command_value.proofs.matching.is_alike_at.Goals as goal
 pub returns-in-Some : goal.returns-in-Some
 returns-in-Some g c =
     c.is_alike.ensures
-    ∙ sym (ap (λ (v : Option (List ℕ)). option_map_or (λ own. are_alike c.args.command own c.args.text.now) v false) (value_some c.lawful.ensures c.args.node.label c.args.command c.in-Some.element c.in-Some.ensures.held c.in-Some.ensures.line))
+    ∙ sym (ap (λ (v : Option (List ℕ)). option_map_or (λ own. are_alike c.args.command own c.args.text.now) v false) (value_some c.valid.ensures c.args.node.label c.args.command c.in-Some.element c.in-Some.ensures.held c.in-Some.ensures.line))
 
 pub returns-in-None : goal.returns-in-None
 returns-in-None g c =
-    sym (ap (λ (v : Option (List ℕ)). option_map_or (λ own. are_alike c.args.command own c.args.text.now) v false) (value_none c.lawful.ensures c.args.node.label c.args.command c.in-None.ensures.line))
+    sym (ap (λ (v : Option (List ℕ)). option_map_or (λ own. are_alike c.args.command own c.args.text.now) v false) (value_none c.valid.ensures c.args.node.label c.args.command c.in-None.ensures.line))

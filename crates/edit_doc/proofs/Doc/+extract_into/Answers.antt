@@ -13,7 +13,7 @@ pub carry_from-requires-clause-possible : goal.carry_from-requires-clause-possib
 carry_from-requires-clause-possible t c =
     let a = c.args in
     let s = a.self.now.state in
-    let law = c.lawful.ensures.lawful in
+    let law = c.valid.ensures.valid in
     let known = c.requires.end_held.here in
     let kids : labels_of c.deref.result.now ≡ children_of s.trees a.end.label = ap labels_of c.deref.ensures.value ∙ c.in_ok-children.ensures.children in
     ap (λ ks. are_possible (carried a.target.label (drop a.from.offset ks)) s) kids ∙ (ap (λ xs. are_possible xs s) (sym (tail_here s law a.from a.end.label a.target.label known c.if-end-from.true)) ∙ c.requires.possible)
@@ -22,7 +22,7 @@ pub returns-then-end-from-clause-steps : goal.returns-then-end-from-clause-steps
 returns-then-end-from-clause-steps t c =
     let a = c.args in
     let s = a.self.now.state in
-    let law = c.lawful.ensures.lawful in
+    let law = c.valid.ensures.valid in
     let known = c.requires.end_held.here in
     let kids : labels_of c.deref.result.now ≡ children_of s.trees a.end.label = ap labels_of c.deref.ensures.value ∙ c.in_ok-children.ensures.children in
     subst (MakesSteps c.carry_from.result s c.carry_from.new.self.state) (ap (λ ks. carried a.target.label (drop a.from.offset ks)) kids ∙ sym (tail_here s law a.from a.end.label a.target.label known c.if-end-from.true)) c.carry_from.ensures.steps
@@ -31,7 +31,7 @@ pub returns-in_default-clause-steps : goal.returns-in_default-clause-steps
 returns-in_default-clause-steps t c =
     let a = c.args in
     let s = a.self.now.state in
-    let law = c.lawful.ensures.lawful in
+    let law = c.valid.ensures.valid in
     let known = c.requires.end_held.here in
     nothing_made s law a.from a.end.label a.target.label known c.if-end-from.false (ap (child_toward s.trees a.end.label) (sym c.requires.is) ∙ sym c.in_default.ensures.is)
 
@@ -39,7 +39,7 @@ pub copy_without_id-requires-clause-element : goal.copy_without_id-requires-clau
 copy_without_id-requires-clause-element t c =
     let a = c.args in
     let s = a.self.now.state in
-    let law = c.lawful.ensures.lawful in
+    let law = c.valid.ensures.valid in
     let known = c.requires.end_held.here in
     let toward : child_toward s.trees a.end.label a.from.label ≡ Some c.in-Some.child.label = ap (child_toward s.trees a.end.label) (sym c.requires.is) ∙ sym c.in-Some.ensures.is in
     child_element s law a.from a.end.label a.target.label known c.if-end-from.false c.in-Some.child.label toward c.requires.parent
@@ -48,7 +48,7 @@ pub returns-in_err-copy-clause-steps : goal.returns-in_err-copy-clause-steps
 returns-in_err-copy-clause-steps t c =
     let a = c.args in
     let s = a.self.now.state in
-    let law = c.lawful.ensures.lawful in
+    let law = c.valid.ensures.valid in
     let known = c.requires.end_held.here in
     let toward : child_toward s.trees a.end.label a.from.label ≡ Some c.in-Some.child.label = ap (child_toward s.trees a.end.label) (sym c.requires.is) ∙ sym c.in-Some.ensures.is in
     exit_steps c.from_residual-in_err-copy.result c.in_err-copy.field-0.0 s c.copy_without_id.new.self.state _ c.from_residual-in_err-copy.ensures.1 (copy_fails s law a.from a.end.label a.target.label known c.if-end-from.false c.in-Some.child.label toward c.in_err-copy.field-0.0 c.in_err-copy.ensures.steps)
@@ -57,7 +57,7 @@ pub extract_into-requires : goal.extract_into-requires
 extract_into-requires t c =
     let a = c.args in
     let s = a.self.now.state in
-    let law = c.lawful.ensures.lawful in
+    let law = c.valid.ensures.valid in
     let known = c.requires.end_held.here in
     let toward : child_toward s.trees a.end.label a.from.label ≡ Some c.in-Some.child.label = ap (child_toward s.trees a.end.label) (sym c.requires.is) ∙ sym c.in-Some.ensures.is in
     let keeps = c.in_ok-copy.ensures.keeps in
@@ -83,7 +83,7 @@ pub returns-in_err-extract_into-clause-steps : goal.returns-in_err-extract_into-
 returns-in_err-extract_into-clause-steps t c =
     let a = c.args in
     let s = a.self.now.state in
-    let law = c.lawful.ensures.lawful in
+    let law = c.valid.ensures.valid in
     let known = c.requires.end_held.here in
     let toward : child_toward s.trees a.end.label a.from.label ≡ Some c.in-Some.child.label = ap (child_toward s.trees a.end.label) (sym c.requires.is) ∙ sym c.in-Some.ensures.is in
     exit_steps c.from_residual-in_err-extract_into.result c.in_err-extract_into.field-0.0 s c.extract_into.new.self.state _ c.from_residual-in_err-extract_into.ensures.1
@@ -93,7 +93,7 @@ pub link-requires-clause-possible : goal.link-requires-clause-possible
 link-requires-clause-possible t c =
     let a = c.args in
     let s = a.self.now.state in
-    let law = c.lawful.ensures.lawful in
+    let law = c.valid.ensures.valid in
     let known = c.requires.end_held.here in
     let toward : child_toward s.trees a.end.label a.from.label ≡ Some c.in-Some.child.label = ap (child_toward s.trees a.end.label) (sym c.requires.is) ∙ sym c.in-Some.ensures.is in
     link_may s law a.from a.end.label a.target.label known c.if-end-from.false c.in-Some.child.label toward c.copy_without_id.new.self.state c.in_ok-copy.copy.label c.in_ok-copy.ensures.steps c.in_ok-copy.ensures.label c.extract_into.new.self.state c.in_ok-extract_into.ensures.steps c.requires.possible
@@ -102,7 +102,7 @@ pub carry_from-requires-2-clause-possible : goal.carry_from-requires-2-clause-po
 carry_from-requires-2-clause-possible t c =
     let a = c.args in
     let s = a.self.now.state in
-    let law = c.lawful.ensures.lawful in
+    let law = c.valid.ensures.valid in
     let known = c.requires.end_held.here in
     let toward : child_toward s.trees a.end.label a.from.label ≡ Some c.in-Some.child.label = ap (child_toward s.trees a.end.label) (sym c.requires.is) ∙ sym c.in-Some.ensures.is in
     rest_may s law a.from a.end.label a.target.label known c.if-end-from.false c.in-Some.child.label toward c.copy_without_id.new.self.state c.in_ok-copy.copy.label c.in_ok-copy.ensures.steps c.in_ok-copy.ensures.label c.extract_into.new.self.state c.in_ok-extract_into.ensures.steps c.link.new.self.state c.in_ok-link.ensures.linked c.index_after-after.result c.index_after-after.ensures (labels_of c.deref-2.result.now) (ap labels_of c.deref-2.ensures.value ∙ c.in_ok-children.ensures.children) c.requires.possible
@@ -111,7 +111,7 @@ pub returns-clause-steps : goal.returns-clause-steps
 returns-clause-steps t c =
     let a = c.args in
     let s = a.self.now.state in
-    let law = c.lawful.ensures.lawful in
+    let law = c.valid.ensures.valid in
     let known = c.requires.end_held.here in
     let toward : child_toward s.trees a.end.label a.from.label ≡ Some c.in-Some.child.label = ap (child_toward s.trees a.end.label) (sym c.requires.is) ∙ sym c.in-Some.ensures.is in
     whole_makes s law a.from a.end.label a.target.label known c.if-end-from.false c.in-Some.child.label toward c.copy_without_id.new.self.state c.in_ok-copy.copy.label c.in_ok-copy.ensures.steps c.in_ok-copy.ensures.label c.extract_into.new.self.state c.in_ok-extract_into.ensures.steps c.link.new.self.state c.in_ok-link.ensures.linked c.index_after-after.result c.index_after-after.ensures (labels_of c.deref-2.result.now) (ap labels_of c.deref-2.ensures.value ∙ c.in_ok-children.ensures.children) c.carry_from-2.result c.carry_from-2.new.self.state c.carry_from-2.ensures.steps

@@ -13,9 +13,9 @@ keeps c = subst (λ xs. IsKept c.self.inside.points xs c.self.inside.flags c.sel
 pub invariant_of-self : goal.invariant_of-self
 invariant_of-self c =
     let closed = closed_of c.self.inside _ c.self.view_is c.requires.closed in
-    rw c.begin.ensures (begin_ok c.self.inside c.lawful.ensures closed c.self.invariant c.in_ok-kept.kept c.args.host c.args.keeping (keeps c) (subst (λ (w : Whole). IfHeld w c.args.host) (sym c.self.view_is) c.requires.host_held))
+    rw c.begin.ensures (begin_ok c.self.inside c.valid.ensures closed c.self.invariant c.in_ok-kept.kept c.args.host c.args.keeping (keeps c) (subst (λ (w : Whole). IfHeld w c.args.host) (sym c.self.view_is) c.requires.host_held))
 
 pub returns-clause-begun : goal.returns-clause-begun
 returns-clause-begun c =
     let closed = closed_of c.self.inside _ c.self.view_is c.requires.closed in
-    rw c.begin.ensures (begin_is c.self.inside c.lawful.ensures closed c.self.invariant c.in_ok-kept.kept c.args.host c.args.keeping (keeps c) ∙ ap (opened (label_of c.args.host) c.args.keeping _) c.self.view_is)
+    rw c.begin.ensures (begin_is c.self.inside c.valid.ensures closed c.self.invariant c.in_ok-kept.kept c.args.host c.args.keeping (keeps c) ∙ ap (opened (label_of c.args.host) c.args.keeping _) c.self.view_is)

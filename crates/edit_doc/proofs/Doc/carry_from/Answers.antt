@@ -4,7 +4,7 @@ use Rattle.edit_model.specs.Gives.{Fails}
 use Rattle.edit_model.specs.Possible.{are_possible}
 use Rattle.edit_model.specs.Tail.{carried}
 use Rattle.edit_doc.proofs.Edited.{keeps_same, keeps_on}
-use Rattle.edit_doc.proofs.Tails.{labels-drop, exit_steps, carry_may, carry_fault, left_may, left_ends, carried_end}
+use Rattle.edit_doc.proofs.Tails.{labels-drop, exit_steps, carry_may, carry_fault, detached_may, detached_ends, carried_end}
 use Rattle.edit_doc.proofs.Doc.carry_from.Goals as goal
 
 pub loop-i-init : goal.loop-i-init
@@ -33,8 +33,8 @@ loop-i-preserved c =
     let t = c.carry.new.self.state in
     let is = c.in_ok-carry.ensures.steps in
     record {
-      possible = left_may a.target.label a.list.now c.loop-i.i c.loop-i-test.true s t is c.loop-i.invariant.possible;
-      ends = left_ends a.target.label a.list.now c.loop-i.i c.loop-i-test.true s t is ∙ c.loop-i.invariant.ends;
+      possible = detached_may a.target.label a.list.now c.loop-i.i c.loop-i-test.true s t is c.loop-i.invariant.possible;
+      ends = detached_ends a.target.label a.list.now c.loop-i.i c.loop-i-test.true s t is ∙ c.loop-i.invariant.ends;
       keeps = keeps_on a.self.now c.loop-i.self c.carry.new.self c.loop-i.invariant.keeps c.in_ok-carry.ensures.keeps;
     }
 

@@ -6,15 +6,15 @@ loop-at-init c =
     let d = c.args.self.now in
     record {
       held = c.first_child-at.ensures.held;
-      inner = first_child_is d c.lawful.ensures c.args.node c.requires c.first_child-at.result c.first_child-at.ensures;
+      inner = first_child_is d c.valid.ensures c.args.node c.requires c.first_child-at.result c.first_child-at.ensures;
       each = none_held d c.new-list.result.items c.new-list.ensures.items;
-      made = first_made d c.lawful.ensures c.args.node c.requires c.first_child-at.result c.first_child-at.ensures c.new-list.result.items c.new-list.ensures.items;
+      made = first_made d c.valid.ensures c.args.node c.requires c.first_child-at.result c.first_child-at.ensures c.new-list.result.items c.new-list.ensures.items;
     }
 
 pub loop-at-smaller : goal.loop-at-smaller
 loop-at-smaller c =
     let i = c.loop-at.invariant in
-    next_smaller c.args.self.now c.lawful.ensures c.args.node c.loop-at.at c.in-Some.child c.in-Some.is i.held i.inner c.next-at.result c.next-at.ensures
+    next_smaller c.args.self.now c.valid.ensures c.args.node c.loop-at.at c.in-Some.child c.in-Some.is i.held i.inner c.next-at.result c.next-at.ensures
 
 pub loop-at-preserved : goal.loop-at-preserved
 loop-at-preserved c =
@@ -22,7 +22,7 @@ loop-at-preserved c =
     let i = c.loop-at.invariant in
     record {
       held = c.next-at.ensures.held;
-      inner = next_child_is d c.lawful.ensures c.args.node c.loop-at.at c.in-Some.child c.in-Some.is i.held i.inner c.next-at.result c.next-at.ensures;
-      each = pushed_held d c.loop-at.list.items _ c.in-Some.child i.each (child_held d c.lawful.ensures c.args.node c.loop-at.at c.in-Some.child c.in-Some.is i.held i.inner) c.in_ok-push.ensures.items;
-      made = next_made d c.lawful.ensures c.args.node c.loop-at.at c.in-Some.child c.in-Some.is i.held i.inner c.next-at.result c.next-at.ensures c.loop-at.list.items _ _ i.made c.in_ok-push.ensures.items;
+      inner = next_child_is d c.valid.ensures c.args.node c.loop-at.at c.in-Some.child c.in-Some.is i.held i.inner c.next-at.result c.next-at.ensures;
+      each = pushed_held d c.loop-at.list.items _ c.in-Some.child i.each (child_held d c.valid.ensures c.args.node c.loop-at.at c.in-Some.child c.in-Some.is i.held i.inner) c.in_ok-push.ensures.items;
+      made = next_made d c.valid.ensures c.args.node c.loop-at.at c.in-Some.child c.in-Some.is i.held i.inner c.next-at.result c.next-at.ensures c.loop-at.list.items _ _ i.made c.in_ok-push.ensures.items;
     }

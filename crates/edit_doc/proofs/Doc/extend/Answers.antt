@@ -3,7 +3,7 @@ use Rattle.live_range.specs.declared.places.Pair.{Pair}
 use Rattle.live_range.specs.declared.places.Point.{Point}
 use Rattle.edit_model.specs.Action.{Extend, acted, extended, extended_from, with_selection}
 use Rattle.edit_model.specs.Confined.{may_select}
-use Rattle.edit_model.specs.Lawful.{IsPlacedPair}
+use Rattle.edit_model.specs.Valid.{IsPlacedPair}
 use Rattle.edit_model.specs.State.{State}
 use Rattle.edit_doc.specs.declared.Doc.TheInside.{Inside}
 use Rattle.edit_doc.specs.Whole.{Whole, with_state}
@@ -12,7 +12,7 @@ use Rattle.edit_doc.proofs.Doc.extend.Goals as goal
 
 chosen : (d : Inside) (v : Whole) (pair : Pair) → Ok d → seen d ≡ v → d.points.selection ≡ Some pair → IsPlacedPair v.state.trees pair
 chosen d v pair ok is e =
-    subst (λ (w : Whole). IsPlacedPair w.state.trees pair) is (subst (λ o. IfSome o (IsPlacedPair (seen d).state.trees)) e ok.lawful.placed.selection)
+    subst (λ (w : Whole). IsPlacedPair w.state.trees pair) is (subst (λ o. IfSome o (IsPlacedPair (seen d).state.trees)) e ok.valid.placed.selection)
 
 pub put_selection-requires : goal.put_selection-requires
 unfolding may_select

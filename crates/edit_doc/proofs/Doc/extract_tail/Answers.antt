@@ -20,9 +20,9 @@ extract_into-requires-clause-parent c =
 pub extract_into-requires-clause-possible : goal.extract_into-requires-clause-possible
 extract_into-requires-clause-possible c =
     let a = c.args in
-    at_possible a.self.now.state c.lawful.ensures.lawful a.from a.end.label a.target.label (sym c.may_extract.ensures ∙ c.if-not-may_extract.false)
+    at_possible a.self.now.state c.valid.ensures.valid a.from a.end.label a.target.label (sym c.may_extract.ensures ∙ c.if-not-may_extract.false)
 
 pub returns-clause-gives : goal.returns-clause-gives
 returns-clause-gives c =
     let a = c.args in
-    gives_extracted a.self.now.state c.lawful.ensures.lawful a.from a.end.label a.target.label (sym c.may_extract.ensures ∙ c.if-not-may_extract.false) c.extract_into.result c.extract_into.new.self.state c.extract_into.ensures.steps
+    gives_extracted a.self.now.state c.valid.ensures.valid a.from a.end.label a.target.label (sym c.may_extract.ensures ∙ c.if-not-may_extract.false) c.extract_into.result c.extract_into.new.self.state c.extract_into.ensures.steps

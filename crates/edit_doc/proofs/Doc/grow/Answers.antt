@@ -3,13 +3,13 @@ use Rattle.std.specs.Prelude.{map}
 use Rattle.std.specs.Vec.{with_items}
 use Rattle.std.specs.Option.{option_map}
 use Rattle.std.proofs.lemmas.List.{with_items_is}
-use Rattle.live_range.specs.Edit as range
-use Rattle.live_range.specs.Edit.{adjusted_pair}
+use Rattle.live_range.specs.PointsEdit as range
+use Rattle.live_range.specs.PointsEdit.{adjusted_pair}
 use Rattle.live_range.specs.LivePoints.{mapped, at_pair}
 use Rattle.edit_model.specs.Action.{acted, grown}
 use Rattle.edit_model.specs.Confined.{may_grow}
 use Rattle.edit_model.specs.Edit.{changed}
-use Rattle.edit_model.specs.Lawful.{IsPlaced}
+use Rattle.edit_model.specs.Valid.{IsPlaced}
 use Rattle.edit_model.proofs.Fitting.{places-grow, fits-grow}
 use Rattle.edit_model.proofs.Points.{mapped_placed}
 use Rattle.edit_parts.specs.Following.{settled}
@@ -21,46 +21,46 @@ use Rattle.edit_doc.proofs.PointSteps.{placed_now, placed_then, settled_items, l
 use Rattle.edit_doc.proofs.Doc.grow.Goals as goal
 
 pub watch_range-watch-requires-clause-placed : goal.watch_range-watch-requires-clause-placed
-watch_range-watch-requires-clause-placed c = (placed_now c.self.inside c.lawful.ensures c.self.invariant).selection
+watch_range-watch-requires-clause-placed c = (placed_now c.self.inside c.valid.ensures c.self.invariant).selection
 
 pub grown-requires : goal.grown-requires
 grown-requires c =
     let may = ap (λ (w : Whole). may_grow w.state c.args.at) c.self.view_is ∙ (sym c.may_grow.ensures ∙ c.if-may_grow.true) in
-    let capped = c.lawful.ensures.capped in
-    let low = c.lawful.ensures.small in
-    fits-grow (seen c.self.inside).state c.args.at c.self.invariant.lawful (omega (arith, capped, low)) may
+    let capped = c.valid.ensures.capped in
+    let low = c.valid.ensures.small in
+    fits-grow (seen c.self.inside).state c.args.at c.self.invariant.valid (omega (arith, capped, low)) may
 
 placed : (c : goal.After-self-1) → IsPlaced (seen_trees c.self.inside.log c.self.inside.command.start c.self.inside.arena.trees) (mapped (range.Grown c.args.at) c.self.inside.points)
 placed c =
     let may = ap (λ (w : Whole). may_grow w.state c.args.at) c.self.view_is ∙ (sym c.may_grow.ensures ∙ c.if-may_grow.true) in
-    mapped_placed (range.Grown c.args.at) (seen c.self.inside).state.trees (seen c.self.inside).state.trees (places-grow (seen c.self.inside).state c.args.at c.self.invariant.lawful may) c.self.inside.points c.self.invariant.lawful.placed
+    mapped_placed (range.Grown c.args.at) (seen c.self.inside).state.trees (seen c.self.inside).state.trees (places-grow (seen c.self.inside).state c.args.at c.self.invariant.valid may) c.self.inside.points c.self.invariant.valid.placed
 
-pub settle-requires-clause-placed : goal.settle-requires-clause-placed
-settle-requires-clause-placed c =
+pub unset_overrides_if_range_changed-requires-clause-placed : goal.unset_overrides_if_range_changed-requires-clause-placed
+unset_overrides_if_range_changed-requires-clause-placed c =
     let may = ap (λ (w : Whole). may_grow w.state c.args.at) c.self.view_is ∙ (sym c.may_grow.ensures ∙ c.if-may_grow.true) in
-    let p = mapped_placed (range.Grown c.args.at) (seen c.self.inside).state.trees (seen c.self.inside).state.trees (places-grow (seen c.self.inside).state c.args.at c.self.invariant.lawful may) c.self.inside.points c.self.invariant.lawful.placed in
-    rw c.grown.ensures (placed_then c.self.inside c.lawful.ensures c.self.invariant (option_map (adjusted_pair (range.Grown c.args.at)) c.self.inside.points.selection) (option_map (adjusted_pair (range.Grown c.args.at)) c.self.inside.points.scratch) (map (at_pair (adjusted_pair (range.Grown c.args.at))) c.self.inside.points.marks) p).selection
+    let p = mapped_placed (range.Grown c.args.at) (seen c.self.inside).state.trees (seen c.self.inside).state.trees (places-grow (seen c.self.inside).state c.args.at c.self.invariant.valid may) c.self.inside.points c.self.invariant.valid.placed in
+    rw c.grown.ensures (placed_then c.self.inside c.valid.ensures c.self.invariant (option_map (adjusted_pair (range.Grown c.args.at)) c.self.inside.points.selection) (option_map (adjusted_pair (range.Grown c.args.at)) c.self.inside.points.scratch) (map (at_pair (adjusted_pair (range.Grown c.args.at))) c.self.inside.points.marks) p).selection
 
-written : (c : goal.After-self-1) → (with_items c.self.inside.overrides c.settle.new.overrides).items ≡ settled c.self.inside.arena.trees c.self.inside.points c.self.inside.arena.trees (mapped (range.Grown c.args.at) c.self.inside.points) c.self.inside.overrides.items
+written : (c : goal.After-self-1) → (with_items c.self.inside.overrides c.unset_overrides_if_range_changed.new.overrides).items ≡ settled c.self.inside.arena.trees c.self.inside.points c.self.inside.arena.trees (mapped (range.Grown c.args.at) c.self.inside.points) c.self.inside.overrides.items
 written c =
     let d = c.self.inside in
-    let e = settled_items d c.lawful.ensures c.self.invariant (option_map (adjusted_pair (range.Grown c.args.at)) c.self.inside.points.selection) (option_map (adjusted_pair (range.Grown c.args.at)) c.self.inside.points.scratch) (map (at_pair (adjusted_pair (range.Grown c.args.at))) c.self.inside.points.marks) (placed c) c.settle.new.overrides c.deref.result.now c.deref_mut.result.now c.grown.new.self c.watch_range-watch.result c.grown.ensures c.deref.ensures.value c.deref_mut.ensures.value c.watch_range-watch.ensures c.settle.ensures in
+    let e = settled_items d c.valid.ensures c.self.invariant (option_map (adjusted_pair (range.Grown c.args.at)) c.self.inside.points.selection) (option_map (adjusted_pair (range.Grown c.args.at)) c.self.inside.points.scratch) (map (at_pair (adjusted_pair (range.Grown c.args.at))) c.self.inside.points.marks) (placed c) c.unset_overrides_if_range_changed.new.overrides c.deref.result.now c.deref_mut.result.now c.grown.new.self c.watch_range-watch.result c.grown.ensures c.deref.ensures.value c.deref_mut.ensures.value c.watch_range-watch.ensures c.unset_overrides_if_range_changed.ensures in
     let n = ap length e in
-    let m = length_settled d c.lawful.ensures c.self.invariant (option_map (adjusted_pair (range.Grown c.args.at)) c.self.inside.points.selection) (option_map (adjusted_pair (range.Grown c.args.at)) c.self.inside.points.scratch) (map (at_pair (adjusted_pair (range.Grown c.args.at))) c.self.inside.points.marks) (placed c) in
-    let s : length d.overrides.items ≡ 32 = c.self.invariant.lawful.settings in
+    let m = length_settled d c.valid.ensures c.self.invariant (option_map (adjusted_pair (range.Grown c.args.at)) c.self.inside.points.selection) (option_map (adjusted_pair (range.Grown c.args.at)) c.self.inside.points.scratch) (map (at_pair (adjusted_pair (range.Grown c.args.at))) c.self.inside.points.marks) (placed c) in
+    let s : length d.overrides.items ≡ 32 = c.self.invariant.valid.settings in
     let l = c.deref_mut.ensures.len in
     let w = ap length c.deref_mut.ensures.value in
-    with_items_is d.overrides c.settle.new.overrides (omega (arith, n, m, s, l, w)) ∙ e
+    with_items_is d.overrides c.unset_overrides_if_range_changed.new.overrides (omega (arith, n, m, s, l, w)) ∙ e
 
 pub invariant_of-self : goal.invariant_of-self
 invariant_of-self c =
-    rw (c.grown.ensures, written c) (step_ok c.self.inside c.lawful.ensures c.self.invariant (option_map (adjusted_pair (range.Grown c.args.at)) c.self.inside.points.selection) (option_map (adjusted_pair (range.Grown c.args.at)) c.self.inside.points.scratch) (map (at_pair (adjusted_pair (range.Grown c.args.at))) c.self.inside.points.marks) (placed c) (λ closed. ap (option_map (adjusted_pair (range.Grown c.args.at))) (scratch_at_rest c.self.inside c.self.invariant closed)))
+    rw (c.grown.ensures, written c) (step_ok c.self.inside c.valid.ensures c.self.invariant (option_map (adjusted_pair (range.Grown c.args.at)) c.self.inside.points.selection) (option_map (adjusted_pair (range.Grown c.args.at)) c.self.inside.points.scratch) (map (at_pair (adjusted_pair (range.Grown c.args.at))) c.self.inside.points.marks) (placed c) (λ closed. ap (option_map (adjusted_pair (range.Grown c.args.at))) (scratch_at_rest c.self.inside c.self.invariant closed)))
 
 pub returns-then-may_grow : goal.returns-then-may_grow
 unfolding acted grown
 returns-then-may_grow c =
     let t = sym c.may_grow.ensures ∙ c.if-may_grow.true in
-    rw (c.grown.ensures, written c, t) (step_is c.self.inside c.lawful.ensures c.self.invariant (option_map (adjusted_pair (range.Grown c.args.at)) c.self.inside.points.selection) (option_map (adjusted_pair (range.Grown c.args.at)) c.self.inside.points.scratch) (map (at_pair (adjusted_pair (range.Grown c.args.at))) c.self.inside.points.marks) (placed c) (seen c.self.inside) refl ∙ ap (λ (v : Whole). with_state v (changed v.state v.state.trees (mapped (range.Grown c.args.at) v.state.points))) c.self.view_is)
+    rw (c.grown.ensures, written c, t) (step_is c.self.inside c.valid.ensures c.self.invariant (option_map (adjusted_pair (range.Grown c.args.at)) c.self.inside.points.selection) (option_map (adjusted_pair (range.Grown c.args.at)) c.self.inside.points.scratch) (map (at_pair (adjusted_pair (range.Grown c.args.at))) c.self.inside.points.marks) (placed c) (seen c.self.inside) refl ∙ ap (λ (v : Whole). with_state v (changed v.state v.state.trees (mapped (range.Grown c.args.at) v.state.points))) c.self.view_is)
 
 pub returns-else-may_grow : goal.returns-else-may_grow
 unfolding acted grown

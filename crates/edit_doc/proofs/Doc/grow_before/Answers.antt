@@ -2,7 +2,7 @@ use Rattle.std.proofs.Common.{◌≡◌, ℕ, IfSome, Some, false, sym, ap, subs
 use Rattle.dom_model.specs.Forest.{parent_of}
 use Rattle.dom_model.specs.Places.{index_of}
 use Rattle.live_range.specs.declared.places.Point.{Point}
-use Rattle.live_range.specs.Edit.{has_label}
+use Rattle.live_range.specs.PointsEdit.{has_label}
 use Rattle.live_range.specs.LivePoints.{labels_of}
 use Rattle.edit_model.specs.Action.{Grow, acted}
 use Rattle.edit_model.specs.Gives.{label_of}

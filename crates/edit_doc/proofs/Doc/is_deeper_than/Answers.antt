@@ -7,10 +7,10 @@ use Rattle.edit_doc.proofs.Stored.{depth_is}
 use Rattle.edit_doc.proofs.Doc.is_deeper_than.Goals as goal
 
 pub returns-then-self-limit : goal.returns-then-self-limit
-returns-then-self-limit c = ap (nat_lt c.args.limit) (c.page_depth.ensures ∙ page_depth_is c.self.inside c.lawful.ensures _ c.self.view_is)
+returns-then-self-limit c = ap (nat_lt c.args.limit) (c.page_depth.ensures ∙ page_depth_is c.self.inside c.valid.ensures _ c.self.view_is)
 
 pub returns-else-self-limit : goal.returns-else-self-limit
 returns-else-self-limit c =
-    let low = depth_is c.self.inside c.lawful.ensures c.self.invariant _ c.self.view_is in
+    let low = depth_is c.self.inside c.valid.ensures c.self.invariant _ c.self.view_is in
     let own = le-ltb c.args.limit c.self.inside.counts.depth (omega (arith, c.if-self-limit.false)) in
     own ∙ sym (le-ltb c.args.limit (page_depth c.args.self.now.state.trees) (omega (arith, low, c.if-self-limit.false)))

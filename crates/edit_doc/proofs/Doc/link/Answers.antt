@@ -14,62 +14,62 @@ use Rattle.edit_doc.proofs.Doc.link.Goals as goal
 pub watch_range-watch-requires-clause-placed : goal.watch_range-watch-requires-clause-placed
 watch_range-watch-requires-clause-placed c =
     let d = c.self.inside in
-    (placed-whole d.arena.trees d.arena.next (arena_forest d.arena c.lawful.ensures) (out_of d) refl d.points c.self.invariant.lawful.placed).selection
+    (placed-whole d.arena.trees d.arena.next (arena_forest d.arena c.valid.ensures) (out_of d) refl d.points c.self.invariant.valid.placed).selection
 
 pub counts_with-counts-requires-clause-nodes : goal.counts_with-counts-requires-clause-nodes
 counts_with-counts-requires-clause-nodes c =
     let a = c.args in
-    nodes_fit c.self.inside a.self.now c.self.view_is c.lawful.ensures c.slotted.ensures c.requires.open c.self.invariant a.node a.parent a.before c.requires.node_held c.requires.parent_held c.requires.before_held c.requires.possible
+    nodes_fit c.self.inside a.self.now c.self.view_is c.valid.ensures c.slotted.ensures c.requires.open c.self.invariant a.node a.parent a.before c.requires.node_held c.requires.parent_held c.requires.before_held c.requires.possible
     c.is_in_document-enters.result c.is_in_document-enters.ensures
 
 pub counts_with-counts-requires-clause-chars : goal.counts_with-counts-requires-clause-chars
 counts_with-counts-requires-clause-chars c =
     let a = c.args in
-    chars_fit c.self.inside a.self.now c.self.view_is c.lawful.ensures c.slotted.ensures c.requires.open c.self.invariant a.node a.parent a.before c.requires.node_held c.requires.parent_held c.requires.before_held c.requires.possible
+    chars_fit c.self.inside a.self.now c.self.view_is c.valid.ensures c.slotted.ensures c.requires.open c.self.invariant a.node a.parent a.before c.requires.node_held c.requires.parent_held c.requires.before_held c.requires.possible
     c.is_in_document-enters.result c.is_in_document-enters.ensures
 
 pub make_change-requires-clause-fits : goal.make_change-requires-clause-fits
 make_change-requires-clause-fits c =
     let a = c.args in
-    fits c.self.inside a.self.now c.self.view_is c.lawful.ensures c.slotted.ensures c.requires.open c.self.invariant a.node a.parent a.before c.requires.node_held c.requires.parent_held c.requires.before_held c.requires.possible
+    fits c.self.inside a.self.now c.self.view_is c.valid.ensures c.slotted.ensures c.requires.open c.self.invariant a.node a.parent a.before c.requires.node_held c.requires.parent_held c.requires.before_held c.requires.possible
 
 pub adjust_inserted-requires-clause-held : goal.adjust_inserted-requires-clause-held
 adjust_inserted-requires-clause-held c =
     let a = c.args in
-    let same = held_here c.self.inside a.self.now c.self.view_is c.lawful.ensures c.slotted.ensures c.requires.open c.self.invariant a.node a.parent a.before c.requires.node_held c.requires.parent_held c.requires.before_held c.requires.possible
+    let same = held_here c.self.inside a.self.now c.self.view_is c.valid.ensures c.slotted.ensures c.requires.open c.self.invariant a.node a.parent a.before c.requires.node_held c.requires.parent_held c.requires.before_held c.requires.possible
     c.make_change.new.arena c.in_ok-make_change.ensures.arena in
     ap (λ h. Rattle.std.specs.Prelude.slice_index_or h a.node.slot Rattle.std.proofs.Common.None) (sym same) ∙ (held_seen c.self.inside a.self.now c.self.view_is a.node c.requires.node_held).slot
 
 pub adjust_inserted-requires-clause-fits : goal.adjust_inserted-requires-clause-fits
 adjust_inserted-requires-clause-fits c =
     let a = c.args in
-    points_fit c.self.inside a.self.now c.self.view_is c.lawful.ensures c.slotted.ensures c.requires.open c.self.invariant a.node a.parent a.before c.requires.node_held c.requires.parent_held c.requires.before_held c.requires.possible
+    points_fit c.self.inside a.self.now c.self.view_is c.valid.ensures c.slotted.ensures c.requires.open c.self.invariant a.node a.parent a.before c.requires.node_held c.requires.parent_held c.requires.before_held c.requires.possible
     c.make_change.new.arena c.in_ok-make_change.ensures.arena
 
-pub settle-requires-clause-placed : goal.settle-requires-clause-placed
-settle-requires-clause-placed c =
+pub unset_overrides_if_range_changed-requires-clause-placed : goal.unset_overrides_if_range_changed-requires-clause-placed
+unset_overrides_if_range_changed-requires-clause-placed c =
     let a = c.args in
-    (placed c.self.inside a.self.now c.self.view_is c.lawful.ensures c.slotted.ensures c.requires.open c.self.invariant a.node a.parent a.before c.requires.node_held c.requires.parent_held c.requires.before_held c.requires.possible
+    (placed c.self.inside a.self.now c.self.view_is c.valid.ensures c.slotted.ensures c.requires.open c.self.invariant a.node a.parent a.before c.requires.node_held c.requires.parent_held c.requires.before_held c.requires.possible
     c.make_change.new.arena c.in_ok-make_change.ensures.arena c.adjust_inserted.new.points c.adjust_inserted.ensures).selection
 
-overrides_are : (c : goal.After-self-1) → (with_items c.self.inside.overrides c.settle.new.overrides).items ≡ settled c.self.inside.arena.trees c.self.inside.points c.make_change.new.arena.trees c.adjust_inserted.new.points c.self.inside.overrides.items
+overrides_are : (c : goal.After-self-1) → (with_items c.self.inside.overrides c.unset_overrides_if_range_changed.new.overrides).items ≡ settled c.self.inside.arena.trees c.self.inside.points c.make_change.new.arena.trees c.adjust_inserted.new.points c.self.inside.overrides.items
 overrides_are c =
     let d = c.self.inside in
     let watches = subst (λ xs. Rattle.edit_parts.specs.Following.Watches d.arena.trees d.points xs c.watch_range-watch.result) c.deref.ensures.value c.watch_range-watch.ensures in
     let watches' = subst (λ xs. Rattle.edit_parts.specs.Following.Watches d.arena.trees d.points xs c.watch_range-watch.result) (sym c.deref_mut.ensures.value) watches in
-    let e = c.settle.ensures d.arena.trees d.points watches' in
+    let e = c.unset_overrides_if_range_changed.ensures d.arena.trees d.points watches' in
     let e' = e ∙ ap (settled d.arena.trees d.points c.make_change.new.arena.trees c.adjust_inserted.new.points) c.deref_mut.ensures.value in
-    let s : length d.overrides.items ≡ 32 = c.self.invariant.lawful.settings in
-    let a = c.settle.auto.overrides in
+    let s : length d.overrides.items ≡ 32 = c.self.invariant.valid.settings in
+    let a = c.unset_overrides_if_range_changed.auto.overrides in
     let l = c.deref_mut.ensures.len in
     let w = ap length c.deref_mut.ensures.value in
-    with_items_is d.overrides c.settle.new.overrides (omega (arith, a, s, l, w)) ∙ e'
+    with_items_is d.overrides c.unset_overrides_if_range_changed.new.overrides (omega (arith, a, s, l, w)) ∙ e'
 
-done : (c : goal.After-self-1) → Applied c.self.inside c.args.self.now (Insert c.args.parent.label (label_of c.args.before) c.args.node.label) c.make_change.new.arena c.adjust_inserted.new.points (with_items c.self.inside.overrides c.settle.new.overrides).items c.counts_with-counts.result c.name_place.new.self c.make_change.new.log
+done : (c : goal.After-self-1) → Applied c.self.inside c.args.self.now (Insert c.args.parent.label (label_of c.args.before) c.args.node.label) c.make_change.new.arena c.adjust_inserted.new.points (with_items c.self.inside.overrides c.unset_overrides_if_range_changed.new.overrides).items c.counts_with-counts.result c.name_place.new.self c.make_change.new.log
 done c =
     let a = c.args in
-    link_done c.self.inside a.self.now c.self.view_is c.lawful.ensures c.slotted.ensures c.requires.open c.self.invariant a.node a.parent a.before c.requires.node_held c.requires.parent_held c.requires.before_held c.requires.possible
-    c.make_change.new.arena c.in_ok-make_change.ensures.arena c.adjust_inserted.new.points c.adjust_inserted.ensures (with_items c.self.inside.overrides c.settle.new.overrides).items (overrides_are c)
+    link_done c.self.inside a.self.now c.self.view_is c.valid.ensures c.slotted.ensures c.requires.open c.self.invariant a.node a.parent a.before c.requires.node_held c.requires.parent_held c.requires.before_held c.requires.possible
+    c.make_change.new.arena c.in_ok-make_change.ensures.arena c.adjust_inserted.new.points c.adjust_inserted.ensures (with_items c.self.inside.overrides c.unset_overrides_if_range_changed.new.overrides).items (overrides_are c)
     c.is_in_document-enters.result c.is_in_document-enters.ensures c.counts_with-counts.result c.counts_with-counts.ensures.nodes c.counts_with-counts.ensures.chars c.counts_with-counts.ensures.depth c.name_place.new.self c.name_place.ensures c.make_change.new.log c.in_ok-make_change.ensures.log
 
 pub invariant_of-self-2 : goal.invariant_of-self-2

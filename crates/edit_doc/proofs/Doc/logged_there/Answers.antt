@@ -1,6 +1,6 @@
 use Rattle.std.proofs.Common.{◌≡◌, drop, reverse, take, sym, ap, subst, ◌∙◌}
 use Rattle.live_range.specs.Names.{shown}
-use Rattle.edit_model.specs.Lawful.{IsPlaced}
+use Rattle.edit_model.specs.Valid.{IsPlaced}
 use Rattle.edit_doc.specs.Logged.{HasMoved}
 use Rattle.edit_doc.specs.Whole.{Whole}
 use Rattle.edit_doc.proofs.LoggedDocs.{returned, all_back}
@@ -17,7 +17,7 @@ put_back-requires-clause-placed g c =
     let points : shown new.state.points.names c.in_ok-kept.kept.places ≡ old.state.points =
     ap (λ ns. shown ns c.in_ok-kept.kept.places) (ap (λ (w : Whole). w.state.points.names) r.moved.rest ∙ sym (ap (λ (w : Whole). w.state.points.names) c.self.view_is))
     ∙ (c.in_ok-kept.ensures.shown ∙ ap (λ (w : Whole). w.state.points) c.self.view_is) in
-    subst (λ t. IsPlaced t (shown new.state.points.names c.in_ok-kept.kept.places)) (sym r.trees) (subst (λ p. IsPlaced old.state.trees p) (sym points) c.lawful.ensures.lawful.placed)
+    subst (λ t. IsPlaced t (shown new.state.points.names c.in_ok-kept.kept.places)) (sym r.trees) (subst (λ p. IsPlaced old.state.trees p) (sym points) c.valid.ensures.valid.placed)
 
 pub returns-clause-stays : goal.returns-clause-stays
 returns-clause-stays g c =

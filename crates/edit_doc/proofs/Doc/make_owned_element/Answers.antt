@@ -2,47 +2,47 @@ use Rattle.std.proofs.Common.{refl, sym, ap, subst, ◌∙◌, Err}
 use Rattle.dom_model.specs.declared.Content.TheVariants.{Element}
 use Rattle.edit_model.proofs.Giving.{gives_element, gives_full_element}
 use Rattle.edit_model.specs.Run.{make_element, final}
-use Rattle.edit_doc.specs.Sound.{IsSound}
+use Rattle.edit_doc.specs.Sound.{IsSoundDoc}
 use Rattle.edit_doc.specs.Whole.{Whole}
 use Rattle.edit_doc.proofs.NewNodes.{room_made, node_made, none_made, element_made}
 use Rattle.edit_doc.proofs.Doc.make_owned_element.Goals as goal
 
 pub invariant_of-self : goal.invariant_of-self
-invariant_of-self c = room_made c.self.inside c.args.self.now c.self.view_is c.lawful.ensures c.requires.open c.self.invariant (record c.self.inside.command { left = c.reserve.new.self }) refl refl c.reserve.ensures.items
+invariant_of-self c = room_made c.self.inside c.args.self.now c.self.view_is c.valid.ensures c.requires.open c.self.invariant (record c.self.inside.command { detached = c.reserve.new.self }) refl refl c.reserve.ensures.items
 
 pub invariant_of-self-in_err-reserve-2 : goal.invariant_of-self-in_err-reserve-2
-invariant_of-self-in_err-reserve-2 c = room_made c.self.inside c.args.self.now c.self.view_is c.lawful.ensures c.requires.open c.self.invariant (record c.self.inside.command { left = c.reserve.new.self; named = c.reserve-2.new.self }) refl c.reserve-2.ensures.items c.reserve.ensures.items
+invariant_of-self-in_err-reserve-2 c = room_made c.self.inside c.args.self.now c.self.view_is c.valid.ensures c.requires.open c.self.invariant (record c.self.inside.command { detached = c.reserve.new.self; named = c.reserve-2.new.self }) refl c.reserve-2.ensures.items c.reserve.ensures.items
 
 pub invariant_of-self-in-Ok : goal.invariant_of-self-in-Ok
 invariant_of-self-in-Ok c =
-    (node_made c.self.inside c.args.self.now c.self.view_is c.lawful.ensures c.requires.open c.self.invariant (Element c.args.name c.args.attributes) (element_made c.args.name c.args.attributes)
-    c.make_element.new.self c.in-Ok.node c.in-Ok.ensures.made (record c.self.inside.command { left = c.reserve.new.self; named = c.reserve-2.new.self }) c.note_made.new.self refl c.reserve-2.ensures.items c.reserve.ensures.items c.note_made.ensures).invariant
+    (node_made c.self.inside c.args.self.now c.self.view_is c.valid.ensures c.requires.open c.self.invariant (Element c.args.name c.args.attributes) (element_made c.args.name c.args.attributes)
+    c.make_element.new.self c.in-Ok.node c.in-Ok.ensures.made (record c.self.inside.command { detached = c.reserve.new.self; named = c.reserve-2.new.self }) c.note_made.new.self refl c.reserve-2.ensures.items c.reserve.ensures.items c.note_made.ensures).invariant
 
 pub invariant_of-self-in-Err : goal.invariant_of-self-in-Err
 invariant_of-self-in-Err c =
     let i = c.self.inside in
-    subst (λ a. IsSound a i.points i.overrides.items i.flags i.counts (record i.command { left = c.reserve.new.self; named = c.reserve-2.new.self }) i.log i.undo_sides.items i.redo_sides.items i.undo_sides.capacity i.redo_sides.capacity) (sym c.in-Err.ensures.err)
-    (room_made i c.args.self.now c.self.view_is c.lawful.ensures c.requires.open c.self.invariant (record i.command { left = c.reserve.new.self; named = c.reserve-2.new.self }) refl c.reserve-2.ensures.items c.reserve.ensures.items)
+    subst (λ a. IsSoundDoc a i.points i.overrides.items i.flags i.counts (record i.command { detached = c.reserve.new.self; named = c.reserve-2.new.self }) i.log i.undo_sides.items i.redo_sides.items i.undo_sides.capacity i.redo_sides.capacity) (sym c.in-Err.ensures.err)
+    (room_made i c.args.self.now c.self.view_is c.valid.ensures c.requires.open c.self.invariant (record i.command { detached = c.reserve.new.self; named = c.reserve-2.new.self }) refl c.reserve-2.ensures.items c.reserve.ensures.items)
 
 pub returns-in-Ok-clause-gives : goal.returns-in-Ok-clause-gives
 returns-in-Ok-clause-gives c =
     let m = c.in-Ok.ensures.made in
     gives_element c.args.name c.args.attributes c.args.self.now.state _ c.in-Ok.node (m.label ∙ ap (λ (w : Whole). w.state.next) c.self.view_is)
-    (node_made c.self.inside c.args.self.now c.self.view_is c.lawful.ensures c.requires.open c.self.invariant (Element c.args.name c.args.attributes) (element_made c.args.name c.args.attributes)
-    c.make_element.new.self c.in-Ok.node m (record c.self.inside.command { left = c.reserve.new.self; named = c.reserve-2.new.self }) c.note_made.new.self refl c.reserve-2.ensures.items c.reserve.ensures.items c.note_made.ensures).state
+    (node_made c.self.inside c.args.self.now c.self.view_is c.valid.ensures c.requires.open c.self.invariant (Element c.args.name c.args.attributes) (element_made c.args.name c.args.attributes)
+    c.make_element.new.self c.in-Ok.node m (record c.self.inside.command { detached = c.reserve.new.self; named = c.reserve-2.new.self }) c.note_made.new.self refl c.reserve-2.ensures.items c.reserve.ensures.items c.note_made.ensures).state
 
 pub returns-in-Ok-clause-held : goal.returns-in-Ok-clause-held
 returns-in-Ok-clause-held c =
-    (node_made c.self.inside c.args.self.now c.self.view_is c.lawful.ensures c.requires.open c.self.invariant (Element c.args.name c.args.attributes) (element_made c.args.name c.args.attributes)
-    c.make_element.new.self c.in-Ok.node c.in-Ok.ensures.made (record c.self.inside.command { left = c.reserve.new.self; named = c.reserve-2.new.self }) c.note_made.new.self refl c.reserve-2.ensures.items c.reserve.ensures.items c.note_made.ensures).held
+    (node_made c.self.inside c.args.self.now c.self.view_is c.valid.ensures c.requires.open c.self.invariant (Element c.args.name c.args.attributes) (element_made c.args.name c.args.attributes)
+    c.make_element.new.self c.in-Ok.node c.in-Ok.ensures.made (record c.self.inside.command { detached = c.reserve.new.self; named = c.reserve-2.new.self }) c.note_made.new.self refl c.reserve-2.ensures.items c.reserve.ensures.items c.note_made.ensures).held
 
 pub returns-in-Ok-clause-keeps : goal.returns-in-Ok-clause-keeps
 returns-in-Ok-clause-keeps c =
-    (node_made c.self.inside c.args.self.now c.self.view_is c.lawful.ensures c.requires.open c.self.invariant (Element c.args.name c.args.attributes) (element_made c.args.name c.args.attributes)
-    c.make_element.new.self c.in-Ok.node c.in-Ok.ensures.made (record c.self.inside.command { left = c.reserve.new.self; named = c.reserve-2.new.self }) c.note_made.new.self refl c.reserve-2.ensures.items c.reserve.ensures.items c.note_made.ensures).keeps
+    (node_made c.self.inside c.args.self.now c.self.view_is c.valid.ensures c.requires.open c.self.invariant (Element c.args.name c.args.attributes) (element_made c.args.name c.args.attributes)
+    c.make_element.new.self c.in-Ok.node c.in-Ok.ensures.made (record c.self.inside.command { detached = c.reserve.new.self; named = c.reserve-2.new.self }) c.note_made.new.self refl c.reserve-2.ensures.items c.reserve.ensures.items c.note_made.ensures).keeps
 
 pub returns-in-Err-clause-gives : goal.returns-in-Err-clause-gives
 returns-in-Err-clause-gives c =
     let s = c.args.self.now.state in
-    none_made c.self.inside c.args.self.now c.self.view_is c.lawful.ensures c.requires.open c.self.invariant (final (make_element c.args.name c.args.attributes) s) c.in-Err.fault c.fault_of.result
+    none_made c.self.inside c.args.self.now c.self.view_is c.valid.ensures c.requires.open c.self.invariant (final (make_element c.args.name c.args.attributes) s) c.in-Err.fault c.fault_of.result
     c.fault_of.ensures.full c.fault_of.ensures.memory (λ e. c.make_element.ensures.full.1 (c.in-Err.is ∙ ap Err e)) (gives_full_element c.args.name c.args.attributes s s)

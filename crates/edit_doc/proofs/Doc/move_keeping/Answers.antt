@@ -27,7 +27,7 @@ pub returns-in_default-clause-gives : goal.returns-in_default-clause-gives
 returns-in_default-clause-gives c =
     let a = c.args in
     let none : parent_of c.self.inside.arena.trees a.node.label ≡ None = sym c.parent.ensures.is ∙ by_option c.parent.result c.in_default.not-Some in
-    gives_left (Move a.node.label a.parent.label (label_of a.before)) a.self.now.state a.self.now.state (not_moved a.self.now.state a.node.label a.parent.label (label_of a.before) None (parent_seen c.self.inside c.lawful.ensures a.self.now c.self.view_is a.node c.requires.node_held ∙ none) refl) refl
+    gives_left (Move a.node.label a.parent.label (label_of a.before)) a.self.now.state a.self.now.state (not_moved a.self.now.state a.node.label a.parent.label (label_of a.before) None (parent_seen c.self.inside c.valid.ensures a.self.now c.self.view_is a.node c.requires.node_held ∙ none) refl) refl
   where
     by_option : (o : Option NodeRef) → ((r : NodeRef) → o ≡ Some r → ⊥) → label o ≡ None
     by_option None h = refl
@@ -39,77 +39,77 @@ from_held d v o r h e = subst (IfHeld v) e h
 pub may_go-requires-clause-from_held : goal.may_go-requires-clause-from_held
 may_go-requires-clause-from_held c =
     let a = c.args in
-    from_held c.self.inside a.self.now c.parent.result c.in-Some.from (finds_parent c.self.inside c.lawful.ensures a.self.now c.self.view_is a.node c.requires.node_held c.parent.result c.parent.ensures).held c.in-Some.is
+    from_held c.self.inside a.self.now c.parent.result c.in-Some.from (finds_parent c.self.inside c.valid.ensures a.self.now c.self.view_is a.node c.requires.node_held c.parent.result c.parent.ensures).held c.in-Some.is
 
 pub returns-then-not-may_go-clause-gives : goal.returns-then-not-may_go-clause-gives
 returns-then-not-may_go-clause-gives c =
     let a = c.args in
     gives_left (Move a.node.label a.parent.label (label_of a.before)) a.self.now.state a.self.now.state
-    (not_moved a.self.now.state a.node.label a.parent.label (label_of a.before) (Some c.in-Some.from.label) (parent_seen c.self.inside c.lawful.ensures a.self.now c.self.view_is a.node c.requires.node_held ∙ up c.self.inside a.node c.in-Some.from c.parent.result c.parent.ensures c.in-Some.is) (sym c.may_go.ensures ∙ c.if-not-may_go.true)) refl
+    (not_moved a.self.now.state a.node.label a.parent.label (label_of a.before) (Some c.in-Some.from.label) (parent_seen c.self.inside c.valid.ensures a.self.now c.self.view_is a.node c.requires.node_held ∙ up c.self.inside a.node c.in-Some.from c.parent.result c.parent.ensures c.in-Some.is) (sym c.may_go.ensures ∙ c.if-not-may_go.true)) refl
 
 pub watch_range-watch-requires-clause-placed : goal.watch_range-watch-requires-clause-placed
 watch_range-watch-requires-clause-placed c =
     let d = c.self.inside in
-    (placed-whole d.arena.trees d.arena.next (arena_forest d.arena c.lawful.ensures) (out_of d) refl d.points c.self.invariant.lawful.placed).selection
+    (placed-whole d.arena.trees d.arena.next (arena_forest d.arena c.valid.ensures) (out_of d) refl d.points c.self.invariant.valid.placed).selection
 
 pub counts_moved-counts-requires-clause-nodes : goal.counts_moved-counts-requires-clause-nodes
-counts_moved-counts-requires-clause-nodes c = let a = c.args in nodes_fit c.self.inside a.self.now c.self.view_is c.lawful.ensures c.slotted.ensures c.requires.open c.self.invariant a.node c.in-Some.from a.parent a.before c.requires.node_held c.requires.parent_held c.requires.before_held (up c.self.inside a.node c.in-Some.from c.parent.result c.parent.ensures c.in-Some.is) (sym c.may_go.ensures ∙ c.if-not-may_go.false) (comes_in c.self.inside.arena.trees a.node.label a.parent.label) refl
+counts_moved-counts-requires-clause-nodes c = let a = c.args in nodes_fit c.self.inside a.self.now c.self.view_is c.valid.ensures c.slotted.ensures c.requires.open c.self.invariant a.node c.in-Some.from a.parent a.before c.requires.node_held c.requires.parent_held c.requires.before_held (up c.self.inside a.node c.in-Some.from c.parent.result c.parent.ensures c.in-Some.is) (sym c.may_go.ensures ∙ c.if-not-may_go.false) (comes_in c.self.inside.arena.trees a.node.label a.parent.label) refl
 
 pub counts_moved-counts-requires-clause-chars : goal.counts_moved-counts-requires-clause-chars
-counts_moved-counts-requires-clause-chars c = let a = c.args in chars_fit c.self.inside a.self.now c.self.view_is c.lawful.ensures c.slotted.ensures c.requires.open c.self.invariant a.node c.in-Some.from a.parent a.before c.requires.node_held c.requires.parent_held c.requires.before_held (up c.self.inside a.node c.in-Some.from c.parent.result c.parent.ensures c.in-Some.is) (sym c.may_go.ensures ∙ c.if-not-may_go.false) (comes_in c.self.inside.arena.trees a.node.label a.parent.label) refl
+counts_moved-counts-requires-clause-chars c = let a = c.args in chars_fit c.self.inside a.self.now c.self.view_is c.valid.ensures c.slotted.ensures c.requires.open c.self.invariant a.node c.in-Some.from a.parent a.before c.requires.node_held c.requires.parent_held c.requires.before_held (up c.self.inside a.node c.in-Some.from c.parent.result c.parent.ensures c.in-Some.is) (sym c.may_go.ensures ∙ c.if-not-may_go.false) (comes_in c.self.inside.arena.trees a.node.label a.parent.label) refl
 
 pub counts_moved-counts-requires-clause-stands : goal.counts_moved-counts-requires-clause-stands
-counts_moved-counts-requires-clause-stands c = let a = c.args in stands c.self.inside a.self.now c.self.view_is c.lawful.ensures c.slotted.ensures c.requires.open c.self.invariant a.node c.in-Some.from a.parent a.before c.requires.node_held c.requires.parent_held c.requires.before_held (up c.self.inside a.node c.in-Some.from c.parent.result c.parent.ensures c.in-Some.is) (sym c.may_go.ensures ∙ c.if-not-may_go.false)
+counts_moved-counts-requires-clause-stands c = let a = c.args in stands c.self.inside a.self.now c.self.view_is c.valid.ensures c.slotted.ensures c.requires.open c.self.invariant a.node c.in-Some.from a.parent a.before c.requires.node_held c.requires.parent_held c.requires.before_held (up c.self.inside a.node c.in-Some.from c.parent.result c.parent.ensures c.in-Some.is) (sym c.may_go.ensures ∙ c.if-not-may_go.false)
 
 pub make_change-requires-clause-fits : goal.make_change-requires-clause-fits
-make_change-requires-clause-fits c = let a = c.args in fits c.self.inside a.self.now c.self.view_is c.lawful.ensures c.slotted.ensures c.requires.open c.self.invariant a.node c.in-Some.from a.parent a.before c.requires.node_held c.requires.parent_held c.requires.before_held (up c.self.inside a.node c.in-Some.from c.parent.result c.parent.ensures c.in-Some.is) (sym c.may_go.ensures ∙ c.if-not-may_go.false)
+make_change-requires-clause-fits c = let a = c.args in fits c.self.inside a.self.now c.self.view_is c.valid.ensures c.slotted.ensures c.requires.open c.self.invariant a.node c.in-Some.from a.parent a.before c.requires.node_held c.requires.parent_held c.requires.before_held (up c.self.inside a.node c.in-Some.from c.parent.result c.parent.ensures c.in-Some.is) (sym c.may_go.ensures ∙ c.if-not-may_go.false)
 
 pub name_place-requires : goal.name_place-requires
 name_place-requires c =
     let a = c.args in
     let d = c.self.inside in
-    place_markable c.self.inside a.self.now c.self.view_is c.lawful.ensures c.slotted.ensures c.requires.open c.self.invariant a.node c.in-Some.from a.parent a.before c.requires.node_held c.requires.parent_held c.requires.before_held (up c.self.inside a.node c.in-Some.from c.parent.result c.parent.ensures c.in-Some.is) (sym c.may_go.ensures ∙ c.if-not-may_go.false) a.node c.in-Some.from c.next-next.result c.requires.node_held
-    (from_held d a.self.now c.parent.result c.in-Some.from (finds_parent d c.lawful.ensures a.self.now c.self.view_is a.node c.requires.node_held c.parent.result c.parent.ensures).held c.in-Some.is)
-    (finds_next d c.lawful.ensures a.self.now c.self.view_is a.node c.requires.node_held c.next-next.result c.next-next.ensures).held
+    place_markable c.self.inside a.self.now c.self.view_is c.valid.ensures c.slotted.ensures c.requires.open c.self.invariant a.node c.in-Some.from a.parent a.before c.requires.node_held c.requires.parent_held c.requires.before_held (up c.self.inside a.node c.in-Some.from c.parent.result c.parent.ensures c.in-Some.is) (sym c.may_go.ensures ∙ c.if-not-may_go.false) a.node c.in-Some.from c.next-next.result c.requires.node_held
+    (from_held d a.self.now c.parent.result c.in-Some.from (finds_parent d c.valid.ensures a.self.now c.self.view_is a.node c.requires.node_held c.parent.result c.parent.ensures).held c.in-Some.is)
+    (finds_next d c.valid.ensures a.self.now c.self.view_is a.node c.requires.node_held c.next-next.result c.next-next.ensures).held
 
 pub name_place-requires-2 : goal.name_place-requires-2
 name_place-requires-2 c =
     let a = c.args in
-    markable_after c.self.inside a.self.now c.self.view_is c.lawful.ensures c.slotted.ensures c.requires.open c.self.invariant a.node c.in-Some.from a.parent a.before c.requires.node_held c.requires.parent_held c.requires.before_held (up c.self.inside a.node c.in-Some.from c.parent.result c.parent.ensures c.in-Some.is) (sym c.may_go.ensures ∙ c.if-not-may_go.false) c.name_place.new.self (place_labels a.node a.parent a.before) (place_labels a.node c.in-Some.from c.next-next.result) c.name_place.ensures
-    (place_markable c.self.inside a.self.now c.self.view_is c.lawful.ensures c.slotted.ensures c.requires.open c.self.invariant a.node c.in-Some.from a.parent a.before c.requires.node_held c.requires.parent_held c.requires.before_held (up c.self.inside a.node c.in-Some.from c.parent.result c.parent.ensures c.in-Some.is) (sym c.may_go.ensures ∙ c.if-not-may_go.false) a.node a.parent a.before c.requires.node_held c.requires.parent_held c.requires.before_held)
+    markable_after c.self.inside a.self.now c.self.view_is c.valid.ensures c.slotted.ensures c.requires.open c.self.invariant a.node c.in-Some.from a.parent a.before c.requires.node_held c.requires.parent_held c.requires.before_held (up c.self.inside a.node c.in-Some.from c.parent.result c.parent.ensures c.in-Some.is) (sym c.may_go.ensures ∙ c.if-not-may_go.false) c.name_place.new.self (place_labels a.node a.parent a.before) (place_labels a.node c.in-Some.from c.next-next.result) c.name_place.ensures
+    (place_markable c.self.inside a.self.now c.self.view_is c.valid.ensures c.slotted.ensures c.requires.open c.self.invariant a.node c.in-Some.from a.parent a.before c.requires.node_held c.requires.parent_held c.requires.before_held (up c.self.inside a.node c.in-Some.from c.parent.result c.parent.ensures c.in-Some.is) (sym c.may_go.ensures ∙ c.if-not-may_go.false) a.node a.parent a.before c.requires.node_held c.requires.parent_held c.requires.before_held)
 
 pub adjust_moved-requires-clause-held : goal.adjust_moved-requires-clause-held
 adjust_moved-requires-clause-held c =
     let a = c.args in
-    let same = held_here c.self.inside a.self.now c.self.view_is c.lawful.ensures c.slotted.ensures c.requires.open c.self.invariant a.node c.in-Some.from a.parent a.before c.requires.node_held c.requires.parent_held c.requires.before_held (up c.self.inside a.node c.in-Some.from c.parent.result c.parent.ensures c.in-Some.is) (sym c.may_go.ensures ∙ c.if-not-may_go.false) c.make_change.new.arena c.in_ok-make_change.ensures.arena in
+    let same = held_here c.self.inside a.self.now c.self.view_is c.valid.ensures c.slotted.ensures c.requires.open c.self.invariant a.node c.in-Some.from a.parent a.before c.requires.node_held c.requires.parent_held c.requires.before_held (up c.self.inside a.node c.in-Some.from c.parent.result c.parent.ensures c.in-Some.is) (sym c.may_go.ensures ∙ c.if-not-may_go.false) c.make_change.new.arena c.in_ok-make_change.ensures.arena in
     ap (λ h. slice_index_or h a.node.slot None) (sym same) ∙ (held_seen c.self.inside a.self.now c.self.view_is a.node c.requires.node_held).slot
 
 pub adjust_moved-requires-clause-fits : goal.adjust_moved-requires-clause-fits
-adjust_moved-requires-clause-fits c = let a = c.args in points_fit c.self.inside a.self.now c.self.view_is c.lawful.ensures c.slotted.ensures c.requires.open c.self.invariant a.node c.in-Some.from a.parent a.before c.requires.node_held c.requires.parent_held c.requires.before_held (up c.self.inside a.node c.in-Some.from c.parent.result c.parent.ensures c.in-Some.is) (sym c.may_go.ensures ∙ c.if-not-may_go.false) c.make_change.new.arena c.in_ok-make_change.ensures.arena c.moving_from-place.result c.moving_from-place.ensures
+adjust_moved-requires-clause-fits c = let a = c.args in points_fit c.self.inside a.self.now c.self.view_is c.valid.ensures c.slotted.ensures c.requires.open c.self.invariant a.node c.in-Some.from a.parent a.before c.requires.node_held c.requires.parent_held c.requires.before_held (up c.self.inside a.node c.in-Some.from c.parent.result c.parent.ensures c.in-Some.is) (sym c.may_go.ensures ∙ c.if-not-may_go.false) c.make_change.new.arena c.in_ok-make_change.ensures.arena c.moving_from-place.result c.moving_from-place.ensures
 
-pub settle-requires-clause-placed : goal.settle-requires-clause-placed
-settle-requires-clause-placed c =
+pub unset_overrides_if_range_changed-requires-clause-placed : goal.unset_overrides_if_range_changed-requires-clause-placed
+unset_overrides_if_range_changed-requires-clause-placed c =
     let a = c.args in
-    (placed c.self.inside a.self.now c.self.view_is c.lawful.ensures c.slotted.ensures c.requires.open c.self.invariant a.node c.in-Some.from a.parent a.before c.requires.node_held c.requires.parent_held c.requires.before_held (up c.self.inside a.node c.in-Some.from c.parent.result c.parent.ensures c.in-Some.is) (sym c.may_go.ensures ∙ c.if-not-may_go.false) c.make_change.new.arena c.in_ok-make_change.ensures.arena c.adjust_moved.new.points c.moving_from-place.result c.moving_from-place.ensures c.adjust_moved.ensures.moved c.adjust_moved.ensures.none).selection
+    (placed c.self.inside a.self.now c.self.view_is c.valid.ensures c.slotted.ensures c.requires.open c.self.invariant a.node c.in-Some.from a.parent a.before c.requires.node_held c.requires.parent_held c.requires.before_held (up c.self.inside a.node c.in-Some.from c.parent.result c.parent.ensures c.in-Some.is) (sym c.may_go.ensures ∙ c.if-not-may_go.false) c.make_change.new.arena c.in_ok-make_change.ensures.arena c.adjust_moved.new.points c.moving_from-place.result c.moving_from-place.ensures c.adjust_moved.ensures.moved c.adjust_moved.ensures.none).selection
 
-overrides_are : (c : goal.After-self-1) → (with_items c.self.inside.overrides c.settle.new.overrides).items ≡ settled c.self.inside.arena.trees c.self.inside.points c.make_change.new.arena.trees c.adjust_moved.new.points c.self.inside.overrides.items
+overrides_are : (c : goal.After-self-1) → (with_items c.self.inside.overrides c.unset_overrides_if_range_changed.new.overrides).items ≡ settled c.self.inside.arena.trees c.self.inside.points c.make_change.new.arena.trees c.adjust_moved.new.points c.self.inside.overrides.items
 overrides_are c =
     let d = c.self.inside in
     let watches = subst (λ xs. Watches d.arena.trees d.points xs c.watch_range-watch.result) c.deref.ensures.value c.watch_range-watch.ensures in
     let watches' = subst (λ xs. Watches d.arena.trees d.points xs c.watch_range-watch.result) (sym c.deref_mut.ensures.value) watches in
-    let e = c.settle.ensures d.arena.trees d.points watches' in
+    let e = c.unset_overrides_if_range_changed.ensures d.arena.trees d.points watches' in
     let e' = e ∙ ap (settled d.arena.trees d.points c.make_change.new.arena.trees c.adjust_moved.new.points) c.deref_mut.ensures.value in
-    let s : length d.overrides.items ≡ 32 = c.self.invariant.lawful.settings in
-    let a = c.settle.auto.overrides in
+    let s : length d.overrides.items ≡ 32 = c.self.invariant.valid.settings in
+    let a = c.unset_overrides_if_range_changed.auto.overrides in
     let l = c.deref_mut.ensures.len in
     let w = ap length c.deref_mut.ensures.value in
-    with_items_is d.overrides c.settle.new.overrides (omega (arith, a, s, l, w)) ∙ e'
+    with_items_is d.overrides c.unset_overrides_if_range_changed.new.overrides (omega (arith, a, s, l, w)) ∙ e'
 
-done : (c : goal.After-self-1) → Done c.self.inside c.args.self.now (Move c.args.node.label c.args.parent.label (label_of c.args.before)) c.make_change.new.arena c.adjust_moved.new.points (with_items c.self.inside.overrides c.settle.new.overrides).items c.counts_moved-counts.result c.name_place-2.new.self c.make_change.new.log
+done : (c : goal.After-self-1) → Done c.self.inside c.args.self.now (Move c.args.node.label c.args.parent.label (label_of c.args.before)) c.make_change.new.arena c.adjust_moved.new.points (with_items c.self.inside.overrides c.unset_overrides_if_range_changed.new.overrides).items c.counts_moved-counts.result c.name_place-2.new.self c.make_change.new.log
 done c =
     let a = c.args in
-    move_done c.self.inside a.self.now c.self.view_is c.lawful.ensures c.slotted.ensures c.requires.open c.self.invariant a.node c.in-Some.from a.parent a.before c.requires.node_held c.requires.parent_held c.requires.before_held (up c.self.inside a.node c.in-Some.from c.parent.result c.parent.ensures c.in-Some.is) (sym c.may_go.ensures ∙ c.if-not-may_go.false)
-    c.make_change.new.arena c.in_ok-make_change.ensures.arena c.adjust_moved.new.points c.moving_from-place.result c.moving_from-place.ensures c.adjust_moved.ensures.moved c.adjust_moved.ensures.none (with_items c.self.inside.overrides c.settle.new.overrides).items (overrides_are c)
+    move_done c.self.inside a.self.now c.self.view_is c.valid.ensures c.slotted.ensures c.requires.open c.self.invariant a.node c.in-Some.from a.parent a.before c.requires.node_held c.requires.parent_held c.requires.before_held (up c.self.inside a.node c.in-Some.from c.parent.result c.parent.ensures c.in-Some.is) (sym c.may_go.ensures ∙ c.if-not-may_go.false)
+    c.make_change.new.arena c.in_ok-make_change.ensures.arena c.adjust_moved.new.points c.moving_from-place.result c.moving_from-place.ensures c.adjust_moved.ensures.moved c.adjust_moved.ensures.none (with_items c.self.inside.overrides c.unset_overrides_if_range_changed.new.overrides).items (overrides_are c)
     (comes_in c.self.inside.arena.trees a.node.label a.parent.label) refl c.counts_moved-counts.result c.counts_moved-counts.ensures.nodes c.counts_moved-counts.ensures.chars c.counts_moved-counts.ensures.depth c.next-next.result c.next-next.ensures.is c.name_place.new.self c.name_place-2.new.self c.name_place.ensures c.name_place-2.ensures c.make_change.new.log c.in_ok-make_change.ensures.log
 
 pub invariant_of-self-2 : goal.invariant_of-self-2

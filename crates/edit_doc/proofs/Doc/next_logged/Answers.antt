@@ -22,34 +22,34 @@ pub read_entry-requires-clause-order : goal.read_entry-requires-clause-order
 read_entry-requires-clause-order c =
     let d = c.self.inside in
     let closed = closed_of d _ c.self.view_is c.requires.closed in
-    (next_read d _ c.self.view_is c.lawful.ensures closed c.self.invariant c.next_entry.result c.unwrap-steps.result c.front.result c.unwrap.result _
+    (next_read d _ c.self.view_is c.valid.ensures closed c.self.invariant c.next_entry.result c.unwrap-steps.result c.front.result c.unwrap.result _
     c.next_entry.ensures c.unwrap-steps.ensures c.front.ensures c.unwrap.ensures c.first_later-end.ensures).order
 
 pub read_entry-requires-clause-fresh : goal.read_entry-requires-clause-fresh
 read_entry-requires-clause-fresh c =
     let d = c.self.inside in
     let closed = closed_of d _ c.self.view_is c.requires.closed in
-    (next_read d _ c.self.view_is c.lawful.ensures closed c.self.invariant c.next_entry.result c.unwrap-steps.result c.front.result c.unwrap.result _
+    (next_read d _ c.self.view_is c.valid.ensures closed c.self.invariant c.next_entry.result c.unwrap-steps.result c.front.result c.unwrap.result _
     c.next_entry.ensures c.unwrap-steps.ensures c.front.ensures c.unwrap.ensures c.first_later-end.ensures).fresh
 
 pub read_entry-requires-clause-within : goal.read_entry-requires-clause-within
 read_entry-requires-clause-within c =
     let d = c.self.inside in
     let closed = closed_of d _ c.self.view_is c.requires.closed in
-    (next_read d _ c.self.view_is c.lawful.ensures closed c.self.invariant c.next_entry.result c.unwrap-steps.result c.front.result c.unwrap.result _
+    (next_read d _ c.self.view_is c.valid.ensures closed c.self.invariant c.next_entry.result c.unwrap-steps.result c.front.result c.unwrap.result _
     c.next_entry.ensures c.unwrap-steps.ensures c.front.ensures c.unwrap.ensures c.first_later-end.ensures).within
 
 pub read_entry-requires-clause-held : goal.read_entry-requires-clause-held
 read_entry-requires-clause-held c =
     let d = c.self.inside in
     let closed = closed_of d _ c.self.view_is c.requires.closed in
-    (next_read d _ c.self.view_is c.lawful.ensures closed c.self.invariant c.next_entry.result c.unwrap-steps.result c.front.result c.unwrap.result _
+    (next_read d _ c.self.view_is c.valid.ensures closed c.self.invariant c.next_entry.result c.unwrap-steps.result c.front.result c.unwrap.result _
     c.next_entry.ensures c.unwrap-steps.ensures c.front.ensures c.unwrap.ensures c.first_later-end.ensures).held
 
 pub returns : goal.returns
 returns c =
     let d = c.self.inside in
     let closed = closed_of d _ c.self.view_is c.requires.closed in
-    let next = next_read d _ c.self.view_is c.lawful.ensures closed c.self.invariant c.next_entry.result c.unwrap-steps.result c.front.result c.unwrap.result _
+    let next = next_read d _ c.self.view_is c.valid.ensures closed c.self.invariant c.next_entry.result c.unwrap-steps.result c.front.result c.unwrap.result _
     c.next_entry.ensures c.unwrap-steps.ensures c.front.ensures c.unwrap.ensures c.first_later-end.ensures in
     IfOk-weaker c.read_entry.result _ _ next.value c.read_entry.ensures

@@ -2,7 +2,7 @@ use Rattle.std.proofs.Common.{◌≡◌, ◌<◌, length, map, reverse, take, dr
 use Rattle.std.specs.Prelude.{IfOk}
 use Rattle.std.proofs.lemmas.Result.{IfOk-weaker, IfOk-at_ok}
 use Rattle.edit_doc.specs.Logged.{HasMoved, logged_entry}
-use Rattle.edit_doc.proofs.LoggedDocs.{moved_none, still_closed, some_left, redone_one, listed_more}
+use Rattle.edit_doc.proofs.LoggedDocs.{moved_none, still_closed, some_detached, redone_one, listed_more}
 use Rattle.edit_doc.proofs.Doc.redo_and_read.Goals as goal
 use Rattle.edit_doc.proofs.Doc.redo_and_read.Goals.{in-Ok, in-Err}
 
@@ -16,7 +16,7 @@ pub push_next-requires-clause-more : goal.push_next-requires-clause-more
 push_next-requires-clause-more g c =
     let rs = c.args.self.now.history.redo in
     let more : c.loop-done._done < length rs = (let all = c.requires.within in let lt = c.loop-done-test.true in omega (arith, all, lt)) in
-    some_left rs c.loop-done.self.history.redo c.loop-done._done more c.loop-done.invariant.0.redo
+    some_detached rs c.loop-done.self.history.redo c.loop-done._done more c.loop-done.invariant.0.redo
 
 pub redo-requires : goal.redo-requires
 redo-requires g c = record { closed = still_closed _ _ _ _ c.loop-done.invariant.0 c.requires.closed }

@@ -11,7 +11,7 @@ use Rattle.edit_model.proofs.Giving.{gives_left}
 use Rattle.edit_doc.proofs.Edited.{Done}
 use Rattle.edit_doc.proofs.Freely.{freed_edit}
 use Rattle.edit_doc.proofs.Lessened.{changes}
-use Rattle.edit_doc.proofs.Replaced.{not_own_replace, not_replace_here, may_replace_here, points_fit, fits, left, trees, points_are, replace_done}
+use Rattle.edit_doc.proofs.Replaced.{not_own_replace, not_replace_here, may_replace_here, points_fit, fits, detached, trees, points_are, replace_done}
 use Rattle.edit_doc.proofs.Settling.{points_now, placed_called, overrides_length, settled_items}
 use Rattle.edit_doc.proofs.Doc.replace_words.Goals as goal
 
@@ -25,10 +25,10 @@ returns-in_default-clause-gives c =
     let a = c.args in
     let off : may_change (Some c.content-content.result.now) a.at a.count a.put.now ≡ false = sym c.in_ok-words.ensures.changes ∙ ap is_some c.in_default.is in
     gives_left (Replace a.node.label a.at a.count a.put.now) a.self.now.state a.self.now.state
-    (not_replace_here c.self.inside c.lawful.ensures a.self.now c.self.view_is a.node c.requires.node_held a.at a.count a.put.now c.content-content.result.now c.content-content.ensures off) refl
+    (not_replace_here c.self.inside c.valid.ensures a.self.now c.self.view_is a.node c.requires.node_held a.at a.count a.put.now c.content-content.result.now c.content-content.ensures off) refl
 
 pub watch_range-watch-requires-clause-placed : goal.watch_range-watch-requires-clause-placed
-watch_range-watch-requires-clause-placed c = (points_now c.self.inside c.lawful.ensures c.self.invariant).selection
+watch_range-watch-requires-clause-placed c = (points_now c.self.inside c.valid.ensures c.self.invariant).selection
 
 pub overflow_cast-put : goal.overflow_cast-put
 overflow_cast-put c =
@@ -43,10 +43,10 @@ pub replaced-requires-2 : goal.replaced-requires-2
 replaced-requires-2 c =
     let a = c.args in
     let change : may_change (Some c.content-content.result.now) a.at a.count a.put.now ≡ true = sym c.in_ok-words.ensures.changes ∙ ap is_some c.in-Some.is in
-    points_fit c.self.inside c.lawful.ensures a.self.now c.self.view_is a.node c.requires.node_held a.at a.count a.put.now c.content-content.result.now c.content-content.ensures c.self.invariant (sym c.is_own.ensures ∙ c.if-not-is_own.false) change
+    points_fit c.self.inside c.valid.ensures a.self.now c.self.view_is a.node c.requires.node_held a.at a.count a.put.now c.content-content.result.now c.content-content.ensures c.self.invariant (sym c.is_own.ensures ∙ c.if-not-is_own.false) change
 
-pub settle-requires-clause-placed : goal.settle-requires-clause-placed
-settle-requires-clause-placed c =
+pub unset_overrides_if_range_changed-requires-clause-placed : goal.unset_overrides_if_range_changed-requires-clause-placed
+unset_overrides_if_range_changed-requires-clause-placed c =
     let a = c.args in
     let d = c.self.inside in
     let v = a.self.now in
@@ -56,14 +56,14 @@ settle-requires-clause-placed c =
     let words = c.in-Some.words in
     let words_are = subst (λ o. IfSome o (λ list. Words list ≡ with_replaced a.at a.count a.put.now con)) c.in-Some.is c.in_ok-words.ensures.words in
     let short = subst (λ o. IfSome o (λ (list : List ℕ). length list < 2 ^ 32)) c.in-Some.is c.in_ok-words.ensures.short in
-    let x = fits d c.lawful.ensures v c.self.view_is a.node c.requires.node_held a.at a.count a.put.now con c.content-content.ensures c.slotted.ensures c.requires.open c.self.invariant own change words words_are short in
-    let l = left d c.lawful.ensures v c.self.view_is a.node c.requires.node_held a.at a.count a.put.now con c.content-content.ensures c.slotted.ensures c.requires.open c.self.invariant own change words words_are short in
-    let t = trees d c.lawful.ensures v c.self.view_is a.node c.requires.node_held a.at a.count a.put.now con c.content-content.ensures c.slotted.ensures c.requires.open c.self.invariant own change words words_are short in
-    let p = points_are d c.lawful.ensures v c.self.view_is a.node c.requires.node_held a.at a.count a.put.now con c.content-content.ensures c.slotted.ensures c.requires.open c.self.invariant own change words words_are short in
-    let may = freed_edit (Replace a.node.label a.at a.count a.put.now) v.state (may_replace_here d c.lawful.ensures v c.self.view_is a.node c.requires.node_held a.at a.count a.put.now con c.content-content.ensures own change) in
-    (placed_called d v c.self.view_is c.lawful.ensures c.requires.open c.self.invariant (Replace a.node.label a.at a.count a.put.now) (Rewords a.node words) x l may t c.replaced-2.new.self c.make_change.new.arena (c.replaced-2.ensures ∙ p) c.in_ok-make_change.ensures.arena).selection
+    let x = fits d c.valid.ensures v c.self.view_is a.node c.requires.node_held a.at a.count a.put.now con c.content-content.ensures c.slotted.ensures c.requires.open c.self.invariant own change words words_are short in
+    let l = detached d c.valid.ensures v c.self.view_is a.node c.requires.node_held a.at a.count a.put.now con c.content-content.ensures c.slotted.ensures c.requires.open c.self.invariant own change words words_are short in
+    let t = trees d c.valid.ensures v c.self.view_is a.node c.requires.node_held a.at a.count a.put.now con c.content-content.ensures c.slotted.ensures c.requires.open c.self.invariant own change words words_are short in
+    let p = points_are d c.valid.ensures v c.self.view_is a.node c.requires.node_held a.at a.count a.put.now con c.content-content.ensures c.slotted.ensures c.requires.open c.self.invariant own change words words_are short in
+    let may = freed_edit (Replace a.node.label a.at a.count a.put.now) v.state (may_replace_here d c.valid.ensures v c.self.view_is a.node c.requires.node_held a.at a.count a.put.now con c.content-content.ensures own change) in
+    (placed_called d v c.self.view_is c.valid.ensures c.requires.open c.self.invariant (Replace a.node.label a.at a.count a.put.now) (Rewords a.node words) x l may t c.replaced-2.new.self c.make_change.new.arena (c.replaced-2.ensures ∙ p) c.in_ok-make_change.ensures.arena).selection
 
-done : (c : goal.After-self-2-1) → Done c.self.inside c.args.self.now (Replace c.args.node.label c.args.at c.args.count c.args.put.now) c.make_change.new.arena c.replaced-2.new.self (with_items c.self.inside.overrides c.settle.new.overrides).items (record c.self.inside.counts { chars = c.chars_replaced-chars.result }) c.name.new.self c.make_change.new.log
+done : (c : goal.After-self-2-1) → Done c.self.inside c.args.self.now (Replace c.args.node.label c.args.at c.args.count c.args.put.now) c.make_change.new.arena c.replaced-2.new.self (with_items c.self.inside.overrides c.unset_overrides_if_range_changed.new.overrides).items (record c.self.inside.counts { chars = c.chars_replaced-chars.result }) c.name.new.self c.make_change.new.log
 done c =
     let a = c.args in
     let d = c.self.inside in
@@ -74,21 +74,21 @@ done c =
     let words = c.in-Some.words in
     let words_are = subst (λ o. IfSome o (λ list. Words list ≡ with_replaced a.at a.count a.put.now con)) c.in-Some.is c.in_ok-words.ensures.words in
     let short = subst (λ o. IfSome o (λ (list : List ℕ). length list < 2 ^ 32)) c.in-Some.is c.in_ok-words.ensures.short in
-    let x = fits d c.lawful.ensures v c.self.view_is a.node c.requires.node_held a.at a.count a.put.now con c.content-content.ensures c.slotted.ensures c.requires.open c.self.invariant own change words words_are short in
-    let l = left d c.lawful.ensures v c.self.view_is a.node c.requires.node_held a.at a.count a.put.now con c.content-content.ensures c.slotted.ensures c.requires.open c.self.invariant own change words words_are short in
-    let t = trees d c.lawful.ensures v c.self.view_is a.node c.requires.node_held a.at a.count a.put.now con c.content-content.ensures c.slotted.ensures c.requires.open c.self.invariant own change words words_are short in
-    let p = points_are d c.lawful.ensures v c.self.view_is a.node c.requires.node_held a.at a.count a.put.now con c.content-content.ensures c.slotted.ensures c.requires.open c.self.invariant own change words words_are short in
-    let may = freed_edit (Replace a.node.label a.at a.count a.put.now) v.state (may_replace_here d c.lawful.ensures v c.self.view_is a.node c.requires.node_held a.at a.count a.put.now con c.content-content.ensures own change) in
-    let n = overrides_length d v c.self.view_is c.lawful.ensures c.requires.open c.self.invariant (Replace a.node.label a.at a.count a.put.now) (Rewords a.node words) x l may t in
-    let e = settled_items d v c.self.view_is c.lawful.ensures c.requires.open c.self.invariant (Replace a.node.label a.at a.count a.put.now) (Rewords a.node words) x l may t
-    c.settle.new.overrides c.deref.result.now c.deref_mut.result.now c.replaced-2.new.self c.make_change.new.arena c.watch_range-watch.result (c.replaced-2.ensures ∙ p) c.in_ok-make_change.ensures.arena c.deref.ensures.value c.deref_mut.ensures.value c.watch_range-watch.ensures c.settle.ensures in
+    let x = fits d c.valid.ensures v c.self.view_is a.node c.requires.node_held a.at a.count a.put.now con c.content-content.ensures c.slotted.ensures c.requires.open c.self.invariant own change words words_are short in
+    let l = detached d c.valid.ensures v c.self.view_is a.node c.requires.node_held a.at a.count a.put.now con c.content-content.ensures c.slotted.ensures c.requires.open c.self.invariant own change words words_are short in
+    let t = trees d c.valid.ensures v c.self.view_is a.node c.requires.node_held a.at a.count a.put.now con c.content-content.ensures c.slotted.ensures c.requires.open c.self.invariant own change words words_are short in
+    let p = points_are d c.valid.ensures v c.self.view_is a.node c.requires.node_held a.at a.count a.put.now con c.content-content.ensures c.slotted.ensures c.requires.open c.self.invariant own change words words_are short in
+    let may = freed_edit (Replace a.node.label a.at a.count a.put.now) v.state (may_replace_here d c.valid.ensures v c.self.view_is a.node c.requires.node_held a.at a.count a.put.now con c.content-content.ensures own change) in
+    let n = overrides_length d v c.self.view_is c.valid.ensures c.requires.open c.self.invariant (Replace a.node.label a.at a.count a.put.now) (Rewords a.node words) x l may t in
+    let e = settled_items d v c.self.view_is c.valid.ensures c.requires.open c.self.invariant (Replace a.node.label a.at a.count a.put.now) (Rewords a.node words) x l may t
+    c.unset_overrides_if_range_changed.new.overrides c.deref.result.now c.deref_mut.result.now c.replaced-2.new.self c.make_change.new.arena c.watch_range-watch.result (c.replaced-2.ensures ∙ p) c.in_ok-make_change.ensures.arena c.deref.ensures.value c.deref_mut.ensures.value c.watch_range-watch.ensures c.unset_overrides_if_range_changed.ensures in
     let k = ap length e in
-    let s : length d.overrides.items ≡ 32 = c.self.invariant.lawful.settings in
+    let s : length d.overrides.items ≡ 32 = c.self.invariant.valid.settings in
     let q = c.deref_mut.ensures.len in
     let w = ap length c.deref_mut.ensures.value in
-    replace_done d c.lawful.ensures v c.self.view_is a.node c.requires.node_held a.at a.count a.put.now con c.content-content.ensures c.slotted.ensures c.requires.open c.self.invariant own change words words_are short
-    c.replaced-2.new.self (with_items d.overrides c.settle.new.overrides).items (record d.counts { chars = c.chars_replaced-chars.result }) c.name.new.self c.name.ensures c.replaced-2.ensures
-    (with_items_is d.overrides c.settle.new.overrides (omega (arith, n, k, s, q, w)) ∙ e) refl refl c.chars_replaced-chars.ensures c.make_change.new.arena c.make_change.new.log c.in_ok-make_change.ensures.arena c.in_ok-make_change.ensures.log
+    replace_done d c.valid.ensures v c.self.view_is a.node c.requires.node_held a.at a.count a.put.now con c.content-content.ensures c.slotted.ensures c.requires.open c.self.invariant own change words words_are short
+    c.replaced-2.new.self (with_items d.overrides c.unset_overrides_if_range_changed.new.overrides).items (record d.counts { chars = c.chars_replaced-chars.result }) c.name.new.self c.name.ensures c.replaced-2.ensures
+    (with_items_is d.overrides c.unset_overrides_if_range_changed.new.overrides (omega (arith, n, k, s, q, w)) ∙ e) refl refl c.chars_replaced-chars.ensures c.make_change.new.arena c.make_change.new.log c.in_ok-make_change.ensures.arena c.in_ok-make_change.ensures.log
 
 pub invariant_of-self-2 : goal.invariant_of-self-2
 invariant_of-self-2 c = (done c).invariant

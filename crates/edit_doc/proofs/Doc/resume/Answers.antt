@@ -8,10 +8,10 @@ use Rattle.edit_doc.proofs.Laid.{resume_answer}
 use Rattle.edit_doc.proofs.Resumes.{some_sides, resume_ok, resume_is}
 use Rattle.edit_doc.proofs.Doc.resume.Goals as goal
 
-pub swap_left-requires : goal.swap_left-requires
-swap_left-requires c =
+pub swap_detached-requires : goal.swap_detached-requires
+swap_detached-requires c =
     let closed = closed_of c.self.inside _ c.self.view_is c.requires.closed in
-    some_sides c.self.inside c.lawful.ensures closed c.self.invariant (c.if-not-resume.ensures.answer.0 refl).0
+    some_sides c.self.inside c.valid.ensures closed c.self.invariant (c.if-not-resume.ensures.answer.0 refl).0
 
 pub returns-then-not-resume-clause-answer : goal.returns-then-not-resume-clause-answer
 returns-then-not-resume-clause-answer c = resume_answer c.self.inside _ c.self.view_is c.self.invariant false c.if-not-resume.ensures.answer
@@ -22,19 +22,19 @@ returns-clause-answer c = resume_answer c.self.inside _ c.self.view_is c.self.in
 keeps : (c : goal.After-self-2-1) → IsKept c.self.inside.points c.self.inside.overrides.items c.self.inside.flags c.self.inside.counts c.in_ok-kept.kept
 keeps c = subst (λ xs. IsKept c.self.inside.points xs c.self.inside.flags c.self.inside.counts c.in_ok-kept.kept) c.deref.ensures.value c.in_ok-kept.ensures
 
-all : (c : goal.After-self-2-1) → c.len-self-inside.result ≡ length c.swap_left.new.command.left.items
-all c = let o = c.swap_left.new.command.left.ok in let e = c.len-self-inside.ensures in omega (arith, o, e)
+all : (c : goal.After-self-2-1) → c.len-self-inside.result ≡ length c.swap_detached.new.command.detached.items
+all c = let o = c.swap_detached.new.command.detached.ok in let e = c.len-self-inside.ensures in omega (arith, o, e)
 
 pub invariant_of-self-2 : goal.invariant_of-self-2
 invariant_of-self-2 c =
     let closed = closed_of c.self.inside _ c.self.view_is c.requires.closed in
-    rw (c.if-not-resume.ensures.log, c.swap_left.ensures.capacity)
-    (resume_ok c.self.inside c.lawful.ensures closed c.self.invariant c.in_ok-kept.kept c.args.host (keeps c) c.swap_left.new.undo_sides.items c.swap_left.new.command c.swap_left.ensures.swapped c.len-self-inside.result (all c)
+    rw (c.if-not-resume.ensures.log, c.swap_detached.ensures.capacity)
+    (resume_ok c.self.inside c.valid.ensures closed c.self.invariant c.in_ok-kept.kept c.args.host (keeps c) c.swap_detached.new.undo_sides.items c.swap_detached.new.command c.swap_detached.ensures.swapped c.len-self-inside.result (all c)
     (subst (λ (w : Whole). IfHeld w c.args.host) (sym c.self.view_is) c.requires.host_held))
 
 pub returns-clause-begun : goal.returns-clause-begun
 returns-clause-begun c =
     let closed = closed_of c.self.inside _ c.self.view_is c.requires.closed in
     rw c.if-not-resume.ensures.log
-    (resume_is c.self.inside c.lawful.ensures closed c.self.invariant c.in_ok-kept.kept c.args.host (keeps c) c.swap_left.new.undo_sides.items c.swap_left.new.command c.swap_left.ensures.swapped c.len-self-inside.result (all c)
+    (resume_is c.self.inside c.valid.ensures closed c.self.invariant c.in_ok-kept.kept c.args.host (keeps c) c.swap_detached.new.undo_sides.items c.swap_detached.new.command c.swap_detached.ensures.swapped c.len-self-inside.result (all c)
     ∙ ap (opened (label_of c.args.host) false true) c.self.view_is)

@@ -20,7 +20,7 @@ returns-then-not-is_own-clause-gives c =
 pub returns-in_default : goal.returns-in_default
 returns-in_default c =
     let a = c.args in
-    let none = attributes_seen c.self.inside c.lawful.ensures a.self.now c.self.view_is a.node c.requires.node_held ∙ (ap (option_and_then attributes_in) c.content.ensures ∙ no_list c.content.result.now c.in_default.not-Element) in
+    let none = attributes_seen c.self.inside c.valid.ensures a.self.now c.self.view_is a.node c.requires.node_held ∙ (ap (option_and_then attributes_in) c.content.ensures ∙ no_list c.content.result.now c.in_default.not-Element) in
     record {
       gives = gives_left (Set a.node.label a.name.now a.value.now) a.self.now.state a.self.now.state (no_list_set a.self.now.state a.node.label a.name.now a.value.now none) refl;
       keeps = keeps_same a.self.now;
@@ -33,7 +33,7 @@ returns-then-has_value-clause-gives c =
     let k = c.in-Element in
     let content : content_of c.self.inside.arena.trees a.node.label ≡ Some (Element k.name k.attributes) = c.content.ensures ∙ ap Some k.is in
     let same : has_value k.attributes a.name.now a.value.now ≡ true = sym c.has_value.ensures ∙ c.if-has_value.true in
-    gives_left (Set a.node.label a.name.now a.value.now) a.self.now.state a.self.now.state (not_set_here c.self.inside a.self.now c.self.view_is c.lawful.ensures c.slotted.ensures c.requires.open c.self.invariant a.node c.requires.node_held k.name k.attributes content a.name.now a.value.now same) refl
+    gives_left (Set a.node.label a.name.now a.value.now) a.self.now.state a.self.now.state (not_set_here c.self.inside a.self.now c.self.view_is c.valid.ensures c.slotted.ensures c.requires.open c.self.invariant a.node c.requires.node_held k.name k.attributes content a.name.now a.value.now same) refl
 
 pub invariant_of-self-2 : goal.invariant_of-self-2
 invariant_of-self-2 c =
@@ -42,8 +42,8 @@ invariant_of-self-2 c =
     let content : content_of c.self.inside.arena.trees a.node.label ≡ Some (Element k.name k.attributes) = c.content.ensures ∙ ap Some k.is in
     let same : c.set.new.self ≡ set_in k.attributes a.name.now a.value.now = c.in_ok-set.ensures.ok ∙ ap (λ xs. set_in xs a.name.now a.value.now) c.in_ok-list.ensures in
     let other : has_value k.attributes a.name.now a.value.now ≡ false = sym c.has_value.ensures ∙ c.if-has_value.false in
-    let may = may_set_here c.self.inside a.self.now c.self.view_is c.lawful.ensures c.slotted.ensures c.requires.open c.self.invariant a.node c.requires.node_held k.name k.attributes content a.name.now a.value.now (sym c.is_own.ensures ∙ c.if-not-is_own.false) other in
-    (set_done c.self.inside a.self.now c.self.view_is c.lawful.ensures c.slotted.ensures c.requires.open c.self.invariant a.node c.requires.node_held k.name k.attributes content c.set.new.self c.name.new.self c.name.ensures c.make_change.new.arena c.make_change.new.log c.in_ok-make_change.ensures.arena c.in_ok-make_change.ensures.log a.name.now a.value.now same may).invariant
+    let may = may_set_here c.self.inside a.self.now c.self.view_is c.valid.ensures c.slotted.ensures c.requires.open c.self.invariant a.node c.requires.node_held k.name k.attributes content a.name.now a.value.now (sym c.is_own.ensures ∙ c.if-not-is_own.false) other in
+    (set_done c.self.inside a.self.now c.self.view_is c.valid.ensures c.slotted.ensures c.requires.open c.self.invariant a.node c.requires.node_held k.name k.attributes content c.set.new.self c.name.new.self c.name.ensures c.make_change.new.arena c.make_change.new.log c.in_ok-make_change.ensures.arena c.in_ok-make_change.ensures.log a.name.now a.value.now same may).invariant
 
 pub returns-clause-gives : goal.returns-clause-gives
 returns-clause-gives c =
@@ -52,8 +52,8 @@ returns-clause-gives c =
     let content : content_of c.self.inside.arena.trees a.node.label ≡ Some (Element k.name k.attributes) = c.content.ensures ∙ ap Some k.is in
     let same : c.set.new.self ≡ set_in k.attributes a.name.now a.value.now = c.in_ok-set.ensures.ok ∙ ap (λ xs. set_in xs a.name.now a.value.now) c.in_ok-list.ensures in
     let other : has_value k.attributes a.name.now a.value.now ≡ false = sym c.has_value.ensures ∙ c.if-has_value.false in
-    let may = may_set_here c.self.inside a.self.now c.self.view_is c.lawful.ensures c.slotted.ensures c.requires.open c.self.invariant a.node c.requires.node_held k.name k.attributes content a.name.now a.value.now (sym c.is_own.ensures ∙ c.if-not-is_own.false) other in
-    (set_done c.self.inside a.self.now c.self.view_is c.lawful.ensures c.slotted.ensures c.requires.open c.self.invariant a.node c.requires.node_held k.name k.attributes content c.set.new.self c.name.new.self c.name.ensures c.make_change.new.arena c.make_change.new.log c.in_ok-make_change.ensures.arena c.in_ok-make_change.ensures.log a.name.now a.value.now same may).gives
+    let may = may_set_here c.self.inside a.self.now c.self.view_is c.valid.ensures c.slotted.ensures c.requires.open c.self.invariant a.node c.requires.node_held k.name k.attributes content a.name.now a.value.now (sym c.is_own.ensures ∙ c.if-not-is_own.false) other in
+    (set_done c.self.inside a.self.now c.self.view_is c.valid.ensures c.slotted.ensures c.requires.open c.self.invariant a.node c.requires.node_held k.name k.attributes content c.set.new.self c.name.new.self c.name.ensures c.make_change.new.arena c.make_change.new.log c.in_ok-make_change.ensures.arena c.in_ok-make_change.ensures.log a.name.now a.value.now same may).gives
 
 pub returns-clause-keeps : goal.returns-clause-keeps
 returns-clause-keeps c =
@@ -62,5 +62,5 @@ returns-clause-keeps c =
     let content : content_of c.self.inside.arena.trees a.node.label ≡ Some (Element k.name k.attributes) = c.content.ensures ∙ ap Some k.is in
     let same : c.set.new.self ≡ set_in k.attributes a.name.now a.value.now = c.in_ok-set.ensures.ok ∙ ap (λ xs. set_in xs a.name.now a.value.now) c.in_ok-list.ensures in
     let other : has_value k.attributes a.name.now a.value.now ≡ false = sym c.has_value.ensures ∙ c.if-has_value.false in
-    let may = may_set_here c.self.inside a.self.now c.self.view_is c.lawful.ensures c.slotted.ensures c.requires.open c.self.invariant a.node c.requires.node_held k.name k.attributes content a.name.now a.value.now (sym c.is_own.ensures ∙ c.if-not-is_own.false) other in
-    (set_done c.self.inside a.self.now c.self.view_is c.lawful.ensures c.slotted.ensures c.requires.open c.self.invariant a.node c.requires.node_held k.name k.attributes content c.set.new.self c.name.new.self c.name.ensures c.make_change.new.arena c.make_change.new.log c.in_ok-make_change.ensures.arena c.in_ok-make_change.ensures.log a.name.now a.value.now same may).keeps
+    let may = may_set_here c.self.inside a.self.now c.self.view_is c.valid.ensures c.slotted.ensures c.requires.open c.self.invariant a.node c.requires.node_held k.name k.attributes content a.name.now a.value.now (sym c.is_own.ensures ∙ c.if-not-is_own.false) other in
+    (set_done c.self.inside a.self.now c.self.view_is c.valid.ensures c.slotted.ensures c.requires.open c.self.invariant a.node c.requires.node_held k.name k.attributes content c.set.new.self c.name.new.self c.name.ensures c.make_change.new.arena c.make_change.new.log c.in_ok-make_change.ensures.arena c.in_ok-make_change.ensures.log a.name.now a.value.now same may).keeps

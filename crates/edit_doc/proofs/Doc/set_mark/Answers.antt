@@ -1,9 +1,9 @@
 use Rattle.std.proofs.Common.{◌≡◌, Result, Ok, Err, OnOk, OnErr, sym, ap, subst, ◌∙◌}
 use Rattle.live_range.specs.LivePoints.{LivePoints, with_mark}
-use Rattle.edit_model.specs.Lawful.{IsPlacedPair}
+use Rattle.edit_model.specs.Valid.{IsPlacedPair}
 use Rattle.edit_doc.specs.Whole.{Whole}
 use Rattle.edit_doc.specs.History.{whole_of}
-use Rattle.edit_doc.specs.Sound.{IsSound}
+use Rattle.edit_doc.specs.Sound.{IsSoundDoc}
 use Rattle.edit_doc.proofs.Inner.{closed_of}
 use Rattle.edit_doc.proofs.LongerNames.{marked_ok, marked_is}
 use Rattle.edit_doc.proofs.Doc.set_mark.Goals as goal
@@ -24,7 +24,7 @@ invariant_of-self c =
     let closed = closed_of d c.args.self.now c.self.view_is c.requires.closed in
     let placed = subst (λ (w : Whole). IsPlacedPair w.state.trees c.args.pair) (sym c.self.view_is) c.requires.placed in
     after_either
-    (λ points. IsSound d.arena points d.overrides.items d.flags d.counts d.command d.log d.undo_sides.items d.redo_sides.items d.undo_sides.capacity d.redo_sides.capacity)
+    (λ points. IsSoundDoc d.arena points d.overrides.items d.flags d.counts d.command d.log d.undo_sides.items d.redo_sides.items d.undo_sides.capacity d.redo_sides.capacity)
     c.set_mark.result c.set_mark.new.self (with_mark c.args.name.now c.args.pair d.points) d.points c.set_mark.ensures.set c.set_mark.ensures.err
     (marked_ok d ok closed c.args.name.now c.args.pair placed) ok
 

@@ -4,7 +4,7 @@ use Rattle.std.proofs.lemmas.Bool.{and_parts}
 use Rattle.undo_log.specs.Log.{is_open}
 use Rattle.edit_model.specs.Action.{acted, scratched, with_scratch}
 use Rattle.edit_model.specs.Confined.{may_select}
-use Rattle.edit_model.specs.Lawful.{IsPlacedPair}
+use Rattle.edit_model.specs.Valid.{IsPlacedPair}
 use Rattle.edit_doc.specs.Whole.{Whole, with_state}
 use Rattle.edit_doc.proofs.Inner.{open_of}
 use Rattle.edit_doc.proofs.Chosen.{other_ok}
@@ -15,12 +15,12 @@ unfolding may_select
 invariant_of-self c =
     let d = c.self.inside in
     let ok = c.self.invariant in
-    let placed = ok.lawful.placed in
+    let placed = ok.valid.placed in
     let both = and_parts (may_select c.args.self.now.state c.args.pair.anchor) (may_select c.args.self.now.state c.args.pair.focus) (sym c.may_keep.ensures ∙ c.if-may_keep.true) in
     let pair : IsPlacedPair c.args.self.now.state.trees c.args.pair = record { anchor = both.0; focus = both.1 } in
     rw c.set_scratch.ensures (other_ok d ok d.points.selection (Some c.args.pair) d.points.marks d.overrides.items d.flags
     (record { selection = placed.selection; scratch = subst (λ (w : Whole). IsPlacedPair w.state.trees c.args.pair) (sym c.self.view_is) pair; marks = placed.marks })
-    ok.lawful.settings
+    ok.valid.settings
     (λ closed. absurd (let opened = open_of d _ c.self.view_is c.requires in let no : IsTrue false = subst (λ o. IsTrue (is_open o)) closed opened in cc)))
 
 pub returns-then-may_keep : goal.returns-then-may_keep

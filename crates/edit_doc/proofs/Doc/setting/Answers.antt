@@ -11,6 +11,6 @@ returns c =
     let list = c.self.inside.overrides.items in
     let low : c.place_of.result < 32 = c.place_of.ensures.bound in
     c.index.ensures
-    ∙ (any_default list c.place_of.result c.index.result.now Absent (subst (λ n. c.place_of.result < n) (sym c.self.invariant.lawful.settings) low)
+    ∙ (any_default list c.place_of.result c.index.result.now Absent (subst (λ n. c.place_of.result < n) (sym c.self.invariant.valid.settings) low)
     ∙ (ap (λ n. get_or list n Absent) c.place_of.ensures.place
     ∙ ap (λ (w : Whole). get_or w.state.overrides (place_of c.args.command) Absent) c.self.view_is))

@@ -8,19 +8,19 @@ use Rattle.edit_doc.proofs.Laid.{undo_edits}
 use Rattle.edit_doc.proofs.Doc.undo.Goals as goal
 
 pub undo-requires-clause-fit : goal.undo-requires-clause-fit
-undo-requires-clause-fit g c = undo_fits c.self.inside _ c.self.view_is c.lawful-2.ensures c.slotted.ensures c.lawful.ensures (closed_of c.self.inside _ c.self.view_is c.requires.closed) c.self.invariant
+undo-requires-clause-fit g c = undo_fits c.self.inside _ c.self.view_is c.valid-2.ensures c.slotted.ensures c.valid.ensures (closed_of c.self.inside _ c.self.view_is c.requires.closed) c.self.invariant
 
 pub returns-then-not-undo-clause-doc : goal.returns-then-not-undo-clause-doc
 returns-then-not-undo-clause-doc g c =
     let u = c.if-not-undo.ensures in
-    undo_none c.self.inside _ c.self.view_is c.lawful-2.ensures c.slotted.ensures c.lawful.ensures (closed_of c.self.inside _ c.self.view_is c.requires.closed) c.self.invariant _ _
+    undo_none c.self.inside _ c.self.view_is c.valid-2.ensures c.slotted.ensures c.valid.ensures (closed_of c.self.inside _ c.self.view_is c.requires.closed) c.self.invariant _ _
     (λ h. let e = u.answer.1 h in absurd (cc)) u.state u.log
 
 unset : (g : _) (c : goal.Joined-push_front g) → (with_items c.self.inside.overrides c.unset_overrides.new.overrides).items ≡ no_overrides
 unset g c =
     let e : c.unset_overrides.new.overrides ≡ no_overrides = c.unset_overrides.ensures in
     let a = ap length e in
-    let s : length c.self.inside.overrides.items ≡ 32 = c.self.invariant.lawful.settings in
+    let s : length c.self.inside.overrides.items ≡ 32 = c.self.invariant.valid.settings in
     let l = c.deref_mut.ensures.len in
     let w = ap length c.deref_mut.ensures.value in
     with_items_is c.self.inside.overrides c.unset_overrides.new.overrides (omega (arith, a, unset_length, s, l, w)) ∙ e
@@ -30,16 +30,16 @@ invariant_of-self-2 g c =
     let u = c.if-not-undo.ensures in
     let more : 0 < length c.self.inside.log.undo = u.answer.0 refl in
     rw (c.pop_front.ensures.items, c.push_front.ensures.items, unset g c)
-    (undo_done c.self.inside _ c.self.view_is c.lawful-2.ensures c.slotted.ensures c.lawful.ensures (closed_of c.self.inside _ c.self.view_is c.requires.closed) c.self.invariant
-    _ _ _ _ _ _ c.unwrap-beside.result more c.lawful-3.ensures u.state u.log c.set_places.ensures c.counts_before-self-inside.ensures.nodes c.counts_before-self-inside.ensures.chars c.counts_before-self-inside.ensures.depth refl (sym c.unwrap-beside.ensures ∙ c.pop_front.ensures.value) refl).invariant
+    (undo_done c.self.inside _ c.self.view_is c.valid-2.ensures c.slotted.ensures c.valid.ensures (closed_of c.self.inside _ c.self.view_is c.requires.closed) c.self.invariant
+    _ _ _ _ _ _ c.unwrap-snapshot.result more c.valid-3.ensures u.state u.log c.set_places.ensures c.counts_before-self-inside.ensures.nodes c.counts_before-self-inside.ensures.chars c.counts_before-self-inside.ensures.depth refl (sym c.unwrap-snapshot.ensures ∙ c.pop_front.ensures.value) refl).invariant
 
 pub returns-clause-doc : goal.returns-clause-doc
 returns-clause-doc g c =
     let u = c.if-not-undo.ensures in
     let more : 0 < length c.self.inside.log.undo = u.answer.0 refl in
     rw (c.pop_front.ensures.items, c.push_front.ensures.items, unset g c)
-    (undo_done c.self.inside _ c.self.view_is c.lawful-2.ensures c.slotted.ensures c.lawful.ensures (closed_of c.self.inside _ c.self.view_is c.requires.closed) c.self.invariant
-    _ _ _ _ _ _ c.unwrap-beside.result more c.lawful-3.ensures u.state u.log c.set_places.ensures c.counts_before-self-inside.ensures.nodes c.counts_before-self-inside.ensures.chars c.counts_before-self-inside.ensures.depth refl (sym c.unwrap-beside.ensures ∙ c.pop_front.ensures.value) refl).value
+    (undo_done c.self.inside _ c.self.view_is c.valid-2.ensures c.slotted.ensures c.valid.ensures (closed_of c.self.inside _ c.self.view_is c.requires.closed) c.self.invariant
+    _ _ _ _ _ _ c.unwrap-snapshot.result more c.valid-3.ensures u.state u.log c.set_places.ensures c.counts_before-self-inside.ensures.nodes c.counts_before-self-inside.ensures.chars c.counts_before-self-inside.ensures.depth refl (sym c.unwrap-snapshot.ensures ∙ c.pop_front.ensures.value) refl).value
 
 pub returns-clause-count : goal.returns-clause-count
 returns-clause-count g c =

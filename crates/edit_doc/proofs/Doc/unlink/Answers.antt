@@ -5,7 +5,7 @@ use Rattle.std.proofs.lemmas.List.{with_items_is}
 use Rattle.edit_steps.specs.declared.step.Step.TheVariants.{Unlink}
 use Rattle.edit_model.specs.Edit.{Remove}
 use Rattle.edit_doc.proofs.Edited.{Applied}
-use Rattle.edit_doc.proofs.Removed.{place_markable, up, fits, left, trees, points_are, unlink_done}
+use Rattle.edit_doc.proofs.Removed.{place_markable, up, fits, detached, trees, points_are, unlink_done}
 use Rattle.edit_doc.proofs.Roomier.{room_made}
 use Rattle.edit_doc.proofs.SeenNodes.{finds_next}
 use Rattle.edit_doc.proofs.Settling.{points_now, placed_called, overrides_length, settled_items}
@@ -17,7 +17,7 @@ invariant_of-self c =
     room_made d.command c.reserve.new.self c.reserve.ensures.items d.arena d.points d.overrides.items d.flags d.counts d.log d.undo_sides.items d.redo_sides.items d.undo_sides.capacity d.redo_sides.capacity c.self.invariant
 
 pub watch_range-watch-requires-clause-placed : goal.watch_range-watch-requires-clause-placed
-watch_range-watch-requires-clause-placed c = (points_now c.self.inside c.lawful.ensures c.self.invariant).selection
+watch_range-watch-requires-clause-placed c = (points_now c.self.inside c.valid.ensures c.self.invariant).selection
 
 pub invariant_of-self-in_err-make_change : goal.invariant_of-self-in_err-make_change
 invariant_of-self-in_err-make_change c =
@@ -29,48 +29,48 @@ pub name_place-requires : goal.name_place-requires
 name_place-requires c =
     let a = c.args in
     let d = c.self.inside in
-    let next = finds_next d c.lawful.ensures a.self.now c.self.view_is a.node c.requires.node_held c.next-next.result c.next-next.ensures in
-    place_markable d c.lawful.ensures a.self.now c.self.view_is c.requires.open c.self.invariant a.node a.parent c.next-next.result c.requires.node_held c.requires.parent_held next.held
+    let next = finds_next d c.valid.ensures a.self.now c.self.view_is a.node c.requires.node_held c.next-next.result c.next-next.ensures in
+    place_markable d c.valid.ensures a.self.now c.self.view_is c.requires.open c.self.invariant a.node a.parent c.next-next.result c.requires.node_held c.requires.parent_held next.held
 
-pub settle-requires-clause-placed : goal.settle-requires-clause-placed
-settle-requires-clause-placed c =
+pub unset_overrides_if_range_changed-requires-clause-placed : goal.unset_overrides_if_range_changed-requires-clause-placed
+unset_overrides_if_range_changed-requires-clause-placed c =
     let a = c.args in
     let d = c.self.inside in
     let v = a.self.now in
     let child = c.requires.child in
     let may = c.requires.possible in
-    let x = fits d c.lawful.ensures v c.self.view_is a.node c.requires.node_held a.parent child c.slotted.ensures c.requires.open c.self.invariant may in
-    let l = left d c.lawful.ensures v c.self.view_is a.node c.requires.node_held a.parent child c.slotted.ensures c.requires.open c.self.invariant may in
-    let t = trees d c.lawful.ensures v c.self.view_is a.node c.requires.node_held a.parent child c.slotted.ensures c.requires.open c.self.invariant may in
-    let p = points_are d c.lawful.ensures v c.self.view_is a.node c.requires.node_held a.parent child c.slotted.ensures c.requires.open c.self.invariant may in
+    let x = fits d c.valid.ensures v c.self.view_is a.node c.requires.node_held a.parent child c.slotted.ensures c.requires.open c.self.invariant may in
+    let l = detached d c.valid.ensures v c.self.view_is a.node c.requires.node_held a.parent child c.slotted.ensures c.requires.open c.self.invariant may in
+    let t = trees d c.valid.ensures v c.self.view_is a.node c.requires.node_held a.parent child c.slotted.ensures c.requires.open c.self.invariant may in
+    let p = points_are d c.valid.ensures v c.self.view_is a.node c.requires.node_held a.parent child c.slotted.ensures c.requires.open c.self.invariant may in
     let moved = c.adjust.ensures d.arena.trees a.node.label a.parent.label c.removal_of-removal.ensures in
-    (placed_called d v c.self.view_is c.lawful.ensures c.requires.open c.self.invariant (Remove a.node.label) (Unlink a.node) x l may t c.adjust.new.points c.make_change.new.arena (moved ∙ p) c.in_ok-make_change.ensures.arena).selection
+    (placed_called d v c.self.view_is c.valid.ensures c.requires.open c.self.invariant (Remove a.node.label) (Unlink a.node) x l may t c.adjust.new.points c.make_change.new.arena (moved ∙ p) c.in_ok-make_change.ensures.arena).selection
 
-done : (c : goal.After-self-1) → Applied c.self.inside c.args.self.now (Remove c.args.node.label) c.make_change.new.arena c.adjust.new.points (with_items c.self.inside.overrides c.settle.new.overrides).items c.counts_without-counts.result c.name_place.new.self c.make_change.new.log
+done : (c : goal.After-self-1) → Applied c.self.inside c.args.self.now (Remove c.args.node.label) c.make_change.new.arena c.adjust.new.points (with_items c.self.inside.overrides c.unset_overrides_if_range_changed.new.overrides).items c.counts_without-counts.result c.name_place.new.self c.make_change.new.log
 done c =
     let a = c.args in
     let d = c.self.inside in
     let v = a.self.now in
     let child = c.requires.child in
     let may = c.requires.possible in
-    let x = fits d c.lawful.ensures v c.self.view_is a.node c.requires.node_held a.parent child c.slotted.ensures c.requires.open c.self.invariant may in
-    let l = left d c.lawful.ensures v c.self.view_is a.node c.requires.node_held a.parent child c.slotted.ensures c.requires.open c.self.invariant may in
-    let t = trees d c.lawful.ensures v c.self.view_is a.node c.requires.node_held a.parent child c.slotted.ensures c.requires.open c.self.invariant may in
-    let p = points_are d c.lawful.ensures v c.self.view_is a.node c.requires.node_held a.parent child c.slotted.ensures c.requires.open c.self.invariant may in
+    let x = fits d c.valid.ensures v c.self.view_is a.node c.requires.node_held a.parent child c.slotted.ensures c.requires.open c.self.invariant may in
+    let l = detached d c.valid.ensures v c.self.view_is a.node c.requires.node_held a.parent child c.slotted.ensures c.requires.open c.self.invariant may in
+    let t = trees d c.valid.ensures v c.self.view_is a.node c.requires.node_held a.parent child c.slotted.ensures c.requires.open c.self.invariant may in
+    let p = points_are d c.valid.ensures v c.self.view_is a.node c.requires.node_held a.parent child c.slotted.ensures c.requires.open c.self.invariant may in
     let moved = c.adjust.ensures d.arena.trees a.node.label a.parent.label c.removal_of-removal.ensures in
-    let n = overrides_length d v c.self.view_is c.lawful.ensures c.requires.open c.self.invariant (Remove a.node.label) (Unlink a.node) x l may t in
-    let e = settled_items d v c.self.view_is c.lawful.ensures c.requires.open c.self.invariant (Remove a.node.label) (Unlink a.node) x l may t
-    c.settle.new.overrides c.deref.result.now c.deref_mut.result.now c.adjust.new.points c.make_change.new.arena c.watch_range-watch.result (moved ∙ p) c.in_ok-make_change.ensures.arena c.deref.ensures.value c.deref_mut.ensures.value c.watch_range-watch.ensures c.settle.ensures in
+    let n = overrides_length d v c.self.view_is c.valid.ensures c.requires.open c.self.invariant (Remove a.node.label) (Unlink a.node) x l may t in
+    let e = settled_items d v c.self.view_is c.valid.ensures c.requires.open c.self.invariant (Remove a.node.label) (Unlink a.node) x l may t
+    c.unset_overrides_if_range_changed.new.overrides c.deref.result.now c.deref_mut.result.now c.adjust.new.points c.make_change.new.arena c.watch_range-watch.result (moved ∙ p) c.in_ok-make_change.ensures.arena c.deref.ensures.value c.deref_mut.ensures.value c.watch_range-watch.ensures c.unset_overrides_if_range_changed.ensures in
     let k = ap length e in
-    let s : length d.overrides.items ≡ 32 = c.self.invariant.lawful.settings in
+    let s : length d.overrides.items ≡ 32 = c.self.invariant.valid.settings in
     let q = c.deref_mut.ensures.len in
     let w = ap length c.deref_mut.ensures.value in
     let room = c.in_ok-reserve.ensures.ok in
     let put = c.push.ensures.succeeds (omega (arith, room)) in
-    let pushed : c.push.new.self.items ≡ d.command.left.items ++ a.node ∷ [] = c.push.ensures.items ∙ (ap (λ b. if b then (c.reserve.new.self.items ++ a.node ∷ []) else c.reserve.new.self.items) put ∙ ap (λ xs. xs ++ a.node ∷ []) c.reserve.ensures.items) in
-    unlink_done d c.lawful.ensures v c.self.view_is a.node c.requires.node_held a.parent child c.slotted.ensures c.requires.open c.self.invariant may
-    c.adjust.new.points (with_items d.overrides c.settle.new.overrides).items c.counts_without-counts.result (record d.command { left = c.push.new.self }) c.name_place.new.self c.next-next.result c.next-next.ensures.is
-    refl pushed c.name_place.ensures moved (with_items_is d.overrides c.settle.new.overrides (omega (arith, n, k, s, q, w)) ∙ e) c.counts_without-counts.ensures.nodes c.counts_without-counts.ensures.chars c.counts_without-counts.ensures.depth
+    let pushed : c.push.new.self.items ≡ d.command.detached.items ++ a.node ∷ [] = c.push.ensures.items ∙ (ap (λ b. if b then (c.reserve.new.self.items ++ a.node ∷ []) else c.reserve.new.self.items) put ∙ ap (λ xs. xs ++ a.node ∷ []) c.reserve.ensures.items) in
+    unlink_done d c.valid.ensures v c.self.view_is a.node c.requires.node_held a.parent child c.slotted.ensures c.requires.open c.self.invariant may
+    c.adjust.new.points (with_items d.overrides c.unset_overrides_if_range_changed.new.overrides).items c.counts_without-counts.result (record d.command { detached = c.push.new.self }) c.name_place.new.self c.next-next.result c.next-next.ensures.is
+    refl pushed c.name_place.ensures moved (with_items_is d.overrides c.unset_overrides_if_range_changed.new.overrides (omega (arith, n, k, s, q, w)) ∙ e) c.counts_without-counts.ensures.nodes c.counts_without-counts.ensures.chars c.counts_without-counts.ensures.depth
     c.make_change.new.arena c.make_change.new.log c.in_ok-make_change.ensures.arena c.in_ok-make_change.ensures.log
 
 pub invariant_of-self-2 : goal.invariant_of-self-2
@@ -83,9 +83,9 @@ pub returns-clause-keeps : goal.returns-clause-keeps
 returns-clause-keeps c = (done c).keeps
 
 pub counts_without-counts-requires-clause-child : goal.counts_without-counts-requires-clause-child
-counts_without-counts-requires-clause-child c = up c.self.inside c.lawful.ensures c.args.self.now c.self.view_is c.args.node c.requires.node_held c.args.parent c.requires.child
+counts_without-counts-requires-clause-child c = up c.self.inside c.valid.ensures c.args.self.now c.self.view_is c.args.node c.requires.node_held c.args.parent c.requires.child
 
 pub make_change-requires-clause-fits : goal.make_change-requires-clause-fits
 make_change-requires-clause-fits c =
     let a = c.args in
-    fits c.self.inside c.lawful.ensures a.self.now c.self.view_is a.node c.requires.node_held a.parent c.requires.child c.slotted.ensures c.requires.open c.self.invariant c.requires.possible
+    fits c.self.inside c.valid.ensures a.self.now c.self.view_is a.node c.requires.node_held a.parent c.requires.child c.slotted.ensures c.requires.open c.self.invariant c.requires.possible

@@ -1,5 +1,5 @@
 use Rattle.std.proofs.Common.{◌≡◌, ◌∙◌, sym, subst}
-use Rattle.edit_steps.specs.Step.{StepFits, step_applied, step_turned}
+use Rattle.edit_steps.specs.Step.{StepFits, step_applied, step_inverse}
 use Rattle.edit_steps.specs.StepLaws.{step_fits_again, step_state_again}
 use Rattle.edit_doc.proofs.change.make_change.Goals as goal
 
@@ -7,12 +7,12 @@ pub apply-requires-in-Err : goal.apply-requires-in-Err
 apply-requires-in-Err c =
     let a = c.args.arena.now in
     let x = c.args.change in
-    let step : c.in-Err.step ≡ step_turned x a = c.in-Err.ensures.err.0 ∙ c.apply.ensures.step in
-    subst (λ s. StepFits s c.apply.new.arena) (sym step) (subst (StepFits (step_turned x a)) (sym c.apply.ensures.state) (step_fits_again x a c.requires.fits))
+    let step : c.in-Err.step ≡ step_inverse x a = c.in-Err.ensures.err.0 ∙ c.apply.ensures.step in
+    subst (λ s. StepFits s c.apply.new.arena) (sym step) (subst (StepFits (step_inverse x a)) (sym c.apply.ensures.state) (step_fits_again x a c.requires.fits))
 
 pub returns-in-Err-clause-err : goal.returns-in-Err-clause-err
 returns-in-Err-clause-err c =
     let a = c.args.arena.now in
     let x = c.args.change in
-    let step : c.in-Err.step ≡ step_turned x a = c.in-Err.ensures.err.0 ∙ c.apply.ensures.step in
+    let step : c.in-Err.step ≡ step_inverse x a = c.in-Err.ensures.err.0 ∙ c.apply.ensures.step in
     (c.apply-in-Err.ensures.state ∙ ((λ i. step_applied (step i) (c.apply.ensures.state i)) ∙ step_state_again x a c.requires.fits), c.in-Err.ensures.err.1)

@@ -4,8 +4,8 @@ use Rattle.edit_doc.proofs.commands.keep_entry.Goals as goal
 pub returns-else-command-clause-entered : goal.returns-else-command-clause-entered
 returns-else-command-clause-entered c =
     rw (c.push_front.ensures.items, c.if-command.false) (
-      record { sides = c.beside-beside.result.sides; left = c.swap-else-command.new.x },
-      c.beside-beside.ensures.sides,
+      record { sides = c.snapshot-snapshot.result.sides; detached = c.swap-else-command.new.x },
+      c.snapshot-snapshot.ensures.sides,
       (λ i. (c.swap-else-command.ensures.x_after i).items),
       refl,
       c.push_front.ensures.value,

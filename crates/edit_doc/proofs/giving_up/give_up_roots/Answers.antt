@@ -9,7 +9,7 @@ give_up_root-requires-clause-inner c = c.requires.inner _ (listed_at c.args.root
 
 pub give_up_root-requires-clause-loose : goal.give_up_root-requires-clause-loose
 give_up_root-requires-clause-loose c =
-    roots_loose c.args.arena.now c.loop-i.arena c.args.roots.now c.loop-i.i _ c.lawful.ensures
+    roots_loose c.args.arena.now c.loop-i.arena c.args.roots.now c.loop-i.i _ c.valid.ensures
     (c.requires.loose _ (listed_at c.args.roots.now c.loop-i.i record { slot = 0; label = 0 } c.loop-i-test.true)) c.loop-i.invariant
 
 pub loop-i-preserved : goal.loop-i-preserved

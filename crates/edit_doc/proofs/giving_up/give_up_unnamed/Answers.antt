@@ -11,7 +11,7 @@ pub give_up_root-requires-clause-loose : goal.give_up_root-requires-clause-loose
 give_up_root-requires-clause-loose c =
     let u = is_unnamed c.args.low c.args.command.now in
     let unnamed = unnamed_in c.args.low c.args.command.now c.loop-label.label c.loop-label.auto.label (sym c.has_named.ensures ∙ c.if-not-has_named.true) in
-    still_loose u c.args.arena.now c.loop-label.arena c.loop-label.label c.loop-label.label c.lawful.ensures (c.requires.loose c.loop-label.label unnamed) c.loop-label.invariant
+    still_loose u c.args.arena.now c.loop-label.arena c.loop-label.label c.loop-label.label c.valid.ensures (c.requires.loose c.loop-label.label unnamed) c.loop-label.invariant
 
 pub loop-label-preserved : goal.loop-label-preserved
 loop-label-preserved c =
@@ -29,4 +29,4 @@ loop-label-preserved c =
 pub returns : goal.returns
 returns c =
     let all : c.args.arena.now.next ≤ c.loop-label.label = (let e = c.next_label-label-end.ensures in omega (arith, e, c.loop-label-test.false)) in
-    gives_all (is_unnamed c.args.low c.args.command.now) c.args.arena.now c.loop-label.arena c.loop-label.label c.lawful.ensures all c.loop-label.invariant
+    gives_all (is_unnamed c.args.low c.args.command.now) c.args.arena.now c.loop-label.arena c.loop-label.label c.valid.ensures all c.loop-label.invariant

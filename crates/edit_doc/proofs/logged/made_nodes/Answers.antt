@@ -1,6 +1,6 @@
 use Rattle.std.proofs.Common.{◌≡◌, ℕ, ◌+◌, ◌-◌, ◌<◌, ◌≤◌, ◌++◌, map, Bool, false, List, length, get_or, Vec, Global, sym, ap, ◌∙◌, arith, append-nil}
 use Rattle.std.proofs.lemmas.List.{get_or_default}
-use Rattle.live_range.specs.Edit.{has_label}
+use Rattle.live_range.specs.PointsEdit.{has_label}
 use Rattle.forest_changes.specs.Named.{named_in}
 use Rattle.forest_changes.proofs.ChangeLists.{each_of}
 use Rattle.edit_model.specs.History.{used}
@@ -27,7 +27,7 @@ loop-label-preserved c =
     let low = c.loop-label.auto.label in
     let marks = c.in_ok-marks.ensures in
     let tells : b ≡ has_label (named_in xs) n = told c.in_ok-marks.marks.items (named_in xs) c.args.first c.args.end n b marks.count marks.marked low c.loop-label-test.true c.index.ensures in
-    let step = used_step xs f n b c.lawful.ensures.distinct c.lawful.ensures.rising (c.requires.fresh.loose n low) tells in
+    let step = used_step xs f n b c.valid.ensures.distinct c.valid.ensures.rising (c.requires.fresh.loose n low) tells in
     let one = listed_one c.loop-label.nodes.items b (node_at f n) (used xs (roots_from (n + 1) f)) (used xs (roots_from n f)) step c.if-index.nodes.items in
     one (elim c.if-index.branch [
       | then-index+in_ok-push_node w ↦ rw w.if-index.true (ap (λ (v : Vec MadeNode Global). v.items) w.nodes-is ∙ w.in_ok-push_node.ensures)

@@ -30,7 +30,7 @@ returns-in-Ok-true c =
     let m = action_of c.args.command c.args.value.now in
     let begins = c.in_ok-open.ensures.opened ∙ ap (λ (r : Row). opened (affected_host c.args.doc.now.state) r.keeping c.args.joining c.args.doc.now) c.row_of.ensures in (
       made c.args.doc.now c.open.new.doc c.take_action.new.doc c.args.joining k m begins c.take_action.ensures.keeps
-          c.commit.new.self c.in-Ok-true.ensures.gives.0 (c.in-Ok-true.ensures.gives.1 ∙ c.in-Ok-true.field-0-test) c.lawful.ensures c.commit.ensures.state c.commit.ensures.history c.commit.ensures.closed,
+          c.commit.new.self c.in-Ok-true.ensures.gives.0 (c.in-Ok-true.ensures.gives.1 ∙ c.in-Ok-true.field-0-test) c.valid.ensures c.commit.ensures.state c.commit.ensures.history c.commit.ensures.closed,
       tells_edits c.args.doc.now c.open.new.doc c.take_action.new.doc c.args.joining k m begins c.take_action.ensures.keeps
           c.commit.result c.in-Ok-true.ensures.gives.0 c.commit.ensures.answer,
     )
@@ -39,7 +39,7 @@ pub returns-in-Ok-false : goal.returns-in-Ok-false
 returns-in-Ok-false c =
     let begins = c.in_ok-open.ensures.opened ∙ ap (λ (r : Row). opened (affected_host c.args.doc.now.state) r.keeping c.args.joining c.args.doc.now) c.row_of.ensures in
     refused c.args.doc.now c.open.new.doc c.take_action.new.doc c.args.joining (row_of c.args.command).keeping (action_of c.args.command c.args.value.now) begins c.take_action.ensures.keeps
-    c.roll_back.new.self c.in-Ok-false.ensures.gives.0 (c.in-Ok-false.ensures.gives.1 ∙ c.in-Ok-false.field-0-test) c.lawful-in-Ok-false.ensures c.roll_back.ensures.state c.roll_back.ensures.history c.roll_back.ensures.closed
+    c.roll_back.new.self c.in-Ok-false.ensures.gives.0 (c.in-Ok-false.ensures.gives.1 ∙ c.in-Ok-false.field-0-test) c.valid-in-Ok-false.ensures c.roll_back.ensures.state c.roll_back.ensures.history c.roll_back.ensures.closed
 
 pub returns-in-Err : goal.returns-in-Err
 returns-in-Err c =

@@ -5,7 +5,7 @@ use Rattle.std.proofs.lemmas.Bool.Decides.{eqb_tells}
 use Rattle.std.proofs.lemmas.Option.{slice_get_within}
 use Rattle.dom_model.specs.Forest.{count_of, preorder, tree_of}
 use Rattle.dom_model.proofs.Totals.{total-without}
-use Rattle.live_range.specs.Edit.{has_label}
+use Rattle.live_range.specs.PointsEdit.{has_label}
 use Rattle.live_range.specs.LivePoints.{standing, labels_of}
 use Rattle.edit_model.proofs.Points.{has_label-preorder}
 use Rattle.edit_parts.proofs.Standing.{standing-label, standing-few, label_next, label_noted, label_is, within_label, absent_label, tells_in, tells_out, past_end}
@@ -13,16 +13,16 @@ use Rattle.edit_parts.proofs.following.labels_within.Goals as goal
 use Rattle.edit_parts.proofs.following.labels_within.Goals.{in-Some-find+then-is_within, in-Some-find+else-is_within, in_default-find}
 
 pub offset_bounds-labels-count : goal.offset_bounds-labels-count
-offset_bounds-labels-count c = omega (arith, standing-few c.args.points.now c.lawful.ensures, c.loop-label.invariant.within, c.loop-label.invariant.few)
+offset_bounds-labels-count c = omega (arith, standing-few c.args.points.now c.valid.ensures, c.loop-label.invariant.within, c.loop-label.invariant.few)
 
 pub bounds-labels-count : goal.bounds-labels-count
-bounds-labels-count c = omega (arith, standing-few c.args.points.now c.lawful.ensures, slice_get_within (standing c.args.points.now) c.loop-label.place c.in-Some.label (sym c.in-Some.ensures), c.loop-label.invariant.few)
+bounds-labels-count c = omega (arith, standing-few c.args.points.now c.valid.ensures, slice_get_within (standing c.args.points.now) c.loop-label.place c.in-Some.label (sym c.in-Some.ensures), c.loop-label.invariant.few)
 
 pub overflow_add-count : goal.overflow_add-count
-overflow_add-count c = omega (arith, standing-few c.args.points.now c.lawful.ensures, c.loop-label.invariant.within, c.loop-label.invariant.few)
+overflow_add-count c = omega (arith, standing-few c.args.points.now c.valid.ensures, c.loop-label.invariant.within, c.loop-label.invariant.few)
 
 pub overflow_add-place : goal.overflow_add-place
-overflow_add-place c = omega (arith, standing-few c.args.points.now c.lawful.ensures, c.loop-label.invariant.within)
+overflow_add-place c = omega (arith, standing-few c.args.points.now c.valid.ensures, c.loop-label.invariant.within)
 
 pub loop-label-smaller : goal.loop-label-smaller
 loop-label-smaller c = omega (arith, slice_get_within (standing c.args.points.now) c.loop-label.place c.in-Some.label (sym c.in-Some.ensures))
@@ -34,7 +34,7 @@ loop-label-preserved c =
     let top = c.args.top.label in
     let inv = c.loop-label.invariant in
     let here = slice_get_within xs c.loop-label.place c.in-Some.label (sym c.in-Some.ensures) in
-    let few = standing-few c.args.points.now c.lawful.ensures in
+    let few = standing-few c.args.points.now c.valid.ensures in
     let more = λ (x : ℕ). ap (λ b. b && has_label (preorder (tree_of f top)) x) (sym (label_next xs c.loop-label.place c.in-Some.label x (sym c.in-Some.ensures))) in
     elim c.match-find.branch [
       | in-Some-find+then-is_within w ↦ (
@@ -66,7 +66,7 @@ loop-label-preserved c =
     ]
 
 pub returns-clause-few : goal.returns-clause-few
-returns-clause-few c = omega (arith, standing-few c.args.points.now c.lawful.ensures, c.loop-label.invariant.within, c.loop-label.invariant.few)
+returns-clause-few c = omega (arith, standing-few c.args.points.now c.valid.ensures, c.loop-label.invariant.within, c.loop-label.invariant.few)
 
 pub returns-clause-tells : goal.returns-clause-tells
 returns-clause-tells c = λ l stands.

@@ -1,14 +1,14 @@
 use Rattle.std.proofs.Common.{◌≡◌, ◌<◌, ℕ, arith, Some, rules}
 use Rattle.std.proofs.lemmas.Bool.Decides.{nat_tests}
 use Rattle.live_range.specs.declared.places.Point.{Point}
-use Rattle.live_range.specs.Edit.{Inserted, PointFits}
+use Rattle.live_range.specs.PointsEdit.{Insert, PointFits}
 use Rattle.live_range.specs.LivePoints.{Fits, LivePoints, no_points}
 use Rattle.edit_parts.proofs.tests.after_insertion.Goals as goal
 
-below : (parent index : ℕ) (at : Point) → at.offset < 1000 → PointFits (Inserted parent index) at
+below : (parent index : ℕ) (at : Point) → at.offset < 1000 → PointFits (Insert parent index) at
 below parent index at h = grind (arith, nat_tests)
 
-fits : (parent index : ℕ) (at : Point) → at.offset < 1000 → Fits (Inserted parent index) (record no_points { selection = Some (record { anchor = at; focus = at }) })
+fits : (parent index : ℕ) (at : Point) → at.offset < 1000 → Fits (Insert parent index) (record no_points { selection = Some (record { anchor = at; focus = at }) })
 fits parent index at h = record { selection = (below parent index at h, below parent index at h); scratch = tt; marks = search rules }
 
 pub adjust_inserted-requires-clause-fits : goal.adjust_inserted-requires-clause-fits

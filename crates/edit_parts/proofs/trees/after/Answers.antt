@@ -8,7 +8,7 @@ use Rattle.edit_parts.proofs.trees.after.Goals as goal
 pub returns-in-Some-clause-found : goal.returns-in-Some-clause-found
 returns-in-Some-clause-found c =
     let s = c.args.arena.now in
-    let law = c.lawful.ensures in
+    let law = c.valid.ensures in
     let at = c.loop-at.at in
     let off = λ (e : c.args.top.label ≡ at.node.label). c.loop-at-test.true (sym e) in
     let is = sym c.in-Some.ensures.is in (
@@ -18,12 +18,12 @@ returns-in-Some-clause-found c =
 
 pub loop-at-smaller : goal.loop-at-smaller
 loop-at-smaller c =
-    omega (arith, depth_of-parent c.args.arena.now.trees c.loop-at.at.node.label c.in-Some-parent.parent.label c.lawful.ensures.distinct (sym c.in-Some-parent.ensures.is))
+    omega (arith, depth_of-parent c.args.arena.now.trees c.loop-at.at.node.label c.in-Some-parent.parent.label c.valid.ensures.distinct (sym c.in-Some-parent.ensures.is))
 
 pub loop-at-preserved : goal.loop-at-preserved
 loop-at-preserved c =
     let s = c.args.arena.now in
-    let law = c.lawful.ensures in
+    let law = c.valid.ensures in
     let at = c.loop-at.at in
     let off = λ (e : c.args.top.label ≡ at.node.label). c.loop-at-test.true (sym e) in
     let child = sym c.in-Some-parent.ensures.is in
@@ -34,8 +34,8 @@ loop-at-preserved c =
 
 pub returns-in-None-clause-none : goal.returns-in-None-clause-none
 returns-in-None-clause-none c =
-    absurd (no_parent c.args.arena.now c.lawful.ensures c.args.top c.requires.top_held c.loop-at.at c.loop-at.invariant.place (λ e. c.loop-at-test.true (sym e)) (sym c.in-None.ensures.is))
+    absurd (no_parent c.args.arena.now c.valid.ensures c.args.top c.requires.top_held c.loop-at.at c.loop-at.invariant.place (λ e. c.loop-at-test.true (sym e)) (sym c.in-None.ensures.is))
 
 pub overflow_sub-at : goal.overflow_sub-at
 overflow_sub-at c =
-    omega (arith, parent_deep c.args.arena.now c.lawful.ensures c.args.top c.requires.top_held c.loop-at.at c.in-Some-parent.parent c.loop-at.invariant.place (λ e. c.loop-at-test.true (sym e)) (sym c.in-Some-parent.ensures.is))
+    omega (arith, parent_deep c.args.arena.now c.valid.ensures c.args.top c.requires.top_held c.loop-at.at c.in-Some-parent.parent c.loop-at.invariant.place (λ e. c.loop-at-test.true (sym e)) (sym c.in-Some-parent.ensures.is))

@@ -6,12 +6,12 @@ use Rattle.edit_query.proofs.block_types.block_at.Goals as goal
 pub loop-parent-smaller : goal.loop-parent-smaller
 loop-parent-smaller c =
     let found = c.in-Some.ensures in
-    omega (arith, depth_of-parent c.args.doc.now.state.trees c.loop-parent.at.label c.in-Some.parent.label c.lawful.ensures.lawful.forest.distinct (sym found.is))
+    omega (arith, depth_of-parent c.args.doc.now.state.trees c.loop-parent.at.label c.in-Some.parent.label c.valid.ensures.valid.forest.distinct (sym found.is))
 
 pub returns-then-not-goes_up-clause-block : goal.returns-then-not-goes_up-clause-block
 returns-then-not-goes_up-clause-block c =
     sym c.loop-parent.invariant.same
-    ∙ stays c.args.doc.now.state.trees c.args.host.label c.lawful.ensures.lawful.forest.distinct c.loop-parent.at.label c.loop-parent.invariant.held.here (sym c.goes_up.ensures ∙ c.if-not-goes_up.true)
+    ∙ stays c.args.doc.now.state.trees c.args.host.label c.valid.ensures.valid.forest.distinct c.loop-parent.at.label c.loop-parent.invariant.held.here (sym c.goes_up.ensures ∙ c.if-not-goes_up.true)
 
 pub loop-parent-preserved : goal.loop-parent-preserved
 loop-parent-preserved c =
@@ -19,7 +19,7 @@ loop-parent-preserved c =
     record {
       held = found.held;
       same =
-          sym (goes_on c.args.doc.now.state.trees c.args.host.label c.lawful.ensures.lawful.forest.distinct c.loop-parent.at.label c.loop-parent.invariant.held.here c.in-Some.parent.label (sym found.is) (sym c.goes_up.ensures ∙ c.if-not-goes_up.false))
+          sym (goes_on c.args.doc.now.state.trees c.args.host.label c.valid.ensures.valid.forest.distinct c.loop-parent.at.label c.loop-parent.invariant.held.here c.in-Some.parent.label (sym found.is) (sym c.goes_up.ensures ∙ c.if-not-goes_up.false))
           ∙ c.loop-parent.invariant.same;
     }
 
@@ -27,4 +27,4 @@ pub returns-clause-block : goal.returns-clause-block
 returns-clause-block c =
     let found = c.in_default.ensures in
     sym c.loop-parent.invariant.same
-    ∙ ends_on_top c.args.doc.now.state.trees c.args.host.label c.lawful.ensures.lawful.forest.distinct c.loop-parent.at.label c.loop-parent.invariant.held.here (sym found.is)
+    ∙ ends_on_top c.args.doc.now.state.trees c.args.host.label c.valid.ensures.valid.forest.distinct c.loop-parent.at.label c.loop-parent.invariant.held.here (sym found.is)

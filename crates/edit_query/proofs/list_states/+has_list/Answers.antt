@@ -7,9 +7,9 @@ pub has_list-requires : goal.has_list-requires
 has_list-requires t c =
     let d = c.args.doc.now in
     let here = rw c.in-Some.is at c.loop-at.invariant.at in
-    let first = first_at c.args.ordered d c.lawful.ensures c.in-Some.node here c.first_child.result c.first_child.ensures in
+    let first = first_at c.args.ordered d c.valid.ensures c.in-Some.node here c.first_child.result c.first_child.ensures in
     let fewer = rw c.in-Some.is at c.loop-at.invariant.fewer in
-    (omega (arith, c.decreases, fewer, first_smaller c.args.ordered d c.lawful.ensures c.in-Some.node here c.first_child.result c.first_child.ensures), (first.held, first.inner))
+    (omega (arith, c.decreases, fewer, first_smaller c.args.ordered d c.valid.ensures c.in-Some.node here c.first_child.result c.first_child.ensures), (first.held, first.inner))
 
 pub returns-then-is_list_of : goal.returns-then-is_list_of
 returns-then-is_list_of t c =
@@ -17,15 +17,15 @@ returns-then-is_list_of t c =
     let here = rw c.in-Some.is at c.loop-at.invariant.at in
     let same = rw c.in-Some.is at c.loop-at.invariant.same in
     elim c.then-is_list_of.branch [
-      | then-is_list_of-via-then-is_list_of w ↦ own_list c.args.ordered d c.lawful.ensures c.in-Some.node here (sym c.is_list_of.ensures ∙ w.if-is_list_of.true) ∙ same
+      | then-is_list_of-via-then-is_list_of w ↦ own_list c.args.ordered d c.valid.ensures c.in-Some.node here (sym c.is_list_of.ensures ∙ w.if-is_list_of.true) ∙ same
       | then-is_list_of-via-else-is_list_of+then-has_list w ↦
-          list_below c.args.ordered d c.lawful.ensures c.in-Some.node here w.first_child.result w.first_child.ensures (sym w.has_list.ensures ∙ w.if-has_list.true) ∙ same
+          list_below c.args.ordered d c.valid.ensures c.in-Some.node here w.first_child.result w.first_child.ensures (sym w.has_list.ensures ∙ w.if-has_list.true) ∙ same
     ]
 
 pub loop-at-smaller : goal.loop-at-smaller
 loop-at-smaller t c =
     let here = rw c.in-Some.is at c.loop-at.invariant.at in
-    rw c.in-Some.is (next_smaller c.args.ordered c.args.doc.now c.lawful.ensures c.in-Some.node here c.next-at.result c.next-at.ensures)
+    rw c.in-Some.is (next_smaller c.args.ordered c.args.doc.now c.valid.ensures c.in-Some.node here c.next-at.result c.next-at.ensures)
 
 pub loop-at-preserved : goal.loop-at-preserved
 loop-at-preserved t c =
@@ -33,7 +33,7 @@ loop-at-preserved t c =
     let here = rw c.in-Some.is at c.loop-at.invariant.at in
     let same = rw c.in-Some.is at c.loop-at.invariant.same in
     let fewer = rw c.in-Some.is at c.loop-at.invariant.fewer in
-    let law = c.lawful.ensures in
+    let law = c.valid.ensures in
     let r = c.in-Some.node in
     record {
       at = next_at c.args.ordered d law r here c.next-at.result c.next-at.ensures;

@@ -11,7 +11,7 @@ returns-in-Some c =
     let hold = c.if-not-can_hold.ensures refl in
     let held = c.if-not-holds.ensures.0 refl in
     λ t. record {
-      fits = can_shift c.args.arena.now.trees c.args.node.label c.in-Some._old.label c.args.parent.label None (forest_of c.args.arena.now c.lawful.ensures) (sym c.in-Some.ensures.is) hold.1 (λ w. not_both c.is_within.result t (c.is_within.ensures.1 w)) tt;
+      fits = can_shift c.args.arena.now.trees c.args.node.label c.in-Some._old.label c.args.parent.label None (forest_of c.args.arena.now c.valid.ensures) (sym c.in-Some.ensures.is) hold.1 (λ w. not_both c.is_within.result t (c.is_within.ensures.1 w)) tt;
       slotted = c.slotted.ensures;
       held = (held, (hold.0, tt));
     }

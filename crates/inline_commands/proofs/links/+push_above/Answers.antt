@@ -15,7 +15,7 @@ pub push_above-requires : goal.push_above-requires
 push_above-requires t c =
     let f = c.args.doc.now.state.trees in
     let up : parent_of f c.args.node.label ≡ Some c.in-Some.parent.label = sym c.parent.ensures.is ∙ ap label_of c.in-Some.is in
-    let deep = depth_of-parent f c.args.node.label c.in-Some.parent.label c.lawful.ensures.lawful.forest.distinct up in
+    let deep = depth_of-parent f c.args.node.label c.in-Some.parent.label c.valid.ensures.valid.forest.distinct up in
     let whole = c.decreases in
     let smaller : depth_of f c.in-Some.parent.label < t = omega (arith, deep, whole) in
     (smaller, (rw c.in-Some.is at c.parent.ensures.held, c.requires.each_held))
@@ -23,7 +23,7 @@ push_above-requires t c =
 pub returns-in-None-clause-ok : goal.returns-in-None-clause-ok
 returns-in-None-clause-ok t c =
     let f = c.args.doc.now.state.trees in
-    let once = c.lawful.ensures.lawful.forest.distinct in
+    let once = c.valid.ensures.valid.forest.distinct in
     let at = at_label f once c.args.node.label c.requires.node_held.here in
     let root : parent_of f c.args.node.label ≡ None = sym c.parent.ensures.is ∙ ap label_of c.in-None.is in
     rw (lineage-root f once c.args.node.label at.content c.requires.node_held.here root at.content_is) c.push_if_link.ensures.ok
@@ -31,7 +31,7 @@ returns-in-None-clause-ok t c =
 pub returns-in_ok-push_above-in-Some-clause-ok : goal.returns-in_ok-push_above-in-Some-clause-ok
 returns-in_ok-push_above-in-Some-clause-ok t c =
     let f = c.args.doc.now.state.trees in
-    let once = c.lawful.ensures.lawful.forest.distinct in
+    let once = c.valid.ensures.valid.forest.distinct in
     let n = c.args.node.label in
     let p = c.in-Some.parent.label in
     let at = at_label f once n c.requires.node_held.here in

@@ -9,7 +9,7 @@ pub push_touched-requires : goal.push_touched-requires
 push_touched-requires t c =
     let d = c.args.doc.now in
     let i = c.loop-at.invariant in
-    let v = here_at d c.lawful.ensures c.loop-at.at c.in-Some.node c.in-Some.is i.held i.below in
+    let v = here_at d c.valid.ensures c.loop-at.at c.in-Some.node c.in-Some.is i.held i.below in
     let below = size_found d _ _ c.first_child.ensures in
     let here = size_at d c.loop-at.at c.in-Some.node c.in-Some.is in
     let whole = c.decreases in
@@ -20,7 +20,7 @@ pub loop-at-smaller : goal.loop-at-smaller
 loop-at-smaller t c =
     let d = c.args.doc.now in
     let i = c.loop-at.invariant in
-    let v = here_at d c.lawful.ensures c.loop-at.at c.in-Some.node c.in-Some.is i.held i.below in
+    let v = here_at d c.valid.ensures c.loop-at.at c.in-Some.node c.in-Some.is i.held i.below in
     let after = size_found d _ _ c.next-at.ensures in
     let here = size_at d c.loop-at.at c.in-Some.node c.in-Some.is in
     let smaller : size_from d.state.trees (label_of c.next-at.result) < size_from d.state.trees (label_of c.loop-at.at) = omega (arith, after, v.1.after, here) in
@@ -30,7 +30,7 @@ pub loop-at-preserved : goal.loop-at-preserved
 loop-at-preserved t c =
     let d = c.args.doc.now in
     let i = c.loop-at.invariant in
-    let v = here_at d c.lawful.ensures c.loop-at.at c.in-Some.node c.in-Some.is i.held i.below in
+    let v = here_at d c.valid.ensures c.loop-at.at c.in-Some.node c.in-Some.is i.held i.below in
     let after = size_found d _ _ c.next-at.ensures in
     let here = size_at d c.loop-at.at c.in-Some.node c.in-Some.is in
     record {

@@ -8,7 +8,7 @@ pub returns-in-None-clause-links : goal.returns-in-None-clause-links
 returns-in-None-clause-links c =
     let s = c.args.doc.now.state in
     let root : parent_of s.trees c.args.node.label ≡ None = sym c.parent.ensures.is ∙ ap label_of c.in-None.is in
-    ap labels_of c.new-list.ensures.items ∙ sym (none_above s.trees c.lawful.ensures.lawful.forest.distinct c.args.node.label c.requires.here root)
+    ap labels_of c.new-list.ensures.items ∙ sym (none_above s.trees c.valid.ensures.valid.forest.distinct c.args.node.label c.requires.here root)
 
 pub returns-in_ok-push_above-in-Some-clause-links : goal.returns-in_ok-push_above-in-Some-clause-links
 returns-in_ok-push_above-in-Some-clause-links c =
@@ -16,4 +16,4 @@ returns-in_ok-push_above-in-Some-clause-links c =
     let up : parent_of s.trees c.args.node.label ≡ Some c.in-Some.parent.label = sym c.parent.ensures.is ∙ ap label_of c.in-Some.is in
     let none = ap labels_of c.new-list.ensures.items in
     let made = c.in_ok-push_above-in-Some.ensures.ok in
-    (rw none at made) ∙ sym (above_child s.trees c.lawful.ensures.lawful.forest.distinct c.args.node.label c.requires.here c.in-Some.parent.label up)
+    (rw none at made) ∙ sym (above_child s.trees c.valid.ensures.valid.forest.distinct c.args.node.label c.requires.here c.in-Some.parent.label up)

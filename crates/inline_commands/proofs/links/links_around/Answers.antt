@@ -11,5 +11,5 @@ returns-clause-links c =
     let s = c.args.doc.now.state in
     let p = c.args.caret in
     let found : links_above s.trees c.node_of.result.label ≡ links_in s.trees p p =
-    ap (links_above s.trees) c.node_of.ensures.label ∙ sym (caret_links s.trees s.next c.lawful.ensures.lawful.forest p (placed_inside s.trees p c.requires) (placed_here s.trees p c.requires)) in
+    ap (links_above s.trees) c.node_of.ensures.label ∙ sym (caret_links s.trees s.next c.valid.ensures.valid.forest p (placed_inside s.trees p c.requires) (placed_here s.trees p c.requires)) in
     subst (λ (xs : List ℕ). IfOk c.links_above.result (λ list. labels_of list.items ≡ xs)) found c.links_above.ensures.links

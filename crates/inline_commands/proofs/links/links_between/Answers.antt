@@ -9,7 +9,7 @@ use Rattle.inline_commands.proofs.AllLinks.{all_links}
 use Rattle.inline_commands.proofs.links.links_between.Goals as goal
 
 pub push_touched-requires-clause-below : goal.push_touched-requires-clause-below
-push_touched-requires-clause-below c = led_at c.args.doc.now _ _ c.first_child.ensures (first_inner_at c.args.doc.now c.lawful.ensures c.document.result c.document.ensures.held)
+push_touched-requires-clause-below c = led_at c.args.doc.now _ _ c.first_child.ensures (first_inner_at c.args.doc.now c.valid.ensures c.document.result c.document.ensures.held)
 
 pub returns-clause-links : goal.returns-clause-links
 returns-clause-links c =
@@ -18,4 +18,4 @@ returns-clause-links c =
     let made = c.in_ok-push_touched.ensures.ok in
     (rw none at made)
     ∙ (ap (λ o. filter (λ l. is_link s.trees l && is_touched s.trees c.args.start c.args.end l) (preorder (onward_at s.trees o))) c.first_child.ensures.is
-    ∙ all_links s c.lawful.ensures.lawful.forest c.args.start c.args.end c.document.result.label c.document.ensures.label)
+    ∙ all_links s c.valid.ensures.valid.forest c.args.start c.args.end c.document.result.label c.document.ensures.label)

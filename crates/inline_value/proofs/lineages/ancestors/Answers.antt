@@ -12,7 +12,7 @@ loop-at-init c =
     record {
       held = c.parent-at.ensures.held;
       each = none_held c.args.doc.now c.new-list.result.items c.new-list.ensures.items;
-      listed = listed_first f c.lawful.ensures.lawful.forest.distinct c.args.node.label c.requires.here c.parent-at.result c.parent-at.ensures.is c.new-list.result.items c.new-list.ensures.items;
+      listed = listed_first f c.valid.ensures.valid.forest.distinct c.args.node.label c.requires.here c.parent-at.result c.parent-at.ensures.is c.new-list.result.items c.new-list.ensures.items;
     }
 
 pub loop-at-smaller : goal.loop-at-smaller
@@ -21,7 +21,7 @@ loop-at-smaller c =
     let held : Holds c.args.doc.now c.in-Some.above = (rw c.in-Some.is at c.loop-at.invariant.held) in
     let at : Some c.in-Some.above.label ≡ label_of c.loop-at.at = sym (ap label_of c.in-Some.is) in
     subst (λ o. height f (label_of c.parent-at-in-Some.result) < height f o) at
-    (lower_next f c.lawful.ensures.lawful.forest.distinct c.in-Some.above.label held.here c.parent-at-in-Some.result c.parent-at-in-Some.ensures.is)
+    (lower_next f c.valid.ensures.valid.forest.distinct c.in-Some.above.label held.here c.parent-at-in-Some.result c.parent-at-in-Some.ensures.is)
 
 pub loop-at-preserved : goal.loop-at-preserved
 loop-at-preserved c =
@@ -31,5 +31,5 @@ loop-at-preserved c =
     record {
       held = c.parent-at-in-Some.ensures.held;
       each = pushed_held c.args.doc.now c.loop-at.list.items c.push.new.self.items c.in-Some.above c.loop-at.invariant.each held c.in_ok-push.ensures.items;
-      listed = listed_next f c.lawful.ensures.lawful.forest.distinct c.in-Some.above held.here c.parent-at-in-Some.result c.parent-at-in-Some.ensures.is c.loop-at.list.items c.push.new.self.items c.in_ok-push.ensures.items _ before;
+      listed = listed_next f c.valid.ensures.valid.forest.distinct c.in-Some.above held.here c.parent-at-in-Some.result c.parent-at-in-Some.ensures.is c.loop-at.list.items c.push.new.self.items c.in_ok-push.ensures.items _ before;
     }

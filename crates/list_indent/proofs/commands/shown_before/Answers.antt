@@ -9,30 +9,30 @@ loop-at-init c =
     let d = c.args.doc.now in
     record {
       held = c.prev-at.ensures.held;
-      inner = before_is_child d c.lawful.ensures c.args.node c.prev-at.result c.prev-at.ensures;
-      front = shown_from d c.lawful.ensures c.args.node c.prev-at.result c.prev-at.ensures;
+      inner = before_is_child d c.valid.ensures c.args.node c.prev-at.result c.prev-at.ensures;
+      front = shown_from d c.valid.ensures c.args.node c.prev-at.result c.prev-at.ensures;
     }
 
 pub is_visible-requires : goal.is_visible-requires
 is_visible-requires c =
     let d = c.args.doc.now in
     let i = c.loop-at.invariant in
-    child_held d c.lawful.ensures (holder d c.args.node) c.loop-at.at c.in-Some.sibling c.in-Some.is i.held i.inner
+    child_held d c.valid.ensures (holder d c.args.node) c.loop-at.at c.in-Some.sibling c.in-Some.is i.held i.inner
 
 pub returns-then-is_visible : goal.returns-then-is_visible
 returns-then-is_visible c =
     let d = c.args.doc.now in
     let i = c.loop-at.invariant in
     record {
-      is = sym (last_here d c.lawful.ensures (holder d c.args.node) c.loop-at.at c.in-Some.sibling c.in-Some.is i.held i.inner (ap not (sym c.is_visible.ensures ∙ c.if-is_visible.true))) ∙ i.front;
-      held = child_held d c.lawful.ensures (holder d c.args.node) c.loop-at.at c.in-Some.sibling c.in-Some.is i.held i.inner;
+      is = sym (last_here d c.valid.ensures (holder d c.args.node) c.loop-at.at c.in-Some.sibling c.in-Some.is i.held i.inner (ap not (sym c.is_visible.ensures ∙ c.if-is_visible.true))) ∙ i.front;
+      held = child_held d c.valid.ensures (holder d c.args.node) c.loop-at.at c.in-Some.sibling c.in-Some.is i.held i.inner;
     }
 
 pub loop-at-smaller : goal.loop-at-smaller
 loop-at-smaller c =
     let d = c.args.doc.now in
     let i = c.loop-at.invariant in
-    prev_smaller d c.lawful.ensures (holder d c.args.node) c.loop-at.at c.in-Some.sibling c.in-Some.is i.held i.inner c.prev-at-in-Some.result c.prev-at-in-Some.ensures
+    prev_smaller d c.valid.ensures (holder d c.args.node) c.loop-at.at c.in-Some.sibling c.in-Some.is i.held i.inner c.prev-at-in-Some.result c.prev-at-in-Some.ensures
 
 pub loop-at-preserved : goal.loop-at-preserved
 loop-at-preserved c =
@@ -41,8 +41,8 @@ loop-at-preserved c =
     let s = c.in-Some.sibling in
     record {
       held = c.prev-at-in-Some.ensures.held;
-      inner = prev_child_is d c.lawful.ensures (holder d c.args.node) c.loop-at.at s c.in-Some.is i.held i.inner c.prev-at-in-Some.result c.prev-at-in-Some.ensures;
-      front = last_next d c.lawful.ensures (holder d c.args.node) c.loop-at.at s c.in-Some.is i.held i.inner (ap not (sym c.is_visible.ensures ∙ c.if-is_visible.false)) c.prev-at-in-Some.result c.prev-at-in-Some.ensures ∙ i.front;
+      inner = prev_child_is d c.valid.ensures (holder d c.args.node) c.loop-at.at s c.in-Some.is i.held i.inner c.prev-at-in-Some.result c.prev-at-in-Some.ensures;
+      front = last_next d c.valid.ensures (holder d c.args.node) c.loop-at.at s c.in-Some.is i.held i.inner (ap not (sym c.is_visible.ensures ∙ c.if-is_visible.false)) c.prev-at-in-Some.result c.prev-at-in-Some.ensures ∙ i.front;
     }
 
 pub returns : goal.returns

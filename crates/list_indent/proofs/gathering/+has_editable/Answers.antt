@@ -7,9 +7,9 @@ pub has_editable-requires : goal.has_editable-requires
 has_editable-requires t c =
     let d = c.args.doc.now in
     let here = rw c.in-Some.is at c.loop-at.invariant.at in
-    let first = first_at d c.lawful.ensures c.in-Some.node here c.first_child.result c.first_child.ensures in
+    let first = first_at d c.valid.ensures c.in-Some.node here c.first_child.result c.first_child.ensures in
     let fewer = rw c.in-Some.is at c.loop-at.invariant.fewer in
-    (omega (arith, c.decreases, fewer, first_smaller d c.lawful.ensures c.in-Some.node here c.first_child.result c.first_child.ensures), (first.held, first.inner))
+    (omega (arith, c.decreases, fewer, first_smaller d c.valid.ensures c.in-Some.node here c.first_child.result c.first_child.ensures), (first.held, first.inner))
 
 pub returns-then-is_editable_for : goal.returns-then-is_editable_for
 returns-then-is_editable_for t c =
@@ -17,15 +17,15 @@ returns-then-is_editable_for t c =
     let here = rw c.in-Some.is at c.loop-at.invariant.at in
     let same = rw c.in-Some.is at c.loop-at.invariant.same in
     elim c.then-is_editable_for.branch [
-      | then-is_editable_for-via-then-is_editable_for w ↦ own_editable d c.lawful.ensures c.in-Some.node here (sym c.is_editable_for.ensures ∙ w.if-is_editable_for.true) ∙ same
+      | then-is_editable_for-via-then-is_editable_for w ↦ own_editable d c.valid.ensures c.in-Some.node here (sym c.is_editable_for.ensures ∙ w.if-is_editable_for.true) ∙ same
       | then-is_editable_for-via-else-is_editable_for+then-has_editable w ↦
-          editable_below d c.lawful.ensures c.in-Some.node here w.first_child.result w.first_child.ensures (sym w.has_editable.ensures ∙ w.if-has_editable.true) ∙ same
+          editable_below d c.valid.ensures c.in-Some.node here w.first_child.result w.first_child.ensures (sym w.has_editable.ensures ∙ w.if-has_editable.true) ∙ same
     ]
 
 pub loop-at-smaller : goal.loop-at-smaller
 loop-at-smaller t c =
     let here = rw c.in-Some.is at c.loop-at.invariant.at in
-    rw c.in-Some.is (next_smaller c.args.doc.now c.lawful.ensures c.in-Some.node here c.next-at.result c.next-at.ensures)
+    rw c.in-Some.is (next_smaller c.args.doc.now c.valid.ensures c.in-Some.node here c.next-at.result c.next-at.ensures)
 
 pub loop-at-preserved : goal.loop-at-preserved
 loop-at-preserved t c =
@@ -33,7 +33,7 @@ loop-at-preserved t c =
     let here = rw c.in-Some.is at c.loop-at.invariant.at in
     let same = rw c.in-Some.is at c.loop-at.invariant.same in
     let fewer = rw c.in-Some.is at c.loop-at.invariant.fewer in
-    let law = c.lawful.ensures in
+    let law = c.valid.ensures in
     let r = c.in-Some.node in
     record {
       at = next_at d law r here c.next-at.result c.next-at.ensures;

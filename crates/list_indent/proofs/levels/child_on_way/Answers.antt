@@ -14,8 +14,8 @@ loop-at-init c =
     let test : ℕ → Bool = λ k. k == c.args.node.label || is_label (label_of c.args.below) k in
     record {
       held = c.first_child-at.ensures.held;
-      inner = first_child_is d c.lawful.ensures c.args.element c.requires c.first_child-at.result c.first_child-at.ensures;
-      rest = ap (find test) (all_rest d c.lawful.ensures c.args.element c.requires c.first_child-at.result c.first_child-at.ensures);
+      inner = first_child_is d c.valid.ensures c.args.element c.requires c.first_child-at.result c.first_child-at.ensures;
+      rest = ap (find test) (all_rest d c.valid.ensures c.args.element c.requires c.first_child-at.result c.first_child-at.ensures);
     }
 
 pub returns-then-is_on_way : goal.returns-then-is_on_way
@@ -25,14 +25,14 @@ returns-then-is_on_way c =
     let i = c.loop-at.invariant in
     let test : ℕ → Bool = λ k. k == c.args.node.label || is_label (label_of c.args.below) k in
     record {
-      is = sym (find_here d c.lawful.ensures c.args.element test c.loop-at.at c.in-Some.child c.in-Some.is i.held i.inner (sym c.is_on_way.ensures ∙ c.if-is_on_way.true)) ∙ i.rest;
-      held = child_held d c.lawful.ensures c.args.element c.loop-at.at c.in-Some.child c.in-Some.is i.held i.inner;
+      is = sym (find_here d c.valid.ensures c.args.element test c.loop-at.at c.in-Some.child c.in-Some.is i.held i.inner (sym c.is_on_way.ensures ∙ c.if-is_on_way.true)) ∙ i.rest;
+      held = child_held d c.valid.ensures c.args.element c.loop-at.at c.in-Some.child c.in-Some.is i.held i.inner;
     }
 
 pub loop-at-smaller : goal.loop-at-smaller
 loop-at-smaller c =
     let i = c.loop-at.invariant in
-    next_smaller c.args.doc.now c.lawful.ensures c.args.element c.loop-at.at c.in-Some.child c.in-Some.is i.held i.inner c.next-at.result c.next-at.ensures
+    next_smaller c.args.doc.now c.valid.ensures c.args.element c.loop-at.at c.in-Some.child c.in-Some.is i.held i.inner c.next-at.result c.next-at.ensures
 
 pub loop-at-preserved : goal.loop-at-preserved
 loop-at-preserved c =
@@ -41,8 +41,8 @@ loop-at-preserved c =
     let test : ℕ → Bool = λ k. k == c.args.node.label || is_label (label_of c.args.below) k in
     record {
       held = c.next-at.ensures.held;
-      inner = next_child_is d c.lawful.ensures c.args.element c.loop-at.at c.in-Some.child c.in-Some.is i.held i.inner c.next-at.result c.next-at.ensures;
-      rest = find_next d c.lawful.ensures c.args.element test c.loop-at.at c.in-Some.child c.in-Some.is i.held i.inner (sym c.is_on_way.ensures ∙ c.if-is_on_way.false) c.next-at.result c.next-at.ensures ∙ i.rest;
+      inner = next_child_is d c.valid.ensures c.args.element c.loop-at.at c.in-Some.child c.in-Some.is i.held i.inner c.next-at.result c.next-at.ensures;
+      rest = find_next d c.valid.ensures c.args.element test c.loop-at.at c.in-Some.child c.in-Some.is i.held i.inner (sym c.is_on_way.ensures ∙ c.if-is_on_way.false) c.next-at.result c.next-at.ensures ∙ i.rest;
     }
 
 pub returns : goal.returns

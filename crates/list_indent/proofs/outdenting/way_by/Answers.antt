@@ -11,7 +11,7 @@ pub loop-at-init : goal.loop-at-init
 loop-at-init c =
     let d = c.args.doc.now in
     let test = is_passed c.args.simple d.state in
-    let whole = chain_above d.state.trees c.lawful.ensures.lawful.forest.distinct c.args.node.label c.requires.here in
+    let whole = chain_above d.state.trees c.valid.ensures.valid.forest.distinct c.args.node.label c.requires.here in
     record {
       held = c.parent-at.ensures.held;
       each = none_held d c.new-passed.result.items c.new-passed.ensures.items;
@@ -25,7 +25,7 @@ returns-then-not-is_passed-clause-passed c =
     let d = c.args.doc.now in
     let test = is_passed c.args.simple d.state in
     let i = c.loop-at.invariant in
-    stop_passed d test c.loop-at.passed.items (leading test (ancestors d.state.trees c.args.node.label)) (beyond test (ancestors d.state.trees c.args.node.label)) c.lawful.ensures c.loop-at.at c.in-Some.ancestor c.in-Some.is i.held (sym c.is_passed.ensures ∙ c.if-not-is_passed.true) i.made
+    stop_passed d test c.loop-at.passed.items (leading test (ancestors d.state.trees c.args.node.label)) (beyond test (ancestors d.state.trees c.args.node.label)) c.valid.ensures c.loop-at.at c.in-Some.ancestor c.in-Some.is i.held (sym c.is_passed.ensures ∙ c.if-not-is_passed.true) i.made
 
 pub returns-then-not-is_passed-clause-end : goal.returns-then-not-is_passed-clause-end
 unfolding indenter_by
@@ -33,7 +33,7 @@ returns-then-not-is_passed-clause-end c =
     let d = c.args.doc.now in
     let test = is_passed c.args.simple d.state in
     let i = c.loop-at.invariant in
-    let end = stop_end d test c.loop-at.passed.items (leading test (ancestors d.state.trees c.args.node.label)) (beyond test (ancestors d.state.trees c.args.node.label)) c.lawful.ensures c.loop-at.at c.in-Some.ancestor c.in-Some.is i.held (sym c.is_passed.ensures ∙ c.if-not-is_passed.true) i.beyond in
+    let end = stop_end d test c.loop-at.passed.items (leading test (ancestors d.state.trees c.args.node.label)) (beyond test (ancestors d.state.trees c.args.node.label)) c.valid.ensures c.loop-at.at c.in-Some.ancestor c.in-Some.is i.held (sym c.is_passed.ensures ∙ c.if-not-is_passed.true) i.beyond in
     subst (λ w. Finds d c.if_indents-end.result (if_indents c.args.simple d.state w)) (sym end) c.if_indents-end.ensures
 
 pub loop-at-smaller : goal.loop-at-smaller
@@ -41,7 +41,7 @@ loop-at-smaller c =
     let d = c.args.doc.now in
     let test = is_passed c.args.simple d.state in
     let i = c.loop-at.invariant in
-    lower d test c.loop-at.passed.items (leading test (ancestors d.state.trees c.args.node.label)) (beyond test (ancestors d.state.trees c.args.node.label)) c.lawful.ensures c.loop-at.at c.in-Some.ancestor c.in-Some.is i.held c.parent-at-in-Some.result c.parent-at-in-Some.ensures
+    lower d test c.loop-at.passed.items (leading test (ancestors d.state.trees c.args.node.label)) (beyond test (ancestors d.state.trees c.args.node.label)) c.valid.ensures c.loop-at.at c.in-Some.ancestor c.in-Some.is i.held c.parent-at-in-Some.result c.parent-at-in-Some.ensures
 
 pub loop-at-preserved : goal.loop-at-preserved
 loop-at-preserved c =
@@ -55,8 +55,8 @@ loop-at-preserved c =
     record {
       held = c.parent-at-in-Some.ensures.held;
       each = pushed_held d c.loop-at.passed.items _ r i.each (rw c.in-Some.is at i.held) c.in_ok-push.ensures.items;
-      made = on_passed d test c.loop-at.passed.items whole last c.lawful.ensures c.loop-at.at r c.in-Some.is i.held so c.parent-at-in-Some.result c.parent-at-in-Some.ensures _ c.in_ok-push.ensures.items i.made;
-      beyond = on_end d test c.loop-at.passed.items whole last c.lawful.ensures c.loop-at.at r c.in-Some.is i.held so c.parent-at-in-Some.result c.parent-at-in-Some.ensures i.beyond;
+      made = on_passed d test c.loop-at.passed.items whole last c.valid.ensures c.loop-at.at r c.in-Some.is i.held so c.parent-at-in-Some.result c.parent-at-in-Some.ensures _ c.in_ok-push.ensures.items i.made;
+      beyond = on_end d test c.loop-at.passed.items whole last c.valid.ensures c.loop-at.at r c.in-Some.is i.held so c.parent-at-in-Some.result c.parent-at-in-Some.ensures i.beyond;
     }
 
 pub returns-clause-passed : goal.returns-clause-passed

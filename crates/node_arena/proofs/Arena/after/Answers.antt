@@ -8,7 +8,7 @@ use Rattle.node_arena.proofs.Arena.after.Goals as goal
 pub returns-in-Some-next-clause-found : goal.returns-in-Some-next-clause-found
 returns-in-Some-next-clause-found c =
     let s = c.args.self.now in
-    let law = c.lawful.ensures in
+    let law = c.valid.ensures in
     let at = c.loop-parent.at in
     let child = sym c.in-Some.ensures.is in
     let next = sym c.in-Some-next.ensures.is in (
@@ -18,16 +18,16 @@ returns-in-Some-next-clause-found c =
 
 pub overflow_sub-at : goal.overflow_sub-at
 overflow_sub-at c =
-    omega (arith, c.loop-parent.invariant.place.deep, depth_of-parent c.args.self.now.trees c.loop-parent.at.node.label c.in-Some.parent.label c.lawful.ensures.distinct (sym c.in-Some.ensures.is))
+    omega (arith, c.loop-parent.invariant.place.deep, depth_of-parent c.args.self.now.trees c.loop-parent.at.node.label c.in-Some.parent.label c.valid.ensures.distinct (sym c.in-Some.ensures.is))
 
 pub loop-parent-smaller : goal.loop-parent-smaller
 loop-parent-smaller c =
-    omega (arith, depth_of-parent c.args.self.now.trees c.loop-parent.at.node.label c.in-Some.parent.label c.lawful.ensures.distinct (sym c.in-Some.ensures.is))
+    omega (arith, depth_of-parent c.args.self.now.trees c.loop-parent.at.node.label c.in-Some.parent.label c.valid.ensures.distinct (sym c.in-Some.ensures.is))
 
 pub loop-parent-preserved : goal.loop-parent-preserved
 loop-parent-preserved c =
     let s = c.args.self.now in
-    let law = c.lawful.ensures in
+    let law = c.valid.ensures in
     let at = c.loop-parent.at in
     let child = sym c.in-Some.ensures.is in
     record {
@@ -37,5 +37,5 @@ loop-parent-preserved c =
 
 pub returns-clause-none : goal.returns-clause-none
 returns-clause-none c =
-    let root = root_label c.args.self.now c.lawful.ensures c.loop-parent.at c.loop-parent.invariant.place (sym c.in_default.ensures.is) in
+    let root = root_label c.args.self.now c.valid.ensures c.loop-parent.at c.loop-parent.invariant.place (sym c.in_default.ensures.is) in
     λ _ w. c.loop-parent.invariant.same w ∙ ap (total_after w c.args.self.now.trees) root

@@ -8,7 +8,7 @@ use Rattle.node_arena.proofs.Arena.before_apart.Goals as goal
 pub unwrap-q-requires : goal.unwrap-q-requires
 unwrap-q-requires c =
     let s = c.args.self.now in
-    let law = c.lawful.ensures in
+    let law = c.valid.ensures in
     let i = c.loop-p.invariant in
     let more = depth_of-parent s.trees c.loop-p.x.label c.in-Some.p.label law.distinct (sym c.in-Some.ensures.is) in
     parent_named s law c.loop-p.y c.parent-in-Some.result _ i.y_held c.parent-in-Some.ensures (sym i.deep ∙ more)
@@ -25,7 +25,7 @@ returns-then-is_earlier_child c =
     let i = c.loop-p.invariant in
     let q = rw c.unwrap-q.ensures at c.parent-in-Some.ensures in
     let low = ltb-true _ _ (sym c.is_earlier_child.ensures ∙ c.if-is_earlier_child.true) in
-    first_is s c.lawful.ensures c.args.a c.args.b c.loop-p.x c.loop-p.y i.x_above i.y_above c.in-Some.p.label c.unwrap-q.result.label (sym c.in-Some.ensures.is) (sym q.is) c.if-p-q.true low c.requires.first_held
+    first_is s c.valid.ensures c.args.a c.args.b c.loop-p.x c.loop-p.y i.x_above i.y_above c.in-Some.p.label c.unwrap-q.result.label (sym c.in-Some.ensures.is) (sym q.is) c.if-p-q.true low c.requires.first_held
 
 pub returns-else-is_earlier_child : goal.returns-else-is_earlier_child
 returns-else-is_earlier_child c =
@@ -33,15 +33,15 @@ returns-else-is_earlier_child c =
     let i = c.loop-p.invariant in
     let q = rw c.unwrap-q.ensures at c.parent-in-Some.ensures in
     let high = not_lower _ _ (sym c.is_earlier_child.ensures ∙ c.if-is_earlier_child.false) in
-    second_is s c.lawful.ensures c.args.a c.args.b c.loop-p.x c.loop-p.y i.x_above i.y_above c.in-Some.p.label c.unwrap-q.result.label i.apart (sym c.in-Some.ensures.is) (sym q.is) c.if-p-q.true high c.requires.second_held
+    second_is s c.valid.ensures c.args.a c.args.b c.loop-p.x c.loop-p.y i.x_above i.y_above c.in-Some.p.label c.unwrap-q.result.label i.apart (sym c.in-Some.ensures.is) (sym q.is) c.if-p-q.true high c.requires.second_held
 
 pub loop-p-smaller : goal.loop-p-smaller
-loop-p-smaller c = omega (arith, depth_of-parent c.args.self.now.trees c.loop-p.x.label c.in-Some.p.label c.lawful.ensures.distinct (sym c.in-Some.ensures.is))
+loop-p-smaller c = omega (arith, depth_of-parent c.args.self.now.trees c.loop-p.x.label c.in-Some.p.label c.valid.ensures.distinct (sym c.in-Some.ensures.is))
 
 pub loop-p-preserved : goal.loop-p-preserved
 loop-p-preserved c =
     let s = c.args.self.now in
-    let law = c.lawful.ensures in
+    let law = c.valid.ensures in
     let i = c.loop-p.invariant in
     let q = rw c.unwrap-q.ensures at c.parent-in-Some.ensures in
     record {
@@ -56,4 +56,4 @@ loop-p-preserved c =
 pub returns : goal.returns
 returns c =
     let i = c.loop-p.invariant in
-    neither_is c.args.self.now c.lawful.ensures c.args.a c.args.b c.loop-p.x c.loop-p.y i.x_above i.y_above i.apart i.x_held i.y_held (sym c.in_default.ensures.is) i.deep
+    neither_is c.args.self.now c.valid.ensures c.args.a c.args.b c.loop-p.x c.loop-p.y i.x_above i.y_above i.apart i.x_held i.y_held (sym c.in_default.ensures.is) i.deep

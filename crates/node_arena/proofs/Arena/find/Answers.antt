@@ -1,8 +1,8 @@
 use Rattle.std.proofs.Common.{◌≡◌, ◌<◌, length, get_or, refl, sym, subst, ◌∙◌, arith}
 use Rattle.std.proofs.lemmas.Grind.{get_or_default_zero}
-use Rattle.dom_model.specs.State.{HoldsAt}
+use Rattle.dom_model.specs.ArenaState.{HoldsAt}
 use Rattle.node_arena.proofs.FindOk.{indexed_here, none_of}
-use Rattle.node_arena.proofs.MakeOk.{lawful_state}
+use Rattle.node_arena.proofs.MakeOk.{valid_state}
 use Rattle.node_arena.proofs.Arena.find.Goals as goal
 
 pub returns-then-label-self-clause-absent : goal.returns-then-label-self-clause-absent
@@ -12,7 +12,7 @@ returns-then-label-self-clause-absent c =
 
 pub returns-then-holds-clause-absent : goal.returns-then-holds-clause-absent
 returns-then-holds-clause-absent c =
-    let law = lawful_state c.self.inside.nodes.slots c.self.inside.next c.self.inside.cap c.self.inside.index.items c.self.invariant c.args.self.now c.self.view_is in
+    let law = valid_state c.self.inside.nodes.slots c.self.inside.next c.self.inside.cap c.self.inside.index.items c.self.invariant c.args.self.now c.self.view_is in
     let here = law.here c.index.result.now c.args.label (c.holds.ensures.0 c.if-holds.true) in
     (λ e. absurd (let e' = e in cc), λ none. absurd (omega (arith, none, here)))
 

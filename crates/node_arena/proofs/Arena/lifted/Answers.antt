@@ -5,7 +5,7 @@ use Rattle.node_arena.proofs.Arena.lifted.Goals as goal
 
 pub loop-left-init : goal.loop-left-init
 loop-left-init c =
-    let law = c.lawful.ensures in
+    let law = c.valid.ensures in
     record {
       held = c.requires;
       above = within_self c.args.self.now.trees c.args.node.label law.distinct (law.here c.args.node.slot c.args.node.label c.requires);
@@ -18,7 +18,7 @@ loop-left-init c =
 pub unwrap-at-requires : goal.unwrap-at-requires
 unwrap-at-requires c =
     let s = c.args.self.now in
-    let law = c.lawful.ensures in
+    let law = c.valid.ensures in
     let i = c.loop-left.invariant in
     let t = c.loop-left-test.true in
     let p = has_parent s.trees law.distinct c.loop-left.at.label (law.here c.loop-left.at.slot c.loop-left.at.label i.held) (omega (arith, i.deep, t)) in
@@ -27,7 +27,7 @@ unwrap-at-requires c =
 pub loop-left-preserved : goal.loop-left-preserved
 loop-left-preserved c =
     let s = c.args.self.now in
-    let law = c.lawful.ensures in
+    let law = c.valid.ensures in
     let i = c.loop-left.invariant in
     let t = c.loop-left-test.true in
     let p = rw c.unwrap-at.ensures at c.parent.ensures in

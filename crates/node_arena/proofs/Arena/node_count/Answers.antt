@@ -3,16 +3,16 @@ use Rattle.node_arena.proofs.CountsOk.{falls, node_next, node_last}
 use Rattle.node_arena.proofs.Arena.node_count.Goals as goal
 
 pub overflow_add-count : goal.overflow_add-count
-overflow_add-count c = (let r = node_next c.args.self.now c.lawful.ensures c.loop-next.count c.loop-next.at c.in-Some.next c.loop-next.invariant.place c.in-Some.ensures.found c.loop-next.invariant.sum in omega (arith, r.0))
+overflow_add-count c = (let r = node_next c.args.self.now c.valid.ensures c.loop-next.count c.loop-next.at c.in-Some.next c.loop-next.invariant.place c.in-Some.ensures.found c.loop-next.invariant.sum in omega (arith, r.0))
 
 pub loop-next-smaller : goal.loop-next-smaller
-loop-next-smaller c = falls c.args.self.now c.lawful.ensures c.loop-next.at c.in-Some.next c.loop-next.invariant.place c.in-Some.ensures.found
+loop-next-smaller c = falls c.args.self.now c.valid.ensures c.loop-next.at c.in-Some.next c.loop-next.invariant.place c.in-Some.ensures.found
 
 pub loop-next-preserved : goal.loop-next-preserved
 loop-next-preserved c = record {
   place = c.in-Some.ensures.found.place;
-  sum = (node_next c.args.self.now c.lawful.ensures c.loop-next.count c.loop-next.at c.in-Some.next c.loop-next.invariant.place c.in-Some.ensures.found c.loop-next.invariant.sum).1;
+  sum = (node_next c.args.self.now c.valid.ensures c.loop-next.count c.loop-next.at c.in-Some.next c.loop-next.invariant.place c.in-Some.ensures.found c.loop-next.invariant.sum).1;
 }
 
 pub returns : goal.returns
-returns c = let a = c.in_default.ensures.none in node_last c.args.self.now c.lawful.ensures c.loop-next.count c.loop-next.at c.loop-next.invariant.place (a refl) c.loop-next.invariant.sum
+returns c = let a = c.in_default.ensures.none in node_last c.args.self.now c.valid.ensures c.loop-next.count c.loop-next.at c.loop-next.invariant.place (a refl) c.loop-next.invariant.sum

@@ -5,17 +5,17 @@ use Rattle.node_arena.proofs.Arena.page_depth.Goals as goal
 pub loop-next-init : goal.loop-next-init
 loop-next-init c = record {
   place = c.document_place-at.ensures.place;
-  high = high_first c.args.self.now c.lawful.ensures c.document_place-at.result c.document_place-at.ensures.label;
-  some = reached_first c.args.self.now c.lawful.ensures;
+  high = high_first c.args.self.now c.valid.ensures c.document_place-at.result c.document_place-at.ensures.label;
+  some = reached_first c.args.self.now c.valid.ensures;
 }
 
 pub loop-next-smaller : goal.loop-next-smaller
-loop-next-smaller c = falls c.args.self.now c.lawful.ensures c.loop-next.at c.in-Some.next c.loop-next.invariant.place c.in-Some.ensures.found
+loop-next-smaller c = falls c.args.self.now c.valid.ensures c.loop-next.at c.in-Some.next c.loop-next.invariant.place c.in-Some.ensures.found
 
 pub loop-next-preserved : goal.loop-next-preserved
 loop-next-preserved c =
     let s = c.args.self.now in
-    let law = c.lawful.ensures in
+    let law = c.valid.ensures in
     let is = sym c.max-deepest.ensures in
     record {
       place = c.in-Some.ensures.found.place;
@@ -24,4 +24,4 @@ loop-next-preserved c =
     }
 
 pub returns : goal.returns
-returns c = let a = c.in_default.ensures.none in deepest_last c.args.self.now c.lawful.ensures c.loop-next.deepest c.loop-next.at c.loop-next.invariant.place (a refl) c.loop-next.invariant.high c.loop-next.invariant.some
+returns c = let a = c.in_default.ensures.none in deepest_last c.args.self.now c.valid.ensures c.loop-next.deepest c.loop-next.at c.loop-next.invariant.place (a refl) c.loop-next.invariant.high c.loop-next.invariant.some

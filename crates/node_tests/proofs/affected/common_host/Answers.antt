@@ -11,7 +11,7 @@ pub returns-then-is_within : goal.returns-then-is_within
 unfolding common_host
 returns-then-is_within g c =
     let f = (g.N.Nodes.trees c.args.nodes.now) in
-    let law = c.lawful.ensures in
+    let law = c.valid.ensures in
     let within : IsWithin f c.loop-b.at.label c.args.b.label = c.is_within.ensures.0 c.if-is_within.true in
     record {
       is =
@@ -22,12 +22,12 @@ returns-then-is_within g c =
 
 pub loop-b-smaller : goal.loop-b-smaller
 loop-b-smaller g c =
-    omega (arith, depth_of-parent (g.N.Nodes.trees c.args.nodes.now) c.loop-b.at.label c.in-Some.parent.label c.lawful.ensures.distinct (sym c.in-Some.ensures.is))
+    omega (arith, depth_of-parent (g.N.Nodes.trees c.args.nodes.now) c.loop-b.at.label c.in-Some.parent.label c.valid.ensures.distinct (sym c.in-Some.ensures.is))
 
 pub loop-b-preserved : goal.loop-b-preserved
 loop-b-preserved g c =
     let f = (g.N.Nodes.trees c.args.nodes.now) in
-    let law = c.lawful.ensures in
+    let law = c.valid.ensures in
     let off : (is_host f c.loop-b.at.label ≡ false) ⊎ (IsWithin f c.loop-b.at.label c.args.b.label → ⊥) =
     elim c.else-is_host.branch [
       | else-is_host-via-then-is_host+else-is_within w ↦ inr (λ h. let t : false ≡ true = sym w.if-is_within.false ∙ w.is_within.ensures.1 h in cc)
@@ -44,7 +44,7 @@ pub returns-in-None : goal.returns-in-None
 unfolding common_host
 returns-in-None g c =
     let f = (g.N.Nodes.trees c.args.nodes.now) in
-    let law = c.lawful.ensures in
+    let law = c.valid.ensures in
     let off : (is_host f c.loop-b.at.label ≡ false) ⊎ (IsWithin f c.loop-b.at.label c.args.b.label → ⊥) =
     elim c.else-is_host.branch [
       | else-is_host-via-then-is_host+else-is_within w ↦ inr (λ h. let t : false ≡ true = sym w.if-is_within.false ∙ w.is_within.ensures.1 h in cc)

@@ -4,14 +4,14 @@ use Rattle.dom_model.specs.declared.Content.{Content}
 use Rattle.dom_model.specs.Forest.{Forest, tops, children_of}
 use Rattle.node_arena.specs.declared.NodeRef.{NodeRef}
 use Rattle.node_arena.specs.Held.{label}
-use Rattle.node_arena.specs.Reads.{IsLawful, Names}
+use Rattle.node_arena.specs.Reads.{IsValid, Names}
 use Rattle.node_tests.specs.Listing.{siblings}
 use Rattle.node_tests.proofs.Kids.{Kid, first_kid, next_kid}
 use Rattle.node_tests.proofs.ChildAt.{children_are, next_at, at_none, at_some}
 use Rattle.node_tests.proofs.block_points.child_at.Goals as goal
 
 -- the child that the walk has come to is the child at the offset
-arrived : {holds : NodeRef → Type 0} {f : Forest Content} {upper : ℕ} (law : IsLawful holds f upper) (p offset : ℕ) (o : Option NodeRef) → Kid holds f p o → (left : ℕ) → left ≡ 0 → slice_get (children_of f p) offset ≡ slice_get (tops (siblings f (label o))) left → Names holds o (slice_get (children_of f p) offset)
+arrived : {holds : NodeRef → Type 0} {f : Forest Content} {upper : ℕ} (law : IsValid holds f upper) (p offset : ℕ) (o : Option NodeRef) → Kid holds f p o → (left : ℕ) → left ≡ 0 → slice_get (children_of f p) offset ≡ slice_get (tops (siblings f (label o))) left → Names holds o (slice_get (children_of f p) offset)
 arrived {f = f} law p offset None kid left none same = record { is = sym (same ∙ at_none f law.distinct left); held = tt }
 arrived {f = f} law p offset (Some r) kid left none same = record {
   is = sym (same ∙ ap (slice_get (tops (siblings f (Some r.label)))) none ∙ at_some f law.distinct r.label p kid.under);
@@ -21,7 +21,7 @@ arrived {f = f} law p offset (Some r) kid left none same = record {
 pub loop-left-init : goal.loop-left-init
 loop-left-init g c =
     let f = g.N.Nodes.trees c.args.nodes.now in
-    let law = c.lawful.ensures in
+    let law = c.valid.ensures in
     record {
       kid = first_kid law c.args.node c.first_child-child.result c.requires c.first_child-child.ensures;
       same = ap (λ xs. slice_get xs c.args.offset) (children_are f law.distinct c.args.node.label (law.here c.args.node c.requires) ∙ ap (λ o. tops (siblings f o)) (sym c.first_child-child.ensures.is));
@@ -33,7 +33,7 @@ next-child-requires g c = let kid = rw c.in-Some.is at c.loop-left.invariant.kid
 pub loop-left-preserved : goal.loop-left-preserved
 loop-left-preserved g c =
     let f = g.N.Nodes.trees c.args.nodes.now in
-    let law = c.lawful.ensures in
+    let law = c.valid.ensures in
     let kid = rw c.in-Some.is at c.loop-left.invariant.kid in
     let same = rw c.in-Some.is at c.loop-left.invariant.same in
     let some = c.loop-left-test.true in
@@ -49,11 +49,11 @@ loop-left-preserved g c =
 pub returns-in-None : goal.returns-in-None
 returns-in-None g c =
     let f = g.N.Nodes.trees c.args.nodes.now in
-    let law = c.lawful.ensures in
+    let law = c.valid.ensures in
     let same = rw c.in-None.is at c.loop-left.invariant.same in
     record { is = sym (same ∙ at_none f law.distinct c.loop-left.left); held = tt }
 
 pub returns : goal.returns
 returns g c =
     let done = c.loop-left-test.false in
-    arrived c.lawful.ensures c.args.node.label c.args.offset c.loop-left.child c.loop-left.invariant.kid c.loop-left.left (omega (arith, done)) c.loop-left.invariant.same
+    arrived c.valid.ensures c.args.node.label c.args.offset c.loop-left.child c.loop-left.invariant.kid c.loop-left.left (omega (arith, done)) c.loop-left.invariant.same

@@ -12,5 +12,5 @@ returns-in-Some g c =
       record { node = c.in-Some.parent.label; offset = index_of f l + 1 },
       ap (out_to f l 1) child,
       record { node = c.in-Some.ensures.held; before = c.requires; after = c.next.ensures.held },
-      stands_after c.lawful.ensures c.args.node c.in-Some.parent child c.next.result c.next.ensures.is,
+      stands_after c.valid.ensures c.args.node c.in-Some.parent child c.next.result c.next.ensures.is,
     )

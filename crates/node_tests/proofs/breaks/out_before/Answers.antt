@@ -12,5 +12,5 @@ returns-in-Some g c =
       record { node = c.in-Some.parent.label; offset = index_of f l + 0 },
       ap (out_to f l 0) child,
       record { node = c.in-Some.ensures.held; before = c.prev.ensures.held; after = c.requires },
-      stands_before c.lawful.ensures c.args.node c.in-Some.parent child c.prev.result c.prev.ensures.is,
+      stands_before c.valid.ensures c.args.node c.in-Some.parent child c.prev.result c.prev.ensures.is,
     )

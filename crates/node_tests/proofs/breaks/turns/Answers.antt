@@ -11,14 +11,14 @@ returns-then-is_within-clause-back g c =
     let f = g.N.Nodes.trees c.args.nodes.now in
     let l = c.args.node.label in
     let inside : IsWithin f 0 l = subst (λ k. IsWithin f k l) c.document.ensures.label (c.is_within.ensures.0 c.if-is_within.true) in
-    back_free c.lawful.ensures l (c.lawful.ensures.here c.args.node c.requires) inside _ (ap (λ n. 2 * n + 2) c.next_label.ensures)
+    back_free c.valid.ensures l (c.valid.ensures.here c.args.node c.requires) inside _ (ap (λ n. 2 * n + 2) c.next_label.ensures)
 
 pub returns-then-is_within-clause-forth : goal.returns-then-is_within-clause-forth
 returns-then-is_within-clause-forth g c =
     let f = g.N.Nodes.trees c.args.nodes.now in
     let l = c.args.node.label in
     let inside : IsWithin f 0 l = subst (λ k. IsWithin f k l) c.document.ensures.label (c.is_within.ensures.0 c.if-is_within.true) in
-    forth_free c.lawful.ensures l (c.lawful.ensures.here c.args.node c.requires) inside _ (ap (λ n. 2 * n + 2) c.next_label.ensures)
+    forth_free c.valid.ensures l (c.valid.ensures.here c.args.node c.requires) inside _ (ap (λ n. 2 * n + 2) c.next_label.ensures)
 
 pub returns-else-is_within-clause-back : goal.returns-else-is_within-clause-back
 unfolding follows_break

@@ -11,7 +11,7 @@ use Rattle.node_tests.proofs.listing.+push_all.Goals as goal
 pub loop-child-init : goal.loop-child-init
 loop-child-init g t c =
     let f = g.N.Nodes.trees c.args.nodes.now in
-    let law = c.lawful.ensures in
+    let law = c.valid.ensures in
     record {
       kid = first_kid law c.args.node c.first_child-child.result c.requires.node_held c.first_child-child.ensures;
       held = all_pushed (g.N.Nodes.holds c.args.nodes.now) _ _ _ c.in_ok-push.ensures.items c.requires.found_held c.requires.node_held;
@@ -21,7 +21,7 @@ loop-child-init g t c =
 pub push_all-requires : goal.push_all-requires
 push_all-requires g t c κs within =
     let kid = rw c.in-Some.is at c.loop-child.invariant.kid in
-    (omega (arith, c.decreases, tree_smaller c.lawful.ensures c.args.node.label c.in-Some.at kid), (within, (kid.held, c.loop-child.invariant.held)))
+    (omega (arith, c.decreases, tree_smaller c.valid.ensures c.args.node.label c.in-Some.at kid), (within, (kid.held, c.loop-child.invariant.held)))
 
 pub next-child-requires : goal.next-child-requires
 next-child-requires g t c = let kid = rw c.in-Some.is at c.loop-child.invariant.kid in kid.held
@@ -29,12 +29,12 @@ next-child-requires g t c = let kid = rw c.in-Some.is at c.loop-child.invariant.
 pub loop-child-smaller : goal.loop-child-smaller
 loop-child-smaller g t c =
     let kid = rw c.in-Some.is at c.loop-child.invariant.kid in
-    rw c.in-Some.is (next_smaller c.lawful.ensures c.args.node.label c.in-Some.at kid c.next-child.result c.next-child.ensures)
+    rw c.in-Some.is (next_smaller c.valid.ensures c.args.node.label c.in-Some.at kid c.next-child.result c.next-child.ensures)
 
 pub loop-child-preserved : goal.loop-child-preserved
 loop-child-preserved g t c =
     let f = g.N.Nodes.trees c.args.nodes.now in
-    let law = c.lawful.ensures in
+    let law = c.valid.ensures in
     let k = c.in-Some.at.label in
     let kid = rw c.in-Some.is at c.loop-child.invariant.kid in
     let listed = rw c.in-Some.is at c.loop-child.invariant.listed in

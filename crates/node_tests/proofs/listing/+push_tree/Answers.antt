@@ -13,7 +13,7 @@ use Rattle.node_tests.proofs.listing.+push_tree.Goals as goal
 pub returns-then-lies_between-clause-nodes : goal.returns-then-lies_between-clause-nodes
 returns-then-lies_between-clause-nodes g t c =
     let f = g.N.Nodes.trees c.args.nodes.now in
-    let law = c.lawful.ensures in
+    let law = c.valid.ensures in
     let k = c.args.node.label in
     let both = and_parts c.args.sides.after c.args.sides.before (sym c.lies_between.ensures ∙ c.if-lies_between.true) in
     c.in_ok-push_all.ensures.nodes
@@ -21,14 +21,14 @@ returns-then-lies_between-clause-nodes g t c =
 
 pub returns-then-lies_between-clause-effective : goal.returns-then-lies_between-clause-effective
 returns-then-lies_between-clause-effective g t c =
-    let law = c.lawful.ensures in
+    let law = c.valid.ensures in
     let both = and_parts c.args.sides.after c.args.sides.before (sym c.lies_between.ensures ∙ c.if-lies_between.true) in
     every_effective law c.args.range.0 c.args.range.1 c.requires.ordered c.args.node.label (law.here c.args.node c.requires.node_held) (c.requires.sides.after both.0) (c.requires.sides.before both.1)
 
 pub loop-child-init : goal.loop-child-init
 loop-child-init g t c =
     let f = g.N.Nodes.trees c.args.nodes.now in
-    let law = c.lawful.ensures in
+    let law = c.valid.ensures in
     let top = c.args.node.label in
     let from = c.start_reach-start.result in
     let reaches = c.start_reach-start.ensures.reaches in
@@ -42,14 +42,14 @@ loop-child-init g t c =
 
 pub loop-child-smaller-then-is_at : goal.loop-child-smaller-then-is_at
 loop-child-smaller-then-is_at g t c =
-    let law = c.lawful.ensures in
+    let law = c.valid.ensures in
     let kid = rw c.in-Some.is at c.loop-child.invariant.kid in
     rw c.in-Some.is (ended law c.args.node.label (law.here c.args.node c.requires.node_held) c.in-Some.at.label kid.under)
 
 pub loop-child-preserved-then-is_at : goal.loop-child-preserved-then-is_at
 loop-child-preserved-then-is_at g t c =
     let f = g.N.Nodes.trees c.args.nodes.now in
-    let law = c.lawful.ensures in
+    let law = c.valid.ensures in
     let top = c.args.node.label in
     let k = c.in-Some.at.label in
     let kid = rw c.in-Some.is at c.loop-child.invariant.kid in
@@ -68,7 +68,7 @@ loop-child-preserved-then-is_at g t c =
 pub push_tree-requires : goal.push_tree-requires
 push_tree-requires g t c κs within =
     let f = g.N.Nodes.trees c.args.nodes.now in
-    let law = c.lawful.ensures in
+    let law = c.valid.ensures in
     let kid = rw c.in-Some.is at c.loop-child.invariant.kid in
     let stands = rw c.in-Some.is at c.loop-child.invariant.stands in
     let lies : Lies f c.args.range.0 c.args.range.1 c.inner_sides-inner.result c.in-Some.at.label =
@@ -80,12 +80,12 @@ push_tree-requires g t c κs within =
 pub loop-child-smaller : goal.loop-child-smaller
 loop-child-smaller g t c =
     let kid = rw c.in-Some.is at c.loop-child.invariant.kid in
-    rw c.in-Some.is (next_smaller c.lawful.ensures c.args.node.label c.in-Some.at kid c.next-child.result c.next-child.ensures)
+    rw c.in-Some.is (next_smaller c.valid.ensures c.args.node.label c.in-Some.at kid c.next-child.result c.next-child.ensures)
 
 pub loop-child-preserved : goal.loop-child-preserved
 loop-child-preserved g t c =
     let f = g.N.Nodes.trees c.args.nodes.now in
-    let law = c.lawful.ensures in
+    let law = c.valid.ensures in
     let top = c.args.node.label in
     let start = c.args.range.0 in
     let end = c.args.range.1 in
@@ -105,7 +105,7 @@ loop-child-preserved g t c =
 pub is_effective_above-effective-requires-clause-cut : goal.is_effective_above-effective-requires-clause-cut
 is_effective_above-effective-requires-clause-cut g t c =
     c.is_cut_within-cut.ensures
-    ∙ cut_is (g.N.Nodes.trees c.args.nodes.now) c.lawful.ensures.distinct c.args.range.0 c.args.range.1 c.args.sides c.args.node.label c.requires.sides c.requires.start_held c.requires.end_held c.args.lines.now.start_cuts c.args.lines.now.end_cuts c.requires.start_cuts c.requires.end_cuts
+    ∙ cut_is (g.N.Nodes.trees c.args.nodes.now) c.valid.ensures.distinct c.args.range.0 c.args.range.1 c.args.sides c.args.node.label c.requires.sides c.requires.start_held c.requires.end_held c.args.lines.now.start_cuts c.args.lines.now.end_cuts c.requires.start_cuts c.requires.end_cuts
 
 pub put_at-requires : goal.put_at-requires
 put_at-requires g t c =
@@ -115,7 +115,7 @@ put_at-requires g t c =
 pub returns-in_ok-put_at-clause-nodes : goal.returns-in_ok-put_at-clause-nodes
 returns-in_ok-put_at-clause-nodes g t c =
     let f = g.N.Nodes.trees c.args.nodes.now in
-    let law = c.lawful.ensures in
+    let law = c.valid.ensures in
     let start = c.args.range.0 in
     let end = c.args.range.1 in
     let k = c.args.node.label in
@@ -131,7 +131,7 @@ returns-in_ok-put_at-clause-held g t c =
 pub returns-else-is_listed-clause-nodes : goal.returns-else-is_listed-clause-nodes
 returns-else-is_listed-clause-nodes g t c =
     let f = g.N.Nodes.trees c.args.nodes.now in
-    let law = c.lawful.ensures in
+    let law = c.valid.ensures in
     let start = c.args.range.0 in
     let end = c.args.range.1 in
     let k = c.args.node.label in

@@ -6,12 +6,12 @@ use Rattle.node_tests.proofs.listing.is_contained_above.Goals as goal
 
 pub returns-then-not-sides : goal.returns-then-not-sides
 returns-then-not-sides g c =
-    let law = c.lawful.ensures in
+    let law = c.valid.ensures in
     sym (out_of_start law c.args.range.0 c.args.range.1 c.args.node.label (law.here c.args.node c.requires.node_held) (c.requires.sides.starts (set_off c.args.sides.after c.if-not-sides.true)))
 
 pub returns-then-range-node : goal.returns-then-range-node
 returns-then-range-node g c =
-    let law = c.lawful.ensures in
+    let law = c.valid.ensures in
     let top = c.args.node.label in
     let here = law.here c.args.node c.requires.node_held in
     let on = set_on c.args.sides.after c.if-not-sides.false in
@@ -19,7 +19,7 @@ returns-then-range-node g c =
 
 pub returns-then-not-is_nothing : goal.returns-then-not-is_nothing
 returns-then-not-is_nothing g c =
-    let law = c.lawful.ensures in
+    let law = c.valid.ensures in
     let top = c.args.node.label in
     let here = law.here c.args.node c.requires.node_held in
     let on = set_on c.args.sides.after c.if-not-sides.false in
@@ -28,7 +28,7 @@ returns-then-not-is_nothing g c =
 
 pub returns : goal.returns
 returns g c =
-    let law = c.lawful.ensures in
+    let law = c.valid.ensures in
     let top = c.args.node.label in
     let here = law.here c.args.node c.requires.node_held in
     let on = set_on c.args.sides.after c.if-not-sides.false in

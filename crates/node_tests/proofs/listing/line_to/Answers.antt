@@ -7,7 +7,7 @@ use Rattle.node_tests.proofs.listing.line_to.Goals as goal
 
 pub loop-at-init : goal.loop-at-init
 loop-at-init g c =
-    let law = c.lawful.ensures in
+    let law = c.valid.ensures in
     record {
       held = c.requires.node_held;
       within = c.requires.inside;
@@ -17,12 +17,12 @@ loop-at-init g c =
 
 pub loop-at-smaller : goal.loop-at-smaller
 loop-at-smaller g c =
-    omega (arith, depth_of-parent (g.N.Nodes.trees c.args.nodes.now) c.loop-at.at.label c.in-Some.parent.label c.lawful.ensures.distinct (sym c.in-Some.ensures.is))
+    omega (arith, depth_of-parent (g.N.Nodes.trees c.args.nodes.now) c.loop-at.at.label c.in-Some.parent.label c.valid.ensures.distinct (sym c.in-Some.ensures.is))
 
 pub loop-at-preserved : goal.loop-at-preserved
 loop-at-preserved g c =
     let f = g.N.Nodes.trees c.args.nodes.now in
-    let law = c.lawful.ensures in
+    let law = c.valid.ensures in
     let at = c.loop-at.at in
     let parent = c.in-Some.parent.label in
     let child = sym c.in-Some.ensures.is in
@@ -38,7 +38,7 @@ loop-at-preserved g c =
 
 pub unreachable-requires : goal.unreachable-requires
 unreachable-requires g c =
-    let law = c.lawful.ensures in
+    let law = c.valid.ensures in
     let up = within_parent (g.N.Nodes.trees c.args.nodes.now) c.args.top.label law.distinct (law.here c.args.top c.requires.top_held) c.loop-at.at.label (λ e. c.loop-at-test.true (sym e)) c.loop-at.invariant.within in
     let t : None ≡ Some up.0 = c.in-None.ensures.is ∙ up.1 in
     cc

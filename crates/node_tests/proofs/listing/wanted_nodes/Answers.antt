@@ -10,7 +10,7 @@ use Rattle.node_tests.proofs.listing.wanted_nodes.Goals as goal
 pub line_to-requires-2-clause-inside : goal.line_to-requires-2-clause-inside
 line_to-requires-2-clause-inside g c =
     let f = g.N.Nodes.trees c.args.nodes.now in
-    let law = c.lawful.ensures in
+    let law = c.valid.ensures in
     let root = c.root_of-root.result in
     let inside : IsWithin f root.label c.args.range.0.label = subst (λ k. IsWithin f root.label k) c.node_of-start.ensures.label c.root_of-root.ensures.within in
     let ordered = sym c.comes_before.ensures ∙ c.if-not-comes_before.false in
@@ -20,7 +20,7 @@ line_to-requires-2-clause-inside g c =
 pub push_tree-requires-clause-sides : goal.push_tree-requires-clause-sides
 push_tree-requires-clause-sides g c =
     let f = g.N.Nodes.trees c.args.nodes.now in
-    let law = c.lawful.ensures in
+    let law = c.valid.ensures in
     let root = c.root_of-root.result in
     let inside : IsWithin f root.label c.args.range.0.label = subst (λ k. IsWithin f root.label k) c.node_of-start.ensures.label c.root_of-root.ensures.within in
     let ordered = sym c.comes_before.ensures ∙ c.if-not-comes_before.false in
@@ -34,7 +34,7 @@ push_tree-requires-clause-sides g c =
 pub returns-clause-nodes : goal.returns-clause-nodes
 returns-clause-nodes g c =
     let f = (g.N.Nodes.trees c.args.nodes.now) in
-    let law = c.lawful.ensures in
+    let law = c.valid.ensures in
     let root = c.root_of-root.result in
     let test = is_wanted c.args.wanted f c.args.range.0 c.args.range.1 in
     let inside : IsWithin f root.label c.args.range.0.label = subst (λ k. IsWithin f root.label k) c.node_of-start.ensures.label c.root_of-root.ensures.within in
@@ -49,4 +49,4 @@ returns-then-not-comes_before-clause-nodes g c =
     copied c.from_slice.result _ _ c.from_slice.ensures
     (ap (map (λ r. r.label)) c.deref.ensures.value
     ∙ (ap (map (λ r. r.label)) c.new-found.ensures.items
-    ∙ none_wanted c.lawful.ensures c.args.range.0 c.args.range.1 (sym c.comes_before.ensures ∙ c.if-not-comes_before.true) c.requires.start_held c.requires.end_held c.args.wanted))
+    ∙ none_wanted c.valid.ensures c.args.range.0 c.args.range.1 (sym c.comes_before.ensures ∙ c.if-not-comes_before.true) c.requires.start_held c.requires.end_held c.args.wanted))

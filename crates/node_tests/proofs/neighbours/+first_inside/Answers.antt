@@ -10,12 +10,12 @@ use Rattle.node_tests.proofs.neighbours.+first_inside.Goals as goal
 
 pub returns-in-Some : goal.returns-in-Some
 returns-in-Some g t c =
-    let law = c.lawful.ensures in
+    let law = c.valid.ensures in
     first_at (g.N.Nodes.trees c.args.nodes.now) law.distinct c.args.node.label (law.here c.args.node c.requires) c.met_at.result c.met_at.ensures c.in-Some.met c.in-Some.is
 
 pub loop-child-init : goal.loop-child-init
 loop-child-init g t c =
-    let law = c.lawful.ensures in
+    let law = c.valid.ensures in
     record {
       kid = first_kid law c.args.node c.first_child-child.result c.requires c.first_child-child.ensures;
       same = first_kids (g.N.Nodes.trees c.args.nodes.now) law.distinct c.args.node.label (law.here c.args.node c.requires) c.met_at.result c.met_at.ensures (label c.first_child-child.result) c.in_default.is c.first_child-child.ensures.is;
@@ -24,12 +24,12 @@ loop-child-init g t c =
 pub first_inside-requires : goal.first_inside-requires
 first_inside-requires g t c κs within =
     let kid = rw c.in-Some-child.is at c.loop-child.invariant.kid in
-    (omega (arith, c.decreases, tree_smaller c.lawful.ensures c.args.node.label c.in-Some-child.at kid), (within, kid.held))
+    (omega (arith, c.decreases, tree_smaller c.valid.ensures c.args.node.label c.in-Some-child.at kid), (within, kid.held))
 
 pub returns-in-Some-first_inside : goal.returns-in-Some-first_inside
 returns-in-Some-first_inside g t c =
     let f = (g.N.Nodes.trees c.args.nodes.now) in
-    let law = c.lawful.ensures in
+    let law = c.valid.ensures in
     let kid = rw c.in-Some-child.is at c.loop-child.invariant.kid in
     let same = rw c.in-Some-child.is at c.loop-child.invariant.same in
     let k = c.in-Some-child.at.label in
@@ -41,12 +41,12 @@ next-child-requires g t c = let kid = rw c.in-Some-child.is at c.loop-child.inva
 pub loop-child-smaller : goal.loop-child-smaller
 loop-child-smaller g t c =
     let kid = rw c.in-Some-child.is at c.loop-child.invariant.kid in
-    rw c.in-Some-child.is (next_smaller c.lawful.ensures c.args.node.label c.in-Some-child.at kid c.next-child.result c.next-child.ensures)
+    rw c.in-Some-child.is (next_smaller c.valid.ensures c.args.node.label c.in-Some-child.at kid c.next-child.result c.next-child.ensures)
 
 pub loop-child-preserved : goal.loop-child-preserved
 loop-child-preserved g t c =
     let f = (g.N.Nodes.trees c.args.nodes.now) in
-    let law = c.lawful.ensures in
+    let law = c.valid.ensures in
     let kid = rw c.in-Some-child.is at c.loop-child.invariant.kid in
     let same = rw c.in-Some-child.is at c.loop-child.invariant.same in
     let k = c.in-Some-child.at.label in

@@ -10,7 +10,7 @@ use Rattle.node_tests.proofs.neighbours.+last_in_order.Goals as goal
 pub last_in_order-requires : goal.last_in_order-requires
 last_in_order-requires g t c κs within =
     let kid = rw c.in-Some.is at c.loop-child.invariant.kid in
-    (omega (arith, c.decreases, tree_smaller c.lawful.ensures c.args.node.label c.in-Some.at kid), (within, kid.held))
+    (omega (arith, c.decreases, tree_smaller c.valid.ensures c.args.node.label c.in-Some.at kid), (within, kid.held))
 
 pub next-child-requires : goal.next-child-requires
 next-child-requires g t c = let kid = rw c.in-Some.is at c.loop-child.invariant.kid in kid.held
@@ -18,12 +18,12 @@ next-child-requires g t c = let kid = rw c.in-Some.is at c.loop-child.invariant.
 pub loop-child-smaller : goal.loop-child-smaller
 loop-child-smaller g t c =
     let kid = rw c.in-Some.is at c.loop-child.invariant.kid in
-    rw c.in-Some.is (next_smaller c.lawful.ensures c.args.node.label c.in-Some.at kid c.next-child.result c.next-child.ensures)
+    rw c.in-Some.is (next_smaller c.valid.ensures c.args.node.label c.in-Some.at kid c.next-child.result c.next-child.ensures)
 
 pub loop-child-preserved : goal.loop-child-preserved
 loop-child-preserved g t c =
     let f = (g.N.Nodes.trees c.args.nodes.now) in
-    let law = c.lawful.ensures in
+    let law = c.valid.ensures in
     let kid = rw c.in-Some.is at c.loop-child.invariant.kid in
     let same = rw c.in-Some.is at c.loop-child.invariant.same in
     let k = c.in-Some.at.label in
@@ -40,7 +40,7 @@ returns g t c = sym (rw c.in_default.is at c.loop-child.invariant.same)
 
 pub loop-child-init : goal.loop-child-init
 loop-child-init g t c =
-    let law = c.lawful.ensures in
+    let law = c.valid.ensures in
     record {
       kid = first_kid law c.args.node c.first_child-child.result c.requires c.first_child-child.ensures;
       same = order_kids (g.N.Nodes.trees c.args.nodes.now) law.distinct c.args.node.label (law.here c.args.node c.requires) c.met_at-last.result c.met_at-last.ensures (label c.first_child-child.result) c.first_child-child.ensures.is;

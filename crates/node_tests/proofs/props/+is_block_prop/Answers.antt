@@ -11,17 +11,17 @@ use Rattle.node_tests.proofs.props.+is_block_prop.Goals.{then-not-prop+else-is_v
 
 pub returns-then-is_break_prop : goal.returns-then-is_break_prop
 returns-then-is_break_prop g t c =
-    let law = c.lawful.ensures in
+    let law = c.valid.ensures in
     break_is (g.N.Nodes.trees c.args.nodes.now) law.distinct c.args.node.label (law.here c.args.node c.requires) c.is_break_prop.result c.is_break_prop.ensures c.if-is_break_prop.true
 
 pub returns-then-not-is_inline_element : goal.returns-then-not-is_inline_element
 returns-then-not-is_inline_element g t c =
-    let law = c.lawful.ensures in
+    let law = c.valid.ensures in
     not_inline (g.N.Nodes.trees c.args.nodes.now) law.distinct c.args.node.label (law.here c.args.node c.requires) c.is_break_prop.result c.is_break_prop.ensures c.is_inline_element.result c.is_inline_element.ensures c.if-is_break_prop.false c.if-not-is_inline_element.true
 
 pub loop-child-init : goal.loop-child-init
 loop-child-init g t c =
-    let law = c.lawful.ensures in
+    let law = c.valid.ensures in
     record {
       kid = first_kid law c.args.node c.first_child-child.result c.requires c.first_child-child.ensures;
       same = kids_are (g.N.Nodes.trees c.args.nodes.now) law.distinct c.args.node.label (law.here c.args.node c.requires) c.is_break_prop.result c.is_break_prop.ensures c.is_inline_element.result c.is_inline_element.ensures c.if-is_break_prop.false (label c.first_child-child.result) c.if-not-is_inline_element.false c.first_child-child.ensures.is;
@@ -30,7 +30,7 @@ loop-child-init g t c =
 pub is_block_prop-prop-requires : goal.is_block_prop-prop-requires
 is_block_prop-prop-requires g t c κs within =
     let kid = rw c.in-Some.is at c.loop-child.invariant.kid in
-    (omega (arith, c.decreases, tree_smaller c.lawful.ensures c.args.node.label c.in-Some.at kid), (within, kid.held))
+    (omega (arith, c.decreases, tree_smaller c.valid.ensures c.args.node.label c.in-Some.at kid), (within, kid.held))
 
 pub returns : goal.returns
 returns g t c = let same = rw c.in_default.is at c.loop-child.invariant.same in sym (same ∙ at_end (g.N.Nodes.trees c.args.nodes.now) c.loop-child.found)
@@ -38,7 +38,7 @@ returns g t c = let same = rw c.in_default.is at c.loop-child.invariant.same in 
 pub returns-then-is_visible : goal.returns-then-is_visible
 returns-then-is_visible g t c =
     let f = (g.N.Nodes.trees c.args.nodes.now) in
-    let law = c.lawful.ensures in
+    let law = c.valid.ensures in
     let kid = rw c.in-Some.is at c.loop-child.invariant.kid in
     let same = rw c.in-Some.is at c.loop-child.invariant.same in
     let k = c.in-Some.at.label in
@@ -51,12 +51,12 @@ next-child-requires g t c = let kid = rw c.in-Some.is at c.loop-child.invariant.
 pub loop-child-smaller : goal.loop-child-smaller
 loop-child-smaller g t c =
     let kid = rw c.in-Some.is at c.loop-child.invariant.kid in
-    rw c.in-Some.is (next_smaller c.lawful.ensures c.args.node.label c.in-Some.at kid c.next-child.result c.next-child.ensures)
+    rw c.in-Some.is (next_smaller c.valid.ensures c.args.node.label c.in-Some.at kid c.next-child.result c.next-child.ensures)
 
 pub loop-child-preserved : goal.loop-child-preserved
 loop-child-preserved g t c =
     let f = (g.N.Nodes.trees c.args.nodes.now) in
-    let law = c.lawful.ensures in
+    let law = c.valid.ensures in
     let kid = rw c.in-Some.is at c.loop-child.invariant.kid in
     let same = rw c.in-Some.is at c.loop-child.invariant.same in
     let k = c.in-Some.at.label in

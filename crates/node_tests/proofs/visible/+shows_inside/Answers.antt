@@ -9,17 +9,17 @@ use Rattle.node_tests.proofs.visible.+shows_inside.Goals as goal
 
 pub returns-then-has_no_box : goal.returns-then-has_no_box
 returns-then-has_no_box g t c =
-    let law = c.lawful.ensures in
+    let law = c.valid.ensures in
     boxless_hides (g.N.Nodes.trees c.args.nodes.now) law.distinct c.args.node.label (law.here c.args.node c.requires) c.has_no_box.result c.has_no_box.ensures c.if-has_no_box.true
 
 pub returns-then-shows : goal.returns-then-shows
 returns-then-shows g t c =
-    let law = c.lawful.ensures in
+    let law = c.valid.ensures in
     node_shows (g.N.Nodes.trees c.args.nodes.now) law.distinct c.args.node.label (law.here c.args.node c.requires) c.has_no_box.result c.has_no_box.ensures c.shows.result c.shows.ensures c.if-has_no_box.false c.if-shows.true
 
 pub loop-child-init : goal.loop-child-init
 loop-child-init g t c =
-    let law = c.lawful.ensures in
+    let law = c.valid.ensures in
     record {
       kid = first_kid law c.args.node c.first_child-child.result c.requires c.first_child-child.ensures;
       same = kids_show (g.N.Nodes.trees c.args.nodes.now) law.distinct c.args.node.label (law.here c.args.node c.requires) c.has_no_box.result c.has_no_box.ensures c.shows.result c.shows.ensures c.if-has_no_box.false (label c.first_child-child.result) c.if-shows.false c.first_child-child.ensures.is;
@@ -28,12 +28,12 @@ loop-child-init g t c =
 pub shows_inside-requires : goal.shows_inside-requires
 shows_inside-requires g t c κs within =
     let kid = rw c.in-Some.is at c.loop-child.invariant.kid in
-    (omega (arith, c.decreases, tree_smaller c.lawful.ensures c.args.node.label c.in-Some.at kid), (within, kid.held))
+    (omega (arith, c.decreases, tree_smaller c.valid.ensures c.args.node.label c.in-Some.at kid), (within, kid.held))
 
 pub returns-then-shows_inside : goal.returns-then-shows_inside
 returns-then-shows_inside g t c =
     let f = (g.N.Nodes.trees c.args.nodes.now) in
-    let law = c.lawful.ensures in
+    let law = c.valid.ensures in
     let kid = rw c.in-Some.is at c.loop-child.invariant.kid in
     let same = rw c.in-Some.is at c.loop-child.invariant.same in
     let k = c.in-Some.at.label in
@@ -45,12 +45,12 @@ next-child-requires g t c = let kid = rw c.in-Some.is at c.loop-child.invariant.
 pub loop-child-smaller : goal.loop-child-smaller
 loop-child-smaller g t c =
     let kid = rw c.in-Some.is at c.loop-child.invariant.kid in
-    rw c.in-Some.is (next_smaller c.lawful.ensures c.args.node.label c.in-Some.at kid c.next-child.result c.next-child.ensures)
+    rw c.in-Some.is (next_smaller c.valid.ensures c.args.node.label c.in-Some.at kid c.next-child.result c.next-child.ensures)
 
 pub loop-child-preserved : goal.loop-child-preserved
 loop-child-preserved g t c =
     let f = (g.N.Nodes.trees c.args.nodes.now) in
-    let law = c.lawful.ensures in
+    let law = c.valid.ensures in
     let kid = rw c.in-Some.is at c.loop-child.invariant.kid in
     let same = rw c.in-Some.is at c.loop-child.invariant.same in
     let k = c.in-Some.at.label in

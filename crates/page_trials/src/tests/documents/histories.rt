@@ -143,7 +143,7 @@ fn mark(doc: &mut Doc, name: &[u8]) -> Result<(), Fail>
     requires { IsClosed doc.old }
     ensures { IsClosed doc.new }
 {
-    doc.lawful();
+    doc.valid();
     if let Some(pair) = doc.points().selection() {
         if doc.set_mark(name, pair).is_err() {
             return Err("mark".into());

@@ -8,7 +8,7 @@ pub push_trees-requires : goal.push_trees-requires
 push_trees-requires t c =
     let a = c.args.arena.now in
     let i = c.loop-at.invariant in
-    let v = come_to a c.lawful.ensures c.loop-at.at c.in-Some.node _ c.in-Some.is i.held i.inner c.content-content.ensures in
+    let v = come_to a c.valid.ensures c.loop-at.at c.in-Some.node _ c.in-Some.is i.held i.inner c.content-content.ensures in
     let below = size_led a _ _ c.first_child.ensures in
     let here = size_here a c.loop-at.at c.in-Some.node c.in-Some.is in
     let whole = c.decreases in
@@ -19,7 +19,7 @@ pub loop-at-smaller : goal.loop-at-smaller
 loop-at-smaller t c =
     let a = c.args.arena.now in
     let i = c.loop-at.invariant in
-    let v = come_to a c.lawful.ensures c.loop-at.at c.in-Some.node _ c.in-Some.is i.held i.inner c.content-content.ensures in
+    let v = come_to a c.valid.ensures c.loop-at.at c.in-Some.node _ c.in-Some.is i.held i.inner c.content-content.ensures in
     let after = size_led a _ _ c.next-at.ensures in
     let here = size_here a c.loop-at.at c.in-Some.node c.in-Some.is in
     let smaller : size_from a.trees (label c.next-at.result) < size_from a.trees (label c.loop-at.at) = omega (arith, after, v.after, here) in
@@ -29,7 +29,7 @@ pub loop-at-preserved : goal.loop-at-preserved
 loop-at-preserved t c =
     let a = c.args.arena.now in
     let i = c.loop-at.invariant in
-    let v = come_to a c.lawful.ensures c.loop-at.at c.in-Some.node _ c.in-Some.is i.held i.inner c.content-content.ensures in
+    let v = come_to a c.valid.ensures c.loop-at.at c.in-Some.node _ c.in-Some.is i.held i.inner c.content-content.ensures in
     let after = size_led a _ _ c.next-at.ensures in
     let here = size_here a c.loop-at.at c.in-Some.node c.in-Some.is in
     record {

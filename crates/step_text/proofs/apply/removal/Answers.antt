@@ -22,4 +22,4 @@ returns-then-not-has_parent c =
 pub returns : goal.returns
 returns c =
     let a = c.args in
-    remove_step a.arena.now c.lawful.ensures c.slotted.ensures a.label c.in_ok-node.node c.in_ok-node.ensures.found.0 c.in_ok-node.ensures.found.1 (sym c.in_ok-node.ensures.there) (sym c.has_parent.ensures ∙ c.if-not-has_parent.false)
+    remove_step a.arena.now c.valid.ensures c.slotted.ensures a.label c.in_ok-node.node c.in_ok-node.ensures.found.0 c.in_ok-node.ensures.found.1 (sym c.in_ok-node.ensures.there) (sym c.has_parent.ensures ∙ c.if-not-has_parent.false)

@@ -9,21 +9,21 @@ returns-in_err-at c =
     let a = c.args in
     let p = err_from_is_err_and c.from_residual.result c.from_residual.ensures.1 in
     exit (Move a.label a.parent a.before) a.arena.now c.from_residual.result p.0 p.1 (p.2 ∙ c.in_err-at.ensures.absent)
-    (move_unfound a.arena.now c.lawful.ensures c.slotted.ensures a.label a.parent a.before (sym c.in_err-at.ensures.there))
+    (move_unfound a.arena.now c.valid.ensures c.slotted.ensures a.label a.parent a.before (sym c.in_err-at.ensures.there))
 
 pub returns-then-not-may_move : goal.returns-then-not-may_move
 returns-then-not-may_move c =
     let a = c.args in
-    move_misplaced a.arena.now c.lawful.ensures c.slotted.ensures a.label a.parent a.before c.in_ok-at.at c.in_ok-at.ensures.found (sym c.in_ok-at.ensures.there) (sym c.may_move.ensures ∙ c.if-not-may_move.true)
+    move_misplaced a.arena.now c.valid.ensures c.slotted.ensures a.label a.parent a.before c.in_ok-at.at c.in_ok-at.ensures.found (sym c.in_ok-at.ensures.there) (sym c.may_move.ensures ∙ c.if-not-may_move.true)
 
 pub returns-then-not-has_room_under : goal.returns-then-not-has_room_under
 returns-then-not-has_room_under c =
     let a = c.args in
-    move_deep a.arena.now c.lawful.ensures c.slotted.ensures a.label a.parent a.before c.in_ok-at.at c.in_ok-at.ensures.found (sym c.in_ok-at.ensures.there) (sym c.may_move.ensures ∙ c.if-not-may_move.false)
+    move_deep a.arena.now c.valid.ensures c.slotted.ensures a.label a.parent a.before c.in_ok-at.at c.in_ok-at.ensures.found (sym c.in_ok-at.ensures.there) (sym c.may_move.ensures ∙ c.if-not-may_move.false)
     (sym c.has_room_under.ensures ∙ c.if-not-has_room_under.true)
 
 pub returns : goal.returns
 returns c =
     let a = c.args in
-    move_step a.arena.now c.lawful.ensures c.slotted.ensures a.label a.parent a.before c.in_ok-at.at c.in_ok-at.ensures.found (sym c.in_ok-at.ensures.there) (sym c.may_move.ensures ∙ c.if-not-may_move.false)
+    move_step a.arena.now c.valid.ensures c.slotted.ensures a.label a.parent a.before c.in_ok-at.at c.in_ok-at.ensures.found (sym c.in_ok-at.ensures.there) (sym c.may_move.ensures ∙ c.if-not-may_move.false)
     (sym c.has_room_under.ensures ∙ c.if-not-has_room_under.false)

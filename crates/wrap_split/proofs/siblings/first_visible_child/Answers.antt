@@ -10,8 +10,8 @@ loop-at-init c =
     let d = c.args.doc.now in
     record {
       held = c.first_child-at.ensures.held;
-      inner = first_child_is d c.lawful.ensures c.args.node c.requires c.first_child-at.result c.first_child-at.ensures;
-      rest = ap (first_visible d.state) (all_rest d c.lawful.ensures c.args.node c.requires c.first_child-at.result c.first_child-at.ensures);
+      inner = first_child_is d c.valid.ensures c.args.node c.requires c.first_child-at.result c.first_child-at.ensures;
+      rest = ap (first_visible d.state) (all_rest d c.valid.ensures c.args.node c.requires c.first_child-at.result c.first_child-at.ensures);
     }
 
 pub returns-then-is_visible : goal.returns-then-is_visible
@@ -19,14 +19,14 @@ returns-then-is_visible c =
     let d = c.args.doc.now in
     let i = c.loop-at.invariant in
     record {
-      is = sym (first_here d c.lawful.ensures c.args.node c.loop-at.at c.in-Some.child c.in-Some.is i.held i.inner (ap not (sym c.is_visible.ensures ∙ c.if-is_visible.true))) ∙ i.rest;
-      held = child_held d c.lawful.ensures c.args.node c.loop-at.at c.in-Some.child c.in-Some.is i.held i.inner;
+      is = sym (first_here d c.valid.ensures c.args.node c.loop-at.at c.in-Some.child c.in-Some.is i.held i.inner (ap not (sym c.is_visible.ensures ∙ c.if-is_visible.true))) ∙ i.rest;
+      held = child_held d c.valid.ensures c.args.node c.loop-at.at c.in-Some.child c.in-Some.is i.held i.inner;
     }
 
 pub loop-at-smaller : goal.loop-at-smaller
 loop-at-smaller c =
     let i = c.loop-at.invariant in
-    next_smaller c.args.doc.now c.lawful.ensures c.args.node c.loop-at.at c.in-Some.child c.in-Some.is i.held i.inner c.next-at.result c.next-at.ensures
+    next_smaller c.args.doc.now c.valid.ensures c.args.node c.loop-at.at c.in-Some.child c.in-Some.is i.held i.inner c.next-at.result c.next-at.ensures
 
 pub loop-at-preserved : goal.loop-at-preserved
 loop-at-preserved c =
@@ -34,8 +34,8 @@ loop-at-preserved c =
     let i = c.loop-at.invariant in
     record {
       held = c.next-at.ensures.held;
-      inner = next_child_is d c.lawful.ensures c.args.node c.loop-at.at c.in-Some.child c.in-Some.is i.held i.inner c.next-at.result c.next-at.ensures;
-      rest = first_next d c.lawful.ensures c.args.node c.loop-at.at c.in-Some.child c.in-Some.is i.held i.inner (ap not (sym c.is_visible.ensures ∙ c.if-is_visible.false)) c.next-at.result c.next-at.ensures ∙ i.rest;
+      inner = next_child_is d c.valid.ensures c.args.node c.loop-at.at c.in-Some.child c.in-Some.is i.held i.inner c.next-at.result c.next-at.ensures;
+      rest = first_next d c.valid.ensures c.args.node c.loop-at.at c.in-Some.child c.in-Some.is i.held i.inner (ap not (sym c.is_visible.ensures ∙ c.if-is_visible.false)) c.next-at.result c.next-at.ensures ∙ i.rest;
     }
 
 pub returns : goal.returns

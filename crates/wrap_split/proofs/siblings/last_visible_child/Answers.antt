@@ -9,8 +9,8 @@ loop-at-init c =
     let d = c.args.doc.now in
     record {
       held = c.last_child-at.ensures.held;
-      inner = last_child_is d c.lawful.ensures c.args.node c.last_child-at.result c.last_child-at.ensures;
-      front = ap (last_visible d.state) (all_front d c.lawful.ensures c.args.node c.last_child-at.result c.last_child-at.ensures);
+      inner = last_child_is d c.valid.ensures c.args.node c.last_child-at.result c.last_child-at.ensures;
+      front = ap (last_visible d.state) (all_front d c.valid.ensures c.args.node c.last_child-at.result c.last_child-at.ensures);
     }
 
 pub returns-then-is_visible : goal.returns-then-is_visible
@@ -18,14 +18,14 @@ returns-then-is_visible c =
     let d = c.args.doc.now in
     let i = c.loop-at.invariant in
     record {
-      is = sym (last_here d c.lawful.ensures c.args.node c.loop-at.at c.in-Some.child c.in-Some.is i.held i.inner (ap not (sym c.is_visible.ensures ∙ c.if-is_visible.true))) ∙ i.front;
-      held = child_held d c.lawful.ensures c.args.node c.loop-at.at c.in-Some.child c.in-Some.is i.held i.inner;
+      is = sym (last_here d c.valid.ensures c.args.node c.loop-at.at c.in-Some.child c.in-Some.is i.held i.inner (ap not (sym c.is_visible.ensures ∙ c.if-is_visible.true))) ∙ i.front;
+      held = child_held d c.valid.ensures c.args.node c.loop-at.at c.in-Some.child c.in-Some.is i.held i.inner;
     }
 
 pub loop-at-smaller : goal.loop-at-smaller
 loop-at-smaller c =
     let i = c.loop-at.invariant in
-    prev_smaller c.args.doc.now c.lawful.ensures c.args.node c.loop-at.at c.in-Some.child c.in-Some.is i.held i.inner c.prev-at.result c.prev-at.ensures
+    prev_smaller c.args.doc.now c.valid.ensures c.args.node c.loop-at.at c.in-Some.child c.in-Some.is i.held i.inner c.prev-at.result c.prev-at.ensures
 
 pub loop-at-preserved : goal.loop-at-preserved
 loop-at-preserved c =
@@ -33,8 +33,8 @@ loop-at-preserved c =
     let i = c.loop-at.invariant in
     record {
       held = c.prev-at.ensures.held;
-      inner = prev_child_is d c.lawful.ensures c.args.node c.loop-at.at c.in-Some.child c.in-Some.is i.held i.inner c.prev-at.result c.prev-at.ensures;
-      front = last_next d c.lawful.ensures c.args.node c.loop-at.at c.in-Some.child c.in-Some.is i.held i.inner (ap not (sym c.is_visible.ensures ∙ c.if-is_visible.false)) c.prev-at.result c.prev-at.ensures ∙ i.front;
+      inner = prev_child_is d c.valid.ensures c.args.node c.loop-at.at c.in-Some.child c.in-Some.is i.held i.inner c.prev-at.result c.prev-at.ensures;
+      front = last_next d c.valid.ensures c.args.node c.loop-at.at c.in-Some.child c.in-Some.is i.held i.inner (ap not (sym c.is_visible.ensures ∙ c.if-is_visible.false)) c.prev-at.result c.prev-at.ensures ∙ i.front;
     }
 
 pub returns : goal.returns

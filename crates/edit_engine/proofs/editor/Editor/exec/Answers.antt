@@ -10,7 +10,7 @@ returns-in-Some c =
     let new = c.exec_command.new.self in
     let name = c.args.name.now in
     let v = c.args.value.now in
-    let stands = standing c.self.inside.doc c.self.inside.typing old c.self.view_is c.self.invariant c.lawful.ensures in
+    let stands = standing c.self.inside.doc c.self.inside.typing old c.self.view_is c.self.invariant c.valid.ensures in
     let tells : Tells c.exec_command.result old new (outcome old name v) = rw (named_outcome old name v c.in-Some.command (sym c.named.ensures.value ∙ c.in-Some.is)) c.exec_command.ensures in
     let k = changes c.exec_command.result old new name v tells in
     record {
@@ -26,7 +26,7 @@ returns-in-None c =
     let old = c.args.self.now in
     let name = c.args.name.now in
     let v = c.args.value.now in
-    let stands = standing c.self.inside.doc c.self.inside.typing old c.self.view_is c.self.invariant c.lawful.ensures in
+    let stands = standing c.self.inside.doc c.self.inside.typing old c.self.view_is c.self.invariant c.valid.ensures in
     record {
       tells = (inl (unnamed_outcome old name v (sym c.named.ensures.value ∙ c.in-None.is)), refl);
       confined = outside_kept old old name v stands (inl refl);

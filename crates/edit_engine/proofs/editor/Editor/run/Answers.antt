@@ -22,7 +22,7 @@ invariant_of-self c =
     let typing = c.self.inside.typing in
     let m = action_of c.args.command c.args.value.now in
     let after = c.types_on-self-inside.result in
-    rests_after w new typing c.args.command m after c.lawful.ensures c.self.invariant
+    rests_after w new typing c.args.command m after c.valid.ensures c.self.invariant
     (taken w new typing c.args.command m c.joins-joining.result after c.in-Ok-Some.field-0 c.in-Ok-Some.committed c.joins-joining.ensures c.in-Ok-Some.field-0-is c.in-Ok-Some.ensures c.types_on-self-inside.ensures)
 
 pub returns-in-Ok-Some : goal.returns-in-Ok-Some

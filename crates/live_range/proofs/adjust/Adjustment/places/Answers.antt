@@ -1,5 +1,5 @@
 use Rattle.std.proofs.Common.{rules, IsSome, ◌∙◌, sym, subst, arith}
-use Rattle.live_range.specs.Edit.{named_nodes}
+use Rattle.live_range.specs.PointsEdit.{named_nodes}
 use Rattle.live_range.specs.Rows.{has_row}
 use Rattle.live_range.specs.Adjustments.{edit_of}
 use Rattle.live_range.proofs.Adjusting.{halfway_start, halfway_on, still_there, looked_fits, points_done, pair_done, marks_done}

@@ -1,6 +1,6 @@
 use Rattle.std.specs.List.{count_by}
 use Rattle.std.proofs.Common.{sym, ◌+◌, ◌∙◌, ap, subst}
-use Rattle.live_range.specs.Edit.{adjusted_pair, has_label, named_nodes}
+use Rattle.live_range.specs.PointsEdit.{adjusted_pair, has_label, named_nodes}
 use Rattle.live_range.specs.LivePoints.{Fits, mapped, points_at}
 use Rattle.live_range.specs.Adjustments.{edit_of}
 use Rattle.live_range.proofs.Shown.{labels_shown, fit_shown, mapped_shown, over_stays}

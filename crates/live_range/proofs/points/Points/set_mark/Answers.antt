@@ -20,7 +20,7 @@ add_mark-requires c = absent_has c.args.name.now c.args.self.now (sym c.place_of
 
 pub returns-in-Some-clause-set : goal.returns-in-Some-clause-set
 returns-in-Some-clause-set c =
-    c.change_mark.ensures ∙ set_found c.args.name.now c.args.pair c.args.self.now c.in-Some.place c.lawful.ensures (sym c.place_of.ensures ∙ c.in-Some.is)
+    c.change_mark.ensures ∙ set_found c.args.name.now c.args.pair c.args.self.now c.in-Some.place c.valid.ensures (sym c.place_of.ensures ∙ c.in-Some.is)
 
 pub returns-in-Some-clause-too_many : goal.returns-in-Some-clause-too_many
 returns-in-Some-clause-too_many c = (

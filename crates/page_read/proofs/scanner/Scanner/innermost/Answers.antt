@@ -6,4 +6,4 @@ pub returns-in-Some-clause-here : goal.returns-in-Some-clause-here
 returns-in-Some-clause-here c = last_open c.args.self.now.arena c.args.self.now.opened.items c.in-Some.open.now (rw (← c.deref.ensures.value) (sym c.in-Some.ensures.value)) c.requires
 
 pub returns-in-None-clause-here : goal.returns-in-None-clause-here
-returns-in-None-clause-here c = document_open c.args.self.now.arena c.document.result c.lawful.ensures c.document.ensures.held c.document.ensures.label
+returns-in-None-clause-here c = document_open c.args.self.now.arena c.document.result c.valid.ensures c.document.ensures.held c.document.ensures.label

@@ -1,5 +1,0 @@
-use Rattle.edit_laws.proofs.NewElements.{with_if}
-use Rattle.edit_laws.proofs.laws.tame_with_chooses.Goals as goal
-
-pub returns : goal.returns
-returns c = λ _ x b m n p q. with_if x b m n p q

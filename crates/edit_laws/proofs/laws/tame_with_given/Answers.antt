@@ -1,5 +1,0 @@
-use Rattle.edit_laws.proofs.NewElements.{with_given}
-use Rattle.edit_laws.proofs.laws.tame_with_given.Goals as goal
-
-pub returns : goal.returns
-returns c = λ _ x o n f p q. with_given x o n f p q

@@ -1,5 +1,0 @@
-use Rattle.edit_laws.proofs.NewElements.{with_look}
-use Rattle.edit_laws.proofs.laws.tame_with_looks.Goals as goal
-
-pub returns : goal.returns
-returns c = λ _ x k p. with_look x k p

@@ -1,5 +1,0 @@
-use Rattle.node_arena.proofs.MakeOk.{lawful_state}
-use Rattle.node_arena.proofs.Arena.lawful.Goals as goal
-
-pub returns : goal.returns
-returns c = lawful_state c.self.inside.nodes.slots c.self.inside.next c.self.inside.cap c.self.inside.index.items c.self.invariant c.args.self.now c.self.view_is

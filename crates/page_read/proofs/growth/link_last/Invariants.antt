@@ -1,4 +1,0 @@
-use Rattle.page_read.proofs.growth.link_last.Given as goal
-
-abbrev pub ghosts-link_counted : goal.ghosts-link_counted
-ghosts-link_counted a = record { name = a.blank.name; parts = a.blank.parts }
