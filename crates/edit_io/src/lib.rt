@@ -7,7 +7,7 @@ mod real;
 mod streams;
 mod whole;
 
-pub use memory::{MemorySink, MemorySource, SureSink, SureSource};
+pub use memory::{MemorySink, MemorySource, SliceSource, SureSink};
 pub use real::{ReadSource, WriteSink};
 pub use streams::{Failed, Sink, SinkFault, Source};
 pub use whole::{ReadAllFault, read_all, write_all};

@@ -44,28 +44,28 @@ impl Source for MemorySource {
     }
 }
 
-/// Hands out its bytes from `at` on, as many a call as the buffer takes, and never fails.
+/// Hands out the bytes of a slice from `at` on, as many a call as the buffer takes, and never fails.
 #[derive(Drop)]
-pub struct SureSource {
-    pub bytes: Vec<u8>,
+pub struct SliceSource<'a> {
+    pub bytes: &'a [u8],
     pub at: usize,
-    pub ghost within: { at ≤ vec_len bytes },
+    pub ghost within: { at ≤ length bytes.now },
 }
 
-impl Source for SureSource {
-    ghost left = { λ s. Some (drop s.at s.bytes.items) };
+impl<'a> Source for SliceSource<'a> {
+    ghost left = { λ s. Some (drop s.at s.bytes.now) };
 
     ghost faults = { λ _. 0 };
 
     fn read(&mut self, buf: &mut [u8]) -> Result<usize, Failed>
         requires { 0 < length buf.old }
         ensures sure { IsOk result }
-        ensures given { IfOk result (λ n. n ≡ min (length buf.old) (vec_len self.old.bytes - self.old.at)) }
+        ensures given { IfOk result (λ n. n ≡ min (length buf.old) (length self.old.bytes.now - self.old.at)) }
         ensures moved { IfOk result (λ n. self.new.at ≡ self.old.at + n) }
-        ensures written { IfOk result (λ n. buf.new ≡ take n (drop self.old.at self.old.bytes.items) ++ drop n buf.old) }
-        ensures same { self.new.bytes ≡ self.old.bytes }
+        ensures written { IfOk result (λ n. buf.new ≡ take n (drop self.old.at self.old.bytes.now) ++ drop n buf.old) }
+        ensures same { self.new.bytes.now ≡ self.old.bytes.now }
     {
-        let count = hand_out(&self.bytes, self.at, buf.len(), buf);
+        let count = hand_out(self.bytes, self.at, buf.len(), buf);
         self.at += count;
         Ok(count)
     }

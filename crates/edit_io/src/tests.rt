@@ -1,7 +1,7 @@
 // Each form in a run of several calls, with what it must answer.
 use super::{
-    Failed, MemorySink, MemorySource, ReadAllFault, ReadSource, Sink, SinkFault, Source, SureSink,
-    SureSource, WriteSink, read_all, write_all,
+    Failed, MemorySink, MemorySource, ReadAllFault, ReadSource, Sink, SinkFault, SliceSource,
+    Source, SureSink, WriteSink, read_all, write_all,
 };
 use std::alloc::{AllocError, Global};
 use std::io;
@@ -84,10 +84,7 @@ fn writes_in_pieces(rt: HostRuntime) -> Result<(), Fail> {
 
 #[test]
 fn sure_forms(rt: HostRuntime) -> Result<(), Fail> {
-    let mut input = SureSource {
-        bytes: TEXT.to_vec(rt.alloc())?,
-        at: 0,
-    };
+    let mut input = SliceSource { bytes: TEXT, at: 0 };
     let bytes = read_all(rt.alloc(), &mut input, 61)?;
     let mut output = SureSink {
         taken: Vec::new(rt.alloc()),

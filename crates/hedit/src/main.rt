@@ -1,37 +1,12 @@
 //! hedit: reads an HTML page and a session of acts on it, and answers them.
 //!
-//! `hedit run` reads a session from standard input, `hedit replay` a page and the steps of a log, and `hedit check` a bare page;
-//! `hedit bulk N` reads nothing, and makes a session of its own. What is written and which status ends
-//! the program is proved at [`session::run_session`].
+//! `hedit run` reads a session from standard input, `hedit replay` a page and the steps of a log, and
+//! `hedit check` a bare page; `hedit bulk N` reads nothing, and makes a session of its own. What is
+//! written and which status ends the program is proved at [`edit_session::run_session`].
 #![tactic(auto)]
 
-mod acts;
-mod block;
-#[cfg(test)]
-mod block_tests;
-mod bulk;
-#[cfg(test)]
-mod deletion_tests;
-mod denials;
-#[cfg(test)]
-mod editing_tests;
-#[cfg(test)]
-mod formatting_tests;
-#[cfg(test)]
-mod object_tests;
-mod replay;
-#[cfg(test)]
-mod replay_tests;
-mod reply;
-mod session;
-#[cfg(test)]
-mod tests;
-#[cfg(test)]
-mod typing_tests;
-mod words;
-
 use edit_io::{ReadSource, WriteSink};
-use session::{Status, run_session};
+use edit_session::{Status, run_session};
 use std::alloc::Global;
 use std::env::Env;
 use std::process::ExitCode;

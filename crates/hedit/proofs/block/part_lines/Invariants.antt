@@ -1,9 +1,0 @@
-use Rattle.std.proofs.Common.{length, ◌-◌}
-use Rattle.hedit.proofs.BlockLemmas.{Passed}
-use Rattle.hedit.proofs.block.part_lines.Given as goal
-
-abbrev pub invariant-loop-at : goal.invariant-loop-at
-invariant-loop-at l = Passed l.word l.lines l.at
-
-abbrev pub decreases-loop-at : goal.decreases-loop-at
-decreases-loop-at l = length l.lines - l.at

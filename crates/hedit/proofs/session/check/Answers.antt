@@ -1,7 +1,0 @@
-use Rattle.hedit.proofs.Runs.{checked_answered, checked_wanted}
-use Rattle.page_grammar.specs.Reading.{page_reading}
-use Rattle.hedit.specs.Transcript.{checked}
-use Rattle.hedit.proofs.session.check.Goals as goal
-
-pub returns-in-Err : goal.returns-in-Err
-returns-in-Err g c = c.refuse_page.ensures (checked (page_reading 200 2000000 c.args.input.now)) (checked_answered (page_reading 200 2000000 c.args.input.now)) (checked_wanted 2000000 c.args.input.now c.in-Err.fault _ c.in-Err.ensures.answer)

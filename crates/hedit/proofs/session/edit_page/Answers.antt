@@ -1,5 +1,0 @@
-use Rattle.hedit.proofs.Runs.{follows_nothing}
-use Rattle.hedit.proofs.session.edit_page.Goals as goal
-
-pub returns-in-Err : goal.returns-in-Err
-returns-in-Err g c = follows_nothing _ _ _ tt
