@@ -9,6 +9,3 @@ mod names;
 
 pub use gate::{Asks, Gate, Policy};
 pub use names::NameList;
-
-#[cfg(test)]
-mod tests;

@@ -29,6 +29,3 @@ pub use values::{
     Display, FontStyle, TextAlign, WhiteSpace, keyword_size, read_display, read_font_size,
     read_font_style, read_font_weight, read_text_align, read_white_space,
 };
-
-#[cfg(test)]
-mod tests;

@@ -34,16 +34,3 @@ pub use places::{
 };
 pub use spaces::canonical_spaces;
 pub use whitespace::canonicalize;
-
-#[cfg(test)]
-mod tests {
-    use super::*;
-    use std::test::Fail;
-
-    #[test]
-    fn lays(rt: HostRuntime) -> Result<(), Fail> {
-        let spaces = canonical_spaces(rt.alloc(), 5, false, true)?;
-        assert!(rt; spaces.as_slice() == [' ', '\u{a0}', ' ', '\u{a0}', '\u{a0}'].as_slice());
-        Ok(())
-    }
-}

@@ -11,6 +11,3 @@ pub use memory::{MemorySink, MemorySource, SliceSource, SureSink};
 pub use real::{ReadSource, WriteSink};
 pub use streams::{Failed, Sink, SinkFault, Source};
 pub use whole::{ReadAllFault, read_all, write_all};
-
-#[cfg(test)]
-mod tests;

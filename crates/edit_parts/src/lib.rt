@@ -27,6 +27,3 @@ pub struct Counts {
     pub chars: u64,
     pub depth: u32,
 }
-
-#[cfg(test)]
-mod tests;

@@ -55,22 +55,3 @@ pub fn push_escaped(bytes: &mut Vec<u8>, text: &[char]) -> Result<(), AllocError
     }
     Ok(())
 }
-
-#[cfg(test)]
-mod tests {
-    use super::*;
-    use std::test::Fail;
-
-    #[test]
-    fn prints_texts_on_one_line(rt: HostRuntime) -> Result<(), Fail> {
-        let mut bytes = Vec::new(rt.alloc());
-        push_escaped(
-            &mut bytes,
-            &['a', '\n', '\t', '\\', '"', '\r', '\u{a0}', 'é'],
-        )?;
-        assert_eq!(rt; bytes.as_slice(), "a\\n\\t\\\\\\\"\\r\\u{a0}é".as_bytes());
-        push_chars(&mut bytes, &['\n', '😀'])?;
-        assert_eq!(rt; bytes.len(), 24);
-        Ok(())
-    }
-}

@@ -19,6 +19,3 @@ pub use elements::{
     is_void,
 };
 pub use query::QueryKind;
-
-#[cfg(test)]
-mod tests;

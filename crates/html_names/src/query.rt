@@ -58,17 +58,3 @@ fn find_kind(table: &[QueryKind], word: &[u8]) -> Option<QueryKind>
     }
     None
 }
-
-#[cfg(test)]
-mod tests {
-    use super::*;
-    use std::test::Fail;
-
-    #[test]
-    fn kinds_by_their_words(rt: HostRuntime) -> Result<(), Fail> {
-        assert_eq!(rt; QueryKind::from_word(b"state"), Some(QueryKind::State));
-        assert_eq!(rt; QueryKind::from_word(b"value"), Some(QueryKind::Value));
-        assert_eq!(rt; QueryKind::from_word(b"State"), None);
-        Ok(())
-    }
-}

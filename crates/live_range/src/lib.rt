@@ -19,6 +19,3 @@ mod standing;
 
 pub use places::{MarkPlace, Pair, Places, Point};
 pub use points::{MarkFault, Points};
-
-#[cfg(test)]
-mod tests;

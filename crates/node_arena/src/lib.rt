@@ -198,6 +198,3 @@ impl Arena {
         self.make(Content::Remark(words))
     }
 }
-
-#[cfg(test)]
-mod tests;

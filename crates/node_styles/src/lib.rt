@@ -30,6 +30,3 @@ pub use values::{
     background_color, color, display, font_family, font_size, font_style, font_weight, resolved,
     text_align, text_decoration, white_space,
 };
-
-#[cfg(test)]
-mod tests;

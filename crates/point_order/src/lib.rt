@@ -144,30 +144,3 @@ pub fn is_placed<N: Nodes>(nodes: &N, point: Point) -> bool
         None => false,
     }
 }
-
-#[cfg(test)]
-mod tests {
-    use super::*;
-    use node_arena::{Arena, Chars};
-    use std::test::Fail;
-
-    #[test]
-    fn orders_and_places(rt: HostRuntime) -> Result<(), Fail> {
-        let mut arena = Arena::new(rt.alloc(), 9)?;
-        let loose = arena.make_words(Chars::from_slice(rt.alloc(), &['a', 'b'])?)?;
-        let front = Point {
-            label: 0,
-            offset: 0,
-        };
-        let past = Point {
-            label: 0,
-            offset: 1,
-        };
-        assert!(rt; comes_before(&arena, front, past));
-        assert!(rt; !comes_before(&arena, past, front));
-        assert!(rt; child_toward(&arena, arena.document(), loose).is_none());
-        assert!(rt; is_in_document(&arena, 0) && !is_in_document(&arena, 1));
-        assert!(rt; is_placed(&arena, front) && !is_placed(&arena, past));
-        Ok(())
-    }
-}

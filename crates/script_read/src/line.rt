@@ -213,6 +213,3 @@ pub fn read_line(alloc: Global, line: &[u8]) -> Result<Act, LineFault>
 {
     read(alloc, line)
 }
-
-#[cfg(test)]
-mod tests;

@@ -45,31 +45,3 @@ impl<L: Ledger> Steps<L> {
         self.book.add(&mut self.share, 1);
     }
 }
-
-#[cfg(test)]
-mod tests {
-    use super::*;
-    use std::marker::Brand;
-    use std::test::Fail;
-
-    fn tick_twice<L: Ledger>(steps: &mut Steps<L>)
-        ensures { steps.new ≡ steps.old + 2 }
-    {
-        steps.tick();
-        steps.tick();
-    }
-
-    fn count<L: Ledger>(blank: Blank)
-        requires name { blank.name ≡ L.name }
-        requires parts { blank.parts ≡ L.parts }
-        requires some { 0 < blank.parts }
-    {
-        tick_twice(&mut Steps::<L>::open(blank));
-    }
-
-    #[test]
-    fn counts_without_bytes(_rt: HostRuntime) -> Result<(), Fail> {
-        count::<Brand>(Blank::new(1));
-        Ok(())
-    }
-}

@@ -344,6 +344,3 @@ fn redressing(
         list: attributes,
     })
 }
-
-#[cfg(test)]
-mod tests;

@@ -15,6 +15,3 @@ pub use laws::lines_have_one_step;
 pub use line::{Made, StepFault, StepLine};
 pub use print::{print_step, push_step};
 pub use read::read_step;
-
-#[cfg(test)]
-mod tests;

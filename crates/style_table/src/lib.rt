@@ -304,6 +304,3 @@ pub fn default_of(name: &[u8], has_href: bool, property: Property) -> Option<Row
         Property::TextAlign => default_text_align(name),
     }
 }
-
-#[cfg(test)]
-mod tests;

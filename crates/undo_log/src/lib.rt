@@ -14,6 +14,3 @@ mod log;
 
 pub use entry::Invertible;
 pub use log::{Committed, UndoLog};
-
-#[cfg(test)]
-mod tests;

@@ -4,7 +4,9 @@
 ghost use Rattle.edit_doc.specs.Whole.{IsOpen};
 
 use super::pages::{Act, At, Row, assert_rows, point, selects};
-use delete_core::{canonicalize, delete_selection, first_equivalent, last_equivalent};
+use delete_core::{
+    canonical_spaces, canonicalize, delete_selection, first_equivalent, last_equivalent,
+};
 use edit_doc::{Doc, Setting};
 use html_names::Command;
 use std::alloc::Global;
@@ -394,6 +396,16 @@ static CANONICAL: [Row<Canonical>; 17] = [
 #[test]
 fn whitespace_becomes_canonical(rt: HostRuntime) -> Result<(), Fail> {
     assert_rows(&rt, rt.alloc(), &CANONICAL)
+}
+
+#[test]
+fn spaces_in_a_row(rt: HostRuntime) -> Result<(), Fail> {
+    let spaces = canonical_spaces(rt.alloc(), 5, false, true)?;
+    assert_eq!(rt;
+        spaces.as_slice(),
+        [' ', '\u{a0}', ' ', '\u{a0}', '\u{a0}'].as_slice()
+    );
+    Ok(())
 }
 
 // A point, and the last and the first one that are equivalent to it.

@@ -1,0 +1,72 @@
+#!/usr/bin/env python3
+"""Tells what the gate costs: bench/gate.py [--anew] [NAME..]
+
+Runs `rt ci` with these words, and prints for each crate the seconds of processor that its proofs, its tests and its
+must-fail edits took, and the sum. What an earlier run on this machine proved costs nothing, so `--anew` for all.
+
+The seconds are read from /proc of each process of the prover five times a second, so what a process took after it was
+last read is left out.
+"""
+import os
+import subprocess
+import sys
+import time
+from collections import Counter
+from pathlib import Path
+
+TICKS = os.sysconf("SC_CLK_TCK")
+KINDS = ("proofs", "tests", "edits")
+
+
+def kind_of(words, folder):
+    """What a process of the prover does: an edit is checked in a copy of its crate."""
+    if Path(folder).name.startswith("rt-edit-"):
+        return "edits"
+    return "tests" if "--test" in words else "proofs"
+
+
+def read_process(folder):
+    """The words of a process, the number of the one that started it, its folder, and its seconds of processor."""
+    words = (folder / "cmdline").read_text(errors="replace").split("\0")
+    fields = (folder / "stat").read_text().rpartition(")")[2].split()
+    seconds = sum(int(field) for field in fields[11:15]) / TICKS
+    return words, int(fields[1]), os.readlink(folder / "cwd"), seconds
+
+
+def read_provers(gate, found):
+    """Notes the seconds of each process of the prover that the gate has started."""
+    for folder in Path("/proc").glob("[0-9]*"):
+        try:
+            words, parent, place, seconds = read_process(folder)
+        except OSError:
+            continue
+        if parent == gate and "--crate-name" in words:
+            crate = words[words.index("--crate-name") + 1]
+            found[folder.name] = (crate, kind_of(words, place), seconds)
+
+
+def print_table(found):
+    """Prints the seconds of each crate, the costliest first, and their sums."""
+    sums = Counter()
+    for crate, kind, seconds in found.values():
+        sums[crate, kind] += seconds
+    crates = sorted({crate for crate, _ in sums}, key=lambda it: -sum(sums[it, kind] for kind in KINDS))
+    rows = [(crate, *(sums[crate, kind] for kind in KINDS)) for crate in crates]
+    rows.append(("all", *(sum(row[1 + at] for row in rows) for at in range(len(KINDS)))))
+    print(f"\n{'crate':20}{'proofs':>9}{'tests':>9}{'edits':>9}{'all':>9}")
+    for crate, *seconds in rows:
+        print(f"{crate:20}" + "".join(f"{it:9.0f}" for it in (*seconds, sum(seconds))))
+
+
+def main():
+    found = {}
+    gate = subprocess.Popen(["rt", "ci", *sys.argv[1:]], cwd=Path(__file__).resolve().parent.parent)
+    while gate.poll() is None:
+        read_provers(gate.pid, found)
+        time.sleep(0.2)
+    print_table(found)
+    return gate.returncode
+
+
+if __name__ == "__main__":
+    sys.exit(main())

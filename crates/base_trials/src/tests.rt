@@ -1,0 +1,15 @@
+mod acts;
+mod applying;
+mod arenas;
+mod lines;
+mod logs;
+mod names;
+mod pages;
+mod parts;
+mod points;
+mod steps;
+mod streams;
+mod styles;
+mod texts;
+mod trees;
+mod values;

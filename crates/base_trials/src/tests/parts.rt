@@ -1,0 +1,282 @@
+//! The parts of a document under edits: the numbers of trees, what texts become, points and overrides.
+
+ghost use Rattle.std.specs.Prelude.{◌≡◌, ◌<◌, IsTrue, IfSome};
+ghost use Rattle.edit_model.specs.Valid.{IsPlacedPair};
+
+use super::trees::{element, name, put, words};
+use edit_model::{EditFault, Setting};
+use edit_parts::{
+    Counts, add_counts, adjust_inserted, adjust_moved, bears_nothing, copy_overrides, fault_of,
+    has_value, is_in_document, moving_from, no_overrides, place_of, removal_of, replaced, root_of,
+    stands_at, tail_of, take_counts, tree_counts, unset_overrides_if_range_changed, watch_range,
+};
+use html_names::Command;
+use live_range::{Pair, Point, Points};
+use node_arena::{Arena, Attributes, Chars, Content, MakeFault, NodeRef};
+use point_order::is_placed;
+use std::alloc::{AllocError, Global};
+use std::marker::Brand;
+use std::process::Abort;
+use std::sync::ledger::{Blank, Ledger};
+use std::test::Fail;
+use step_count::Steps;
+
+// Nodes, characters, whether the tree bears nothing, whether the node is in the document, and the label of its root.
+fn shown(arena: &Arena, node: NodeRef) -> Option<(u32, u64, bool, bool, u32)> {
+    if !arena.holds(node) {
+        return None;
+    }
+    let counts = tree_counts(arena, node);
+    let bare = bears_nothing(arena, node);
+    let root = root_of(arena, node);
+    Some((
+        counts.nodes,
+        counts.chars,
+        bare,
+        is_in_document(arena, node),
+        root.label,
+    ))
+}
+
+// 1 div ( 2 "ab" 3 img ), and the loose 4 tab LF
+fn page<L: Ledger>(alloc: Global, steps: &mut Steps<L>) -> Result<(Arena, [NodeRef; 4]), Fail> {
+    let mut arena = Arena::new(alloc, 9)?;
+    let div = element(alloc, &mut arena, "div")?;
+    let text = words(alloc, &mut arena, &['a', 'b'])?;
+    let image = element(alloc, &mut arena, "img")?;
+    let blank_text = words(alloc, &mut arena, &['\t', '\n'])?;
+    let root = arena.document();
+    put(&mut arena, root, None, div, steps);
+    put(&mut arena, div, None, text, steps);
+    put(&mut arena, div, None, image, steps);
+    Ok((arena, [div, text, image, blank_text]))
+}
+
+fn trees_right(arena: &Arena, nodes: [NodeRef; 4]) -> bool {
+    let [div, text, image, blank_text] = nodes;
+    shown(arena, arena.document()) == Some((4, 2, false, true, 0))
+        && shown(arena, div) == Some((3, 2, false, true, 0))
+        && shown(arena, text) == Some((1, 2, false, true, 0))
+        && shown(arena, image) == Some((1, 0, false, true, 0))
+        && shown(arena, blank_text) == Some((1, 2, true, false, 4))
+}
+
+fn after_replacement(
+    alloc: Global,
+    at: u32,
+    count: u32,
+    put: &[char],
+) -> Result<Option<Chars>, AllocError> {
+    let content = Content::Words(Chars::from_slice(alloc, &['a', 'b', 'c'])?);
+    replaced(alloc, &content, at, count, put)
+}
+
+#[test]
+fn texts(rt: HostRuntime) -> Result<(), Fail> {
+    let alloc = rt.alloc();
+    let put = after_replacement(alloc, 1, 1, &['x', 'y'])?.ok_or("not replaced")?;
+    assert!(rt; put.as_slice() == ['a', 'x', 'y', 'c'].as_slice());
+    assert!(rt; after_replacement(alloc, 1, 1, &['b'])?.is_none());
+    assert!(rt; after_replacement(alloc, 3, 1, &['x'])?.is_none());
+    assert!(rt; after_replacement(alloc, 3, 0, &['x'])?.is_some());
+    let content = Content::Words(Chars::from_slice(alloc, &['a', 'b', 'c'])?);
+    let (tail, count) = tail_of(alloc, &content, 1)?;
+    assert!(rt; tail.as_slice() == ['b', 'c'].as_slice() && count == 2);
+    let id = name(alloc, "id")?;
+    let value = Chars::from_slice(alloc, &['h'])?;
+    let mut list = Attributes::new(alloc);
+    assert!(rt; !has_value(&list, &id, &value));
+    list.set(&id, &value)?;
+    assert!(rt; has_value(&list, &id, &value));
+    assert!(rt; fault_of(MakeFault::Full) == EditFault::Full);
+    Ok(())
+}
+
+fn caret(at: Point) -> Pair {
+    Pair {
+        anchor: at,
+        focus: at,
+    }
+}
+
+fn points_at(alloc: Global, pair: Pair) -> Result<Points, AllocError> {
+    let mut points = Points::new(alloc)?;
+    points.set_selection(Some(pair));
+    Ok(points)
+}
+
+// A point after the removal of a node from its parent.
+fn after_removal(
+    alloc: Global,
+    arena: &Arena,
+    at: Point,
+    node: NodeRef,
+) -> Result<Option<Pair>, AllocError> {
+    let mut points = points_at(alloc, caret(at))?;
+    if arena.holds(node) {
+        if let Some(parent) = arena.parent(node) {
+            let removal = removal_of(arena, &points, node, parent);
+            removal.adjust(&mut points);
+        }
+    }
+    Ok(points.selection())
+}
+
+// A point after the insertion of a node.
+fn after_insertion(
+    alloc: Global,
+    arena: &Arena,
+    at: Point,
+    node: NodeRef,
+) -> Result<Option<Pair>, AllocError>
+    requires { at.offset < 1000 }
+{
+    let mut points = Points::new(alloc)?;
+    points.set_selection(Some(Pair {
+        anchor: at,
+        focus: at,
+    }));
+    if arena.holds(node) {
+        if let Some(parent) = arena.parent(node) {
+            adjust_inserted(arena, &mut points, parent, node);
+        }
+    }
+    Ok(points.selection())
+}
+
+// Where a node is that is to move, as the points ask, and that points that don't ask stay.
+fn moves_right(
+    alloc: Global,
+    arena: &Arena,
+    at: Point,
+    node: NodeRef,
+    to: NodeRef,
+) -> Result<Option<Point>, AllocError> {
+    let mut points = points_at(alloc, caret(at))?;
+    if !arena.holds(node) {
+        return Ok(None);
+    }
+    let Some(parent) = arena.parent(node) else {
+        return Ok(None);
+    };
+    let from = moving_from(arena, &points, node, parent, to);
+    adjust_moved(arena, &mut points, None, parent, node);
+    Ok(if points.selection() == Some(caret(at)) {
+        from
+    } else {
+        None
+    })
+}
+
+fn point(label: u32, offset: u32) -> Point
+    ensures { result.offset ≡ offset }
+{
+    Point { label, offset }
+}
+
+fn points_right(alloc: Global, arena: &Arena, nodes: [NodeRef; 4]) -> Result<bool, AllocError> {
+    let [div, text, image, _] = nodes;
+    let points = points_at(alloc, caret(point(2, 1)))?;
+    let stands = stands_at(&points, text) && !stands_at(&points, div);
+    let gone = after_removal(alloc, arena, point(2, 1), text)? == Some(caret(point(1, 0)))
+        && after_removal(alloc, arena, point(1, 2), text)? == Some(caret(point(1, 1)))
+        && after_removal(alloc, arena, point(2, 1), image)? == Some(caret(point(2, 1)));
+    let put = after_insertion(alloc, arena, point(1, 1), text)? == Some(caret(point(1, 2)))
+        && after_insertion(alloc, arena, point(1, 1), image)? == Some(caret(point(1, 1)));
+    let root = arena.document();
+    let moved = moves_right(alloc, arena, point(0, 1), image, root)? == Some(point(1, 1))
+        && moves_right(alloc, arena, point(2, 1), image, root)?.is_none();
+    Ok(stands && gone && put && moved)
+}
+
+#[test]
+fn counts(rt: HostRuntime) {
+    let mut counts = Counts {
+        nodes: 3,
+        chars: 9,
+        depth: 2,
+    };
+    let tree = Counts {
+        nodes: 2,
+        chars: 4,
+        depth: 1,
+    };
+    add_counts(&mut counts, tree);
+    assert!(rt;
+        counts
+            == Counts {
+                nodes: 5,
+                chars: 13,
+                depth: 2,
+            }
+    );
+    take_counts(&mut counts, tree);
+    assert!(rt;
+        counts
+            == Counts {
+                nodes: 3,
+                chars: 9,
+                depth: 2
+            }
+    );
+}
+
+fn are_placed(arena: &Arena, points: &Points) -> bool
+    ensures { IsTrue result → IfSome points.now.selection (IsPlacedPair arena.now.trees) }
+{
+    match points.selection() {
+        None => true,
+        Some(pair) => is_placed(arena, pair.anchor) && is_placed(arena, pair.focus),
+    }
+}
+
+// Whether bold is still overridden once the selection has become another pair.
+fn stays_bold(alloc: Global, arena: &Arena, was: Pair, is: Pair) -> Result<bool, AllocError> {
+    let mut points = points_at(alloc, was)?;
+    let mut overrides = no_overrides(alloc)?;
+    if overrides.len() != 32 || !are_placed(arena, &points) {
+        return Ok(false);
+    }
+    overrides[place_of(Command::Bold)] = Setting::On;
+    let copied = copy_overrides(alloc, &overrides)?;
+    let watch = watch_range(arena, &points, &copied);
+    points.set_selection(Some(is));
+    if !are_placed(arena, &points) {
+        return Ok(false);
+    }
+    unset_overrides_if_range_changed(arena, &points, &mut overrides, watch);
+    Ok(matches!(overrides[0], Setting::On))
+}
+
+fn overrides_right(alloc: Global, arena: &Arena) -> Result<bool, AllocError> {
+    let there = Pair {
+        anchor: point(2, 0),
+        focus: point(1, 2),
+    };
+    let turned = Pair {
+        anchor: there.focus,
+        focus: there.anchor,
+    };
+    Ok(
+        stays_bold(alloc, arena, there, turned)?
+            && !stays_bold(alloc, arena, there, caret(there.anchor))?,
+    )
+}
+
+fn tries<L: Ledger>(rt: &impl Abort, alloc: Global, blank: Blank) -> Result<(), Fail>
+    requires name { blank.name ≡ L.name }
+    requires parts { blank.parts ≡ L.parts }
+    requires some { 0 < blank.parts }
+{
+    let mut steps = Steps::<L>::open(blank);
+    let (arena, nodes) = page(alloc, &mut steps)?;
+    assert!(rt; trees_right(&arena, nodes));
+    assert!(rt; points_right(alloc, &arena, nodes)?);
+    assert!(rt; overrides_right(alloc, &arena)?);
+    Ok(())
+}
+
+#[test]
+fn trees_points_and_overrides(rt: HostRuntime) -> Result<(), Fail> {
+    tries::<Brand>(&rt, rt.alloc(), Blank::new(1))
+}

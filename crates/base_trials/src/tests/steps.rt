@@ -1,0 +1,180 @@
+//! Steps of an arena, made and made again by their inverses.
+
+ghost use Rattle.std.specs.Prelude.{IsTrue};
+ghost use Rattle.edit_steps.specs.Step.{StepFits};
+
+use super::trees::{can_hold, element, label};
+use edit_steps::Step;
+use node_arena::{Arena, Attributes, Chars, Kind, Name, NodeRef};
+use std::alloc::Global;
+use std::test::Fail;
+use undo_log::Invertible;
+
+// Applies a step, through the bound alone.
+fn once<T: Invertible<S>, S>(step: &mut T, state: &mut S)
+    requires { T.fits step.old state.old }
+    ensures again { T.fits step.new state.new }
+{
+    step.apply(state);
+}
+
+fn can_unlink(arena: &Arena, node: NodeRef) -> bool
+    ensures { IsTrue result → StepFits (Step.Unlink node) arena.now }
+{
+    arena.valid();
+    arena.slotted();
+    arena.holds(node) && arena.parent(node).is_some()
+}
+
+// Only places at the end, so that nothing is asked of a sibling.
+fn can_link(arena: &Arena, node: NodeRef, parent: NodeRef) -> bool
+    ensures { IsTrue result → StepFits (Step.Link node parent None) arena.now }
+{
+    arena.valid();
+    arena.slotted();
+    if !can_hold(arena, parent) || !arena.holds(node) || node.label == 0 {
+        return false;
+    }
+    arena.parent(node).is_none() && !arena.is_within(node, parent)
+}
+
+fn can_place(arena: &Arena, node: NodeRef, parent: NodeRef) -> bool
+    ensures { IsTrue result → StepFits (Step.Place node parent None) arena.now }
+{
+    arena.valid();
+    arena.slotted();
+    if !can_hold(arena, parent) || !arena.holds(node) {
+        return false;
+    }
+    match arena.parent(node) {
+        None => false,
+        Some(_old) => !arena.is_within(node, parent),
+    }
+}
+
+fn can_write(arena: &Arena, node: NodeRef, words: &Chars) -> bool
+    ensures { IsTrue result → StepFits (Step.Words node words.now) arena.now }
+{
+    arena.valid();
+    arena.slotted();
+    arena.holds(node) && arena.kind(node) == Kind::Words && words.len() < 9
+}
+
+fn can_dress(arena: &Arena, node: NodeRef, list: &Attributes) -> bool
+    ensures { IsTrue result → StepFits (Step.Attributes node list.now) arena.now }
+{
+    arena.valid();
+    arena.slotted();
+    arena.holds(node) && arena.kind(node) == Kind::Element
+}
+
+// The labels of a node's parent and of the sibling after it.
+fn shown(arena: &Arena, node: NodeRef) -> Option<(Option<u32>, Option<u32>)> {
+    if !arena.holds(node) {
+        return None;
+    }
+    Some((label(arena.parent(node)), label(arena.next(node))))
+}
+
+fn text_length(arena: &Arena, node: NodeRef) -> Option<u32> {
+    if !arena.holds(node) {
+        return None;
+    }
+    Some(arena.length(node))
+}
+
+// The value of the first attribute of an element.
+fn first_name(arena: &Arena, node: NodeRef) -> Option<u8> {
+    if !arena.holds(node) || arena.kind(node) != Kind::Element {
+        return None;
+    }
+    let (name, _value) = arena.attributes(node).at(0)?;
+    name.first().copied()
+}
+
+fn link(arena: &mut Arena, node: NodeRef, parent: NodeRef) -> bool {
+    if !can_link(arena, node, parent) {
+        return false;
+    }
+    let mut step = Step::Link {
+        node,
+        parent,
+        before: None,
+    };
+    once(&mut step, arena);
+    match step {
+        Step::Unlink { node: same } => same == node,
+        _ => false,
+    }
+}
+
+// <a></a><b></b>, with the labels 1 and 2.
+fn page(alloc: Global) -> Result<(Arena, NodeRef, NodeRef), Fail> {
+    let mut arena = Arena::new(alloc, 9)?;
+    let top = arena.document();
+    let a = element(alloc, &mut arena, "a")?;
+    let b = element(alloc, &mut arena, "b")?;
+    if !link(&mut arena, a, top) || !link(&mut arena, b, top) {
+        return Err("not linked".into());
+    }
+    Ok((arena, a, b))
+}
+
+#[test]
+fn unlinks_and_links_where_it_was(rt: HostRuntime) -> Result<(), Fail> {
+    let (mut arena, a, _b) = page(rt.alloc())?;
+    assert!(rt; can_unlink(&arena, a));
+    let mut step = Step::Unlink { node: a };
+    once(&mut step, &mut arena);
+    assert_eq!(rt; shown(&arena, a), Some((None, None)));
+    once(&mut step, &mut arena);
+    assert_eq!(rt; shown(&arena, a), Some((Some(0), Some(2))));
+    Ok(())
+}
+
+#[test]
+fn places_and_places_back(rt: HostRuntime) -> Result<(), Fail> {
+    let (mut arena, a, b) = page(rt.alloc())?;
+    assert!(rt; can_place(&arena, a, b));
+    let mut step = Step::Place {
+        node: a,
+        parent: b,
+        before: None,
+    };
+    once(&mut step, &mut arena);
+    assert_eq!(rt; shown(&arena, a), Some((Some(2), None)));
+    once(&mut step, &mut arena);
+    assert_eq!(rt; shown(&arena, a), Some((Some(0), Some(2))));
+    Ok(())
+}
+
+#[test]
+fn exchanges_words(rt: HostRuntime) -> Result<(), Fail> {
+    let mut arena = Arena::new(rt.alloc(), 9)?;
+    let text = arena.make_words(Chars::from_slice(rt.alloc(), &['x'])?)?;
+    let words = Chars::from_slice(rt.alloc(), &['n', 'e', 'w'])?;
+    assert!(rt; can_write(&arena, text, &words));
+    let mut step = Step::Words { node: text, words };
+    once(&mut step, &mut arena);
+    assert_eq!(rt; text_length(&arena, text), Some(3));
+    once(&mut step, &mut arena);
+    assert_eq!(rt; text_length(&arena, text), Some(1));
+    Ok(())
+}
+
+#[test]
+fn exchanges_attributes(rt: HostRuntime) -> Result<(), Fail> {
+    let (mut arena, a, _b) = page(rt.alloc())?;
+    let mut list = Attributes::new(rt.alloc());
+    list.insert(
+        Name::from_slice(rt.alloc(), b"q")?,
+        Chars::from_slice(rt.alloc(), &['v'])?,
+    )?;
+    assert!(rt; can_dress(&arena, a, &list));
+    let mut step = Step::Attributes { node: a, list };
+    once(&mut step, &mut arena);
+    assert_eq!(rt; first_name(&arena, a), Some(b'q'));
+    once(&mut step, &mut arena);
+    assert_eq!(rt; first_name(&arena, a), None);
+    Ok(())
+}

@@ -1,0 +1,67 @@
+//! Printed texts and lists of attributes.
+
+use dom_model::{Attributes, Chars, Name};
+use escaped_text::{push_chars, push_escaped};
+use std::alloc::Global;
+use std::test::Fail;
+
+// Whether the list has these names with these values, each of one character, in this order.
+fn is_list(list: &Attributes, want: &[(&[u8], char)]) -> bool {
+    if list.len() != want.len() {
+        return false;
+    }
+    for i in 0..want.len() {
+        let (name, value) = want[i];
+        match list.at(i) {
+            None => return false,
+            Some((n, v)) => {
+                if n != name || v.as_slice() != [value].as_slice() {
+                    return false;
+                }
+            }
+        }
+    }
+    true
+}
+
+fn set(list: &mut Attributes, alloc: Global, name: &[u8], value: char) -> Result<(), Fail> {
+    let name = Name::from_slice(alloc, name)?;
+    let value = Chars::from_slice(alloc, &[value])?;
+    list.set(&name, &value)?;
+    Ok(())
+}
+
+#[test]
+fn keeps_the_order(rt: HostRuntime) -> Result<(), Fail> {
+    let mut list = Attributes::new(rt.alloc());
+    set(&mut list, rt.alloc(), b"b", '1')?;
+    set(&mut list, rt.alloc(), b"a", '2')?;
+    set(&mut list, rt.alloc(), b"b", '3')?;
+    let name = Name::from_vec(b"c".to_vec(rt.alloc())?);
+    let value = Chars::from_vec(['4'].to_vec(rt.alloc())?);
+    assert_eq!(rt; (name.as_slice(), value.len()), (b"c".as_slice(), 1));
+    list.insert(name, value)?;
+    assert!(rt; is_list(&list, &[(b"b", '3'), (b"a", '2'), (b"c", '4')]));
+    let mut copied = list.copy()?;
+    assert!(rt; copied.unset(b"b") && !copied.unset(b"d"));
+    assert!(rt; is_list(&copied, &[(b"a", '2'), (b"c", '4')]));
+    assert!(rt;
+        list.get(b"b")
+            .is_some_and(|v| v.as_slice() == ['3'].as_slice())
+    );
+    assert!(rt; list.get(b"d").is_none() && list.at(3).is_none());
+    Ok(())
+}
+
+#[test]
+fn prints_texts_on_one_line(rt: HostRuntime) -> Result<(), Fail> {
+    let mut bytes = Vec::new(rt.alloc());
+    push_escaped(
+        &mut bytes,
+        &['a', '\n', '\t', '\\', '"', '\r', '\u{a0}', 'é'],
+    )?;
+    assert_eq!(rt; bytes.as_slice(), "a\\n\\t\\\\\\\"\\r\\u{a0}é".as_bytes());
+    push_chars(&mut bytes, &['\n', '😀'])?;
+    assert_eq!(rt; bytes.len(), 24);
+    Ok(())
+}

@@ -1,4 +1,0 @@
-use Rattle.edit_parts.proofs.tests.trees_points_and_overrides.Given as goal
-
-abbrev pub ghosts-tries : goal.ghosts-tries
-ghosts-tries g a = record { name = a.blank.name; parts = a.blank.parts }

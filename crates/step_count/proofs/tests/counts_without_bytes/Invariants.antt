@@ -1,4 +1,0 @@
-use Rattle.step_count.proofs.tests.counts_without_bytes.Given as goal
-
-abbrev pub ghosts-count : goal.ghosts-count
-ghosts-count a = record { name = a.blank.name; parts = a.blank.parts }

@@ -1,4 +1,0 @@
-use Rattle.undo_log.proofs.tests.keeps_the_numbers.Given as goal
-
-abbrev pub ghosts-run : goal.ghosts-run
-ghosts-run g a = record { name = a.blank.name; parts = a.blank.parts }
