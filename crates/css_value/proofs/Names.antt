@@ -1,6 +1,7 @@
 -- What the names of a style's declarations are, from the names as they stand in its text.
-use Rattle.std.proofs.Common.{◌≡◌, ℕ, Bool, true, false, cond, not, ◌&&◌, List, [], ◌∷◌, Option, Some, None, is_some, true≢false, refl, sym, ap, subst, ◌∙◌, fold, bytes_eq}
-use Rattle.std.specs.List.{list_all}
+use Rattle.std.proofs.Common.{◌≡◌, ℕ, Bool, true, false, cond, not, ◌&&◌, ◌||◌, List, [], ◌∷◌, Option, Some, None, is_some, true≢false, refl, sym, ap, subst, ◌∙◌, fold, bytes_eq}
+use Rattle.std.specs.Prelude.{map}
+use Rattle.std.specs.List.{list_all, list_any}
 use Rattle.std.specs.Option.{MatchOption}
 use Rattle.std.proofs.lemmas.Slice.Eq.{bytes_eq-Decides}
 use Rattle.css_value.specs.StyleText.{Declaration, stated}
@@ -127,3 +128,8 @@ one-in text d list h = ap (λ ds. is_one (names_of (fold with_declaration [] ds)
 pub only-in : (text w : List ℕ) (d : Declaration) (list : List Declaration) → stated text ≡ d ∷ list → is_only w (names_of (declarations_in text)) ≡ (bytes_eq w d.name && list_all (λ n. bytes_eq w n) (names_of list))
 unfolding declarations_in
 only-in text w d list h = ap (λ ds. is_only w (names_of (fold with_declaration [] ds))) h ∙ only-folded w list (record { name = d.name; value = d.value })
+
+-- a test of what each is mapped to
+pub any_mapped : {X Y : Type 0} (g : X → Y) (p : Y → Bool) (xs : List X) → list_any p (map g xs) ≡ list_any (λ x. p (g x)) xs
+any_mapped g p [] = refl
+any_mapped g p (x ∷ xs) = ap (λ b. p (g x) || b) (any_mapped g p xs)

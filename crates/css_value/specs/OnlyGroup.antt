@@ -1,6 +1,7 @@
 -- Which properties a style sets, and no others.
 use Rattle.std.specs.Prelude.{ℕ, Bool, true, false, List, [], ◌∷◌, bytes_eq, codes}
-use Rattle.std.specs.List.{list_any, list_all}
+use Rattle.std.specs.List.{list_all}
+use Rattle.html_names.specs.BoxNames.{is_box_name}
 use Rattle.css_value.specs.declared.only.Only.{Only}
 use Rattle.css_value.specs.declared.only.Only.TheVariants.{Nothing, FontWeight, FontStyle, TextDecoration, TextAlign, BoxNames, AnyOne}
 
@@ -16,45 +17,6 @@ abbrev pub is_only : List ℕ → List (List ℕ) → Bool
 is_only wanted [] = false
 is_only wanted (name ∷ []) = bytes_eq wanted name
 is_only wanted (name ∷ other ∷ names) = false
-
--- the names of margin, padding and border, and of their parts
-unfoldable pub box_names : List (List ℕ)
-box_names =
-    codes "margin"
-    ∷ codes "margin-top"
-    ∷ codes "margin-right"
-    ∷ codes "margin-bottom"
-    ∷ codes "margin-left"
-    ∷ codes "padding"
-    ∷ codes "padding-top"
-    ∷ codes "padding-right"
-    ∷ codes "padding-bottom"
-    ∷ codes "padding-left"
-    ∷ codes "border"
-    ∷ codes "border-width"
-    ∷ codes "border-style"
-    ∷ codes "border-color"
-    ∷ codes "border-top"
-    ∷ codes "border-top-width"
-    ∷ codes "border-top-style"
-    ∷ codes "border-top-color"
-    ∷ codes "border-right"
-    ∷ codes "border-right-width"
-    ∷ codes "border-right-style"
-    ∷ codes "border-right-color"
-    ∷ codes "border-bottom"
-    ∷ codes "border-bottom-width"
-    ∷ codes "border-bottom-style"
-    ∷ codes "border-bottom-color"
-    ∷ codes "border-left"
-    ∷ codes "border-left-width"
-    ∷ codes "border-left-style"
-    ∷ codes "border-left-color"
-    ∷ []
-
--- the name is a box name
-unfoldable pub is_box_name : List ℕ → Bool
-is_box_name name = list_any (λ row. bytes_eq row name) box_names
 
 -- whether the names of a style's declarations are: none; exactly that one; box names alone; exactly one
 unfoldable pub sets_only : Only → List (List ℕ) → Bool

@@ -6,8 +6,10 @@ ghost use Rattle.std.specs.Str.{bytes_eq};
 ghost use Rattle.css_value.specs.StyleText as spec;
 ghost use Rattle.css_value.specs.DeclarationList.{declarations_in, names_of};
 ghost use Rattle.css_value.specs.OnlyGroup as names;
+ghost use Rattle.html_names.specs.BoxNames.{is_box_name};
 
 use crate::style_text::{first_stated, is_named, is_same_name};
+use html_names::box_names;
 
 /// What a style may set and nothing else.
 #[derive(Clone, Copy)]
@@ -28,39 +30,6 @@ pub enum Only {
     AnyOne,
 }
 
-static BOX_NAMES: [&[u8]; 30] = [
-    b"margin",
-    b"margin-top",
-    b"margin-right",
-    b"margin-bottom",
-    b"margin-left",
-    b"padding",
-    b"padding-top",
-    b"padding-right",
-    b"padding-bottom",
-    b"padding-left",
-    b"border",
-    b"border-width",
-    b"border-style",
-    b"border-color",
-    b"border-top",
-    b"border-top-width",
-    b"border-top-style",
-    b"border-top-color",
-    b"border-right",
-    b"border-right-width",
-    b"border-right-style",
-    b"border-right-color",
-    b"border-bottom",
-    b"border-bottom-width",
-    b"border-bottom-style",
-    b"border-bottom-color",
-    b"border-left",
-    b"border-left-width",
-    b"border-left-style",
-    b"border-left-color",
-];
-
 // Whether a table has a text in lower case.
 fn is_in(table: &[&[u8]], name: &[char]) -> bool
     ensures { result ≡ list_any (λ row. bytes_eq row.now (spec.lowered name.now)) table.now }
@@ -68,12 +37,12 @@ fn is_in(table: &[&[u8]], name: &[char]) -> bool
     table.iter().any(|row| is_named(name, row))
 }
 
-#[tactic(auto, unfolding(crate::specs::OnlyGroup::is_box_name, crate::specs::OnlyGroup::box_names))]
 // Whether a text is in lower case a box name.
+#[tactic(auto, using(crate::proofs::Names::any_mapped), unfolding(html_names::specs::BoxNames::is_box_name))]
 fn is_box_name(name: &[char]) -> bool
-    ensures { result ≡ names.is_box_name (spec.lowered name.now) }
+    ensures { result ≡ is_box_name (spec.lowered name.now) }
 {
-    is_in(&BOX_NAMES, name)
+    is_in(box_names(), name)
 }
 
 // Whether each declaration of a text has this name.
@@ -106,7 +75,7 @@ fn all_alike(text: &[char], name: &[char]) -> bool
 
 // Whether each declaration of a text has a box name.
 fn all_box_names(text: &[char]) -> bool
-    ensures { result ≡ list_all names.is_box_name (names_of (spec.stated text.now)) }
+    ensures { result ≡ list_all is_box_name (names_of (spec.stated text.now)) }
 {
     let mut rest = text;
     while let Some((stated, after)) = first_stated(rest) {
@@ -147,7 +116,7 @@ fn sets_nothing(text: &[char]) -> bool
 
 // Whether a text declares box names alone.
 fn sets_box_names(text: &[char]) -> bool
-    ensures { result ≡ list_all names.is_box_name (names_of (declarations_in text.now)) }
+    ensures { result ≡ list_all is_box_name (names_of (declarations_in text.now)) }
 {
     all_box_names(text)
 }

@@ -1,7 +1,7 @@
 use Rattle.std.proofs.Common.{◌≡◌, length}
 use Rattle.css_value.specs.StyleText as spec
 use Rattle.std.specs.List.{list_all}
-use Rattle.css_value.specs.OnlyGroup.{is_box_name}
+use Rattle.html_names.specs.BoxNames.{is_box_name}
 use Rattle.css_value.specs.DeclarationList.{names_of}
 use Rattle.css_value.proofs.only.all_box_names.Given as goal
 
