@@ -7,27 +7,13 @@
 
 mod acts;
 mod block;
-#[cfg(test)]
-mod block_tests;
 mod bulk;
-#[cfg(test)]
-mod deletion_tests;
 mod denials;
-#[cfg(test)]
-mod editing_tests;
-#[cfg(test)]
-mod formatting_tests;
-#[cfg(test)]
-mod object_tests;
 mod replay;
-#[cfg(test)]
-mod replay_tests;
 mod reply;
 mod session;
-#[cfg(test)]
-mod tests;
-#[cfg(test)]
-mod typing_tests;
 mod words;
 
+pub use block::{PageBlock, read_block};
 pub use session::{Status, run_session};
+pub use words::{Limits, Order, read_words};

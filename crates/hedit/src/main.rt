@@ -5,6 +5,9 @@
 //! written and which status ends the program is proved at [`edit_session::run_session`].
 #![tactic(auto)]
 
+#[cfg(test)]
+mod tests;
+
 use edit_io::{ReadSource, WriteSink};
 use edit_session::{Status, run_session};
 use std::alloc::Global;

@@ -1,6 +1,16 @@
 //! Sessions and pages with what they answer.
-use crate::session::{Status, run_session};
+mod block;
+mod deletion;
+mod editing;
+mod formatting;
+mod object;
+mod page_blocks;
+mod replay;
+mod typing;
+mod words;
+
 use edit_io::{MemorySink, MemorySource, SliceSource, SureSink};
+use edit_session::{Status, run_session};
 use std::alloc::{AllocError, Global};
 use std::test::Fail;
 
@@ -19,11 +29,7 @@ fn words_of(alloc: Global, words: &[&str]) -> Result<Vec<String>, AllocError> {
 }
 
 // What the program answers to these words and this input.
-pub(crate) fn answer_to(
-    alloc: Global,
-    words: &[&str],
-    input: &[u8],
-) -> Result<(Status, Vec<u8>), AllocError> {
+fn answer_to(alloc: Global, words: &[&str], input: &[u8]) -> Result<(Status, Vec<u8>), AllocError> {
     let words = words_of(alloc, words)?;
     let mut source = SliceSource {
         bytes: input,

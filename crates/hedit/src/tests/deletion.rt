@@ -1,5 +1,5 @@
 //! Sessions that delete: rows of pages and acts, and what they answer.
-use crate::editing_tests::answer;
+use super::editing::answer;
 use std::test::Fail;
 
 #[test]

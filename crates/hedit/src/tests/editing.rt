@@ -1,11 +1,11 @@
 //! Sessions that edit: rows of acts and what they answer.
-use crate::session::Status;
-use crate::tests::answer_to;
+use super::answer_to;
+use edit_session::Status;
 use std::alloc::{AllocError, Global};
 use std::test::Fail;
 
 // What a session on a page answers.
-pub(crate) fn answer(
+pub(super) fn answer(
     alloc: Global,
     words: &[&str],
     page: &str,

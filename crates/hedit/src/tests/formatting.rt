@@ -1,5 +1,5 @@
 //! Sessions that format text: rows of words, pages and acts, and what they answer.
-use crate::editing_tests::answer;
+use super::editing::answer;
 use std::test::Fail;
 
 const FOOBAR: &str = "<div contenteditable=\"true\"><p>foobar</p></div>";

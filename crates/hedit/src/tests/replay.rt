@@ -1,7 +1,7 @@
 //! Logs, replays, sessions made from a number, and caps: rows of what they answer.
-use crate::editing_tests::answer;
-use crate::session::Status;
-use crate::tests::answer_to;
+use super::answer_to;
+use super::editing::answer;
+use edit_session::Status;
 use std::test::Fail;
 
 const FOOBAR: &str = "<div contenteditable=\"true\"><p>foobar</p></div>";

@@ -1,6 +1,6 @@
 //! Sessions that type, part paragraphs and toggle lists: rows of words, pages and acts, and what
 //! they answer.
-use crate::editing_tests::answer;
+use super::editing::answer;
 use std::test::Fail;
 
 const FOOBAR: &str = "<div contenteditable=\"true\"><p>foobar</p></div>";

@@ -1,5 +1,5 @@
 //! Sessions that insert objects, and sessions in which commands are denied: rows of pages and acts, and what they answer.
-use crate::editing_tests::answer;
+use super::editing::answer;
 use std::test::Fail;
 
 #[test]
