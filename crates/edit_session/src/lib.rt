@@ -14,6 +14,6 @@ mod reply;
 mod session;
 mod words;
 
-pub use block::{PageBlock, read_block};
+pub use block::{PageBlock, after_line, line_end, read_block};
 pub use session::{Status, run_session};
 pub use words::{Limits, Order, read_words};
