@@ -7,7 +7,6 @@ ghost use Rattle.edit_doc.specs.Held.{Holds, IfHeld, EachHeld, Keeps};
 ghost use Rattle.edit_doc.specs.Whole.{IsOpen};
 ghost use Rattle.block_commands.specs.FormatBlock as format;
 
-use crate::bound::turn_bound;
 use crate::gathered::outermost;
 use crate::lines::{Formatted, has_outer_block};
 use crate::names::block_name;
@@ -18,7 +17,8 @@ use inline_value::{fix_ancestors, record_values, restore_values};
 use node_tests::{has_name, is_single_line};
 use std::alloc::{AllocError, Global};
 use wrap_split::{
-    Blank, CopyMade, NamedSibling, NoSibling, WrapRule, remove_keeping_children, split_parent, wrap,
+    Blank, CopyMade, NamedSibling, NoSibling, WrapRule, remove_keeping_children, split_parent,
+    turn_bound, wrap,
 };
 
 // Step 3: the parent of a node is split around it.

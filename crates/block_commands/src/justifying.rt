@@ -6,20 +6,20 @@ ghost use Rattle.edit_model.specs.Gives.{Gives, GivesAs, GivesMaybe, labels_of};
 ghost use Rattle.edit_doc.specs.Held.{Holds, EachHeld, Keeps};
 ghost use Rattle.edit_model.specs.Run.{for_each};
 ghost use Rattle.edit_doc.specs.Whole.{IsOpen};
-ghost use Rattle.wrap_split.specs.Target.{is_without_attributes};
 ghost use Rattle.block_commands.specs.Justify as justify;
 
 use crate::aligned::{AlignedSibling, Aligning, Misaligned, aligned_div, is_center};
-use crate::bound::turn_bound;
 use crate::gathered::{contained, outermost};
 use crate::series::count_siblings;
 use css_value::TextAlign;
-use dom_model::{Chars, Content, Name};
+use dom_model::{Chars, Name};
 use edit_doc::{Doc, EditFault, NodeList, NodeRef};
 use inline_value::unset_style;
 use node_tests::has_name;
 use std::alloc::Global;
-use wrap_split::{CopyMade, WrapRule, remove_keeping_children, wrap};
+use wrap_split::{
+    CopyMade, WrapRule, is_without_attributes, remove_keeping_children, turn_bound, wrap,
+};
 
 // Step 1: a center becomes a div.
 #[tactic(auto, using(edit_model::proofs::Steps::steps, edit_model::proofs::Steps::exits), unfolding(crate::specs::Justify::name_div))]
@@ -36,27 +36,13 @@ fn name_div(alloc: Global, doc: &mut Doc, node: NodeRef) -> Result<(), EditFault
     Ok(())
 }
 
-// Step 1: whether a node is an element without attributes.
-fn is_bare(doc: &Doc, node: NodeRef) -> bool
-    requires { Holds doc.now node }
-    ensures { result ≡ is_without_attributes doc.now.state.trees node.label }
-{
-    match doc.content(node) {
-        Content::Element {
-            name: _,
-            attributes,
-        } => attributes.len() == 0,
-        _ => false,
-    }
-}
-
 // Step 1: whether it is a div, span or center without attributes.
 #[tactic(auto, unfolding(crate::specs::Justify::is_plain))]
 fn is_plain(doc: &Doc, node: NodeRef) -> bool
     requires { Holds doc.now node }
     ensures { result ≡ justify.is_plain doc.now.state.trees node.label }
 {
-    is_bare(doc, node)
+    is_without_attributes(doc, node)
         && (has_name(doc, node, b"div")
             || has_name(doc, node, b"span")
             || has_name(doc, node, b"center"))

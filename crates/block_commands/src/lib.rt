@@ -3,7 +3,6 @@
 #![tactic(auto)]
 
 mod aligned;
-mod bound;
 mod formatting;
 mod gathered;
 mod justifying;

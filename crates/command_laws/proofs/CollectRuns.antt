@@ -25,7 +25,7 @@ use Rattle.wrap_split.specs.declared.rule.Recipe.{Recipe}
 use Rattle.wrap_split.specs.declared.rule.Recipe.TheVariants.{Make}
 use Rattle.wrap_split.specs.Walks.{turn_bound}
 use Rattle.wrap_split.specs.Wrap.{wrap, one_of}
-use Rattle.list_indent.specs.Indenting.{bare}
+use Rattle.inline_value.specs.Wrappers.{bare}
 use Rattle.list_indent.specs.Sublists.{is_list, is_item}
 use Rattle.list_toggle.specs.Collecting.{Made, Collected, is_container, made_one, rename_item, goes_on_line, wrap_item, made_of, wrap_first, wrap_line, make_item, next_item, follows, goes_on, collected, collect_next, collect_items}
 use Rattle.command_laws.proofs.Criteria.{first_part, named_bare}

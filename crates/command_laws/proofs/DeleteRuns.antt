@@ -115,9 +115,9 @@ stateless_part_entries p = search (stateless_parts, stateless_part_entry)
 
 -- ---- what goes, and what is joined
 
-pub stateless_erase : (strip backward : Bool) → Stateless (erase strip backward)
+pub stateless_erase : (merge strip backward : Bool) → Stateless (erase merge strip backward)
 unfolding erase
-stateless_erase strip backward = search (stateless_parts, stateless_delete_selection, stateless_restore_states)
+stateless_erase merge strip backward = search (stateless_parts, stateless_delete_selection, stateless_restore_states)
 
 stateless_erased : (backward : Bool) → Stateless (erased backward)
 unfolding erased

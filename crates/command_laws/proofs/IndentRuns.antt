@@ -26,8 +26,9 @@ use Rattle.inline_value.specs.Ancestors.{fix_ancestors}
 use Rattle.inline_value.specs.Recording.{Recorded, record_values, restore_values}
 use Rattle.inline_value.specs.Styling.{unset_style}
 use Rattle.block_extend.specs.Series.{is_next}
+use Rattle.inline_value.specs.Wrappers.{bare}
 use Rattle.list_indent.specs.Sublists.{is_list, is_in_list}
-use Rattle.list_indent.specs.Indenting.{bare, if_list, nested, fixed, wrap_quote, quoted, indent_from, indent_list}
+use Rattle.list_indent.specs.Indenting.{if_list, nested, fixed, wrap_quote, quoted, indent_from, indent_list}
 use Rattle.list_indent.specs.Outdenting.{to_div, unboxed, unindented, unwrapped, released, dissolved, dissolve, outdent_list, drop_break, indent_before, rest_after, siblings_after, indent_after, part_around, part_level, part_levels, outdent_through, outdent_alone, outdent_inner, outdent_own, outdent_node}
 use Rattle.list_indent.specs.Commands.{normalize_range, normalize_before, normalize_first, goes_on, indent_nodes, indent_gathered, indent, is_lone, goes_on_items, split_items, outdent_from, outdent_series, outdent_nodes, outdent_gathered, outdent}
 use Rattle.command_laws.proofs.Copies.{plain_tag}

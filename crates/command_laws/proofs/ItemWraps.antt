@@ -34,7 +34,7 @@ use Rattle.wrap_split.specs.Breaks.{breaks_before, breaks_at_end, breaks_from}
 use Rattle.wrap_split.specs.Target.{meets, if_fits, beside, blank_of, made_of, made_by, target}
 use Rattle.wrap_split.specs.Walks.{turn_bound}
 use Rattle.wrap_split.specs.Wrap.{all_hidden, if_hidden, list_on, extended_front, hidden_after, one_of, break_next, with_break, extended, extended_back, widened, first_visible, last_visible, append_break, prepend_break, needs_br, joins_front, separate_with_br, append_all, parted_front, prepend_all, moved_in, grow_at, insert_if_loose, drop_empty, drop_parent, merged, merge_next, filled_from, filled, into_target, wrap_ends, wrap_list, wrap_members, wrap}
-use Rattle.list_indent.specs.Indenting.{bare}
+use Rattle.inline_value.specs.Wrappers.{bare}
 use Rattle.command_laws.proofs.Sides.{before_list}
 use Rattle.command_laws.proofs.Splitting.{last_some, all_members}
 use Rattle.command_laws.proofs.StatelessSplits.{valid_final}

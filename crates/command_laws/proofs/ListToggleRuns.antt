@@ -39,6 +39,7 @@ use Rattle.edit_laws.proofs.OrderPreserving.{order_preserving_answer, order_pres
 use Rattle.edit_actions.specs.Siblings.{first_parent, members}
 use Rattle.block_extend.specs.Gather.{gather, gather_on, gathered}
 use Rattle.block_extend.specs.Series.{is_next}
+use Rattle.inline_value.specs.Wrappers.{bare}
 use Rattle.block_commands.specs.Series.{has_members}
 use Rattle.wrap_split.specs.declared.rule.Criterion.TheVariants.{Named}
 use Rattle.wrap_split.specs.declared.rule.Recipe.TheVariants.{Nothing, Make}
@@ -46,7 +47,7 @@ use Rattle.wrap_split.specs.Split.{split_parent, split_members}
 use Rattle.wrap_split.specs.Walks.{turn_bound}
 use Rattle.wrap_split.specs.Wrap.{wrap}
 use Rattle.list_indent.specs.Commands.{split_items}
-use Rattle.list_indent.specs.Indenting.{bare, fixed}
+use Rattle.list_indent.specs.Indenting.{fixed}
 use Rattle.list_indent.specs.Outdenting.{outdent_node}
 use Rattle.list_toggle.specs.Collecting.{Collected, collect_items}
 use Rattle.list_toggle.specs.Converting.{is_beside_fit, join, join_list, name_list, convert_list, convert_lists}

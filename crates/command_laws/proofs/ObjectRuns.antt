@@ -11,19 +11,14 @@ use Rattle.edit_laws.proofs.StatelessRuns.{stateless_parts, stateless_answer, st
 use Rattle.text_insertion.specs.Start.{insert_at_start}
 use Rattle.insert_objects.specs.Image.{drop_lone_break, source, put_image, show_image, insert_source, image_from, insert_image}
 use Rattle.insert_objects.specs.LineBreak.{repeat_break, put_break, break_line, insert_line_break}
-use Rattle.insert_objects.specs.Putting.{erase, collapse_before, collapse_after, split_at, leave_text, part_text, part_start, put}
+use Rattle.insert_objects.specs.Putting.{collapse_before, collapse_after, split_at, leave_text, part_text, part_start, put}
 use Rattle.insert_objects.specs.Rule.{widen_range, put_rule, insert_horizontal_rule}
 use Rattle.command_laws.proofs.AncestorRuns.{stateless_fix_ancestors}
-use Rattle.command_laws.proofs.ErasingRuns.{stateless_delete_selection}
-use Rattle.command_laws.proofs.RestoringRuns.{stateless_restore_states}
+use Rattle.command_laws.proofs.DeleteRuns.{stateless_erase}
 use Rattle.command_laws.proofs.StatelessMoves.{stateless_moves}
 use Rattle.command_laws.proofs.TypingRuns.{stateless_insert_at_start}
 
 -- ---- what the commands have in common
-
-stateless_erase : (merge strip : Bool) → Stateless (erase merge strip)
-unfolding erase
-stateless_erase merge strip = search (stateless_parts, stateless_delete_selection, stateless_restore_states)
 
 stateless_collapse_before : (n : ℕ) → Stateless (collapse_before n)
 unfolding collapse_before

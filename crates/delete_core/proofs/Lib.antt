@@ -1,7 +1,6 @@
 pub mod Turns
 pub mod Absent
 pub mod Kids
-pub mod Selecting
 pub mod Counted
 pub mod Rows
 pub mod Recordings

@@ -12,8 +12,8 @@ use Rattle.node_tests.specs.CollapsedWhitespace.{is_words}
 use Rattle.edit_model.specs.State.{State}
 use Rattle.edit_model.specs.Run.{Run, done, look, given, collapse}
 use Rattle.edit_actions.specs.ActiveRange.{start_of, end_of}
-use Rattle.wrap_split.specs.Walks.{walk}
-use Rattle.delete_core.specs.Places.{before_node, after_node, if_inside, turn_bound}
+use Rattle.wrap_split.specs.Walks.{walk, turn_bound}
+use Rattle.delete_core.specs.Places.{before_node, after_node, if_inside}
 use Rattle.delete_core.specs.Whitespace.{canonicalize}
 
 -- the caret that is left: at the start of the active range, or at its end

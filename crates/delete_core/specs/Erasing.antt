@@ -18,8 +18,8 @@ use Rattle.edit_model.specs.Run.{Run, ◌>>=◌, ◌>>◌, answer, done, look, g
 use Rattle.edit_actions.specs.ActiveRange.{start_of, end_of}
 use Rattle.block_extend.specs.Gather.{gathered}
 use Rattle.wrap_split.specs.Wrap.{append_break}
+use Rattle.wrap_split.specs.Walks.{turn_bound}
 use Rattle.delete_core.specs.Ends.{settle, is_cell}
-use Rattle.delete_core.specs.Places.{turn_bound}
 use Rattle.delete_core.specs.Whitespace.{canonicalize}
 
 unfoldable pub is_own_text : State → ℕ → Bool

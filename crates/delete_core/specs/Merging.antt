@@ -16,13 +16,14 @@ use Rattle.edit_model.specs.State.{State}
 use Rattle.edit_model.specs.Confined.{is_editable_for, is_inside}
 use Rattle.edit_model.specs.Moves.{make_break, insert_after, move_each_last}
 use Rattle.edit_model.specs.Run.{Run, ◌>>=◌, ◌>>◌, answer, done, look, given, while_at_most, remove, collapse}
+use Rattle.wrap_split.specs.Walks.{turn_bound}
 use Rattle.inline_value.specs.Recording.{Recorded, values_of, restore_values}
 use Rattle.wrap_split.specs.Breaks.{breaks_at_end}
 use Rattle.wrap_split.specs.Split.{is_void_thing, split_parent}
 use Rattle.wrap_split.specs.Wrap.{append_break, is_inline, list_on}
 use Rattle.delete_core.specs.Ends.{settle}
 use Rattle.delete_core.specs.Erasing.{removed_up}
-use Rattle.delete_core.specs.Places.{at, end_in, turn_bound}
+use Rattle.delete_core.specs.Places.{at, end_in}
 
 -- ---- lines: inline siblings up to a br
 

@@ -7,7 +7,6 @@ use Rattle.dom_model.specs.Forest.{Forest, parent_of}
 use Rattle.dom_model.specs.Places.{index_of}
 use Rattle.live_range.specs.declared.places.Point.{Point}
 use Rattle.point_order.specs.PointOrder.{is_before}
-use Rattle.node_tests.specs.LineBreaks.{turns}
 use Rattle.edit_model.specs.State.{State}
 use Rattle.edit_model.specs.Confined.{is_inside, is_there}
 
@@ -51,7 +50,3 @@ led_on (Some q) p on = on q
 unfoldable pub walk_points : (Point → Option Point) → ℕ → Point → Point
 walk_points step zero p = p
 walk_points step (suc n) p = led_on (step p) p (walk_points step n)
-
--- how many turns a loop takes at most that starts now: two for each node of the document, one for each character, and two
-abbrev pub turn_bound : State → ℕ
-turn_bound s = turns s.trees

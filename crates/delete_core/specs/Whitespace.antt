@@ -15,10 +15,11 @@ use Rattle.node_tests.specs.LineBreaks.{follows_break, precedes_break}
 use Rattle.edit_model.specs.State.{State}
 use Rattle.edit_model.specs.Confined.{is_inside, is_there}
 use Rattle.edit_model.specs.Run.{Run, ◌>>=◌, ◌>>◌, answer, done, look, given, while_at_most, replace}
+use Rattle.wrap_split.specs.Walks.{turn_bound}
 use Rattle.delete_core.specs.declared.scanning.Scan.{Scan}
 use Rattle.delete_core.specs.declared.laying.Laid.{Laid}
 use Rattle.delete_core.specs.Spaces.{soft, is_blank, canonical_spaces}
-use Rattle.delete_core.specs.Places.{at, start_in, end_in, before_in, after_in, after_node, if_inside, comes_before, walk_points, turn_bound}
+use Rattle.delete_core.specs.Places.{at, start_in, end_in, before_in, after_in, after_node, if_inside, comes_before, walk_points}
 
 -- ---- blanks
 

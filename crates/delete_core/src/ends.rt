@@ -9,13 +9,14 @@ ghost use Rattle.edit_doc.specs.Held.{Holds, Finds, Keeps};
 ghost use Rattle.node_tests.specs.CollapsedWhitespace.{is_words};
 ghost use Rattle.delete_core.specs.Ends.{settle, canonicalize_start, canonicalize_end, out_of_start, out_of_end, up_inline, top_inline, is_cell, may_merge, block_of_end};
 
-use crate::places::{after_node, before_node, if_inside, turn_bound};
+use crate::places::{after_node, before_node, if_inside};
 use crate::whitespace::canonicalize;
 use dom_model::Content;
 use edit_actions::{ends_of, is_same};
 use edit_doc::{Doc, EditFault, NodeRef, Point};
 use node_tests::{has_name, is_block, name_allowed_in};
 use std::alloc::Global;
+use wrap_split::turn_bound;
 
 /// Selects from the anchor to the focus, where both stand in the document.
 pub fn select(doc: &mut Doc, anchor: Point, focus: Point)

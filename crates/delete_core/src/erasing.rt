@@ -1,7 +1,6 @@
 //! What a deletion removes. The steps are those of docs/ALGORITHMS.md.
 
 ghost use Rattle.std.specs.Prelude.{◌≡◌, ◌<◌, ◌≤◌, IfOk};
-ghost use Rattle.dom_model.specs.Forest.{count_of};
 ghost use Rattle.edit_model.specs.Gives.{Gives, GivesMaybe, label_of, labels_of};
 ghost use Rattle.edit_model.specs.Run.{for_each};
 ghost use Rattle.edit_doc.specs.Whole.{IsOpen};
@@ -10,14 +9,15 @@ ghost use Rattle.wrap_split.specs.Wrap as wrap;
 ghost use Rattle.delete_core.specs.Erasing.{is_own_text, erase_within, cut_after, cut_before, is_table_part, is_removable, removable_nodes, own_block, shows_child, is_hollow, fill_hollow, removed_up, is_strippable, strip_empty, strip_from, remove_under, remove_node, remove_nodes};
 
 use crate::ends::{is_cell, is_words, settle};
-use crate::places::{is_inside, turn_bound};
 use crate::whitespace::canonicalize;
 use block_extend::{Choice, gather_in};
-use edit_actions::{ends_of, make_break};
+use edit_actions::ends_of;
 use edit_doc::{Doc, EditFault, NodeList, NodeRef, Point};
+use inline_value::is_inside;
 use node_styles::nearest_block;
 use node_tests::{has_name, is_block, is_visible, is_within};
 use std::alloc::{AllocError, Global};
+use wrap_split::{append_break, turn_bound};
 
 /// Whether a node is an editable text.
 #[tactic(auto, unfolding(crate::specs::Erasing::is_own_text))]
@@ -159,19 +159,6 @@ fn is_hollow(doc: &Doc, node: NodeRef) -> bool
         Some(block) => !shows_child(doc, block),
         None => false,
     }
-}
-
-/// Puts a new br at the end of a node.
-#[tactic(auto, using(edit_model::proofs::Steps::steps, edit_model::proofs::Steps::exits), unfolding(wrap_split::specs::Wrap::append_break))]
-pub fn append_break(alloc: Global, doc: &mut Doc, node: NodeRef) -> Result<(), EditFault>
-    requires open { IsOpen doc.old }
-    requires node_held { Holds doc.old node }
-    ensures gives { Gives result doc.old.state doc.new.state (wrap.append_break node.label) }
-    ensures keeps { Keeps doc.old doc.new }
-{
-    let made = make_break(alloc, doc)?;
-    doc.insert(node, None, made)?;
-    Ok(())
 }
 
 #[tactic(auto, using(edit_model::proofs::Steps::steps, edit_model::proofs::Steps::exits), unfolding(crate::specs::Erasing::fill_hollow))]

@@ -2,25 +2,22 @@
 //! docs/ALGORITHMS.md.
 
 ghost use Rattle.std.specs.Prelude.{◌≡◌, IfOk, Some, None};
-ghost use Rattle.std.specs.Option.{option_map};
 ghost use Rattle.edit_model.specs.Gives.{Gives, GivesAs, GivesNode, labels_of};
 ghost use Rattle.edit_doc.specs.Whole.{IsOpen};
 ghost use Rattle.edit_doc.specs.Held.{Holds, EachHeld, Keeps};
 ghost use Rattle.delete_core.specs.Merging.{is_apart, is_sole, drop_sole, parts_lines, part_lines, remove_own, drop_parted, drop_soles, drop_block, split_once, is_stuck, split_out, drop_break_before, take_out_line, take_line, merge_content, merge_inner};
 ghost use Rattle.dom_model.specs.Forest.{first_in};
-ghost use Rattle.wrap_split.specs.Split.{is_void_thing};
 ghost use Rattle.delete_core.specs.Values.{ValuesHeld, recorded_in};
 
 use crate::ends::select;
 use crate::lines::{if_inline, line_from};
-use crate::places::turn_bound;
 use edit_actions::{insert_after, make_break};
 use edit_doc::{Doc, EditFault, NodeList, NodeRef, Point};
 use inline_value::{Values, record_values};
-use node_tests::{has_name, is_block, is_break, is_image};
+use node_tests::{is_block, is_break};
 use point_order::child_toward;
 use std::alloc::Global;
-use wrap_split::split_parent;
+use wrap_split::{is_void_thing, split_parent, turn_bound};
 
 // Whether a node has a parent other than a block.
 #[tactic(auto, unfolding(crate::specs::Merging::is_apart))]
@@ -142,14 +139,6 @@ fn drop_block(alloc: Global, doc: &mut Doc, outer: NodeRef, node: NodeRef) -> Re
 {
     let top = drop_soles(doc, outer, node)?;
     drop_parted(alloc, doc, top)
-}
-
-// An image or a rule.
-fn is_void_thing(doc: &Doc, node: NodeRef) -> bool
-    requires { Holds doc.now node }
-    ensures { result ≡ is_void_thing doc.now.state node.label }
-{
-    is_image(doc, node) || has_name(doc, node, b"hr")
 }
 
 // Whether splitting the parent of a line that begins with a node changes nothing.

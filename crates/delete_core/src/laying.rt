@@ -11,13 +11,14 @@ ghost use Rattle.delete_core.specs.Places.{at};
 ghost use Rattle.delete_core.specs.Whitespace.{spaces_for, put_space, next_laid, lay_char, lay_out, lay_text, lay_turn, lays, lay_all, laid_between};
 
 use crate::blanks::{char_at, ends_line, starts_line};
-use crate::places::{after_there, child_at, comes_before, start_in, turn_bound};
+use crate::places::{after_there, child_at, comes_before, start_in};
 use crate::scanning::Scan;
 use crate::spaces::canonical_spaces;
 use dom_model::Chars;
 use edit_doc::{Doc, EditFault, NodeRef, Point};
 use point_order::node_of;
 use std::alloc::{AllocError, Global};
+use wrap_split::turn_bound;
 
 /// How far the canonical sequence is laid.
 #[derive(Clone, Copy)]

@@ -26,11 +26,9 @@ pub use deletion::delete_selection;
 pub use edit_doc::{Doc, EditFault, Point};
 pub use ends::{canonicalize_end, canonicalize_start, is_words, select, settle};
 pub use equivalent::{first_equivalent, last_equivalent};
-pub use erasing::{append_break, shows_child};
+pub use erasing::shows_child;
 pub use inline_value::Overrides;
 pub use merging::fill_empty;
-pub use places::{
-    after_node, before_node, child_at, child_before, end_in, is_inside, start_in, turn_bound,
-};
+pub use places::{after_node, before_node, child_at, child_before, end_in, start_in};
 pub use spaces::canonical_spaces;
 pub use whitespace::canonicalize;

@@ -6,10 +6,11 @@ ghost use Rattle.edit_doc.specs.Whole.{IsOpen};
 ghost use Rattle.edit_doc.specs.Held.{Holds, Finds, Keeps};
 ghost use Rattle.delete_core.specs.Merging.{is_list_before, joins_next, list_to_join, join_lists_at, join_next, join_lists};
 
-use crate::places::{is_inside, turn_bound};
 use edit_doc::{Doc, EditFault, NodeRef};
+use inline_value::is_inside;
 use node_arena::Nodes;
 use node_tests::has_name;
+use wrap_split::turn_bound;
 
 // Whether a node is a list of this name, with another one that is inside after it.
 fn is_list_before(doc: &Doc, name: &[u8], node: NodeRef) -> bool

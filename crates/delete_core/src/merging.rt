@@ -9,16 +9,14 @@ ghost use Rattle.delete_core.specs.Merging.{drop_prop, merged, fill_empty, finis
 ghost use Rattle.delete_core.specs.Values.{ValuesHeld, recorded_in};
 
 use crate::ends::settle;
-use crate::erasing::append_break;
 use crate::inner::merge_inner;
 use crate::lists::join_lists;
 use crate::outer::{merge_beside, merge_outer};
-use crate::places::is_inside;
 use edit_doc::{Doc, EditFault, NodeRef};
-use inline_value::{Values, restore_values};
+use inline_value::{Values, is_inside, restore_values};
 use node_tests::{is_ancestor, is_block_prop};
 use std::alloc::Global;
-use wrap_split::breaks_at_end;
+use wrap_split::{append_break, breaks_at_end};
 
 // Delete the selection, step 10: removes the one child of a block that only holds its line open.
 #[tactic(auto, using(edit_model::proofs::Steps::steps, edit_model::proofs::Steps::exits), unfolding(crate::specs::Merging::drop_prop))]

@@ -10,12 +10,13 @@ ghost use Rattle.delete_core.specs.Values.{ValuesHeld, recorded_in};
 use crate::ends::select;
 use crate::erasing::removed_up;
 use crate::lines::{if_inline, line_at};
-use crate::places::{end_in, turn_bound};
+use crate::places::end_in;
 use edit_doc::{Doc, EditFault, NodeRef};
 use inline_value::{Values, record_values};
 use node_tests::is_break;
 use point_order::child_toward;
 use std::alloc::Global;
+use wrap_split::turn_bound;
 
 // Steps 12 and 13: removes a br at the end of a block, where what comes after it there is inline.
 #[tactic(auto, using(edit_model::proofs::Steps::steps, edit_model::proofs::Steps::exits), unfolding(crate::specs::Merging::drop_last_break))]

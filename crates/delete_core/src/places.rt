@@ -2,32 +2,14 @@
 
 ghost use Rattle.std.specs.Prelude.{◌≡◌, ◌<◌, IfSome, true};
 ghost use Rattle.dom_model.specs.Forest.{count_of};
-ghost use Rattle.edit_model.specs.Confined.{is_inside};
 ghost use Rattle.edit_model.specs.Gives.{label_of};
 ghost use Rattle.edit_doc.specs.Held.{Holds, IfHeld, Finds};
 ghost use Rattle.node_tests.specs.BlockPoints as points;
-ghost use Rattle.delete_core.specs.Places.{start_in, end_in, before_in, after_in, before_node, after_node, if_inside, comes_before, turn_bound};
+ghost use Rattle.delete_core.specs.Places.{start_in, end_in, before_in, after_in, before_node, after_node, if_inside, comes_before};
 
-use edit_actions::is_same;
 use edit_doc::{Doc, NodeRef, Point};
+use inline_value::is_inside;
 use node_arena::Nodes;
-
-/// How many turns a loop takes at most that starts now.
-pub fn turn_bound(doc: &Doc) -> u128
-    ensures { result ≡ turn_bound doc.now.state }
-{
-    let counts = doc.counts();
-    2 * counts.nodes as u128 + counts.chars as u128 + 2
-}
-
-/// Whether a node is the affected host of the running command, or editable.
-#[tactic(auto, unfolding(edit_model::specs::Confined::is_inside))]
-pub fn is_inside(doc: &Doc, node: NodeRef) -> bool
-    requires { Holds doc.now node }
-    ensures { result ≡ is_inside doc.now.state node.label }
-{
-    is_same(doc.host(), node) || doc.is_editable_for(node)
-}
 
 /// A node, if there is one, that is inside.
 pub(crate) fn if_inside(doc: &Doc, node: Option<NodeRef>) -> Option<NodeRef>

@@ -8,12 +8,12 @@ ghost use Rattle.edit_doc.specs.Held.{Keeps};
 ghost use Rattle.delete_core.specs.Whitespace.{first_scan, passed, scan_blank, scan_char, scan_turn, scan_blanks};
 
 use crate::blanks::{blank_at, starts_line};
-use crate::places::turn_bound;
 use crate::spaces::SOFT;
 use crate::stepping::on_step;
 use edit_doc::{Doc, EditFault, Point};
 use point_order::node_of;
 use std::alloc::AllocError;
+use wrap_split::turn_bound;
 
 /// How far a walk over blanks has come.
 #[derive(Clone, Copy)]

@@ -6,11 +6,10 @@ ghost use Rattle.delete_core.specs.Whitespace.{into_child_before, into_child_at,
 ghost use Rattle.edit_doc.specs.Held.{Holds};
 
 use crate::blanks::blank_before;
-use crate::places::{
-    after_in, before_in, child_at, child_before, end_in, if_inside, start_in, turn_bound,
-};
+use crate::places::{after_in, before_in, child_at, child_before, end_in, if_inside, start_in};
 use edit_doc::{Doc, NodeRef, Point};
 use node_tests::{follows_break, precedes_break};
+use wrap_split::turn_bound;
 
 // Into the child before a point, to its end, where it is inside.
 #[tactic(auto, using(crate::proofs::Absent::absent), unfolding(crate::specs::Whitespace::into_child_before))]

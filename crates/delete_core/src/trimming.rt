@@ -8,12 +8,13 @@ ghost use Rattle.edit_doc.specs.Held.{Keeps};
 ghost use Rattle.delete_core.specs.Whitespace.{ends_softly, shrunk, trim_char, trim_turn, trims, trimmed, trimmed_if};
 
 use crate::blanks::{blank_before, ends_line};
-use crate::places::{comes_before, turn_bound};
+use crate::places::comes_before;
 use crate::scanning::Scan;
 use crate::spaces::SOFT;
 use crate::stepping::trim_step;
 use edit_doc::{Doc, EditFault, Point};
 use point_order::node_of;
+use wrap_split::turn_bound;
 
 // Step 5, third line: whether a U+0020 that collapses stands before a point that ends a line.
 #[tactic(auto, unfolding(crate::specs::Whitespace::ends_softly))]

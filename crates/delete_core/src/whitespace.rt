@@ -6,11 +6,11 @@ ghost use Rattle.edit_doc.specs.Held.{Keeps};
 ghost use Rattle.delete_core.specs.Whitespace.{canonicalize_from, canonicalize};
 
 use crate::laying::laid_between;
-use crate::places::is_inside;
 use crate::scanning::scan_blanks;
 use crate::stepping::start_of_blanks;
 use crate::trimming::trimmed_if;
 use edit_doc::{Doc, EditFault, Point};
+use inline_value::is_inside;
 use std::alloc::Global;
 
 // Canonicalize whitespace, steps 3 to 7.

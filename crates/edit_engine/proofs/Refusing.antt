@@ -143,11 +143,11 @@ leaves_delete = leaves_taken delete delete_answers_true
 
 leaves_text : (v : List ℕ) → LeavesRefused (insert_text v)
 unfolding insert_text
-leaves_text v = leaves_two (erase false false) (insert_chars v)
+leaves_text v = leaves_two (erase true false false) (insert_chars v)
 
 leaves_paragraph : LeavesRefused insert_paragraph
 unfolding insert_paragraph
-leaves_paragraph = leaves_two (erase true false) insert_paragraph_inside
+leaves_paragraph = leaves_two (erase true true false) insert_paragraph_inside
 
 leaves_lists : (ordered : Bool) → LeavesRefused (toggle_lists ordered)
 unfolding toggle_lists toggle_from

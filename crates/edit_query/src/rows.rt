@@ -266,8 +266,8 @@ fn size_digit(px: u32) -> char
     (b'0' + legacy_size(px)) as char
 }
 
-/// A size of a font as its legacy size.
-pub(crate) fn legacy_text(alloc: Global, text: &[char]) -> Result<Chars, AllocError>
+/// A size of a font as its legacy size; no text where it is none.
+pub fn legacy_text(alloc: Global, text: &[char]) -> Result<Chars, AllocError>
     ensures { IfOk result (λ size. size ≡ legacy_text text.now) }
 {
     match read_font_size(text) {

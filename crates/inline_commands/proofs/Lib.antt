@@ -2,5 +2,4 @@ pub mod Above
 pub mod AllLinks
 pub mod Carets
 pub mod Items
-pub mod Keeping
 pub mod Walking

@@ -6,18 +6,17 @@ ghost use Rattle.edit_model.specs.Moves.{unwrap};
 ghost use Rattle.edit_model.specs.Run.{for_each};
 ghost use Rattle.edit_doc.specs.Held.{Holds, EachHeld, Keeps};
 ghost use Rattle.edit_doc.specs.Whole.{IsOpen};
-ghost use Rattle.wrap_split.specs.Walks as walks;
 ghost use Rattle.inline_value.specs.Ancestors.{split_once};
 ghost use Rattle.inline_value.specs.Recording.{recorded_commands};
 ghost use Rattle.inline_commands.specs.RemovingFormat.{unwrap_candidates, is_formatted, part_from_format, part_nodes, clear_command, clear_commands, remove_format};
 
-use crate::ranges::{candidates_in_range, editable_in_range, is_candidate};
+use crate::ranges::{candidates_in_range, is_candidate};
 use edit_actions::unwrap;
 use edit_doc::{Doc, EditFault, NodeList, NodeRef};
 use html_names::Command;
-use inline_value::{set_value, split_ends};
+use inline_value::{editable_in_range, set_value, split_ends};
 use std::alloc::Global;
-use wrap_split::split_parent;
+use wrap_split::{split_parent, turn_bound};
 
 // Remove the format, step 1: of each node of a list.
 #[tactic(auto, using(edit_model::proofs::Steps::eachs, edit_model::proofs::Steps::exits))]
@@ -68,14 +67,6 @@ fn split_once(alloc: Global, doc: &mut Doc, node: NodeRef) -> Result<NodeRef, Ed
     let list = NodeList::from_slice(alloc, &[node])?;
     split_parent(alloc, doc, &list)?;
     Ok(node)
-}
-
-// How many turns a loop takes at most that starts now.
-fn turn_bound(doc: &Doc) -> u128
-    ensures { result ≡ walks.turn_bound doc.now.state }
-{
-    let counts = doc.counts();
-    2 * counts.nodes as u128 + counts.chars as u128 + 2
 }
 
 // Remove the format, step 3: of one node.

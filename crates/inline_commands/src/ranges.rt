@@ -2,10 +2,9 @@
 
 ghost use Rattle.std.specs.Prelude.{◌≡◌, IfOk};
 ghost use Rattle.std.specs.List.{filter};
-ghost use Rattle.edit_model.specs.Confined.{is_editable_for};
 ghost use Rattle.edit_model.specs.Gives.{labels_of};
 ghost use Rattle.edit_doc.specs.Held.{Holds, EachHeld};
-ghost use Rattle.inline_value.specs.Selections.{nodes_in_range, editable_in_range};
+ghost use Rattle.inline_value.specs.Selections.{nodes_in_range};
 ghost use Rattle.inline_commands.specs.RemovingFormat.{is_candidate, candidates_in_range};
 
 use edit_actions::ends_of;
@@ -61,29 +60,4 @@ pub(crate) fn candidates_in_range(alloc: Global, doc: &Doc) -> Result<Vec<NodeRe
 {
     let list = nodes_in_range(alloc, doc)?;
     candidates_of(alloc, doc, list.as_slice())
-}
-
-// Of a list, the editable nodes.
-fn editable_of(alloc: Global, doc: &Doc, list: &[NodeRef]) -> Result<Vec<NodeRef>, AllocError>
-    requires { EachHeld doc.now list.now }
-    ensures held { IfOk result (λ kept. EachHeld doc.now kept.items) }
-    ensures nodes { IfOk result (λ kept. labels_of kept.items ≡ filter (is_editable_for doc.now.state) (labels_of list.now)) }
-{
-    let mut kept = Vec::new(alloc);
-    for node in list {
-        if doc.is_editable_for(*node) {
-            kept.push(*node)?;
-        }
-    }
-    Ok(kept)
-}
-
-/// The editable ones among them.
-#[tactic(auto, unfolding(inline_value::specs::Selections::editable_in_range))]
-pub(crate) fn editable_in_range(alloc: Global, doc: &Doc) -> Result<Vec<NodeRef>, AllocError>
-    ensures held { IfOk result (λ list. EachHeld doc.now list.items) }
-    ensures nodes { IfOk result (λ list. labels_of list.items ≡ editable_in_range doc.now.state) }
-{
-    let list = nodes_in_range(alloc, doc)?;
-    editable_of(alloc, doc, list.as_slice())
 }

@@ -1,22 +1,19 @@
 //! Restoring recorded states and values. The steps are those of docs/ALGORITHMS.md.
 
 ghost use Rattle.std.specs.Prelude.{◌≡◌, ◌+◌, IfOk};
-ghost use Rattle.css_value.specs.Numbers as sizes;
 ghost use Rattle.edit_model.specs.Gives.{Gives};
 ghost use Rattle.edit_model.specs.Run.{for_each};
 ghost use Rattle.edit_doc.specs.Held.{Keeps};
 ghost use Rattle.edit_doc.specs.Whole.{IsOpen};
 ghost use Rattle.edit_query.specs.Formattable as formattable;
-ghost use Rattle.edit_query.specs.Rows as rows;
-ghost use Rattle.inline_commands.specs.RestoringStates.{override_by, set_override, turned, restore_on, restore_off, restore_shown, differs_at, is_other_value, restore_link, restore_size, restore_text, restore_setting, restore_entry, restore_states};
+ghost use Rattle.inline_commands.specs.RestoringStates.{set_override, turned, restore_on, restore_off, restore_shown, differs_at, is_other_value, restore_link, restore_size, restore_text, restore_entry, restore_states};
 
 use crate::linking::create_link;
 use crate::toggling::{toggle_script, toggle_style};
 use crate::values::apply_value;
 use command_value::{equivalent, has_alike_value};
-use css_value::{legacy_size, read_font_size};
 use edit_doc::{Chars, Doc, EditFault, Setting};
-use edit_query::{first_formattable, query_state, query_value};
+use edit_query::{first_formattable, legacy_text, query_state, query_value};
 use html_names::Command;
 use inline_value::{Override, Overrides};
 use std::alloc::{AllocError, Global};
@@ -155,24 +152,6 @@ fn restore_link(alloc: Global, doc: &mut Doc, value: &[char]) -> Result<(), Edit
         create_link(alloc, doc, value)?;
     }
     Ok(())
-}
-
-// The digit of the legacy size of a size in pixels.
-#[tactic(auto, unfolding(css_value::specs::Numbers::legacy_size))]
-fn size_digit(px: u32) -> char
-    ensures { result ≡ 48 + sizes.legacy_size px }
-{
-    (b'0' + legacy_size(px)) as char
-}
-
-// A size of a font as its legacy size; no text where it is none.
-fn legacy_text(alloc: Global, value: &[char]) -> Result<Chars, AllocError>
-    ensures { IfOk result (λ text. text ≡ rows.legacy_text value.now) }
-{
-    match read_font_size(value) {
-        Some(px) => Chars::from_slice(alloc, &[size_digit(px as u32)]),
-        None => Chars::from_slice(alloc, &[]),
-    }
 }
 
 // Restore states and values, step 6.

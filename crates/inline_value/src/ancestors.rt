@@ -9,7 +9,6 @@ ghost use Rattle.edit_model.specs.Run.{for_each};
 ghost use Rattle.edit_doc.specs.Whole.{IsOpen};
 ghost use Rattle.edit_doc.specs.Held.{Holds, EachHeld, Keeps};
 ghost use Rattle.edit_query.specs.Rows.{container_name};
-ghost use Rattle.wrap_split.specs.Walks.{turn_bound};
 ghost use Rattle.inline_value.specs.Ancestors.{is_prohibited, has_place, is_misplaced, lifted, lift, is_description, wrap_description, hosts_none, split_out, part_child, part_children, lift_renamed, rename, replace_misplaced, fix_ancestors};
 
 use crate::recording::{record_values, restore_values};
@@ -19,15 +18,7 @@ use edit_doc::{Doc, EditFault, NodeList, NodeRef};
 use html_names::is_prohibited_child;
 use node_tests::{allowed_in, has_name, name_allowed_in};
 use std::alloc::{AllocError, Global};
-use wrap_split::{Blank, CopyMade, NamedSibling, WrapRule, split_parent, wrap};
-
-// How many turns a loop takes at most that starts now.
-fn turn_bound(doc: &Doc) -> u128
-    ensures { result ≡ turn_bound doc.now.state }
-{
-    let counts = doc.counts();
-    2 * counts.nodes as u128 + counts.chars as u128 + 2
-}
+use wrap_split::{Blank, CopyMade, NamedSibling, WrapRule, split_parent, turn_bound, wrap};
 
 /// Whether a node is an element that may not stand in a paragraph.
 #[tactic(auto, unfolding(crate::specs::Ancestors::is_prohibited))]
@@ -44,9 +35,9 @@ pub fn is_prohibited(doc: &Doc, node: NodeRef) -> bool
     }
 }
 
-// The affected host, or editable with it as its host.
+/// Whether a node is the affected host of the running command, or editable.
 #[tactic(auto, unfolding(edit_model::specs::Confined::is_inside))]
-fn is_inside(doc: &Doc, node: NodeRef) -> bool
+pub fn is_inside(doc: &Doc, node: NodeRef) -> bool
     requires { Holds doc.now node }
     ensures { result ≡ confined.is_inside doc.now.state node.label }
 {

@@ -6,7 +6,6 @@ ghost use Rattle.edit_model.specs.Gives.{Gives, GivesAs, labels_of};
 ghost use Rattle.edit_doc.specs.Whole.{IsOpen};
 ghost use Rattle.edit_doc.specs.Held.{Holds, EachHeld, Keeps};
 ghost use Rattle.command_value.specs.Subjects.{subject};
-ghost use Rattle.wrap_split.specs.Split.{is_void_thing};
 ghost use Rattle.inline_value.specs.Clearing as spec;
 
 use crate::styling::{decoration_of, set_style, unset_style};
@@ -16,11 +15,12 @@ use command_value::{
 use css_value::{DecorationLine, without_line};
 use dom_model::Name;
 use edit_actions::unwrap;
-use edit_doc::{Doc, EditFault, Kind, NodeList, NodeRef};
+use edit_doc::{Doc, EditFault, NodeList, NodeRef};
 use html_names::Command;
-use node_tests::{has_name, is_image};
+use node_tests::has_name;
 use std::alloc::Global;
 use style_table::Property;
+use wrap_split::is_void_thing;
 
 // The name of a property.
 pub(crate) fn property_name(property: Property) -> &'static [u8]
@@ -166,14 +166,6 @@ fn drop_link(alloc: Global, doc: &mut Doc, node: NodeRef, command: Command) -> R
         Subject::Link => drop_attribute(alloc, doc, node, b"a", b"href"),
         _ => Ok(()),
     }
-}
-
-// An image or a rule.
-fn is_void_thing(doc: &Doc, node: NodeRef) -> bool
-    requires { Holds doc.now node }
-    ensures { result ≡ is_void_thing doc.now.state node.label }
-{
-    is_image(doc, node) || has_name(doc, node, b"hr")
 }
 
 // Clear the value, steps 7 and 8: an element that still gives the command a value becomes a span, unless it is an image or a

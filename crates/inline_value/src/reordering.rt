@@ -7,7 +7,6 @@ ghost use Rattle.edit_model.specs.Gives.{Gives};
 ghost use Rattle.edit_doc.specs.Whole.{IsOpen};
 ghost use Rattle.edit_doc.specs.Held.{Holds, Finds, Keeps};
 ghost use Rattle.inline_value.specs.Reordering as spec;
-ghost use Rattle.wrap_split.specs.Walks.{turn_bound};
 
 use command_value::{
     is_modifiable_element, is_simple_modifiable_element, meets_value, specifies, specifies_other,
@@ -16,14 +15,7 @@ use edit_actions::{insert_after, move_all_before};
 use edit_doc::{Doc, EditFault, NodeRef};
 use html_names::Command;
 use std::alloc::Global;
-
-// How many turns a loop takes at most that starts now.
-fn turn_bound(doc: &Doc) -> u128
-    ensures { result ≡ turn_bound doc.now.state }
-{
-    let counts = doc.counts();
-    2 * counts.nodes as u128 + counts.chars as u128 + 2
-}
+use wrap_split::turn_bound;
 
 // Whether the specified value of a node is equivalent to a text.
 #[tactic(auto, unfolding(command_value::specs::Modifiable::specifies_other, command_value::specs::Equivalence::equivalent))]

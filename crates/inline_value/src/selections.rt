@@ -188,7 +188,8 @@ fn editable_of(alloc: Global, doc: &Doc, list: &[NodeRef]) -> Result<Vec<NodeRef
     Ok(kept)
 }
 
-fn is_element(doc: &Doc, node: NodeRef) -> bool
+/// Whether a node is an element.
+pub fn is_element(doc: &Doc, node: NodeRef) -> bool
     requires { Holds doc.now node }
     ensures { result ≡ is_element_at doc.now.state.trees node.label }
 {
@@ -221,9 +222,9 @@ fn editable_between(alloc: Global, doc: &Doc, pair: Pair) -> Result<Vec<NodeRef>
     editable_of(alloc, doc, list.as_slice())
 }
 
-// The editable nodes that the active range effectively contains, in tree order.
+/// The editable nodes that the active range effectively contains, in tree order.
 #[tactic(auto, unfolding(crate::specs::Selections::editable_in_range, crate::specs::Selections::nodes_in_range))]
-fn editable_in_range(alloc: Global, doc: &Doc) -> Result<Vec<NodeRef>, AllocError>
+pub fn editable_in_range(alloc: Global, doc: &Doc) -> Result<Vec<NodeRef>, AllocError>
     ensures held { IfOk result (λ list. EachHeld doc.now list.items) }
     ensures nodes { IfOk result (λ list. labels_of list.items ≡ editable_in_range doc.now.state) }
 {

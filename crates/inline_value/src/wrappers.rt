@@ -10,8 +10,8 @@ use html_names::Command;
 use std::alloc::{AllocError, Global};
 use wrap_split::Blank;
 
-// A name without attributes.
-fn bare(alloc: Global, name: &[u8]) -> Result<Blank, AllocError>
+/// An element of a name without attributes.
+pub fn bare(alloc: Global, name: &[u8]) -> Result<Blank, AllocError>
     ensures { IfOk result (λ blank. blank ≡ spec.bare name.now) }
 {
     Ok(Blank {

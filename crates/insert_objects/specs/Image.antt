@@ -7,7 +7,8 @@ use Rattle.live_range.specs.declared.places.Point.{Point}
 use Rattle.node_styles.specs.Blocks.{is_block}
 use Rattle.edit_model.specs.State.{State}
 use Rattle.edit_model.specs.Run.{Run, ◌>>=◌, ◌>>◌, answer, done, look, given, remove}
-use Rattle.insert_objects.specs.Putting.{erase, from_start_inside, collapse_after, put}
+use Rattle.text_insertion.specs.Start.{erase}
+use Rattle.insert_objects.specs.Putting.{from_start_inside, collapse_after, put}
 
 -- insertImage, step 3: the br that is all that a block has, where the point is the block's start
 abbrev pub if_lone_break : State → Option ℕ → Option ℕ
@@ -36,7 +37,7 @@ show_image value p = drop_lone_break p >> put_image value
 
 -- steps 2 to 4
 unfoldable pub insert_source : List ℕ → Run Bool
-insert_source value = erase true false >> from_start_inside (show_image value)
+insert_source value = erase true false false >> from_start_inside (show_image value)
 
 -- step 1, and then from 2 on: the empty value is refused
 abbrev pub image_from : List ℕ → Run Bool

@@ -5,21 +5,14 @@ use Rattle.std.specs.Prelude.{ℕ, ◌==◌, Bool, false, true, ◌&&◌, not, L
 use Rattle.dom_model.specs.declared.attributes.Attribute.{Attribute}
 use Rattle.dom_model.specs.Contents.{has_chars_at, length_of}
 use Rattle.live_range.specs.declared.places.Point.{Point}
-use Rattle.node_tests.specs.CollapsedWhitespace.{is_words}
 use Rattle.edit_model.specs.State.{State}
 use Rattle.edit_model.specs.Compositions.{split_words}
 use Rattle.edit_model.specs.Run.{Run, ◌>>=◌, ◌>>◌, answer, done, look, given, make_element, collapse}
 use Rattle.edit_actions.specs.ActiveRange.{start_of}
-use Rattle.inline_commands.specs.RestoringStates.{restore_states}
-use Rattle.delete_core.specs.Deletion.{delete_selection}
 use Rattle.delete_core.specs.Places.{before_node, after_node}
-use Rattle.text_insertion.specs.Start.{start_inside, insert_at_start}
+use Rattle.text_insertion.specs.Start.{start_inside, insert_at_start, cuts_text}
 
 -- ---- what each of the commands begins with
-
--- what is selected goes, and its states and values are restored
-unfoldable pub erase : Bool → Bool → Run (Unit {0})
-erase merge strip = delete_selection merge strip false >>= restore_states
 
 -- goes on from the start of the active range, where its node is inside; elsewhere nothing is inserted, and the answer is true
 abbrev pub from_start_inside : (Point → Run Bool) → Run Bool
@@ -36,9 +29,6 @@ collapse_after n = look λ s. given (after_node s.trees n) done collapse
 -- ---- put an element
 
 -- put an element, step 2: a text is split
-unfoldable pub is_inner : State → Point → Bool
-is_inner s p = is_words s.trees p.label && (not (p.offset == 0) && not (p.offset == length_of s.trees p.label))
-
 unfoldable pub split_at : Point → Run (Unit {0})
 split_at p = split_words p.label p.offset >> collapse_after p.label
 
@@ -51,7 +41,7 @@ leave_text p = look λ s. if is_past s p then collapse_after p.label else collap
 
 -- steps 2 and 3
 unfoldable pub part_text : Point → Run (Unit {0})
-part_text p = look λ s. if is_inner s p then split_at p else (if has_chars_at s.trees p.label then leave_text p else done)
+part_text p = look λ s. if cuts_text s.trees p then split_at p else (if has_chars_at s.trees p.label then leave_text p else done)
 
 unfoldable pub part_start : Run (Unit {0})
 part_start = look λ s. given s.points.selection done λ pair. part_text (start_of s.trees pair)

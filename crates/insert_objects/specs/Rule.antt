@@ -8,9 +8,11 @@ use Rattle.live_range.specs.declared.places.Point.{Point}
 use Rattle.edit_model.specs.State.{State}
 use Rattle.edit_model.specs.Run.{Run, ◌>>=◌, ◌>>◌, answer, done, look, given, select}
 use Rattle.edit_actions.specs.ActiveRange.{start_of, end_of}
+use Rattle.wrap_split.specs.Walks.{turn_bound}
 use Rattle.inline_value.specs.Ancestors.{fix_ancestors}
-use Rattle.delete_core.specs.Places.{before_node, after_node, walk_points, turn_bound}
-use Rattle.insert_objects.specs.Putting.{erase, from_start_inside, collapse_after, put}
+use Rattle.delete_core.specs.Places.{before_node, after_node, walk_points}
+use Rattle.text_insertion.specs.Start.{erase}
+use Rattle.insert_objects.specs.Putting.{from_start_inside, collapse_after, put}
 
 -- insertHorizontalRule, step 1: from the start of a node to before it, and from its end to after it, up to the affected host
 unfoldable pub out_of_start : State → Point → Option Point
@@ -44,5 +46,5 @@ put_rule = do
 unfoldable pub insert_horizontal_rule : Run Bool
 insert_horizontal_rule = do
   widen_range
-  erase false true
+  erase false true false
   from_start_inside λ p. put_rule

@@ -7,12 +7,12 @@ ghost use Rattle.edit_doc.specs.Whole.{IsOpen};
 ghost use Rattle.edit_doc.specs.Held.{Holds, IfHeld, Finds, Keeps};
 ghost use Rattle.insert_objects.specs.Image as command;
 
-use crate::putting::{collapse_after, erase, put};
+use crate::putting::{collapse_after, put};
 use edit_doc::{Attributes, Chars, Doc, EditFault, Name, NodeRef, Point};
 use node_tests::{is_block, is_break};
 use point_order::node_of;
 use std::alloc::{AllocError, Global};
-use text_insertion::start_inside;
+use text_insertion::{erase, start_inside};
 
 // A node, if there is one, that is a br without a next sibling.
 fn if_lone_break(doc: &Doc, node: Option<NodeRef>) -> Option<NodeRef>
@@ -99,7 +99,7 @@ fn insert_source(alloc: Global, doc: &mut Doc, value: &[char]) -> Result<bool, E
     ensures gives { Gives result doc.old.state doc.new.state (command.insert_source value.now) }
     ensures keeps { Keeps doc.old doc.new }
 {
-    erase(alloc, doc, true, false)?;
+    erase(alloc, doc, true, false, false)?;
     let Some(at) = start_inside(doc) else {
         return Ok(true);
     };

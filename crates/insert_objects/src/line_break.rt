@@ -1,28 +1,20 @@
 //! The command insertLineBreak. The steps are those of docs/ALGORITHMS.md.
 
 ghost use Rattle.std.specs.Prelude.{◌≡◌, ◌<◌};
-ghost use Rattle.dom_model.specs.Contents.{is_element_at};
 ghost use Rattle.dom_model.specs.Forest.{count_of};
 ghost use Rattle.edit_model.specs.Gives.{Gives};
 ghost use Rattle.edit_doc.specs.Whole.{IsOpen};
 ghost use Rattle.edit_doc.specs.Held.{Holds, Keeps};
 ghost use Rattle.insert_objects.specs.LineBreak as command;
 
-use crate::putting::{collapse_after, erase, put};
-use dom_model::Content;
+use crate::putting::{collapse_after, put};
 use edit_actions::make_break;
 use edit_doc::{Attributes, Doc, EditFault, NodeRef, Point};
+use inline_value::is_element;
 use node_tests::{is_collapsed_break, is_extraneous_break, name_allowed_in};
 use point_order::node_of;
 use std::alloc::Global;
-use text_insertion::{insert_at_start, start_inside};
-
-fn is_element(doc: &Doc, node: NodeRef) -> bool
-    requires { Holds doc.now node }
-    ensures { result ≡ is_element_at doc.now.state.trees node.label }
-{
-    matches!(doc.content(node), Content::Element { .. })
-}
+use text_insertion::{erase, insert_at_start, start_inside};
 
 // Step 2: whether a br may stand in an element, or beside what is none.
 #[tactic(auto, unfolding(crate::specs::LineBreak::takes_break))]
@@ -100,7 +92,7 @@ pub fn insert_line_break(alloc: Global, doc: &mut Doc) -> Result<bool, EditFault
     ensures gives { Gives result doc.old.state doc.new.state command.insert_line_break }
     ensures keeps { Keeps doc.old doc.new }
 {
-    erase(alloc, doc, true, false)?;
+    erase(alloc, doc, true, false, false)?;
     let Some(at) = start_inside(doc) else {
         return Ok(true);
     };

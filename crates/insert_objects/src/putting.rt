@@ -1,31 +1,17 @@
 //! What is selected goes, and a new element is put at the start of the active range. The steps are those of docs/ALGORITHMS.md.
 
 ghost use Rattle.std.specs.Prelude.{◌≡◌, IfOk};
-ghost use Rattle.dom_model.specs.Contents.{has_chars_at};
 ghost use Rattle.edit_model.specs.Gives.{Gives, GivesNode};
 ghost use Rattle.edit_doc.specs.Whole.{IsOpen};
 ghost use Rattle.edit_doc.specs.Held.{Holds, Keeps};
 ghost use Rattle.insert_objects.specs.Putting as putting;
 
-use delete_core::{after_node, before_node, delete_selection, is_words, select};
-use dom_model::Content;
+use delete_core::{after_node, before_node, select};
 use edit_actions::ends_of;
 use edit_doc::{Attributes, Doc, EditFault, Name, NodeRef, Point};
-use inline_commands::restore_states;
 use point_order::node_of;
 use std::alloc::Global;
-use text_insertion::insert_at_start;
-
-/// Deletes what is selected, and restores its states and values.
-#[tactic(auto, using(edit_model::proofs::Steps::steps, edit_model::proofs::Steps::exits), unfolding(crate::specs::Putting::erase))]
-pub(crate) fn erase(alloc: Global, doc: &mut Doc, merge: bool, strip: bool) -> Result<(), EditFault>
-    requires open { IsOpen doc.old }
-    ensures gives { Gives result doc.old.state doc.new.state (putting.erase merge strip) }
-    ensures keeps { Keeps doc.old doc.new }
-{
-    let states = delete_selection(alloc, doc, merge, strip, false)?;
-    restore_states(alloc, doc, &states)
-}
+use text_insertion::{cuts_text, has_chars, insert_at_start};
 
 // Collapses the active range to just before a node.
 #[tactic(auto, using(edit_model::proofs::Steps::actions), unfolding(crate::specs::Putting::collapse_before))]
@@ -53,16 +39,6 @@ pub(crate) fn collapse_after(doc: &mut Doc, node: NodeRef) -> Result<(), EditFau
         select(doc, at, at);
     }
     Ok(())
-}
-
-// Put an element, step 2: whether a point is inside a text, and at neither end of it.
-#[tactic(auto, unfolding(crate::specs::Putting::is_inner))]
-fn is_inner(doc: &Doc, node: NodeRef, at: Point) -> bool
-    requires held { Holds doc.now node }
-    requires label { at.label ≡ node.label }
-    ensures { result ≡ putting.is_inner doc.now.state at }
-{
-    is_words(doc, node) && at.offset != 0 && at.offset != doc.length(node)
 }
 
 // Step 2: a text is split at a point.
@@ -104,14 +80,6 @@ fn leave_text(doc: &mut Doc, node: NodeRef, at: Point) -> Result<(), EditFault>
     }
 }
 
-// Whether a node is a text or a comment.
-fn has_chars(doc: &Doc, node: NodeRef) -> bool
-    requires { Holds doc.now node }
-    ensures { result ≡ has_chars_at doc.now.state.trees node.label }
-{
-    matches!(doc.content(node), Content::Words(_) | Content::Remark(_))
-}
-
 // Steps 2 and 3.
 #[tactic(auto, using(edit_model::proofs::Steps::steps, edit_model::proofs::Steps::exits), unfolding(crate::specs::Putting::part_text))]
 fn part_text(doc: &mut Doc, node: NodeRef, at: Point) -> Result<(), EditFault>
@@ -121,7 +89,7 @@ fn part_text(doc: &mut Doc, node: NodeRef, at: Point) -> Result<(), EditFault>
     ensures gives { Gives result doc.old.state doc.new.state (putting.part_text at) }
     ensures keeps { Keeps doc.old doc.new }
 {
-    if is_inner(doc, node, at) {
+    if cuts_text(doc, node, at) {
         split_at(doc, node, at)
     } else if has_chars(doc, node) {
         leave_text(doc, node, at)

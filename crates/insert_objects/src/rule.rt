@@ -7,14 +7,15 @@ ghost use Rattle.edit_doc.specs.Whole.{IsOpen};
 ghost use Rattle.edit_doc.specs.Held.{Holds, Keeps};
 ghost use Rattle.insert_objects.specs.Rule as command;
 
-use crate::putting::{collapse_after, erase, put};
-use delete_core::{after_node, before_node, select, turn_bound};
+use crate::putting::{collapse_after, put};
+use delete_core::{after_node, before_node, select};
 use edit_actions::{ends_of, is_same};
 use edit_doc::{Attributes, Doc, EditFault, NodeRef, Point};
 use inline_value::fix_ancestors;
 use point_order::node_of;
 use std::alloc::Global;
-use text_insertion::start_inside;
+use text_insertion::{erase, start_inside};
+use wrap_split::turn_bound;
 
 // Step 1: from the start of a node to before it.
 #[tactic(auto, unfolding(crate::specs::Rule::out_of_start))]
@@ -122,7 +123,7 @@ pub fn insert_rule(alloc: Global, doc: &mut Doc) -> Result<bool, EditFault>
     ensures keeps { Keeps doc.old doc.new }
 {
     widen_range(doc)?;
-    erase(alloc, doc, false, true)?;
+    erase(alloc, doc, false, true, false)?;
     if start_inside(doc).is_none() {
         return Ok(true);
     }

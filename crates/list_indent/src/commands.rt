@@ -23,8 +23,9 @@ use node_tests::is_visible;
 use std::alloc::Global;
 use wrap_split::split_parent;
 
+/// Normalizes the sublists of each node of a list.
 #[tactic(auto, using(edit_model::proofs::Steps::eachs, edit_model::proofs::Steps::exits))]
-fn normalize_each(alloc: Global, doc: &mut Doc, list: &[NodeRef]) -> Result<(), EditFault>
+pub fn normalize_each(alloc: Global, doc: &mut Doc, list: &[NodeRef]) -> Result<(), EditFault>
     requires open { IsOpen doc.old }
     requires list_held { EachHeld doc.old list.now }
     ensures gives { Gives result doc.old.state doc.new.state (for_each (labels_of list.now) normalize_sublists) }

@@ -5,15 +5,14 @@ ghost use Rattle.std.specs.Prelude.{◌≡◌, ◌≤◌, ◌==◌, ◌||◌, If
 ghost use Rattle.dom_model.specs.Forest.{first_in, is_label};
 ghost use Rattle.edit_model.specs.Gives.{Gives, label_of, labels_of};
 ghost use Rattle.edit_doc.specs.Whole.{IsOpen};
-ghost use Rattle.edit_doc.specs.Held.{Holds, IfHeld, EachHeld, Finds, Keeps};
-ghost use Rattle.wrap_split.specs.Wrap.{break_next};
+ghost use Rattle.edit_doc.specs.Held.{Holds, EachHeld, Finds, Keeps};
 ghost use Rattle.list_indent.specs.Outdenting.{child_on_way, drop_break, indent_before, rest_after, siblings_after, indent_after, part_around, part_level, part_levels};
 
 use crate::indenting::indent_list;
 use edit_actions::{children_before, is_same};
 use edit_doc::{Doc, EditFault, NodeList, NodeRef};
-use node_tests::{is_block, is_break};
 use std::alloc::{AllocError, Global};
+use wrap_split::break_next;
 
 // Whether a child is the node, or the one that may be there.
 fn is_on_way(node: NodeRef, below: Option<NodeRef>, child: NodeRef) -> bool
@@ -41,23 +40,6 @@ fn child_on_way(
         at = doc.next(child);
     }
     None
-}
-
-// The br after an inline node that is no br.
-#[tactic(auto, unfolding(wrap_split::specs::Wrap::break_next))]
-fn break_next(doc: &Doc, node: NodeRef) -> Option<NodeRef>
-    requires { Holds doc.now node }
-    ensures { Finds doc.now result (break_next doc.now.state node.label) }
-{
-    if is_block(doc, node) || is_break(doc, node) {
-        return None;
-    }
-    let next = doc.next(node)?;
-    if is_break(doc, next) {
-        Some(next)
-    } else {
-        None
-    }
 }
 
 #[tactic(auto, using(edit_model::proofs::Steps::steps, edit_model::proofs::Steps::exits), unfolding(crate::specs::Outdenting::drop_break))]

@@ -6,20 +6,11 @@ ghost use Rattle.css_value.specs.StyleText.{is_space};
 ghost use Rattle.dom_model.specs.Forest.{children_of};
 ghost use Rattle.node_styles.specs.Allowed as allowed;
 ghost use Rattle.edit_doc.specs.Held.{Holds};
-ghost use Rattle.wrap_split.specs.Walks.{turn_bound};
 ghost use Rattle.list_indent.specs.Sublists.{is_list, is_item, is_in_list, is_blank};
 
 use dom_model::Content;
 use edit_doc::{Doc, NodeRef};
 use node_tests::has_name;
-
-/// How many turns a loop takes at most that starts now.
-pub fn turn_bound(doc: &Doc) -> u128
-    ensures { result ≡ turn_bound doc.now.state }
-{
-    let counts = doc.counts();
-    2 * counts.nodes as u128 + counts.chars as u128 + 2
-}
 
 /// Whether a node is an ol or ul.
 #[tactic(auto, unfolding(crate::specs::Sublists::is_list))]

@@ -1,26 +1,23 @@
 //! Outdenting a node. The steps are those of docs/ALGORITHMS.md.
 
 ghost use Rattle.std.specs.Prelude.{◌≡◌, ◌++◌, ◌∷◌, [], Some, IfOk};
-ghost use Rattle.dom_model.specs.Contents.{is_element_at};
 ghost use Rattle.html_names.specs.BoxNames.{box_names};
-ghost use Rattle.edit_model.specs.Gives.{Gives, label_of, labels_of};
+ghost use Rattle.edit_model.specs.Gives.{Gives, labels_of};
 ghost use Rattle.edit_model.specs.Run.{for_each};
 ghost use Rattle.edit_doc.specs.Whole.{IsOpen};
-ghost use Rattle.edit_doc.specs.Held.{Holds, IfHeld, EachHeld, Finds, Keeps};
+ghost use Rattle.edit_doc.specs.Held.{Holds, EachHeld, Finds, Keeps};
 ghost use Rattle.inline_value.specs.Ancestors.{fix_ancestors};
 ghost use Rattle.inline_value.specs.Styling.{unset_style};
-ghost use Rattle.wrap_split.specs.Target.{is_without_attributes};
 ghost use Rattle.list_indent.specs.Outdenting.{to_div, unboxed, unindented, indents, is_passed, if_indents, indenter_by, passed_by, unwrapped, released, dissolved, dissolve, outdent_list, outdent_through, outdent_alone, outdent_inner, outdent_own, outdent_node, indenter, passed};
 
 use crate::levels::part_levels;
 use crate::lists::{is_in_list, is_list};
-use dom_model::Content;
 use edit_doc::{Doc, EditFault, Name, NodeRef};
 use html_names::box_names;
-use inline_value::{fix_ancestors, record_values, restore_values, unset_style};
+use inline_value::{fix_ancestors, is_element, record_values, restore_values, unset_style};
 use node_tests::{is_indentation, is_simple_indentation};
 use std::alloc::{AllocError, Global};
-use wrap_split::remove_keeping_children;
+use wrap_split::{is_without_attributes, remove_keeping_children};
 
 // Names an element div.
 #[tactic(auto, using(edit_model::proofs::Steps::steps, edit_model::proofs::Steps::exits), unfolding(crate::specs::Outdenting::to_div))]
@@ -92,13 +89,6 @@ fn indents(doc: &Doc, simple: bool, node: NodeRef) -> bool
     } else {
         is_indentation(doc, node)
     }
-}
-
-fn is_element(doc: &Doc, node: NodeRef) -> bool
-    requires { Holds doc.now node }
-    ensures { result ≡ is_element_at doc.now.state.trees node.label }
-{
-    matches!(doc.content(node), Content::Element { .. })
 }
 
 // Outdent a node, step 4: whether an ancestor is passed on the way up.
@@ -184,17 +174,6 @@ fn unwrap(
     let values = record_values(alloc, doc, children)?;
     remove_keeping_children(alloc, doc, node)?;
     restore_values(alloc, doc, &values)
-}
-
-// Whether a node is an element without attributes.
-fn is_without_attributes(doc: &Doc, node: NodeRef) -> bool
-    requires { Holds doc.now node }
-    ensures { result ≡ is_without_attributes doc.now.state.trees node.label }
-{
-    match doc.content(node) {
-        Content::Element { attributes, .. } => attributes.len() == 0,
-        _ => false,
-    }
 }
 
 #[tactic(auto, using(edit_model::proofs::Steps::steps, edit_model::proofs::Steps::exits), unfolding(crate::specs::Outdenting::released))]

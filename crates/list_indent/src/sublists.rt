@@ -6,10 +6,11 @@ ghost use Rattle.edit_doc.specs.Whole.{IsOpen};
 ghost use Rattle.edit_doc.specs.Held.{Holds, IfHeld, Keeps};
 ghost use Rattle.list_indent.specs.Sublists.{has_sublist, leaves, parted, make_follower, follower_of, handed_on, part_child, part_last, part_sublists, is_normalizable, normalize_sublists};
 
-use crate::lists::{has_list, is_blank, is_item, is_list, turn_bound};
+use crate::lists::{has_list, is_blank, is_item, is_list};
 use edit_actions::{insert_after, move_after, move_first};
 use edit_doc::{Attributes, Doc, EditFault, Name, NodeRef};
 use std::alloc::Global;
+use wrap_split::turn_bound;
 
 // Normalize sublists, step 2: whether the item has a list among its children.
 #[tactic(auto, unfolding(crate::specs::Sublists::has_sublist))]

@@ -11,7 +11,7 @@ use Rattle.wrap_split.specs.declared.rule.Criterion.TheVariants.{Never}
 use Rattle.wrap_split.specs.declared.rule.Recipe.TheVariants.{Make}
 use Rattle.wrap_split.specs.Walks.{turn_bound}
 use Rattle.wrap_split.specs.Wrap.{wrap, one_of}
-use Rattle.list_indent.specs.Indenting.{bare}
+use Rattle.inline_value.specs.Wrappers.{bare}
 use Rattle.list_indent.specs.Sublists.{is_list, is_item}
 
 -- what a turn has made: an item, unless nothing was made, and how many members it took

@@ -4,6 +4,7 @@ use Rattle.std.specs.Prelude.{ℕ, Bool, true, false, not, ◌&&◌, ◌||◌, L
 use Rattle.std.specs.List.{list_all}
 use Rattle.dom_model.specs.Forest.{first_in}
 use Rattle.block_extend.specs.Series.{is_next}
+use Rattle.inline_value.specs.Wrappers.{bare}
 use Rattle.block_commands.specs.Series.{has_members}
 use Rattle.edit_model.specs.State.{State}
 use Rattle.edit_model.specs.Run.{Run, ◌>>=◌, ◌>>◌, answer, done, look, given, while_at_most}
@@ -15,7 +16,7 @@ use Rattle.wrap_split.specs.Wrap.{wrap}
 use Rattle.inline_value.specs.Recording.{record_values, restore_values}
 use Rattle.edit_query.specs.ListStates.{list_name, is_list_of, is_child_of, is_list_state, list_state}
 use Rattle.list_indent.specs.Commands.{normalize_range, split_items}
-use Rattle.list_indent.specs.Indenting.{bare, fixed}
+use Rattle.list_indent.specs.Indenting.{fixed}
 use Rattle.list_indent.specs.Outdenting.{outdent_node}
 use Rattle.list_indent.specs.Series.{for_series}
 use Rattle.list_indent.specs.Sublists.{is_list}

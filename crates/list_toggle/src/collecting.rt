@@ -5,25 +5,16 @@ ghost use Rattle.dom_model.specs.Contents.{is_element_at};
 ghost use Rattle.edit_model.specs.Gives.{GivesAs, GivesMaybe, label_of, labels_of};
 ghost use Rattle.edit_doc.specs.Held.{Holds, IfHeld, EachHeld, Keeps};
 ghost use Rattle.edit_doc.specs.Whole.{IsOpen};
-ghost use Rattle.list_indent.specs.Indenting.{bare};
 ghost use Rattle.wrap_split.specs.Wrap.{one_of};
 ghost use Rattle.list_toggle.specs.Collecting as collect;
 
 use block_extend::{Link, count_series, is_next};
-use edit_doc::{Attributes, Doc, EditFault, Name, NodeList, NodeRef};
-use list_indent::{is_item, is_list, turn_bound};
+use edit_doc::{Doc, EditFault, Name, NodeList, NodeRef};
+use inline_value::bare;
+use list_indent::{is_item, is_list};
 use node_tests::{has_name, is_block, is_break};
 use std::alloc::{AllocError, Global};
-use wrap_split::{Blank, CopyMade, NoSibling, WrapRule, wrap};
-
-/// An element of a name without attributes.
-pub(crate) fn bare(alloc: Global, name: &[u8]) -> Result<Blank, AllocError>
-    ensures { IfOk result (λ blank. blank ≡ bare name.now) }
-{
-    let name = Name::from_slice(alloc, name)?;
-    let attributes = Attributes::new(alloc);
-    Ok(Blank { name, attributes })
-}
+use wrap_split::{CopyMade, NoSibling, WrapRule, turn_bound, wrap};
 
 // Whether a node is a p or div.
 #[tactic(auto, unfolding(crate::specs::Collecting::is_container))]

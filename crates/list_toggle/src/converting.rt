@@ -1,7 +1,6 @@
 //! Toggle lists, step 3: the lists of the other kind become lists of the kind, or go into one beside them.
 
 ghost use Rattle.std.specs.Prelude.{◌≡◌};
-ghost use Rattle.dom_model.specs.Contents.{is_element_at};
 ghost use Rattle.edit_model.specs.Gives.{Gives, label_of, labels_of};
 ghost use Rattle.edit_model.specs.Run.{for_each};
 ghost use Rattle.edit_doc.specs.Held.{Holds, IfHeld, EachHeld, Keeps};
@@ -9,10 +8,9 @@ ghost use Rattle.edit_doc.specs.Whole.{IsOpen};
 ghost use Rattle.list_toggle.specs.Converting as convert;
 
 use crate::ranges::other_lists;
-use dom_model::Content;
 use edit_doc::{Doc, EditFault, Name, NodeList, NodeRef};
 use edit_query::{is_list_of, list_name};
-use inline_value::{record_values, restore_values};
+use inline_value::{is_element, record_values, restore_values};
 use std::alloc::Global;
 use wrap_split::{NamedSibling, NothingMade, WrapRule, split_parent, wrap};
 
@@ -61,16 +59,6 @@ fn join_list(alloc: Global, doc: &mut Doc, ordered: bool, node: NodeRef) -> Resu
 {
     let children = NodeList::from_slice(alloc, &doc.children_of(node)?)?;
     join(alloc, doc, ordered, children)
-}
-
-fn is_element(doc: &Doc, node: NodeRef) -> bool
-    requires { Holds doc.now node }
-    ensures { result ≡ is_element_at doc.now.state.trees node.label }
-{
-    match doc.content(node) {
-        Content::Element { .. } => true,
-        _ => false,
-    }
 }
 
 // A list without such a neighbour takes the name of the kind.

@@ -8,16 +8,16 @@ ghost use Rattle.edit_doc.specs.Whole.{IsOpen};
 ghost use Rattle.list_indent.specs.Sublists as sublists;
 ghost use Rattle.list_toggle.specs.Toggle as toggle;
 
-use crate::collecting::{bare, collect_items};
+use crate::collecting::collect_items;
 use crate::converting::convert_lists;
 use crate::ranges::{free_range, keep_range, range_lines, range_members};
 use block_extend::{Link, count_series, is_next};
 use edit_doc::{Doc, EditFault, Name, NodeList, NodeRef};
 use edit_query::{is_child_of, is_list_of, list_name, list_state};
-use inline_value::{record_values, restore_values};
-use list_indent::{fix, is_list, normalize_range, outdent_node, split_items, turn_bound};
+use inline_value::{bare, record_values, restore_values};
+use list_indent::{fix, is_list, normalize_range, outdent_node, split_items};
 use std::alloc::Global;
-use wrap_split::{CopyMade, NamedSibling, WrapRule, split_parent, wrap};
+use wrap_split::{CopyMade, NamedSibling, WrapRule, split_parent, turn_bound, wrap};
 
 // ---- step 5: off
 

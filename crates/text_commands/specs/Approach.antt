@@ -12,7 +12,8 @@ use Rattle.edit_model.specs.State.{State}
 use Rattle.edit_model.specs.Confined.{is_editable_for}
 use Rattle.edit_model.specs.Run.{Run, ◌>>◌, answer, look, given, while_at_most, remove}
 use Rattle.wrap_split.specs.Split.{remove_keeping_children}
-use Rattle.delete_core.specs.Places.{at, end_in, before_node, turn_bound}
+use Rattle.wrap_split.specs.Walks.{turn_bound}
+use Rattle.delete_core.specs.Places.{at, end_in, before_node}
 use Rattle.text_commands.specs.declared.approach.Approach.{Approach}
 
 abbrev pub moved_to : Approach → Point → Approach

@@ -13,8 +13,9 @@ use Rattle.node_tests.specs.CollapsedWhitespace.{is_words}
 use Rattle.edit_model.specs.State.{State}
 use Rattle.edit_model.specs.Run.{Run, ◌>>=◌, ◌>>◌, answer, done, look, given, select, collapse, extend, set_scratch}
 use Rattle.edit_actions.specs.ActiveRange.{start_of}
+use Rattle.wrap_split.specs.Walks.{turn_bound}
 use Rattle.delete_core.specs.Ends.{canonicalize_start}
-use Rattle.delete_core.specs.Places.{at, start_in, end_in, walk_points, turn_bound}
+use Rattle.delete_core.specs.Places.{at, start_in, end_in, walk_points}
 use Rattle.text_commands.specs.declared.approach.Approach.{Approach}
 use Rattle.text_commands.specs.Approach.{is_affected_host, go_back, climb}
 use Rattle.text_insertion.specs.Entries.{is_entry}
@@ -24,7 +25,7 @@ use Rattle.text_commands.specs.Entries.{starts_entry, lift_entry, starts_indente
 -- ---- deleting what is selected, with the states and values of it restored
 
 unfoldable pub erased : Bool → Run Bool
-erased backward = erase true backward >> answer true
+erased backward = erase true true backward >> answer true
 
 -- just before what stands before a point
 abbrev pub one_before : Point → Point
@@ -86,7 +87,7 @@ unfoldable pub erase_line : Point → Point → Run Bool
 erase_line p q = do
   set_scratch (record { anchor = p; focus = p })
   select (one_before q) q
-  erase true false
+  erase true true false
   collapse_kept
   answer true
 

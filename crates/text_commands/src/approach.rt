@@ -8,12 +8,12 @@ ghost use Rattle.edit_doc.specs.Held.{Holds, IfHeld, Finds, Keeps};
 ghost use Rattle.text_commands.specs.Approach as back;
 
 use crate::places::{is_affected_host, one_before};
-use delete_core::{before_node, child_before, end_in, turn_bound};
+use delete_core::{before_node, child_before, end_in};
 use edit_doc::{Doc, EditFault, NodeRef, Point};
 use node_tests::{has_name, is_block, is_break, is_image, is_visible};
 use point_order::node_of;
 use std::alloc::Global;
-use wrap_split::remove_keeping_children;
+use wrap_split::{remove_keeping_children, turn_bound};
 
 /// How far a way back from a caret has come.
 #[derive(Clone, Copy)]

@@ -2,20 +2,18 @@
 
 ghost use Rattle.std.specs.Prelude.{◌≡◌, IfOk};
 ghost use Rattle.edit_model.specs.Gives.{Gives, label_of, labels_of};
-ghost use Rattle.edit_model.specs.Run.{for_each};
 ghost use Rattle.edit_doc.specs.Whole.{IsOpen};
 ghost use Rattle.edit_doc.specs.Held.{Holds, IfHeld, EachHeld, Keeps};
-ghost use Rattle.list_indent.specs.Sublists.{normalize_sublists};
 ghost use Rattle.text_commands.specs.Entries as entries;
 
-use delete_core::{append_break, child_at, child_before};
+use delete_core::{child_at, child_before};
 use edit_doc::{Doc, EditFault, NodeRef, Point};
 use inline_value::{fix_ancestors, split_out};
-use list_indent::{normalize_sublists, push_items};
+use list_indent::{normalize_each, push_items};
 use node_tests::{is_block, is_break};
 use std::alloc::{AllocError, Global};
 use text_insertion::{is_entry, rename_stray};
-use wrap_split::is_inline;
+use wrap_split::{append_break, is_inline};
 
 #[tactic(auto, unfolding(crate::specs::Entries::is_first_child))]
 fn is_first_child(doc: &Doc, node: NodeRef) -> bool
@@ -46,19 +44,6 @@ fn items_from(alloc: Global, doc: &Doc, node: Option<NodeRef>) -> Result<Vec<Nod
         push_items(&mut list, doc, node)?;
     }
     Ok(list)
-}
-
-#[tactic(auto, using(edit_model::proofs::Steps::eachs, edit_model::proofs::Steps::exits))]
-fn normalize_each(alloc: Global, doc: &mut Doc, list: &[NodeRef]) -> Result<(), EditFault>
-    requires open { IsOpen doc.old }
-    requires list_held { EachHeld doc.old list.now }
-    ensures gives { Gives result doc.old.state doc.new.state (for_each (labels_of list.now) normalize_sublists) }
-    ensures keeps { Keeps doc.old doc.new }
-{
-    for node in list {
-        normalize_sublists(alloc, doc, *node)?;
-    }
-    Ok(())
 }
 
 // Step 6: the sublists of the items around an entry are taken out of these.

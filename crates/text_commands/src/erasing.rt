@@ -41,7 +41,7 @@ pub(crate) fn erased(alloc: Global, doc: &mut Doc, backward: bool) -> Result<boo
     ensures gives { Gives result doc.old.state doc.new.state (command.erased backward) }
     ensures keeps { Keeps doc.old doc.new }
 {
-    erase(alloc, doc, true, backward)?;
+    erase(alloc, doc, true, true, backward)?;
     Ok(true)
 }
 
@@ -117,7 +117,7 @@ pub(crate) fn erase_line(
 {
     keep(doc, caret);
     select(doc, one_before(at), at);
-    erase(alloc, doc, true, false)?;
+    erase(alloc, doc, true, true, false)?;
     collapse_kept(doc)?;
     Ok(true)
 }

@@ -10,11 +10,12 @@ ghost use Rattle.text_commands.specs.Delete as command;
 use crate::entries::part_entries;
 use crate::erasing::{erase_line, erased, select_before};
 use crate::places::is_affected_host;
-use delete_core::{child_at, child_before, end_in, select, start_in, turn_bound};
+use delete_core::{child_at, child_before, end_in, select, start_in};
 use edit_doc::{Doc, EditFault, NodeRef, Point};
 use node_tests::{has_name, is_block, is_break};
 use std::alloc::Global;
 use text_insertion::is_entry;
+use wrap_split::turn_bound;
 
 // Step 9: a node that is a table.
 fn is_table(doc: &Doc, node: Option<NodeRef>) -> bool

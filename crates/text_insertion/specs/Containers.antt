@@ -18,10 +18,10 @@ use Rattle.edit_query.specs.Rows.{container_name}
 use Rattle.wrap_split.specs.declared.rule.Blank.{Blank}
 use Rattle.wrap_split.specs.declared.rule.Criterion.TheVariants.{Never}
 use Rattle.wrap_split.specs.declared.rule.Recipe.TheVariants.{Make}
-use Rattle.wrap_split.specs.Walks.{walk}
+use Rattle.wrap_split.specs.Walks.{walk, turn_bound}
 use Rattle.wrap_split.specs.Wrap.{wrap, append_break, list_on}
 use Rattle.block_extend.specs.BlockExtend.{block_extend}
-use Rattle.delete_core.specs.Places.{start_in, turn_bound}
+use Rattle.delete_core.specs.Places.{start_in}
 use Rattle.text_insertion.specs.Entries.{is_entry}
 use Rattle.text_insertion.specs.Start.{active_start, insert_at_start}
 

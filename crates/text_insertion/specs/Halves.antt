@@ -15,10 +15,10 @@ use Rattle.edit_model.specs.Run.{Run, ◌>>=◌, ◌>>◌, answer, done, look, g
 use Rattle.edit_query.specs.Leaves.{nodes_in}
 use Rattle.edit_query.specs.Rows.{container_name}
 use Rattle.inline_value.specs.Ancestors.{is_prohibited}
-use Rattle.wrap_split.specs.Walks.{walk}
+use Rattle.wrap_split.specs.Walks.{walk, turn_bound}
 use Rattle.wrap_split.specs.Wrap.{append_break}
 use Rattle.delete_core.specs.Erasing.{shows_child}
-use Rattle.delete_core.specs.Places.{start_in, end_in, before_node, after_node, walk_points, turn_bound}
+use Rattle.delete_core.specs.Places.{start_in, end_in, before_node, after_node, walk_points}
 use Rattle.text_insertion.specs.Start.{active_start}
 
 -- ---- insert a paragraph, step 7: out of the nodes that the point starts, and then of those that it ends, up to a prohibited

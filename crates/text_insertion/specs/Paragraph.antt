@@ -15,12 +15,9 @@ use Rattle.delete_core.specs.Places.{at, before_node, after_node}
 use Rattle.text_insertion.specs.Containers.{container_of, own_container}
 use Rattle.text_insertion.specs.Entries.{is_empty_entry, leave_list}
 use Rattle.text_insertion.specs.Halves.{part_container}
-use Rattle.text_insertion.specs.Start.{start_inside, insert_at_start, erase}
+use Rattle.text_insertion.specs.Start.{start_inside, insert_at_start, erase, cuts_text}
 
 -- ---- insert a paragraph, step 2: a text is split, and the point leaves a text or a comment
-
-unfoldable pub cuts_text : Forest Content → Point → Bool
-cuts_text f p = is_words f p.label && (not (p.offset == 0) && not (p.offset == length_of f p.label))
 
 unfoldable pub cut_text : Point → Run (Unit {0})
 cut_text p = look λ s. if cuts_text s.trees p then split_words p.label p.offset >> done else done
@@ -90,6 +87,6 @@ insert_paragraph_inside = look λ s. given (start_inside s) done insert_paragrap
 -- step 1, and then from 2 on
 unfoldable pub insert_paragraph : Run Bool
 insert_paragraph = do
-  erase true false
+  erase true true false
   insert_paragraph_inside
   answer true

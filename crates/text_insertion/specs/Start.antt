@@ -1,8 +1,12 @@
 -- The start of the active range: what is erased before something is inserted there, and nodes that are put there.
-use Rattle.std.specs.Prelude.{ℕ, Bool, true, Option, Some, None, if◌then◌else◌}
+use Rattle.std.specs.Prelude.{ℕ, ◌==◌, Bool, ◌&&◌, not, Option, Some, None, if◌then◌else◌}
 use Rattle.std.specs.Option.{option_map}
+use Rattle.dom_model.specs.declared.Content.{Content}
+use Rattle.dom_model.specs.Contents.{length_of}
+use Rattle.dom_model.specs.Forest.{Forest}
 use Rattle.live_range.specs.declared.places.Point.{Point}
 use Rattle.node_tests.specs.BlockPoints.{child_at}
+use Rattle.node_tests.specs.CollapsedWhitespace.{is_words}
 use Rattle.edit_model.specs.State.{State}
 use Rattle.edit_model.specs.Confined.{is_inside}
 use Rattle.edit_model.specs.Run.{Run, ◌>>=◌, ◌>>◌, done, look, given, insert}
@@ -28,6 +32,10 @@ insert_at x p = look λ s. insert p.label (child_at s.trees p.label p.offset) x 
 unfoldable pub insert_at_start : ℕ → Run (Unit {0})
 insert_at_start x = look λ s. given (active_start s) done (insert_at x)
 
+-- a point within a text, at neither end of it
+unfoldable pub cuts_text : Forest Content → Point → Bool
+cuts_text f p = is_words f p.label && (not (p.offset == 0) && not (p.offset == length_of f p.label))
+
 -- what is selected goes, and the states and values of it are restored
-unfoldable pub erase : Bool → Bool → Run (Unit {0})
-erase strip backward = delete_selection true strip backward >>= restore_states
+unfoldable pub erase : Bool → Bool → Bool → Run (Unit {0})
+erase merge strip backward = delete_selection merge strip backward >>= restore_states

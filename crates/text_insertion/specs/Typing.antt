@@ -92,7 +92,7 @@ insert_char_inside c = look λ s. given (start_inside s) done (insert_char_at c)
 
 -- insert text, of one character
 unfoldable pub insert_char : ℕ → Run (Unit {0})
-insert_char c = erase false false >> insert_char_inside c
+insert_char c = erase true false false >> insert_char_inside c
 
 -- step 2: each of several characters in order
 unfoldable pub insert_several : List ℕ → Run (Unit {0})
@@ -107,6 +107,6 @@ insert_chars (c ∷ d ∷ rest) = insert_several (c ∷ d ∷ rest)
 -- insert text, step 1, and then from 2 on
 unfoldable pub insert_text : List ℕ → Run Bool
 insert_text value = do
-  erase false false
+  erase true false false
   insert_chars value
   answer true

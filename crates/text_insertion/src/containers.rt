@@ -6,9 +6,9 @@ ghost use Rattle.edit_doc.specs.Held.{Holds, IfHeld, Finds};
 ghost use Rattle.text_insertion.specs.Containers as containers;
 
 use crate::entries::is_entry;
-use delete_core::turn_bound;
 use edit_doc::{Doc, NodeRef};
 use node_tests::{has_name, is_single_line};
+use wrap_split::turn_bound;
 
 // A node, if there is one, that is editable.
 fn if_editable(doc: &Doc, node: Option<NodeRef>) -> Option<NodeRef>

@@ -10,9 +10,7 @@ ghost use Rattle.edit_doc.specs.Held.{Holds, IfHeld, EachHeld, Finds, Keeps};
 ghost use Rattle.text_insertion.specs.Halves as halves;
 
 use crate::start::active_start;
-use delete_core::{
-    after_node, append_break, before_node, end_in, select, shows_child, start_in, turn_bound,
-};
+use delete_core::{after_node, before_node, end_in, select, shows_child, start_in};
 use dom_model::{Attributes, Content};
 use edit_actions::{attributes_of, insert_after, tag_of};
 use edit_doc::{Doc, EditFault, Name, NodeRef, Point};
@@ -22,6 +20,7 @@ use inline_value::{container_name, is_prohibited};
 use node_tests::{has_name, is_break};
 use point_order::node_of;
 use std::alloc::{AllocError, Global};
+use wrap_split::{append_break, turn_bound};
 
 // Step 7: out of a node at its start.
 #[tactic(auto, unfolding(crate::specs::Halves::leave_start))]

@@ -15,5 +15,5 @@ mod typing;
 pub use edit_doc::{Doc, EditFault, NodeRef};
 pub use entries::{is_entry, rename_stray};
 pub use paragraph::insert_paragraph;
-pub use start::{erase, insert_at_start, start_inside};
+pub use start::{cuts_text, erase, has_chars, insert_at_start, start_inside};
 pub use typing::insert_text;

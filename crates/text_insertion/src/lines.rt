@@ -6,12 +6,12 @@ ghost use Rattle.dom_model.specs.Forest.{count_of};
 ghost use Rattle.edit_model.specs.Gives.{Gives, GivesNode, GivesMaybe, label_of, labels_of};
 ghost use Rattle.edit_doc.specs.Whole.{IsOpen};
 ghost use Rattle.edit_doc.specs.Held.{Holds, IfHeld, EachHeld, Finds, Keeps};
-ghost use Rattle.delete_core.specs.Places.{turn_bound};
+ghost use Rattle.wrap_split.specs.Walks.{turn_bound};
 ghost use Rattle.text_insertion.specs.Containers as containers;
 
 use crate::start::{active_start, insert_at_start};
 use block_extend::block_extend;
-use delete_core::{append_break, select, start_in, turn_bound};
+use delete_core::{select, start_in};
 use dom_model::Attributes;
 use edit_actions::ends_of;
 use edit_doc::{Doc, EditFault, NodeList, NodeRef, Point};
@@ -20,7 +20,7 @@ use inline_value::container_name;
 use node_tests::{allowed_in_name, is_single_line, name_allowed_in};
 use point_order::node_of;
 use std::alloc::{AllocError, Global};
-use wrap_split::{Blank, CopyMade, NoSibling, WrapRule, wrap};
+use wrap_split::{Blank, CopyMade, NoSibling, WrapRule, append_break, turn_bound, wrap};
 
 #[tactic(auto, unfolding(crate::specs::Containers::is_own_container))]
 fn is_own_container(doc: &Doc, node: NodeRef) -> bool

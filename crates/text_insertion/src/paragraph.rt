@@ -1,7 +1,6 @@
 //! The command insertParagraph. The steps are those of docs/ALGORITHMS.md.
 
 ghost use Rattle.std.specs.Prelude.{◌≡◌, ◌<◌, IfOk, IfSome, true};
-ghost use Rattle.dom_model.specs.Contents.{has_chars_at};
 ghost use Rattle.dom_model.specs.Forest.{count_of};
 ghost use Rattle.edit_model.specs.Gives.{Gives};
 ghost use Rattle.edit_doc.specs.Whole.{IsOpen};
@@ -12,25 +11,14 @@ use crate::containers::container_of;
 use crate::entries::{is_empty_entry, leave_list};
 use crate::halves::part_container;
 use crate::lines::own_container;
-use crate::start::{erase, insert_at_start, start_inside};
+use crate::start::{cuts_text, erase, has_chars, insert_at_start, start_inside};
 use delete_core::{after_node, before_node, is_words, select};
-use dom_model::Content;
 use edit_actions::make_break;
 use edit_doc::{Doc, EditFault, NodeRef, Point};
 use node_tests::has_name;
 use point_order::node_of;
 use std::alloc::{AllocError, Global};
 use wrap_split::last_below;
-
-// Step 2: whether a point stands within a text.
-#[tactic(auto, unfolding(crate::specs::Paragraph::cuts_text))]
-fn cuts_text(doc: &Doc, node: NodeRef, at: Point) -> bool
-    requires held { Holds doc.now node }
-    requires label { at.label ≡ node.label }
-    ensures { result ≡ command.cuts_text doc.now.state.trees at }
-{
-    is_words(doc, node) && at.offset != 0 && at.offset != doc.length(node)
-}
 
 // Step 2: a text is split there.
 #[tactic(auto, using(edit_model::proofs::Steps::steps, edit_model::proofs::Steps::exits), unfolding(crate::specs::Paragraph::cut_text))]
@@ -45,14 +33,6 @@ fn cut_text(doc: &mut Doc, node: NodeRef, at: Point) -> Result<(), EditFault>
         doc.split_words(node, at.offset)?;
     }
     Ok(())
-}
-
-// Whether a node is a text or a comment.
-fn has_chars(doc: &Doc, node: NodeRef) -> bool
-    requires { Holds doc.now node }
-    ensures { result ≡ has_chars_at doc.now.state.trees node.label }
-{
-    matches!(doc.content(node), Content::Words(_) | Content::Remark(_))
 }
 
 // Step 2: from the end of a text to after it, and else to before the text or comment.
@@ -248,7 +228,7 @@ pub fn insert_paragraph(alloc: Global, doc: &mut Doc) -> Result<bool, EditFault>
     ensures taken { IfOk result (λ answer. answer ≡ true) }
     ensures keeps { Keeps doc.old doc.new }
 {
-    erase(alloc, doc, true, false)?;
+    erase(alloc, doc, true, true, false)?;
     insert_paragraph_inside(alloc, doc)?;
     Ok(true)
 }

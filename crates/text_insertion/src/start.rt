@@ -1,16 +1,19 @@
 //! The start of the active range: what is erased before something is inserted there, and nodes that are put there.
 
 ghost use Rattle.std.specs.Prelude.{◌≡◌, ◌<◌, IfSome};
+ghost use Rattle.dom_model.specs.Contents.{has_chars_at};
 ghost use Rattle.dom_model.specs.Forest.{count_of};
 ghost use Rattle.edit_model.specs.Gives.{Gives};
 ghost use Rattle.edit_doc.specs.Whole.{IsOpen};
 ghost use Rattle.edit_doc.specs.Held.{Holds, Keeps};
 ghost use Rattle.text_insertion.specs.Start as start;
 
-use delete_core::{child_at, delete_selection, is_inside};
+use delete_core::{child_at, delete_selection, is_words};
+use dom_model::Content;
 use edit_actions::ends_of;
 use edit_doc::{Doc, EditFault, NodeRef, Point};
 use inline_commands::restore_states;
+use inline_value::is_inside;
 use point_order::node_of;
 use std::alloc::Global;
 
@@ -69,13 +72,37 @@ pub fn insert_at_start(doc: &mut Doc, node: NodeRef) -> Result<(), EditFault>
     }
 }
 
+/// Whether a point of a node stands within a text, at neither end of it.
+#[tactic(auto, unfolding(crate::specs::Start::cuts_text))]
+pub fn cuts_text(doc: &Doc, node: NodeRef, at: Point) -> bool
+    requires held { Holds doc.now node }
+    requires label { at.label ≡ node.label }
+    ensures { result ≡ start.cuts_text doc.now.state.trees at }
+{
+    is_words(doc, node) && at.offset != 0 && at.offset != doc.length(node)
+}
+
+/// Whether a node is a text or a comment.
+pub fn has_chars(doc: &Doc, node: NodeRef) -> bool
+    requires { Holds doc.now node }
+    ensures { result ≡ has_chars_at doc.now.state.trees node.label }
+{
+    matches!(doc.content(node), Content::Words(_) | Content::Remark(_))
+}
+
 /// Deletes what is selected, and restores its states and values.
 #[tactic(auto, using(edit_model::proofs::Steps::steps, edit_model::proofs::Steps::exits), unfolding(crate::specs::Start::erase))]
-pub fn erase(alloc: Global, doc: &mut Doc, strip: bool, backward: bool) -> Result<(), EditFault>
+pub fn erase(
+    alloc: Global,
+    doc: &mut Doc,
+    merge: bool,
+    strip: bool,
+    backward: bool,
+) -> Result<(), EditFault>
     requires open { IsOpen doc.old }
-    ensures gives { Gives result doc.old.state doc.new.state (start.erase strip backward) }
+    ensures gives { Gives result doc.old.state doc.new.state (start.erase merge strip backward) }
     ensures keeps { Keeps doc.old doc.new }
 {
-    let states = delete_selection(alloc, doc, true, strip, backward)?;
+    let states = delete_selection(alloc, doc, merge, strip, backward)?;
     restore_states(alloc, doc, &states)
 }

@@ -238,7 +238,7 @@ fn insert_char(alloc: Global, doc: &mut Doc, put: char) -> Result<(), EditFault>
     ensures gives { Gives result doc.old.state doc.new.state (typing.insert_char put) }
     ensures keeps { Keeps doc.old doc.new }
 {
-    erase(alloc, doc, false, false)?;
+    erase(alloc, doc, true, false, false)?;
     insert_char_inside(alloc, doc, put)
 }
 
@@ -292,7 +292,7 @@ pub fn insert_text(alloc: Global, doc: &mut Doc, value: &[char]) -> Result<bool,
     ensures taken { IfOk result (λ answer. answer ≡ true) }
     ensures keeps { Keeps doc.old doc.new }
 {
-    erase(alloc, doc, false, false)?;
+    erase(alloc, doc, true, false, false)?;
     insert_chars(alloc, doc, value)?;
     Ok(true)
 }

@@ -27,8 +27,8 @@ impl Meets for NoSibling {
     }
 }
 
-// Whether a node is an element without attributes.
-fn is_bare(doc: &Doc, node: NodeRef) -> bool
+/// Whether a node is an element without attributes.
+pub fn is_without_attributes(doc: &Doc, node: NodeRef) -> bool
     requires { Holds doc.now node }
     ensures { result ≡ is_without_attributes doc.now.state.trees node.label }
 {
@@ -53,7 +53,8 @@ impl Meets for NamedSibling {
 
     #[tactic(auto, unfolding(crate::specs::Target::meets))]
     fn meets(&self, doc: &Doc, node: NodeRef) -> bool {
-        has_name(doc, node, self.name.as_slice()) && (!self.bare || is_bare(doc, node))
+        has_name(doc, node, self.name.as_slice())
+            && (!self.bare || is_without_attributes(doc, node))
     }
 }
 

@@ -37,8 +37,9 @@ fn is_other(doc: &Doc, node: Option<NodeRef>) -> bool
     }
 }
 
+/// Puts a new br at the end of a node.
 #[tactic(auto, using(edit_model::proofs::Steps::steps, edit_model::proofs::Steps::exits), unfolding(crate::specs::Wrap::append_break))]
-fn append_break(alloc: Global, doc: &mut Doc, node: NodeRef) -> Result<(), EditFault>
+pub fn append_break(alloc: Global, doc: &mut Doc, node: NodeRef) -> Result<(), EditFault>
     requires open { IsOpen doc.old }
     requires node_held { Holds doc.old node }
     ensures gives { Gives result doc.old.state doc.new.state (append_break node.label) }

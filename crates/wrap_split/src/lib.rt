@@ -18,10 +18,13 @@ mod wrapping;
 
 pub use answers::{
     CopyMade, IndentationSibling, NamedSibling, NoSibling, NothingMade, SameValueSibling,
+    is_without_attributes,
 };
 pub use breaks::{breaks_at_end, breaks_before, breaks_from, last_below};
 pub use edit_doc::{Doc, EditFault, NodeList, NodeRef};
-pub use filling::is_inline;
+pub use filling::{append_break, is_inline};
+pub use listing::break_next;
 pub use rule::{Blank, Criterion, Makes, Meets, Recipe, WrapRule};
-pub use split::{remove_keeping_children, split_parent};
+pub use split::{is_void_thing, remove_keeping_children, split_parent};
+pub use walks::turn_bound;
 pub use wrapping::wrap;

@@ -52,9 +52,9 @@ pub(crate) fn last_visible(doc: &Doc, list: &[NodeRef]) -> Option<NodeRef>
     found
 }
 
-// Wrap, step 3: the br after an inline node that is no br.
+/// The br after an inline node that is no br.
 #[tactic(auto, unfolding(crate::specs::Wrap::break_next))]
-fn break_next(doc: &Doc, node: NodeRef) -> Option<NodeRef>
+pub fn break_next(doc: &Doc, node: NodeRef) -> Option<NodeRef>
     requires { Holds doc.now node }
     ensures { Finds doc.now result (break_next doc.now.state node.label) }
 {

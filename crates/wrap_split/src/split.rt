@@ -234,8 +234,8 @@ fn split_marked(
     split_rest(alloc, doc, node, list, (first, last), (before, after))
 }
 
-// An image or a rule.
-fn is_void_thing(doc: &Doc, node: NodeRef) -> bool
+/// Whether a node is an image or a rule.
+pub fn is_void_thing(doc: &Doc, node: NodeRef) -> bool
     requires { Holds doc.now node }
     ensures { result ≡ is_void_thing doc.now.state node.label }
 {

@@ -6,8 +6,8 @@ ghost use Rattle.wrap_split.specs.Walks.{turn_bound, last_within, preceding};
 
 use edit_doc::{Doc, NodeRef};
 
-// How many turns a loop takes at most that starts now.
-pub(crate) fn turn_bound(doc: &Doc) -> u128
+/// How many turns a loop takes at most that starts now.
+pub fn turn_bound(doc: &Doc) -> u128
     ensures { result ≡ turn_bound doc.now.state }
 {
     let counts = doc.counts();

@@ -1,4 +1,4 @@
-use Rattle.delete_core.proofs.Selecting.{keeps_selected}
+use Rattle.inline_value.proofs.Selecting.{keeps_selected}
 use Rattle.delete_core.proofs.ends.select.Goals as goal
 
 pub returns-clause-keeps : goal.returns-clause-keeps

@@ -1,8 +1,7 @@
 use Rattle.std.proofs.Common.{◌≡◌}
 use Rattle.edit_doc.specs.Held.{Holds}
-use Rattle.wrap_split.specs.Walks.{walk}
+use Rattle.wrap_split.specs.Walks.{walk, turn_bound}
 use Rattle.delete_core.specs.Ends.{up_inline}
-use Rattle.delete_core.specs.Places.{turn_bound}
 use Rattle.delete_core.proofs.ends.top_inline.Given as goal
 
 -- the rest of the walk ends where the whole ends

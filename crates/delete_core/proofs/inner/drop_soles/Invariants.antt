@@ -2,8 +2,8 @@ use Rattle.std.proofs.Common.{◌≡◌, Some}
 use Rattle.edit_model.specs.Gives.{label_of, labels_of}
 use Rattle.edit_model.specs.Run.{final, value, while_at_most}
 use Rattle.edit_doc.specs.Held.{Holds, IfHeld, Keeps}
+use Rattle.wrap_split.specs.Walks.{turn_bound}
 use Rattle.delete_core.specs.Merging.{is_sole, drop_sole}
-use Rattle.delete_core.specs.Places.{turn_bound}
 use Rattle.delete_core.proofs.inner.drop_soles.Given as goal
 
 -- what is left to do ends where the whole ends

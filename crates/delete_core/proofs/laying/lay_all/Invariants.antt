@@ -1,8 +1,8 @@
 use Rattle.std.proofs.Common.{◌≡◌}
 use Rattle.edit_model.specs.Run.{final, value, while_at_most}
 use Rattle.edit_doc.specs.Held.{Keeps}
+use Rattle.wrap_split.specs.Walks.{turn_bound}
 use Rattle.delete_core.specs.Whitespace.{lays, lay_turn}
-use Rattle.delete_core.specs.Places.{turn_bound}
 use Rattle.delete_core.proofs.laying.lay_all.Given as goal
 
 -- what is left to do ends where the whole ends

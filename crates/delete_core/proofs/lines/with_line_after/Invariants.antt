@@ -1,8 +1,8 @@
 use Rattle.std.proofs.Common.{◌≡◌, ◌++◌}
 use Rattle.edit_model.specs.Gives.{labels_of}
 use Rattle.edit_doc.specs.Held.{Holds, EachHeld}
+use Rattle.wrap_split.specs.Walks.{turn_bound}
 use Rattle.delete_core.specs.Merging.{line_after}
-use Rattle.delete_core.specs.Places.{turn_bound}
 use Rattle.delete_core.proofs.lines.with_line_after.Given as goal
 
 -- the rest gives what the whole gives

@@ -1,4 +1,4 @@
-use Rattle.list_toggle.proofs.Kept.{keeps_scratched}
+use Rattle.inline_value.proofs.Selecting.{keeps_scratched}
 use Rattle.list_toggle.proofs.ranges.keep.Goals as goal
 
 pub returns-clause-keeps : goal.returns-clause-keeps

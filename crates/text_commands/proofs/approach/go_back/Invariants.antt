@@ -2,7 +2,7 @@ use Rattle.std.proofs.Common.{◌≡◌, ◌<◌}
 use Rattle.dom_model.specs.Forest.{count_of}
 use Rattle.edit_model.specs.Run.{final, value, while_at_most}
 use Rattle.edit_doc.specs.Held.{Keeps}
-use Rattle.delete_core.specs.Places.{turn_bound}
+use Rattle.wrap_split.specs.Walks.{turn_bound}
 use Rattle.text_commands.specs.Approach.{goes_on, back_turn}
 use Rattle.text_commands.proofs.approach.go_back.Given as goal
 

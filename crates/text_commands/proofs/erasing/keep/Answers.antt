@@ -1,4 +1,4 @@
-use Rattle.text_commands.proofs.Selecting.{keeps_scratched}
+use Rattle.inline_value.proofs.Selecting.{keeps_scratched}
 use Rattle.text_commands.proofs.erasing.keep.Goals as goal
 
 pub returns-clause-keeps : goal.returns-clause-keeps

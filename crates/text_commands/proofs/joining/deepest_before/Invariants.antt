@@ -1,6 +1,7 @@
 use Rattle.std.proofs.Common.{◌≡◌}
+use Rattle.wrap_split.specs.Walks.{turn_bound}
 use Rattle.text_commands.specs.Delete.{into_last}
-use Rattle.delete_core.specs.Places.{turn_bound, walk_points}
+use Rattle.delete_core.specs.Places.{walk_points}
 use Rattle.text_commands.proofs.joining.deepest_before.Given as goal
 
 -- the rest of the walk ends where the whole ends

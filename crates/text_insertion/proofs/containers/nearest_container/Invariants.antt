@@ -1,7 +1,6 @@
 use Rattle.std.proofs.Common.{◌≡◌}
 use Rattle.edit_doc.specs.Held.{Holds}
-use Rattle.wrap_split.specs.Walks.{walk}
-use Rattle.delete_core.specs.Places.{turn_bound}
+use Rattle.wrap_split.specs.Walks.{walk, turn_bound}
 use Rattle.text_insertion.specs.Containers.{up_to_container}
 use Rattle.text_insertion.proofs.containers.nearest_container.Given as goal
 
