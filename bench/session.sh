@@ -3,8 +3,6 @@
 # Usage: bench/session.sh [PROGRAM]   (valgrind is needed; PROGRAM is crates/hedit/out/hedit unless given)
 # A figure is the difference of two sessions over one page of which the second has the acts twice as often, so that reading
 # the page and beginning the session are no part of it. It ends with status 1 where an aim is missed.
-# RANGES=1 clears the links of wide selections too: each link is compared with both ends among its siblings, which can cost
-# more than the links.
 set -euo pipefail
 cd "$(dirname "$0")/.."
 program=$(realpath "${1:-crates/hedit/out/hedit}")
@@ -111,16 +109,14 @@ selected_links() { # LINKS FIRST LAST
   round "$work/page" "select 0/$2/0/0:0 0/$3/0/0:1" 2 'exec unlink' 'undo 1'
 }
 
-if [ "${RANGES:-0}" = 1 ]; then
-  few=$(selected_links 500 0 499)
-  many=$(selected_links 2000 0 1999)
-  echo "exec unlink of a whole list, and undo 1: $few instructions for 500 links, $many for 2,000"
-  told "growth at four times the links" "$(ratio "$many" "$few")" 4.5
-  few=$(selected_links 600 200 399)
-  many=$(selected_links 2400 800 1599)
-  echo "of the middle third of one: $few instructions for 200 links, $many for 800"
-  told "growth at four times the links" "$(ratio "$many" "$few")" 4.5
-fi
+few=$(selected_links 500 0 499)
+many=$(selected_links 2000 0 1999)
+echo "exec unlink of a whole list, and undo 1: $few instructions for 500 links, $many for 2,000"
+told "growth at four times the links" "$(ratio "$many" "$few")" 4.5
+few=$(selected_links 600 200 399)
+many=$(selected_links 2400 800 1599)
+echo "of the middle third of one: $few instructions for 200 links, $many for 800"
+told "growth at four times the links" "$(ratio "$many" "$few")" 4.5
 
 # ---- the act probe
 

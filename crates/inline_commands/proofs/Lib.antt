@@ -1,5 +1,8 @@
 pub mod Above
-pub mod AllLinks
-pub mod Carets
+pub mod Ancestors
+pub mod Elsewhere
 pub mod Items
-pub mod Walking
+pub mod Merging
+pub mod Pairs
+pub mod Touched
+pub mod TreeOrder

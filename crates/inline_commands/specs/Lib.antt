@@ -4,3 +4,4 @@ pub mod Linking
 pub mod RemovingFormat
 pub mod ValueCommands
 pub mod RestoringStates
+pub mod Merging

@@ -1,21 +1,21 @@
 //! The links that unlink is for.
 
-ghost use Rattle.std.specs.Prelude.{◌≡◌, ◌++◌, ◌∷◌, ◌||◌, ◌&&◌, ◌<◌, [], true, OnOk, IfOk, filter, map, reverse};
+ghost use Rattle.std.specs.Prelude.{◌≡◌, ◌++◌, ◌∷◌, ◌<◌, ◌≤◌, [], true, OnOk, IfOk, drop, filter, length, map, not, reverse};
 ghost use Rattle.dom_model.specs.Contents.{is_element_at};
-ghost use Rattle.dom_model.specs.Forest.{count_of, preorder};
-ghost use Rattle.point_order.specs.PointOrder.{is_placed};
+ghost use Rattle.dom_model.specs.Forest.{count_of};
+ghost use Rattle.point_order.specs.PointOrder.{is_ancestor};
 ghost use Rattle.edit_model.specs.Valid.{IsPlacedPair};
-ghost use Rattle.edit_model.specs.Gives.{label_of, labels_of};
-ghost use Rattle.edit_doc.specs.Held.{Holds, IfHeld, EachHeld};
+ghost use Rattle.edit_model.specs.Gives.{labels_of};
+ghost use Rattle.edit_doc.specs.Held.{Holds, EachHeld};
 ghost use Rattle.node_styles.specs.Lineage.{lineage};
-ghost use Rattle.node_paths.specs.Onward.{onward_at, IsInner};
 ghost use Rattle.inline_commands.specs.Linking.{links_above};
-ghost use Rattle.inline_commands.specs.Unlink.{is_link, is_touched, links_in, links_of_pair};
+ghost use Rattle.inline_commands.specs.Merging.{around, beyond, links_inside, merged};
+ghost use Rattle.inline_commands.specs.Unlink.{is_link, links_of_pair};
 
 use dom_model::Content;
 use edit_actions::ends_of;
 use edit_doc::{Doc, NodeRef, Pair, Point};
-use node_tests::is_contained;
+use node_tests::contained_nodes;
 use point_order::{comes_before, is_ancestor, node_of};
 use std::alloc::{AllocError, Global};
 
@@ -34,40 +34,6 @@ fn is_link(doc: &Doc, node: NodeRef) -> bool
     }
 }
 
-// Whether a node is contained in a range, or is an ancestor of the node of one of its ends.
-#[tactic(auto, unfolding(crate::specs::Unlink::is_touched))]
-fn is_touched(doc: &Doc, start: Point, end: Point, node: NodeRef) -> bool
-    requires held { Holds doc.now node }
-    requires start_there { 0 < count_of doc.now.state.trees start.label }
-    requires end_there { 0 < count_of doc.now.state.trees end.label }
-    ensures { result ≡ is_touched doc.now.state.trees start end node.label }
-{
-    (comes_before(doc, start, end) && is_contained(doc, node, (start, end)))
-        || is_ancestor(doc, node, node_of(doc, start))
-        || is_ancestor(doc, node, node_of(doc, end))
-}
-
-// Appends a node, if it is a link that a range touches.
-fn push_if_touched(
-    list: &mut Vec<NodeRef>,
-    doc: &Doc,
-    start: Point,
-    end: Point,
-    node: NodeRef,
-) -> Result<(), AllocError>
-    requires node_held { Holds doc.now node }
-    requires start_there { 0 < count_of doc.now.state.trees start.label }
-    requires end_there { 0 < count_of doc.now.state.trees end.label }
-    requires each_held { EachHeld doc.now list.old.items }
-    ensures held { EachHeld doc.now list.new.items }
-    ensures ok { OnOk result (labels_of list.new.items ≡ labels_of list.old.items ++ filter (λ l. is_link doc.now.state.trees l && is_touched doc.now.state.trees start end l) (node.label ∷ [])) }
-{
-    if is_link(doc, node) && is_touched(doc, start, end, node) {
-        list.push(node)?;
-    }
-    Ok(())
-}
-
 // Appends a node, if it is a link.
 fn push_if_link(list: &mut Vec<NodeRef>, doc: &Doc, node: NodeRef) -> Result<(), AllocError>
     requires node_held { Holds doc.now node }
@@ -77,32 +43,6 @@ fn push_if_link(list: &mut Vec<NodeRef>, doc: &Doc, node: NodeRef) -> Result<(),
 {
     if is_link(doc, node) {
         list.push(node)?;
-    }
-    Ok(())
-}
-
-// Appends the links that a range touches, of a node's and its later siblings' trees.
-fn push_touched(
-    list: &mut Vec<NodeRef>,
-    doc: &Doc,
-    start: Point,
-    end: Point,
-    first: Option<NodeRef>,
-) -> Result<(), AllocError>
-    requires held { IfHeld doc.now first }
-    requires below { IsInner doc.now.state.trees (label_of first) }
-    requires start_there { 0 < count_of doc.now.state.trees start.label }
-    requires end_there { 0 < count_of doc.now.state.trees end.label }
-    requires each_held { EachHeld doc.now list.old.items }
-    ensures held { EachHeld doc.now list.new.items }
-    ensures ok { OnOk result (labels_of list.new.items ≡ labels_of list.old.items ++ filter (λ l. is_link doc.now.state.trees l && is_touched doc.now.state.trees start end l) (preorder (onward_at doc.now.state.trees (label_of first)))) }
-{
-    doc.valid();
-    let mut at = first;
-    while let Some(node) = at {
-        push_if_touched(list, doc, start, end, node)?;
-        push_touched(list, doc, start, end, doc.first_child(node))?;
-        at = doc.next(node);
     }
     Ok(())
 }
@@ -145,46 +85,137 @@ pub(crate) fn links_above(
     }
 }
 
-// The links around a caret.
-#[tactic(auto, using(edit_actions::proofs::Placed::placed_here))]
-fn links_around(alloc: Global, doc: &Doc, caret: Point) -> Result<Vec<NodeRef>, AllocError>
-    requires { is_placed doc.now.state.trees caret ≡ true }
-    ensures held { IfOk result (λ list. EachHeld doc.now list.items) }
-    ensures links { IfOk result (λ list. labels_of list.items ≡ links_in doc.now.state.trees caret caret) }
+// The links in a list.
+fn links_among(alloc: Global, doc: &Doc, list: &[NodeRef]) -> Result<Vec<NodeRef>, AllocError>
+    requires { EachHeld doc.now list.now }
+    ensures held { IfOk result (λ kept. EachHeld doc.now kept.items) }
+    ensures links { IfOk result (λ kept. labels_of kept.items ≡ filter (is_link doc.now.state.trees) (labels_of list.now)) }
 {
-    doc.valid();
-    links_above(alloc, doc, node_of(doc, caret))
+    let mut kept = Vec::new(alloc);
+    for node in list {
+        if is_link(doc, *node) {
+            kept.push(*node)?;
+        }
+    }
+    Ok(kept)
 }
 
-// The links that a range touches. It walks the document.
-fn links_between(
+// The links that a range contains. One that isn't in order contains none.
+fn links_inside(alloc: Global, doc: &Doc, range: (Point, Point)) -> Result<Vec<NodeRef>, AllocError>
+    requires start_there { 0 < count_of doc.now.state.trees range.0.label }
+    requires end_there { 0 < count_of doc.now.state.trees range.1.label }
+    ensures held { IfOk result (λ list. EachHeld doc.now list.items) }
+    ensures links { IfOk result (λ list. labels_of list.items ≡ links_inside doc.now.state.trees range.0 range.1) }
+{
+    if !comes_before(doc, range.0, range.1) {
+        return Ok(Vec::new(alloc));
+    }
+    let contained = contained_nodes(alloc, doc, range)?;
+    links_among(alloc, doc, contained.as_slice())
+}
+
+// The nodes in a list that don't stand above another node.
+fn not_above(
     alloc: Global,
     doc: &Doc,
-    start: Point,
-    end: Point,
+    list: &[NodeRef],
+    below: NodeRef,
 ) -> Result<Vec<NodeRef>, AllocError>
-    requires start_there { 0 < count_of doc.now.state.trees start.label }
-    requires end_there { 0 < count_of doc.now.state.trees end.label }
-    ensures held { IfOk result (λ list. EachHeld doc.now list.items) }
-    ensures links { IfOk result (λ list. labels_of list.items ≡ links_in doc.now.state.trees start end) }
+    requires list_held { EachHeld doc.now list.now }
+    requires below_held { Holds doc.now below }
+    ensures held { IfOk result (λ kept. EachHeld doc.now kept.items) }
+    ensures nodes { IfOk result (λ kept. labels_of kept.items ≡ filter (λ l. not (is_ancestor doc.now.state.trees l below.label)) (labels_of list.now)) }
 {
-    doc.valid();
-    let mut list = Vec::new(alloc);
-    push_touched(&mut list, doc, start, end, doc.first_child(doc.document()))?;
-    Ok(list)
+    let mut kept = Vec::new(alloc);
+    for node in list {
+        if !is_ancestor(doc, *node, below) {
+            kept.push(*node)?;
+        }
+    }
+    Ok(kept)
 }
 
-/// The links that unlink is for, in tree order. A caret costs its ancestors, any other range the document.
+// The links among the ancestors of a node that aren't among those of another one.
+fn links_beside(
+    alloc: Global,
+    doc: &Doc,
+    node: NodeRef,
+    other: NodeRef,
+) -> Result<Vec<NodeRef>, AllocError>
+    requires node_held { Holds doc.now node }
+    requires other_held { Holds doc.now other }
+    ensures held { IfOk result (λ list. EachHeld doc.now list.items) }
+    ensures links { IfOk result (λ list. labels_of list.items ≡ filter (λ l. not (is_ancestor doc.now.state.trees l other.label)) (links_above doc.now.state.trees node.label)) }
+{
+    let above = links_above(alloc, doc, node)?;
+    not_above(alloc, doc, &above, other)
+}
+
+// Appends the nodes in a list from a place on for as long as each stands above a node. It answers at which place it stopped.
+fn push_around(
+    list: &mut Vec<NodeRef>,
+    doc: &Doc,
+    above: &[NodeRef],
+    from: usize,
+    node: NodeRef,
+) -> Result<usize, AllocError>
+    requires above_held { EachHeld doc.now above.now }
+    requires node_held { Holds doc.now node }
+    requires each_held { EachHeld doc.now list.old.items }
+    requires from { from ≤ length above.now }
+    ensures held { EachHeld doc.now list.new.items }
+    ensures stop { IfOk result (λ at. at ≤ length above.now) }
+    ensures around { OnOk result (labels_of list.new.items ≡ labels_of list.old.items ++ around doc.now.state.trees (labels_of (drop from above.now)) node.label) }
+    ensures beyond { IfOk result (λ at. labels_of (drop at above.now) ≡ beyond doc.now.state.trees (labels_of (drop from above.now)) node.label) }
+{
+    let mut at = from;
+    while at < above.len() {
+        if !is_ancestor(doc, above[at], node) {
+            return Ok(at);
+        }
+        list.push(above[at])?;
+        at += 1;
+    }
+    Ok(at)
+}
+
+// Appends two lists in tree order: each node of the first, which are ancestors of one node, before the first node of the
+// second that it stands above.
+fn push_merged(
+    list: &mut Vec<NodeRef>,
+    doc: &Doc,
+    above: &[NodeRef],
+    inside: &[NodeRef],
+) -> Result<(), AllocError>
+    requires above_held { EachHeld doc.now above.now }
+    requires inside_held { EachHeld doc.now inside.now }
+    requires each_held { EachHeld doc.now list.old.items }
+    ensures held { EachHeld doc.now list.new.items }
+    ensures ok { OnOk result (labels_of list.new.items ≡ labels_of list.old.items ++ merged doc.now.state.trees (labels_of above.now) (labels_of inside.now)) }
+{
+    let mut at = 0;
+    for node in inside {
+        at = push_around(list, doc, above, at, *node)?;
+        list.push(*node)?;
+    }
+    list.extend_from_slice(&above[at..])?;
+    Ok(())
+}
+
+/// The links that unlink is for, in tree order: those around the start of the range, and with those that it contains those around
+/// its end alone. It looks at the nodes from the start to the end and those above them.
 #[tactic(auto, using(edit_actions::proofs::Placed::placed_here))]
 pub(crate) fn links_of(alloc: Global, doc: &Doc, pair: Pair) -> Result<Vec<NodeRef>, AllocError>
     requires { IsPlacedPair doc.now.state.trees pair }
     ensures held { IfOk result (λ list. EachHeld doc.now list.items) }
     ensures links { IfOk result (λ list. labels_of list.items ≡ links_of_pair doc.now.state.trees pair) }
 {
+    doc.valid();
     let (start, end) = ends_of(doc, pair);
-    if start == end {
-        links_around(alloc, doc, start)
-    } else {
-        links_between(alloc, doc, start, end)
-    }
+    let first = node_of(doc, start);
+    let mut list = links_above(alloc, doc, first)?;
+    let beside = links_beside(alloc, doc, node_of(doc, end), first)?;
+    let inside = links_inside(alloc, doc, (start, end))?;
+    push_merged(&mut list, doc, &beside, &inside)?;
+    Ok(list)
 }

@@ -8,7 +8,7 @@ use Rattle.node_styles.specs.Lineage.{lineage}
 use Rattle.node_styles.proofs.Lineages.{lineage-child, lineage-root}
 use Rattle.edit_model.specs.Gives.{label_of}
 use Rattle.inline_commands.specs.Unlink.{is_link}
-use Rattle.inline_commands.proofs.Carets.{labels, reverse-cons}
+use Rattle.inline_commands.proofs.Ancestors.{labels, reverse-cons}
 use Rattle.inline_commands.proofs.links.+push_above.Goals as goal
 
 pub push_above-requires : goal.push_above-requires

@@ -1,4 +1,4 @@
--- The links around a caret are those among the ancestors of its node.
+-- The links among the ancestors of a node, as a test finds them in tree order.
 use Rattle.std.proofs.Common.{◌≡◌, ◌≢◌, ℕ, zero, suc, ◌<◌, ◌≤◌, Bool, true, false, ◌&&◌, ◌||◌, List, [], ◌∷◌, ◌++◌, reverse, map, Option, Some, None, refl, sym, ap, ◌∙◌, subst, inl, inr, arith, eqb, append_assoc}
 use Rattle.std.specs.Prelude.{filter, nat_lt}
 use Rattle.std.specs.Option.{unwrap_or}
@@ -12,15 +12,14 @@ use Rattle.dom_model.proofs.Links.{join-Nil, tree_of_absent, eqb_refl_true}
 use Rattle.dom_model.proofs.Move.{parent_apart}
 use Rattle.dom_model.proofs.Walks.{document_first}
 use Rattle.dom_model.proofs.Within.{within_step, within_child, within_root}
-use Rattle.live_range.specs.declared.places.Point.{Point}
-use Rattle.point_order.specs.PointOrder.{is_within, is_ancestor, is_before}
+use Rattle.point_order.specs.PointOrder.{is_within, is_ancestor}
 use Rattle.node_styles.specs.Lineage.{Ancestor, lineage_from, lineage}
 use Rattle.node_styles.proofs.Lineages.{ancestor, lineage_absent}
 use Rattle.edit_model.specs.Valid.{IsForest}
 use Rattle.inline_commands.specs.Linking.{links_above}
-use Rattle.inline_commands.specs.Unlink.{is_link, is_touched, links_in}
+use Rattle.inline_commands.specs.Unlink.{is_link}
 use Rattle.inline_commands.proofs.Above.{none_above, above_child}
-use Rattle.inline_commands.proofs.Walking.{preorder_tree}
+use Rattle.inline_commands.proofs.TreeOrder.{preorder_tree}
 
 abbrev pub labels : List Ancestor → List ℕ
 labels ks = map (λ k. k.label) ks
@@ -53,7 +52,7 @@ after_tells W m c ks rest n once tells l here = tells l (omega (arith, here)) �
 top_test : (m : ℕ) (c : Content) (ks rest : Forest Content) (n : ℕ) → is_within (Tree m c ks rest) m n ≡ nat_lt 0 (count_of (Tree m c ks Nil) n)
 top_test m c ks rest n = let t = eqb_refl_true m in rw t refl
 
-parts : (W : ℕ → Bool) (m : ℕ) (c : Content) (ks rest : Forest Content) → filter W (preorder (Tree m c ks rest)) ≡ filter W (m ∷ []) ++ (filter W (preorder ks) ++ filter W (preorder rest))
+pub parts : (W : ℕ → Bool) (m : ℕ) (c : Content) (ks rest : Forest Content) → filter W (preorder (Tree m c ks rest)) ≡ filter W (m ∷ []) ++ (filter W (preorder ks) ++ filter W (preorder rest))
 parts W m c ks rest =
     ap (filter W) (preorder_tree m c ks rest) ∙ (filter-append W (m ∷ []) (preorder ks ++ preorder rest) ∙ ap (λ xs. filter W (m ∷ []) ++ xs) (filter-append W (preorder ks) (preorder rest)))
 
@@ -149,27 +148,13 @@ above_listed W above (Tree m c ks rest) n once tells here =
         let held : W m ≡ true = top ∙ (rw t (grind (arith, nat_tests, low))) in
         from_below (below low) t held (none_listed W rest n in_rest after_tell no_rest)
 
--- ---- a caret contains nothing
-
-not_before_itself : (f : Forest Content) (p : Point) → is_before f p p ≡ false
-unfolding is_before
-not_before_itself f p = let t = eqb_refl_true p.label in rw t (grind (arith, nat_tests))
-
-either_same : (b : Bool) → (b || b) ≡ b
-either_same true = refl
-either_same false = refl
-
-caret_touches : (f : Forest Content) (p : Point) (l : ℕ) → is_touched f p p l ≡ is_ancestor f l p.label
-unfolding is_touched
-caret_touches f p l = rw (not_before_itself f p) (either_same (is_ancestor f l p.label))
-
 -- ---- tests one after another
 
-filter_by : (A B : ℕ → Bool) (xs : List ℕ) → ((l : ℕ) → A l ≡ B l) → filter A xs ≡ filter B xs
+pub filter_by : (A B : ℕ → Bool) (xs : List ℕ) → ((l : ℕ) → A l ≡ B l) → filter A xs ≡ filter B xs
 filter_by A B [] same = refl
 filter_by A B (x ∷ xs) same = rw (same x, filter_by A B xs same) refl
 
-filter_both : (A B : ℕ → Bool) (xs : List ℕ) → filter (λ l. A l && B l) xs ≡ filter A (filter B xs)
+pub filter_both : (A B : ℕ → Bool) (xs : List ℕ) → filter (λ l. A l && B l) xs ≡ filter A (filter B xs)
 filter_both A B [] = refl
 filter_both A B (x ∷ xs) = by_tests (A x) (B x) refl refl (filter_both A B xs)
   where
@@ -179,11 +164,11 @@ filter_both A B (x ∷ xs) = by_tests (A x) (B x) refl refl (filter_both A B xs)
     by_tests false true s t more = rw (s, t) (rw s more)
     by_tests false false s t more = rw (s, t) more
 
-filter_none : (A : ℕ → Bool) (xs : List ℕ) → ((l : ℕ) → A l ≡ false) → filter A xs ≡ []
+pub filter_none : (A : ℕ → Bool) (xs : List ℕ) → ((l : ℕ) → A l ≡ false) → filter A xs ≡ []
 filter_none A [] none = refl
 filter_none A (x ∷ xs) none = rw (none x, filter_none A xs none) refl
 
-and_false : (a b : Bool) → b ≡ false → (a && b) ≡ false
+pub and_false : (a b : Bool) → b ≡ false → (a && b) ≡ false
 and_false true b off = off
 and_false false b off = refl
 
@@ -224,7 +209,7 @@ module _ (f : Forest Content) (once : IsDistinct f) (l p : ℕ) where
         | inr (t, off) ↦ rw t (within_none off root (count_of f l) refl)
       ]
 
--- ---- the links around a caret
+-- ---- the links around a node
 
 first_ancestors : (c : Content) (ks rest : Forest Content) (n : ℕ) → IsDistinct (Tree 0 c ks rest) → IsWithin (Tree 0 c ks rest) 0 n → filter (λ l. is_within (Tree 0 c ks rest) l n) (preorder (Tree 0 c ks Nil)) ≡ reverse (labels (lineage (Tree 0 c ks rest) n))
 unfolding lineage
@@ -254,7 +239,7 @@ first_ancestors c ks rest n once inner =
               rw (t, lineage_absent [] rest n none) refl)
         ]
 
-module _ (f : Forest Content) (next : ℕ) (law : IsForest f next) (p : Point) where
+module _ (f : Forest Content) (next : ℕ) (law : IsForest f next) where
   -- in tree order, the ancestors of a node and the node itself are its lineage from the outermost on
   ancestors : (n : ℕ) → IsWithin f 0 n → filter (λ l. is_within f l n) (preorder (tree_of f 0)) ≡ reverse (labels (lineage f n))
   ancestors n inner =
@@ -262,22 +247,18 @@ module _ (f : Forest Content) (next : ℕ) (law : IsForest f next) (p : Point) w
       subst (λ t. filter (λ l. is_within t l n) (preorder (tree_of t 0)) ≡ reverse (labels (lineage t n))) (sym d.3)
       (first_ancestors d.0 d.1 d.2 n (subst (λ t. IsDistinct t) d.3 law.distinct) (subst (λ t. IsWithin t 0 n) d.3 inner))
 
-  links_up : IsWithin f 0 p.label → (q : ℕ) → parent_of f p.label ≡ Some q → links_in f p p ≡ filter (is_link f) (reverse (labels (lineage f q)))
-  unfolding links_in
-  links_up inner q up =
-      let off : 0 ≢ p.label = λ e. absurd (let root = law.root in let t : parent_of f 0 ≡ Some q = ap (parent_of f) e ∙ up in cc) in
-      filter_by (λ l. is_link f l && is_touched f p p l) (λ l. is_link f l && is_within f l q) (preorder (tree_of f 0)) (λ l. ap (λ b. is_link f l && b) (caret_touches f p l ∙ ancestor_up f law.distinct l p.label q up))
+  links_up : (n q : ℕ) → IsWithin f 0 n → parent_of f n ≡ Some q → filter (λ l. is_link f l && is_ancestor f l n) (preorder (tree_of f 0)) ≡ filter (is_link f) (reverse (labels (lineage f q)))
+  links_up n q inner up =
+      let off : 0 ≢ n = λ e. absurd (let root = law.root in let t : parent_of f 0 ≡ Some q = ap (parent_of f) e ∙ up in cc) in
+      filter_by (λ l. is_link f l && is_ancestor f l n) (λ l. is_link f l && is_within f l q) (preorder (tree_of f 0)) (λ l. ap (λ b. is_link f l && b) (ancestor_up f law.distinct l n q up))
       ∙ (filter_both (is_link f) (λ l. is_within f l q) (preorder (tree_of f 0))
-      ∙ ap (filter (is_link f)) (ancestors q (within_step f 0 law.distinct law.document p.label q off up inner)))
+      ∙ ap (filter (is_link f)) (ancestors q (within_step f 0 law.distinct law.document n q off up inner)))
 
-  links_top : parent_of f p.label ≡ None → links_in f p p ≡ []
-  unfolding links_in
-  links_top root =
-      filter_none (λ l. is_link f l && is_touched f p p l) (preorder (tree_of f 0)) (λ l. and_false (is_link f l) (is_touched f p p l) (caret_touches f p l ∙ ancestor_none f law.distinct l p.label root))
-
-  pub caret_links : IsWithin f 0 p.label → 0 < count_of f p.label → links_in f p p ≡ links_above f p.label
-  caret_links inner here = by_parent (parent_of f p.label) refl
+  pub links_around : (n : ℕ) → IsWithin f 0 n → 0 < count_of f n → filter (λ l. is_link f l && is_ancestor f l n) (preorder (tree_of f 0)) ≡ links_above f n
+  links_around n inner here = by_parent (parent_of f n) refl
     where
-      by_parent : (o : Option ℕ) → parent_of f p.label ≡ o → links_in f p p ≡ links_above f p.label
-      by_parent None root = links_top root ∙ sym (none_above f law.distinct p.label here root)
-      by_parent (Some q) up = links_up inner q up ∙ sym (above_child f law.distinct p.label here q up)
+      by_parent : (o : Option ℕ) → parent_of f n ≡ o → filter (λ l. is_link f l && is_ancestor f l n) (preorder (tree_of f 0)) ≡ links_above f n
+      by_parent None root =
+          filter_none (λ l. is_link f l && is_ancestor f l n) (preorder (tree_of f 0)) (λ l. and_false (is_link f l) (is_ancestor f l n) (ancestor_none f law.distinct l n root))
+          ∙ sym (none_above f law.distinct n here root)
+      by_parent (Some q) up = links_up n q inner up ∙ sym (above_child f law.distinct n here q up)

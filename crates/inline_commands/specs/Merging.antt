@@ -1,0 +1,27 @@
+-- The list of the links that a range touches, made from its parts. No public clause cites this module.
+use Rattle.std.specs.Prelude.{ℕ, List, [], ◌∷◌, ◌++◌, filter, if◌then◌else◌}
+use Rattle.dom_model.specs.declared.Content.{Content}
+use Rattle.dom_model.specs.Forest.{Forest}
+use Rattle.live_range.specs.declared.places.Point.{Point}
+use Rattle.point_order.specs.PointOrder.{is_ancestor, is_before}
+use Rattle.node_tests.specs.Ranges.{contained_nodes}
+use Rattle.inline_commands.specs.Unlink.{is_link}
+
+-- the links that a range contains; one that isn't in order contains none
+abbrev pub links_inside : Forest Content → Point → Point → List ℕ
+links_inside f start end = if is_before f start end then filter (is_link f) (contained_nodes f start end) else []
+
+-- the members from the front on for as long as each stands above x
+abbrev pub around : Forest Content → List ℕ → ℕ → List ℕ
+around f [] x = []
+around f (b ∷ bs) x = if is_ancestor f b x then b ∷ around f bs x else []
+
+-- those behind them
+abbrev pub beyond : Forest Content → List ℕ → ℕ → List ℕ
+beyond f [] x = []
+beyond f (b ∷ bs) x = if is_ancestor f b x then beyond f bs x else b ∷ bs
+
+-- the members of both lists, each of the first before the first one of the second that it stands above
+abbrev pub merged : Forest Content → List ℕ → List ℕ → List ℕ
+merged f bs [] = bs
+merged f bs (x ∷ xs) = around f bs x ++ x ∷ merged f (beyond f bs x) xs
