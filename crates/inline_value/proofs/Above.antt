@@ -1,5 +1,6 @@
 -- The ancestors of a node, from one of them on.
-use Rattle.std.proofs.Common.{◌≡◌, ℕ, suc, ◌+◌, ◌<◌, List, [], ◌∷◌, ◌++◌, map, Option, Some, None, refl, sym, ap, ◌∙◌, arith}
+use Rattle.std.proofs.Common.{◌≡◌, ℕ, suc, ◌+◌, ◌<◌, Bool, true, false, List, [], ◌∷◌, ◌++◌, map, Option, Some, None, refl, sym, ap, ◌∙◌, arith}
+use Rattle.std.specs.List.{list_any}
 use Rattle.dom_model.specs.declared.Content.{Content}
 use Rattle.dom_model.specs.Forest.{Forest, count_of, parent_of, depth_of, IsDistinct}
 use Rattle.dom_model.proofs.Parts.{at_label}
@@ -58,3 +59,10 @@ listed_next f once r here o is xs ys more whole before =
 
 pub lower_next : (f : Forest Content) → IsDistinct f → (l : ℕ) → 0 < count_of f l → (o : Option NodeRef) → label_of o ≡ parent_of f l → height f (label_of o) < height f (Some l)
 lower_next f once l here o is = rw is (lower f once l here)
+
+-- whether one of them passes: the nearest does, or it is left to the others
+pub any_found : (P : ℕ → Bool) (p : ℕ) (xs ys : List ℕ) (b : Bool) → ys ≡ p ∷ xs → P p ≡ true → list_any P ys ≡ b → true ≡ b
+any_found P p xs ys b is passes whole = sym (rw (is, passes) refl) ∙ whole
+
+pub any_passed : (P : ℕ → Bool) (p : ℕ) (xs ys : List ℕ) (b : Bool) → ys ≡ p ∷ xs → P p ≡ false → list_any P ys ≡ b → list_any P xs ≡ b
+any_passed P p xs ys b is fails whole = sym (rw (is, fails) refl) ∙ whole

@@ -1,5 +1,6 @@
 pub mod Clears
 pub mod Above
+pub mod Keeping
 pub mod Levels
 pub mod Nested
 pub mod Givers

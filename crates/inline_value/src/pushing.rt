@@ -275,6 +275,32 @@ fn push_from(
     )
 }
 
+// Whether an ancestor of a node gives a value.
+fn is_given_above(doc: &Doc, node: NodeRef, command: Command) -> bool
+    requires { Holds doc.now node }
+    ensures { result ≡ spec.is_given_above doc.now.state command node.label }
+{
+    doc.valid();
+    let mut at = node;
+    while let Some(parent) = doc.parent(at) {
+        if specifies(doc, parent, command) {
+            return true;
+        }
+        at = parent;
+    }
+    false
+}
+
+// Push down, steps 1 to 4: whether nothing is pushed down, by what the ancestors give. It takes
+// longer to ask what values they have, or whether they are editable.
+#[tactic(auto, unfolding(crate::specs::Pushing::keeps_values))]
+fn keeps_values(doc: &Doc, value: Option<&[char]>, node: NodeRef, command: Command) -> bool
+    requires { Holds doc.now node }
+    ensures { result ≡ spec.keeps_values doc.now.state command (option_copied value.entry) node.label }
+{
+    value.is_some() && !is_given_above(doc, node, command)
+}
+
 // Push down, step 2, and then from 3 on.
 #[tactic(auto, using(edit_model::proofs::Steps::steps, edit_model::proofs::Steps::exits, edit_model::proofs::Steps::ends), unfolding(crate::specs::Pushing::push_listed))]
 fn push_listed(
@@ -318,6 +344,9 @@ pub fn push_down(
     ensures gives { Gives result doc.old.state doc.new.state (spec.push_down command (option_copied value.entry) node.label) }
     ensures keeps { Keeps doc.old doc.new }
 {
+    if keeps_values(doc, value, node, command) {
+        return Ok(());
+    }
     if needs_none(doc, value, node, command) {
         return Ok(());
     }

@@ -1,6 +1,7 @@
 -- A node's ancestors, from the nearest on.
-use Rattle.std.proofs.Common.{◌≡◌, ℕ, suc, ◌<◌, Bool, true, false, List, [], ◌∷◌, ◌++◌, Option, Some, None, refl, sym, ap, ◌∙◌, arith}
+use Rattle.std.proofs.Common.{◌≡◌, ℕ, suc, ◌<◌, Bool, true, false, ◌||◌, List, [], ◌∷◌, ◌++◌, Option, Some, None, refl, sym, ap, ◌∙◌, arith}
 use Rattle.std.specs.Prelude.{map}
+use Rattle.std.specs.List.{list_any}
 use Rattle.dom_model.specs.declared.Content.{Content}
 use Rattle.dom_model.specs.Forest.{Forest, IsDistinct, count_of, parent_of, depth_of}
 use Rattle.dom_model.proofs.Parts.{at_label}
@@ -46,6 +47,10 @@ module _ (f : Forest Content) (once : IsDistinct f) (l : ℕ) (here : 0 < count_
 
     pub beyond_on : test l ≡ true → beyond test (chain f (Some l)) ≡ beyond test (chain f (parent_of f l))
     beyond_on so = rw (chain_up, so) refl
+
+    -- whether the node or one of its ancestors passes
+    pub any_on : list_any test (chain f (Some l)) ≡ (test l || list_any test (chain f (parent_of f l)))
+    any_on = ap (list_any test) chain_up
 
     -- and one that isn't
     pub leading_stop : test l ≡ false → leading test (chain f (Some l)) ≡ []

@@ -1,5 +1,6 @@
 -- Outdenting a node (HTML Editing APIs, "outdent"). The steps are those of docs/ALGORITHMS.md.
 use Rattle.std.specs.Prelude.{ℕ, Bool, true, false, ◌==◌, ◌||◌, ◌&&◌, not, List, [], ◌∷◌, reverse, find, codes, Option, Some, None, is_some, if◌then◌else◌}
+use Rattle.std.specs.List.{list_any}
 use Rattle.std.specs.Option.{option_map_or}
 use Rattle.dom_model.specs.Contents.{is_element_at}
 use Rattle.dom_model.specs.Forest.{is_label, either, parent_of, children_of, first_in}
@@ -152,6 +153,14 @@ outdent_inner n = look λ s. given (indenter s n) (outdent_alone n) (outdent_thr
 -- outdent a node, steps 2 and 3, or from 4 on
 unfoldable pub outdent_own : ℕ → Run (Unit {0})
 outdent_own n = look λ s. if is_indentation s.trees n then unindented n else outdent_inner n
+
+-- an indentation element is among the ancestors
+unfoldable pub is_indented : State → ℕ → Bool
+is_indented s n = list_any (is_indentation s.trees) (ancestors s.trees n)
+
+-- one that no step changes: neither it nor an ancestor is an indentation element, and it is no list
+unfoldable pub keeps_place : State → ℕ → Bool
+keeps_place s n = not (is_indentation s.trees n) && (not (is_list s n) && not (is_indented s n))
 
 -- outdent a node, step 1, and then from 2 on
 unfoldable pub outdent_node : ℕ → Run (Unit {0})

@@ -8,7 +8,7 @@ ghost use Rattle.edit_doc.specs.Whole.{IsOpen};
 ghost use Rattle.edit_doc.specs.Held.{Holds, EachHeld, Finds, Keeps};
 ghost use Rattle.inline_value.specs.Ancestors.{fix_ancestors};
 ghost use Rattle.inline_value.specs.Styling.{unset_style};
-ghost use Rattle.list_indent.specs.Outdenting.{to_div, unboxed, unindented, indents, is_passed, if_indents, indenter_by, passed_by, unwrapped, released, dissolved, dissolve, outdent_list, outdent_through, outdent_alone, outdent_inner, outdent_own, outdent_node, indenter, passed};
+ghost use Rattle.list_indent.specs.Outdenting.{to_div, unboxed, unindented, indents, is_passed, if_indents, indenter_by, passed_by, unwrapped, released, dissolved, dissolve, outdent_list, outdent_through, outdent_alone, outdent_inner, outdent_own, outdent_node, indenter, passed, is_indented, keeps_place};
 
 use crate::levels::part_levels;
 use crate::lists::{is_in_list, is_list};
@@ -312,6 +312,32 @@ fn outdent_own(alloc: Global, doc: &mut Doc, node: NodeRef) -> Result<(), EditFa
     }
 }
 
+// Whether an indentation element is among the ancestors of a node.
+fn is_indented(doc: &Doc, node: NodeRef) -> bool
+    requires { Holds doc.now node }
+    ensures { result ≡ is_indented doc.now.state node.label }
+{
+    doc.valid();
+    let mut at = doc.parent(node);
+    while let Some(ancestor) = at {
+        if is_indentation(doc, ancestor) {
+            return true;
+        }
+        at = doc.parent(ancestor);
+    }
+    false
+}
+
+// Whether no step changes a node, by what it and its ancestors are. It takes longer to ask whether
+// one is editable.
+#[tactic(auto, unfolding(crate::specs::Outdenting::keeps_place))]
+fn keeps_place(doc: &Doc, node: NodeRef) -> bool
+    requires { Holds doc.now node }
+    ensures { result ≡ keeps_place doc.now.state node.label }
+{
+    !is_indentation(doc, node) && !is_list(doc, node) && !is_indented(doc, node)
+}
+
 /// Outdents a node: an indentation element goes, or is one no more; a list in none gives way to its items; any other node
 /// comes out of the indentation element around it, in which what stands beside it is indented again. A node that isn't editable
 /// stays as it is.
@@ -322,6 +348,9 @@ pub fn outdent_node(alloc: Global, doc: &mut Doc, node: NodeRef) -> Result<(), E
     ensures gives { Gives result doc.old.state doc.new.state (outdent_node node.label) }
     ensures keeps { Keeps doc.old doc.new }
 {
+    if keeps_place(doc, node) {
+        return Ok(());
+    }
     if doc.is_editable_for(node) {
         outdent_own(alloc, doc, node)?;
     }

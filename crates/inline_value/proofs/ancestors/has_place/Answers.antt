@@ -1,17 +1,12 @@
-use Rattle.std.proofs.Common.{◌≡◌, ℕ, Bool, true, false, ◌||◌, ◌&&◌, List, [], ◌∷◌, refl, sym, ap, ◌∙◌, arith}
+use Rattle.std.proofs.Common.{◌&&◌, refl, sym, ap, ◌∙◌, arith}
 use Rattle.std.specs.List.{list_any}
 use Rattle.dom_model.proofs.Within.{depth_of-parent}
 use Rattle.node_styles.specs.Allowed.{allowed_in}
 use Rattle.edit_model.specs.Confined.{is_inside}
 use Rattle.inline_value.specs.Ancestors.{has_place}
 use Rattle.inline_value.proofs.Givers.{no_ancestors, ancestors_above}
+use Rattle.inline_value.proofs.Above.{any_found, any_passed}
 use Rattle.inline_value.proofs.ancestors.has_place.Goals as goal
-
-found : (P : ℕ → Bool) (p : ℕ) (xs ys : List ℕ) (b : Bool) → ys ≡ p ∷ xs → P p ≡ true → list_any P ys ≡ b → true ≡ b
-found P p xs ys b is passes whole = sym (rw (is, passes) refl) ∙ whole
-
-passed : (P : ℕ → Bool) (p : ℕ) (xs ys : List ℕ) (b : Bool) → ys ≡ p ∷ xs → P p ≡ false → list_any P ys ≡ b → list_any P xs ≡ b
-passed P p xs ys b is fails whole = sym (rw (is, fails) refl) ∙ whole
 
 pub loop-parent-init : goal.loop-parent-init
 unfolding has_place
@@ -20,7 +15,7 @@ loop-parent-init c = record { held = c.requires; rest = refl }
 pub returns-then-takes : goal.returns-then-takes
 returns-then-takes c =
     let s = c.args.doc.now.state in
-    found (λ a. is_inside s a && allowed_in s.trees c.args.node.label a) c.in-Some.parent.label _ _ _
+    any_found (λ a. is_inside s a && allowed_in s.trees c.args.node.label a) c.in-Some.parent.label _ _ _
     (ancestors_above s.trees c.valid.ensures.valid.forest.distinct c.loop-parent.at.label c.loop-parent.invariant.held.here c.in-Some.parent.label (sym c.in-Some.ensures.is))
     (sym c.takes.ensures ∙ c.if-takes.true) c.loop-parent.invariant.rest
 
@@ -34,7 +29,7 @@ loop-parent-preserved c =
     record {
       held = c.in-Some.ensures.held;
       rest =
-          passed (λ a. is_inside s a && allowed_in s.trees c.args.node.label a) c.in-Some.parent.label _ _ _
+          any_passed (λ a. is_inside s a && allowed_in s.trees c.args.node.label a) c.in-Some.parent.label _ _ _
           (ancestors_above s.trees c.valid.ensures.valid.forest.distinct c.loop-parent.at.label c.loop-parent.invariant.held.here c.in-Some.parent.label (sym c.in-Some.ensures.is))
           (sym c.takes.ensures ∙ c.if-takes.false) c.loop-parent.invariant.rest;
     }

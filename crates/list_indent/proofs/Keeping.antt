@@ -1,0 +1,101 @@
+-- What outdenting a node leaves as it is, by what the node and its ancestors are.
+use Rattle.std.proofs.Common.{◌≡◌, ℕ, Bool, true, false, ◌||◌, ◌&&◌, List, [], ◌∷◌, Option, Some, None, if◌then◌else◌, refl, ap, ◌∙◌}
+use Rattle.std.specs.Prelude.{not}
+use Rattle.std.specs.List.{list_any}
+use Rattle.std.specs.Option.{option_map_or}
+use Rattle.dom_model.specs.declared.Content.{Content}
+use Rattle.dom_model.specs.Forest.{Forest, content_of}
+use Rattle.node_styles.specs.NameClasses.{is_indentation, is_indentation_content, is_simple_indentation, is_simple_indentation_content}
+use Rattle.edit_model.specs.State.{State}
+use Rattle.edit_model.specs.Confined.{is_editable_for}
+use Rattle.edit_model.specs.Run.{final, done, given}
+use Rattle.edit_model.proofs.Steps.{final-look, final-answer}
+use Rattle.inline_value.specs.Forcing.{ancestors}
+use Rattle.list_indent.specs.Sublists.{is_list}
+use Rattle.list_indent.specs.Outdenting.{indents, is_passed, beyond, if_indents, indenter_by, indenter, passed, unindented, outdent_list, outdent_through, outdent_alone, outdent_inner, outdent_own, outdent_node, is_indented, keeps_place}
+
+first_off : (a b : Bool) → (a || b) ≡ false → a ≡ false
+first_off true b off = off
+first_off false b off = refl
+
+rest_off : (a b : Bool) → (a || b) ≡ false → b ≡ false
+rest_off true b off = cc
+rest_off false b off = off
+
+-- ---- no indentation element is no simple one
+
+simple_by : (o : Option Content) → option_map_or is_indentation_content o false ≡ false → option_map_or is_simple_indentation_content o false ≡ false
+unfolding is_simple_indentation_content
+simple_by None off = refl
+simple_by (Some c) off = rw off refl
+
+simple_none : (f : Forest Content) (l : ℕ) → is_indentation f l ≡ false → is_simple_indentation f l ≡ false
+unfolding is_indentation is_simple_indentation
+simple_none f l off = simple_by (content_of f l) off
+
+indents_none : (simple : Bool) (s : State) (l : ℕ) → is_indentation s.trees l ≡ false → indents simple s l ≡ false
+indents_none true s l off = simple_none s.trees l off
+indents_none false s l off = off
+
+-- ---- without an indentation element above, none is come to
+
+unless_both : (l : ℕ) (a b : Bool) → b ≡ false → (if a && b then Some l else None) ≡ None
+unless_both l true b off = rw off refl
+unless_both l false b off = refl
+
+none_here : (simple : Bool) (s : State) (l : ℕ) → is_indentation s.trees l ≡ false → if_indents simple s (Some l) ≡ None
+none_here simple s l off = unless_both l (is_editable_for s l) (indents simple s l) (indents_none simple s l off)
+
+either_none : (simple : Bool) (s : State) (t : Bool) (o p : Option ℕ) → if_indents simple s o ≡ None → if_indents simple s p ≡ None → if_indents simple s (if t then o else p) ≡ None
+either_none simple s true o p on off = on
+either_none simple s false o p on off = off
+
+none_beyond : (simple : Bool) (s : State) (test : ℕ → Bool) (xs : List ℕ) → list_any (is_indentation s.trees) xs ≡ false → if_indents simple s (beyond test xs) ≡ None
+none_beyond simple s test [] off = refl
+none_beyond simple s test (x ∷ xs) off =
+    let here = is_indentation s.trees x in
+    let rest = list_any (is_indentation s.trees) xs in
+    either_none simple s (test x) (beyond test xs) (Some x) (none_beyond simple s test xs (rest_off here rest off)) (none_here simple s x (first_off here rest off))
+
+no_indenter : (s : State) (n : ℕ) → is_indented s n ≡ false → indenter s n ≡ None
+unfolding is_indented indenter indenter_by
+no_indenter s n off =
+    let line = ancestors s.trees n in
+    rw (none_beyond true s (is_passed true s) line off) (none_beyond false s (is_passed false s) line off)
+
+-- ---- so no step changes anything
+
+module _ (s : State) (n : ℕ) where
+  alone_keeps : is_list s n ≡ false → final (outdent_alone n) s ≡ s
+  unfolding outdent_alone
+  alone_keeps off =
+      final-look (λ t. if is_list t n then outdent_list n else done) s
+      ∙ (ap (λ b. final (if b then outdent_list n else done) s) off ∙ final-answer tt s)
+
+  inner_keeps : is_list s n ≡ false → is_indented s n ≡ false → final (outdent_inner n) s ≡ s
+  unfolding outdent_inner
+  inner_keeps off free =
+      final-look (λ t. given (indenter t n) (outdent_alone n) (outdent_through n (passed t n))) s
+      ∙ (ap (λ o. final (given o (outdent_alone n) (outdent_through n (passed s n))) s) (no_indenter s n free) ∙ alone_keeps off)
+
+  own_keeps : is_indentation s.trees n ≡ false → is_list s n ≡ false → is_indented s n ≡ false → final (outdent_own n) s ≡ s
+  unfolding outdent_own
+  own_keeps plain off free =
+      final-look (λ t. if is_indentation t.trees n then unindented n else outdent_inner n) s
+      ∙ (ap (λ b. final (if b then unindented n else outdent_inner n) s) plain ∙ inner_keeps off free)
+
+  by_editable : (e : Bool) → final (outdent_own n) s ≡ s → final (if e then outdent_own n else done) s ≡ s
+  by_editable true keeps = keeps
+  by_editable false keeps = final-answer tt s
+
+  by_names : (a b c : Bool) → (not a && (not b && not c)) ≡ true → (a ≡ false → b ≡ false → c ≡ false → final (outdent_own n) s ≡ s) → final (outdent_own n) s ≡ s
+  by_names false false false on keeps = keeps refl refl refl
+  by_names true b c on keeps = cc
+  by_names false true c on keeps = cc
+  by_names false false true on keeps = cc
+
+  pub outdent_keeps : keeps_place s n ≡ true → final (outdent_node n) s ≡ s
+  unfolding keeps_place outdent_node
+  outdent_keeps on =
+      final-look (λ t. if is_editable_for t n then outdent_own n else done) s
+      ∙ by_editable (is_editable_for s n) (by_names (is_indentation s.trees n) (is_list s n) (is_indented s n) on own_keeps)

@@ -1,0 +1,48 @@
+use Rattle.std.proofs.Common.{◌||◌, sym, ap, ◌∙◌}
+use Rattle.std.specs.List.{list_any}
+use Rattle.dom_model.specs.Forest.{parent_of}
+use Rattle.node_styles.specs.NameClasses.{is_indentation}
+use Rattle.list_indent.specs.Outdenting.{is_indented}
+use Rattle.list_indent.proofs.Ancestors.{chain, chain_above, any_on, height_parent}
+use Rattle.list_indent.proofs.outdenting.is_indented.Goals as goal
+
+pub loop-at-init : goal.loop-at-init
+unfolding is_indented
+loop-at-init c =
+    let f = c.args.doc.now.state.trees in
+    let whole = chain_above f c.valid.ensures.valid.forest.distinct c.args.node.label c.requires.here in
+    record {
+      held = c.parent-at.ensures.held;
+      rest = rw c.parent-at.ensures.is (ap (list_any (is_indentation f)) (sym whole));
+    }
+
+pub returns-then-is_indentation : goal.returns-then-is_indentation
+returns-then-is_indentation c =
+    let f = c.args.doc.now.state.trees in
+    let held = rw c.in-Some.is at c.loop-at.invariant.held in
+    let rest = rw c.in-Some.is at c.loop-at.invariant.rest in
+    let here = any_on f c.valid.ensures.valid.forest.distinct c.in-Some.ancestor.label held.here (is_indentation f) in
+    let met = sym c.is_indentation.ensures ∙ c.if-is_indentation.true in
+    sym (ap (λ b. b || list_any (is_indentation f) (chain f (parent_of f c.in-Some.ancestor.label))) met) ∙ sym here ∙ rest
+
+pub loop-at-smaller : goal.loop-at-smaller
+loop-at-smaller c =
+    rw (c.in-Some.is, c.parent-at-in-Some.ensures.is) (height_parent c.args.doc.now.state.trees c.in-Some.ancestor.label c.valid.ensures.valid.forest.distinct)
+
+pub loop-at-preserved : goal.loop-at-preserved
+loop-at-preserved c =
+    let f = c.args.doc.now.state.trees in
+    let held = rw c.in-Some.is at c.loop-at.invariant.held in
+    let rest = rw c.in-Some.is at c.loop-at.invariant.rest in
+    let here = any_on f c.valid.ensures.valid.forest.distinct c.in-Some.ancestor.label held.here (is_indentation f) in
+    let off = sym c.is_indentation.ensures ∙ c.if-is_indentation.false in
+    record {
+      held = c.parent-at-in-Some.ensures.held;
+      rest =
+          ap (λ o. list_any (is_indentation f) (chain f o)) c.parent-at-in-Some.ensures.is
+          ∙ sym (here ∙ ap (λ b. b || list_any (is_indentation f) (chain f (parent_of f c.in-Some.ancestor.label))) off)
+          ∙ rest;
+    }
+
+pub returns : goal.returns
+returns c = rw c.in_default.is at c.loop-at.invariant.rest
