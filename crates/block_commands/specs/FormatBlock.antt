@@ -1,5 +1,5 @@
--- The command formatBlock (HTML Editing APIs, "the formatBlock command"): the lines of the active range become blocks of a
--- name. The steps are those of docs/ALGORITHMS.md.
+-- The command formatBlock (HTML Editing APIs, "the formatBlock command"): the lines of the active
+-- range become blocks of a name. The steps are those of docs/ALGORITHMS.md.
 use Rattle.std.specs.Prelude.{ℕ, ◌==◌, ◌-◌, nat_le, Bool, true, false, ◌&&◌, ◌||◌, not, List, [], ◌∷◌, map, length, take, drop, slice_index, Option, Some, None, bytes_eq, codes, if◌then◌else◌}
 use Rattle.std.specs.Char.{to_ascii_lowercase}
 use Rattle.std.specs.List.{list_any}
@@ -41,7 +41,8 @@ block_name value = map to_ascii_lowercase (unbracketed value)
 -- a line of its own but for li, or what may stand in a paragraph
 unfoldable pub is_line : Forest Content → ℕ → Bool
 is_line f l =
-    is_non_list_single_line f l || (has_name f l (codes "dd") || (has_name f l (codes "dt") || allowed_in_name f l (codes "p")))
+    is_non_list_single_line f l
+    || (has_name f l (codes "dd") || (has_name f l (codes "dt") || allowed_in_name f l (codes "p")))
 
 unfoldable pub is_formatted : State → ℕ → Bool
 is_formatted s l = is_editable_for s l && (is_line s.trees l && not (is_above_prohibited s.trees l))
@@ -86,7 +87,8 @@ is_apart name = bytes_eq name (codes "div") || bytes_eq name (codes "p")
 
 -- step 4 c
 unfoldable pub wrapped : List ℕ → List ℕ → Run (Option ℕ)
-wrapped name list = if is_apart name then wrap Never (Make (block name)) list else wrap (Named name true) (Make (block name)) list
+wrapped name list =
+    if is_apart name then wrap Never (Make (block name)) list else wrap (Named name true) (Make (block name)) list
 
 -- step 4 d
 unfoldable pub fixed : Option ℕ → Run (Unit {0})
@@ -133,4 +135,5 @@ format_to name = look λ s. format_list name (outermost (is_formatted s) s) >> a
 
 -- formatBlock, step 1, and then from 2 on
 unfoldable pub format_block : List ℕ → Run Bool
-format_block value = if names.is_formattable_block (block_name value) then format_to (block_name value) else answer false
+format_block value =
+    if names.is_formattable_block (block_name value) then format_to (block_name value) else answer false

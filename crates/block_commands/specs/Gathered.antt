@@ -22,8 +22,8 @@ abbrev pub outermost_by : (ℕ → Bool) → Forest Content → Option Pair → 
 outermost_by test f None = []
 outermost_by test f (Some pair) = outermost_in test f (extended f pair)
 
--- the nodes that it contains and that pass, in tree order, without those that have an ancestor among them; without a selection
--- there are none
+-- the nodes that it contains and that pass, in tree order, without those that have an ancestor
+-- among them; without a selection there are none
 unfoldable pub outermost : (ℕ → Bool) → State → List ℕ
 outermost test s = outermost_by test s.trees s.points.selection
 

@@ -1,5 +1,5 @@
--- Justifying the selection (HTML Editing APIs, "justify the selection"): the blocks of the active range come to stand in a
--- div that aligns them. The steps are those of docs/ALGORITHMS.md.
+-- Justifying the selection (HTML Editing APIs, "justify the selection"): the blocks of the active
+-- range come to stand in a div that aligns them. The steps are those of docs/ALGORITHMS.md.
 use Rattle.std.specs.Prelude.{ℕ, Bool, true, false, ◌&&◌, ◌||◌, not, List, [], ◌∷◌, ◌++◌, take, drop, Option, is_some, bytes_eq, codes, if◌then◌else◌}
 use Rattle.std.specs.Option.{option_map_or}
 use Rattle.dom_model.specs.declared.attributes.Attribute.{Attribute}
@@ -32,7 +32,8 @@ abbrev pub sets_alignment : List ℕ → Bool
 sets_alignment text = is_some (style.value_of (style.declarations_in text) (codes "text-align"))
 
 abbrev pub has_alignment : List Attribute → Bool
-has_alignment list = is_some (value_of list (codes "align")) || option_map_or sets_alignment (value_of list (codes "style")) false
+has_alignment list =
+    is_some (value_of list (codes "align")) || option_map_or sets_alignment (value_of list (codes "style")) false
 
 -- or a center
 unfoldable pub gives_alignment : State → ℕ → Bool
@@ -43,7 +44,9 @@ is_aligning s e = gives_alignment s e && is_editable_for s e
 
 -- a div, span or center without attributes
 unfoldable pub is_plain : Forest Content → ℕ → Bool
-is_plain f e = is_without_attributes f e && (has_name f e (codes "div") || (has_name f e (codes "span") || has_name f e (codes "center")))
+is_plain f e =
+    is_without_attributes f e
+    && (has_name f e (codes "div") || (has_name f e (codes "span") || has_name f e (codes "center")))
 
 unfoldable pub name_div : ℕ → Run (Unit {0})
 name_div e = look λ s. if has_name s.trees e (codes "center") then set_tag_name e (codes "div") >> done else done
@@ -64,7 +67,8 @@ clear_alignments = look λ s. for_each (contained (is_aligning s) s) clear_align
 
 unfoldable pub is_misaligned : List ℕ → State → ℕ → Bool
 is_misaligned alignment s l =
-    is_editable_for s l && (allowed_in_name s.trees l (codes "div") && not (bytes_eq (alignment_value s.trees l) alignment))
+    is_editable_for s l
+    && (allowed_in_name s.trees l (codes "div") && not (bytes_eq (alignment_value s.trees l) alignment))
 
 -- ---- justify, step 3: they are wrapped, series by series
 

@@ -1,5 +1,5 @@
--- Lists of nodes that are taken sibling by sibling: a series is the first member of a list and, as long as each is the next
--- sibling of the one before, the members after it.
+-- Lists of nodes that are taken sibling by sibling: a series is the first member of a list and, as
+-- long as each is the next sibling of the one before, the members after it.
 use Rattle.std.specs.Prelude.{ℕ, ◌+◌, Bool, true, false, ◌&&◌, not, List, [], ◌∷◌, if◌then◌else◌}
 use Rattle.dom_model.specs.Contents.{is_break}
 use Rattle.dom_model.specs.Forest.{is_label, next_of}

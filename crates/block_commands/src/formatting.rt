@@ -134,7 +134,8 @@ fn format_children(
     requires open { IsOpen doc.old }
     requires node_held { Holds doc.old node }
     requires children_held { EachHeld doc.old children.now }
-    ensures gives { Gives result doc.old.state doc.new.state (format.format_children name.now node.label (labels_of children.now)) }
+    ensures gives { Gives result doc.old.state doc.new.state
+        (format.format_children name.now node.label (labels_of children.now)) }
     ensures keeps { Keeps doc.old doc.new }
 {
     let values = record_values(alloc, doc, children)?;
@@ -170,7 +171,8 @@ fn format_series(
 ) -> Result<usize, EditFault>
     requires open { IsOpen doc.old }
     requires list_held { EachHeld doc.old list.now }
-    ensures gives { GivesAs (λ count. labels_of (drop count list.now)) result doc.old.state doc.new.state (format.format_series name.now (labels_of list.now)) }
+    ensures gives { GivesAs (λ count. labels_of (drop count list.now)) result doc.old.state doc.new.state
+        (format.format_series name.now (labels_of list.now)) }
     ensures within { IfOk result (λ count. count ≤ length list.now) }
     ensures keeps { Keeps doc.old doc.new }
 {
@@ -192,7 +194,8 @@ fn format_first(
     requires list_held { EachHeld doc.old list.now }
     requires first_held { Holds doc.old first }
     requires some { 0 < length list.now }
-    ensures gives { GivesAs (λ count. labels_of (drop count list.now)) result doc.old.state doc.new.state (format.format_first name.now (labels_of list.now) first.label) }
+    ensures gives { GivesAs (λ count. labels_of (drop count list.now)) result doc.old.state doc.new.state
+        (format.format_first name.now (labels_of list.now) first.label) }
     ensures within { IfOk result (λ count. count ≤ length list.now) }
     ensures keeps { Keeps doc.old doc.new }
 {
@@ -215,7 +218,8 @@ fn format_next(
     requires open { IsOpen doc.old }
     requires list_held { EachHeld doc.old list.now }
     requires some { 0 < length list.now }
-    ensures gives { GivesAs (λ count. labels_of (drop count list.now)) result doc.old.state doc.new.state (format.format_next name.now (labels_of list.now)) }
+    ensures gives { GivesAs (λ count. labels_of (drop count list.now)) result doc.old.state doc.new.state
+        (format.format_next name.now (labels_of list.now)) }
     ensures within { IfOk result (λ count. count ≤ length list.now) }
     ensures keeps { Keeps doc.old doc.new }
 {
@@ -263,8 +267,9 @@ fn format_to(alloc: Global, doc: &mut Doc, name: &Name) -> Result<bool, EditFaul
     Ok(true)
 }
 
-/// The command formatBlock: the lines of the active range become blocks of the name that the value gives, with or without `<` and
-/// `>` around it and in any case. Without such a name it answers false.
+/// The command formatBlock: the lines of the active range become blocks of the name that the value
+/// gives, with or without `<` and `>` around it and in any case. Without such a name it answers
+/// false.
 #[tactic(auto, using(edit_model::proofs::Steps::steps, edit_model::proofs::Steps::exits), unfolding(crate::specs::FormatBlock::format_block))]
 pub fn format_block(alloc: Global, doc: &mut Doc, value: &[char]) -> Result<bool, EditFault>
     requires open { IsOpen doc.old }

@@ -34,13 +34,14 @@ fn outermost_in<C: Choice<Doc>>(
     requires start { 0 < count_of doc.now.state.trees range.0.label }
     requires end { 0 < count_of doc.now.state.trees range.1.label }
     ensures held { IfOk result (λ list. EachHeld doc.now list) }
-    ensures nodes { IfOk result (λ list. labels_of list ≡ gathered.outermost_in (C.chosen choice.now doc.now) doc.now.state.trees range) }
+    ensures nodes { IfOk result
+        (λ list. labels_of list ≡ gathered.outermost_in (C.chosen choice.now doc.now) doc.now.state.trees range) }
 {
     gather_in(alloc, doc, range, choice)
 }
 
-/// The nodes that the block-extended active range contains and that pass a test, in tree order, without those that have an
-/// ancestor among them. Without a selection there are none.
+/// The nodes that the block-extended active range contains and that pass a test, in tree order,
+/// without those that have an ancestor among them. Without a selection there are none.
 #[tactic(auto, unfolding(crate::specs::Gathered::outermost))]
 pub(crate) fn outermost<C: Choice<Doc>>(
     alloc: Global,
@@ -48,7 +49,8 @@ pub(crate) fn outermost<C: Choice<Doc>>(
     choice: &C,
 ) -> Result<NodeList, AllocError>
     ensures held { IfOk result (λ list. EachHeld doc.now list) }
-    ensures nodes { IfOk result (λ list. labels_of list ≡ gathered.outermost (C.chosen choice.now doc.now) doc.now.state) }
+    ensures nodes { IfOk result
+        (λ list. labels_of list ≡ gathered.outermost (C.chosen choice.now doc.now) doc.now.state) }
 {
     doc.valid();
     match doc.points().selection() {
@@ -66,7 +68,8 @@ pub fn chosen_of<C: Choice<Doc>>(
 ) -> Result<Vec<NodeRef>, AllocError>
     requires { EachHeld doc.now list.now }
     ensures held { IfOk result (λ kept. EachHeld doc.now kept.items) }
-    ensures nodes { IfOk result (λ kept. labels_of kept.items ≡ filter (C.chosen choice.now doc.now) (labels_of list.now)) }
+    ensures nodes { IfOk result
+        (λ kept. labels_of kept.items ≡ filter (C.chosen choice.now doc.now) (labels_of list.now)) }
 {
     let mut kept = Vec::new(alloc);
     for node in list {
@@ -87,14 +90,15 @@ pub fn contained_in<C: Choice<Doc>>(
     requires start { 0 < count_of doc.now.state.trees range.0.label }
     requires end { 0 < count_of doc.now.state.trees range.1.label }
     ensures held { IfOk result (λ list. EachHeld doc.now list.items) }
-    ensures nodes { IfOk result (λ list. labels_of list.items ≡ gathered.contained_in (C.chosen choice.now doc.now) doc.now.state.trees range) }
+    ensures nodes { IfOk result
+        (λ list. labels_of list.items ≡ gathered.contained_in (C.chosen choice.now doc.now) doc.now.state.trees range) }
 {
     let list = contained_nodes(alloc, doc, range)?;
     chosen_of(alloc, doc, choice, list.as_slice())
 }
 
-/// All nodes that the block-extended active range contains and that pass a test, in tree order. Without a selection there are
-/// none.
+/// All nodes that the block-extended active range contains and that pass a test, in tree order.
+/// Without a selection there are none.
 #[tactic(auto, unfolding(crate::specs::Gathered::contained))]
 pub(crate) fn contained<C: Choice<Doc>>(
     alloc: Global,
@@ -102,7 +106,8 @@ pub(crate) fn contained<C: Choice<Doc>>(
     choice: &C,
 ) -> Result<Vec<NodeRef>, AllocError>
     ensures held { IfOk result (λ list. EachHeld doc.now list.items) }
-    ensures nodes { IfOk result (λ list. labels_of list.items ≡ gathered.contained (C.chosen choice.now doc.now) doc.now.state) }
+    ensures nodes { IfOk result
+        (λ list. labels_of list.items ≡ gathered.contained (C.chosen choice.now doc.now) doc.now.state) }
 {
     doc.valid();
     match doc.points().selection() {

@@ -135,7 +135,8 @@ fn align_series(
 ) -> Result<usize, EditFault>
     requires open { IsOpen doc.old }
     requires list_held { EachHeld doc.old list.now }
-    ensures gives { GivesAs (λ count. labels_of (drop count list.now)) result doc.old.state doc.new.state (justify.align_series alignment.now (labels_of list.now)) }
+    ensures gives { GivesAs (λ count. labels_of (drop count list.now)) result doc.old.state doc.new.state
+        (justify.align_series alignment.now (labels_of list.now)) }
     ensures within { IfOk result (λ count. count ≤ length list.now) }
     ensures keeps { Keeps doc.old doc.new }
 {

@@ -1,5 +1,5 @@
-//! Commands on blocks, as actions on a document under edits: between a command's begin and its end. Each answers whether the
-//! command was taken (HTML Editing APIs, "action").
+//! Commands on blocks, as actions on a document under edits: between a command's begin and its end.
+//! Each answers whether the command was taken (HTML Editing APIs, "action").
 #![tactic(auto)]
 
 mod aligned;

@@ -24,7 +24,8 @@ fn unbracketed(value: &[char]) -> &[char]
 
 // A text in lower case as bytes, where it has ASCII alone.
 fn lowered(alloc: Global, text: &[char]) -> Result<Option<Vec<u8>>, AllocError>
-    ensures { IfOk result (λ read. MatchOption read (is_formattable_block (map to_ascii_lowercase text.now) ≡ false) (λ bytes. bytes.items ≡ map to_ascii_lowercase text.now)) }
+    ensures { IfOk result (λ read. MatchOption read (is_formattable_block (map to_ascii_lowercase text.now) ≡ false)
+        (λ bytes. bytes.items ≡ map to_ascii_lowercase text.now)) }
 {
     let mut bytes = Vec::new(alloc);
     for c in text {
@@ -39,7 +40,8 @@ fn lowered(alloc: Global, text: &[char]) -> Result<Option<Vec<u8>>, AllocError>
 /// The formattable block name that a value gives, without regard to ASCII case and to a `<` and `>` around it.
 #[tactic(auto, unfolding(crate::specs::FormatBlock::block_name))]
 pub(crate) fn block_name(alloc: Global, value: &[char]) -> Result<Option<Name>, AllocError>
-    ensures { IfOk result (λ read. MatchOption read (is_formattable_block (block_name value.now) ≡ false) (λ name. (name ≡ block_name value.now) × (is_formattable_block name ≡ true))) }
+    ensures { IfOk result (λ read. MatchOption read (is_formattable_block (block_name value.now) ≡ false)
+        (λ name. (name ≡ block_name value.now) × (is_formattable_block name ≡ true))) }
 {
     match lowered(alloc, unbracketed(value))? {
         Some(bytes) if is_formattable_block(&bytes) => Ok(Some(Name::from_slice(alloc, &bytes)?)),

@@ -28,8 +28,8 @@ fn is_next_on_line(doc: &Doc, last: NodeRef, node: NodeRef) -> bool
     is_next(doc, last, node) && !is_single_line(doc, node) && !is_break(doc, last)
 }
 
-/// How many members the first series of a list has: its first member and those after it that are each the next sibling of the one
-/// before.
+/// How many members the first series of a list has: its first member and those after it that are
+/// each the next sibling of the one before.
 pub(crate) fn count_siblings(doc: &Doc, list: &[NodeRef]) -> usize
     requires { EachHeld doc.now list.now }
     ensures count { result ≡ count_series (is_next doc.now.state) (labels_of list.now) }

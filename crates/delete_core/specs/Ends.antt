@@ -35,7 +35,8 @@ unfoldable pub out_of_start : Forest Content → Point → Point
 out_of_start f p = unwrap_or (if is_words f p.label && (p.offset == 0) then before_node f p.label else None) p
 
 unfoldable pub out_of_end : Forest Content → Point → Point
-out_of_end f p = unwrap_or (if is_words f p.label && (p.offset == length_of f p.label) then after_node f p.label else None) p
+out_of_end f p =
+    unwrap_or (if is_words f p.label && (p.offset == length_of f p.label) then after_node f p.label else None) p
 
 -- step 3: up from an inline node, as long as the parent is inside
 unfoldable pub up_inline : State → ℕ → Option ℕ

@@ -1,5 +1,6 @@
--- Equivalent points (HTML Editing APIs, "next equivalent point", "previous equivalent point"): points between which nothing
--- but edges of inline nodes stands. The steps are those of docs/ALGORITHMS.md.
+-- Equivalent points (HTML Editing APIs, "next equivalent point", "previous equivalent point"):
+-- points between which nothing but edges of inline nodes stands. The steps are those of
+-- docs/ALGORITHMS.md.
 use Rattle.std.specs.Prelude.{ℕ, ◌==◌, ◌||◌, Option, Some, None, if◌then◌else◌}
 use Rattle.std.specs.Option.{option_map}
 use Rattle.dom_model.specs.declared.Content.{Content}

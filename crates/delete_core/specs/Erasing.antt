@@ -45,7 +45,8 @@ cut_before q = look λ s. if is_own_text s q.label then replace q.label 0 q.offs
 
 unfoldable pub is_table_part : Forest Content → ℕ → Bool
 is_table_part f l =
-    has_name f l (codes "thead") || has_name f l (codes "tbody") || has_name f l (codes "tfoot") || has_name f l (codes "tr") || is_cell f l
+    has_name f l (codes "thead") || has_name f l (codes "tbody") || has_name f l (codes "tfoot")
+    || has_name f l (codes "tr") || is_cell f l
 
 unfoldable pub is_removable : State → ℕ → Bool
 is_removable s l = is_editable_for s l && not (is_table_part s.trees l)

@@ -1,6 +1,6 @@
--- Merging the blocks of the two ends after a deletion (HTML Editing APIs, "delete the selection", steps 9 to 15). The steps
--- are those of docs/ALGORITHMS.md. Each of the three ways of merging answers the values to restore, or none where it ends the
--- deletion.
+-- Merging the blocks of the two ends after a deletion (HTML Editing APIs, "delete the selection",
+-- steps 9 to 15). The steps are those of docs/ALGORITHMS.md. Each of the three ways of merging
+-- answers the values to restore, or none where it ends the deletion.
 use Rattle.std.specs.Prelude.{ℕ, zero, suc, ◌==◌, Bool, false, ◌||◌, ◌&&◌, not, List, [], ◌∷◌, map, Option, Some, None, is_none, is_some, codes, if◌then◌else◌}
 use Rattle.std.specs.List.{find}
 use Rattle.std.specs.Option.{option_map_or}
@@ -98,7 +98,9 @@ split_out b list k = look λ s. while_at_most (turn_bound s) (is_apart b) (split
 -- splitting the parent of a line that begins with k changes nothing, so a loop of it may end. Only proofs cite it.
 unfoldable pub is_stuck : State → ℕ → Bool
 is_stuck s k =
-    option_map_or (λ p. not (is_editable_for s p) || (is_none (parent_of s.trees p) || is_void_thing s p)) (parent_of s.trees k) false
+    option_map_or
+    (λ p. not (is_editable_for s p) || (is_none (parent_of s.trees p) || is_void_thing s p))
+    (parent_of s.trees k) false
 
 -- step 11 f
 unfoldable pub drop_break_before : ℕ → Run (Unit {0})
@@ -231,4 +233,5 @@ merge_both backward b c = look λ s. if are_mergeable s b c then merge b c else 
 -- the same, of blocks that there may be
 unfoldable pub merge_if : Bool → Bool → Option ℕ → Option ℕ → Run (Unit {0})
 merge_if merging backward b c =
-    if merging then (given b (settle backward) λ x. given c (settle backward) (merge_both backward x)) else settle backward
+    if merging then (given b (settle backward) λ x. given c (settle backward) (merge_both backward x))
+    else settle backward

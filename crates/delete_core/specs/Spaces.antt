@@ -1,5 +1,5 @@
--- The canonical space sequence (HTML Editing APIs): so many blanks, of which no two that collapse stand side by side. The
--- steps are those of docs/ALGORITHMS.md.
+-- The canonical space sequence (HTML Editing APIs): so many blanks, of which no two that collapse
+-- stand side by side. The steps are those of docs/ALGORITHMS.md.
 use Rattle.std.specs.Prelude.{ℕ, zero, suc, ◌==◌, Bool, ◌||◌, ◌&&◌, not, List, [], ◌∷◌, ◌++◌, if◌then◌else◌}
 
 -- U+00A0 keeps its place, and U+0020 collapses

@@ -1,5 +1,5 @@
--- Canonicalizing whitespace (HTML Editing APIs): the blanks round a point become a canonical sequence. The steps are those of
--- docs/ALGORITHMS.md.
+-- Canonicalizing whitespace (HTML Editing APIs): the blanks round a point become a canonical
+-- sequence. The steps are those of docs/ALGORITHMS.md.
 use Rattle.std.specs.Prelude.{ℕ, zero, suc, ◌+◌, ◌-◌, ◌==◌, nat_lt, Bool, true, false, ◌||◌, ◌&&◌, not, List, [], ◌∷◌, length, Option, Some, None, is_some, slice_get, if◌then◌else◌}
 use Rattle.std.specs.Option.{option_map, option_map_or}
 use Rattle.css_value.specs.declared.values.WhiteSpace.{WhiteSpace}
@@ -122,7 +122,9 @@ passed a c = record a { end = at a.end.label (a.end.offset + 1); count = a.count
 
 -- step 4, second line
 unfoldable pub out_on : State → Point → Option Point
-out_on s p = if (p.offset == length_of s.trees p.label) && not (precedes_break s.trees p.label) then out_to_end s p.label else None
+out_on s p =
+    if (p.offset == length_of s.trees p.label) && not (precedes_break s.trees p.label) then out_to_end s p.label
+    else None
 
 -- step 4, first and second line
 unfoldable pub on_step : State → Point → Option Point
@@ -131,7 +133,8 @@ on_step s p = either (into_child_at s p) (out_on s p)
 -- step 4, third line
 unfoldable pub scan_blank : Bool → Scan → ℕ → Run Scan
 scan_blank fix a c =
-    if fix && (a.after_soft && (c == soft)) then (replace a.end.label a.end.offset 1 [] >> answer a) else answer (passed a c)
+    if fix && (a.after_soft && (c == soft)) then (replace a.end.label a.end.offset 1 [] >> answer a)
+    else answer (passed a c)
 
 unfoldable pub scan_char : Bool → Scan → Run Scan
 scan_char fix a = look λ s. given (blank_at s.trees a.end) (answer (stopped a)) (scan_blank fix a)
@@ -165,7 +168,8 @@ shrunk a = record a { end = at a.end.label (a.end.offset - 1); count = a.count -
 
 unfoldable pub trim_char : Scan → Run Scan
 trim_char a = look λ s.
-    if ends_softly s a.end then (replace a.end.label (a.end.offset - 1) 1 [] >> answer (shrunk a)) else answer (stopped a)
+    if ends_softly s a.end then (replace a.end.label (a.end.offset - 1) 1 [] >> answer (shrunk a))
+    else answer (stopped a)
 
 unfoldable pub trim_turn : Scan → Run Scan
 trim_turn a = look λ s. given (trim_step s a.end) (trim_char a) λ q. answer (taken_to a q)
@@ -203,7 +207,8 @@ gone_to a p = record a { place = p }
 
 -- step 7, third line
 unfoldable pub lay_char : List ℕ → Laid → ℕ → Run Laid
-lay_char spaces a c = given (slice_get spaces a.laid) (answer a) λ space. put_space a.place c space >> answer (next_laid a)
+lay_char spaces a c =
+    given (slice_get spaces a.laid) (answer a) λ space. put_space a.place c space >> answer (next_laid a)
 
 -- step 7, second line
 unfoldable pub lay_out : Laid → Run Laid
@@ -214,7 +219,8 @@ lay_text spaces a = look λ s. given (char_at s.trees a.place) (lay_out a) (lay_
 
 -- step 7, first line, and then the others
 unfoldable pub lay_turn : List ℕ → Laid → Run Laid
-lay_turn spaces a = look λ s. given (child_at s.trees a.place.label a.place.offset) (lay_text spaces a) λ k. answer (gone_to a (start_in k))
+lay_turn spaces a = look λ s.
+    given (child_at s.trees a.place.label a.place.offset) (lay_text spaces a) λ k. answer (gone_to a (start_in k))
 
 unfoldable pub lays : List ℕ → Point → State → Laid → Bool
 lays spaces end s a = nat_lt a.laid (length spaces) && comes_before s.trees a.place end

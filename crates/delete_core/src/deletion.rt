@@ -54,7 +54,8 @@ fn erase_across(
     requires stretch_held { StretchHeld doc.old stretch }
     requires block_held { IfHeld doc.old blocks.0 }
     requires other_held { IfHeld doc.old blocks.1 }
-    ensures gives { Gives result doc.old.state doc.new.state (erase_across manner stretch.start stretch.end (label_of blocks.0) (label_of blocks.1)) }
+    ensures gives { Gives result doc.old.state doc.new.state
+        (erase_across manner stretch.start stretch.end (label_of blocks.0) (label_of blocks.1)) }
     ensures keeps { Keeps doc.old doc.new }
 {
     cut_after(doc, stretch.start_node, stretch.start)?; // step 6
@@ -78,7 +79,8 @@ fn erase(
     requires stretch_held { StretchHeld doc.old stretch }
     requires block_held { IfHeld doc.old blocks.0 }
     requires other_held { IfHeld doc.old blocks.1 }
-    ensures gives { Gives result doc.old.state doc.new.state (erase manner stretch.start stretch.end (label_of blocks.0) (label_of blocks.1)) }
+    ensures gives { Gives result doc.old.state doc.new.state
+        (erase manner stretch.start stretch.end (label_of blocks.0) (label_of blocks.1)) }
     ensures keeps { Keeps doc.old doc.new }
 {
     if stretch.start.label == stretch.end.label && is_own_text(doc, stretch.start_node) {
@@ -178,9 +180,10 @@ fn delete_between(alloc: Global, doc: &mut Doc, manner: Manner) -> Result<Overri
     delete_range(alloc, doc, manner, first, last)
 }
 
-/// Deletes what is selected. With `merge` the blocks of the two ends become one. With `strip` inline nodes that are left empty go;
-/// without it those stay in which the start stands. The caret that is left where nothing is merged stands at the start of the
-/// range, or at its end where `backward` is on. Answers the states and values to restore, which are those of the first
+/// Deletes what is selected. With `merge` the blocks of the two ends become one. With `strip`
+/// inline nodes that are left empty go; without it those stay in which the start stands. The caret
+/// that is left where nothing is merged stands at the start of the range, or at its end where
+/// `backward` is on. Answers the states and values to restore, which are those of the first
 /// formattable node that was selected; none where nothing is deleted.
 #[tactic(auto, using(edit_model::proofs::Steps::steps, edit_model::proofs::Steps::exits), unfolding(crate::specs::Deletion::delete_selection))]
 pub fn delete_selection(

@@ -104,8 +104,9 @@ fn previous_point(doc: &Doc, at: Point) -> Option<Point>
     }
 }
 
-/// The last of the points after a point that are equivalent to it: between them stand only edges of inline nodes. From the end
-/// of an inline node it goes out, and from before one that isn't empty it goes in.
+/// The last of the points after a point that are equivalent to it: between them stand only edges of
+/// inline nodes. From the end of an inline node it goes out, and from before one that isn't empty
+/// it goes in.
 #[tactic(auto, using(crate::proofs::Turns::point_walks), unfolding(crate::specs::Equivalent::last_equivalent))]
 pub fn last_equivalent(doc: &Doc, at: Point) -> Point
     ensures { result ≡ last_equivalent doc.now.state.trees at }

@@ -287,7 +287,8 @@ fn remove_each(
     requires open { IsOpen doc.old }
     requires start_held { Holds doc.old start }
     requires list_held { EachHeld doc.old list.now }
-    ensures gives { Gives result doc.old.state doc.new.state (for_each (labels_of list.now) (remove_node strip start.label)) }
+    ensures gives { Gives result doc.old.state doc.new.state
+        (for_each (labels_of list.now) (remove_node strip start.label)) }
     ensures keeps { Keeps doc.old doc.new }
 {
     for node in list {
@@ -296,7 +297,8 @@ fn remove_each(
     Ok(())
 }
 
-/// Step 7: removes the editable nodes of the active range that are no parts of a table, and inline nodes that are left empty.
+/// Step 7: removes the editable nodes of the active range that are no parts of a table, and inline
+/// nodes that are left empty.
 #[tactic(auto, using(edit_model::proofs::Steps::steps, edit_model::proofs::Steps::exits), unfolding(crate::specs::Erasing::remove_nodes))]
 pub(crate) fn remove_nodes(
     alloc: Global,

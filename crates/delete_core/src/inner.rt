@@ -157,7 +157,8 @@ fn is_stuck(doc: &Doc, node: NodeRef) -> bool
     }
 }
 
-// Step 11 e: takes a line out of its parent, until it stands in the outer block. A turn that changes nothing is the last.
+// Step 11 e: takes a line out of its parent, until it stands in the outer block. A turn that
+// changes nothing is the last.
 #[tactic(auto, using(edit_model::proofs::Steps::whiles, edit_model::proofs::Steps::exits, crate::proofs::Stuck::same_while), unfolding(crate::specs::Merging::split_out, crate::specs::Merging::split_once))]
 fn split_out(
     alloc: Global,
@@ -268,8 +269,8 @@ fn merge_content(
     take_line(alloc, doc, outer, first)
 }
 
-/// Delete the selection, step 11: merges a block with one that stands in it. Answers the values to restore; none where the
-/// deletion ends with that.
+/// Delete the selection, step 11: merges a block with one that stands in it. Answers the values to
+/// restore; none where the deletion ends with that.
 #[tactic(auto, using(edit_model::proofs::Steps::steps, edit_model::proofs::Steps::exits, edit_model::proofs::Steps::actions, crate::proofs::Recordings::recordings), unfolding(crate::specs::Merging::merge_inner))]
 pub(crate) fn merge_inner(
     alloc: Global,

@@ -182,8 +182,8 @@ fn lay_all(doc: &mut Doc, spaces: &[char], start: Point, end: Point) -> Result<(
     Ok(())
 }
 
-/// Canonicalize whitespace, steps 6 and 7: the blanks between a point and where a scan came to become those of the canonical
-/// sequence.
+/// Canonicalize whitespace, steps 6 and 7: the blanks between a point and where a scan came to
+/// become those of the canonical sequence.
 #[tactic(auto, using(edit_model::proofs::Steps::steps, edit_model::proofs::Steps::exits), unfolding(crate::specs::Whitespace::laid_between))]
 pub(crate) fn laid_between(
     alloc: Global,

@@ -1,5 +1,5 @@
-//! Deleting: canonical whitespace, equivalent points, and deleting the selection (W3C, *HTML Editing APIs*), over a document
-//! under edits.
+//! Deleting: canonical whitespace, equivalent points, and deleting the selection (W3C, *HTML
+//! Editing APIs*), over a document under edits.
 //!
 //! Each call is proved to make one run of elementary edits, which its definition composes step by step.
 #![tactic(auto)]

@@ -42,7 +42,8 @@ fn next_in_line(doc: &Doc, node: NodeRef) -> Option<NodeRef>
 fn with_line_after(doc: &Doc, list: Vec<NodeRef>, last: NodeRef) -> Result<Vec<NodeRef>, AllocError>
     requires list_held { EachHeld doc.now list.items }
     requires last_held { Holds doc.now last }
-    ensures gives { IfOk result (λ v. labels_of v.items ≡ labels_of list.items ++ line_after doc.now.state (turn_bound doc.now.state) last.label) }
+    ensures gives { IfOk result (λ v. labels_of v.items
+        ≡ labels_of list.items ++ line_after doc.now.state (turn_bound doc.now.state) last.label) }
     ensures held { IfOk result (λ v. EachHeld doc.now v.items) }
 {
     let mut list = list;

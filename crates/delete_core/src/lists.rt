@@ -79,7 +79,8 @@ fn join_next(doc: &mut Doc, list: NodeRef) -> Result<(), EditFault>
     join_lists_at(doc, list, next)
 }
 
-/// Delete the selection, step 14: joins lists of one kind that stand side by side, of those that a node is or stands in.
+/// Delete the selection, step 14: joins lists of one kind that stand side by side, of those that a
+/// node is or stands in.
 #[tactic(auto, using(edit_model::proofs::Steps::whiles, edit_model::proofs::Steps::exits), unfolding(crate::specs::Merging::join_lists, crate::specs::Merging::join_once, crate::specs::Merging::has_list_to_join))]
 pub(crate) fn join_lists(doc: &mut Doc, node: NodeRef) -> Result<(), EditFault>
     requires open { IsOpen doc.old }

@@ -147,7 +147,8 @@ pub(crate) fn merge_if(
     requires open { IsOpen doc.old }
     requires block_held { IfHeld doc.old blocks.0 }
     requires other_held { IfHeld doc.old blocks.1 }
-    ensures gives { Gives result doc.old.state doc.new.state (merge_if merging backward (label_of blocks.0) (label_of blocks.1)) }
+    ensures gives { Gives result doc.old.state doc.new.state
+        (merge_if merging backward (label_of blocks.0) (label_of blocks.1)) }
     ensures keeps { Keeps doc.old doc.new }
 {
     if !merging {

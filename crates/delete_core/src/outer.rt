@@ -134,8 +134,8 @@ fn take_children(
     Ok(Some(values))
 }
 
-/// Delete the selection, step 13: merges a block with another one, neither of which stands in the other. Answers the values to
-/// restore.
+/// Delete the selection, step 13: merges a block with another one, neither of which stands in the
+/// other. Answers the values to restore.
 #[tactic(auto, using(edit_model::proofs::Steps::steps, edit_model::proofs::Steps::exits, edit_model::proofs::Steps::actions, crate::proofs::Recordings::recordings), unfolding(crate::specs::Merging::merge_beside))]
 pub(crate) fn merge_beside(
     alloc: Global,

@@ -102,8 +102,8 @@ fn scan_turn(doc: &mut Doc, fix: bool, scan: Scan) -> Result<Scan, EditFault>
     }
 }
 
-/// Canonicalize whitespace, steps 3 and 4: counts the blanks from a point on, and where `fix` is on removes each U+0020 after
-/// another one or at the start of a line.
+/// Canonicalize whitespace, steps 3 and 4: counts the blanks from a point on, and where `fix` is on
+/// removes each U+0020 after another one or at the start of a line.
 #[tactic(auto, using(edit_model::proofs::Steps::whiles, edit_model::proofs::Steps::exits), unfolding(crate::specs::Whitespace::scan_blanks))]
 pub(crate) fn scan_blanks(doc: &mut Doc, fix: bool, start: Point) -> Result<Scan, EditFault>
     requires open { IsOpen doc.old }

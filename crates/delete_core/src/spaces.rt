@@ -55,8 +55,8 @@ fn push_last(spaces: &mut Vec<char>, count: usize, start: bool, end: bool) -> Re
     Ok(())
 }
 
-/// So many blanks, U+00A0 or U+0020, of which no two U+0020 stand side by side. `start` and `end` say that a line starts before
-/// them, and that one ends after them; a blank there is U+00A0.
+/// So many blanks, U+00A0 or U+0020, of which no two U+0020 stand side by side. `start` and `end`
+/// say that a line starts before them, and that one ends after them; a blank there is U+00A0.
 #[tactic(auto, using(crate::proofs::Counted::pushes, crate::proofs::Counted::counts))]
 pub fn canonical_spaces(
     alloc: Global,

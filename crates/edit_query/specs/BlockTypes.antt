@@ -1,4 +1,5 @@
--- The type of a node: the name of the block that it stands in (HTML Editing APIs, "the formatBlock command", its value).
+-- The type of a node: the name of the block that it stands in (HTML Editing APIs, "the formatBlock
+-- command", its value).
 use Rattle.std.specs.Prelude.{ℕ, Bool, false, not, ◌&&◌, List, [], ◌∷◌, Option, bytes_eq, if◌then◌else◌}
 use Rattle.std.specs.List.{find, list_any}
 use Rattle.std.specs.Option.{option_map, option_map_or}

@@ -1,5 +1,5 @@
--- The nodes that questions about inline commands look at: the formattable nodes that the active range effectively contains
--- (HTML Editing APIs, "formattable node", "effectively contained").
+-- The nodes that questions about inline commands look at: the formattable nodes that the active
+-- range effectively contains (HTML Editing APIs, "formattable node", "effectively contained").
 use Rattle.std.specs.Prelude.{ℕ, List, [], ◌∷◌, Option, Some, None}
 use Rattle.std.specs.List.{filter}
 use Rattle.std.specs.Option.{option_map}

@@ -1,5 +1,6 @@
--- The nodes that questions about formatBlock and the justify commands look at: the visible editable nodes without children
--- that the block-extended active range contains (HTML Editing APIs, "block-extend", "visible").
+-- The nodes that questions about formatBlock and the justify commands look at: the visible editable
+-- nodes without children that the block-extended active range contains (HTML Editing APIs,
+-- "block-extend", "visible").
 use Rattle.std.specs.Prelude.{ℕ, Bool, ◌&&◌, List, [], Option, Some, None, is_none}
 use Rattle.std.specs.List.{filter}
 use Rattle.dom_model.specs.declared.Content.{Content}

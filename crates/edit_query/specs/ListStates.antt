@@ -54,7 +54,8 @@ is_child_of ordered f l = option_map_or (is_list_of ordered f) (parent_of f l) f
 
 -- its parent is an li that is a child of such a list
 unfoldable pub is_in_item_of : Bool → Forest Content → ℕ → Bool
-is_in_item_of ordered f l = option_map_or (λ p. has_name f p (codes "li") && is_child_of ordered f p) (parent_of f l) false
+is_in_item_of ordered f l =
+    option_map_or (λ p. has_name f p (codes "li") && is_child_of ordered f p) (parent_of f l) false
 
 -- it is such a list, a child of one, or the child of an li child of one
 unfoldable pub belongs : Bool → Forest Content → ℕ → Bool

@@ -1,5 +1,6 @@
--- The questions that can be asked of a command (HTML Editing APIs, "queryCommandState()" and the like), as a running command
--- asks them: with its host, and whether the command asked for is supported or enabled isn't looked at.
+-- The questions that can be asked of a command (HTML Editing APIs, "queryCommandState()" and the
+-- like), as a running command asks them: with its host, and whether the command asked for is
+-- supported or enabled isn't looked at.
 use Rattle.std.specs.Prelude.{ℕ, Bool, true, false, List, Option}
 use Rattle.html_names.specs.declared.commands.Command.{Command}
 use Rattle.html_names.specs.declared.commands.Command.TheVariants as command

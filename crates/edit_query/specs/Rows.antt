@@ -1,5 +1,5 @@
--- What each command answers of its own, where no override does (HTML Editing APIs, "indeterminate", "state", "value"): a row
--- a command. A host decides what is editable.
+-- What each command answers of its own, where no override does (HTML Editing APIs, "indeterminate",
+-- "state", "value"): a row a command. A host decides what is editable.
 use Rattle.std.specs.Prelude.{ℕ, ◌+◌, Bool, true, false, ◌||◌, List, [], ◌∷◌, Option, Some, None, codes, if◌then◌else◌}
 use Rattle.std.specs.List.{list_all}
 use Rattle.std.specs.Option.{option_map_or, option_and_then, option_or, unwrap_or}
@@ -30,7 +30,8 @@ is_on s host c = is_on_throughout s c (formattable_nodes s host)
 
 -- the effective value of the first formattable node in the range, or where there is none that at the range's start
 unfoldable pub first_value : State → Option ℕ → Command → Option (List ℕ)
-first_value s host c = option_and_then (λ l. effective s.trees l c) (option_or (first_formattable s host) (start_node s))
+first_value s host c =
+    option_and_then (λ l. effective s.trees l c) (option_or (first_formattable s host) (start_node s))
 
 -- two leaves of the block-extended range have different types; without a host there are no leaves
 abbrev pub types_differ : State → Option ℕ → Bool

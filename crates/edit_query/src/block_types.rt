@@ -104,13 +104,14 @@ fn is_other(doc: &Doc, host: NodeRef, block: NodeRef, before: NodeRef, wanted: &
     block.label != before.label && type_in(doc, host, block) != wanted
 }
 
-// Whether the type of a node of a list is another than that in this block. Nodes of one block mostly stand together: what is
-// below it is looked at once for them.
+// Whether the type of a node of a list is another than that in this block. Nodes of one block
+// mostly stand together: what is below it is looked at once for them.
 fn has_other_type(doc: &Doc, host: NodeRef, first: NodeRef, list: &[NodeRef]) -> bool
     requires host_held { Holds doc.now host }
     requires first_held { Holds doc.now first }
     requires list_held { EachHeld doc.now list.now }
-    ensures { result ≡ has_other_type doc.now.state.trees host.label (type_in doc.now.state.trees host.label first.label) (labels_of list.now) }
+    ensures { result ≡ has_other_type doc.now.state.trees host.label
+        (type_in doc.now.state.trees host.label first.label) (labels_of list.now) }
 {
     let wanted = type_in(doc, host, first);
     let mut before = first;

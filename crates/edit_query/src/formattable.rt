@@ -24,7 +24,8 @@ pub(crate) fn effective_between(
 ) -> Result<NodeList, AllocError>
     requires { IsPlacedPair doc.now.state.trees pair }
     ensures held { IfOk result (λ list. EachHeld doc.now list) }
-    ensures nodes { IfOk result (λ list. labels_of list ≡ effective_nodes doc.now.state.trees (start_of doc.now.state.trees pair) (end_of doc.now.state.trees pair)) }
+    ensures nodes { IfOk result (λ list. labels_of list ≡ effective_nodes doc.now.state.trees
+        (start_of doc.now.state.trees pair) (end_of doc.now.state.trees pair)) }
 {
     effective_nodes(alloc, doc, ends_of(doc, pair))
 }
@@ -40,7 +41,8 @@ fn formattable_between(
     requires host_held { Holds doc.now host }
     requires placed { IsPlacedPair doc.now.state.trees pair }
     ensures held { IfOk result (λ list. EachHeld doc.now list.items) }
-    ensures nodes { IfOk result (λ list. labels_of list.items ≡ formattable_between doc.now.state.trees host.label pair) }
+    ensures nodes { IfOk result
+        (λ list. labels_of list.items ≡ formattable_between doc.now.state.trees host.label pair) }
 {
     let list = effective_between(alloc, doc, pair)?;
     sought_of(alloc, doc, host, Sought::Formattable, list.as_slice())
@@ -56,7 +58,8 @@ fn first_between(
 ) -> Result<Option<NodeRef>, AllocError>
     requires host_held { Holds doc.now host }
     requires placed { IsPlacedPair doc.now.state.trees pair }
-    ensures { IfOk result (λ node. Finds doc.now node (first_in (formattable_between doc.now.state.trees host.label pair))) }
+    ensures { IfOk result
+        (λ node. Finds doc.now node (first_in (formattable_between doc.now.state.trees host.label pair))) }
 {
     let list = effective_between(alloc, doc, pair)?;
     Ok(first_sought(doc, host, Sought::Formattable, list.as_slice()))

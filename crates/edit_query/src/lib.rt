@@ -1,10 +1,11 @@
-//! Questions about commands (HTML Editing APIs, "queryCommandIndeterm()", "queryCommandState()", "queryCommandValue()"), as a
-//! running command asks them: with its editing host, and without a look at whether the command asked for is supported or
-//! enabled.
+//! Questions about commands (HTML Editing APIs, "queryCommandIndeterm()", "queryCommandState()",
+//! "queryCommandValue()"), as a running command asks them: with its editing host, and without a
+//! look at whether the command asked for is supported or enabled.
 //!
-//! Inline commands are asked of the formattable nodes in the active range, formatBlock and the justify commands of the visible
-//! editable nodes without children in the block-extended one, and the list commands of the list members of that. A question costs
-//! the nodes from the start to the end of that range, those above them, and the children of these; its list of nodes takes memory,
+//! Inline commands are asked of the formattable nodes in the active range, formatBlock and the
+//! justify commands of the visible editable nodes without children in the block-extended one, and
+//! the list commands of the list members of that. A question costs the nodes from the start to the
+//! end of that range, those above them, and the children of these; its list of nodes takes memory,
 //! and so does a text.
 #![tactic(auto)]
 

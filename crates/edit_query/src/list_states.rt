@@ -84,7 +84,8 @@ fn is_any_list(doc: &Doc, node: NodeRef) -> bool
 
 fn is_in_any_list(doc: &Doc, node: NodeRef) -> bool
     requires { Holds doc.now node }
-    ensures { result ≡ option_map_or (lists.is_any_list doc.now.state.trees) (parent_of doc.now.state.trees node.label) Bool.false }
+    ensures { result ≡ option_map_or (lists.is_any_list doc.now.state.trees)
+        (parent_of doc.now.state.trees node.label) Bool.false }
 {
     doc.valid();
     match doc.parent(node) {
@@ -134,14 +135,15 @@ fn gather_members(
     requires start { 0 < count_of doc.now.state.trees range.0.label }
     requires end { 0 < count_of doc.now.state.trees range.1.label }
     ensures held { IfOk result (λ list. EachHeld doc.now list) }
-    ensures nodes { IfOk result (λ list. labels_of list ≡ lists.members_in doc.now.state.trees (Some host.label) range) }
+    ensures nodes { IfOk result
+        (λ list. labels_of list ≡ lists.members_in doc.now.state.trees (Some host.label) range) }
 {
     gather_in(alloc, doc, range, &Member { host })
 }
 
-/// The list members of a range, in tree order: of its nodes that are editable with `host` as their editing host, those that are
-/// no indentation element and that are an ol or ul, or a child of one, or may stand in an li, without those below others. There
-/// are none without a host.
+/// The list members of a range, in tree order: of its nodes that are editable with `host` as their
+/// editing host, those that are no indentation element and that are an ol or ul, or a child of one,
+/// or may stand in an li, without those below others. There are none without a host.
 pub fn list_members(
     alloc: Global,
     doc: &Doc,
@@ -311,8 +313,8 @@ fn state_between(
     Ok(state_of_members(doc, list.as_slice()))
 }
 
-/// The list state of the active range: which kind of list the list members of the block-extended range stand in. `host` is the
-/// running command's editing host.
+/// The list state of the active range: which kind of list the list members of the block-extended
+/// range stand in. `host` is the running command's editing host.
 #[tactic(auto, unfolding(crate::specs::ListStates::list_state))]
 pub fn list_state(alloc: Global, doc: &Doc, host: Option<NodeRef>) -> Result<ListState, AllocError>
     requires { IfHeld doc.now host }

@@ -77,8 +77,8 @@ pub(crate) fn is_partly(doc: &Doc, feature: Feature, list: &[NodeRef]) -> bool
     is_at_one(doc, feature, list) && !is_at_all(doc, feature, list)
 }
 
-/// Whether a command is on at each node of a list that is formattable with this host. It tests no node after the first where the
-/// command is off.
+/// Whether a command is on at each node of a list that is formattable with this host. It tests no
+/// node after the first where the command is off.
 #[tactic(auto, using(edit_model::proofs::Steps::labels_of_drop, edit_model::proofs::Steps::labels_of_end))]
 pub(crate) fn is_on_at_formattable(
     doc: &Doc,
@@ -88,7 +88,8 @@ pub(crate) fn is_on_at_formattable(
 ) -> bool
     requires host_held { Holds doc.now host }
     requires list_held { EachHeld doc.now list.now }
-    ensures { result ≡ list_all (λ l. values.is_activated doc.now.state.trees l command) (filter (is_formattable doc.now.state.trees host.label) (labels_of list.now)) }
+    ensures { result ≡ list_all (λ l. values.is_activated doc.now.state.trees l command)
+        (filter (is_formattable doc.now.state.trees host.label) (labels_of list.now)) }
 {
     for node in list {
         if is_formattable(doc, host, *node) && !is_activated(doc, *node, command) {
@@ -128,7 +129,8 @@ pub(crate) fn has_mixed(doc: &Doc, list: &[NodeRef]) -> bool
 
 // Whether a text is that of a value. Only the text of a colour is made for it.
 fn is_text_of(alloc: Global, value: Value<'_>, text: &[char]) -> Result<bool, AllocError>
-    ensures { IfOk result (λ same. same ≡ option_map_or (λ own. bytes_eq own text.now) (value_text value.entry) Bool.false) }
+    ensures { IfOk result
+        (λ same. same ≡ option_map_or (λ own. bytes_eq own text.now) (value_text value.entry) Bool.false) }
 {
     Ok(match value {
         Value::Null => false,
@@ -160,7 +162,8 @@ fn has_other_value(
     list: &[NodeRef],
 ) -> Result<bool, AllocError>
     requires { EachHeld doc.now list.now }
-    ensures { IfOk result (λ other. other ≡ has_other_value doc.now.state.trees command (option_copied value.entry) (labels_of list.now)) }
+    ensures { IfOk result (λ other. other ≡ has_other_value doc.now.state.trees command
+        (option_copied value.entry) (labels_of list.now)) }
 {
     for node in list {
         if !is_same_value(alloc, effective_value(doc, *node, command), value)? {

@@ -12,10 +12,11 @@ use edit_doc::{Doc, NodeRef, Setting};
 use html_names::{Command, QueryKind};
 use std::alloc::{AllocError, Global};
 
-/// The state of a command (HTML Editing APIs, "state"): its state override, or else whether it is on at all formattable
-/// nodes in the active range, and where there is none at the range's start. A justify command is on where there are visible
-/// editable nodes without children in the block-extended range, and all have its alignment. A list command is on where all list
-/// members of that range stand in its kind of list. `host` is the running command's editing host.
+/// The state of a command (HTML Editing APIs, "state"): its state override, or else whether it is
+/// on at all formattable nodes in the active range, and where there is none at the range's start. A
+/// justify command is on where there are visible editable nodes without children in the
+/// block-extended range, and all have its alignment. A list command is on where all list members of
+/// that range stand in its kind of list. `host` is the running command's editing host.
 #[tactic(auto, unfolding(crate::specs::Queries::state_of))]
 pub fn query_state(
     alloc: Global,
@@ -43,11 +44,11 @@ fn shown_override(alloc: Global, command: Command, value: &Chars) -> Result<Char
     }
 }
 
-/// The value of a command (HTML Editing APIs, "value"): its value override, or else the effective value of the first
-/// formattable node in the active range, and where there is none that at the range's start. A size of a font is shown as
-/// the legacy size, 1 to 7; no value is the empty text. Of formatBlock it is the type, of a justify command the alignment, of
-/// the first visible editable node without children in the block-extended range. `host` is the running command's editing
-/// host.
+/// The value of a command (HTML Editing APIs, "value"): its value override, or else the effective
+/// value of the first formattable node in the active range, and where there is none that at the
+/// range's start. A size of a font is shown as the legacy size, 1 to 7; no value is the empty text.
+/// Of formatBlock it is the type, of a justify command the alignment, of the first visible editable
+/// node without children in the block-extended range. `host` is the running command's editing host.
 #[tactic(auto, unfolding(crate::specs::Queries::value_of))]
 pub fn query_value(
     alloc: Global,
@@ -64,8 +65,9 @@ pub fn query_value(
     }
 }
 
-/// The answer to a question as a running command asks it, with its editing host. Whether the command asked for is supported
-/// or enabled isn't looked at, and of these two kinds the answer is false.
+/// The answer to a question as a running command asks it, with its editing host. Whether the
+/// command asked for is supported or enabled isn't looked at, and of these two kinds the answer is
+/// false.
 #[tactic(auto, unfolding(crate::specs::Queries::query_in))]
 pub fn query(
     alloc: Global,

@@ -49,7 +49,8 @@ fn is_partly_aligned(
     wanted: TextAlign,
 ) -> Result<bool, AllocError>
     requires { IfHeld doc.now host }
-    ensures { IfOk result (λ flag. flag ≡ is_partly_aligned doc.now.state.trees wanted (leaves doc.now.state (label_of host))) }
+    ensures { IfOk result
+        (λ flag. flag ≡ is_partly_aligned doc.now.state.trees wanted (leaves doc.now.state (label_of host))) }
 {
     let list = leaves(alloc, doc, host)?;
     Ok(is_partly(doc, Feature::Aligned(wanted), &list))
@@ -116,7 +117,8 @@ fn is_on_between(
 ) -> Result<bool, AllocError>
     requires host_held { Holds doc.now host }
     requires placed { IsPlacedPair doc.now.state.trees pair }
-    ensures { IfOk result (λ flag. flag ≡ is_on_throughout doc.now.state command (formattable_between doc.now.state.trees host.label pair)) }
+    ensures { IfOk result (λ flag. flag ≡ is_on_throughout doc.now.state command
+        (formattable_between doc.now.state.trees host.label pair)) }
 {
     let list = effective_between(alloc, doc, pair)?;
     match first_sought(doc, host, Sought::Formattable, list.as_slice()) {
@@ -151,7 +153,8 @@ fn are_aligned(
     wanted: TextAlign,
 ) -> Result<bool, AllocError>
     requires { IfHeld doc.now host }
-    ensures { IfOk result (λ flag. flag ≡ are_aligned doc.now.state.trees wanted (leaves doc.now.state (label_of host))) }
+    ensures { IfOk result
+        (λ flag. flag ≡ are_aligned doc.now.state.trees wanted (leaves doc.now.state (label_of host))) }
 {
     let list = leaves(alloc, doc, host)?;
     Ok(!list.is_empty() && is_at_all(doc, Feature::Aligned(wanted), &list))
@@ -192,7 +195,8 @@ fn first_node(
     host: Option<NodeRef>,
 ) -> Result<Option<NodeRef>, AllocError>
     requires { IfHeld doc.now host }
-    ensures { IfOk result (λ node. Finds doc.now node (option_or (first_formattable doc.now.state (label_of host)) (start_node doc.now.state))) }
+    ensures { IfOk result (λ node. Finds doc.now node
+        (option_or (first_formattable doc.now.state (label_of host)) (start_node doc.now.state))) }
 {
     match first_formattable(alloc, doc, host)? {
         Some(node) => Ok(Some(node)),

@@ -47,7 +47,8 @@ fn push_sought(
     requires node_held { Holds doc.now node }
     requires found_held { EachHeld doc.now found.old.items }
     ensures held { OnOk result (EachHeld doc.now found.new.items) }
-    ensures nodes { OnOk result (labels_of found.new.items ≡ labels_of found.old.items ++ only_if (is_sought sought doc.now.state.trees host.label) node.label) }
+    ensures nodes { OnOk result (labels_of found.new.items ≡ labels_of found.old.items ++ only_if
+        (is_sought sought doc.now.state.trees host.label) node.label) }
 {
     if is_sought(doc, host, sought, node) {
         found.push(node)?;
@@ -67,7 +68,8 @@ pub(crate) fn sought_of(
     requires host_held { Holds doc.now host }
     requires list_held { EachHeld doc.now list.now }
     ensures held { IfOk result (λ found. EachHeld doc.now found.items) }
-    ensures nodes { IfOk result (λ found. labels_of found.items ≡ filter (is_sought sought doc.now.state.trees host.label) (labels_of list.now)) }
+    ensures nodes { IfOk result (λ found. labels_of found.items ≡ filter
+        (is_sought sought doc.now.state.trees host.label) (labels_of list.now)) }
 {
     let mut found = Vec::new(alloc);
     for node in list {
@@ -86,7 +88,8 @@ pub(crate) fn first_sought(
 ) -> Option<NodeRef>
     requires host_held { Holds doc.now host }
     requires list_held { EachHeld doc.now list.now }
-    ensures { Finds doc.now result (first_in (filter (is_sought sought doc.now.state.trees host.label) (labels_of list.now))) }
+    ensures { Finds doc.now result
+        (first_in (filter (is_sought sought doc.now.state.trees host.label) (labels_of list.now))) }
 {
     for node in list {
         if is_sought(doc, host, sought, *node) {

@@ -21,7 +21,8 @@ relink v e = look λ s. if is_editable_for s e then set_attribute e (codes "href
 unfoldable pub relink_above : List ℕ → ℕ → Run (Unit {0})
 relink_above v n = look λ s. for_each (links_above s.trees n) (relink v)
 
--- createLink, step 2: this comes to each link in tree order; to one around several nodes again, where it has the value already
+-- createLink, step 2: this comes to each link in tree order; to one around several nodes again,
+-- where it has the value already
 unfoldable pub relink_range : List ℕ → Run (Unit {0})
 relink_range v = look λ s. for_each (nodes_in_range s) (relink_above v)
 

@@ -48,10 +48,11 @@ restore_off c = look λ s. if state_of s s.host c then turned c else done
 
 -- restore states and values, step 4: a font or a colour that isn't equivalent to the command's value
 unfoldable pub restore_shown : Command → List ℕ → Run (Unit {0})
-restore_shown c v = look λ s. if equivalent c (Some v) (Some (value_of s s.host c)) then done else (apply_value c v >> done)
+restore_shown c v = look λ s.
+    if equivalent c (Some v) (Some (value_of s s.host c)) then done else (apply_value c v >> done)
 
--- The text differs from the value override; or there is none, and it isn't alike to the value at the first formattable node.
--- For createLink equal texts alone are alike.
+-- The text differs from the value override; or there is none, and it isn't alike to the value at
+-- the first formattable node. For createLink equal texts alone are alike.
 abbrev pub differs_at : State → Command → List ℕ → Option ℕ → Bool
 differs_at s c v None = false
 differs_at s c v (Some n) = not (has_alike s n c (Some v))
@@ -69,7 +70,8 @@ restore_link v = look λ s. if is_other_value s command.CreateLink v then create
 
 -- restore states and values, step 6: a size, by the legacy size of its pixels
 unfoldable pub restore_size : List ℕ → Run (Unit {0})
-restore_size v = look λ s. if is_other_value s command.FontSize v then apply_value command.FontSize (legacy_text v) >> done else done
+restore_size v = look λ s.
+    if is_other_value s command.FontSize v then apply_value command.FontSize (legacy_text v) >> done else done
 
 abbrev pub restore_text : Command → List ℕ → Run (Unit {0})
 restore_text command.FontName v = restore_shown command.FontName v

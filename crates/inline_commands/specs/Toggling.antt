@@ -1,6 +1,6 @@
--- The commands that turn a style, or a script, on and off (HTML Editing APIs, "the bold command", "the italic command", "the
--- underline command", "the strikethrough command", "the subscript command", "the superscript command"). The steps are those
--- of docs/ALGORITHMS.md.
+-- The commands that turn a style, or a script, on and off (HTML Editing APIs, "the bold command",
+-- "the italic command", "the underline command", "the strikethrough command", "the subscript
+-- command", "the superscript command"). The steps are those of docs/ALGORITHMS.md.
 use Rattle.std.specs.Prelude.{ℕ, Bool, true, false, List, codes, Option, Some, None, if◌then◌else◌}
 use Rattle.html_names.specs.declared.commands.Command.{Command}
 use Rattle.html_names.specs.declared.commands.Command.TheVariants as command

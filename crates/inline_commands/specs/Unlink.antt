@@ -1,5 +1,5 @@
--- The command unlink (HTML Editing APIs, "the unlink command"): the links in the active range, and around its ends, lose
--- their href. The steps are those of docs/ALGORITHMS.md.
+-- The command unlink (HTML Editing APIs, "the unlink command"): the links in the active range, and
+-- around its ends, lose their href. The steps are those of docs/ALGORITHMS.md.
 use Rattle.std.specs.Prelude.{ℕ, Bool, true, false, ◌||◌, ◌&&◌, List, [], codes, is_some, Option, Some, None, filter}
 use Rattle.std.specs.Option.{option_map_or}
 use Rattle.dom_model.specs.declared.Content.{Content}
@@ -18,7 +18,9 @@ use Rattle.inline_value.specs.Selections.{clear_one}
 
 -- an a with the attribute href
 unfoldable pub is_link : Forest Content → ℕ → Bool
-is_link f l = has_name f l (codes "a") && option_map_or (λ list. is_some (value_of list (codes "href"))) (attributes_of f l) false
+is_link f l =
+    has_name f l (codes "a")
+    && option_map_or (λ list. is_some (value_of list (codes "href"))) (attributes_of f l) false
 
 -- contained in the range, where that isn't collapsed, or an ancestor of the node of one of its ends
 unfoldable pub is_touched : Forest Content → Point → Point → ℕ → Bool

@@ -1,6 +1,6 @@
--- The commands that take a value: fontName, fontSize, foreColor, backColor and hiliteColor (HTML Editing APIs, "the fontName
--- command", "the fontSize command", "the foreColor command", "the backColor command", "the hiliteColor command"). The steps
--- are those of docs/ALGORITHMS.md.
+-- The commands that take a value: fontName, fontSize, foreColor, backColor and hiliteColor (HTML
+-- Editing APIs, "the fontName command", "the fontSize command", "the foreColor command", "the
+-- backColor command", "the hiliteColor command"). The steps are those of docs/ALGORITHMS.md.
 use Rattle.std.specs.Prelude.{ℕ, Bool, true, false, List, ◌∷◌, Option, Some, None, is_some, if◌then◌else◌}
 use Rattle.std.specs.Option.{option_map, option_or}
 use Rattle.css_value.specs.Colours.{colour_of}

@@ -157,9 +157,9 @@ fn clear_commands(alloc: Global, doc: &mut Doc) -> Result<(), EditFault>
     clear_each(alloc, doc, &CLEARED)
 }
 
-/// The command removeFormat: the elements that stand for a format give way to their children where the active range
-/// effectively contains them, other such elements are split around what it contains, and the values of the commands on styles
-/// go. It answers true.
+/// The command removeFormat: the elements that stand for a format give way to their children where
+/// the active range effectively contains them, other such elements are split around what it
+/// contains, and the values of the commands on styles go. It answers true.
 #[tactic(auto, using(edit_model::proofs::Steps::steps, edit_model::proofs::Steps::exits), unfolding(crate::specs::RemovingFormat::remove_format))]
 pub fn remove_format(alloc: Global, doc: &mut Doc) -> Result<bool, EditFault>
     requires open { IsOpen doc.old }

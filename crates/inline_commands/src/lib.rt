@@ -1,8 +1,8 @@
-//! Commands on links and inline values, as actions on a document under edits: between a command's begin and its end. Each
-//! answers whether the command was taken (HTML Editing APIs, "action").
+//! Commands on links and inline values, as actions on a document under edits: between a command's
+//! begin and its end. Each answers whether the command was taken (HTML Editing APIs, "action").
 //!
-//! Each call is proved to make one run of elementary edits, which its definition composes step by step. A call that takes a
-//! command answers false to one that it isn't for.
+//! Each call is proved to make one run of elementary edits, which its definition composes step by
+//! step. A call that takes a command answers false to one that it isn't for.
 #![tactic(auto)]
 
 mod clearing;

@@ -109,8 +109,9 @@ fn link_range(alloc: Global, doc: &mut Doc, value: &[char]) -> Result<bool, Edit
     Ok(true)
 }
 
-/// The command createLink: the editable links around what the active range effectively contains get the value as their href,
-/// and the rest of it comes to stand in new links. It answers false, before it changes anything, to the empty value.
+/// The command createLink: the editable links around what the active range effectively contains get
+/// the value as their href, and the rest of it comes to stand in new links. It answers false,
+/// before it changes anything, to the empty value.
 #[tactic(auto, using(edit_model::proofs::Steps::steps), unfolding(crate::specs::Linking::create_link))]
 pub fn create_link(alloc: Global, doc: &mut Doc, value: &[char]) -> Result<bool, EditFault>
     requires open { IsOpen doc.old }

@@ -41,7 +41,8 @@ pub(crate) fn is_candidate(doc: &Doc, node: NodeRef) -> bool
 fn candidates_of(alloc: Global, doc: &Doc, list: &[NodeRef]) -> Result<Vec<NodeRef>, AllocError>
     requires { EachHeld doc.now list.now }
     ensures held { IfOk result (λ kept. EachHeld doc.now kept.items) }
-    ensures nodes { IfOk result (λ kept. labels_of kept.items ≡ filter (is_candidate doc.now.state) (labels_of list.now)) }
+    ensures nodes { IfOk result
+        (λ kept. labels_of kept.items ≡ filter (is_candidate doc.now.state) (labels_of list.now)) }
 {
     let mut kept = Vec::new(alloc);
     for node in list {

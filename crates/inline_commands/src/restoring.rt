@@ -117,7 +117,8 @@ fn differs_at_first(
     command: Command,
     value: &[char],
 ) -> Result<bool, AllocError>
-    ensures { IfOk result (λ differs. differs ≡ differs_at doc.now.state command value.now (formattable.first_formattable doc.now.state doc.now.state.host)) }
+    ensures { IfOk result (λ differs. differs ≡ differs_at doc.now.state command value.now
+        (formattable.first_formattable doc.now.state doc.now.state.host)) }
 {
     match first_formattable(alloc, doc, doc.host())? {
         Some(node) => Ok(!has_alike_value(doc, node, command, Some(value))),
@@ -125,7 +126,8 @@ fn differs_at_first(
     }
 }
 
-// Restore states and values, steps 5 and 6: whether the text is another than the value override or, without one, than that value.
+// Restore states and values, steps 5 and 6: whether the text is another than the value override or,
+// without one, than that value.
 #[tactic(auto, unfolding(crate::specs::RestoringStates::is_other_value))]
 fn is_other_value(
     alloc: Global,
@@ -218,8 +220,9 @@ fn restore_entries(alloc: Global, doc: &mut Doc, list: &[Override]) -> Result<()
     Ok(())
 }
 
-/// Restores recorded states and values. Where the active range effectively contains no formattable node, each becomes the
-/// override of its command; otherwise the action of each command whose state or value is another one is taken, in order.
+/// Restores recorded states and values. Where the active range effectively contains no formattable
+/// node, each becomes the override of its command; otherwise the action of each command whose state
+/// or value is another one is taken, in order.
 #[tactic(auto, using(edit_model::proofs::Steps::steps, edit_model::proofs::Steps::exits), unfolding(crate::specs::RestoringStates::restore_states))]
 pub fn restore_states(alloc: Global, doc: &mut Doc, list: &Overrides) -> Result<(), EditFault>
     requires open { IsOpen doc.old }

@@ -58,8 +58,8 @@ fn set_toggled(
     Ok(true)
 }
 
-/// The commands bold, italic, underline and strikethrough: turned off where the command's state is true, else turned on. It
-/// answers true, and false to any other command.
+/// The commands bold, italic, underline and strikethrough: turned off where the command's state is
+/// true, else turned on. It answers true, and false to any other command.
 #[tactic(auto, using(edit_model::proofs::Steps::steps, edit_model::proofs::Steps::exits), unfolding(crate::specs::Toggling::toggle_style))]
 pub fn toggle_style(alloc: Global, doc: &mut Doc, command: Command) -> Result<bool, EditFault>
     requires open { IsOpen doc.old }
@@ -120,8 +120,8 @@ fn set_script(
     Ok(true)
 }
 
-/// The commands subscript and superscript: turned off, and then on where the command's state was false. It answers true, and
-/// false to any other command.
+/// The commands subscript and superscript: turned off, and then on where the command's state was
+/// false. It answers true, and false to any other command.
 #[tactic(auto, using(edit_model::proofs::Steps::steps, edit_model::proofs::Steps::exits), unfolding(crate::specs::Toggling::toggle_script))]
 pub fn toggle_script(alloc: Global, doc: &mut Doc, command: Command) -> Result<bool, EditFault>
     requires open { IsOpen doc.old }

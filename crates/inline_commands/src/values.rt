@@ -89,9 +89,10 @@ fn apply_colour(
     Ok(false)
 }
 
-/// The commands fontName, fontSize, foreColor, backColor and hiliteColor. fontName takes every value; fontSize takes digits,
-/// with a sign relative to 3, for the keyword of the size from 1 to 7; the others take a colour, or one that lacks its "#".
-/// It answers false, before it changes anything, where the value is none that the command takes, and to any other command.
+/// The commands fontName, fontSize, foreColor, backColor and hiliteColor. fontName takes every
+/// value; fontSize takes digits, with a sign relative to 3, for the keyword of the size from 1 to
+/// 7; the others take a colour, or one that lacks its "#". It answers false, before it changes
+/// anything, where the value is none that the command takes, and to any other command.
 #[tactic(auto, using(edit_model::proofs::Steps::steps), unfolding(crate::specs::ValueCommands::take, crate::specs::ValueCommands::apply_value))]
 pub fn apply_value(
     alloc: Global,

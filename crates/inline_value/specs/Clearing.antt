@@ -33,9 +33,11 @@ property_name property.BackgroundColor = codes "background-color"
 property_name property.TextDecoration = codes "text-decoration"
 property_name property.TextAlign = codes "text-align"
 
--- clear the value, step 3: a style that declares text-decoration loses the line's word, and the property with its last word
+-- clear the value, step 3: a style that declares text-decoration loses the line's word, and the
+-- property with its last word
 unfoldable pub write_words : ℕ → List ℕ → Run (Unit {0})
-write_words e text = if is_empty text then unset_style e (codes "text-decoration") else set_style e (codes "text-decoration") text
+write_words e text =
+    if is_empty text then unset_style e (codes "text-decoration") else set_style e (codes "text-decoration") text
 
 unfoldable pub drop_line : DecorationLine → ℕ → Run (Unit {0})
 drop_line line e = look λ s. given (decoration_of s e) done λ text. write_words e (without_line text line)
@@ -68,11 +70,12 @@ abbrev pub drop_link : Subject → ℕ → Run (Unit {0})
 drop_link Link e = drop_attribute (codes "a") (codes "href") e
 drop_link _ e = done
 
--- clear the value, steps 7 and 8: an element that still gives the command a value becomes a span; an image or a rule, which then
--- gives none, never does
+-- clear the value, steps 7 and 8: an element that still gives the command a value becomes a span;
+-- an image or a rule, which then gives none, never does
 unfoldable pub span_for : Command → ℕ → Run (List ℕ)
 span_for command e = look λ s.
-    if is_none (specified s.trees e command) || is_void_thing s e then answer [] else (set_tag_name e (codes "span") >>= λ x. answer (x ∷ []))
+    if is_none (specified s.trees e command) || is_void_thing s e then answer []
+    else (set_tag_name e (codes "span") >>= λ x. answer (x ∷ []))
 
 -- clear the value, steps 3 to 8
 unfoldable pub stripped : Command → ℕ → Run (List ℕ)

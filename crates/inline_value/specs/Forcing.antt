@@ -80,7 +80,8 @@ abbrev pub make_blank : Blank → Run ℕ
 make_blank b = make_element b.name b.attributes
 
 unfoldable pub make_wrapper : Command → List ℕ → ℕ → Run ℕ
-make_wrapper command v n = clear_way (subject command) n >> look λ s. make_blank (wrapper_for s.flags.css_styling command v)
+make_wrapper command v n =
+    clear_way (subject command) n >> look λ s. make_blank (wrapper_for s.flags.css_styling command v)
 
 -- ---- force the value, step 7: a new element that doesn't give the value gets a style
 
@@ -92,7 +93,8 @@ style_by (Line line) command v p = set_style p (codes "text-decoration") v
 style_by _ command v p = set_relevant command v p
 
 unfoldable pub style_wrapper : Command → List ℕ → ℕ → Run (Unit {0})
-style_wrapper command v p = look λ s. if has_alike s p command (Some v) then done else style_by (subject command) command v p
+style_wrapper command v p = look λ s.
+    if has_alike s p command (Some v) then done else style_by (subject command) command v p
 
 -- ---- the node itself; each answers whether its children are to be given the value
 
@@ -131,7 +133,8 @@ unless_alike command v n = look λ s.
 
 -- force the value, step 2, and then from 3 on
 unfoldable pub force_node : Command → List ℕ → ℕ → Run Bool
-force_node command v n = look λ s. if is_phrase s n then (joined command v n >> unless_alike command v n) else unless_alike command v n
+force_node command v n = look λ s.
+    if is_phrase s n then (joined command v n >> unless_alike command v n) else unless_alike command v n
 
 -- force the value, step 1, and then from 2 on
 unfoldable pub force_self : Command → List ℕ → ℕ → Run Bool

@@ -1,5 +1,6 @@
--- Recording the overrides, and recording the states and values of the first formattable node (HTML Editing APIs, "record
--- current overrides", "record current states and values"). The steps are those of docs/ALGORITHMS.md.
+-- Recording the overrides, and recording the states and values of the first formattable node (HTML
+-- Editing APIs, "record current overrides", "record current states and values"). The steps are
+-- those of docs/ALGORITHMS.md.
 use Rattle.std.specs.Prelude.{ℕ, Bool, true, false, List, [], ◌∷◌, Option, Some, None, if◌then◌else◌}
 use Rattle.std.specs.Option.{option_map_or}
 use Rattle.dom_model.specs.declared.Content.{Content}
@@ -32,7 +33,9 @@ is_set _ = true
 
 abbrev pub overrides_among : State → List Command → List Override
 overrides_among s [] = []
-overrides_among s (c ∷ commands) = if is_set (setting_of s.overrides c) then override c (setting_of s.overrides c) ∷ overrides_among s commands else overrides_among s commands
+overrides_among s (c ∷ commands) =
+    if is_set (setting_of s.overrides c) then override c (setting_of s.overrides c) ∷ overrides_among s commands
+    else overrides_among s commands
 
 -- record current overrides, step 1
 unfoldable pub overrides_of : State → List Override
@@ -67,7 +70,8 @@ unfoldable pub states_at : State → ℕ → List Override
 states_at s n =
     value_at s.trees n command.CreateLink ∷ on_at s.trees n command.Bold ∷ on_at s.trees n command.Italic
     ∷ on_at s.trees n command.Strikethrough ∷ on_at s.trees n command.Subscript ∷ on_at s.trees n command.Superscript
-    ∷ on_at s.trees n command.Underline ∷ answered s command.FontName ∷ answered s command.ForeColor ∷ answered s command.HiliteColor
+    ∷ on_at s.trees n command.Underline ∷ answered s command.FontName
+    ∷ answered s command.ForeColor ∷ answered s command.HiliteColor
     ∷ value_at s.trees n command.FontSize ∷ []
 
 -- record current states and values, steps 1 and 2

@@ -42,7 +42,8 @@ push_to command w n next k = look λ s. if is_passed s command w n next k then d
 
 -- the element e is cleared where it gives a value
 unfoldable pub clear_level : Command → ℕ → Run (Unit {0})
-clear_level command e = look λ s. if is_none (specified s.trees e command) then done else (clear_value command e >> done)
+clear_level command e = look λ s.
+    if is_none (specified s.trees e command) then done else (clear_value command e >> done)
 
 -- push down, step 5: one turn, with w already that of e
 unfoldable pub push_level : Command → Option (List ℕ) → ℕ → Option ℕ → ℕ → Run (Unit {0})

@@ -1,5 +1,5 @@
--- Recording and restoring the values of nodes (HTML Editing APIs, "record the values", "restore the values"). The steps are
--- those of docs/ALGORITHMS.md.
+-- Recording and restoring the values of nodes (HTML Editing APIs, "record the values", "restore the
+-- values"). The steps are those of docs/ALGORITHMS.md.
 use Rattle.std.specs.Prelude.{ℕ, List, [], ◌∷◌, ◌++◌, map, Option, Some, None, is_some, if◌then◌else◌}
 use Rattle.std.specs.Option.{option_and_then}
 use Rattle.dom_model.specs.declared.Content.{Content}
@@ -23,7 +23,8 @@ pub record Recorded : Type 0 where
 -- the commands whose values are recorded, in order
 unfoldable pub recorded_commands : List Command
 recorded_commands =
-    command.Subscript ∷ command.Bold ∷ command.FontName ∷ command.FontSize ∷ command.ForeColor ∷ command.HiliteColor ∷ command.Italic
+    command.Subscript ∷ command.Bold ∷ command.FontName ∷ command.FontSize ∷ command.ForeColor
+    ∷ command.HiliteColor ∷ command.Italic
     ∷ command.Strikethrough ∷ command.Underline ∷ []
 
 -- the nearest element, the node or an ancestor, that gives the command a value

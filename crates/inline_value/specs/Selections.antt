@@ -31,7 +31,8 @@ use Rattle.edit_query.specs.Formattable.{first_formattable}
 -- an editable text of which the point lies amid the characters
 unfoldable pub is_amid : State → Point → Bool
 is_amid s at =
-    is_words s.trees at.label && (is_editable_for s at.label && (not (at.offset == 0) && not (at.offset == length_of s.trees at.label)))
+    is_words s.trees at.label
+    && (is_editable_for s at.label && (not (at.offset == 0) && not (at.offset == length_of s.trees at.label)))
 
 -- the later of two points
 abbrev pub at_least : Forest Content → Point → Point → Point
@@ -40,7 +41,8 @@ at_least f other at = if is_before f other at then at else other
 -- the start of the range set to a point (DOM Standard, "set the start"): an end before it goes along
 abbrev pub with_start : Forest Content → Pair → Point → Run (Unit {0})
 with_start f pair at =
-    if is_before f pair.focus pair.anchor then select (at_least f pair.anchor at) at else select at (at_least f pair.focus at)
+    if is_before f pair.focus pair.anchor then select (at_least f pair.anchor at) at
+    else select at (at_least f pair.focus at)
 
 unfoldable pub set_start : Point → Run (Unit {0})
 set_start at = look λ s. given s.points.selection done λ pair. with_start s.trees pair at
@@ -140,4 +142,5 @@ give_range command v = do
 
 -- set the value, step 1, and then from 2 on
 unfoldable pub set_value : Command → Option (List ℕ) → Run (Unit {0})
-set_value command v = look λ s. if is_none (first_formattable s s.host) then set_overrides command v else give_range command v
+set_value command v = look λ s.
+    if is_none (first_formattable s s.host) then set_overrides command v else give_range command v

@@ -1,5 +1,6 @@
--- The style attribute of an element set and unset, property by property (HTML Editing APIs, "set the CSS property"). Each
--- reads the declarations, changes them and writes them back, and an attribute that then declares nothing goes.
+-- The style attribute of an element set and unset, property by property (HTML Editing APIs, "set
+-- the CSS property"). Each reads the declarations, changes them and writes them back, and an
+-- attribute that then declares nothing goes.
 use Rattle.std.specs.Prelude.{ℕ, List, [], codes, Option, unwrap_or, if◌then◌else◌}
 use Rattle.dom_model.specs.AttributeList.{value_of}
 use Rattle.css_value.specs.StyleText.{Declaration, is_empty}
@@ -24,7 +25,8 @@ decoration_of s e = declaration.value_of (declarations_of s e) (codes "text-deco
 -- the attribute set to a text; an empty one takes it away
 unfoldable pub write_text : ℕ → List ℕ → Run (Unit {0})
 write_text e text =
-    if is_empty text then (unset_attribute e (codes "style") >> done) else (set_attribute e (codes "style") text >> done)
+    if is_empty text then (unset_attribute e (codes "style") >> done)
+    else (set_attribute e (codes "style") text >> done)
 
 -- the declarations written back, which print as the empty text where there is none
 abbrev pub write_style : ℕ → List Declaration → Run (Unit {0})

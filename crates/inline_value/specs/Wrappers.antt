@@ -12,7 +12,8 @@ abbrev pub bare : List ℕ → Blank
 bare name = record { name = name; attributes = [] }
 
 abbrev pub with_attribute : List ℕ → List ℕ → List ℕ → Blank
-with_attribute name attribute value = record { name = name; attributes = record { name = attribute; value = value } ∷ [] }
+with_attribute name attribute value =
+    record { name = name; attributes = record { name = attribute; value = value } ∷ [] }
 
 -- which of the sizes 1 to 7 a keyword names
 unfoldable pub size_of_keyword : List ℕ → Option ℕ

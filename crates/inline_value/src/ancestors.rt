@@ -48,7 +48,8 @@ pub fn is_inside(doc: &Doc, node: NodeRef) -> bool
 fn takes(doc: &Doc, node: NodeRef, ancestor: NodeRef) -> bool
     requires node_held { Holds doc.now node }
     requires ancestor_held { Holds doc.now ancestor }
-    ensures { result ≡ (confined.is_inside doc.now.state ancestor.label && allowed.allowed_in doc.now.state.trees node.label ancestor.label) }
+    ensures { result ≡ (confined.is_inside doc.now.state ancestor.label
+        && allowed.allowed_in doc.now.state.trees node.label ancestor.label) }
 {
     is_inside(doc, ancestor) && allowed_in(doc, node, ancestor)
 }

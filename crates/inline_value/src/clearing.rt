@@ -168,8 +168,8 @@ fn drop_link(alloc: Global, doc: &mut Doc, node: NodeRef, command: Command) -> R
     }
 }
 
-// Clear the value, steps 7 and 8: an element that still gives the command a value becomes a span, unless it is an image or a
-// rule.
+// Clear the value, steps 7 and 8: an element that still gives the command a value becomes a span,
+// unless it is an image or a rule.
 #[tactic(auto, using(edit_model::proofs::Steps::steps, edit_model::proofs::Steps::exits, crate::proofs::Clears::exit_list, crate::proofs::Clears::specifies_element), unfolding(crate::specs::Clearing::span_for))]
 fn span_for(
     alloc: Global,
@@ -226,8 +226,9 @@ fn unwrapped(alloc: Global, doc: &mut Doc, node: NodeRef) -> Result<NodeList, Ed
     Ok(NodeList::from_slice(alloc, &children)?)
 }
 
-/// Clears the value that an element gives the command (HTML Editing APIs, "clear the value"). Answers what stands in its
-/// place: its children where it gave way to them, the span that it became, or nothing where it stays.
+/// Clears the value that an element gives the command (HTML Editing APIs, "clear the value").
+/// Answers what stands in its place: its children where it gave way to them, the span that it
+/// became, or nothing where it stays.
 #[tactic(auto, using(edit_model::proofs::Steps::steps, edit_model::proofs::Steps::exits, crate::proofs::Clears::exit_list), unfolding(crate::specs::Clearing::clear_value))]
 pub fn clear_value(
     alloc: Global,

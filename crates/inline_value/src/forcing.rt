@@ -219,7 +219,8 @@ fn style_by(
 ) -> Result<(), EditFault>
     requires open { IsOpen doc.old }
     requires node_held { Holds doc.old node }
-    ensures gives { Gives result doc.old.state doc.new.state (spec.style_by (subject command) command value.now node.label) }
+    ensures gives { Gives result doc.old.state doc.new.state
+        (spec.style_by (subject command) command value.now node.label) }
     ensures keeps { Keeps doc.old doc.new }
 {
     match subject_of(command) {
@@ -425,7 +426,8 @@ fn force_child(
 ) -> Result<(), EditFault>
     requires open { IsOpen doc.old }
     requires child_held { Holds doc.old child }
-    ensures gives { Gives result doc.old.state doc.new.state (spec.force_child (spec.forced fuel command value.now) command value.now child.label) }
+    ensures gives { Gives result doc.old.state doc.new.state
+        (spec.force_child (spec.forced fuel command value.now) command value.now child.label) }
     ensures keeps { Keeps doc.old doc.new }
 {
     if specifies_other(doc, child, command, Some(value)) {
@@ -446,7 +448,8 @@ fn force_each(
 ) -> Result<(), EditFault>
     requires open { IsOpen doc.old }
     requires list_held { EachHeld doc.old list.now }
-    ensures gives { Gives result doc.old.state doc.new.state (for_each (labels_of list.now) (spec.force_child (spec.forced fuel command value.now) command value.now)) }
+    ensures gives { Gives result doc.old.state doc.new.state
+        (for_each (labels_of list.now) (spec.force_child (spec.forced fuel command value.now) command value.now)) }
     ensures keeps { Keeps doc.old doc.new }
 {
     for child in list {
@@ -511,7 +514,8 @@ pub fn force(
 ) -> Result<(), EditFault>
     requires open { IsOpen doc.old }
     requires node_held { Holds doc.old node }
-    ensures gives { Gives result doc.old.state doc.new.state (spec.force command (option_copied value.entry) node.label) }
+    ensures gives { Gives result doc.old.state doc.new.state
+        (spec.force command (option_copied value.entry) node.label) }
     ensures keeps { Keeps doc.old doc.new }
 {
     match value {

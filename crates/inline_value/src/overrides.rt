@@ -193,7 +193,8 @@ fn push_states(
     found: &mut Vec<Override>,
 ) -> Result<(), AllocError>
     requires { Holds doc.now node }
-    ensures { OnOk result (found.new.items ≡ found.old.items ++ map (on_at doc.now.state.trees node.label) commands.now) }
+    ensures { OnOk result
+        (found.new.items ≡ found.old.items ++ map (on_at doc.now.state.trees node.label) commands.now) }
 {
     for command in commands {
         found.push(on_at(doc, node, *command))?;
@@ -230,7 +231,8 @@ fn states_at(alloc: Global, doc: &Doc, node: NodeRef) -> Result<Overrides, Alloc
     Ok(Overrides { items })
 }
 
-/// The states and values of the first formattable node that the active range effectively contains; none without such a node.
+/// The states and values of the first formattable node that the active range effectively contains;
+/// none without such a node.
 #[tactic(auto, unfolding(crate::specs::Overrides::states_of))]
 pub fn record_states(alloc: Global, doc: &Doc) -> Result<Overrides, AllocError>
     ensures { IfOk result (λ list. list ≡ states_of doc.now.state) }

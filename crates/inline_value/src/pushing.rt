@@ -40,7 +40,8 @@ fn leading_others(
 ) -> Result<Vec<NodeRef>, AllocError>
     requires { EachHeld doc.now list.now }
     ensures held { IfOk result (λ others. EachHeld doc.now others.items) }
-    ensures labels { IfOk result (λ others. labels_of others.items ≡ spec.leading (spec.is_other doc.now.state command (option_copied value.entry)) (labels_of list.now)) }
+    ensures labels { IfOk result (λ others. labels_of others.items ≡ spec.leading
+        (spec.is_other doc.now.state command (option_copied value.entry)) (labels_of list.now)) }
 {
     let mut others = Vec::new(alloc);
     for node in list {
@@ -63,7 +64,8 @@ fn others_above(
 ) -> Result<Vec<NodeRef>, AllocError>
     requires { Holds doc.now node }
     ensures held { IfOk result (λ others. EachHeld doc.now others.items) }
-    ensures labels { IfOk result (λ others. labels_of others.items ≡ spec.others_above doc.now.state command (option_copied value.entry) node.label) }
+    ensures labels { IfOk result (λ others. labels_of others.items
+        ≡ spec.others_above doc.now.state command (option_copied value.entry) node.label) }
 {
     let list = ancestors(alloc, doc, node)?;
     leading_others(alloc, doc, value, &list, command)
@@ -89,8 +91,8 @@ fn needs_none(doc: &Doc, value: Option<&[char]>, node: NodeRef, command: Command
     !has_element_above(doc, node) || has_alike(doc, value, node, command)
 }
 
-// Push down, step 5: gives a child the value that its parent gave, unless it is the node, is the next ancestor, or gives
-// another value.
+// Push down, step 5: gives a child the value that its parent gave, unless it is the node, is the
+// next ancestor, or gives another value.
 #[tactic(auto, using(edit_model::proofs::Steps::steps, edit_model::proofs::Steps::exits), unfolding(crate::specs::Pushing::push_to, crate::specs::Pushing::is_passed))]
 fn push_to(
     alloc: Global,
@@ -102,7 +104,8 @@ fn push_to(
 ) -> Result<(), EditFault>
     requires open { IsOpen doc.old }
     requires child_held { Holds doc.old child }
-    ensures gives { Gives result doc.old.state doc.new.state (spec.push_to command (option_copied value.entry) ends.0.label (label_of ends.1) child.label) }
+    ensures gives { Gives result doc.old.state doc.new.state
+        (spec.push_to command (option_copied value.entry) ends.0.label (label_of ends.1) child.label) }
     ensures keeps { Keeps doc.old doc.new }
 {
     if child.label == ends.0.label
@@ -125,7 +128,8 @@ fn push_to_each(
 ) -> Result<(), EditFault>
     requires open { IsOpen doc.old }
     requires list_held { EachHeld doc.old list.now }
-    ensures gives { Gives result doc.old.state doc.new.state (for_each (labels_of list.now) (spec.push_to command (option_copied value.entry) ends.0.label (label_of ends.1))) }
+    ensures gives { Gives result doc.old.state doc.new.state (for_each (labels_of list.now)
+        (spec.push_to command (option_copied value.entry) ends.0.label (label_of ends.1))) }
     ensures keeps { Keeps doc.old doc.new }
 {
     for child in list {
@@ -165,7 +169,8 @@ fn push_level(
 ) -> Result<(), EditFault>
     requires open { IsOpen doc.old }
     requires above_held { Holds doc.old above }
-    ensures gives { Gives result doc.old.state doc.new.state (spec.push_level command (option_copied value.entry) ends.0.label (label_of ends.1) above.label) }
+    ensures gives { Gives result doc.old.state doc.new.state
+        (spec.push_level command (option_copied value.entry) ends.0.label (label_of ends.1) above.label) }
     ensures keeps { Keeps doc.old doc.new }
 {
     let children = doc.children_of(above)?;
@@ -210,7 +215,8 @@ fn push_levels(
     requires open { IsOpen doc.old }
     requires list_held { EachHeld doc.old list.now }
     requires few { left ≤ length list.now }
-    ensures gives { Gives result doc.old.state doc.new.state (spec.push_levels command (option_copied value.entry) node.label (reverse (labels_of (take left list.now)))) }
+    ensures gives { Gives result doc.old.state doc.new.state
+        (spec.push_levels command (option_copied value.entry) node.label (reverse (labels_of (take left list.now)))) }
     ensures keeps { Keeps doc.old doc.new }
 {
     if left == 0 {
@@ -257,7 +263,8 @@ fn push_from(
     requires open { IsOpen doc.old }
     requires list_held { EachHeld doc.old list.now }
     requires outer_held { Holds doc.old ends.1 }
-    ensures gives { Gives result doc.old.state doc.new.state (spec.push_from command (option_copied value.entry) ends.0.label (labels_of list.now) ends.1.label) }
+    ensures gives { Gives result doc.old.state doc.new.state
+        (spec.push_from command (option_copied value.entry) ends.0.label (labels_of list.now) ends.1.label) }
     ensures keeps { Keeps doc.old doc.new }
 {
     if is_hopeless(doc, value, ends.1, command) {
@@ -313,7 +320,8 @@ fn push_listed(
 ) -> Result<(), EditFault>
     requires open { IsOpen doc.old }
     requires list_held { EachHeld doc.old list.now }
-    ensures gives { Gives result doc.old.state doc.new.state (spec.push_listed command (option_copied value.entry) node.label (labels_of list.now)) }
+    ensures gives { Gives result doc.old.state doc.new.state
+        (spec.push_listed command (option_copied value.entry) node.label (labels_of list.now)) }
     ensures keeps { Keeps doc.old doc.new }
 {
     if list.len() == 0 {
@@ -341,7 +349,8 @@ pub fn push_down(
 ) -> Result<(), EditFault>
     requires open { IsOpen doc.old }
     requires node_held { Holds doc.old node }
-    ensures gives { Gives result doc.old.state doc.new.state (spec.push_down command (option_copied value.entry) node.label) }
+    ensures gives { Gives result doc.old.state doc.new.state
+        (spec.push_down command (option_copied value.entry) node.label) }
     ensures keeps { Keeps doc.old doc.new }
 {
     if keeps_values(doc, value, node, command) {

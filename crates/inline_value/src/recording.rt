@@ -77,7 +77,8 @@ impl Values {
 fn giver(doc: &Doc, node: NodeRef, command: Command) -> Option<NodeRef>
     requires { Holds doc.now node }
     ensures held { IfHeld doc.now result }
-    ensures value { option_and_then (λ l. specified doc.now.state.trees l command) (label_of result) ≡ given_value doc.now.state.trees node.label command }
+    ensures value { option_and_then (λ l. specified doc.now.state.trees l command) (label_of result)
+        ≡ given_value doc.now.state.trees node.label command }
     ensures some { IfSome result (λ r. is_some (specified doc.now.state.trees r.label command) ≡ Bool.true) }
 {
     doc.valid();
@@ -113,7 +114,8 @@ fn is_given(doc: &Doc, node: NodeRef, command: Command) -> bool
 // Whether the value that is given is equivalent to this one.
 fn is_given_as(doc: &Doc, node: NodeRef, command: Command, value: &[char]) -> bool
     requires { Holds doc.now node }
-    ensures { result ≡ equivalence.equivalent command (given_value doc.now.state.trees node.label command) (Some value.now) }
+    ensures { result ≡ equivalence.equivalent command
+        (given_value doc.now.state.trees node.label command) (Some value.now) }
 {
     match giver(doc, node, command) {
         Some(giver) => !specifies_other(doc, giver, command, Some(value)),
@@ -151,7 +153,8 @@ fn push_values(
 ) -> Result<(), AllocError>
     requires node_held { Holds doc.now node }
     requires found_held { EachHeld doc.now (nodes_of found.old.items) }
-    ensures values { OnOk result (entries_of found.new.items ≡ entries_of found.old.items ++ map (value_at doc.now.state node.label) commands.now) }
+    ensures values { OnOk result (entries_of found.new.items ≡ entries_of found.old.items ++ map
+        (value_at doc.now.state node.label) commands.now) }
     ensures held { OnOk result (EachHeld doc.now (nodes_of found.new.items)) }
 {
     for command in commands {
@@ -185,7 +188,8 @@ fn restore_null(
 ) -> Result<(), EditFault>
     requires open { IsOpen doc.old }
     requires node_held { Holds doc.old node }
-    ensures gives { Gives result doc.old.state doc.new.state (restored_to command node.label None (given_value doc.old.state.trees node.label command)) }
+    ensures gives { Gives result doc.old.state doc.new.state
+        (restored_to command node.label None (given_value doc.old.state.trees node.label command)) }
     ensures keeps { Keeps doc.old doc.new }
 {
     if is_given(doc, node, command) {
@@ -205,7 +209,8 @@ fn restore_text(
 ) -> Result<(), EditFault>
     requires open { IsOpen doc.old }
     requires node_held { Holds doc.old node }
-    ensures gives { Gives result doc.old.state doc.new.state (restored_to command node.label (Some value.now) (given_value doc.old.state.trees node.label command)) }
+    ensures gives { Gives result doc.old.state doc.new.state
+        (restored_to command node.label (Some value.now) (given_value doc.old.state.trees node.label command)) }
     ensures keeps { Keeps doc.old doc.new }
 {
     if !is_given_as(doc, node, command, value) {

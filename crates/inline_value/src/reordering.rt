@@ -97,8 +97,8 @@ fn swap(doc: &mut Doc, node: NodeRef, inner: NodeRef) -> Result<(), EditFault>
     Ok(())
 }
 
-/// Where a chain of only children leads from a node to a simple modifiable element that gives the value, makes that element
-/// the outer one (HTML Editing APIs, "reorder modifiable descendants").
+/// Where a chain of only children leads from a node to a simple modifiable element that gives the
+/// value, makes that element the outer one (HTML Editing APIs, "reorder modifiable descendants").
 #[tactic(auto, using(edit_model::proofs::Steps::steps, edit_model::proofs::Steps::exits), unfolding(crate::specs::Reordering::reorder, crate::specs::Reordering::reorder_with))]
 pub fn reorder(
     _alloc: Global,

@@ -177,7 +177,8 @@ pub fn split_ends(_alloc: Global, doc: &mut Doc) -> Result<(), EditFault>
 fn editable_of(alloc: Global, doc: &Doc, list: &[NodeRef]) -> Result<Vec<NodeRef>, AllocError>
     requires { EachHeld doc.now list.now }
     ensures held { IfOk result (λ kept. EachHeld doc.now kept.items) }
-    ensures nodes { IfOk result (λ kept. labels_of kept.items ≡ filter (is_editable_for doc.now.state) (labels_of list.now)) }
+    ensures nodes { IfOk result
+        (λ kept. labels_of kept.items ≡ filter (is_editable_for doc.now.state) (labels_of list.now)) }
 {
     let mut kept = Vec::new(alloc);
     for node in list {
@@ -200,7 +201,8 @@ pub fn is_element(doc: &Doc, node: NodeRef) -> bool
 fn elements_of(alloc: Global, doc: &Doc, list: &[NodeRef]) -> Result<Vec<NodeRef>, AllocError>
     requires { EachHeld doc.now list.now }
     ensures held { IfOk result (λ kept. EachHeld doc.now kept.items) }
-    ensures nodes { IfOk result (λ kept. labels_of kept.items ≡ filter (is_element_at doc.now.state.trees) (labels_of list.now)) }
+    ensures nodes { IfOk result
+        (λ kept. labels_of kept.items ≡ filter (is_element_at doc.now.state.trees) (labels_of list.now)) }
 {
     let mut kept = Vec::new(alloc);
     for node in list {
@@ -216,7 +218,8 @@ fn elements_of(alloc: Global, doc: &Doc, list: &[NodeRef]) -> Result<Vec<NodeRef
 fn editable_between(alloc: Global, doc: &Doc, pair: Pair) -> Result<Vec<NodeRef>, AllocError>
     requires { IsPlacedPair doc.now.state.trees pair }
     ensures held { IfOk result (λ list. EachHeld doc.now list.items) }
-    ensures nodes { IfOk result (λ list. labels_of list.items ≡ filter (is_editable_for doc.now.state) (nodes_by doc.now.state.trees (Some pair))) }
+    ensures nodes { IfOk result (λ list. labels_of list.items ≡ filter
+        (is_editable_for doc.now.state) (nodes_by doc.now.state.trees (Some pair))) }
 {
     let list = effective_nodes(alloc, doc, ends_of(doc, pair))?;
     editable_of(alloc, doc, list.as_slice())
@@ -334,7 +337,8 @@ fn set_override(
     command: Command,
 ) -> Result<(), EditFault>
     requires open { IsOpen doc.old }
-    ensures gives { Gives result doc.old.state doc.new.state (given (override_for command (option_copied value.entry)) done (set_setting command)) }
+    ensures gives { Gives result doc.old.state doc.new.state
+        (given (override_for command (option_copied value.entry)) done (set_setting command)) }
     ensures keeps { Keeps doc.old doc.new }
 {
     match override_for(alloc, command, value)? {
@@ -415,7 +419,8 @@ fn force_phrase(
 ) -> Result<(), EditFault>
     requires open { IsOpen doc.old }
     requires node_held { Holds doc.old node }
-    ensures gives { Gives result doc.old.state doc.new.state (force_phrase command (option_copied value.entry) node.label) }
+    ensures gives { Gives result doc.old.state doc.new.state
+        (force_phrase command (option_copied value.entry) node.label) }
     ensures keeps { Keeps doc.old doc.new }
 {
     if allowed_in_span(doc, node) {
@@ -434,7 +439,8 @@ fn give_node(
 ) -> Result<(), EditFault>
     requires open { IsOpen doc.old }
     requires node_held { Holds doc.old node }
-    ensures gives { Gives result doc.old.state doc.new.state (give_node command (option_copied value.entry) node.label) }
+    ensures gives { Gives result doc.old.state doc.new.state
+        (give_node command (option_copied value.entry) node.label) }
     ensures keeps { Keeps doc.old doc.new }
 {
     push_down(alloc, doc, value, node, command)?;
@@ -451,7 +457,8 @@ fn give_each(
 ) -> Result<(), EditFault>
     requires open { IsOpen doc.old }
     requires list_held { EachHeld doc.old list.now }
-    ensures gives { Gives result doc.old.state doc.new.state (for_each (labels_of list.now) (give_node command (option_copied value.entry))) }
+    ensures gives { Gives result doc.old.state doc.new.state
+        (for_each (labels_of list.now) (give_node command (option_copied value.entry))) }
     ensures keeps { Keeps doc.old doc.new }
 {
     for node in list {

@@ -232,7 +232,8 @@ fn chosen(
     }
 }
 
-/// The name and the attributes of the element that is made to give a node the value, where `css` is the CSS styling flag.
+/// The name and the attributes of the element that is made to give a node the value, where `css` is
+/// the CSS styling flag.
 #[tactic(auto, unfolding(crate::specs::Wrappers::wrapper_for))]
 pub(crate) fn wrapper_for(
     alloc: Global,

@@ -16,7 +16,8 @@ if_lone_break s None = None
 if_lone_break s (Some k) = if is_break s.trees k && is_none (next_of s.trees k) then Some k else None
 
 unfoldable pub lone_break : State → Point → Option ℕ
-lone_break s p = if (p.offset == 0) && is_block s.trees p.label then if_lone_break s (first_of s.trees p.label) else None
+lone_break s p =
+    if (p.offset == 0) && is_block s.trees p.label then if_lone_break s (first_of s.trees p.label) else None
 
 unfoldable pub drop_lone_break : Point → Run (Unit {0})
 drop_lone_break p = look λ s. given (lone_break s p) done λ k. remove k >> done

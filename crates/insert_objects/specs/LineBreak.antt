@@ -1,5 +1,5 @@
--- The insertLineBreak command (HTML Editing APIs, "the insertLineBreak command"). The steps are those of docs/ALGORITHMS.md. It
--- answers true.
+-- The insertLineBreak command (HTML Editing APIs, "the insertLineBreak command"). The steps are
+-- those of docs/ALGORITHMS.md. It answers true.
 use Rattle.std.specs.Prelude.{ℕ, Bool, false, true, ◌||◌, [], codes, if◌then◌else◌}
 use Rattle.std.specs.Option.{option_map_or}
 use Rattle.dom_model.specs.Contents.{is_element_at}

@@ -1,6 +1,7 @@
--- What the commands that insert an object have in common (HTML Editing APIs, "the insertLineBreak command", "the
--- insertHorizontalRule command", "the insertImage command"): what is selected goes, and a new element is put at the start of
--- the active range. The steps are those of docs/ALGORITHMS.md.
+-- What the commands that insert an object have in common (HTML Editing APIs, "the insertLineBreak
+-- command", "the insertHorizontalRule command", "the insertImage command"): what is selected goes,
+-- and a new element is put at the start of the active range. The steps are those of
+-- docs/ALGORITHMS.md.
 use Rattle.std.specs.Prelude.{ℕ, ◌==◌, Bool, false, true, ◌&&◌, not, List, Option, Some, None, if◌then◌else◌}
 use Rattle.dom_model.specs.declared.attributes.Attribute.{Attribute}
 use Rattle.dom_model.specs.Contents.{has_chars_at, length_of}
@@ -14,7 +15,8 @@ use Rattle.text_insertion.specs.Start.{start_inside, insert_at_start, cuts_text}
 
 -- ---- what each of the commands begins with
 
--- goes on from the start of the active range, where its node is inside; elsewhere nothing is inserted, and the answer is true
+-- goes on from the start of the active range, where its node is inside; elsewhere nothing is
+-- inserted, and the answer is true
 abbrev pub from_start_inside : (Point → Run Bool) → Run Bool
 from_start_inside k = look λ s. given (start_inside s) (answer true) k
 
@@ -41,7 +43,8 @@ leave_text p = look λ s. if is_past s p then collapse_after p.label else collap
 
 -- steps 2 and 3
 unfoldable pub part_text : Point → Run (Unit {0})
-part_text p = look λ s. if cuts_text s.trees p then split_at p else (if has_chars_at s.trees p.label then leave_text p else done)
+part_text p = look λ s.
+    if cuts_text s.trees p then split_at p else (if has_chars_at s.trees p.label then leave_text p else done)
 
 unfoldable pub part_start : Run (Unit {0})
 part_start = look λ s. given s.points.selection done λ pair. part_text (start_of s.trees pair)

@@ -14,13 +14,15 @@ use Rattle.delete_core.specs.Places.{before_node, after_node, walk_points}
 use Rattle.text_insertion.specs.Start.{erase}
 use Rattle.insert_objects.specs.Putting.{from_start_inside, collapse_after, put}
 
--- insertHorizontalRule, step 1: from the start of a node to before it, and from its end to after it, up to the affected host
+-- insertHorizontalRule, step 1: from the start of a node to before it, and from its end to after
+-- it, up to the affected host
 unfoldable pub out_of_start : State → Point → Option Point
 out_of_start s p = if (p.offset == 0) && not (is_label s.host p.label) then before_node s.trees p.label else None
 
 unfoldable pub out_of_end : State → Point → Option Point
 out_of_end s p =
-    if (p.offset == length_of s.trees p.label) && not (is_label s.host p.label) then after_node s.trees p.label else None
+    if (p.offset == length_of s.trees p.label) && not (is_label s.host p.label) then after_node s.trees p.label
+    else None
 
 unfoldable pub outermost_start : State → Point → Point
 outermost_start s p = walk_points (out_of_start s) (turn_bound s) p

@@ -106,8 +106,9 @@ fn insert_source(alloc: Global, doc: &mut Doc, value: &[char]) -> Result<bool, E
     show_image(alloc, doc, value, at)
 }
 
-/// The command insertImage: what is selected goes, and an img with the value as its src stands in its place, with the caret after it.
-/// In a block that has only a br it takes the place of that. It answers false, before it changes anything, to the empty value.
+/// The command insertImage: what is selected goes, and an img with the value as its src stands in
+/// its place, with the caret after it. In a block that has only a br it takes the place of that. It
+/// answers false, before it changes anything, to the empty value.
 #[tactic(auto, using(edit_model::proofs::Steps::steps), unfolding(crate::specs::Image::insert_image))]
 pub fn insert_image(alloc: Global, doc: &mut Doc, value: &[char]) -> Result<bool, EditFault>
     requires open { IsOpen doc.old }

@@ -1,5 +1,6 @@
-//! Commands that insert an object: a line break, a rule, an image. They are actions on a document under edits: between a command's
-//! begin and its end. Each answers whether the command was taken (HTML Editing APIs, "action").
+//! Commands that insert an object: a line break, a rule, an image. They are actions on a document
+//! under edits: between a command's begin and its end. Each answers whether the command was taken
+//! (HTML Editing APIs, "action").
 //!
 //! Each call is proved to make one run of elementary edits, which its definition composes step by step.
 #![tactic(auto)]

@@ -84,8 +84,9 @@ fn break_line(alloc: Global, doc: &mut Doc, at: Point) -> Result<bool, EditFault
     }
 }
 
-/// The command insertLineBreak: what is selected goes, and a br stands in its place, with the caret after it. Where that br alone would
-/// show no new line, as at the end of a block, another one comes after it. It answers true.
+/// The command insertLineBreak: what is selected goes, and a br stands in its place, with the caret
+/// after it. Where that br alone would show no new line, as at the end of a block, another one
+/// comes after it. It answers true.
 #[tactic(auto, using(edit_model::proofs::Steps::steps, edit_model::proofs::Steps::exits), unfolding(crate::specs::LineBreak::insert_line_break))]
 pub fn insert_line_break(alloc: Global, doc: &mut Doc) -> Result<bool, EditFault>
     requires open { IsOpen doc.old }

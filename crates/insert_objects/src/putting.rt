@@ -1,4 +1,5 @@
-//! What is selected goes, and a new element is put at the start of the active range. The steps are those of docs/ALGORITHMS.md.
+//! What is selected goes, and a new element is put at the start of the active range. The steps are
+//! those of docs/ALGORITHMS.md.
 
 ghost use Rattle.std.specs.Prelude.{◌≡◌, IfOk};
 ghost use Rattle.edit_model.specs.Gives.{Gives, GivesNode};

@@ -114,8 +114,9 @@ fn put_rule(alloc: Global, doc: &mut Doc) -> Result<bool, EditFault>
     Ok(true)
 }
 
-/// The command insertHorizontalRule: what is selected goes, with the nodes that it fills, and an hr stands in its place, with the caret
-/// after it. Where it may not stand in a block, as in a paragraph, this is parted around it. It answers true.
+/// The command insertHorizontalRule: what is selected goes, with the nodes that it fills, and an hr
+/// stands in its place, with the caret after it. Where it may not stand in a block, as in a
+/// paragraph, this is parted around it. It answers true.
 #[tactic(auto, using(edit_model::proofs::Steps::steps, edit_model::proofs::Steps::exits), unfolding(crate::specs::Rule::insert_horizontal_rule))]
 pub fn insert_rule(alloc: Global, doc: &mut Doc) -> Result<bool, EditFault>
     requires open { IsOpen doc.old }

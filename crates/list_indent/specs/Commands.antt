@@ -1,5 +1,5 @@
--- The commands indent and outdent (HTML Editing APIs, "the indent command", "the outdent command"). The steps are those of
--- docs/ALGORITHMS.md.
+-- The commands indent and outdent (HTML Editing APIs, "the indent command", "the outdent command").
+-- The steps are those of docs/ALGORITHMS.md.
 use Rattle.std.specs.Prelude.{ℕ, Bool, true, false, ◌||◌, ◌&&◌, not, List, [], ◌++◌, map, filter, reverse, codes, Option, Some, None, if◌then◌else◌}
 use Rattle.std.specs.Option.{option_and_then}
 use Rattle.dom_model.specs.declared.Content.{Content}

@@ -48,7 +48,8 @@ indents simple s n = if simple then is_simple_indentation s.trees n else is_inde
 
 -- an editable element that is passed on the way up
 unfoldable pub is_passed : Bool → State → ℕ → Bool
-is_passed simple s a = is_editable_for s a && (is_element_at s.trees a && (not (indents simple s a) && not (is_list s a)))
+is_passed simple s a =
+    is_editable_for s a && (is_element_at s.trees a && (not (indents simple s a) && not (is_list s a)))
 
 abbrev pub beyond : (ℕ → Bool) → List ℕ → Option ℕ
 beyond test [] = None

@@ -1,4 +1,5 @@
--- Normalizing the sublists of an item (HTML Editing APIs, "normalize sublists"). The steps are those of docs/ALGORITHMS.md.
+-- Normalizing the sublists of an item (HTML Editing APIs, "normalize sublists"). The steps are
+-- those of docs/ALGORITHMS.md.
 use Rattle.std.specs.Prelude.{ℕ, Bool, false, ◌||◌, ◌&&◌, [], codes, Option, Some, None, is_none, if◌then◌else◌}
 use Rattle.std.specs.List.{list_any}
 use Rattle.std.specs.Option.{option_map_or}

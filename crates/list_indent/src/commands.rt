@@ -163,8 +163,8 @@ fn indent_gathered(alloc: Global, doc: &mut Doc) -> Result<(), EditFault>
     indent_nodes(alloc, doc, list.as_slice())
 }
 
-/// The command indent: what the block-extended active range contains is indented. Items go into a list of their own, the other
-/// nodes into a blockquote. It answers true.
+/// The command indent: what the block-extended active range contains is indented. Items go into a
+/// list of their own, the other nodes into a blockquote. It answers true.
 #[tactic(auto, using(edit_model::proofs::Steps::steps, edit_model::proofs::Steps::exits), unfolding(crate::specs::Commands::indent))]
 pub fn indent(alloc: Global, doc: &mut Doc) -> Result<bool, EditFault>
     requires open { IsOpen doc.old }
@@ -279,8 +279,8 @@ fn outdent_gathered(alloc: Global, doc: &mut Doc) -> Result<(), EditFault>
     outdent_nodes(alloc, doc, list.as_slice())
 }
 
-/// The command outdent: what the block-extended active range contains is outdented. Items leave their list, the other nodes
-/// the indentation element around them. It answers true.
+/// The command outdent: what the block-extended active range contains is outdented. Items leave
+/// their list, the other nodes the indentation element around them. It answers true.
 #[tactic(auto, using(edit_model::proofs::Steps::steps, edit_model::proofs::Steps::exits), unfolding(crate::specs::Commands::outdent))]
 pub fn outdent(alloc: Global, doc: &mut Doc) -> Result<bool, EditFault>
     requires open { IsOpen doc.old }

@@ -23,7 +23,8 @@ fn push_if_item(list: &mut Vec<NodeRef>, doc: &Doc, node: NodeRef) -> Result<(),
     requires node_held { Holds doc.now node }
     requires each_held { EachHeld doc.now list.old.items }
     ensures held { EachHeld doc.now list.new.items }
-    ensures ok { OnOk result (labels_of list.new.items ≡ labels_of list.old.items ++ filter (λ l. has_name doc.now.state.trees l (codes "li")) (node.label ∷ [])) }
+    ensures ok { OnOk result (labels_of list.new.items ≡ labels_of list.old.items ++ filter
+        (λ l. has_name doc.now.state.trees l (codes "li")) (node.label ∷ [])) }
 {
     if is_item(doc, node) {
         list.push(node)?;
@@ -36,7 +37,8 @@ pub fn push_items(list: &mut Vec<NodeRef>, doc: &Doc, node: NodeRef) -> Result<(
     requires node_held { Holds doc.now node }
     requires each_held { EachHeld doc.now list.old.items }
     ensures held { EachHeld doc.now list.new.items }
-    ensures ok { OnOk result (labels_of list.new.items ≡ labels_of list.old.items ++ items_over doc.now.state.trees node.label) }
+    ensures ok { OnOk result
+        (labels_of list.new.items ≡ labels_of list.old.items ++ items_over doc.now.state.trees node.label) }
 {
     doc.valid();
     match doc.parent(node) {
@@ -59,7 +61,8 @@ fn push_apart(
     requires items_held { EachHeld doc.now items.now }
     requires each_held { EachHeld doc.now list.old.items }
     ensures held { EachHeld doc.now list.new.items }
-    ensures ok { OnOk result (labels_of list.new.items ≡ labels_of list.old.items ++ filter (λ l. not (is_within doc.now.state.trees l node.label)) (labels_of items.now)) }
+    ensures ok { OnOk result (labels_of list.new.items ≡ labels_of list.old.items ++ filter
+        (λ l. not (is_within doc.now.state.trees l node.label)) (labels_of items.now)) }
 {
     for item in items {
         if !is_within(doc, *item, node) {
@@ -80,7 +83,8 @@ fn items_around(
     requires start_held { Holds doc.now start }
     requires end_held { Holds doc.now end }
     ensures held { IfOk result (λ list. EachHeld doc.now list.items) }
-    ensures items { IfOk result (λ list. labels_of list.items ≡ items_around doc.now.state.trees start.label end.label) }
+    ensures items { IfOk result
+        (λ list. labels_of list.items ≡ items_around doc.now.state.trees start.label end.label) }
 {
     let mut list = Vec::new(alloc);
     push_items(&mut list, doc, start)?;
@@ -184,7 +188,8 @@ fn gathered_of<C: Choice<Doc>>(
 ) -> Result<NodeList, AllocError>
     requires { IsPlacedPair doc.now.state.trees pair }
     ensures held { IfOk result (λ list. EachHeld doc.now list) }
-    ensures nodes { IfOk result (λ list. labels_of list ≡ gathered_by (C.chosen choice.now doc.now) doc.now.state.trees (Some pair)) }
+    ensures nodes { IfOk result
+        (λ list. labels_of list ≡ gathered_by (C.chosen choice.now doc.now) doc.now.state.trees (Some pair)) }
 {
     let range = block_extend(doc, ends_of(doc, pair));
     gather_in(alloc, doc, range, choice)
@@ -197,7 +202,8 @@ pub(crate) fn range_nodes<C: Choice<Doc>>(
     choice: &C,
 ) -> Result<NodeList, AllocError>
     ensures held { IfOk result (λ list. EachHeld doc.now list) }
-    ensures nodes { IfOk result (λ list. labels_of list ≡ gathered_by (C.chosen choice.now doc.now) doc.now.state.trees doc.now.state.points.selection) }
+    ensures nodes { IfOk result (λ list. labels_of list ≡ gathered_by
+        (C.chosen choice.now doc.now) doc.now.state.trees doc.now.state.points.selection) }
 {
     doc.valid();
     match doc.points().selection() {

@@ -101,8 +101,8 @@ fn indent_from(
     }
 }
 
-/// Indents a list of siblings: in a list they come to stand in a list of the same name, elsewhere in a simple indentation
-/// element. The empty list stays as it is.
+/// Indents a list of siblings: in a list they come to stand in a list of the same name, elsewhere
+/// in a simple indentation element. The empty list stays as it is.
 #[tactic(auto, using(edit_model::proofs::Steps::steps, edit_model::proofs::Steps::exits, edit_model::proofs::Steps::ends), unfolding(crate::specs::Indenting::indent_list))]
 pub fn indent_list(alloc: Global, doc: &mut Doc, list: NodeList) -> Result<(), EditFault>
     requires open { IsOpen doc.old }

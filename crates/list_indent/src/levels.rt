@@ -1,5 +1,5 @@
-//! Outdent a node, step 7: the siblings on the way to the indentation element are indented in its place. The steps are those of
-//! docs/ALGORITHMS.md.
+//! Outdent a node, step 7: the siblings on the way to the indentation element are indented in its
+//! place. The steps are those of docs/ALGORITHMS.md.
 
 ghost use Rattle.std.specs.Prelude.{◌≡◌, ◌≤◌, ◌==◌, ◌||◌, IfOk, length, drop, take, reverse};
 ghost use Rattle.dom_model.specs.Forest.{first_in, is_label};

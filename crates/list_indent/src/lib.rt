@@ -1,5 +1,6 @@
-//! Indenting and outdenting: lists and indentation elements come to stand around lines of a document under edits, and go again.
-//! These are the algorithms on lists of the W3C's *HTML Editing APIs*, and the commands indent and outdent.
+//! Indenting and outdenting: lists and indentation elements come to stand around lines of a
+//! document under edits, and go again. These are the algorithms on lists of the W3C's *HTML Editing
+//! APIs*, and the commands indent and outdent.
 //!
 //! Each call is proved to make one run of elementary edits, which its definition composes step by step.
 #![tactic(auto)]

@@ -104,7 +104,8 @@ fn part_child(
     requires item_held { Holds doc.old item }
     requires follower_held { IfHeld doc.old follower }
     requires child_held { Holds doc.old child }
-    ensures gives { GivesMaybe result doc.old.state doc.new.state (part_child item.label (label_of follower) child.label) }
+    ensures gives { GivesMaybe result doc.old.state doc.new.state
+        (part_child item.label (label_of follower) child.label) }
     ensures held { IfOk result (λ found. IfHeld doc.new found) }
     ensures keeps { Keeps doc.old doc.new }
 {
@@ -167,8 +168,8 @@ fn is_normalizable(doc: &Doc, node: NodeRef) -> bool
     }
 }
 
-/// Takes the lists out of an item: they come to stand after it, and what stands between them in items of its own. A node that
-/// is no editable li of an editable parent stays as it is.
+/// Takes the lists out of an item: they come to stand after it, and what stands between them in
+/// items of its own. A node that is no editable li of an editable parent stays as it is.
 #[tactic(auto, using(edit_model::proofs::Steps::steps, edit_model::proofs::Steps::exits), unfolding(crate::specs::Sublists::normalize_sublists))]
 pub fn normalize_sublists(alloc: Global, doc: &mut Doc, node: NodeRef) -> Result<(), EditFault>
     requires open { IsOpen doc.old }

@@ -1,5 +1,5 @@
--- Toggle lists, step 3: the lists of the other kind become lists of the kind, or go into one beside them. The steps are those of
--- docs/ALGORITHMS.md.
+-- Toggle lists, step 3: the lists of the other kind become lists of the kind, or go into one beside
+-- them. The steps are those of docs/ALGORITHMS.md.
 use Rattle.std.specs.Prelude.{ℕ, Bool, false, ◌&&◌, ◌||◌, List, Option, Some, None, if◌then◌else◌}
 use Rattle.dom_model.specs.Contents.{is_element_at}
 use Rattle.dom_model.specs.Forest.{prev_of, next_of, children_of}

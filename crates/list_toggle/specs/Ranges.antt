@@ -1,5 +1,6 @@
--- Toggle lists, steps 2 to 4: the block-extended active range, and the lists and list members that it contains. The steps are
--- those of docs/ALGORITHMS.md. A kind of list is told by whether it is ordered.
+-- Toggle lists, steps 2 to 4: the block-extended active range, and the lists and list members that
+-- it contains. The steps are those of docs/ALGORITHMS.md. A kind of list is told by whether it is
+-- ordered.
 use Rattle.std.specs.Prelude.{ℕ, Bool, not, ◌&&◌, List, [], filter, Option, Some, None}
 use Rattle.dom_model.specs.declared.Content.{Content}
 use Rattle.dom_model.specs.Forest.{Forest}

@@ -1,5 +1,6 @@
--- Toggling lists (HTML Editing APIs, "toggle lists"): the lines of the active range become items of lists of a kind, or leave
--- them. The steps are those of docs/ALGORITHMS.md. A kind of list is told by whether it is ordered.
+-- Toggling lists (HTML Editing APIs, "toggle lists"): the lines of the active range become items of
+-- lists of a kind, or leave them. The steps are those of docs/ALGORITHMS.md. A kind of list is told
+-- by whether it is ordered.
 use Rattle.std.specs.Prelude.{ℕ, Bool, true, false, not, ◌&&◌, ◌||◌, List, Option, if◌then◌else◌}
 use Rattle.std.specs.List.{list_all}
 use Rattle.dom_model.specs.Forest.{first_in}

@@ -35,7 +35,8 @@ fn rename_item(
     requires open { IsOpen doc.old }
     requires node_held { Holds doc.old node }
     requires element { is_element_at doc.old.state.trees node.label ≡ true }
-    ensures gives { GivesAs (λ made. (label_of made.0, made.1)) result doc.old.state doc.new.state (collect.rename_item node.label) }
+    ensures gives { GivesAs (λ made. (label_of made.0, made.1)) result doc.old.state doc.new.state
+        (collect.rename_item node.label) }
     ensures held { IfOk result (λ made. IfHeld doc.new made.0) }
     ensures one { IfOk result (λ made. made.1 ≡ 1) }
     ensures keeps { Keeps doc.old doc.new }
@@ -89,7 +90,8 @@ fn wrap_first(
     requires open { IsOpen doc.old }
     requires list_held { EachHeld doc.old list.now }
     requires within { count ≤ length list.now }
-    ensures gives { GivesAs (λ made. (label_of made.0, made.1)) result doc.old.state doc.new.state (collect.wrap_first count (labels_of list.now)) }
+    ensures gives { GivesAs (λ made. (label_of made.0, made.1)) result doc.old.state doc.new.state
+        (collect.wrap_first count (labels_of list.now)) }
     ensures held { IfOk result (λ made. IfHeld doc.new made.0) }
     ensures same { IfOk result (λ made. made.1 ≡ count) }
     ensures keeps { Keeps doc.old doc.new }
@@ -107,7 +109,8 @@ fn wrap_line(
 ) -> Result<(Option<NodeRef>, usize), EditFault>
     requires open { IsOpen doc.old }
     requires list_held { EachHeld doc.old list.now }
-    ensures gives { GivesAs (λ made. (label_of made.0, made.1)) result doc.old.state doc.new.state (collect.wrap_line (labels_of list.now)) }
+    ensures gives { GivesAs (λ made. (label_of made.0, made.1)) result doc.old.state doc.new.state
+        (collect.wrap_line (labels_of list.now)) }
     ensures held { IfOk result (λ made. IfHeld doc.new made.0) }
     ensures within { IfOk result (λ made. made.1 ≤ length list.now) }
     ensures keeps { Keeps doc.old doc.new }
@@ -128,7 +131,8 @@ fn make_item(
     requires list_held { EachHeld doc.old list.now }
     requires first_held { Holds doc.old first }
     requires some { 0 < length list.now }
-    ensures gives { GivesAs (λ made. (label_of made.0, made.1)) result doc.old.state doc.new.state (collect.make_item (labels_of list.now) first.label) }
+    ensures gives { GivesAs (λ made. (label_of made.0, made.1)) result doc.old.state doc.new.state
+        (collect.make_item (labels_of list.now) first.label) }
     ensures held { IfOk result (λ made. IfHeld doc.new made.0) }
     ensures within { IfOk result (λ made. made.1 ≤ length list.now) }
     ensures keeps { Keeps doc.old doc.new }
@@ -184,7 +188,8 @@ fn collect_next(
     requires items_held { EachHeld doc.old items.old.items }
     requires list_held { EachHeld doc.old list.now }
     requires some { 0 < length list.now }
-    ensures gives { GivesAs (λ count. (labels_of items.new.items, labels_of (drop count list.now))) result doc.old.state doc.new.state (collect.collect_next (labels_of items.old.items, labels_of list.now)) }
+    ensures gives { GivesAs (λ count. (labels_of items.new.items, labels_of (drop count list.now)))
+        result doc.old.state doc.new.state (collect.collect_next (labels_of items.old.items, labels_of list.now)) }
     ensures held { IfOk result (λ count. EachHeld doc.new items.new.items) }
     ensures within { IfOk result (λ count. count ≤ length list.now) }
     ensures keeps { Keeps doc.old doc.new }
@@ -194,7 +199,8 @@ fn collect_next(
     Ok(count)
 }
 
-/// Step 6 a: takes first members of a list, and answers the items that they come to be or go into, and how many are taken.
+/// Step 6 a: takes first members of a list, and answers the items that they come to be or go into,
+/// and how many are taken.
 #[tactic(auto, using(edit_model::proofs::Steps::whiles, edit_model::proofs::Steps::exits), unfolding(crate::specs::Collecting::collect_items))]
 pub(crate) fn collect_items(
     alloc: Global,
@@ -203,7 +209,8 @@ pub(crate) fn collect_items(
 ) -> Result<(Vec<NodeRef>, usize), EditFault>
     requires open { IsOpen doc.old }
     requires list_held { EachHeld doc.old list.now }
-    ensures gives { GivesAs (λ found. (labels_of found.0.items, labels_of (drop found.1 list.now))) result doc.old.state doc.new.state (collect.collect_items (labels_of list.now)) }
+    ensures gives { GivesAs (λ found. (labels_of found.0.items, labels_of (drop found.1 list.now)))
+        result doc.old.state doc.new.state (collect.collect_items (labels_of list.now)) }
     ensures held { IfOk result (λ found. EachHeld doc.new found.0.items) }
     ensures within { IfOk result (λ found. found.1 ≤ length list.now) }
     ensures keeps { Keeps doc.old doc.new }

@@ -99,7 +99,8 @@ fn convert_each(
 ) -> Result<(), EditFault>
     requires open { IsOpen doc.old }
     requires list_held { EachHeld doc.old list.now }
-    ensures gives { Gives result doc.old.state doc.new.state (for_each (labels_of list.now) (convert.convert_list ordered)) }
+    ensures gives { Gives result doc.old.state doc.new.state
+        (for_each (labels_of list.now) (convert.convert_list ordered)) }
     ensures keeps { Keeps doc.old doc.new }
 {
     for node in list {

@@ -50,8 +50,8 @@ pub(crate) fn keep_range(doc: &mut Doc) -> Result<(), EditFault>
     Ok(())
 }
 
-/// Step 4, when the members are listed: the range is let go. Its ends come to the start of the document, where no edit has to move
-/// them.
+/// Step 4, when the members are listed: the range is let go. Its ends come to the start of the
+/// document, where no edit has to move them.
 #[tactic(auto, using(edit_model::proofs::Steps::actions), unfolding(crate::specs::Ranges::free_range))]
 pub(crate) fn free_range(doc: &mut Doc) -> Result<(), EditFault>
     requires open { IsOpen doc.old }

@@ -51,7 +51,8 @@ fn release_from(
     requires open { IsOpen doc.old }
     requires list_held { EachHeld doc.old list.now }
     requires first_held { Holds doc.old first }
-    ensures gives { Gives result doc.old.state doc.new.state (toggle.release_from ordered (labels_of list.now) first.label) }
+    ensures gives { Gives result doc.old.state doc.new.state
+        (toggle.release_from ordered (labels_of list.now) first.label) }
     ensures keeps { Keeps doc.old doc.new }
 {
     if is_list_of(doc, ordered, first) {
@@ -240,7 +241,8 @@ fn enlist_next(
 ) -> Result<usize, EditFault>
     requires open { IsOpen doc.old }
     requires list_held { EachHeld doc.old list.now }
-    ensures gives { GivesAs (λ count. labels_of (drop count list.now)) result doc.old.state doc.new.state (toggle.enlist_next ordered (labels_of list.now)) }
+    ensures gives { GivesAs (λ count. labels_of (drop count list.now)) result doc.old.state doc.new.state
+        (toggle.enlist_next ordered (labels_of list.now)) }
     ensures within { IfOk result (λ count. count ≤ length list.now) }
     ensures keeps { Keeps doc.old doc.new }
 {
@@ -323,8 +325,9 @@ fn toggle_from(alloc: Global, doc: &mut Doc, ordered: bool, off: bool) -> Result
     Ok(true)
 }
 
-/// The commands insertOrderedList and insertUnorderedList: the lines that the block-extended active range contains become items of
-/// lists of the kind, or leave them where all of them stand in such lists already. It answers true.
+/// The commands insertOrderedList and insertUnorderedList: the lines that the block-extended active
+/// range contains become items of lists of the kind, or leave them where all of them stand in such
+/// lists already. It answers true.
 #[tactic(auto, using(edit_model::proofs::Steps::steps, edit_model::proofs::Steps::exits), unfolding(crate::specs::Toggle::toggle_lists))]
 pub fn toggle_lists(alloc: Global, doc: &mut Doc, ordered: bool) -> Result<bool, EditFault>
     requires open { IsOpen doc.old }

@@ -1,5 +1,5 @@
--- The ways that the delete command takes back from a caret (HTML Editing APIs, "the delete command", steps 3 and 7). The steps
--- are those of docs/ALGORITHMS.md.
+-- The ways that the delete command takes back from a caret (HTML Editing APIs, "the delete
+-- command", steps 3 and 7). The steps are those of docs/ALGORITHMS.md.
 use Rattle.std.specs.Prelude.{ℕ, ◌-◌, ◌==◌, Bool, true, false, ◌||◌, ◌&&◌, not, codes, Option, Some, None, if◌then◌else◌}
 use Rattle.std.specs.Option.{option_map, option_map_or}
 use Rattle.dom_model.specs.Contents.{has_name, is_break, is_image}
@@ -50,7 +50,8 @@ drop_child a k = remove k >> answer (moved_to a (at a.at.label (a.at.offset - 1)
 
 -- step 3 a: the sibling before the node at whose start the point stands
 unfoldable pub hidden_prev : State → Point → Option ℕ
-hidden_prev s p = if not (is_affected_host s p.label) && (p.offset == 0) then if_hidden s (prev_of s.trees p.label) else None
+hidden_prev s p =
+    if not (is_affected_host s p.label) && (p.offset == 0) then if_hidden s (prev_of s.trees p.label) else None
 
 unfoldable pub drop_prev : Approach → ℕ → Run Approach
 drop_prev a k = remove k >> answer a
@@ -58,7 +59,8 @@ drop_prev a k = remove k >> answer a
 -- step 3 c: out of an inline node at its start, and out of a node that shows nothing
 unfoldable pub is_left : State → Point → Bool
 is_left s p =
-    not (is_affected_host s p.label) && (((p.offset == 0) && not (is_block s.trees p.label)) || not (is_visible s.trees p.label))
+    not (is_affected_host s p.label)
+    && (((p.offset == 0) && not (is_block s.trees p.label)) || not (is_visible s.trees p.label))
 
 unfoldable pub out_of_node : State → Point → Option Point
 out_of_node s p = if is_left s p then before_node s.trees p.label else None

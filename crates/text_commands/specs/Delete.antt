@@ -1,5 +1,5 @@
--- The delete command (HTML Editing APIs, "the delete command"): what is selected goes, or at a caret what stands before it. The
--- steps are those of docs/ALGORITHMS.md. It answers true.
+-- The delete command (HTML Editing APIs, "the delete command"): what is selected goes, or at a
+-- caret what stands before it. The steps are those of docs/ALGORITHMS.md. It answers true.
 use Rattle.std.specs.Prelude.{ℕ, ◌-◌, ◌==◌, Bool, true, false, ◌||◌, ◌&&◌, not, codes, Option, Some, None, if◌then◌else◌}
 use Rattle.std.specs.Option.{option_map, option_map_or}
 use Rattle.dom_model.specs.Contents.{has_name, is_break, is_image}
@@ -39,7 +39,8 @@ is_single s (Some k) = is_break s.trees k || (has_name s.trees k (codes "hr") ||
 
 unfoldable pub follows_single : State → Point → Bool
 follows_single s p =
-    (is_words s.trees p.label && not (p.offset == 0)) || (is_block s.trees p.label && is_single s (child_before s.trees p.label p.offset))
+    (is_words s.trees p.label && not (p.offset == 0))
+    || (is_block s.trees p.label && is_single s (child_before s.trees p.label p.offset))
 
 unfoldable pub erase_single : Point → Run Bool
 erase_single p = do
@@ -67,7 +68,8 @@ select_before q = select (one_before q) q >> answer true
 
 -- a br after another one or after a block
 unfoldable pub is_empty_line : State → ℕ → Bool
-is_empty_line s k = is_break s.trees k && option_map_or (λ r. is_break s.trees r || is_block s.trees r) (prev_of s.trees k) false
+is_empty_line s k =
+    is_break s.trees k && option_map_or (λ r. is_break s.trees r || is_block s.trees r) (prev_of s.trees k) false
 
 abbrev pub is_line : State → Option ℕ → Bool
 is_line s None = false
@@ -99,7 +101,8 @@ is_entry_at s (Some k) = is_entry s k
 
 -- entries on both sides
 unfoldable pub parts_entries : State → Point → Bool
-parts_entries s q = is_entry_at s (child_at s.trees q.label q.offset) && is_entry_at s (child_before s.trees q.label q.offset)
+parts_entries s q =
+    is_entry_at s (child_at s.trees q.label q.offset) && is_entry_at s (child_before s.trees q.label q.offset)
 
 -- down to the end of what stands before
 unfoldable pub into_last : State → Point → Option Point

@@ -1,5 +1,6 @@
--- What the delete command does at the start of an entry of a list, and of an indented line (HTML Editing APIs, "the delete
--- command", steps 6, 8 and 11). The steps are those of docs/ALGORITHMS.md.
+-- What the delete command does at the start of an entry of a list, and of an indented line (HTML
+-- Editing APIs, "the delete command", steps 6, 8 and 11). The steps are those of
+-- docs/ALGORITHMS.md.
 use Rattle.std.specs.Prelude.{ℕ, ◌==◌, Bool, true, false, ◌||◌, ◌&&◌, not, List, [], Option, Some, None, is_none, is_some, if◌then◌else◌}
 use Rattle.std.specs.List.{list_any}
 use Rattle.std.specs.Option.{option_map_or}
@@ -99,4 +100,5 @@ unfoldable pub part_entry : ℕ → Run (Unit {0})
 part_entry k = close_line k >> add_line k
 
 unfoldable pub part_entries : Point → Run (Unit {0})
-part_entries p = look λ s. if opens_entry s p then given (child_before s.trees p.label p.offset) done part_entry else done
+part_entries p = look λ s.
+    if opens_entry s p then given (child_before s.trees p.label p.offset) done part_entry else done

@@ -310,8 +310,8 @@ fn begun_at(at: Point) -> Approach
     }
 }
 
-/// Step 3: back from the caret to what is deleted. Nodes on the way that show nothing go, and a link before it gives way to its
-/// children.
+/// Step 3: back from the caret to what is deleted. Nodes on the way that show nothing go, and a
+/// link before it gives way to its children.
 #[tactic(auto, using(edit_model::proofs::Steps::whiles, edit_model::proofs::Steps::exits), unfolding(crate::specs::Approach::go_back))]
 pub(crate) fn go_back(alloc: Global, doc: &mut Doc, caret: Point) -> Result<Approach, EditFault>
     requires open { IsOpen doc.old }

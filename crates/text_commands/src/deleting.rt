@@ -170,9 +170,9 @@ fn is_caret(doc: &Doc) -> bool
     }
 }
 
-/// The command delete: what is selected goes. At a caret it is what stands before it: a character, a br, hr or img, the edge
-/// between two blocks, the place of the first entry of a list, or an indentation. A table before the caret is selected, and a link
-/// gives way to its text.
+/// The command delete: what is selected goes. At a caret it is what stands before it: a character,
+/// a br, hr or img, the edge between two blocks, the place of the first entry of a list, or an
+/// indentation. A table before the caret is selected, and a link gives way to its text.
 #[tactic(auto, using(edit_model::proofs::Steps::steps, edit_model::proofs::Steps::exits), unfolding(crate::specs::Delete::delete))]
 pub fn delete(alloc: Global, doc: &mut Doc) -> Result<bool, EditFault>
     requires open { IsOpen doc.old }

@@ -37,7 +37,8 @@ pub(crate) fn starts_entry(doc: &Doc, node: NodeRef, at: Point) -> bool
 fn items_from(alloc: Global, doc: &Doc, node: Option<NodeRef>) -> Result<Vec<NodeRef>, AllocError>
     requires { IfHeld doc.now node }
     ensures held { IfOk result (λ list. EachHeld doc.now list.items) }
-    ensures items { IfOk result (λ list. labels_of list.items ≡ entries.items_from doc.now.state.trees (label_of node)) }
+    ensures items { IfOk result
+        (λ list. labels_of list.items ≡ entries.items_from doc.now.state.trees (label_of node)) }
 {
     let mut list = Vec::new(alloc);
     if let Some(node) = node {

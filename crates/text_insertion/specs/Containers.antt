@@ -1,5 +1,5 @@
--- The single-line container that a new paragraph parts (HTML Editing APIs, "the insertParagraph command", steps 3 and 4). The
--- steps are those of docs/ALGORITHMS.md.
+-- The single-line container that a new paragraph parts (HTML Editing APIs, "the insertParagraph
+-- command", steps 3 and 4). The steps are those of docs/ALGORITHMS.md.
 use Rattle.std.specs.Prelude.{ℕ, zero, suc, Bool, false, ◌||◌, ◌&&◌, List, [], ◌∷◌, codes, Option, Some, None, if◌then◌else◌}
 use Rattle.std.specs.List.{find}
 use Rattle.std.specs.Option.{option_map_or, option_and_then}
@@ -89,7 +89,8 @@ insert_container = do
   collapse (start_in c)
 
 unfoldable pub takes_container : State → Bool
-takes_container s = option_map_or (λ p. name_allowed_in (container_name s.flags.paragraphs) s.trees p.label) (active_start s) false
+takes_container s =
+    option_map_or (λ p. name_allowed_in (container_name s.flags.paragraphs) s.trees p.label) (active_start s) false
 
 unfoldable pub add_container : Run (Option ℕ)
 add_container = look λ s. if takes_container s then (insert_container >> answer None) else answer None

@@ -1,5 +1,5 @@
--- Parting a single-line container in two (HTML Editing APIs, "the insertParagraph command", steps 7 to 9). The steps are those of
--- docs/ALGORITHMS.md.
+-- Parting a single-line container in two (HTML Editing APIs, "the insertParagraph command", steps 7
+-- to 9). The steps are those of docs/ALGORITHMS.md.
 use Rattle.std.specs.Prelude.{ℕ, ◌==◌, Bool, true, false, ◌&&◌, not, List, [], ◌∷◌, codes, Option, Some, None, if◌then◌else◌}
 use Rattle.std.specs.Option.{option_map_or}
 use Rattle.dom_model.specs.AttributeList.{unset_in}
@@ -28,7 +28,9 @@ unfoldable pub leave_start : State → Point → Option Point
 leave_start s p = if (p.offset == 0) && not (is_prohibited s p.label) then before_node s.trees p.label else None
 
 unfoldable pub leave_end : State → Point → Option Point
-leave_end s p = if (p.offset == length_of s.trees p.label) && not (is_prohibited s p.label) then after_node s.trees p.label else None
+leave_end s p =
+    if (p.offset == length_of s.trees p.label) && not (is_prohibited s p.label) then after_node s.trees p.label
+    else None
 
 unfoldable pub outer_start : State → Point → Point
 outer_start s p = walk_points (leave_start s) (turn_bound s) p

@@ -1,5 +1,5 @@
--- Inserting a paragraph (HTML Editing APIs, "the insertParagraph command"): what is selected goes, and the line is parted there.
--- The steps are those of docs/ALGORITHMS.md. It answers true.
+-- Inserting a paragraph (HTML Editing APIs, "the insertParagraph command"): what is selected goes,
+-- and the line is parted there. The steps are those of docs/ALGORITHMS.md. It answers true.
 use Rattle.std.specs.Prelude.{ℕ, ◌+◌, ◌==◌, Bool, true, false, ◌||◌, ◌&&◌, not, codes, Option, Some, None, if◌then◌else◌, unwrap_or}
 use Rattle.dom_model.specs.declared.Content.{Content}
 use Rattle.dom_model.specs.Contents.{has_name, has_chars_at, length_of}
@@ -44,7 +44,8 @@ split_text p = cut_text p >> leave_text p
 -- ---- step 5: in an address, listing or pre, a line ends with a br
 
 unfoldable pub holds_lines : State → ℕ → Bool
-holds_lines s c = has_name s.trees c (codes "address") || (has_name s.trees c (codes "listing") || has_name s.trees c (codes "pre"))
+holds_lines s c =
+    has_name s.trees c (codes "address") || (has_name s.trees c (codes "listing") || has_name s.trees c (codes "pre"))
 
 -- step 5: a br at the end of c shows a line only with another one after it
 unfoldable pub is_last_below : State → ℕ → ℕ → Bool
@@ -68,7 +69,8 @@ break_line p c = make_break >>= break_with p c
 
 -- step 5 or 6, or from 7 on
 unfoldable pub part_line : Point → ℕ → Run (Unit {0})
-part_line p c = look λ s. if holds_lines s c then break_line p c else (if is_empty_entry s c then leave_list c else part_container c)
+part_line p c = look λ s.
+    if holds_lines s c then break_line p c else (if is_empty_entry s c then leave_list c else part_container c)
 
 abbrev pub part_line_if : Point → Option ℕ → Run (Unit {0})
 part_line_if p c = given c done (part_line p)

@@ -1,5 +1,6 @@
--- Inserting text (HTML Editing APIs, "the insertText command"): what is selected goes, and the characters come there one by one,
--- with the overrides that are set. The steps are those of docs/ALGORITHMS.md. It answers true.
+-- Inserting text (HTML Editing APIs, "the insertText command"): what is selected goes, and the
+-- characters come there one by one, with the overrides that are set. The steps are those of
+-- docs/ALGORITHMS.md. It answers true.
 use Rattle.std.specs.Prelude.{ℕ, ◌+◌, ◌==◌, Bool, true, false, ◌&&◌, List, [], ◌∷◌, Option, Some, None, is_none, if◌then◌else◌, unwrap_or}
 use Rattle.std.specs.Option.{option_map}
 use Rattle.dom_model.specs.declared.Content.{Content}

@@ -1,4 +1,5 @@
-//! Insert a paragraph, steps 7 to 9: a single-line container is parted in two. The steps are those of docs/ALGORITHMS.md.
+//! Insert a paragraph, steps 7 to 9: a single-line container is parted in two. The steps are those
+//! of docs/ALGORITHMS.md.
 
 ghost use Rattle.std.specs.Prelude.{◌≡◌, ◌<◌, IfOk, IfSome, codes};
 ghost use Rattle.dom_model.specs.AttributeList.{unset_in};
@@ -171,7 +172,8 @@ fn second_name(alloc: Global, doc: &Doc, at: Point, container: NodeRef) -> Resul
 // Step 8: its attributes.
 fn second_attributes(alloc: Global, doc: &Doc, container: NodeRef) -> Result<Attributes, AllocError>
     requires { Holds doc.now container }
-    ensures { IfOk result (λ list. list ≡ unset_in (compositions.attribute_list_of doc.now.state.trees container.label) (codes "id")) }
+    ensures { IfOk result
+        (λ list. list ≡ unset_in (compositions.attribute_list_of doc.now.state.trees container.label) (codes "id")) }
 {
     let mut list = attributes_of(alloc, doc, container)?;
     list.unset(b"id");

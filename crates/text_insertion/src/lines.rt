@@ -1,4 +1,5 @@
-//! Insert a paragraph, step 4: a line without a container of its own gets one. The steps are those of docs/ALGORITHMS.md.
+//! Insert a paragraph, step 4: a line without a container of its own gets one. The steps are those
+//! of docs/ALGORITHMS.md.
 
 ghost use Rattle.std.specs.Prelude.{◌≡◌, ◌<◌, ◌++◌, IfOk};
 ghost use Rattle.std.specs.List.{find};
@@ -158,7 +159,8 @@ fn with_contents_after(
 ) -> Result<Vec<NodeRef>, AllocError>
     requires list_held { EachHeld doc.now list.items }
     requires last_held { Holds doc.now last }
-    ensures gives { IfOk result (λ v. labels_of v.items ≡ labels_of list.items ++ containers.contents_after doc.now.state (turn_bound doc.now.state) last.label) }
+    ensures gives { IfOk result (λ v. labels_of v.items
+        ≡ labels_of list.items ++ containers.contents_after doc.now.state (turn_bound doc.now.state) last.label) }
     ensures held { IfOk result (λ v. EachHeld doc.now v.items) }
 {
     let mut list = list;
@@ -222,8 +224,8 @@ fn make_line(alloc: Global, doc: &mut Doc) -> Result<Option<NodeRef>, EditFault>
     }
 }
 
-/// The container of a line: the node that was found, where it is one that is editable, or else one that is put round the line.
-/// None where the algorithm ends.
+/// The container of a line: the node that was found, where it is one that is editable, or else one
+/// that is put round the line. None where the algorithm ends.
 #[tactic(auto, using(edit_model::proofs::Steps::steps, edit_model::proofs::Steps::exits), unfolding(crate::specs::Containers::own_container))]
 pub(crate) fn own_container(
     alloc: Global,

@@ -219,8 +219,8 @@ fn insert_paragraph_inside(alloc: Global, doc: &mut Doc) -> Result<(), EditFault
     }
 }
 
-/// The command insertParagraph: what is selected goes, and the line is parted there. In an address, listing or pre it is parted by
-/// a br, and an entry of a list with nothing in it leaves the list.
+/// The command insertParagraph: what is selected goes, and the line is parted there. In an address,
+/// listing or pre it is parted by a br, and an entry of a list with nothing in it leaves the list.
 #[tactic(auto, using(edit_model::proofs::Steps::steps, edit_model::proofs::Steps::exits), unfolding(crate::specs::Paragraph::insert_paragraph))]
 pub fn insert_paragraph(alloc: Global, doc: &mut Doc) -> Result<bool, EditFault>
     requires open { IsOpen doc.old }

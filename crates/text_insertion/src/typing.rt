@@ -283,8 +283,8 @@ fn insert_chars(alloc: Global, doc: &mut Doc, value: &[char]) -> Result<(), Edit
     insert_char_inside(alloc, doc, value[0])
 }
 
-/// The command insertText: what is selected goes, and the characters of the value come there one by one, as if each were typed,
-/// with the overrides that are set. A line feed begins a paragraph.
+/// The command insertText: what is selected goes, and the characters of the value come there one by
+/// one, as if each were typed, with the overrides that are set. A line feed begins a paragraph.
 #[tactic(auto, using(edit_model::proofs::Steps::steps, edit_model::proofs::Steps::exits), unfolding(crate::specs::Typing::insert_text))]
 pub fn insert_text(alloc: Global, doc: &mut Doc, value: &[char]) -> Result<bool, EditFault>
     requires open { IsOpen doc.old }

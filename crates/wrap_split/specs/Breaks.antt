@@ -16,7 +16,8 @@ last_below s r = walk (last_of s.trees) (turn_bound s) r
 -- extraneous line break, and not where to stop
 unfoldable pub back_step : State → Option ℕ → ℕ → Option ℕ
 back_step s stop r =
-    if is_invisible s r && (not (is_extraneous_break s.trees r) && not (is_label stop r)) then preceding s.trees r else None
+    if is_invisible s r && (not (is_extraneous_break s.trees r) && not (is_label stop r)) then preceding s.trees r
+    else None
 
 unfoldable pub back : State → Option ℕ → ℕ → ℕ
 back s stop r = walk (back_step s stop) (turn_bound s) r

@@ -1,5 +1,6 @@
--- Splitting the parent of a list of siblings, and removing a node while its children stay (HTML Editing APIs, "split the
--- parent", "remove preserving its descendants"). The steps are those of docs/ALGORITHMS.md.
+-- Splitting the parent of a list of siblings, and removing a node while its children stay (HTML
+-- Editing APIs, "split the parent", "remove preserving its descendants"). The steps are those of
+-- docs/ALGORITHMS.md.
 use Rattle.std.specs.Prelude.{ℕ, Bool, false, ◌||◌, ◌&&◌, not, List, if◌then◌else◌, codes, is_none}
 use Rattle.std.specs.Option.{option_map_or}
 use Rattle.dom_model.specs.Contents.{name_of, is_break}
@@ -44,7 +45,8 @@ copy_front o list a = look λ s. if starts_in s o list then done else copied o a
 -- split the parent, step 9: where the member z is inline and no br, a br that the block o then begins with goes
 unfoldable pub drop_first_break : ℕ → ℕ → Run (Unit {0})
 drop_first_break o z = look λ s. given (first_of s.trees o) done λ c.
-    if not (is_block s.trees z) && (not (is_break s.trees z) && (is_break s.trees c && is_block s.trees o)) then remove c >> done else done
+    if not (is_block s.trees z) && (not (is_break s.trees z) && (is_break s.trees c && is_block s.trees o))
+    then remove c >> done else done
 
 -- split the parent, step 10: an emptied o goes, and a br comes where one is wanted after the member z
 unfoldable pub close : ℕ → ℕ → Bool → Run (Unit {0})
@@ -77,7 +79,8 @@ unfoldable pub split_marked : ℕ → List ℕ → ℕ → ℕ → Run (Unit {0}
 split_marked o list a z = look λ s.
     let before = starts_in s o list && follows_break s.trees o in
     let after = ends_in s o list && precedes_break s.trees o in
-    if not (starts_in s o list) && ends_in s o list then split_end o list z after else split_rest o list a z before after
+    if not (starts_in s o list) && ends_in s o list then split_end o list z after
+    else split_rest o list a z before after
 
 -- an image or a rule, which has no end tag
 abbrev pub is_void_thing : State → ℕ → Bool

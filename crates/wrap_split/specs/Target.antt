@@ -44,10 +44,11 @@ aligns alignment a =
 -- a div with such attributes, at least one, and no others
 unfoldable pub is_aligned : Forest Content → ℕ → List ℕ → Bool
 is_aligned f l alignment =
-    has_name f l (codes "div") && option_map_or (λ list. not (has_none list) && list_all (aligns alignment) list) (attributes_of f l) false
+    has_name f l (codes "div")
+    && option_map_or (λ list. not (has_none list) && list_all (aligns alignment) list) (attributes_of f l) false
 
--- Never is met by no node; SameValue by a simple modifiable element that gives the command the value and has it; Named by an
--- element of the name, where it is bare without attributes
+-- Never is met by no node; SameValue by a simple modifiable element that gives the command the
+-- value and has it; Named by an element of the name, where it is bare without attributes
 unfoldable pub meets : Criterion → Forest Content → ℕ → Bool
 meets Never f l = false
 meets (SameValue command value) f l = meets_value f l command value

@@ -7,7 +7,8 @@ use Rattle.node_tests.specs.LineBreaks.{turns}
 use Rattle.node_tests.specs.Visible.{is_visible}
 use Rattle.edit_model.specs.State.{State}
 
--- how many turns a loop takes at most that starts now: two for each node of the document, one for each character, and two
+-- how many turns a loop takes at most that starts now: two for each node of the document, one for
+-- each character, and two
 abbrev pub turn_bound : State → ℕ
 turn_bound s = turns s.trees
 

@@ -93,12 +93,15 @@ prepend_break p = make_break >>= λ x. look λ s. insert p (first_of s.trees p) 
 
 -- wrap, steps 8 and 11: whether a br has to part what p ends with from what comes after it there
 unfoldable pub needs_br : State → ℕ → Option ℕ → Option ℕ → Bool
-needs_br s p before after = is_block s.trees p && (is_inline s before && (is_inline s after && is_other s (last_of s.trees p)))
+needs_br s p before after =
+    is_block s.trees p && (is_inline s before && (is_inline s after && is_other s (last_of s.trees p)))
 
 -- wrap, step 9: and what p begins with from the list that comes before it there
 unfoldable pub joins_front : State → ℕ → List ℕ → Bool
 joins_front s p list =
-    is_block s.trees p && (is_inline s (first_visible s (children_of s.trees p)) && (is_inline s (last_visible s list) && is_other s (last_in list)))
+    is_block s.trees p
+    && (is_inline s (first_visible s (children_of s.trees p))
+    && (is_inline s (last_visible s list) && is_other s (last_in list)))
 
 -- wrap, steps 8 and 11
 unfoldable pub separate_with_br : ℕ → Option ℕ → Option ℕ → Run (Unit {0})
@@ -106,7 +109,8 @@ separate_with_br p before after = look λ s. if needs_br s p before after then a
 
 -- wrap, step 8
 unfoldable pub append_all : ℕ → List ℕ → Run (Unit {0})
-append_all p list = look λ s. separate_with_br p (last_visible s (children_of s.trees p)) (first_visible s list) >> move_each_last list p
+append_all p list = look λ s.
+    separate_with_br p (last_visible s (children_of s.trees p)) (first_visible s list) >> move_each_last list p
 
 -- wrap, step 9
 unfoldable pub parted_front : ℕ → List ℕ → Run (Unit {0})
@@ -173,7 +177,8 @@ unfoldable pub wrap_ends : Criterion → Recipe → List ℕ → ℕ → ℕ →
 wrap_ends c r list a z = target c r a z >>= into_target c list a
 
 unfoldable pub wrap_list : Criterion → Recipe → List ℕ → Run (Option ℕ)
-wrap_list c r list = given (first_in list) (answer None) λ a. given (last_in list) (answer None) λ z. wrap_ends c r list a z
+wrap_list c r list =
+    given (first_in list) (answer None) λ a. given (last_in list) (answer None) λ z. wrap_ends c r list a z
 
 -- wrap, steps 2 to 4, and then from 5 on
 unfoldable pub wrap_members : Criterion → Recipe → List ℕ → Run (Option ℕ)

@@ -116,8 +116,8 @@ pub fn breaks_before(doc: &mut Doc, node: NodeRef) -> Result<(), EditFault>
     Ok(())
 }
 
-/// Removes the extraneous line break that stands at the end of a node, if there is one, with the editable invisible nodes
-/// round it.
+/// Removes the extraneous line break that stands at the end of a node, if there is one, with the
+/// editable invisible nodes round it.
 #[tactic(auto, using(edit_model::proofs::Steps::steps, edit_model::proofs::Steps::exits), unfolding(crate::specs::Breaks::breaks_at_end))]
 pub fn breaks_at_end(doc: &mut Doc, node: NodeRef) -> Result<(), EditFault>
     requires open { IsOpen doc.old }

@@ -104,7 +104,8 @@ fn part_end(
     requires node_held { Holds doc.old node }
     requires before_held { IfHeld doc.old before }
     requires after_held { IfHeld doc.old after }
-    ensures gives { Gives result doc.old.state doc.new.state (separate_with_br node.label (label_of before) (label_of after)) }
+    ensures gives { Gives result doc.old.state doc.new.state
+        (separate_with_br node.label (label_of before) (label_of after)) }
     ensures keeps { Keeps doc.old doc.new }
 {
     if needs_br(doc, node, before, after) {

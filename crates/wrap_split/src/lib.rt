@@ -1,8 +1,9 @@
-//! Wrapping and splitting: the algorithms on line breaks and lists of siblings that the commands of the W3C's *HTML Editing
-//! APIs* have in common, over a document under edits.
+//! Wrapping and splitting: the algorithms on line breaks and lists of siblings that the commands of
+//! the W3C's *HTML Editing APIs* have in common, over a document under edits.
 //!
-//! Each call is proved to make one run of elementary edits, which its definition composes step by step. The nodes of a list
-//! need only be held; those that have no parent, or another parent than the first that has one, are left out of it.
+//! Each call is proved to make one run of elementary edits, which its definition composes step by
+//! step. The nodes of a list need only be held; those that have no parent, or another parent than
+//! the first that has one, are left out of it.
 #![tactic(auto)]
 
 mod answers;

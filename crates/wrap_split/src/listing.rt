@@ -105,7 +105,8 @@ fn with_hidden_before(
 ) -> Result<Vec<NodeRef>, AllocError>
     requires list_held { EachHeld doc.now reversed.items }
     requires first_held { Holds doc.now first }
-    ensures gives { IfOk result (λ v. labels_of (reverse v.items) ≡ extended doc.now.state (labels_of (reverse reversed.items)) first.label) }
+    ensures gives { IfOk result
+        (λ v. labels_of (reverse v.items) ≡ extended doc.now.state (labels_of (reverse reversed.items)) first.label) }
     ensures held { IfOk result (λ v. EachHeld doc.now v.items) }
 {
     let mut reversed = reversed;
@@ -146,7 +147,8 @@ fn with_hidden_after(
 ) -> Result<Vec<NodeRef>, AllocError>
     requires list_held { EachHeld doc.now list.items }
     requires last_held { Holds doc.now last }
-    ensures gives { IfOk result (λ v. labels_of v.items ≡ labels_of list.items ++ hidden_after doc.now.state (turn_bound doc.now.state) last.label) }
+    ensures gives { IfOk result (λ v. labels_of v.items
+        ≡ labels_of list.items ++ hidden_after doc.now.state (turn_bound doc.now.state) last.label) }
     ensures held { IfOk result (λ v. EachHeld doc.now v.items) }
 {
     let mut list = list;
@@ -187,7 +189,8 @@ pub(crate) fn widened(
     requires list_held { EachHeld doc.now list.items }
     requires first_held { Holds doc.now first }
     requires last_held { Holds doc.now last }
-    ensures gives { IfOk result (λ v. labels_of v.items ≡ widened doc.now.state (labels_of list.items) first.label last.label) }
+    ensures gives { IfOk result
+        (λ v. labels_of v.items ≡ widened doc.now.state (labels_of list.items) first.label last.label) }
     ensures held { IfOk result (λ v. EachHeld doc.now v.items) }
 {
     let list = with_break(doc, list, last)?;

@@ -1,7 +1,8 @@
 //! Rules for wrapping: which sibling a list may go into, and what is made where none fits.
 //!
-//! A rule holds a test and a maker. Each is of a type that tells, to contracts alone, the criterion that it tests or the recipe
-//! that it follows, and whose method is proved to answer it. So a rule can't be told wrong, and wrapping asks nothing more.
+//! A rule holds a test and a maker. Each is of a type that tells, to contracts alone, the criterion
+//! that it tests or the recipe that it follows, and whose method is proved to answer it. So a rule
+//! can't be told wrong, and wrapping asks nothing more.
 
 ghost use Rattle.std.specs.Prelude.{◌≡◌};
 ghost use Rattle.edit_doc.specs.Held.{Holds};

@@ -171,7 +171,8 @@ fn split_end(
     requires node_held { Holds doc.old node }
     requires list_held { EachHeld doc.old list.now }
     requires last_held { Holds doc.old last }
-    ensures gives { Gives result doc.old.state doc.new.state (split_end node.label (labels_of list.now) last.label wanted) }
+    ensures gives { Gives result doc.old.state doc.new.state
+        (split_end node.label (labels_of list.now) last.label wanted) }
     ensures keeps { Keeps doc.old doc.new }
 {
     move_all_after(doc, list, node)?;
@@ -194,7 +195,8 @@ fn split_rest(
     requires list_held { EachHeld doc.old list.now }
     requires first_held { Holds doc.old ends.0 }
     requires last_held { Holds doc.old ends.1 }
-    ensures gives { Gives result doc.old.state doc.new.state (split_rest node.label (labels_of list.now) ends.0.label ends.1.label wanted.0 wanted.1) }
+    ensures gives { Gives result doc.old.state doc.new.state
+        (split_rest node.label (labels_of list.now) ends.0.label ends.1.label wanted.0 wanted.1) }
     ensures keeps { Keeps doc.old doc.new }
 {
     copy_front(alloc, doc, node, list, ends.0)?; // step 6
@@ -220,7 +222,8 @@ fn split_marked(
     requires list_held { EachHeld doc.old list.now }
     requires first_held { Holds doc.old first }
     requires last_held { Holds doc.old last }
-    ensures gives { Gives result doc.old.state doc.new.state (split_marked node.label (labels_of list.now) first.label last.label) }
+    ensures gives { Gives result doc.old.state doc.new.state
+        (split_marked node.label (labels_of list.now) first.label last.label) }
     ensures keeps { Keeps doc.old doc.new }
 {
     // step 4
@@ -257,7 +260,8 @@ fn split_at(
     requires list_held { EachHeld doc.old list.now }
     requires first_held { Holds doc.old first }
     requires last_held { Holds doc.old last }
-    ensures gives { Gives result doc.old.state doc.new.state (split_at node.label (labels_of list.now) first.label last.label) }
+    ensures gives { Gives result doc.old.state doc.new.state
+        (split_at node.label (labels_of list.now) first.label last.label) }
     ensures keeps { Keeps doc.old doc.new }
 {
     if !doc.is_editable_for(node) || doc.parent(node).is_none() || is_void_thing(doc, node) {

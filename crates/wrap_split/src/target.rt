@@ -55,7 +55,8 @@ pub(crate) fn target<C: Meets, M: Makes>(
     requires open { IsOpen doc.old }
     requires first_held { Holds doc.old first }
     requires last_held { Holds doc.old last }
-    ensures gives { GivesMaybe result doc.old.state doc.new.state (target (C.criterion rule.now.test) (M.recipe rule.now.maker) first.label last.label) }
+    ensures gives { GivesMaybe result doc.old.state doc.new.state
+        (target (C.criterion rule.now.test) (M.recipe rule.now.maker) first.label last.label) }
     ensures held { IfOk result (λ found. IfHeld doc.new found) }
     ensures keeps { Keeps doc.old doc.new }
 {

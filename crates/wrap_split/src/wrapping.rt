@@ -51,7 +51,8 @@ fn fill_from<C: Meets, M: Makes>(
     requires list_held { EachHeld doc.old list.now }
     requires first_held { Holds doc.old from.0 }
     requires parent_held { IfHeld doc.old from.1 }
-    ensures gives { GivesMaybe result doc.old.state doc.new.state (filled_from (C.criterion rule.now.test) node.label (labels_of list.now) from.0.label (label_of from.1)) }
+    ensures gives { GivesMaybe result doc.old.state doc.new.state
+        (filled_from (C.criterion rule.now.test) node.label (labels_of list.now) from.0.label (label_of from.1)) }
     ensures held { IfOk result (λ found. IfHeld doc.new found) }
     ensures keeps { Keeps doc.old doc.new }
 {
@@ -77,7 +78,8 @@ fn fill<C: Meets, M: Makes>(
     requires node_held { Holds doc.old node }
     requires list_held { EachHeld doc.old list.now }
     requires first_held { Holds doc.old first }
-    ensures gives { GivesMaybe result doc.old.state doc.new.state (filled (C.criterion rule.now.test) node.label (labels_of list.now) first.label) }
+    ensures gives { GivesMaybe result doc.old.state doc.new.state
+        (filled (C.criterion rule.now.test) node.label (labels_of list.now) first.label) }
     ensures held { IfOk result (λ found. IfHeld doc.new found) }
     ensures keeps { Keeps doc.old doc.new }
 {
@@ -101,7 +103,8 @@ fn wrap_ends<C: Meets, M: Makes>(
     requires list_held { EachHeld doc.old list.now }
     requires first_held { Holds doc.old first }
     requires last_held { Holds doc.old last }
-    ensures gives { GivesMaybe result doc.old.state doc.new.state (wrap_ends (C.criterion rule.now.test) (M.recipe rule.now.maker) (labels_of list.now) first.label last.label) }
+    ensures gives { GivesMaybe result doc.old.state doc.new.state
+        (wrap_ends (C.criterion rule.now.test) (M.recipe rule.now.maker) (labels_of list.now) first.label last.label) }
     ensures held { IfOk result (λ found. IfHeld doc.new found) }
     ensures keeps { Keeps doc.old doc.new }
 {
@@ -120,7 +123,8 @@ fn wrap_list<C: Meets, M: Makes>(
 ) -> Result<Option<NodeRef>, EditFault>
     requires open { IsOpen doc.old }
     requires list_held { EachHeld doc.old list.now }
-    ensures gives { GivesMaybe result doc.old.state doc.new.state (wrap_list (C.criterion rule.now.test) (M.recipe rule.now.maker) (labels_of list.now)) }
+    ensures gives { GivesMaybe result doc.old.state doc.new.state
+        (wrap_list (C.criterion rule.now.test) (M.recipe rule.now.maker) (labels_of list.now)) }
     ensures held { IfOk result (λ found. IfHeld doc.new found) }
     ensures keeps { Keeps doc.old doc.new }
 {
@@ -140,7 +144,8 @@ fn wrap_members<C: Meets, M: Makes>(
 ) -> Result<Option<NodeRef>, EditFault>
     requires open { IsOpen doc.old }
     requires list_held { EachHeld doc.old list.items }
-    ensures gives { GivesMaybe result doc.old.state doc.new.state (wrap_members (C.criterion rule.now.test) (M.recipe rule.now.maker) (labels_of list.items)) }
+    ensures gives { GivesMaybe result doc.old.state doc.new.state
+        (wrap_members (C.criterion rule.now.test) (M.recipe rule.now.maker) (labels_of list.items)) }
     ensures held { IfOk result (λ found. IfHeld doc.new found) }
     ensures keeps { Keeps doc.old doc.new }
 {
@@ -158,9 +163,10 @@ fn wrap_members<C: Meets, M: Makes>(
     wrap_list(alloc, doc, &list, rule)
 }
 
-/// Wraps a list of siblings in the sibling beside it that the rule allows, or else in an element that the rule makes.
-/// Answers that node; None where nothing of the list shows and none is a br, or where there is no such node. Of the list,
-/// the members that have a parent, and the same one as the first of them, are taken.
+/// Wraps a list of siblings in the sibling beside it that the rule allows, or else in an element
+/// that the rule makes. Answers that node; None where nothing of the list shows and none is a br,
+/// or where there is no such node. Of the list, the members that have a parent, and the same one as
+/// the first of them, are taken.
 #[tactic(auto, using(edit_model::proofs::Steps::steps, edit_model::proofs::Steps::exits), unfolding(crate::specs::Wrap::wrap))]
 pub fn wrap<C: Meets, M: Makes>(
     alloc: Global,
@@ -170,7 +176,8 @@ pub fn wrap<C: Meets, M: Makes>(
 ) -> Result<Option<NodeRef>, EditFault>
     requires open { IsOpen doc.old }
     requires list_held { EachHeld doc.old list }
-    ensures gives { GivesMaybe result doc.old.state doc.new.state (wrap (C.criterion rule.now.test) (M.recipe rule.now.maker) (labels_of list)) }
+    ensures gives { GivesMaybe result doc.old.state doc.new.state
+        (wrap (C.criterion rule.now.test) (M.recipe rule.now.maker) (labels_of list)) }
     ensures held { IfOk result (λ found. IfHeld doc.new found) }
     ensures keeps { Keeps doc.old doc.new }
 {
