@@ -82,10 +82,6 @@ rule_stands f parent h = by_name (name_of f parent) h
 
 -- ---- what is renamed bears nothing itself
 
-either_fails : (a b : Bool) → (a || b) ≡ false → (a ≡ false) × (b ≡ false)
-either_fails true b h = absurd (true≢false h)
-either_fails false b h = (refl, h)
-
 prohibited_img : is_prohibited_child (codes "img") ≡ false
 unfolding is_prohibited_child prohibited_child_names
 prohibited_img = refl

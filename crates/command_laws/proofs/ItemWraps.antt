@@ -127,9 +127,6 @@ module _ (s : State) (items : List ℕ) (x q n : ℕ) (w : Turn s items x q n) w
   p : ℕ
   p = s.next
 
-  with_item : List ℕ
-  with_item = items ++ s.next ∷ []
-
   s1 : State
   s1 = made (Element (codes "li") []) s
 

@@ -9,6 +9,3 @@ appended_three a b c d x y z e f g = appended_two a c d (x ++ y) z (appended_two
 
 pub appended_four : (a b c d e w x y z : List ℕ) → b ≡ a ++ w → c ≡ b ++ x → d ≡ c ++ y → e ≡ d ++ z → e ≡ a ++ (w ++ x ++ y ++ z)
 appended_four a b c d e w x y z p q r s = appended_two a d e (w ++ x ++ y) z (appended_three a b c d w x y p q r) s
-
-pub appended_five : (a b c d e f v w x y z : List ℕ) → b ≡ a ++ v → c ≡ b ++ w → d ≡ c ++ x → e ≡ d ++ y → f ≡ e ++ z → f ≡ a ++ (v ++ w ++ x ++ y ++ z)
-appended_five a b c d e f v w x y z p q r s t = appended_two a e f (v ++ w ++ x ++ y) z (appended_four a b c d e v w x y p q r s) t

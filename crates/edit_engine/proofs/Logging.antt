@@ -1,27 +1,39 @@
--- Appending the text of each item of a list that is taken apart, and the texts of steps.
-use Rattle.std.proofs.Common.{◌≡◌, ℕ, List, [], ◌∷◌, ◌++◌, length, map, Result, Ok, Err, refl, sym, ap, subst, ◌∙◌, append_assoc, append-nil, arith}
+-- The text of each item of a list that is taken apart, appended, and the texts of steps.
+use Rattle.std.proofs.Common.{◌≡◌, ℕ, ◌+◌, List, [], ◌∷◌, ◌++◌, length, map, Result, Ok, Err, refl, sym, ap, ◌∙◌, append_assoc, append-nil, arith}
 use Rattle.std.specs.List.{flat_map}
 use Rattle.std.specs.Prelude.{OnOk}
 use Rattle.std.proofs.lemmas.Grind.{flat_map-append}
 use Rattle.std.proofs.lemmas.List.Folds.{flat_map-map}
-use Rattle.dom_model.specs.declared.Content.{Content}
 use Rattle.edit_doc.specs.Logged.{Logged}
 use Rattle.edit_doc.specs.declared.logged.LoggedEdit.{LoggedEdit}
 use Rattle.edit_doc.specs.declared.logged.MadeNode.{MadeNode}
-use Rattle.step_text.specs.declared.line.StepLine.{StepLine}
 use Rattle.step_text.specs.declared.line.StepLine.TheVariants as steps
 use Rattle.edit_engine.specs.Logs.{made_steps, edit_step, entry_steps, step_line, step_lines}
 
 module _ {X : Type 0} where
-  -- the text of one item more
-  pub taken_more : (g : X → List ℕ) (bytes new all : List ℕ) (items rest : List X) (x : X) → bytes ++ flat_map g items ≡ all → items ≡ x ∷ rest → new ≡ bytes ++ g x → new ++ flat_map g rest ≡ all
-  taken_more g bytes new all items rest x before is after =
-      ap (λ b. b ++ flat_map g rest) after ∙ append_assoc bytes (g x) (flat_map g rest) ∙ ap (λ xs. bytes ++ flat_map g xs) (sym is) ∙ before
+  -- what is written, the number of items that are left, and all that comes to be written
+  abbrev pub Written : (X → List ℕ) → List ℕ → ℕ → List X → List ℕ → Type 0
+  Written g bytes left items all = record {
+    text : bytes ++ flat_map g items ≡ all;
+    left : left ≡ length items;
+  }
 
-  -- no item is left
-  pub taken_all : (g : X → List ℕ) (bytes all : List ℕ) (items : List X) → bytes ++ flat_map g items ≡ all → length items ≡ 0 → bytes ≡ all
-  taken_all g bytes all [] before none = sym (append-nil bytes) ∙ before
-  taken_all g bytes all (x ∷ items) before none = absurd (omega (arith, none))
+  -- the text of one item more
+  pub written_more : (g : X → List ℕ) (bytes new all : List ℕ) (left less : ℕ) (items rest : List X) (x : X)
+      → Written g bytes left items all → items ≡ x ∷ rest → less + 1 ≡ left → new ≡ bytes ++ g x → Written g new less rest all
+  written_more g bytes new all left less items rest x before is gone after = record {
+    text = ap (λ b. b ++ flat_map g rest) after ∙ append_assoc bytes (g x) (flat_map g rest) ∙ ap (λ xs. bytes ++ flat_map g xs) (sym is) ∙ before.text;
+    left = (
+        let was = before.left in
+        let short = ap length is in
+        omega (arith, was, gone, short));
+  }
+
+  -- no item is left of all
+  pub written_all : (g : X → List ℕ) (start bytes : List ℕ) (left : ℕ) (items given xs : List X)
+      → Written g bytes left items (start ++ flat_map g given) → left ≡ 0 → given ≡ xs → bytes ≡ start ++ flat_map g xs
+  written_all g start bytes left [] given xs before none is = sym (append-nil bytes) ∙ before.text ∙ ap (λ items. start ++ flat_map g items) is
+  written_all g start bytes left (x ∷ items) given xs before none is = absurd (let was = before.left in omega (arith, was, none))
 
   flat_map_twice : {Y : Type 0} (f : Y → List ℕ) (g : X → List Y) (xs : List X) → flat_map f (flat_map g xs) ≡ flat_map (λ x. flat_map f (g x)) xs
   flat_map_twice f g [] = refl

@@ -2,7 +2,7 @@
 use Rattle.std.proofs.Common.{◌≡◌, ℕ, Bool, true, false, if◌then◌else◌, List, Option, Some, None, refl}
 use Rattle.live_range.specs.declared.places.Point.{Point}
 use Rattle.edit_model.specs.State.{State}
-use Rattle.edit_model.specs.Run.{Run, final, value, ◌>>=◌, answer, look, given}
+use Rattle.edit_model.specs.Run.{Run, value, ◌>>=◌, answer, look, given}
 use Rattle.text_insertion.specs.Start.{start_inside}
 use Rattle.insert_objects.specs.Putting.{from_start_inside}
 use Rattle.insert_objects.specs.LineBreak.{takes_break, put_break, break_line, insert_line_break}

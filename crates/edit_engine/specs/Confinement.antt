@@ -17,11 +17,13 @@ use Rattle.edit_engine.specs.Editing.{Editing}
 
 -- the document without the children of the affected host is as before; without an affected host all of it is
 abbrev pub KeepsOutside : Editing → Editing → Type 0
-KeepsOutside old new = outside_by (affected_host old.state) new.state.trees ≡ outside_by (affected_host old.state) old.state.trees
+KeepsOutside old new =
+    outside_by (affected_host old.state) new.state.trees ≡ outside_by (affected_host old.state) old.state.trees
 
 -- the marks keep their names and their order, and one whose points both stand apart from the host its place
 abbrev pub KeepsMarks : Editing → Editing → Type 0
-KeepsMarks old new = AllZip (KeepsMark (affected_host old.state) old.state.trees) old.state.points.marks new.state.points.marks
+KeepsMarks old new =
+    AllZip (KeepsMark (affected_host old.state) old.state.trees) old.state.points.marks new.state.points.marks
 
 -- the last entry is now one more, with the edits of the state in which a command ended
 pub record HasEntry (old new : Editing) (ended : State) : Type 0 where
@@ -36,8 +38,9 @@ pub record HasJoined (old new : Editing) (ended : State) : Type 0 where
   pub was : old.history.undo ≡ last ∷ older
   pub is : new.history.undo ≡ joined_in ended (last ∷ older)
 
--- The node isn't in the document any more: a command took it out, with a tree whose root was editable for the host or made by
--- the command. The removal is one of the edits of the last entry: those of the state in which the command ended are there.
+-- The node isn't in the document any more: a command took it out, with a tree whose root was
+-- editable for the host or made by the command. The removal is one of the edits of the last entry:
+-- those of the state in which the command ended are there.
 pub record IsGone (old new : Editing) (h l : ℕ) : Type 0 where
   pub out : IsWithin new.state.trees 0 l → ⊥
   pub keeping : Bool
@@ -51,8 +54,8 @@ KeepsIslands old new =
     (h l : ℕ) → affected_host old.state ≡ Some h → is_island old.state.trees h l ≡ true
     → StaysBelow old.state.trees new.state.trees h l ⊎ IsGone old new h l
 
--- where the name is that of a keeping command, what stands below the affected host bears the same characters, images and rules
--- in the same order, and at most blanks may be missing
+-- where the name is that of a keeping command, what stands below the affected host bears the same
+-- characters, images and rules in the same order, and at most blanks may be missing
 abbrev pub KeepsCharacters : List ℕ → Editing → Editing → Type 0
 KeepsCharacters name old new =
     (c : Command) (h : ℕ) → command_named name ≡ Some c → (row_of c).keeping ≡ true → affected_host old.state ≡ Some h

@@ -13,11 +13,17 @@ pub record Editing : Type 0 where
   pub typing : Bool
 
 abbrev pub editing_code : Coded Editing
-editing_code = code_by (State × (History × Bool)) (coded× state_code (coded× history_code coded_bool)) (λ e. (e.state, (e.history, e.typing))) (λ c. record { state = c.0; history = c.1.0; typing = c.1.1 }) (λ _. refl)
+editing_code =
+    code_by (State × (History × Bool)) (coded× state_code (coded× history_code coded_bool))
+    (λ e. (e.state, (e.history, e.typing))) (λ c. record { state = c.0; history = c.1.0; typing = c.1.1 }) (λ _. refl)
 
 -- the editor of a page's nodes, without selection, marks, overrides and history
 abbrev pub new_editing : Arena → ℕ → Editing
-new_editing a depth = record { state = first_state a; history = record { undo = []; redo = []; depth = depth; dropped = false }; typing = false }
+new_editing a depth = record {
+  state = first_state a;
+  history = record { undo = []; redo = []; depth = depth; dropped = false };
+  typing = false;
+}
 
 -- in another state, where it isn't typing any more
 abbrev pub stopped_at : Editing → State → Editing

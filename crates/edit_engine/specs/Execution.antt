@@ -16,8 +16,8 @@ use Rattle.edit_engine.specs.Commands.{row_of, types_text, action_of, is_enabled
 use Rattle.edit_engine.specs.Editing.{Editing}
 use Rattle.edit_actions.specs.ActiveRange.{affected_host}
 
--- refused without a change: unsupported or not enabled, too deep a document, or a run past the cap; or the action's answer
--- and the editor after it
+-- refused without a change: unsupported or not enabled, too deep a document, or a run past the cap;
+-- or the action's answer and the editor after it
 pub data Outcome : Type 0 where
   Refused : Outcome
   Deep : Outcome
@@ -62,7 +62,9 @@ after_run e c t = record {
 unfoldable pub run_outcome : Editing → Command → Run Bool → Outcome
 run_outcome e c m =
     if nat_lt e.state.cap (ran e.state (row_of c).keeping m).next then Full
-    else (if answered e.state (row_of c).keeping m then Acted true (after_run e c (ran e.state (row_of c).keeping m)) else Acted false e)
+    else (if answered e.state (row_of c).keeping m
+    then Acted true (after_run e c (ran e.state (row_of c).keeping m))
+    else Acted false e)
 
 -- ---- commands
 

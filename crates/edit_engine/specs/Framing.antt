@@ -1,5 +1,6 @@
--- What stands round the action of a command: commands that change blocks or delete give back at a caret the overrides that
--- were set before (HTML Editing APIs, "record current overrides", "restore states and values").
+-- What stands round the action of a command: commands that change blocks or delete give back at a
+-- caret the overrides that were set before (HTML Editing APIs, "record current overrides", "restore
+-- states and values").
 use Rattle.std.specs.Prelude.{Bool, true, false, ◌==◌, ◌&&◌, List, Option, Some, None, if◌then◌else◌}
 use Rattle.live_range.specs.declared.places.Pair.{Pair}
 use Rattle.edit_model.specs.State.{State}

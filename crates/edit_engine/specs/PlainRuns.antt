@@ -14,4 +14,5 @@ ChangeTextsOn (onward {t = t} q a) = ChangeTextsOn q × Each (ChangesText (conte
 
 -- and what is made on the way are elements and texts
 abbrev pub RunsArePlain : Type 0
-RunsArePlain = (s t : State) (r : Reaches s t) → Each (λ (n : ℕ × Content). can_be_made n.1 ≡ true) (nodes_on r) × ChangeTextsOn r
+RunsArePlain =
+    (s t : State) (r : Reaches s t) → Each (λ (n : ℕ × Content). can_be_made n.1 ≡ true) (nodes_on r) × ChangeTextsOn r

@@ -30,7 +30,8 @@ host_words f host = tested (codes "editable") (is_some host) ++ codes " host " +
 unfoldable pub text_words : Forest Content → ℕ → List ℕ
 text_words f l =
     tested (codes " block") (is_block f l) ++ tested (codes " visible") (is_visible f l)
-    ++ tested (codes " whitespace") (is_whitespace f l) ++ tested (codes " collapsed-whitespace") (is_collapsed_whitespace f l)
+    ++ tested (codes " whitespace") (is_whitespace f l)
+    ++ tested (codes " collapsed-whitespace") (is_collapsed_whitespace f l)
 
 unfoldable pub break_words : Forest Content → ℕ → List ℕ
 break_words f l =

@@ -34,8 +34,8 @@ abbrev pub StayShallow : List Change → Forest Content → Type 0
 StayShallow [] f = Unit {0}
 StayShallow (x ∷ xs) f = (page_depth (applied x f) ≤ 1000) × StayShallow xs (applied x f)
 
--- an entry whose commands made elements and texts alone, changed the characters of texts alone, and left the document at no
--- step deeper than 1,000
+-- an entry whose commands made elements and texts alone, changed the characters of texts alone, and
+-- left the document at no step deeper than 1,000
 pub record IsPlainEntry (e : Entry) : Type 0 where
   pub made : Each (λ (n : ℕ × Content). can_be_made n.1 ≡ true) e.made
   pub texts : Each (ChangesText (content_in e)) e.edits
@@ -51,8 +51,8 @@ page_before (e ∷ es) last = e.before.document
 abbrev pub page_of : Editing → Forest Content
 page_of e = page_before (reverse e.history.undo) e.state.trees
 
--- a label that was the next one before the entries: no node of the page has it or a greater one, and no node that was made
--- since has a lower one
+-- a label that was the next one before the entries: no node of the page has it or a greater one,
+-- and no node that was made since has a lower one
 pub record WasNext (page : Forest Content) (es : List Entry) (next : ℕ) : Type 0 where
   pub below : IsBelow page next
   pub made : Each (λ (e : Entry). Each (λ (n : ℕ × Content). next ≤ n.0) e.made) es
@@ -65,4 +65,5 @@ pub record Replays (e : Editing) (next cap : ℕ) : Type 0 where
 
 -- wherever the cap is one that the editor's labels stay below, and its entries can be replayed
 abbrev pub LogReplays : Editing → Type 0
-LogReplays e = (next cap : ℕ) → WasNext (page_of e) e.history.undo next → next ≤ cap → e.state.next ≤ cap → Each IsPlainEntry e.history.undo → Replays e next cap
+LogReplays e = (next cap : ℕ) → WasNext (page_of e) e.history.undo next → next ≤ cap → e.state.next ≤ cap
+    → Each IsPlainEntry e.history.undo → Replays e next cap

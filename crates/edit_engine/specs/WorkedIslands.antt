@@ -11,7 +11,8 @@ use Rattle.edit_actions.specs.ActiveRange.{host_of_pair}
 -- <div contenteditable=""><p>a<span contenteditable="false">i</span></p></div>
 abbrev pub locked_span : Forest Content
 locked_span =
-    Tree 4 (Element (codes "span") (record { name = codes "contenteditable"; value = codes "false" } ∷ [])) (Tree 5 (Words (codes "i")) Nil Nil) Nil
+    Tree 4 (Element (codes "span") (record { name = codes "contenteditable"; value = codes "false" } ∷ []))
+    (Tree 5 (Words (codes "i")) Nil Nil) Nil
 
 abbrev pub locked_page : Forest Content
 locked_page =

@@ -1,6 +1,6 @@
 //! The actions of commands, and the one frame in which they run.
 
-ghost use Rattle.std.specs.Prelude.{◌≡◌, ◌≢◌, ◌&&◌, ◌||◌, not, codes, true, false, IfOk, OnErr};
+ghost use Rattle.std.specs.Prelude.{◌≡◌, ◌&&◌, ◌||◌, true, false, IfOk, OnErr};
 ghost use Rattle.edit_model.specs.Gives.{Gives};
 ghost use Rattle.edit_doc.specs.Held.{Keeps};
 ghost use Rattle.edit_doc.specs.Whole.{IsOpen, IsClosed, opened};
@@ -210,8 +210,8 @@ fn open(doc: &mut Doc, joining: bool, keeping: bool) -> Result<(), AllocError>
     doc.begin(host, keeping)
 }
 
-/// Execute a command, steps 4 to 6: one command, from its begin to its end. It is taken back where its action answers false,
-/// which is answered by None, and where it can't be taken.
+/// Execute a command, steps 4 to 6: one command, from its begin to its end. It is taken back where
+/// its action answers false, which is answered by None, and where it can't be taken.
 pub(crate) fn run_command(
     alloc: Global,
     doc: &mut Doc,

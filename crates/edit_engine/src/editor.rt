@@ -1,6 +1,6 @@
 //! The editor.
 
-ghost use Rattle.std.specs.Prelude.{◌≡◌, ◌↔◌, ◌⊎◌, ◌<◌, ◌+◌, ℕ, IfOk, OnOk, OnErr, IsTrue, MatchOption, Ok, Err, None, Some, List, [], length, ◌≢◌, true, false};
+ghost use Rattle.std.specs.Prelude.{◌≡◌, ◌↔◌, ◌⊎◌, ◌<◌, ◌+◌, IfOk, OnOk, OnErr, IsTrue, MatchOption, Ok, Err, None, Some, length, true, false};
 ghost use Rattle.live_range.specs.LivePoints.{has_mark};
 ghost use Rattle.live_range.specs.declared.places.Pair.{Pair};
 ghost use Rattle.edit_doc.specs.Kept.{HoldsOnlyNeeded};
@@ -84,8 +84,8 @@ impl Editor {
         }
     }
 
-    /// Executes the command that a name names, in any case, unless a gate denies the name. Actions that a command takes inside
-    /// itself are not asked for.
+    /// Executes the command that a name names, in any case, unless a gate denies the name. Actions
+    /// that a command takes inside itself are not asked for.
     pub fn exec_gated<A: Asks>(
         &mut self,
         alloc: Global,
@@ -150,7 +150,9 @@ impl Editor {
 
     /// Selects from the anchor to the focus. It takes no memory.
     pub fn select(&mut self, anchor: &Place, focus: &Place) -> Result<(), PlaceFault>
-        ensures { MatchOption (pair_at self.old.state.trees anchor.now focus.now) ((result ≡ Err PlaceFault.BadPlace) × (self.new ≡ self.old)) (λ pair. (result ≡ Ok tt) × (self.new ≡ selecting self.old pair)) }
+        ensures { MatchOption (pair_at self.old.state.trees anchor.now focus.now)
+            ((result ≡ Err PlaceFault.BadPlace) × (self.new ≡ self.old))
+            (λ pair. (result ≡ Ok tt) × (self.new ≡ selecting self.old pair)) }
     {
         match pair_at(&self.doc, anchor, focus) {
             Some(pair) => {
@@ -172,10 +174,14 @@ impl Editor {
 
     /// Gives a name to a pair of points. A mark of that name keeps its place, and a new one goes last.
     pub fn mark(&mut self, name: &Name, anchor: &Place, focus: &Place) -> Result<(), PlaceFault>
-        ensures bad_place { (result ≡ Err PlaceFault.BadPlace) ↔ (pair_at self.old.state.trees anchor.now focus.now ≡ None) }
+        ensures bad_place { (result ≡ Err PlaceFault.BadPlace) ↔
+            (pair_at self.old.state.trees anchor.now focus.now ≡ None) }
         ensures too_many { result ≡ Err PlaceFault.TooManyMarks → IsCrowded self.old name.now }
-        ensures marked { OnOk result ((pair : Pair) × (pair_at self.old.state.trees anchor.now focus.now ≡ Some pair) × (self.new ≡ marking self.old name.now pair)) }
-        ensures crowded { IsCrowded self.old name.now → (result ≡ Err PlaceFault.BadPlace) ⊎ (result ≡ Err PlaceFault.TooManyMarks) }
+        ensures marked { OnOk result ((pair : Pair) ×
+            (pair_at self.old.state.trees anchor.now focus.now ≡ Some pair) ×
+            (self.new ≡ marking self.old name.now pair)) }
+        ensures crowded { IsCrowded self.old name.now →
+            (result ≡ Err PlaceFault.BadPlace) ⊎ (result ≡ Err PlaceFault.TooManyMarks) }
         ensures err { OnErr result (self.new ≡ self.old) }
     {
         match pair_at(&self.doc, anchor, focus) {
@@ -237,8 +243,8 @@ impl Editor {
         }
     }
 
-    /// The entries that undo would take, from the first to the last, each as the line `entry`, a line for each node that its
-    /// commands made and its edits name, and a line for each edit.
+    /// The entries that undo would take, from the first to the last, each as the line `entry`, a
+    /// line for each node that its commands made and its edits name, and a line for each edit.
     #[tactic(auto, unfolding(crate::specs::Logs::log_steps))]
     pub fn log(&mut self, alloc: Global) -> Result<Vec<u8>, LogFault>
         ensures text { IfOk result (λ text. text.items ≡ log_text self.old.history) }
@@ -252,17 +258,18 @@ impl Editor {
         Ok(entry_lines(alloc, entries)?)
     }
 
-    /// How the log replays, for proofs: on the page of before the first entry its lines are refused nowhere and give the
-    /// document, where the commands made elements and texts alone and changed the characters of no comment, as every run does,
-    /// and left the document at no step deeper than 1,000. It does nothing.
+    /// How the log replays, for proofs: on the page of before the first entry its lines are refused
+    /// nowhere and give the document, where the commands made elements and texts alone and changed
+    /// the characters of no comment, as every run does, and left the document at no step deeper
+    /// than 1,000. It does nothing.
     pub fn log_replays(&self)
         ensures { LogReplays self.now }
     {
         self.doc.led_onward();
     }
 
-    /// The document. Between the calls of an editor each node that is held is in the document, or in a loose tree with a node
-    /// that a change of a kept entry names.
+    /// The document. Between the calls of an editor each node that is held is in the document, or
+    /// in a loose tree with a node that a change of a kept entry names.
     pub fn document(&self) -> &Doc
         ensures closed { IsClosed result.now }
         ensures state { result.now.state ≡ self.now.state }

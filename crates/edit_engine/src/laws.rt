@@ -9,8 +9,8 @@ pub fn refusals_leave_the_state()
     ensures { RefusalsLeave }
 {}
 
-/// Of `<div contenteditable=""><p>a<span contenteditable="false">i</span></p></div>` with a caret in the first text: the
-/// affected host is the div, and the span is an island of it.
+/// Of `<div contenteditable=""><p>a<span contenteditable="false">i</span></p></div>` with a caret
+/// in the first text: the affected host is the div, and the span is an island of it.
 pub fn locked_span_is_island()
     ensures { LockedSpanIsIsland }
 {}

@@ -1,4 +1,5 @@
-//! An editor of a document: commands, questions about them, the selection and marks, undo and redo, and what is printed.
+//! An editor of a document: commands, questions about them, the selection and marks, undo and redo,
+//! and what is printed.
 //!
 //! A command (HTML Editing APIs, "execCommand()") is taken whole or not at all. Contracts see an editor as the state of
 //! its document and the history of views that undo and redo go through.

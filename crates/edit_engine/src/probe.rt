@@ -1,6 +1,6 @@
 //! What the tests of nodes answer of a node, on one line.
 
-ghost use Rattle.std.specs.Prelude.{◌≡◌, ◌++◌, OnOk, IfOk, IfSome, codes};
+ghost use Rattle.std.specs.Prelude.{◌≡◌, ◌++◌, OnOk, IfOk};
 ghost use Rattle.dom_model.specs.Contents.{is_element_at};
 ghost use Rattle.dom_model.specs.Editing.{editing_host};
 ghost use Rattle.node_arena.specs.Held.{label};

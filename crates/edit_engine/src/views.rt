@@ -65,7 +65,10 @@ fn history_numbers(
 /// The numbers of the document and of the history.
 pub(crate) fn stat_line(alloc: Global, doc: &Doc) -> Result<Vec<u8>, AllocError>
     requires { IsClosed doc.now }
-    ensures { IfOk result (λ text. text.items ≡ document_numbers (node_count doc.now.state.trees) (char_count doc.now.state.trees) doc.now.state.next ++ history_numbers (first_edits doc.now.history.undo) (length doc.now.history.undo) (length doc.now.history.redo)) }
+    ensures { IfOk result (λ text. text.items ≡
+        document_numbers (node_count doc.now.state.trees) (char_count doc.now.state.trees) doc.now.state.next
+        ++ history_numbers (first_edits doc.now.history.undo)
+        (length doc.now.history.undo) (length doc.now.history.redo)) }
 {
     let counts = doc.counts();
     let next = doc.arena().next_label();

@@ -101,9 +101,6 @@ part_at front list rest s is q pre x e g o c post bare parent made spot =
 no_one : (a b c : List ℕ) (n : ℕ) → 0 < times a n → 0 < times (a ++ (b ++ c)) n
 no_one a b c n h = omega (arith, h, times-append a (b ++ c) n)
 
-among_second : (a b c : List ℕ) (n : ℕ) → 0 < times b n → 0 < times (a ++ (b ++ c)) n
-among_second a b c n h = omega (arith, h, times-append a (b ++ c) n, times-append b c n)
-
 -- what a look-up of children tells of each
 pub child_by : (s : State) → IsValid s → (o n : ℕ) → 0 < times (children_of s.trees o) n → parent_of s.trees n ≡ Some o
 child_by s is o n among = by_seen (seek None s.trees o) refl

@@ -25,7 +25,7 @@ use Rattle.edit_model.specs.Kept.{Letter, borne_by, leaves}
 use Rattle.edit_model.specs.Confined.{spliced, is_inside, is_made, is_open, is_own, is_editable_for, is_place, may_change, may_insert, may_replace}
 use Rattle.edit_model.specs.Edit.{Insert, Replace, is_made_edit, trees_after, with_replaced, edited}
 use Rattle.edit_model.specs.Action as action
-use Rattle.edit_model.specs.Action.{MakeWords, made, words_content, sent, grown, acted}
+use Rattle.edit_model.specs.Action.{MakeWords, made, words_content, sent, acted}
 use Rattle.edit_model.specs.History.{document_of}
 use Rattle.edit_model.specs.Valid.{IsValid}
 use Rattle.edit_model.specs.Run.{here, onward, final, answer, given}

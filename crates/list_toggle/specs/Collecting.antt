@@ -1,5 +1,5 @@
 -- Toggle lists, step 6 a: siblings of a list become items, series by series. The steps are those of docs/ALGORITHMS.md.
-use Rattle.std.specs.Prelude.{ℕ, Bool, true, false, not, ◌&&◌, ◌||◌, List, [], ◌∷◌, ◌++◌, take, drop, codes, Option, Some, None, if◌then◌else◌}
+use Rattle.std.specs.Prelude.{ℕ, Bool, true, false, not, ◌&&◌, ◌||◌, List, [], ◌++◌, take, drop, codes, Option, Some, None, if◌then◌else◌}
 use Rattle.dom_model.specs.Contents.{has_name, is_break}
 use Rattle.dom_model.specs.Forest.{first_in, last_in}
 use Rattle.node_styles.specs.Blocks.{is_block}

@@ -6,7 +6,7 @@ ghost use Rattle.edit_model.specs.Gives.{Gives, labels_of};
 ghost use Rattle.edit_model.specs.Valid.{IsPlacedPair};
 ghost use Rattle.edit_doc.specs.Held.{EachHeld, Keeps};
 ghost use Rattle.edit_doc.specs.Whole.{IsOpen, with_state};
-ghost use Rattle.list_toggle.specs.Ranges.{pair_of, extended_pair, keep_range, free_range, other_lists_by, other_lists, members_by, range_members, range_lines};
+ghost use Rattle.list_toggle.specs.Ranges.{extended_pair, keep_range, free_range, other_lists_by, other_lists, members_by, range_members, range_lines};
 
 use block_commands::{chosen_of, contained_in};
 use block_extend::{Choice, block_extend};

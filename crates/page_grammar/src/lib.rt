@@ -2,8 +2,8 @@
 //!
 //! The definitions stand in specs/: the relation between characters and children (`Page`), the same of bytes (`Bytes`), a machine that
 //! decides it (`Machine`, `Decoder`, `Reader`), the fault that it computes (`Kind`), what that fault means (`Rows`), what reading a page
-//! tells (`Reading`), and the document that it makes (`Nodes`, `TreeConstruction`). Each function here has an empty body: its contract is a law
-//! about the definitions.
+//! tells (`Reading`), and the document that it makes (`Nodes`, `TreeConstruction`). Each function of this file has an empty body: its contract
+//! is a law about the definitions. The module `classes` has the tests of characters that readers of tags share.
 #![tactic(auto)]
 
 ghost use Rattle.std.specs.Prelude.{◌≡◌, ◌≤◌, ◌<◌, ◌↔◌, ◌++◌, ℕ, true, List, [], ◌∷◌, Option, Some, None, length, codes};
@@ -17,6 +17,8 @@ ghost use Rattle.page_grammar.specs.Kind.{Kind, page_limit, kind_of_byte, kind_a
 ghost use Rattle.page_grammar.specs.Rows.{IsFault};
 ghost use Rattle.page_grammar.specs.TreeConstruction.{plant_all, seed, grown};
 ghost use Rattle.page_grammar.specs.Reading.{Reading, Children, Refused, page_reading, IsReading};
+
+pub mod classes;
 
 /// The machine reads each page to its end, and tells its children.
 pub fn pages_are_read()

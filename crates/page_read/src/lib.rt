@@ -5,7 +5,6 @@ ghost use Rattle.std.specs.Prelude.{◌<◌};
 ghost use Rattle.page_grammar.specs.Reading.{page_reading, IsReading};
 ghost use Rattle.page_read.specs.Answer.{IsAnswer};
 
-mod classes;
 mod construction;
 mod decoder;
 mod faults;

@@ -5,7 +5,7 @@ ghost use Rattle.page_grammar.specs.Chars.{digit_of, is_hex};
 ghost use Rattle.page_grammar.specs.Machine.{ref_step, dec, hex, done};
 ghost use Rattle.page_read.specs.References.{name_of, char_of, reference_of, turn_of, IsSmall, IsSmallTurn};
 
-use crate::classes::{is_digit, is_hex, lower};
+use page_grammar::classes::{is_digit, is_hex, lower};
 
 /// A reference that has a name.
 #[derive(Drop, Clone, Copy)]

@@ -13,13 +13,13 @@ ghost use Rattle.page_read.specs.Steady.{Steady, EachOpen, is_closing};
 ghost use Rattle.page_read.specs.Construction.{IsOpen};
 ghost use Rattle.page_grammar.specs.TreeConstruction.{plant, innermost, seed};
 
-use crate::classes::{is_letter, is_space, lower};
 use crate::construction::{append_remark, append_words};
 use crate::faults::PageKind;
 use crate::names::is_refused;
 use crate::reference::{Reference, Turn};
 use dom_model::{Attributes, Chars};
 use node_arena::{Arena, NodeRef};
+use page_grammar::classes::{is_letter, is_space, lower};
 use std::alloc::{AllocError, Global};
 
 mod start_tag;

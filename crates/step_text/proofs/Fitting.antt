@@ -13,20 +13,23 @@ use Rattle.edit_model.specs.Confined.{is_there, is_place}
 use Rattle.edit_model.proofs.Tests.{label_is, none_is, not_zero, not_within, parent_there}
 use Rattle.edit_steps.specs.declared.step.Step.{Step}
 use Rattle.edit_steps.specs.declared.step.Step.TheVariants as step
-use Rattle.forest_changes.specs.Change.{Fits, IsForest}
+use Rattle.edit_steps.specs.Step.{change_of, nodes_of}
+use Rattle.forest_changes.specs.Change.{Fits, IsForest, applied}
 use Rattle.dom_model.specs.Change as change
 use Rattle.forest_changes.specs.Named.{Each, listed}
 use Rattle.forest_changes.proofs.Twice.{forest_of, given_parent, can_shift}
 use Rattle.node_arena.specs.declared.NodeRef.{NodeRef}
 use Rattle.node_arena.specs.Held.{Holds, label}
 use Rattle.point_order.specs.PointOrder.{is_within}
+use Rattle.step_text.specs.declared.apply.Origin.{Origin}
+use Rattle.step_text.specs.declared.apply.Origin.TheVariants.{Loose, Child}
 use Rattle.step_text.specs.declared.apply.Placing.{Placing}
 use Rattle.step_text.specs.declared.line.StepFault.{StepFault}
 use Rattle.step_text.specs.declared.line.StepFault.TheVariants.{BadLabel, BadPlace, TooDeep}
 use Rattle.step_text.specs.declared.line.StepLine.{StepLine}
-use Rattle.step_text.specs.declared.line.StepLine.TheVariants.{Insert, Remove, Move, Words, Tag}
-use Rattle.step_text.specs.Applying.{Labelled, labelled, can_stand, fault_of, has_labels, has_place, has_room, has_room_under, is_loose, is_text, is_text_at, is_there_or_end, trees_after}
-use Rattle.step_text.specs.Planning.{IsStepOf, Places, Plans}
+use Rattle.step_text.specs.declared.line.StepLine.TheVariants.{Remove, Words, Tag}
+use Rattle.step_text.specs.Applying.{Labelled, labelled, can_stand, fault_of, has_labels, has_place, has_room, has_room_under, is_loose, is_text, is_text_at, is_there_or_end, next_after, trees_after}
+use Rattle.step_text.specs.Planning.{IsStepOf, Places, Plans, comes_from, line_to, step_to}
 
 -- ---- faults
 
@@ -192,82 +195,98 @@ module _ (a : ArenaState) (law : IsValid a) (slotted : IsSlotted a) where
         next = refl;
       }) there
 
-  -- the labels of a line that puts a tree somewhere
-  abbrev are_there : ℕ → ℕ → Option ℕ → Bool
-  are_there l p b = is_there a.trees l && (is_there a.trees p && is_there_or_end a.trees b)
+-- ---- a line that puts a tree somewhere
 
-  -- what holds of all labels that are the found ones
-  at_found : (l p : ℕ) (b : Option ℕ) (at : Placing) → Places a l p b at → (P : ℕ → ℕ → Option ℕ → Type 0) → P at.node.label at.parent.label (label at.before) → P l p b
-  at_found l p b at found P h =
-      subst (λ k. P k p b) found.node (subst (λ k. P at.node.label k b) found.parent (subst (λ k. P at.node.label at.parent.label k) found.before h))
+module _ (l p : ℕ) (b : Option ℕ) (d : Labelled) where
+  abbrev are_there : Bool
+  are_there = is_there d.trees l && (is_there d.trees p && is_there_or_end d.trees b)
 
-  -- what is known of the found labels
-  at_labels : (l p : ℕ) (b : Option ℕ) (at : Placing) → Places a l p b at → (P : ℕ → ℕ → Option ℕ → Type 0) → P l p b → P at.node.label at.parent.label (label at.before)
-  at_labels l p b at found P h =
-      subst (λ k. P k at.parent.label (label at.before)) (sym found.node) (subst (λ k. P l k (label at.before)) (sym found.parent) (subst (λ k. P l p k) (sym found.before) h))
+  abbrev may_place : Origin → Bool
+  may_place o = comes_from o d.trees l && can_stand d.trees l p b
 
-  pub insert_unfound : (l p : ℕ) (b : Option ℕ) → are_there l p b ≡ false → fault_of (Insert l p b) (labelled a) ≡ Some BadLabel
+  line_labels : (o : Origin) → has_labels (line_to o l p b) d ≡ are_there
   unfolding has_labels
-  insert_unfound l p b off = bad_label (Insert l p b) (labelled a) off
+  line_labels Loose = refl
+  line_labels Child = refl
 
-  pub move_unfound : (l p : ℕ) (b : Option ℕ) → are_there l p b ≡ false → fault_of (Move l p b) (labelled a) ≡ Some BadLabel
-  unfolding has_labels
-  move_unfound l p b off = bad_label (Move l p b) (labelled a) off
+  line_place : (o : Origin) → has_place (line_to o l p b) d.trees ≡ may_place o
+  unfolding has_place
+  line_place Loose = refl
+  line_place Child = refl
 
-  module _ (l p : ℕ) (b : Option ℕ) (at : Placing) (found : Places a l p b at) (there : are_there l p b ≡ true) where
-    there_found : are_there at.node.label at.parent.label (label at.before) ≡ true
-    there_found = at_labels l p b at found (λ l p b. are_there l p b ≡ true) there
+  line_room : (o : Origin) → has_room (line_to o l p b) d.trees ≡ has_room_under d.trees l p
+  unfolding has_room
+  line_room Loose = refl
+  line_room Child = refl
 
-    pub insert_misplaced : (is_loose a.trees at.node.label && can_stand a.trees at.node.label at.parent.label (label at.before)) ≡ false → fault_of (Insert l p b) (labelled a) ≡ Some BadPlace
-    unfolding has_labels has_place
-    insert_misplaced off = at_found l p b at found (λ l p b. fault_of (Insert l p b) (labelled a) ≡ Some BadPlace)
-        (bad_place (Insert at.node.label at.parent.label (label at.before)) (labelled a) there_found off)
+  line_next : (o : Origin) → next_after (line_to o l p b) d.next ≡ d.next
+  line_next Loose = refl
+  line_next Child = refl
 
-    pub move_misplaced : (is_some (parent_of a.trees at.node.label) && can_stand a.trees at.node.label at.parent.label (label at.before)) ≡ false → fault_of (Move l p b) (labelled a) ≡ Some BadPlace
-    unfolding has_labels has_place
-    move_misplaced off = at_found l p b at found (λ l p b. fault_of (Move l p b) (labelled a) ≡ Some BadPlace)
-        (bad_place (Move at.node.label at.parent.label (label at.before)) (labelled a) there_found off)
+  pub unplaced : (o : Origin) → are_there ≡ false → fault_of (line_to o l p b) d ≡ Some BadLabel
+  unplaced o off = bad_label (line_to o l p b) d (line_labels o ∙ off)
 
-    pub insert_deep : (is_loose a.trees at.node.label && can_stand a.trees at.node.label at.parent.label (label at.before)) ≡ true → has_room_under a.trees at.node.label at.parent.label ≡ false → fault_of (Insert l p b) (labelled a) ≡ Some TooDeep
-    unfolding has_labels has_place has_room
-    insert_deep may off = at_found l p b at found (λ l p b. fault_of (Insert l p b) (labelled a) ≡ Some TooDeep)
-        (too_deep (Insert at.node.label at.parent.label (label at.before)) (labelled a) there_found may off)
+-- the line by the labels of the found nodes
+abbrev line_at : Origin → Placing → StepLine
+line_at o at = line_to o at.node.label at.parent.label (label at.before)
 
-    pub move_deep : (is_some (parent_of a.trees at.node.label) && can_stand a.trees at.node.label at.parent.label (label at.before)) ≡ true → has_room_under a.trees at.node.label at.parent.label ≡ false → fault_of (Move l p b) (labelled a) ≡ Some TooDeep
-    unfolding has_labels has_place has_room
-    move_deep may off = at_found l p b at found (λ l p b. fault_of (Move l p b) (labelled a) ≡ Some TooDeep)
-        (too_deep (Move at.node.label at.parent.label (label at.before)) (labelled a) there_found may off)
+line_trees : (o : Origin) (at : Placing) (f : Forest Content) → trees_after (line_at o at) f ≡ applied (change_of (step_to o at)) f
+unfolding trees_after
+line_trees Loose at f = refl
+line_trees Child at f = refl
 
-    pub insert_step : (is_loose a.trees at.node.label && can_stand a.trees at.node.label at.parent.label (label at.before)) ≡ true → has_room_under a.trees at.node.label at.parent.label ≡ true
-        → IsStepOf (Insert l p b) a (step.Link at.node at.parent at.before)
-    unfolding has_labels has_place has_room trees_after
-    insert_step may room =
-        let n = at.node.label in
-        let h = and_parts (is_loose a.trees n) _ may in
-        at_found l p b at found (λ l p b. IsStepOf (Insert l p b) a (step.Link at.node at.parent at.before)) (record {
-          fine = fine (Insert n at.parent.label (label at.before)) (labelled a) there_found may room;
-          fits = record {
-            fits = attach_fits a.trees n at.parent.label (label at.before) (forest_of a law) (here n (and_parts (is_there a.trees n) _ there_found).0) h.0 h.1;
-            slotted = slotted;
-            held = (found.node_held, (found.parent_held, each_held a at.before found.before_held));
-          };
-          trees = refl;
-          next = refl;
-        })
+module _ (o : Origin) (a : ArenaState) (law : IsValid a) (slotted : IsSlotted a) (l p : ℕ) (b : Option ℕ) (at : Placing)
+    (found : Places a l p b at) (there : are_there l p b (labelled a) ≡ true) where
+  abbrev n : ℕ
+  n = at.node.label
 
-    pub move_step : (is_some (parent_of a.trees at.node.label) && can_stand a.trees at.node.label at.parent.label (label at.before)) ≡ true → has_room_under a.trees at.node.label at.parent.label ≡ true
-        → IsStepOf (Move l p b) a (step.Place at.node at.parent at.before)
-    unfolding has_labels has_place has_room trees_after
-    move_step may room =
-        let n = at.node.label in
-        let h = and_parts (is_some (parent_of a.trees n)) _ may in
-        at_found l p b at found (λ l p b. IsStepOf (Move l p b) a (step.Place at.node at.parent at.before)) (record {
-          fine = fine (Move n at.parent.label (label at.before)) (labelled a) there_found may room;
-          fits = record {
-            fits = shift_fits a.trees n at.parent.label (label at.before) (forest_of a law) h.0 h.1;
-            slotted = slotted;
-            held = (found.node_held, (found.parent_held, each_held a at.before found.before_held));
-          };
-          trees = refl;
-          next = refl;
-        })
+  same_line : line_at o at ≡ line_to o l p b
+  same_line = rw (found.node, found.parent, found.before) refl
+
+  labels_there : has_labels (line_at o at) (labelled a) ≡ true
+  labels_there = ap (λ x. has_labels x (labelled a)) same_line ∙ line_labels l p b (labelled a) o ∙ there
+
+  abbrev may_place_at : Bool
+  may_place_at = may_place n at.parent.label (label at.before) (labelled a) o
+
+  has_place_at : (is : Bool) → may_place_at ≡ is → has_place (line_at o at) a.trees ≡ is
+  has_place_at is may = line_place n at.parent.label (label at.before) (labelled a) o ∙ may
+
+  has_room_at : (is : Bool) → has_room_under a.trees n at.parent.label ≡ is → has_room (line_at o at) a.trees ≡ is
+  has_room_at is room = line_room n at.parent.label (label at.before) (labelled a) o ∙ room
+
+  pub misplaced : may_place_at ≡ false → fault_of (line_to o l p b) (labelled a) ≡ Some BadPlace
+  misplaced off = subst (λ x. fault_of x (labelled a) ≡ Some BadPlace) same_line
+      (bad_place (line_at o at) (labelled a) labels_there (has_place_at false off))
+
+  pub placed_too_deep : may_place_at ≡ true → has_room_under a.trees n at.parent.label ≡ false
+      → fault_of (line_to o l p b) (labelled a) ≡ Some TooDeep
+  placed_too_deep may off = subst (λ x. fault_of x (labelled a) ≡ Some TooDeep) same_line
+      (too_deep (line_at o at) (labelled a) labels_there (has_place_at true may) (has_room_at false off))
+
+  node_there : 0 < count_of a.trees n
+  node_there = subst (λ k. 0 < count_of a.trees k) (sym found.node) (here a law slotted l (and_parts (is_there a.trees l) _ there).0)
+
+  change_fits : (o : Origin) → may_place n at.parent.label (label at.before) (labelled a) o ≡ true → Fits (change_of (step_to o at)) a.trees
+  change_fits Loose may =
+      let h = and_parts (is_loose a.trees n) _ may in
+      attach_fits a.trees n at.parent.label (label at.before) (forest_of a law) node_there h.0 h.1
+  change_fits Child may =
+      let h = and_parts (is_some (parent_of a.trees n)) _ may in
+      shift_fits a.trees n at.parent.label (label at.before) (forest_of a law) h.0 h.1
+
+  pub placed : may_place_at ≡ true → has_room_under a.trees n at.parent.label ≡ true → IsStepOf (line_to o l p b) a (step_to o at)
+  placed may room = subst (λ x. IsStepOf x a (step_to o at)) same_line (record {
+    fine = fine (line_at o at) (labelled a) labels_there (has_place_at true may) (has_room_at true room);
+    fits = record {
+      fits = change_fits o may;
+      slotted = slotted;
+      held = held o;
+    };
+    trees = line_trees o at a.trees;
+    next = line_next n at.parent.label (label at.before) (labelled a) o;
+  })
+    where
+      held : (o : Origin) → Each (Holds a) (nodes_of (step_to o at))
+      held Loose = (found.node_held, (found.parent_held, each_held a at.before found.before_held))
+      held Child = (found.node_held, (found.parent_held, each_held a at.before found.before_held))

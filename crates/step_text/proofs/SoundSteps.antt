@@ -1,5 +1,5 @@
 -- What is read as a step is a step that lines stand for.
-use Rattle.std.proofs.Common.{◌≡◌, ◌↔◌, ℕ, Bool, true, false, cond, List, [], ◌∷◌, length, codes, Option, Some, None, IfSome, refl, sym, ap, subst, ◌∙◌}
+use Rattle.std.proofs.Common.{◌≡◌, ◌↔◌, ℕ, Bool, true, false, cond, List, [], ◌∷◌, codes, Option, Some, None, IfSome, refl, sym, ap, subst, ◌∙◌}
 use Rattle.std.specs.Bool.{Decides}
 use Rattle.std.specs.List.{IsDistinct, AllByRecursion}
 use Rattle.std.specs.Option.{option_map}
@@ -11,10 +11,9 @@ use Rattle.dom_model.specs.AttributeList.{set_in, names_of, IsDistinctNames}
 use Rattle.script_read.specs.Reading.{◌>>=◌, cut, split, number_of}
 use Rattle.script_read.proofs.Tests.{some-is}
 use Rattle.script_read.proofs.Values.{text_sound, spelled_scalars}
-use Rattle.step_text.specs.declared.line.Made.{Made}
 use Rattle.step_text.specs.declared.line.Made.TheVariants as made
 use Rattle.step_text.specs.declared.line.StepLine.{StepLine}
-use Rattle.step_text.specs.declared.line.StepLine.TheVariants.{Entry, Make, Insert, Remove, Move, Words, Tag}
+use Rattle.step_text.specs.declared.line.StepLine.TheVariants.{Entry, Words}
 use Rattle.step_text.specs.StepLine.{is_element_name, is_attribute_name, IsLabel, AreAttributes, IsTag, IsMade, IsStepLine, line_text}
 use Rattle.step_text.specs.StepReading.{within, unescaped, unreferenced, decoded, element_name_of, attribute_name_of, attribute_of, with_attribute, attributes_from, attributes_of, tag_parts, start_tag_of, tag_of, words_of, is_quoted, made_of, before_of, labelled, make_of, insert_of, remove_of, move_of, words_step_of, tag_step_of, arguments_of, parts_of, step_of, confirmed, step_in}
 use Rattle.step_text.proofs.Loops.{set_are}

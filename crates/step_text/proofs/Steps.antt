@@ -1,22 +1,21 @@
 -- The step that is read from the line of a step is that step.
-use Rattle.std.proofs.Common.{◌≡◌, ◌⊎◌, inl, inr, ℕ, ◌<◌, ◌≤◌, ◌^◌, Bool, true, false, ◌==◌, nat_lt, nat_le, cond, not, List, [], ◌∷◌, ◌++◌, length, codes, Option, Some, None, Result, Ok, Err, IfSome, refl, sym, ap, subst, ◌∙◌, arith, rules, append_assoc}
+use Rattle.std.proofs.Common.{◌≡◌, ◌⊎◌, inr, ℕ, ◌<◌, ◌^◌, Bool, true, false, ◌==◌, nat_lt, nat_le, cond, not, List, [], ◌∷◌, ◌++◌, length, codes, Option, Some, None, Result, Ok, Err, IfSome, refl, sym, ap, subst, ◌∙◌, arith, rules, append_assoc}
 use Rattle.std.specs.Bool.{Decides}
 use Rattle.std.specs.Char.{is_ascii_digit}
 use Rattle.std.specs.Fmt.{decimal}
-use Rattle.std.specs.List.{flat_map, list_all}
-use Rattle.std.specs.Option.{option_map}
+use Rattle.std.specs.List.{list_all}
 use Rattle.std.specs.Result.{IsErrAnd}
 use Rattle.std.specs.Str.{all_scalars, bytes_eq}
 use Rattle.std.specs.Str.Parse.{digits_value}
-use Rattle.std.proofs.Math.Utf8.{scalar, scalars, encodes}
+use Rattle.std.proofs.Math.Utf8.{scalar, scalars}
 use Rattle.std.proofs.lemmas.Bool.Decides.{nat_tests}
 use Rattle.std.proofs.lemmas.Fmt.{decimal_nonempty, length-decimal-le, digits_decimal, digits_value-decimal}
 use Rattle.std.proofs.lemmas.Slice.Eq.{bytes_eq-Decides}
 use Rattle.std.proofs.lemmas.Str.Parse.{IsNumeralModel, numerals_by_value, digits_value_short}
 use Rattle.dom_model.specs.declared.attributes.Attribute.{Attribute}
 use Rattle.escaped_text.specs.Escaped.{escape_of, escaped, escaped_bytes}
-use Rattle.script_read.specs.Acts.{IsNumber, is_number}
-use Rattle.script_read.specs.Reading.{◌>>=◌, cut, number_of, printed_of}
+use Rattle.script_read.specs.Acts.{IsNumber}
+use Rattle.script_read.specs.Reading.{number_of, printed_of}
 use Rattle.script_read.proofs.Tests.{and-true, some-is}
 use Rattle.script_read.proofs.Cutting.{Avoids, cut-found}
 use Rattle.script_read.proofs.Numbers.{is_digits, number_back, number_sound, number_avoids}
@@ -29,8 +28,8 @@ use Rattle.step_text.specs.declared.line.StepLine.TheVariants.{Entry, Make, Inse
 use Rattle.step_text.specs.declared.line.StepFault.{StepFault}
 use Rattle.step_text.specs.declared.line.StepFault.TheVariants.{Syntax, BadLabel, BadPlace, TooDeep, Memory}
 use Rattle.step_text.specs.StepLine.{quoted, tag_bytes, tag_text, made_text, before_text, line_text, IsLabel, IsTag, IsMade, IsStepLine}
-use Rattle.step_text.specs.StepReading.{Fails, within, words_of, tag_of, made_of, before_of, labelled, make_of, insert_of, remove_of, move_of, words_step_of, tag_step_of, arguments_of, parts_of, step_of}
-use Rattle.step_text.proofs.Bytes.{tested, within_back}
+use Rattle.step_text.specs.StepReading.{Fails, words_of, made_of, before_of, labelled, make_of, insert_of, remove_of, move_of, words_step_of, tag_step_of, arguments_of, step_of}
+use Rattle.step_text.proofs.Bytes.{within_back}
 use Rattle.step_text.proofs.Tags.{tag_back}
 
 -- ---- labels
@@ -173,13 +172,6 @@ fails_spelled line BadLabel fails s is e = absurd fails
 fails_spelled line BadPlace fails s is e = absurd fails
 fails_spelled line TooDeep fails s is e = absurd fails
 fails_spelled line Memory fails s is e = refl
-
-pub fails_kind : {X : Type 0} (fault : StepFault) (read : Option X) → Fails fault read → (fault ≡ Syntax) ⊎ (fault ≡ Memory)
-fails_kind Syntax read fails = inl refl
-fails_kind BadLabel read fails = absurd fails
-fails_kind BadPlace read fails = absurd fails
-fails_kind TooDeep read fails = absurd fails
-fails_kind Memory read fails = inr refl
 
 -- what is read is the only step that the line may be the line of
 pub read_is_only : (line : List ℕ) (read : StepLine) → step_of line ≡ Some read → (s : StepLine) → IsStepLine s → line_text s ≡ line → s ≡ read

@@ -1,10 +1,9 @@
 -- A start tag that is written on one line is read back.
-use Rattle.std.proofs.Common.{◌≡◌, inl, inr, ℕ, ◌<◌, Bool, true, false, ◌==◌, ◌&&◌, cond, not, List, [], ◌∷◌, ◌++◌, length, drop, codes, encode_utf8, encode_utf8_all, Option, Some, None, refl, sym, ap, subst, ◌∙◌, lit<, append_assoc, append-nil}
+use Rattle.std.proofs.Common.{◌≡◌, inl, inr, ℕ, ◌<◌, Bool, true, false, ◌==◌, ◌&&◌, cond, not, List, [], ◌∷◌, ◌++◌, codes, encode_utf8, encode_utf8_all, Some, None, refl, sym, ap, subst, ◌∙◌, lit<, append_assoc, append-nil}
 use Rattle.std.specs.Bool.{Decides}
-use Rattle.std.specs.List.{AllByRecursion, IsDistinct, flat_map, list_all}
+use Rattle.std.specs.List.{AllByRecursion, IsDistinct, list_all}
 use Rattle.std.specs.Str.{all_scalars, bytes_eq, chars, is_utf8}
 use Rattle.std.proofs.Math.Seq.{drop-append_seam}
-use Rattle.std.proofs.Math.Utf8.{encodes}
 use Rattle.std.proofs.lemmas.Bool.Decides.{Decides-eqb}
 use Rattle.std.proofs.lemmas.Slice.Eq.{bytes_eq-Decides}
 use Rattle.std.proofs.lemmas.Str.{IsUtf8-from_is_utf8, encodes-chars}
@@ -12,11 +11,11 @@ use Rattle.dom_model.specs.declared.attributes.Attribute.{Attribute}
 use Rattle.dom_model.specs.AttributeList.{value_of, set_in, names_of, IsDistinctNames}
 use Rattle.page_grammar.specs.Chars.{lower, is_space, is_control, is_letter, is_digit, is_name_char, is_attribute_name_char}
 use Rattle.page_write.specs.Html.{text_char, value_char, value_html, attribute_html, attributes_html, start_tag}
-use Rattle.script_read.specs.Reading.{◌>>=◌, cut, split}
+use Rattle.script_read.specs.Reading.{cut, split}
 use Rattle.script_read.proofs.Tests.{and-true}
 use Rattle.script_read.proofs.Cutting.{Avoids, Avoids-append, passing_avoids, cut-found, cut-none, split-found}
 use Rattle.step_text.specs.StepLine.{tag_byte, tag_bytes, tag_text, is_lowered, is_element_name, is_attribute_name, AreAttributes, IsTag}
-use Rattle.step_text.specs.StepReading.{within, run, unescaped, unreferenced, decoded, element_name_of, attribute_name_of, attribute_of, with_attribute, attributes_from, attributes_of, name_parts, tag_parts, named_tag, start_tag_of, tag_of}
+use Rattle.step_text.specs.StepReading.{run, unescaped, unreferenced, attribute_of, attributes_from, attributes_of, name_parts, tag_parts, named_tag, start_tag_of, tag_of}
 use Rattle.step_text.proofs.Bytes.{tested, encodes_avoid, encode_avoids, decoded_back, within_back}
 
 -- ---- escapes

@@ -4,7 +4,7 @@ use Rattle.std.specs.Prelude.{IfNone, IfOk, OnErr, IsErrOf, IsOkUnless, nat_le, 
 use Rattle.std.specs.Result.{is_err}
 use Rattle.dom_model.specs.ArenaState.{ArenaState}
 use Rattle.edit_steps.specs.declared.step.Step.{Step}
-use Rattle.edit_steps.specs.Step.{StepFits, step_applied}
+use Rattle.edit_steps.specs.Step.{step_applied}
 use Rattle.node_arena.specs.declared.NodeRef.{NodeRef}
 use Rattle.node_arena.specs.Held.{Makes}
 use Rattle.step_text.specs.declared.line.Made.{Made}
@@ -13,7 +13,7 @@ use Rattle.step_text.specs.declared.line.StepFault.TheVariants.{BadLabel, Memory
 use Rattle.step_text.specs.declared.line.StepLine.{StepLine}
 use Rattle.step_text.specs.declared.line.StepLine.TheVariants.{Entry, Make}
 use Rattle.step_text.specs.Applying.{labelled, fault_of, has_labels, has_place, has_room, line_applied, made_content, trees_after}
-use Rattle.step_text.specs.Planning.{Applies, IsStepOf, Plans}
+use Rattle.step_text.specs.Planning.{Applies, IsStepOf}
 use Rattle.step_text.proofs.Fitting.{bad_label, fine}
 
 module _ {A : Type 0} (x : StepLine) (a : ArenaState) where
@@ -78,11 +78,6 @@ entry_taken {A} a value =
       held = λ r here. here;
       err = tt;
     }
-
--- the step of a line fits
-pub planned_fits : (x : StepLine) (a : ArenaState) (r : Result Step StepFault) → Plans x a r → IfOk r (λ step. StepFits step a)
-planned_fits x a (Ok step) plan = plan.fits
-planned_fits x a (Err fault) plan = tt
 
 -- ---- what a test of a result tells
 

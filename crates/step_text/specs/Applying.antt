@@ -33,7 +33,8 @@ abbrev pub is_there_or_end : Forest Content → Option ℕ → Bool
 is_there_or_end f None = true
 is_there_or_end f (Some l) = is_there f l
 
--- `make` draws a label that wasn't drawn yet, below the cap; the labels of all other lines name nodes, which may be loose
+-- `make` draws a label that wasn't drawn yet, below the cap; the labels of all other lines name
+-- nodes, which may be loose
 unfoldable pub has_labels : StepLine → Labelled → Bool
 has_labels Entry d = true
 has_labels (Make l made) d = nat_le d.next l && nat_lt l d.cap

@@ -1,15 +1,21 @@
 -- How a step line is turned into a step of the arena before it is applied. Only `labelled` and the rest of `Applying`
 -- stand in public clauses.
-use Rattle.std.specs.Prelude.{◌≡◌, ℕ, Option, Some, None, IfSome, IfNone, Result, Ok, Err, OnOk, OnErr, IsErrOf, IsOkUnless}
+use Rattle.std.specs.Prelude.{◌≡◌, ℕ, Bool, Option, Some, None, is_some, IfSome, IfNone, Result, Ok, Err, OnOk, OnErr, IsErrOf, IsOkUnless}
+use Rattle.dom_model.specs.declared.Content.{Content}
+use Rattle.dom_model.specs.Forest.{Forest, parent_of}
 use Rattle.dom_model.specs.ArenaState.{ArenaState}
 use Rattle.edit_steps.specs.declared.step.Step.{Step}
+use Rattle.edit_steps.specs.declared.step.Step.TheVariants as step
 use Rattle.edit_steps.specs.Step.{StepFits, change_of}
 use Rattle.forest_changes.specs.Change.{applied}
 use Rattle.node_arena.specs.Held.{Holds, KeepsHeld, label}
-use Rattle.step_text.specs.Applying.{labelled, fault_of, line_applied, trees_after, next_after}
+use Rattle.step_text.specs.Applying.{labelled, fault_of, is_loose, line_applied, trees_after, next_after}
+use Rattle.step_text.specs.declared.apply.Origin.{Origin}
+use Rattle.step_text.specs.declared.apply.Origin.TheVariants.{Loose, Child}
 use Rattle.step_text.specs.declared.line.StepFault.{StepFault}
 use Rattle.step_text.specs.declared.line.StepFault.TheVariants.{Memory}
 use Rattle.step_text.specs.declared.line.StepLine.{StepLine}
+use Rattle.step_text.specs.declared.line.StepLine.TheVariants.{Insert, Move}
 use Rattle.step_text.specs.declared.apply.Placing.{Placing}
 
 -- the line fits, and the step fits the arena and does what the line does
@@ -31,6 +37,23 @@ pub record Applies {A : Type 0} (x : StepLine) (old new : ArenaState) (result : 
   pub applied : OnOk result (labelled new ≡ line_applied x (labelled old))
   pub held : OnOk result (KeepsHeld old new)
   pub err : OnErr result (new ≡ old)
+
+-- ---- lines that put a tree somewhere
+
+-- the tree is loose, or it is that of a child
+abbrev pub comes_from : Origin → Forest Content → ℕ → Bool
+comes_from Loose f l = is_loose f l
+comes_from Child f l = is_some (parent_of f l)
+
+-- the line
+abbrev pub line_to : Origin → ℕ → ℕ → Option ℕ → StepLine
+line_to Loose l p b = Insert l p b
+line_to Child l p b = Move l p b
+
+-- the step of the arena
+abbrev pub step_to : Origin → Placing → Step
+step_to Loose at = step.Link at.node at.parent at.before
+step_to Child at = step.Place at.node at.parent at.before
 
 -- the nodes of these labels
 pub record Places (a : ArenaState) (l p : ℕ) (b : Option ℕ) (found : Placing) : Type 0 where

@@ -48,9 +48,11 @@ before_text (Some label) = decimal label
 abbrev pub line_text : StepLine → List ℕ
 line_text Entry = codes "entry"
 line_text (Make label new) = codes "make " ++ decimal label ++ codes " " ++ made_text new
-line_text (Insert label parent before) = codes "insert " ++ decimal label ++ codes " " ++ decimal parent ++ codes " " ++ before_text before
+line_text (Insert label parent before) =
+    codes "insert " ++ decimal label ++ codes " " ++ decimal parent ++ codes " " ++ before_text before
 line_text (Remove label) = codes "remove " ++ decimal label
-line_text (Move label parent before) = codes "move " ++ decimal label ++ codes " " ++ decimal parent ++ codes " " ++ before_text before
+line_text (Move label parent before) =
+    codes "move " ++ decimal label ++ codes " " ++ decimal parent ++ codes " " ++ before_text before
 line_text (Words label words) = codes "words " ++ decimal label ++ codes " " ++ quoted words
 line_text (Tag label name attributes) = codes "tag " ++ decimal label ++ codes " " ++ tag_text name attributes
 

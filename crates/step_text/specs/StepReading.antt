@@ -1,6 +1,6 @@
--- The step of a line, computed. It is right where the line is one of a step; which line that is, the step's own text tells.
+-- The step of a line, computed. It is right where the line is one of a step; which line that is,
+-- the step's own text tells.
 use Rattle.std.specs.Prelude.{◌≡◌, ℕ, ◌-◌, Bool, true, false, ◌==◌, if◌then◌else◌, List, [], ◌∷◌, ◌++◌, length, take, drop, Option, Some, None, Result, Ok, Err, codes, encode_utf8}
-use denote.Ref.{Bor}
 use Rattle.std.specs.Option.{option_map}
 use Rattle.std.specs.Str.{bytes_eq, chars, is_utf8}
 use Rattle.dom_model.specs.declared.attributes.Attribute.{Attribute}
@@ -61,7 +61,12 @@ unescaped escaped text = run unescaped_gives escapes escaped text
 
 -- the character of a reference, by the first letter of its name
 abbrev pub referenced : ℕ → ℕ
-referenced b = if b == 97 then 38 else (if b == 108 then 60 else (if b == 103 then 62 else (if b == 110 then 160 else 34)))
+referenced b =
+    if b == 97 then 38
+    else (if b == 108 then 60
+    else (if b == 103 then 62
+    else (if b == 110 then 160
+    else 34)))
 
 -- what one byte more of a value gives, and where the reader stands then
 abbrev pub referenced_gives : Reference → ℕ → List ℕ
@@ -90,7 +95,8 @@ attribute_name_of name = if is_attribute_name name then Some name else None
 -- an attribute of what stands before the opening quote, and between the quotes
 unfoldable pub attribute_of : List ℕ → List ℕ → Option Attribute
 attribute_of head value =
-    attribute_name_of (within head) >>= λ name. decoded (unreferenced value) >>= λ chars. Some (record { name = name; value = chars })
+    attribute_name_of (within head) >>= λ name. decoded (unreferenced value) >>= λ chars.
+    Some (record { name = name; value = chars })
 
 abbrev pub with_attribute : List Attribute → Attribute → List Attribute
 with_attribute list a = set_in list a.name a.value
@@ -104,7 +110,8 @@ Adds (Err fault) old new read = Fails fault read
 abbrev pub attributes_from : List Attribute → List (List ℕ) → Option (List Attribute)
 attributes_from list [] = None
 attributes_from list (last ∷ []) = Some list
-attributes_from list (head ∷ (value ∷ parts)) = attribute_of head value >>= λ a. attributes_from (with_attribute list a) parts
+attributes_from list (head ∷ (value ∷ parts)) =
+    attribute_of head value >>= λ a. attributes_from (with_attribute list a) parts
 
 unfoldable pub attributes_of : List ℕ → Option (List Attribute)
 attributes_of text = attributes_from [] (split 34 text)
@@ -152,14 +159,16 @@ make_of text = labelled text >>= λ node. made_of node.1 >>= λ new. Some (Make 
 
 unfoldable pub insert_of : List ℕ → Option StepLine
 insert_of text =
-    labelled text >>= λ node. labelled node.1 >>= λ parent. before_of parent.1 >>= λ before. Some (Insert node.0 parent.0 before)
+    labelled text >>= λ node. labelled node.1 >>= λ parent. before_of parent.1 >>= λ before.
+    Some (Insert node.0 parent.0 before)
 
 unfoldable pub remove_of : List ℕ → Option StepLine
 remove_of text = number_of text >>= λ label. Some (Remove label)
 
 unfoldable pub move_of : List ℕ → Option StepLine
 move_of text =
-    labelled text >>= λ node. labelled node.1 >>= λ parent. before_of parent.1 >>= λ before. Some (Move node.0 parent.0 before)
+    labelled text >>= λ node. labelled node.1 >>= λ parent. before_of parent.1 >>= λ before.
+    Some (Move node.0 parent.0 before)
 
 unfoldable pub words_step_of : List ℕ → Option StepLine
 words_step_of text = labelled text >>= λ node. words_of node.1 >>= λ words. Some (Words node.0 words)

@@ -7,7 +7,7 @@ ghost use Rattle.edit_model.specs.Confined.{is_there, is_place};
 ghost use Rattle.edit_steps.specs.Step.{StepFits};
 ghost use Rattle.node_arena.specs.Held.{Holds, KeepsHeld, Makes, label};
 ghost use Rattle.step_text.specs.Applying.{labelled, fault_of, line_applied, made_content, made_length, text_length, is_text_at, is_there_or_end, can_stand, has_room_under, is_loose};
-ghost use Rattle.step_text.specs.Planning.{Applies, Places, Plans};
+ghost use Rattle.step_text.specs.Planning.{Applies, Places, Plans, comes_from, line_to, step_to};
 
 use crate::line::{Made, StepFault, StepLine};
 use dom_model::{Attributes, Chars, Name};
@@ -20,9 +20,10 @@ use undo_log::Invertible;
 // No node of a document may be deeper.
 const DEEPEST: u64 = 1_000;
 
-/// Does to the nodes of an arena what a step line says. The line is taken by value, since its contents become those of
-/// the node. Whether it fits is looked at before memory; a line that changes nothing fits too. It takes time for the way
-/// up from the new place, and where that is in the document, for the tree that comes there.
+/// Does to the nodes of an arena what a step line says. The line is taken by value, since its
+/// contents become those of the node. Whether it fits is looked at before memory; a line that
+/// changes nothing fits too. It takes time for the way up from the new place, and where that is in
+/// the document, for the tree that comes there.
 pub fn apply_step(arena: &mut Arena, step: StepLine) -> Result<(), StepFault>
     requires { text_length step < 2 ^ 32 }
     ensures refused { IfSome (fault_of step (labelled arena.old)) (λ fault. result ≡ Err fault) }
@@ -38,13 +39,19 @@ pub fn apply_step(arena: &mut Arena, step: StepLine) -> Result<(), StepFault>
             label,
             parent,
             before,
-        } => take(insertion(arena, label, parent, before), arena),
+        } => take(
+            placement(arena, Origin::Loose, label, parent, before),
+            arena,
+        ),
         StepLine::Remove { label } => take(removal(arena, label), arena),
         StepLine::Move {
             label,
             parent,
             before,
-        } => take(shift(arena, label, parent, before), arena),
+        } => take(
+            placement(arena, Origin::Child, label, parent, before),
+            arena,
+        ),
         StepLine::Words { label, words } => take(rewriting(arena, label, words), arena),
         StepLine::Tag {
             label,
@@ -124,6 +131,13 @@ fn find_before(arena: &Arena, before: Option<u32>) -> Result<Option<NodeRef>, St
     }
 }
 
+// Whether the tree that a line puts somewhere is a loose one, or that of a child.
+#[derive(Clone, Copy)]
+enum Origin {
+    Loose,
+    Child,
+}
+
 // The nodes that a line puts, under which and before which.
 #[derive(Clone, Copy)]
 struct Placing {
@@ -193,6 +207,17 @@ fn is_loose(arena: &Arena, node: NodeRef) -> bool
     !has_parent(arena, node) && node.label != 0
 }
 
+// Whether a tree is where the line takes it from.
+fn comes_from(arena: &Arena, origin: Origin, node: NodeRef) -> bool
+    requires { Holds arena.now node }
+    ensures { result ≡ comes_from origin arena.now.trees node.label }
+{
+    match origin {
+        Origin::Loose => is_loose(arena, node),
+        Origin::Child => has_parent(arena, node),
+    }
+}
+
 // Whether a tree can stand under a node, before a child or at the end.
 fn can_stand(arena: &Arena, at: Placing) -> bool
     requires node_held { Holds arena.now at.node }
@@ -205,26 +230,15 @@ fn can_stand(arena: &Arena, at: Placing) -> bool
         && is_place(arena, at.parent, at.before, at.node)
 }
 
-// Whether a tree is loose and can stand there.
-fn may_insert(arena: &Arena, at: Placing) -> bool
+// Whether the tree is one that the line may put there.
+fn may_place(arena: &Arena, origin: Origin, at: Placing) -> bool
     requires node_held { Holds arena.now at.node }
     requires parent_held { Holds arena.now at.parent }
     requires before_held { IfSome at.before (λ r. Holds arena.now r) }
-    ensures { result ≡ (is_loose arena.now.trees at.node.label &&
+    ensures { result ≡ (comes_from origin arena.now.trees at.node.label &&
         can_stand arena.now.trees at.node.label at.parent.label (label at.before)) }
 {
-    is_loose(arena, at.node) && can_stand(arena, at)
-}
-
-// Whether a tree has a parent and can stand there.
-fn may_move(arena: &Arena, at: Placing) -> bool
-    requires node_held { Holds arena.now at.node }
-    requires parent_held { Holds arena.now at.parent }
-    requires before_held { IfSome at.before (λ r. Holds arena.now r) }
-    ensures { result ≡ (is_some (parent_of arena.now.trees at.node.label) &&
-        can_stand arena.now.trees at.node.label at.parent.label (label at.before)) }
-{
-    has_parent(arena, at.node) && can_stand(arena, at)
+    comes_from(arena, origin, at.node) && can_stand(arena, at)
 }
 
 // Whether no node comes to be too deep in the document where a tree comes to stand under a parent.
@@ -257,24 +271,49 @@ fn is_named(arena: &Arena, node: NodeRef, name: &Name) -> bool
     has_name(arena, node, name.as_slice())
 }
 
-// The step that links a loose tree.
-fn insertion(arena: &Arena, label: u32, parent: u32, before: Option<u32>) -> Result<Step, StepFault>
-    ensures { Plans (StepLine.Insert label parent before) arena.now result }
+// The step that puts a tree under a node.
+fn step_to(origin: Origin, at: Placing) -> Step
+    ensures { result ≡ step_to origin at }
+{
+    let Placing {
+        node,
+        parent,
+        before,
+    } = at;
+    match origin {
+        Origin::Loose => Step::Link {
+            node,
+            parent,
+            before,
+        },
+        Origin::Child => Step::Place {
+            node,
+            parent,
+            before,
+        },
+    }
+}
+
+// The step of a line that puts a tree somewhere.
+fn placement(
+    arena: &Arena,
+    origin: Origin,
+    label: u32,
+    parent: u32,
+    before: Option<u32>,
+) -> Result<Step, StepFault>
+    ensures { Plans (line_to origin label parent before) arena.now result }
 {
     arena.valid();
     arena.slotted();
     let at = find_placing(arena, label, parent, before)?;
-    if !may_insert(arena, at) {
+    if !may_place(arena, origin, at) {
         return Err(StepFault::BadPlace);
     }
     if !has_room_under(arena, at.node, at.parent) {
         return Err(StepFault::TooDeep);
     }
-    Ok(Step::Link {
-        node: at.node,
-        parent: at.parent,
-        before: at.before,
-    })
+    Ok(step_to(origin, at))
 }
 
 // The step that makes a tree loose.
@@ -288,26 +327,6 @@ fn removal(arena: &Arena, label: u32) -> Result<Step, StepFault>
         return Err(StepFault::BadPlace);
     }
     Ok(Step::Unlink { node })
-}
-
-// The step that moves a tree.
-fn shift(arena: &Arena, label: u32, parent: u32, before: Option<u32>) -> Result<Step, StepFault>
-    ensures { Plans (StepLine.Move label parent before) arena.now result }
-{
-    arena.valid();
-    arena.slotted();
-    let at = find_placing(arena, label, parent, before)?;
-    if !may_move(arena, at) {
-        return Err(StepFault::BadPlace);
-    }
-    if !has_room_under(arena, at.node, at.parent) {
-        return Err(StepFault::TooDeep);
-    }
-    Ok(Step::Place {
-        node: at.node,
-        parent: at.parent,
-        before: at.before,
-    })
 }
 
 // The step that gives a text other characters.

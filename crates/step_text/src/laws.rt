@@ -8,7 +8,7 @@ ghost use Rattle.step_text.specs.declared.line.Made.{Made};
 ghost use Rattle.step_text.specs.declared.line.StepFault.TheVariants.{TooDeep};
 ghost use Rattle.step_text.specs.declared.line.StepLine.{StepLine};
 ghost use Rattle.step_text.specs.declared.line.StepLine.TheVariants.{Entry, Make};
-ghost use Rattle.step_text.specs.Applying.{Labelled, fault_of, has_labels, has_place, line_applied, made_content, replayed_from, trees_after};
+ghost use Rattle.step_text.specs.Applying.{Labelled, fault_of, has_labels, has_place, made_content, replayed_from, trees_after};
 ghost use Rattle.step_text.specs.Replaying.{CanSay, LeadsTo, line_of};
 ghost use Rattle.step_text.specs.StepLine.{IsStepLine, line_text};
 ghost use Rattle.step_text.specs.StepReading.{step_in};
@@ -46,5 +46,6 @@ pub fn lines_have_one_step()
 
 /// A line is read as the step that has it: the one step, of those that lines stand for, that is printed so.
 pub fn lines_are_read()
-    ensures { (line : List ℕ) (step : StepLine) → (step_in line ≡ Some step) ↔ (IsStepLine step × (line_text step ≡ line)) }
+    ensures { (line : List ℕ) (step : StepLine) →
+        (step_in line ≡ Some step) ↔ (IsStepLine step × (line_text step ≡ line)) }
 {}

@@ -9,27 +9,25 @@ ghost use Rattle.step_text.specs.StepReading.{Reads, element_name_of, attribute_
 
 use crate::line::StepFault;
 use dom_model::Name;
+use page_grammar::classes::{is_attribute_name_char, is_letter, is_name_char, lower};
 use std::alloc::Global;
 
-#[tactic(auto, unfolding(page_grammar::specs::Chars::lower))]
 fn is_lowered(c: char) -> bool
     ensures { result ≡ names.is_lowered c }
 {
-    !c.is_ascii_uppercase()
+    lower(c) == c
 }
 
-#[tactic(auto, unfolding(page_grammar::specs::Chars::is_letter, page_grammar::specs::Chars::lower))]
 fn is_first_byte(b: u8) -> bool
     ensures { result ≡ (classes.is_letter b && names.is_lowered b) }
 {
-    b.is_ascii_lowercase()
+    is_letter(b as char) && is_lowered(b as char)
 }
 
-#[tactic(auto, unfolding(page_grammar::specs::Chars::is_name_char, page_grammar::specs::Chars::is_letter, page_grammar::specs::Chars::is_digit, page_grammar::specs::Chars::lower))]
 fn is_name_byte(b: u8) -> bool
     ensures { result ≡ (classes.is_name_char b && names.is_lowered b) }
 {
-    b.is_ascii_lowercase() || b.is_ascii_digit() || b == b'-'
+    is_name_char(b as char) && is_lowered(b as char)
 }
 
 fn all_name_bytes(bytes: &[u8]) -> bool
@@ -46,34 +44,6 @@ fn is_element_name(name: &[u8]) -> bool
         [first, others @ ..] => is_first_byte(*first) && all_name_bytes(others),
         [] => false,
     }
-}
-
-#[tactic(auto, unfolding(page_grammar::specs::Chars::is_control))]
-fn is_control(c: char) -> bool
-    ensures { result ≡ classes.is_control c }
-{
-    c < ' ' || '\x7F' <= c && c < '\u{a0}'
-}
-
-#[tactic(auto, unfolding(page_grammar::specs::Chars::is_space))]
-fn is_space(c: char) -> bool
-    ensures { result ≡ classes.is_space c }
-{
-    c == '\t' || c == '\n' || c == '\x0C' || c == '\r' || c == ' '
-}
-
-#[tactic(auto, unfolding(page_grammar::specs::Chars::is_attribute_name_char))]
-fn is_attribute_name_char(c: char) -> bool
-    ensures { result ≡ classes.is_attribute_name_char c }
-{
-    !(is_space(c)
-        || is_control(c)
-        || c == '"'
-        || c == '\''
-        || c == '<'
-        || c == '>'
-        || c == '/'
-        || c == '=')
 }
 
 fn all_attribute_name_chars(text: &str) -> bool

@@ -71,7 +71,8 @@ fn push_labelled(bytes: &mut Vec<u8>, word: &[u8], label: u32) -> Result<(), All
 
 // Appends a parent and the child before which a node goes.
 fn push_place(bytes: &mut Vec<u8>, parent: u32, before: Option<u32>) -> Result<(), AllocError>
-    ensures ok { OnOk result (bytes.new.items ≡ bytes.old.items ++ (codes " " ++ decimal parent ++ codes " " ++ before_text before)) }
+    ensures ok { OnOk result (bytes.new.items ≡
+        bytes.old.items ++ (codes " " ++ decimal parent ++ codes " " ++ before_text before)) }
 {
     push_labelled(bytes, b" ", parent)?;
     match before {

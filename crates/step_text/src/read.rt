@@ -1,7 +1,7 @@
-//! Lines read as steps. Each step has one line, so a line is read as if it were one of a step, and is one where the step
-//! that is read prints as the line.
+//! Lines read as steps. Each step has one line, so a line is read as if it were one of a step, and
+//! is one where the step that is read prints as the line.
 
-ghost use Rattle.std.specs.Prelude.{◌≡◌, ◌⊎◌, ◌<◌, ◌^◌, IfErr, IfOk, IfSome, true};
+ghost use Rattle.std.specs.Prelude.{◌≡◌, ◌⊎◌, ◌<◌, IfErr, IfOk, IfSome, true};
 ghost use Rattle.std.specs.Option.{option_map};
 ghost use Rattle.std.specs.Str.{all_scalars};
 ghost use Rattle.script_read.specs.Reading.{number_of};
@@ -185,15 +185,17 @@ fn read_leniently(alloc: Global, line: &[u8]) -> Result<StepLine, StepFault>
 
 /// The step that a line stands for. The line comes without its LF.
 ///
-/// A step has one line: labels have 1 to 9 digits without leading zeros, a text has just the escapes that a printed text
-/// has, and a tag just the references of a written page. Its names are those of the grammar of pages, in lower case and
-/// whatever the element.
+/// A step has one line: labels have 1 to 9 digits without leading zeros, a text has just the
+/// escapes that a printed text has, and a tag just the references of a written page. Its names are
+/// those of the grammar of pages, in lower case and whatever the element.
 #[tactic(auto, unfolding(crate::specs::StepReading::step_in))]
 pub fn read_step(alloc: Global, line: &[u8]) -> Result<StepLine, StepFault>
     ensures computed { Reads result (reading.step_in line.now) }
     ensures step { IfOk result (λ step. IsStepLine step × (line_text step ≡ line.now)) }
-    ensures spelled { (step : StepLine) → IsStepLine step → line_text step ≡ line.now → (result ≡ Ok step) ⊎ (result ≡ Err StepFault.Memory) }
-    ensures syntax { result ≡ Err StepFault.Syntax → (step : StepLine) → IsStepLine step → ¬ (line_text step ≡ line.now) }
+    ensures spelled { (step : StepLine) → IsStepLine step → line_text step ≡ line.now →
+        (result ≡ Ok step) ⊎ (result ≡ Err StepFault.Memory) }
+    ensures syntax { result ≡ Err StepFault.Syntax →
+        (step : StepLine) → IsStepLine step → ¬ (line_text step ≡ line.now) }
     ensures fault { IfErr result (λ fault. (fault ≡ StepFault.Syntax) ⊎ (fault ≡ StepFault.Memory)) }
 {
     let step = read_leniently(alloc, line)?;

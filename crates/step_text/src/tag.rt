@@ -2,7 +2,6 @@
 
 ghost use Rattle.std.specs.Prelude.{◌≡◌, ◌++◌, IfOk, OnOk, Some, None, true, false};
 ghost use Rattle.std.specs.Str.{all_scalars, chars};
-ghost use Rattle.dom_model.specs.AttributeList.{set_in};
 ghost use Rattle.step_text.specs.StepLine.{AreAttributes, IsTag};
 ghost use Rattle.step_text.specs.StepReading as reading;
 ghost use Rattle.step_text.specs.StepReading.{Reads};

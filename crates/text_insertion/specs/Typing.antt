@@ -9,7 +9,6 @@ use Rattle.live_range.specs.declared.places.Point.{Point}
 use Rattle.node_tests.specs.BlockPoints.{child_before, child_at}
 use Rattle.node_tests.specs.CollapsedWhitespace.{is_words}
 use Rattle.node_tests.specs.SolidNeighbours.{is_collapsed_break}
-use Rattle.edit_model.specs.State.{State}
 use Rattle.edit_model.specs.Run.{Run, ◌>>=◌, ◌>>◌, answer, done, look, given, for_each, remove, replace, make_words, select, collapse}
 use Rattle.inline_commands.specs.RestoringStates.{restore_states}
 use Rattle.inline_value.specs.declared.overrides.Override.{Override}

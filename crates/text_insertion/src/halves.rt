@@ -5,9 +5,9 @@ ghost use Rattle.std.specs.Prelude.{◌≡◌, ◌<◌, IfOk, IfSome, codes};
 ghost use Rattle.dom_model.specs.AttributeList.{unset_in};
 ghost use Rattle.dom_model.specs.Forest.{count_of};
 ghost use Rattle.edit_model.specs.Compositions as compositions;
-ghost use Rattle.edit_model.specs.Gives.{Gives, GivesNode, label_of, labels_of};
+ghost use Rattle.edit_model.specs.Gives.{Gives, GivesNode, labels_of};
 ghost use Rattle.edit_doc.specs.Whole.{IsOpen};
-ghost use Rattle.edit_doc.specs.Held.{Holds, IfHeld, EachHeld, Finds, Keeps};
+ghost use Rattle.edit_doc.specs.Held.{Holds, EachHeld, Finds, Keeps};
 ghost use Rattle.text_insertion.specs.Halves as halves;
 
 use crate::start::active_start;

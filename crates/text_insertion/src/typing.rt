@@ -1,6 +1,6 @@
 //! The command insertText. The steps are those of docs/ALGORITHMS.md.
 
-ghost use Rattle.std.specs.Prelude.{◌≡◌, ◌<◌, IfOk, IfSome, true};
+ghost use Rattle.std.specs.Prelude.{◌≡◌, ◌<◌, IfOk, true};
 ghost use Rattle.dom_model.specs.Forest.{count_of};
 ghost use Rattle.edit_model.specs.Gives.{Gives, label_of};
 ghost use Rattle.edit_model.specs.Run.{for_each};

@@ -13,13 +13,13 @@ ghost use Rattle.page_read.specs.Steady.{Steady, IsFresh, taken};
 ghost use Rattle.page_grammar.specs.TreeConstruction.{innermost};
 
 use super::{Lexical, Open, Scanner, encoded};
-use crate::classes::{is_attribute_name_char, is_name_char, is_quote, is_space, lower};
 use crate::construction::append_element;
 use crate::names::is_refused;
 use crate::reference::{Reference, Turn};
 use dom_model::{Attributes, Chars, Name};
 use html_names::is_void;
 use node_arena::NodeRef;
+use page_grammar::classes::{is_attribute_name_char, is_name_char, is_quote, is_space, lower};
 use std::alloc::AllocError;
 use std::mem;
 

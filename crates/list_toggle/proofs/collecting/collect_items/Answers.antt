@@ -1,4 +1,4 @@
-use Rattle.std.proofs.Common.{◌≡◌, true, false, sym, ap, ◌∙◌, arith, drop, length-drop}
+use Rattle.std.proofs.Common.{◌≡◌, true, false, sym, ◌∙◌, arith, drop, length-drop}
 use Rattle.edit_model.specs.Gives.{labels_of}
 use Rattle.edit_doc.proofs.Chosen.{keeps_both}
 use Rattle.block_commands.proofs.Looping.{tail_is}

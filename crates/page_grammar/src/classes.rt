@@ -4,7 +4,7 @@ ghost use Rattle.std.specs.Prelude.{◌≡◌};
 ghost use Rattle.page_grammar.specs.Chars as classes;
 
 /// The character in lower case, if it is an ASCII letter.
-#[tactic(auto, unfolding(page_grammar::specs::Chars::lower))]
+#[tactic(auto, unfolding(crate::specs::Chars::lower))]
 pub fn lower(c: char) -> char
     ensures { result ≡ classes.lower c }
 {
@@ -12,7 +12,7 @@ pub fn lower(c: char) -> char
 }
 
 /// ASCII white space.
-#[tactic(auto, unfolding(page_grammar::specs::Chars::is_space))]
+#[tactic(auto, unfolding(crate::specs::Chars::is_space))]
 pub fn is_space(c: char) -> bool
     ensures { result ≡ classes.is_space c }
 {
@@ -20,7 +20,7 @@ pub fn is_space(c: char) -> bool
 }
 
 /// An ASCII letter.
-#[tactic(auto, unfolding(page_grammar::specs::Chars::is_letter, page_grammar::specs::Chars::lower))]
+#[tactic(auto, unfolding(crate::specs::Chars::is_letter, crate::specs::Chars::lower))]
 pub fn is_letter(c: char) -> bool
     ensures { result ≡ classes.is_letter c }
 {
@@ -29,7 +29,7 @@ pub fn is_letter(c: char) -> bool
 }
 
 /// An ASCII digit.
-#[tactic(auto, unfolding(page_grammar::specs::Chars::is_digit))]
+#[tactic(auto, unfolding(crate::specs::Chars::is_digit))]
 pub fn is_digit(c: char) -> bool
     ensures { result ≡ classes.is_digit c }
 {
@@ -37,7 +37,7 @@ pub fn is_digit(c: char) -> bool
 }
 
 /// A hexadecimal digit.
-#[tactic(auto, unfolding(page_grammar::specs::Chars::is_hex))]
+#[tactic(auto, unfolding(crate::specs::Chars::is_hex))]
 pub fn is_hex(c: char) -> bool
     ensures { result ≡ classes.is_hex c }
 {
@@ -46,14 +46,14 @@ pub fn is_hex(c: char) -> bool
 }
 
 /// A character of an element's name after its first letter.
-#[tactic(auto, unfolding(page_grammar::specs::Chars::is_name_char))]
+#[tactic(auto, unfolding(crate::specs::Chars::is_name_char))]
 pub fn is_name_char(c: char) -> bool
     ensures { result ≡ classes.is_name_char c }
 {
     is_letter(c) || is_digit(c) || c == '-'
 }
 
-#[tactic(auto, unfolding(page_grammar::specs::Chars::is_control))]
+#[tactic(auto, unfolding(crate::specs::Chars::is_control))]
 fn is_control(c: char) -> bool
     ensures { result ≡ classes.is_control c }
 {
@@ -61,7 +61,7 @@ fn is_control(c: char) -> bool
 }
 
 /// A character of an attribute's name.
-#[tactic(auto, unfolding(page_grammar::specs::Chars::is_attribute_name_char))]
+#[tactic(auto, unfolding(crate::specs::Chars::is_attribute_name_char))]
 pub fn is_attribute_name_char(c: char) -> bool
     ensures { result ≡ classes.is_attribute_name_char c }
 {
@@ -76,7 +76,7 @@ pub fn is_attribute_name_char(c: char) -> bool
 }
 
 /// A character that opens an attribute's value, and closes it.
-#[tactic(auto, unfolding(page_grammar::specs::Chars::is_quote))]
+#[tactic(auto, unfolding(crate::specs::Chars::is_quote))]
 pub fn is_quote(c: char) -> bool
     ensures { result ≡ classes.is_quote c }
 {
