@@ -15,7 +15,6 @@ use Rattle.page_grammar.specs.Nodes.{document_of}
 use Rattle.page_grammar.specs.Reading.{Reading, Children, Refused, page_reading}
 use Rattle.page_read.specs.Answer.{IsFaultAnswer}
 use Rattle.page_read.specs.declared.faults.PageFault.{PageFault}
-use Rattle.page_read.specs.declared.faults.PageKind.TheVariants as kinds
 use Rattle.edit_session.specs.Block.{Block, NoOpening, NoClosing, Whole, lines_of, block_of}
 use Rattle.edit_doc.specs.Whole.{first_state}
 use Rattle.edit_engine.specs.Editing.{Editing, new_editing}

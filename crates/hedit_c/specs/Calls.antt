@@ -1,0 +1,201 @@
+-- What the calls of an editor's handle tell.
+use Rattle.std.specs.Prelude.{◌≡◌, ◌⊎◌, ⊤, ℕ, ◌<◌, ◌≤◌, ◌++◌, ◌==◌, nat_lt, List, length, drop, Bool, true, false, encode_utf8_all, Option, Some, None, Ok, if◌then◌else◌}
+use Rattle.std.specs.Option.{option_and_then, IsSomeAnd}
+use Rattle.std.specs.Str.{IsUtf8, chars}
+use Rattle.dom_model.specs.ArenaState.{ArenaState}
+use Rattle.html_names.specs.declared.query.QueryKind.{QueryKind}
+use Rattle.html_names.specs.declared.query.QueryKind.TheVariants as question
+use Rattle.live_range.specs.LivePoints.{has_mark}
+use Rattle.live_range.specs.declared.places.Pair.{Pair}
+use Rattle.page_grammar.specs.Reading.{Refused, page_reading}
+use Rattle.page_read.specs.Answer.{IsAnswer}
+use Rattle.page_read.specs.Faults.{kind_of}
+use Rattle.page_read.specs.declared.faults.PageKind.{PageKind}
+use Rattle.page_read.specs.declared.faults.PageKind.TheVariants as page_kind
+use Rattle.script_read.specs.declared.act.Place.{Place}
+use Rattle.edit_model.specs.History.{Entry}
+use Rattle.edit_query.specs.declared.reply.Reply.{Reply}
+use Rattle.edit_query.specs.declared.reply.Reply.TheVariants as reply
+use Rattle.edit_engine.specs.declared.answers.ViewKind.{ViewKind}
+use Rattle.edit_engine.specs.declared.answers.ViewKind.TheVariants.{Html, Tree, Points, Stat}
+use Rattle.edit_engine.specs.Editing.{Editing, new_editing}
+use Rattle.edit_engine.specs.Execution.{Outcome, Acted, outcome}
+use Rattle.edit_engine.specs.Execution as exec
+use Rattle.edit_engine.specs.Places.{pair_at, selecting, marking, unmarking, IsCrowded}
+use Rattle.edit_engine.specs.Queries.{reply_of}
+use Rattle.edit_engine.specs.Views.{view_text}
+use Rattle.hedit_c.specs.Statuses.{number_of, answer_status}
+use Rattle.hedit_c.specs.declared.editor.opening.Refusal.{Refusal}
+use Rattle.hedit_c.specs.declared.editor.status.Status.{Status}
+use Rattle.hedit_c.specs.declared.editor.status.Status.TheVariants.{Done, No, Memory, PageRefused, TooSmall, Full, Deep, BadPlace, TooManyMarks, BadArgument, Closed}
+
+-- ---- the handle
+
+-- the number of the status, and what the call has done to the editor; a closed handle stays closed
+abbrev pub Leaves : ℕ → Option Editing → Option Editing
+    → (Status → Editing → Editing → Type 0) → Type 0
+Leaves number None None told = number ≡ number_of Closed
+Leaves number None (Some new) told = ⊥
+Leaves number (Some old) None told = ⊥
+Leaves number (Some old) (Some new) told =
+    (status : Status) × (number ≡ number_of status) × told status old new
+
+-- the same of a call that changes nothing but a buffer, which a closed handle leaves as it was
+abbrev pub Asks : ℕ → Option Editing → (old new : List ℕ) → (Status → Editing → Type 0)
+    → Type 0
+Asks number None old new told = (number ≡ number_of Closed) × (new ≡ old)
+Asks number (Some e) old new told =
+    (status : Status) × (number ≡ number_of status) × told status e
+
+-- ---- a text in a buffer: it stands at the front, and what follows there is as before; or only its
+-- length is told
+
+abbrev pub Puts : Status → (text old new : List ℕ) → (n : ℕ) → Type 0
+Puts Done text old new n =
+    (n ≡ length text) × (length text ≤ length old) × (new ≡ text ++ drop (length text) old)
+Puts TooSmall text old new n =
+    (n ≡ length text) × (length old < length text) × (new ≡ old)
+Puts status text old new n = ⊥
+
+-- ---- opening
+
+abbrev pub kind_number : PageKind → ℕ
+kind_number page_kind.NotUtf8 = 1
+kind_number page_kind.BadTag = 2
+kind_number page_kind.Unclosed = 3
+kind_number page_kind.StrayEnd = 4
+kind_number page_kind.BadAttribute = 5
+kind_number page_kind.RepeatedAttribute = 6
+kind_number page_kind.UnknownReference = 7
+kind_number page_kind.UnsupportedElement = 8
+kind_number page_kind.TooDeep = 9
+kind_number page_kind.TooLong = 10
+kind_number page_kind.Full = 11
+kind_number page_kind.Memory = 12
+
+-- the reading of the page is refused at this place, for a kind with this number
+abbrev pub IsRefusedAt : Refusal → (page : List ℕ) → (limit : ℕ) → Type 0
+IsRefusedAt refusal page limit =
+    (kind : PageKind) × (refusal.kind ≡ kind_number kind)
+    × IsSomeAnd (kind_of kind) (λ k. page_reading 200 limit page ≡ Refused refusal.at k)
+
+-- an editor of the nodes that the page has
+abbrev pub IsOpened : Editing → (page : List ℕ) → (limit depth : ℕ) → Type 0
+IsOpened e page limit depth =
+    (a : ArenaState) × IsAnswer limit page (Ok a) × (e ≡ new_editing a depth)
+
+abbrev pub NotOpened : Status → Refusal → (page : List ℕ) → (limit depth : ℕ) → Type 0
+NotOpened PageRefused refusal page limit depth = IsRefusedAt refusal page limit
+NotOpened Memory refusal page limit depth = ⊤
+NotOpened BadArgument refusal page limit depth = (limit ≡ 0) ⊎ (depth ≡ 0)
+NotOpened status refusal page limit depth = ⊥
+
+abbrev pub Opens : ℕ → Option Editing → Refusal → (page : List ℕ) → (limit depth : ℕ) → Type 0
+Opens number (Some e) refusal page limit depth =
+    (number ≡ number_of Done) × IsOpened e page limit depth
+Opens number None refusal page limit depth =
+    (status : Status) × (number ≡ number_of status) × NotOpened status refusal page limit depth
+
+-- ---- commands
+
+abbrev pub ExecAnswers : Status → Editing → Editing → Outcome → Type 0
+ExecAnswers Done old new o = o ≡ Acted true new
+ExecAnswers No old new o = ((o ≡ exec.Refused) ⊎ (o ≡ Acted false new)) × (new ≡ old)
+ExecAnswers Full old new o = (o ≡ exec.Full) × (new ≡ old)
+ExecAnswers Deep old new o = (o ≡ exec.Deep) × (new ≡ old)
+ExecAnswers Memory old new o = new ≡ old
+ExecAnswers status old new o = ⊥
+
+abbrev pub ExecTells : Status → Editing → Editing → (name value : List ℕ) → Type 0
+ExecTells BadArgument old new name value = ¬ (IsUtf8 name × IsUtf8 value) × (new ≡ old)
+ExecTells status old new name value =
+    IsUtf8 name × IsUtf8 value × ExecAnswers status old new (outcome old name (chars value))
+
+-- ---- the history
+
+abbrev pub taken_status : Option Editing → (Editing → List Entry) → Status
+taken_status None entries = Closed
+taken_status (Some e) entries = answer_status (nat_lt 0 (length (entries e)))
+
+-- ---- selection and marks
+
+abbrev pub place : (path : List ℕ) (offset : ℕ) → Place
+place path offset = record { path = path; offset = offset }
+
+abbrev pub unselect_status : Option Editing → Status
+unselect_status None = Closed
+unselect_status (Some e) = Done
+
+abbrev pub SelectTells : Status → Editing → Editing → (anchor focus : Place) → Type 0
+SelectTells Done old new anchor focus =
+    (pair : Pair) × (pair_at old.state.trees anchor focus ≡ Some pair)
+    × (new ≡ selecting old pair)
+SelectTells BadPlace old new anchor focus =
+    (pair_at old.state.trees anchor focus ≡ None) × (new ≡ old)
+SelectTells Memory old new anchor focus = new ≡ old
+SelectTells status old new anchor focus = ⊥
+
+abbrev pub MarkTells : Status → Editing → Editing → (name : List ℕ) → (anchor focus : Place)
+    → Type 0
+MarkTells Done old new name anchor focus =
+    (pair : Pair) × (pair_at old.state.trees anchor focus ≡ Some pair)
+    × (new ≡ marking old name pair)
+MarkTells BadPlace old new name anchor focus =
+    (pair_at old.state.trees anchor focus ≡ None) × (new ≡ old)
+MarkTells TooManyMarks old new name anchor focus = IsCrowded old name × (new ≡ old)
+MarkTells Memory old new name anchor focus = new ≡ old
+MarkTells status old new name anchor focus = ⊥
+
+abbrev pub UnmarkTells : Status → Editing → Editing → (name : List ℕ) → Type 0
+UnmarkTells Done old new name =
+    (has_mark name old.state.points ≡ true) × (new ≡ unmarking old name)
+UnmarkTells No old new name =
+    (has_mark name old.state.points ≡ false) × (new ≡ unmarking old name)
+UnmarkTells Memory old new name = new ≡ old
+UnmarkTells status old new name = ⊥
+
+-- ---- questions
+
+abbrev pub query_kind : ℕ → Option QueryKind
+query_kind n =
+    if n == 0 then Some question.Supported
+    else (if n == 1 then Some question.Enabled
+    else (if n == 2 then Some question.Indeterm
+    else (if n == 3 then Some question.State
+    else (if n == 4 then Some question.Value else None))))
+
+abbrev pub flag_number : Bool → ℕ
+flag_number flag = if flag then 1 else 0
+
+-- a reply is a flag, or a text in the buffer
+abbrev pub ReplyTells : Status → Reply → (flag : ℕ) → (old new : List ℕ) → (n : ℕ) → Type 0
+ReplyTells Memory answer flag old new n = new ≡ old
+ReplyTells status (reply.Flag b) flag old new n =
+    (status ≡ Done) × (flag ≡ flag_number b) × (n ≡ 0) × (new ≡ old)
+ReplyTells status (reply.Wording text) flag old new n =
+    (flag ≡ 0) × Puts status (encode_utf8_all text) old new n
+
+abbrev pub QueryTells : Status → Editing → (kind : ℕ) → (name : List ℕ) → (flag : ℕ)
+    → (old new : List ℕ) → (n : ℕ) → Type 0
+QueryTells BadArgument e kind name flag old new n =
+    ((query_kind kind ≡ None) ⊎ ¬ (IsUtf8 name)) × (new ≡ old)
+QueryTells status e kind name flag old new n =
+    IsSomeAnd (query_kind kind) (λ k. ReplyTells status (reply_of e.state k name) flag old new n)
+
+-- ---- what is printed
+
+abbrev pub view_kind : ℕ → Option ViewKind
+view_kind n =
+    if n == 0 then Some Html
+    else (if n == 1 then Some Tree
+    else (if n == 2 then Some Points
+    else (if n == 3 then Some Stat else None)))
+
+abbrev pub view_of : Editing → ℕ → Option (List ℕ)
+view_of e kind = option_and_then (view_text e) (view_kind kind)
+
+abbrev pub ViewTells : Status → Editing → (kind : ℕ) → (old new : List ℕ) → (n : ℕ) → Type 0
+ViewTells BadArgument e kind old new n = (view_kind kind ≡ None) × (new ≡ old)
+ViewTells Memory e kind old new n = new ≡ old
+ViewTells status e kind old new n =
+    IsSomeAnd (view_of e kind) (λ text. Puts status text old new n)

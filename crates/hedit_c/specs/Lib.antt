@@ -1,0 +1,4 @@
+pub mod Session
+pub mod Held
+pub mod Statuses
+pub mod Calls

@@ -1,0 +1,161 @@
+//! Calls that change an editor.
+
+ghost use Rattle.std.specs.Prelude.{◌≡◌, ◌<◌, nat_lt, length};
+ghost use Rattle.edit_engine.specs.Editing.{undone, redone};
+ghost use Rattle.edit_engine.specs.Execution.{outcome};
+ghost use Rattle.std.specs.Str.{chars};
+ghost use Rattle.hedit_c.specs.Calls.{ExecAnswers, ExecTells, SelectTells, MarkTells, UnmarkTells, place};
+
+use super::status::Status;
+use super::texts::{collect_chars, place_of};
+use dom_model::{Chars, Name};
+use edit_engine::{Answer, Editor, ExecFault, PlaceFault};
+use script_read::Place;
+use std::alloc::Global;
+use std::marker::Brand;
+use std::sync::ledger::{Blank, Ledger};
+use step_count::Steps;
+
+fn exec_chars(alloc: Global, editor: &mut Editor, name: &str, value: &Chars) -> Status
+    ensures { ExecAnswers result editor.old editor.new (outcome editor.old name.now value.now) }
+{
+    match editor.exec(alloc, name, value.as_slice()) {
+        Ok(Answer::Yes) => Status::Done,
+        Ok(Answer::No) => Status::No,
+        Err(ExecFault::Full) => Status::Full,
+        Err(ExecFault::Deep) => Status::Deep,
+        Err(ExecFault::Memory) => Status::Memory,
+    }
+}
+
+fn exec_text(alloc: Global, editor: &mut Editor, name: &str, value: &str) -> Status
+    ensures { ExecAnswers result editor.old editor.new
+        (outcome editor.old name.now (chars value.now)) }
+{
+    match collect_chars(alloc, value) {
+        Ok(value) => exec_chars(alloc, editor, name, &value),
+        Err(_) => Status::Memory,
+    }
+}
+
+/// Executes a command by its name and its value, both in UTF-8.
+pub(crate) fn exec(alloc: Global, editor: &mut Editor, name: &[u8], value: &[u8]) -> Status
+    ensures { ExecTells result editor.old editor.new name.now value.now }
+{
+    match (str::from_utf8(name), str::from_utf8(value)) {
+        (Ok(name), Ok(value)) => exec_text(alloc, editor, name, value),
+        _ => Status::BadArgument,
+    }
+}
+
+fn undo_uncounted<L: Ledger>(editor: &mut Editor, blank: Blank) -> bool
+    requires name { blank.name ≡ L.name }
+    requires parts { blank.parts ≡ L.parts }
+    requires some { 0 < blank.parts }
+    ensures answer { result ≡ nat_lt 0 (length editor.old.history.undo) }
+    ensures undone { editor.new ≡ undone editor.old }
+{
+    let mut steps = Steps::<L>::open(blank);
+    editor.undo(&mut steps)
+}
+
+fn redo_uncounted<L: Ledger>(editor: &mut Editor, blank: Blank) -> bool
+    requires name { blank.name ≡ L.name }
+    requires parts { blank.parts ≡ L.parts }
+    requires some { 0 < blank.parts }
+    ensures answer { result ≡ nat_lt 0 (length editor.old.history.redo) }
+    ensures redone { editor.new ≡ redone editor.old }
+{
+    let mut steps = Steps::<L>::open(blank);
+    editor.redo(&mut steps)
+}
+
+/// Takes one entry back. Nothing is counted as it runs.
+pub(crate) fn undo(editor: &mut Editor) -> bool
+    ensures answer { result ≡ nat_lt 0 (length editor.old.history.undo) }
+    ensures undone { editor.new ≡ undone editor.old }
+{
+    undo_uncounted::<Brand>(editor, Blank::new(1))
+}
+
+/// Takes one entry forth again. Nothing is counted as it runs.
+pub(crate) fn redo(editor: &mut Editor) -> bool
+    ensures answer { result ≡ nat_lt 0 (length editor.old.history.redo) }
+    ensures redone { editor.new ≡ redone editor.old }
+{
+    redo_uncounted::<Brand>(editor, Blank::new(1))
+}
+
+// Selects from one place to another.
+fn select_places(editor: &mut Editor, anchor: &Place, focus: &Place) -> Status
+    ensures { SelectTells result editor.old editor.new anchor.now focus.now }
+{
+    match editor.select(anchor, focus) {
+        Ok(()) => Status::Done,
+        Err(_) => Status::BadPlace,
+    }
+}
+
+// Gives a name to what is between two places.
+fn mark_places(editor: &mut Editor, name: &Name, anchor: &Place, focus: &Place) -> Status
+    ensures { MarkTells result editor.old editor.new name.now anchor.now focus.now }
+{
+    match editor.mark(name, anchor, focus) {
+        Ok(()) => Status::Done,
+        Err(PlaceFault::BadPlace) => Status::BadPlace,
+        Err(PlaceFault::TooManyMarks) => Status::TooManyMarks,
+        Err(PlaceFault::Memory) => Status::Memory,
+    }
+}
+
+/// Selects from one place to another.
+pub(crate) fn select(
+    alloc: Global,
+    editor: &mut Editor,
+    anchor: (&[u32], u32),
+    focus: (&[u32], u32),
+) -> Status
+    ensures { SelectTells result editor.old editor.new
+        (place anchor.entry.0.now anchor.entry.1) (place focus.entry.0.now focus.entry.1) }
+{
+    let Ok(anchor) = place_of(alloc, anchor.0, anchor.1) else {
+        return Status::Memory;
+    };
+    let Ok(focus) = place_of(alloc, focus.0, focus.1) else {
+        return Status::Memory;
+    };
+    select_places(editor, &anchor, &focus)
+}
+
+/// Gives a name to what is between two places.
+pub(crate) fn mark(
+    alloc: Global,
+    editor: &mut Editor,
+    name: &[u8],
+    anchor: (&[u32], u32),
+    focus: (&[u32], u32),
+) -> Status
+    ensures { MarkTells result editor.old editor.new name.now
+        (place anchor.entry.0.now anchor.entry.1) (place focus.entry.0.now focus.entry.1) }
+{
+    let Ok(name) = Name::from_slice(alloc, name) else {
+        return Status::Memory;
+    };
+    let Ok(anchor) = place_of(alloc, anchor.0, anchor.1) else {
+        return Status::Memory;
+    };
+    let Ok(focus) = place_of(alloc, focus.0, focus.1) else {
+        return Status::Memory;
+    };
+    mark_places(editor, &name, &anchor, &focus)
+}
+
+/// Takes the mark of a name out.
+pub(crate) fn unmark(alloc: Global, editor: &mut Editor, name: &[u8]) -> Status
+    ensures { UnmarkTells result editor.old editor.new name.now }
+{
+    match Name::from_slice(alloc, name) {
+        Ok(name) => Status::answer(editor.unmark(&name)),
+        Err(_) => Status::Memory,
+    }
+}

@@ -1,0 +1,169 @@
+"""sessions.py FOLDER..: runs stored sessions (NNN.args, .stdin, .stdout, .status) through the
+library.
+
+Each goes through hedit_session_with_words, which has to give what is stored. Those of `run`
+without --deny also go through an Editor, call by call: the lines that are acts for which it has
+calls, which the library has to answer as a session of these lines alone."""
+import re
+import sys
+from pathlib import Path
+
+from hedit import BAD_PLACE, DEEP, FULL, TOO_MANY_MARKS, Editor, HeditError, session
+
+FAULTS = {
+    BAD_PLACE: "! 4 bad place",
+    TOO_MANY_MARKS: "! 5 too many marks",
+    FULL: "! 6 full",
+    DEEP: "! 7 deep",
+}
+
+ESCAPE = re.compile(r"\\(?:([nt\\])|u\{([0-9A-Fa-f]{1,6})\})")
+
+ESCAPES = {"n": "\n", "t": "\t", "\\": "\\"}
+
+PRINTED = {"\n": "\\n", "\t": "\\t", "\\": "\\\\", '"': '\\"', "\r": "\\r", "\xa0": "\\u{a0}"}
+
+NAME = r"[A-Za-z0-9-]{1,64}"
+
+POINT = r"(\.|\d{1,9}(?:/\d{1,9})*):(\d{1,9})"
+
+LINE = re.compile(
+    rf"(?P<select>select {POINT} {POINT})|(?P<unselect>unselect)"
+    rf"|(?P<mark>mark ({NAME}) {POINT} {POINT})|(?P<unmark>unmark ({NAME}))"
+    rf"|(?P<exec>exec ({NAME})(?: (?P<value>.*))?)"
+    rf"|(?P<query>query (enabled|indeterm|state|supported|value) ({NAME}))"
+    r"|(?P<undo>undo ([1-9]\d{0,8}))|(?P<redo>redo ([1-9]\d{0,8}))"
+    r"|(?P<html>html)|(?P<tree>tree)|(?P<points>points)|(?P<stat>stat)",
+    re.ASCII | re.DOTALL,
+)
+
+
+def place(path, offset):
+    return [] if path == "." else [int(step) for step in path.split("/")], int(offset)
+
+
+def value_of(text):
+    """A value, whose escapes are \\n, \\t, \\\\ and \\u{h}."""
+    return ESCAPE.sub(lambda found: ESCAPES.get(found[1]) or chr(int(found[2], 16)), text)
+
+
+def is_value(text):
+    """Whether each backslash of the text begins an escape of a value."""
+    points = [int(found[2], 16) for found in ESCAPE.finditer(text) if found[2]]
+    scalars = all(point < 0xD800 or 0xDFFF < point < 0x110000 for point in points)
+    return scalars and "\\" not in ESCAPE.sub("", text)
+
+
+def words(flag):
+    return "true" if flag else "false"
+
+
+def turns(turn, word, count):
+    taken = 0
+    while taken < count and turn():
+        taken += 1
+    return f"{word} {taken}"
+
+
+def read_line(line):
+    """The match of a line that an Editor has a call for, and else None."""
+    try:
+        fits = len(line.encode()) <= 8192
+    except UnicodeEncodeError:
+        return None
+    found = LINE.fullmatch(line) if fits else None
+    return found if found and is_value(found["value"] or "") else None
+
+
+def answer(editor, found):
+    """What a session answers to a line, by calls of an Editor."""
+    act = found.lastgroup
+    parts = found.groups()[found.re.groupindex[act]:]
+    if act == "select":
+        editor.select(place(*parts[:2]), place(*parts[2:4]))
+        return "ok\n"
+    if act == "unselect":
+        editor.unselect()
+        return "ok\n"
+    if act == "mark":
+        editor.mark(parts[0], place(*parts[1:3]), place(*parts[3:5]))
+        return "ok\n"
+    if act == "unmark":
+        return words(editor.unmark(parts[0])) + "\n"
+    if act == "exec":
+        return words(editor.exec(parts[0], value_of(parts[1] or ""))) + "\n"
+    if act == "query":
+        reply = getattr(editor, parts[0])(parts[1])
+        if parts[0] == "value":
+            return "= " + "".join(PRINTED.get(c, c) for c in reply) + "\n"
+        return words(reply) + "\n"
+    if act in ("undo", "redo"):
+        return turns(getattr(editor, act), act, int(parts[0])) + "\n"
+    if act == "stat":
+        return editor.numbers()
+    return {"html": editor.html, "tree": editor.tree, "points": editor.points}[act]()
+
+
+def reply(editor, found):
+    try:
+        return answer(editor, found)
+    except HeditError as error:
+        return FAULTS[error.status] + "\n"
+
+
+def parts_of(text):
+    """The opening line, the page and the closing line of a session, and its acts, a line each."""
+    opening, _, rest = text.partition("\n")
+    lines = rest.split("\n")
+    end = lines.index(opening.removeprefix("page <<"))
+    return opening, lines[:end], lines[end], [line for line in lines[end + 1:] if line]
+
+
+def by_calls(text, options):
+    """The transcript of the acts that an Editor has calls for, by these calls, and the session that
+    has these acts alone."""
+    opening, page, closing, acts = parts_of(text)
+    known = [(line, found) for line in acts if (found := read_line(line))]
+    with Editor("\n".join(page), **options) as editor:
+        transcript = "".join(reply(editor, found) for _, found in known)
+    return transcript, "\n".join([opening, *page, closing, *(line for line, _ in known), ""])
+
+
+def options_of(arguments):
+    """The limits that the words ask for; None where they ask for something else."""
+    if not arguments or arguments[0] != "run":
+        return None
+    words, options = " ".join(arguments[1:]).replace("=", " ").split(), {}
+    names = {"--cap": "label_cap", "--undo": "undo_depth"}
+    while words:
+        if len(words) < 2 or words[0] not in names or not words[1].isdecimal():
+            return None
+        options[names[words[0]]] = int(words[1])
+        words = words[2:]
+    return options
+
+
+def main(folders):
+    whole, calls, bad = 0, 0, []
+    for stdin in sorted(path for folder in folders for path in Path(folder).glob("*.stdin")):
+        arguments = stdin.with_suffix(".args").read_text().split("\n")[:-1]
+        text, wanted = stdin.read_bytes(), stdin.with_suffix(".stdout").read_bytes()
+        status = int(stdin.with_suffix(".status").read_text())
+        whole += 1
+        if session(text, arguments) != (status, wanted):
+            bad.append(f"{stdin} as a session")
+        options = options_of(arguments)
+        if options is None or status != 0:
+            continue
+        calls += 1
+        transcript, text = by_calls(text.decode(errors="surrogateescape"), options)
+        if session(text.encode(), arguments) != (0, transcript.encode()):
+            bad.append(f"{stdin} call by call")
+    print(f"hosts: {whole} stored sessions as sessions, {calls} call by call; {len(bad)} differ")
+    for name in bad[:20]:
+        print(name)
+    return 1 if bad else 0
+
+
+if __name__ == "__main__":
+    sys.exit(main(sys.argv[1:]))

@@ -1,0 +1,177 @@
+/* hedit.h: the engine behind a contenteditable region, for programs in C and in languages that
+ * call C.
+ *
+ * Link with libhedit_c.a (crates/hedit_c) and with liblibc_c.a of the toolchain, which calls
+ * malloc, realloc and free.
+ *
+ *     cc host.c -I include crates/hedit_c/out/libhedit_c.a KIT/c/liblibc_c.a
+ *
+ * UNITS. A text is bytes in UTF-8 and their count, without a terminating zero. A path is an array
+ * of numbers and their count: the index of a child in each node on the way from the document
+ * down. An offset counts characters (code points) in a text, and children in an element. Lengths
+ * and capacities are in bytes.
+ *
+ * POINTERS. No pointer may be NULL, also where its count is 0, and what is written may not
+ * overlap anything else that is passed. The library reads and writes in what is passed only while
+ * the call runs; it keeps no pointer of yours, and gives out none of its own but that in
+ * hedit_editor.
+ *
+ * BUFFERS. A call that gives a text takes a buffer with its capacity, and writes the text's
+ * length to *length. Where the text is longer than the buffer, the status is HEDIT_TOO_SMALL, the
+ * buffer is as before and nothing is lost: call again with *length bytes. What stands behind the
+ * text in a larger buffer is as before.
+ *
+ * ALL OR NOTHING. After any status but HEDIT_DONE and HEDIT_NO the editor is as before the call
+ * (hedit_open has closed it).
+ *
+ * WHAT THE CALLER OWES. Nothing checks these:
+ * - A hedit_editor is {NULL}, or as the last call left it. One whose pointer is made up, is
+ *   copied and then used beside the copy, or comes from another process can't be told from a good
+ *   one: the behaviour is undefined, as with a freed FILE *. A closed one is told: HEDIT_CLOSED.
+ * - One call at a time for an editor, and its calls come from one thread. Different editors don't
+ *   share anything.
+ * - malloc, realloc and free come from one allocator, and malloc and realloc align a block to
+ *   each power of two up to 16 that divides its size.
+ * - No call comes from a signal handler, or from the forked child of a process with threads.
+ */
+#ifndef HEDIT_H
+#define HEDIT_H
+
+#include <stddef.h>
+#include <stdint.h>
+
+#ifdef __cplusplus
+extern "C" {
+#endif
+
+/* How a call ended. */
+enum hedit_status {
+    HEDIT_DONE = 0,            /* it was done; where the call answers, the answer is true */
+    HEDIT_NO = 1,              /* the answer is false */
+    HEDIT_MEMORY = 5,          /* malloc gave nothing */
+    HEDIT_PAGE_REFUSED = 6,    /* the bytes are no page */
+    HEDIT_TOO_SMALL = 9,       /* the buffer is too small; *length is what it needs */
+    HEDIT_FULL = 10,           /* the command would have made a node whose number reaches the cap */
+    HEDIT_DEEP = 11,           /* the document is deeper than 250 */
+    HEDIT_BAD_PLACE = 12,      /* a path names no node, or an offset is past its length */
+    HEDIT_TOO_MANY_MARKS = 13, /* 16 marks of other names are there */
+    HEDIT_BAD_ARGUMENT = 14,   /* a number names nothing, a text isn't UTF-8, or a limit is 0 */
+    HEDIT_CLOSED = 15          /* the editor isn't open */
+};
+
+/* An editor, or none. It is yours: put it where you like, start it as HEDIT_CLOSED_EDITOR, and
+ * hand its address to the calls. Its memory is the library's, until hedit_close. */
+typedef struct hedit_editor {
+    void *state;
+} hedit_editor;
+
+#define HEDIT_CLOSED_EDITOR {NULL}
+
+/* Why a page is refused. */
+enum hedit_page_kind {
+    HEDIT_PAGE_NOT_UTF8 = 1,
+    HEDIT_PAGE_BAD_TAG = 2,
+    HEDIT_PAGE_UNCLOSED = 3,
+    HEDIT_PAGE_STRAY_END = 4,
+    HEDIT_PAGE_BAD_ATTRIBUTE = 5,
+    HEDIT_PAGE_REPEATED_ATTRIBUTE = 6,
+    HEDIT_PAGE_UNKNOWN_REFERENCE = 7,
+    HEDIT_PAGE_UNSUPPORTED_ELEMENT = 8,
+    HEDIT_PAGE_TOO_DEEP = 9,
+    HEDIT_PAGE_TOO_LONG = 10,
+    HEDIT_PAGE_FULL = 11
+};
+
+/* Where a page is refused, in bytes from its start, and why. */
+typedef struct hedit_refusal {
+    size_t at;
+    uint32_t kind;
+} hedit_refusal;
+
+/* Opens a page in *editor, and closes what it held before, also where the page is refused. No
+ * node gets a number from label_cap on (2,000,000 is usual), and undo_depth commands can be
+ * undone (100, say); neither may be 0. HEDIT_DONE, HEDIT_PAGE_REFUSED with *refusal,
+ * HEDIT_MEMORY, HEDIT_BAD_ARGUMENT. Only HEDIT_PAGE_REFUSED gives *refusal a meaning. */
+uint32_t hedit_open(hedit_editor *editor, const uint8_t *page, size_t page_length,
+                    uint32_t label_cap, size_t undo_depth, hedit_refusal *refusal);
+
+/* Closes *editor and frees its memory. A closed one stays closed. */
+void hedit_close(hedit_editor *editor);
+
+/* Executes a command by its name, in any case, as "bold" or "fontName", with a value, which is
+ * empty for most. HEDIT_DONE, or HEDIT_NO where the command isn't supported or not enabled or
+ * refuses the value; HEDIT_FULL, HEDIT_DEEP, HEDIT_MEMORY, HEDIT_BAD_ARGUMENT, HEDIT_CLOSED. */
+uint32_t hedit_exec(hedit_editor *editor, const uint8_t *name, size_t name_length,
+                    const uint8_t *value, size_t value_length);
+
+/* Takes one step back, or forth again. HEDIT_DONE, HEDIT_NO where there is none, HEDIT_CLOSED.
+ * They take no memory. */
+uint32_t hedit_undo(hedit_editor *editor);
+uint32_t hedit_redo(hedit_editor *editor);
+
+/* Selects from an anchor to a focus. HEDIT_DONE, HEDIT_BAD_PLACE, HEDIT_MEMORY, HEDIT_CLOSED. */
+uint32_t hedit_select(hedit_editor *editor, const uint32_t *anchor, size_t anchor_length,
+                      uint32_t anchor_offset, const uint32_t *focus, size_t focus_length,
+                      uint32_t focus_offset);
+
+/* Gives the selection up. HEDIT_DONE, HEDIT_CLOSED. */
+uint32_t hedit_unselect(hedit_editor *editor);
+
+/* Gives a name to what is between two points; the mark goes along with the text. A mark of that
+ * name is set anew. The name is any bytes; letters and digits keep hedit_view's lines readable.
+ * HEDIT_DONE, HEDIT_BAD_PLACE, HEDIT_TOO_MANY_MARKS, HEDIT_MEMORY, HEDIT_CLOSED. */
+uint32_t hedit_mark(hedit_editor *editor, const uint8_t *name, size_t name_length,
+                    const uint32_t *anchor, size_t anchor_length, uint32_t anchor_offset,
+                    const uint32_t *focus, size_t focus_length, uint32_t focus_offset);
+
+/* Takes the mark of a name out. HEDIT_DONE, HEDIT_NO where there is none, HEDIT_MEMORY,
+ * HEDIT_CLOSED. */
+uint32_t hedit_unmark(hedit_editor *editor, const uint8_t *name, size_t name_length);
+
+/* What can be asked of a command. */
+enum hedit_question {
+    HEDIT_SUPPORTED = 0, /* whether there is such a command */
+    HEDIT_ENABLED = 1,   /* whether there is something for it to work in */
+    HEDIT_INDETERM = 2,  /* whether it is so for a part of the selection only */
+    HEDIT_STATE = 3,     /* whether it is so */
+    HEDIT_VALUE = 4      /* its value: a font, a colour, a block's name */
+};
+
+/* Asks a question about the command that a name names. The first four give *flag, 0 or 1, and an
+ * empty text; HEDIT_VALUE gives the text, and *flag is 0. Without an error *length is the text's.
+ * HEDIT_DONE, HEDIT_TOO_SMALL, HEDIT_MEMORY, HEDIT_BAD_ARGUMENT, HEDIT_CLOSED. */
+uint32_t hedit_query(hedit_editor *editor, uint32_t question, const uint8_t *name,
+                     size_t name_length, uint32_t *flag, uint8_t *buffer, size_t capacity,
+                     size_t *length);
+
+/* What is printed of an editor, in whole lines. */
+enum hedit_view_kind {
+    HEDIT_HTML = 0,   /* the page as HTML, with a line feed at the end */
+    HEDIT_TREE = 1,   /* a line for each node */
+    HEDIT_POINTS = 2, /* the selection and the marks */
+    HEDIT_NUMBERS = 3 /* nodes, characters, the next node's number, steps to undo and to redo */
+};
+
+/* Gives what is printed of the editor. HEDIT_DONE, HEDIT_TOO_SMALL, HEDIT_MEMORY,
+ * HEDIT_BAD_ARGUMENT, HEDIT_CLOSED. */
+uint32_t hedit_view(hedit_editor *editor, uint32_t kind, uint8_t *buffer, size_t capacity,
+                    size_t *length);
+
+/* Runs a session, as `hedit run` does over its standard input, and gives the transcript. The
+ * status is the number that the program exits with: HEDIT_DONE, HEDIT_MEMORY, HEDIT_PAGE_REFUSED,
+ * where the transcript is the line that says so, or 7 for an input of more than 8,388,608 bytes;
+ * or HEDIT_TOO_SMALL. It needs no editor. */
+uint32_t hedit_session(const uint8_t *input, size_t input_length, uint8_t *output,
+                       size_t capacity, size_t *written);
+
+/* The same with the words of a command line, as "run\n--undo\n9\n": each line is a word. 2 where
+ * they are not in the program's grammar, and 8 where a line of a log that is replayed is refused. */
+uint32_t hedit_session_with_words(const uint8_t *words, size_t words_length, const uint8_t *input,
+                                  size_t input_length, uint8_t *output, size_t capacity,
+                                  size_t *written);
+
+#ifdef __cplusplus
+}
+#endif
+
+#endif
