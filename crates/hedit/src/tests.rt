@@ -12,6 +12,7 @@ mod words;
 use edit_io::{MemorySink, MemorySource, SliceSource, SureSink};
 use edit_session::{Status, run_session};
 use std::alloc::{AllocError, Global};
+use std::process::Abort;
 use std::test::Fail;
 
 const SESSION: &str = "page <<END\n<div><p a=\"1\">x>y</p></div>\nEND\nhtml\ntree\njump\n";
@@ -20,17 +21,17 @@ const ANSWER: &str =
     "<div><p a=\"1\">x&gt;y</p></div>\n<div>\n  <p a=\"1\">\n    \"x>y\"\n! 2 unknown act\n";
 
 // The words of a command line.
-fn words_of(alloc: Global, words: &[&str]) -> Result<Vec<String>, AllocError> {
-    let mut all = Vec::new(alloc);
-    for word in words {
-        all.push(word.to_string(alloc)?)?;
+fn words_of(alloc: Global, line: &str) -> Result<Vec<String>, AllocError> {
+    let mut words = Vec::new(alloc);
+    for word in line.split_whitespace() {
+        words.push(word.to_string(alloc)?)?;
     }
-    Ok(all)
+    Ok(words)
 }
 
 // What the program answers to these words and this input.
-fn answer_to(alloc: Global, words: &[&str], input: &[u8]) -> Result<(Status, Vec<u8>), AllocError> {
-    let words = words_of(alloc, words)?;
+fn answer_to(alloc: Global, line: &str, input: &[u8]) -> Result<(Status, Vec<u8>), AllocError> {
+    let words = words_of(alloc, line)?;
     let mut source = SliceSource {
         bytes: input,
         at: 0,
@@ -43,137 +44,144 @@ fn answer_to(alloc: Global, words: &[&str], input: &[u8]) -> Result<(Status, Vec
     Ok((status, taken))
 }
 
-#[test]
-fn answers_sessions(rt: HostRuntime) -> Result<(), Fail> {
-    for (words, input, status, output) in [
-        (["run"].as_slice(), SESSION, Status::Done, ANSWER),
-        (
-            ["run", "--undo", "7", "--cap=4"].as_slice(),
-            SESSION,
-            Status::Done,
-            ANSWER,
-        ),
-        (
-            ["run", "--cap", "3"].as_slice(),
-            SESSION,
-            Status::PageRefused,
-            "! page 14 full\n",
-        ),
-        (
-            ["run"].as_slice(),
-            "page <<END\nEND\n\nhtml\ntree\nhtml ",
-            Status::Done,
-            "\n! 1 syntax\n",
-        ),
-        (
-            ["run"].as_slice(),
-            "html",
-            Status::PageRefused,
-            "! page 0 no-opening\n",
-        ),
-        (
-            ["run"].as_slice(),
-            "page <<A\n",
-            Status::PageRefused,
-            "! page 9 no-closing\n",
-        ),
-        (
-            ["run"].as_slice(),
-            "page <<A\n<p>\n</b>\nA\n",
-            Status::PageRefused,
-            "! page 6 stray-end\n",
-        ),
-        (["run", "--cap", "0"].as_slice(), SESSION, Status::Usage, ""),
-        (
-            ["run", "--deny", ","].as_slice(),
-            SESSION,
-            Status::Usage,
-            "",
-        ),
-        (
-            ["run", "--deny=bold", "--deny=bold"].as_slice(),
-            SESSION,
-            Status::Usage,
-            "",
-        ),
-        (
-            ["run", "--cap", "1", "--cap", "2"].as_slice(),
-            SESSION,
-            Status::Usage,
-            "",
-        ),
-        (["paint"].as_slice(), SESSION, Status::Usage, ""),
-        ([].as_slice(), SESSION, Status::Usage, ""),
-        (
-            ["check"].as_slice(),
-            "<p>x</p>",
-            Status::Done,
-            "page ok nodes 3 chars 1\n",
-        ),
-        (
-            ["check"].as_slice(),
-            "<div><p",
-            Status::PageRefused,
-            "! page 7 unclosed\n",
-        ),
-        (
-            ["check"].as_slice(),
-            "<p a=\"1\" a=\"2\">x</p>",
-            Status::PageRefused,
-            "! page 10 repeated-attribute\n",
-        ),
-        (
-            ["check"].as_slice(),
-            "<div></p></div>",
-            Status::PageRefused,
-            "! page 7 stray-end\n",
-        ),
-        (
-            ["check"].as_slice(),
-            "&copy;",
-            Status::PageRefused,
-            "! page 1 unknown-reference\n",
-        ),
-        (
-            ["check"].as_slice(),
-            "<script></script>",
-            Status::PageRefused,
-            "! page 7 unsupported-element\n",
-        ),
-        (
-            ["check"].as_slice(),
-            "<p/>",
-            Status::PageRefused,
-            "! page 2 bad-attribute\n",
-        ),
-        (
-            ["check"].as_slice(),
-            "<1",
-            Status::PageRefused,
-            "! page 1 bad-tag\n",
-        ),
-        (
-            ["check"].as_slice(),
-            "<p>&#0;</p>",
-            Status::PageRefused,
-            "! page 6 unknown-reference\n",
-        ),
-    ] {
-        let (ended, written) = answer_to(rt.alloc(), words, input.as_bytes())?;
-        assert_eq!(rt; ended, status, "on {input:?}");
-        assert_eq!(rt; written.as_slice(), output.as_bytes(), "on {input:?}");
+/// A row of a table: a command line, an input, how the program ends, and what it has written then.
+struct Run(&'static str, &'static str, Status, &'static str);
+
+/// Asserts each row of a table.
+fn assert_runs(rt: &impl Abort, alloc: Global, rows: &[Run]) -> Result<(), Fail> {
+    for Run(line, input, status, output) in rows {
+        let (ended, written) = answer_to(alloc, line, input.as_bytes())?;
+        assert_eq!(rt; ended, *status, "{line} on {input:?}");
+        assert_eq!(rt;
+            written.as_slice(),
+            output.as_bytes(),
+            "{line} on {input:?}"
+        );
     }
     Ok(())
 }
 
+/// A row of a table: a command line, a page, the acts of a session on it, and what they answer.
+struct Row(&'static str, &'static str, &'static str, &'static str);
+
+/// What a session on a page answers.
+fn answer(alloc: Global, line: &str, page: &str, acts: &str) -> Result<Vec<u8>, AllocError> {
+    let input = format!(in alloc; "page <<END\n{page}\nEND\n{acts}")?;
+    let (status, written) = answer_to(alloc, line, input.as_bytes())?;
+    if status == Status::Done {
+        Ok(written)
+    } else {
+        Err(AllocError)
+    }
+}
+
+/// Asserts each row of a table.
+fn assert_rows(rt: &impl Abort, alloc: Global, rows: &[Row]) -> Result<(), Fail> {
+    for Row(line, page, acts, want) in rows {
+        let written = answer(alloc, line, page, acts)?;
+        assert_eq!(rt; written.as_slice(), want.as_bytes(), "{line} on {acts:?}");
+    }
+    Ok(())
+}
+
+static RUNS: [Run; 22] = [
+    Run("run", SESSION, Status::Done, ANSWER),
+    Run("run --undo 7 --cap=4", SESSION, Status::Done, ANSWER),
+    Run(
+        "run --cap 3",
+        SESSION,
+        Status::PageRefused,
+        "! page 14 full\n",
+    ),
+    Run(
+        "run",
+        "page <<END\nEND\n\nhtml\ntree\nhtml ",
+        Status::Done,
+        "\n! 1 syntax\n",
+    ),
+    Run("run", "html", Status::PageRefused, "! page 0 no-opening\n"),
+    Run(
+        "run",
+        "page <<A\n",
+        Status::PageRefused,
+        "! page 9 no-closing\n",
+    ),
+    Run(
+        "run",
+        "page <<A\n<p>\n</b>\nA\n",
+        Status::PageRefused,
+        "! page 6 stray-end\n",
+    ),
+    Run("run --cap 0", SESSION, Status::Usage, ""),
+    Run("run --deny ,", SESSION, Status::Usage, ""),
+    Run("run --deny=bold --deny=bold", SESSION, Status::Usage, ""),
+    Run("run --cap 1 --cap 2", SESSION, Status::Usage, ""),
+    Run("paint", SESSION, Status::Usage, ""),
+    Run("", SESSION, Status::Usage, ""),
+    Run(
+        "check",
+        "<p>x</p>",
+        Status::Done,
+        "page ok nodes 3 chars 1\n",
+    ),
+    Run(
+        "check",
+        "<div><p",
+        Status::PageRefused,
+        "! page 7 unclosed\n",
+    ),
+    Run(
+        "check",
+        "<p a=\"1\" a=\"2\">x</p>",
+        Status::PageRefused,
+        "! page 10 repeated-attribute\n",
+    ),
+    Run(
+        "check",
+        "<div></p></div>",
+        Status::PageRefused,
+        "! page 7 stray-end\n",
+    ),
+    Run(
+        "check",
+        "&copy;",
+        Status::PageRefused,
+        "! page 1 unknown-reference\n",
+    ),
+    Run(
+        "check",
+        "<script></script>",
+        Status::PageRefused,
+        "! page 7 unsupported-element\n",
+    ),
+    Run(
+        "check",
+        "<p/>",
+        Status::PageRefused,
+        "! page 2 bad-attribute\n",
+    ),
+    Run("check", "<1", Status::PageRefused, "! page 1 bad-tag\n"),
+    Run(
+        "check",
+        "<p>&#0;</p>",
+        Status::PageRefused,
+        "! page 6 unknown-reference\n",
+    ),
+];
+
+#[test]
+fn answers_sessions(rt: HostRuntime) -> Result<(), Fail> {
+    assert_runs(&rt, rt.alloc(), &RUNS)
+}
+
 #[test]
 fn answers_bytes_and_beginnings_of_pages(rt: HostRuntime) -> Result<(), Fail> {
-    let (ended, written) = answer_to(rt.alloc(), ["check"].as_slice(), [255].as_slice())?;
+    let (ended, written) = answer_to(rt.alloc(), "check", [255].as_slice())?;
     assert_eq!(rt; ended, Status::PageRefused);
     assert_eq!(rt; written.as_slice(), b"! page 0 not-utf8\n".as_slice());
     let page = b"<div><p a=\"1\">x</p></div>";
     for k in 1..25 {
-        let (ended, written) = answer_to(rt.alloc(), ["check"].as_slice(), &page[..k])?;
+        let (ended, written) = answer_to(rt.alloc(), "check", &page[..k])?;
         let wanted = format!(in rt.alloc(); "! page {k} unclosed\n")?;
         assert_eq!(rt; ended, Status::PageRefused);
         assert_eq!(rt; written.as_slice(), wanted.as_bytes());
@@ -181,51 +189,62 @@ fn answers_bytes_and_beginnings_of_pages(rt: HostRuntime) -> Result<(), Fail> {
     Ok(())
 }
 
-// So many start tags of `b`, and so many end tags.
-fn nested(alloc: Global, levels: usize) -> Result<Vec<u8>, AllocError> {
-    let mut page = Vec::new(alloc);
-    for _ in 0..levels {
-        page.extend_from_slice(b"<b>")?;
-    }
-    for _ in 0..levels {
-        page.extend_from_slice(b"</b>")?;
-    }
-    Ok(page)
+// A long page.
+#[derive(Clone, Copy, Debug)]
+enum Long {
+    // So many start tags of `b`, and so many end tags.
+    Nested(usize),
+    // So many letters.
+    Letters(usize),
 }
+
+fn long_page(alloc: Global, long: Long) -> Result<Vec<u8>, AllocError> {
+    match long {
+        Long::Nested(levels) => {
+            let mut page = b"<b>".repeat(alloc, levels)?;
+            page.extend_from_slice(&b"</b>".repeat(alloc, levels)?)?;
+            Ok(page)
+        }
+        Long::Letters(count) => vec![in alloc; b'a'; count],
+    }
+}
+
+static LIMITS: [(Long, Status, &str); 6] = [
+    (
+        Long::Nested(200),
+        Status::Done,
+        "page ok nodes 201 chars 0\n",
+    ),
+    (
+        Long::Nested(201),
+        Status::PageRefused,
+        "! page 601 too-deep\n",
+    ),
+    (
+        Long::Letters(1048577),
+        Status::Done,
+        "page ok nodes 2 chars 1048577\n",
+    ),
+    (
+        Long::Letters(4194305),
+        Status::PageRefused,
+        "! page 4194304 too-long\n",
+    ),
+    (
+        Long::Letters(8388608),
+        Status::PageRefused,
+        "! page 4194304 too-long\n",
+    ),
+    (Long::Letters(8388609), Status::TooLong, ""),
+];
 
 #[test]
 fn answers_at_the_limits(rt: HostRuntime) -> Result<(), Fail> {
-    for (page, status, output) in [
-        (
-            nested(rt.alloc(), 200)?,
-            Status::Done,
-            "page ok nodes 201 chars 0\n",
-        ),
-        (
-            nested(rt.alloc(), 201)?,
-            Status::PageRefused,
-            "! page 601 too-deep\n",
-        ),
-        (
-            vec![in rt.alloc(); b'a'; 1048577]?,
-            Status::Done,
-            "page ok nodes 2 chars 1048577\n",
-        ),
-        (
-            vec![in rt.alloc(); b'a'; 4194305]?,
-            Status::PageRefused,
-            "! page 4194304 too-long\n",
-        ),
-        (
-            vec![in rt.alloc(); b'a'; 8388608]?,
-            Status::PageRefused,
-            "! page 4194304 too-long\n",
-        ),
-        (vec![in rt.alloc(); b'a'; 8388609]?, Status::TooLong, ""),
-    ] {
-        let (ended, written) = answer_to(rt.alloc(), ["check"].as_slice(), &page)?;
-        assert_eq!(rt; ended, status);
-        assert_eq!(rt; written.as_slice(), output.as_bytes());
+    for (long, status, output) in &LIMITS {
+        let page = long_page(rt.alloc(), *long)?;
+        let (ended, written) = answer_to(rt.alloc(), "check", &page)?;
+        assert_eq!(rt; ended, *status, "{long:?}");
+        assert_eq!(rt; written.as_slice(), output.as_bytes(), "{long:?}");
     }
     Ok(())
 }
@@ -251,7 +270,7 @@ fn answer_failing(
     read: u64,
     write: u64,
 ) -> Result<(Status, MemorySource, MemorySink), AllocError> {
-    let words = words_of(alloc, ["run"].as_slice())?;
+    let words = words_of(alloc, "run")?;
     let mut source = MemorySource {
         bytes: session.as_bytes().to_vec(alloc)?,
         at: 0,

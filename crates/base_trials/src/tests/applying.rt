@@ -3,13 +3,14 @@
 ghost use Rattle.std.specs.Prelude.{◌<◌, IfOk, length};
 ghost use Rattle.step_text.specs.Applying.{made_length, text_length};
 
+use super::trees::{Trial, found, label};
 use node_arena::{Arena, Content};
 use std::alloc::Global;
 use std::test::Fail;
 use step_text::{Attributes, Chars, Made, Name, StepFault, StepLine, apply_step};
 
 // A line whose contents are short.
-#[derive(Clone, Copy, Debug)]
+#[derive(Clone, Copy, PartialEq, Eq, Debug)]
 enum Line {
     Entry,
     Element(u32, &'static [u8]),
@@ -81,13 +82,12 @@ fn step(alloc: Global, line: Line) -> Result<StepLine, Fail>
     Ok(step)
 }
 
-fn refusal(arena: &mut Arena, alloc: Global, line: Line) -> Result<Option<StepFault>, Fail> {
+fn refusal(alloc: Global, arena: &mut Arena, line: Line) -> Result<Option<StepFault>, Fail> {
     Ok(apply_step(arena, step(alloc, line)?).err())
 }
 
 // The document has 1 <p> with 2 "x" and 3 <b></b>, then 4 <div></div>. Loose are 5 <i> with 6 "x", and a comment, 7.
-fn page(alloc: Global) -> Result<Arena, Fail> {
-    let mut arena = Arena::new(alloc, 20)?;
+fn page(alloc: Global, arena: &mut Arena) -> Result<(), Fail> {
     let made = [
         Line::Element(1, b"p"),
         Line::Text(2),
@@ -97,7 +97,7 @@ fn page(alloc: Global) -> Result<Arena, Fail> {
         Line::Text(6),
     ];
     for line in made {
-        let _ = refusal(&mut arena, alloc, line)?;
+        let _ = refusal(alloc, arena, line)?;
     }
     arena.make_remark(text(alloc, 'x')?)?;
     let put = [
@@ -108,16 +108,15 @@ fn page(alloc: Global) -> Result<Arena, Fail> {
         Line::Insert(6, 5, None),
     ];
     for line in put {
-        let _ = refusal(&mut arena, alloc, line)?;
+        let _ = refusal(alloc, arena, line)?;
     }
-    Ok(arena)
+    Ok(())
 }
 
 // The labels of the parent and of the next sibling of the node of a label.
-fn place(arena: &Arena, label: u32) -> Option<(Option<u32>, Option<u32>)> {
-    let node = arena.find(label)?;
-    let parent = arena.parent(node).map(|parent| parent.label);
-    Some((parent, arena.next(node).map(|next| next.label)))
+fn place(arena: &Arena, of: u32) -> Option<(Option<u32>, Option<u32>)> {
+    let node = arena.find(of)?;
+    Some((label(arena.parent(node)), label(arena.next(node))))
 }
 
 // The first character of a Text node, or the value of the first attribute of an element.
@@ -133,149 +132,187 @@ const BAD_LABEL: Option<StepFault> = Some(StepFault::BadLabel);
 
 const BAD_PLACE: Option<StepFault> = Some(StepFault::BadPlace);
 
-#[test]
-fn refuses_labels(rt: HostRuntime) -> Result<(), Fail> {
-    let mut arena = page(rt.alloc())?;
-    let lines = [
-        Line::Text(7),
-        Line::Text(20),
-        Line::Element(0, b"p"),
-        Line::Insert(8, 0, None),
-        Line::Insert(5, 9, None),
-        Line::Insert(5, 0, Some(8)),
-        Line::Remove(8),
-        Line::Move(8, 0, None),
-        Line::Move(1, 8, None),
-        Line::Move(1, 0, Some(8)),
-        Line::Words(8, 'y'),
-        Line::Tag(8, b"p"),
-        // these are bad places too
-        Line::Insert(1, 1, Some(8)),
-        Line::Move(5, 2, Some(8)),
-    ];
-    for line in lines {
-        assert_eq!(rt;
-            refusal(&mut arena, rt.alloc(), line)?,
-            BAD_LABEL,
-            "{line:?}"
-        );
+const TOO_DEEP: Option<StepFault> = Some(StepFault::TooDeep);
+
+static LABELS: [(Line, Option<StepFault>); 14] = [
+    (Line::Text(7), BAD_LABEL),
+    (Line::Text(20), BAD_LABEL),
+    (Line::Element(0, b"p"), BAD_LABEL),
+    (Line::Insert(8, 0, None), BAD_LABEL),
+    (Line::Insert(5, 9, None), BAD_LABEL),
+    (Line::Insert(5, 0, Some(8)), BAD_LABEL),
+    (Line::Remove(8), BAD_LABEL),
+    (Line::Move(8, 0, None), BAD_LABEL),
+    (Line::Move(1, 8, None), BAD_LABEL),
+    (Line::Move(1, 0, Some(8)), BAD_LABEL),
+    (Line::Words(8, 'y'), BAD_LABEL),
+    (Line::Tag(8, b"p"), BAD_LABEL),
+    // these are bad places too
+    (Line::Insert(1, 1, Some(8)), BAD_LABEL),
+    (Line::Move(5, 2, Some(8)), BAD_LABEL),
+];
+
+static PLACES: [(Line, Option<StepFault>); 21] = [
+    (Line::Insert(1, 4, None), BAD_PLACE),
+    (Line::Insert(0, 5, None), BAD_PLACE),
+    (Line::Insert(5, 2, None), BAD_PLACE),
+    (Line::Insert(5, 7, None), BAD_PLACE),
+    (Line::Insert(5, 5, None), BAD_PLACE),
+    (Line::Insert(5, 0, Some(2)), BAD_PLACE),
+    (Line::Insert(5, 0, Some(7)), BAD_PLACE),
+    (Line::Remove(0), BAD_PLACE),
+    (Line::Remove(5), BAD_PLACE),
+    (Line::Move(5, 0, None), BAD_PLACE),
+    (Line::Move(0, 1, None), BAD_PLACE),
+    (Line::Move(1, 3, None), BAD_PLACE),
+    (Line::Move(1, 1, None), BAD_PLACE),
+    (Line::Move(1, 0, Some(1)), BAD_PLACE),
+    (Line::Move(3, 2, None), BAD_PLACE),
+    (Line::Words(1, 'y'), BAD_PLACE),
+    (Line::Words(7, 'y'), BAD_PLACE),
+    (Line::Words(0, 'y'), BAD_PLACE),
+    (Line::Tag(2, b"p"), BAD_PLACE),
+    (Line::Tag(1, b"b"), BAD_PLACE),
+    (Line::Tag(0, b""), BAD_PLACE),
+];
+
+static APPLIED: [(Line, Option<StepFault>); 11] = [
+    (Line::Entry, None),
+    (Line::Insert(5, 0, Some(4)), None),
+    (Line::Move(2, 5, Some(6)), None),
+    (Line::Move(4, 0, None), None),
+    (Line::Remove(3), None),
+    (Line::Insert(7, 4, None), None),
+    (Line::Words(6, 'y'), None),
+    (Line::Tag(1, b"p"), None),
+    (Line::Text(12), None),
+    (Line::Move(12, 1, None), BAD_PLACE),
+    (Line::Insert(12, 1, None), None),
+];
+
+static DEEP: [(Line, Option<StepFault>); 12] = [
+    (Line::Insert(1, 0, None), None),
+    (Line::Insert(1_001, 1_000, None), TOO_DEEP),
+    (Line::Insert(1_001, 999, None), None),
+    (Line::Insert(1_002, 1_000, Some(3)), BAD_PLACE),
+    (Line::Insert(1_002, 0, None), None),
+    (Line::Move(1, 1_002, None), TOO_DEEP),
+    (Line::Move(2, 1_002, None), None),
+    // a loose tree may be deeper
+    (Line::Remove(1), None),
+    (Line::Remove(1_002), None),
+    (Line::Move(2, 1, None), None),
+    (Line::Insert(1_002, 1_000, None), None),
+    (Line::Insert(1, 0, None), TOO_DEEP),
+];
+
+// Applies lines, and answers the first that is refused otherwise than its row says.
+fn first_other(
+    alloc: Global,
+    arena: &mut Arena,
+    rows: &[(Line, Option<StepFault>)],
+) -> Result<Option<Line>, Fail> {
+    for (line, fault) in rows {
+        if refusal(alloc, arena, *line)? != *fault {
+            return Ok(Some(*line));
+        }
     }
-    assert_eq!(rt; arena.next_label(), 8);
-    Ok(())
+    Ok(None)
 }
 
-#[test]
-fn refuses_places(rt: HostRuntime) -> Result<(), Fail> {
-    let mut arena = page(rt.alloc())?;
-    let lines = [
-        Line::Insert(1, 4, None),
-        Line::Insert(0, 5, None),
-        Line::Insert(5, 2, None),
-        Line::Insert(5, 7, None),
-        Line::Insert(5, 5, None),
-        Line::Insert(5, 0, Some(2)),
-        Line::Insert(5, 0, Some(7)),
-        Line::Remove(0),
-        Line::Remove(5),
-        Line::Move(5, 0, None),
-        Line::Move(0, 1, None),
-        Line::Move(1, 3, None),
-        Line::Move(1, 1, None),
-        Line::Move(1, 0, Some(1)),
-        Line::Move(3, 2, None),
-        Line::Words(1, 'y'),
-        Line::Words(7, 'y'),
-        Line::Words(0, 'y'),
-        Line::Tag(2, b"p"),
-        Line::Tag(1, b"b"),
-        Line::Tag(0, b""),
-    ];
-    for line in lines {
-        assert_eq!(rt;
-            refusal(&mut arena, rt.alloc(), line)?,
-            BAD_PLACE,
-            "{line:?}"
-        );
+fn refuses_labels(alloc: Global, arena: &mut Arena) -> Result<Option<Line>, Fail> {
+    page(alloc, arena)?;
+    let other = first_other(alloc, arena, &LABELS)?;
+    if arena.next_label() != 8 {
+        return Err("a label was drawn".into());
     }
-    assert_eq!(rt;
-        (place(&arena, 1), contents(&arena, 1)),
-        (Some((Some(0), Some(4))), None)
-    );
-    Ok(())
+    Ok(other)
 }
 
-#[test]
-fn applies_lines(rt: HostRuntime) -> Result<(), Fail> {
-    let mut arena = page(rt.alloc())?;
-    let lines = [
-        Line::Entry,
-        Line::Insert(5, 0, Some(4)),
-        Line::Move(2, 5, Some(6)),
-        Line::Move(4, 0, None),
-        Line::Remove(3),
-        Line::Insert(7, 4, None),
-        Line::Words(6, 'y'),
-        Line::Tag(1, b"p"),
-        Line::Text(12),
-        Line::Move(12, 1, None),
-        Line::Insert(12, 1, None),
-    ];
-    for line in lines {
-        let wanted = match line {
-            Line::Move(12, _, _) => BAD_PLACE,
-            _ => None,
-        };
-        assert_eq!(rt; refusal(&mut arena, rt.alloc(), line)?, wanted, "{line:?}");
+fn refuses_places(alloc: Global, arena: &mut Arena) -> Result<Option<Line>, Fail> {
+    page(alloc, arena)?;
+    let other = first_other(alloc, arena, &PLACES)?;
+    if place(arena, 1) != Some((Some(0), Some(4))) || contents(arena, 1).is_some() {
+        return Err("the paragraph changed".into());
     }
-    let places = [1, 2, 3, 4, 5, 12].map(|label| place(&arena, label));
-    let loose = Some((None, None));
-    assert_eq!(rt;
-        places,
-        [
-            Some((Some(0), Some(5))),
-            Some((Some(5), Some(6))),
-            loose,
-            Some((Some(0), None)),
-            Some((Some(0), Some(4))),
-            Some((Some(1), None)),
-        ]
-    );
-    assert_eq!(rt;
-        (contents(&arena, 6), contents(&arena, 1)),
-        (Some('y'), Some('v'))
-    );
-    assert_eq!(rt; (arena.next_label(), contents(&arena, 8)), (13, None));
-    Ok(())
+    Ok(other)
 }
 
-#[test]
-fn refuses_a_document_that_is_too_deep(rt: HostRuntime) -> Result<(), Fail> {
-    let mut arena = Arena::new(rt.alloc(), 2_000)?;
+static AFTER: [(u32, Option<u32>, Option<u32>); 6] = [
+    (1, Some(0), Some(5)),
+    (2, Some(5), Some(6)),
+    (3, None, None),
+    (4, Some(0), None),
+    (5, Some(0), Some(4)),
+    (12, Some(1), None),
+];
+
+fn is_after(arena: &Arena) -> bool {
+    for (label, parent, next) in &AFTER {
+        if place(arena, *label) != Some((*parent, *next)) {
+            return false;
+        }
+    }
+    let changed = contents(arena, 6) == Some('y') && contents(arena, 1) == Some('v');
+    changed && arena.next_label() == 13 && contents(arena, 8).is_none()
+}
+
+fn applies_lines(alloc: Global, arena: &mut Arena) -> Result<Option<Line>, Fail> {
+    page(alloc, arena)?;
+    let other = first_other(alloc, arena, &APPLIED)?;
+    if !is_after(arena) {
+        return Err("another document".into());
+    }
+    Ok(other)
+}
+
+// Makes 1,002 elements, of which each from the second to the thousandth stands in the one before.
+fn refuses_what_is_too_deep(alloc: Global, arena: &mut Arena) -> Result<Option<Line>, Fail> {
     for label in 1..1_003 {
-        let _ = refusal(&mut arena, rt.alloc(), Line::Element(label, b"p"))?;
+        let _ = refusal(alloc, arena, Line::Element(label, b"p"))?;
     }
     for label in 2..1_001 {
         let line = Line::Insert(label, label - 1, None);
-        assert_eq!(rt; refusal(&mut arena, rt.alloc(), line)?, None);
+        if refusal(alloc, arena, line)?.is_some() {
+            return Ok(Some(line));
+        }
     }
-    let too_deep = Some(StepFault::TooDeep);
-    let lines = [
-        (Line::Insert(1, 0, None), None),
-        (Line::Insert(1_001, 1_000, None), too_deep),
-        (Line::Insert(1_001, 999, None), None),
-        (Line::Insert(1_002, 1_000, Some(3)), BAD_PLACE),
-        (Line::Insert(1_002, 0, None), None),
-        (Line::Move(1, 1_002, None), too_deep),
-        (Line::Move(2, 1_002, None), None),
-        // a loose tree may be deeper
-        (Line::Remove(1), None),
-        (Line::Remove(1_002), None),
-        (Line::Move(2, 1, None), None),
-        (Line::Insert(1_002, 1_000, None), None),
-        (Line::Insert(1, 0, None), too_deep),
-    ];
-    for (line, wanted) in lines {
-        assert_eq!(rt; refusal(&mut arena, rt.alloc(), line)?, wanted, "{line:?}");
+    first_other(alloc, arena, &DEEP)
+}
+
+#[derive(Debug)]
+enum Lines {
+    WithBadLabels,
+    WithBadPlaces,
+    Applied,
+    TooDeep,
+}
+
+impl Trial for Lines {
+    type Found = Option<Line>;
+
+    fn run(&self, alloc: Global, arena: &mut Arena) -> Result<Option<Line>, Fail> {
+        match self {
+            Lines::WithBadLabels => refuses_labels(alloc, arena),
+            Lines::WithBadPlaces => refuses_places(alloc, arena),
+            Lines::Applied => applies_lines(alloc, arena),
+            Lines::TooDeep => refuses_what_is_too_deep(alloc, arena),
+        }
+    }
+}
+
+// A trial, and for how many nodes there is room beside the document.
+static TRIALS: [(Lines, u16); 4] = [
+    (Lines::WithBadLabels, 19),
+    (Lines::WithBadPlaces, 19),
+    (Lines::Applied, 19),
+    (Lines::TooDeep, 1_999),
+];
+
+#[test]
+fn lines_are_applied_or_refused(rt: HostRuntime) -> Result<(), Fail> {
+    for (trial, room) in &TRIALS {
+        assert_eq!(rt; found(rt.alloc(), *room, trial)?, None, "{trial:?}");
     }
     Ok(())
 }

@@ -2,19 +2,18 @@
 
 ghost use Rattle.std.specs.Prelude.{◌≡◌, ◌<◌};
 
-use super::trees::{element, label, name, put, words};
+use super::trees::{Trial, element, found, label, name, put, words};
 use live_range::Point;
 use node_arena::{Arena, Attributes, Chars, Kind, MakeFault, NodeList, NodeRef};
 use point_order::{child_toward, comes_before, is_in_document, is_placed};
 use std::alloc::Global;
 use std::marker::Brand;
-use std::process::Abort;
 use std::sync::ledger::{Blank, Ledger};
 use std::test::Fail;
 use step_count::Steps;
 
 // What the arena answers of a node, by labels.
-#[derive(Clone, Copy, PartialEq, Eq, Debug)]
+#[derive(Clone, Copy, PartialEq, Eq)]
 struct Facts {
     parent: Option<u32>,
     first: Option<u32>,
@@ -139,19 +138,19 @@ fn drop_last(arena: &mut Arena, node: NodeRef) -> bool {
 // <b contenteditable="TRue">ab<i></i><!----></b>x, with the labels 1 to 5 in this order.
 fn page<L: Ledger>(
     alloc: Global,
+    arena: &mut Arena,
     steps: &mut Steps<L>,
-) -> Result<(Arena, [NodeRef; 5], bool), Fail> {
-    let mut arena = Arena::new(alloc, 9)?;
+) -> Result<([NodeRef; 5], bool), Fail> {
     let top = arena.document();
-    let b = host(alloc, &mut arena, "b", &['T', 'R', 'u', 'e'])?;
-    let ab = words(alloc, &mut arena, &['a', 'b'])?;
-    let i = element(alloc, &mut arena, "i")?;
-    let c = remark(&mut arena, alloc)?;
-    let x = words(alloc, &mut arena, &['x'])?;
-    let outer = put(&mut arena, top, None, x, steps) && put(&mut arena, top, Some(x), b, steps);
-    let inner = put(&mut arena, b, None, c, steps) && put(&mut arena, b, Some(c), ab, steps);
-    let all = outer && inner && put(&mut arena, b, Some(c), i, steps);
-    Ok((arena, [b, ab, i, c, x], all))
+    let b = host(alloc, arena, "b", &['T', 'R', 'u', 'e'])?;
+    let ab = words(alloc, arena, &['a', 'b'])?;
+    let i = element(alloc, arena, "i")?;
+    let c = remark(arena, alloc)?;
+    let x = words(alloc, arena, &['x'])?;
+    let outer = put(arena, top, None, x, steps) && put(arena, top, Some(x), b, steps);
+    let inner = put(arena, b, None, c, steps) && put(arena, b, Some(c), ab, steps);
+    let all = outer && inner && put(arena, b, Some(c), i, steps);
+    Ok(([b, ab, i, c, x], all))
 }
 
 fn links_right(arena: &Arena, nodes: [NodeRef; 5]) -> bool {
@@ -222,7 +221,7 @@ fn changes_right<L: Ledger>(
     let mut list = Attributes::new(alloc);
     let swapped = swap_text(arena, ab, &mut new) && swap_list(arena, b, &mut list);
     let old = new.len() == 2 && list.len() == 1 && arena.char_count() == 4;
-    let taken = take(arena, c, steps) && shown(arena, i).is_some_and(|f| f.next.is_none());
+    let taken = take(arena, c, steps) && matches!(shown(arena, i), Some(Facts { next: None, .. }));
     let gone = take(arena, b, steps) && drop_loose(arena, b) && !arena.holds(ab);
     let again = words(alloc, arena, &[])?;
     let stale = !arena.holds(ab) && !arena.holds(i) && !arena.holds(b) && arena.holds(x);
@@ -230,47 +229,67 @@ fn changes_right<L: Ledger>(
     Ok(swapped && old && taken && gone && stale && last)
 }
 
-fn tries<L: Ledger>(rt: &impl Abort, alloc: Global, blank: Blank) -> Result<(), Fail>
+fn page_right<L: Ledger>(alloc: Global, arena: &mut Arena, blank: Blank) -> Result<bool, Fail>
     requires name { blank.name ≡ L.name }
     requires parts { blank.parts ≡ L.parts }
     requires some { 0 < blank.parts }
 {
     let mut steps = Steps::<L>::open(blank);
-    let (mut arena, nodes, all) = page(alloc, &mut steps)?;
-    assert!(rt; all);
-    assert!(rt; links_right(&arena, nodes));
-    assert!(rt; reads_right(&arena, nodes));
-    assert!(rt; edits_right(&arena, nodes));
-    assert!(rt; changes_right(alloc, &mut arena, nodes, &mut steps)?);
-    Ok(())
+    let (nodes, all) = page(alloc, arena, &mut steps)?;
+    let read = links_right(arena, nodes) && reads_right(arena, nodes) && edits_right(arena, nodes);
+    let changed = changes_right(alloc, arena, nodes, &mut steps)?;
+    Ok(all && read && changed)
 }
 
-#[test]
-fn builds_reads_and_changes(rt: HostRuntime) -> Result<(), Fail> {
-    tries::<Brand>(&rt, rt.alloc(), Blank::new(1))
+fn builds_reads_and_changes(alloc: Global, arena: &mut Arena) -> Result<bool, Fail> {
+    page_right::<Brand>(alloc, arena, Blank::new(1))
 }
 
+fn draws_no_label_at_the_cap(alloc: Global, arena: &mut Arena) -> Result<bool, Fail> {
+    let a = words(alloc, arena, &['a'])?;
+    let list = NodeList::from_slice(alloc, &[a])?;
+    let full = arena.make_element(name(alloc, "b")?, Attributes::new(alloc));
+    Ok(list.as_slice() == [a].as_slice() && full == Err(MakeFault::Full))
+}
+
+#[derive(Debug)]
+enum Nodes {
+    Changed,
+    AtTheCap,
+}
+
+impl Trial for Nodes {
+    type Found = bool;
+
+    fn run(&self, alloc: Global, arena: &mut Arena) -> Result<bool, Fail> {
+        match self {
+            Nodes::Changed => builds_reads_and_changes(alloc, arena),
+            Nodes::AtTheCap => draws_no_label_at_the_cap(alloc, arena),
+        }
+    }
+}
+
+// A trial, and for how many nodes there is room beside the document.
+static TRIALS: [(Nodes, u16); 2] = [(Nodes::Changed, 8), (Nodes::AtTheCap, 1)];
+
 #[test]
-fn draws_no_label_at_the_cap(rt: HostRuntime) -> Result<(), Fail> {
-    let mut arena = Arena::new(rt.alloc(), 2)?;
-    let a = words(rt.alloc(), &mut arena, &['a'])?;
-    let list = NodeList::from_slice(rt.alloc(), &[a])?;
-    assert_eq!(rt; list.as_slice(), [a].as_slice());
-    let full = arena.make_element(name(rt.alloc(), "b")?, Attributes::new(rt.alloc()));
-    assert_eq!(rt; full, Err(MakeFault::Full));
+fn nodes_and_points(rt: HostRuntime) -> Result<(), Fail> {
+    for (trial, room) in &TRIALS {
+        assert!(rt; found(rt.alloc(), *room, trial)?, "{trial:?}");
+    }
     Ok(())
 }
 
 #[test]
 fn drops_what_was_made(rt: HostRuntime) -> Result<(), Fail> {
-    let mut arena = Arena::new(rt.alloc(), 9)?;
     let text = Chars::from_slice(rt.alloc(), &['a'])?;
+    let mut arena = Arena::new(rt.alloc(), 9)?;
     let made = arena.make_words(text)?;
-    assert!(rt; arena.holds(made));
+    let was = arena.holds(made);
     arena.drop_made(1);
-    assert!(rt; !arena.holds(made) && arena.node_count() == 1 && arena.next_label() == 2);
+    let gone = !arena.holds(made) && arena.node_count() == 1 && arena.next_label() == 2;
     arena.rewind(1);
-    assert_eq!(rt; arena.next_label(), 1);
+    assert!(rt; was && gone && arena.next_label() == 1);
     Ok(())
 }
 

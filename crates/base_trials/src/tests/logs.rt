@@ -250,6 +250,13 @@ fn has(numbers: &[u32], at: usize) -> bool
     at < numbers.len()
 }
 
+fn count(steps: Option<Vec<Edit>>) -> usize {
+    match steps {
+        Some(steps) => steps.len(),
+        None => 0,
+    }
+}
+
 fn answer<L: Ledger>(
     session: &mut Session<Edit, Numbers, L>,
     call: Call,
@@ -279,10 +286,21 @@ fn answer<L: Ledger>(
         Call::Undo => session.undo() as usize,
         Call::Redo => session.redo() as usize,
         Call::Resume => session.resume() as usize,
-        Call::PopRedo => session.pop_redo().map_or(0, |steps| steps.len()),
-        Call::PopOldest => session.pop_oldest().map_or(0, |steps| steps.len()),
+        Call::PopRedo => count(session.pop_redo()),
+        Call::PopOldest => count(session.pop_oldest()),
     };
     Ok(answer)
+}
+
+// Whether a log has these lengths, has the next entry where it has one to redo, and has dropped one or none.
+fn has_lengths(log: &UndoLog<Edit>, lens: [usize; 3], dropped: bool) -> bool {
+    let has_next = match log.next_entry() {
+        Some(steps) => !steps.is_empty(),
+        None => false,
+    };
+    [log.undo_len(), log.redo_len(), log.entry_len()] == lens
+        && has_next == (log.redo_len() > 0)
+        && log.has_dropped() == dropped
 }
 
 fn run<L: Ledger, R: Abort>(rt: &R, alloc: Global, blank: Blank) -> Result<(), Fail>
@@ -294,20 +312,10 @@ fn run<L: Ledger, R: Abort>(rt: &R, alloc: Global, blank: Blank) -> Result<(), F
     let mut session = Session::<Edit, Numbers, L>::new(alloc, 2, [1, 2, 3, 4], steps)?;
     for (at, (call, wanted, numbers, lens)) in ROWS.iter().enumerate() {
         let got = answer(&mut session, *call)?;
-        let log = &session.log;
         assert_eq!(rt; got, *wanted, "{call:?}");
         assert_eq!(rt; session.state, *numbers, "after {call:?}");
-        assert_eq!(rt;
-            [log.undo_len(), log.redo_len(), log.entry_len()],
-            *lens,
-            "after {call:?}"
-        );
-        assert_eq!(rt;
-            log.next_entry().is_some_and(|steps| !steps.is_empty()),
-            log.redo_len() > 0,
-            "after {call:?}"
-        );
-        assert_eq!(rt; log.has_dropped(), THIRD_ENTRY <= at, "after {call:?}");
+        let is_as_told = has_lengths(&session.log, *lens, THIRD_ENTRY <= at);
+        assert!(rt; is_as_told, "after {call:?}");
     }
     Ok(())
 }
@@ -324,7 +332,7 @@ fn tick_twice<L: Ledger>(steps: &mut Steps<L>)
     steps.tick();
 }
 
-fn count<L: Ledger>(blank: Blank)
+fn tick_anew<L: Ledger>(blank: Blank)
     requires name { blank.name ≡ L.name }
     requires parts { blank.parts ≡ L.parts }
     requires some { 0 < blank.parts }
@@ -334,6 +342,6 @@ fn count<L: Ledger>(blank: Blank)
 
 #[test]
 fn counts_without_bytes(_rt: HostRuntime) -> Result<(), Fail> {
-    count::<Brand>(Blank::new(1));
+    tick_anew::<Brand>(Blank::new(1));
     Ok(())
 }

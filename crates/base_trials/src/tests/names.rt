@@ -196,7 +196,10 @@ static DEFAULTS: [(&str, bool, Property, Option<&str>); 19] = [
 #[test]
 fn defaults_of_properties(rt: HostRuntime) -> Result<(), Fail> {
     for (name, has_href, property, text) in &DEFAULTS {
-        let found = default_of(name.as_bytes(), *has_href, *property).map(|row| row.text);
+        let found = match default_of(name.as_bytes(), *has_href, *property) {
+            Some(row) => Some(row.text),
+            None => None,
+        };
         assert_eq!(rt; found, *text, "{property:?} of {name}");
     }
     Ok(())

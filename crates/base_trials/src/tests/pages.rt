@@ -1,5 +1,8 @@
 //! Pages that are read, those that are refused, and the page of an empty document.
 
+ghost use Rattle.std.specs.Prelude.{◌<◌};
+
+use super::trees::{Trial, found};
 use node_arena::{Arena, Content};
 use page_read::{PageFault, PageKind, read_page};
 use page_write::{write_html, write_tree};
@@ -76,8 +79,11 @@ static ROWS: [(&[u8], usize, PageKind); 42] = [
 fn pages_and_faults(rt: HostRuntime) -> Result<(), Fail> {
     for (page, at, kind) in &ROWS {
         let fault = fault_of(rt.alloc(), page, 5);
-        assert_eq!(rt; fault.at, *at);
-        assert!(rt; fault.kind == *kind);
+        assert!(rt;
+            fault.at == *at && fault.kind == *kind,
+            "{}",
+            page.escape_ascii()
+        );
     }
     Ok(())
 }
@@ -87,54 +93,65 @@ fn prefixes_are_unclosed(rt: HostRuntime) -> Result<(), Fail> {
     let page = b"<div><p a=\"1\">x</p></div>";
     for length in 1..25 {
         let fault = fault_of(rt.alloc(), &page[..length], 9);
-        assert_eq!(rt; fault.at, length);
-        assert!(rt; fault.kind == PageKind::Unclosed);
+        assert!(rt;
+            fault.at == length && fault.kind == PageKind::Unclosed,
+            "{length}"
+        );
     }
     Ok(())
 }
 
 #[test]
 fn limits(rt: HostRuntime) -> Result<(), Fail> {
-    let mut deep = Vec::new(rt.alloc());
-    for _ in 0..201 {
-        deep.extend_from_slice(b"<b>")?;
-    }
+    let deep = b"<b>".repeat(rt.alloc(), 201)?;
     let fault = fault_of(rt.alloc(), &deep, 999);
-    assert_eq!(rt; fault.at, 601);
-    assert!(rt; fault.kind == PageKind::TooDeep);
+    assert!(rt; fault.at == 601 && fault.kind == PageKind::TooDeep);
     let long = vec![in rt.alloc(); b'a'; 4194305]?;
     let fault = fault_of(rt.alloc(), &long, 999);
-    assert_eq!(rt; fault.at, 4194304);
-    assert!(rt; fault.kind == PageKind::TooLong);
+    assert!(rt; fault.at == 4194304 && fault.kind == PageKind::TooLong);
     assert!(rt; fault.kind.word() == "too-long");
     Ok(())
 }
 
-#[test]
-fn builds_the_tree(rt: HostRuntime) -> Result<(), Fail> {
-    let Ok(arena) = read_page(rt.alloc(), b"<DIV A='1' b>x&gt;<!--c--></div>y", 9) else {
-        return Err("no page".into());
-    };
+// Whether the page <div a="1" b>x><!--c--></div>y is there.
+fn has_tree(arena: &Arena) -> Result<bool, Fail> {
     let div = arena.first_child(arena.document()).ok_or("div")?;
     let Content::Element { name, attributes } = arena.content(div) else {
         return Err("no element".into());
     };
-    assert!(rt; name.as_slice() == b"div".as_slice());
     let (key, value) = attributes.at(0).ok_or("a")?;
-    assert!(rt; key == b"a".as_slice() && value.as_slice() == ['1'].as_slice());
     let x = arena.first_child(div).ok_or("x")?;
     let Content::Words(text) = arena.content(x) else {
         return Err("no text".into());
     };
-    assert!(rt; text.as_slice() == ['x', '>'].as_slice());
-    assert_eq!(rt; arena.next_label(), 5);
-    Ok(())
+    let named = name.as_slice() == b"div".as_slice() && key == b"a".as_slice();
+    let written = value.as_slice() == ['1'].as_slice() && text.as_slice() == ['x', '>'].as_slice();
+    Ok(named && written && arena.next_label() == 5)
+}
+
+fn builds_the_tree(alloc: Global) -> Result<bool, Fail> {
+    match read_page(alloc, b"<DIV A='1' b>x&gt;<!--c--></div>y", 9) {
+        Ok(arena) => has_tree(&arena),
+        Err(_) => Err("no page".into()),
+    }
+}
+
+// How long an arena is as HTML, and as a listing.
+struct Lengths;
+
+impl Trial for Lengths {
+    type Found = (usize, usize);
+
+    fn run(&self, alloc: Global, arena: &mut Arena) -> Result<(usize, usize), Fail> {
+        let html = write_html(alloc, arena)?;
+        let tree = write_tree(alloc, arena)?;
+        Ok((html.len(), tree.len()))
+    }
 }
 
 #[test]
-fn an_empty_document_is_an_empty_text(rt: HostRuntime) -> Result<(), Fail> {
-    let arena = Arena::new(rt.alloc(), 9)?;
-    assert_eq!(rt; write_html(rt.alloc(), &arena)?.len(), 0);
-    assert_eq!(rt; write_tree(rt.alloc(), &arena)?.len(), 0);
+fn a_page_and_an_empty_document(rt: HostRuntime) -> Result<(), Fail> {
+    assert!(rt; builds_the_tree(rt.alloc())?);
+    assert_eq!(rt; found(rt.alloc(), 8, &Lengths)?, (0, 0));
     Ok(())
 }

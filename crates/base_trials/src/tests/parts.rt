@@ -3,7 +3,7 @@
 ghost use Rattle.std.specs.Prelude.{◌≡◌, ◌<◌, IsTrue, IfSome};
 ghost use Rattle.edit_model.specs.Valid.{IsPlacedPair};
 
-use super::trees::{element, name, put, words};
+use super::trees::{Trial, element, found, name, put, words};
 use edit_model::{EditFault, Setting};
 use edit_parts::{
     Counts, add_counts, adjust_inserted, adjust_moved, bears_nothing, copy_overrides, fault_of,
@@ -16,7 +16,6 @@ use node_arena::{Arena, Attributes, Chars, Content, MakeFault, NodeRef};
 use point_order::is_placed;
 use std::alloc::{AllocError, Global};
 use std::marker::Brand;
-use std::process::Abort;
 use std::sync::ledger::{Blank, Ledger};
 use std::test::Fail;
 use step_count::Steps;
@@ -39,17 +38,20 @@ fn shown(arena: &Arena, node: NodeRef) -> Option<(u32, u64, bool, bool, u32)> {
 }
 
 // 1 div ( 2 "ab" 3 img ), and the loose 4 tab LF
-fn page<L: Ledger>(alloc: Global, steps: &mut Steps<L>) -> Result<(Arena, [NodeRef; 4]), Fail> {
-    let mut arena = Arena::new(alloc, 9)?;
-    let div = element(alloc, &mut arena, "div")?;
-    let text = words(alloc, &mut arena, &['a', 'b'])?;
-    let image = element(alloc, &mut arena, "img")?;
-    let blank_text = words(alloc, &mut arena, &['\t', '\n'])?;
+fn page<L: Ledger>(
+    alloc: Global,
+    arena: &mut Arena,
+    steps: &mut Steps<L>,
+) -> Result<[NodeRef; 4], Fail> {
+    let div = element(alloc, arena, "div")?;
+    let text = words(alloc, arena, &['a', 'b'])?;
+    let image = element(alloc, arena, "img")?;
+    let blank_text = words(alloc, arena, &['\t', '\n'])?;
     let root = arena.document();
-    put(&mut arena, root, None, div, steps);
-    put(&mut arena, div, None, text, steps);
-    put(&mut arena, div, None, image, steps);
-    Ok((arena, [div, text, image, blank_text]))
+    put(arena, root, None, div, steps);
+    put(arena, div, None, text, steps);
+    put(arena, div, None, image, steps);
+    Ok([div, text, image, blank_text])
 }
 
 fn trees_right(arena: &Arena, nodes: [NodeRef; 4]) -> bool {
@@ -71,23 +73,50 @@ fn after_replacement(
     replaced(alloc, &content, at, count, put)
 }
 
-#[test]
-fn texts(rt: HostRuntime) -> Result<(), Fail> {
-    let alloc = rt.alloc();
-    let put = after_replacement(alloc, 1, 1, &['x', 'y'])?.ok_or("not replaced")?;
-    assert!(rt; put.as_slice() == ['a', 'x', 'y', 'c'].as_slice());
-    assert!(rt; after_replacement(alloc, 1, 1, &['b'])?.is_none());
-    assert!(rt; after_replacement(alloc, 3, 1, &['x'])?.is_none());
-    assert!(rt; after_replacement(alloc, 3, 0, &['x'])?.is_some());
+// Where characters are replaced, how many, by which, and what the text then has.
+static REPLACEMENTS: [(u32, u32, &[char], Option<&[char]>); 4] = [
+    (1, 1, &['x', 'y'], Some(&['a', 'x', 'y', 'c'])),
+    (1, 1, &['b'], None),
+    (3, 1, &['x'], None),
+    (3, 0, &['x'], Some(&['a', 'b', 'c', 'x'])),
+];
+
+fn is_replaced(
+    alloc: Global,
+    at: u32,
+    count: u32,
+    put: &[char],
+    want: Option<&[char]>,
+) -> Result<bool, AllocError> {
+    match (after_replacement(alloc, at, count, put)?, want) {
+        (Some(text), Some(want)) => Ok(text.as_slice() == want),
+        (None, None) => Ok(true),
+        _ => Ok(false),
+    }
+}
+
+fn has_tail(alloc: Global) -> Result<bool, AllocError> {
     let content = Content::Words(Chars::from_slice(alloc, &['a', 'b', 'c'])?);
     let (tail, count) = tail_of(alloc, &content, 1)?;
-    assert!(rt; tail.as_slice() == ['b', 'c'].as_slice() && count == 2);
+    Ok(tail.as_slice() == ['b', 'c'].as_slice() && count == 2)
+}
+
+fn values_stand(alloc: Global) -> Result<bool, AllocError> {
     let id = name(alloc, "id")?;
     let value = Chars::from_slice(alloc, &['h'])?;
     let mut list = Attributes::new(alloc);
-    assert!(rt; !has_value(&list, &id, &value));
+    let was = has_value(&list, &id, &value);
     list.set(&id, &value)?;
-    assert!(rt; has_value(&list, &id, &value));
+    Ok(!was && has_value(&list, &id, &value))
+}
+
+#[test]
+fn contents(rt: HostRuntime) -> Result<(), Fail> {
+    for (at, count, put, want) in &REPLACEMENTS {
+        let replaced = is_replaced(rt.alloc(), *at, *count, put, *want)?;
+        assert!(rt; replaced, "{count} at {at} by {put:?}");
+    }
+    assert!(rt; has_tail(rt.alloc())? && values_stand(rt.alloc())?);
     assert!(rt; fault_of(MakeFault::Full) == EditFault::Full);
     Ok(())
 }
@@ -263,20 +292,34 @@ fn overrides_right(alloc: Global, arena: &Arena) -> Result<bool, AllocError> {
     )
 }
 
-fn tries<L: Ledger>(rt: &impl Abort, alloc: Global, blank: Blank) -> Result<(), Fail>
+fn page_right<L: Ledger>(alloc: Global, arena: &mut Arena, blank: Blank) -> Result<bool, Fail>
     requires name { blank.name ≡ L.name }
     requires parts { blank.parts ≡ L.parts }
     requires some { 0 < blank.parts }
 {
     let mut steps = Steps::<L>::open(blank);
-    let (arena, nodes) = page(alloc, &mut steps)?;
-    assert!(rt; trees_right(&arena, nodes));
-    assert!(rt; points_right(alloc, &arena, nodes)?);
-    assert!(rt; overrides_right(alloc, &arena)?);
-    Ok(())
+    let nodes = page(alloc, arena, &mut steps)?;
+    let points = points_right(alloc, arena, nodes)?;
+    let overrides = overrides_right(alloc, arena)?;
+    Ok(trees_right(arena, nodes) && points && overrides)
+}
+
+fn is_right(alloc: Global, arena: &mut Arena) -> Result<bool, Fail> {
+    page_right::<Brand>(alloc, arena, Blank::new(1))
+}
+
+struct Parts;
+
+impl Trial for Parts {
+    type Found = bool;
+
+    fn run(&self, alloc: Global, arena: &mut Arena) -> Result<bool, Fail> {
+        is_right(alloc, arena)
+    }
 }
 
 #[test]
 fn trees_points_and_overrides(rt: HostRuntime) -> Result<(), Fail> {
-    tries::<Brand>(&rt, rt.alloc(), Blank::new(1))
+    assert!(rt; found(rt.alloc(), 8, &Parts)?);
+    Ok(())
 }

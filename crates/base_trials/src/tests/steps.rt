@@ -3,9 +3,9 @@
 ghost use Rattle.std.specs.Prelude.{IsTrue};
 ghost use Rattle.edit_steps.specs.Step.{StepFits};
 
-use super::trees::{can_hold, element, label};
+use super::trees::{Trial, can_hold, element, found, label, name, words};
 use edit_steps::Step;
-use node_arena::{Arena, Attributes, Chars, Kind, Name, NodeRef};
+use node_arena::{Arena, Attributes, Chars, Kind, NodeRef};
 use std::alloc::Global;
 use std::test::Fail;
 use undo_log::Invertible;
@@ -109,72 +109,103 @@ fn link(arena: &mut Arena, node: NodeRef, parent: NodeRef) -> bool {
 }
 
 // <a></a><b></b>, with the labels 1 and 2.
-fn page(alloc: Global) -> Result<(Arena, NodeRef, NodeRef), Fail> {
-    let mut arena = Arena::new(alloc, 9)?;
+fn page(alloc: Global, arena: &mut Arena) -> Result<(NodeRef, NodeRef), Fail> {
     let top = arena.document();
-    let a = element(alloc, &mut arena, "a")?;
-    let b = element(alloc, &mut arena, "b")?;
-    if !link(&mut arena, a, top) || !link(&mut arena, b, top) {
+    let a = element(alloc, arena, "a")?;
+    let b = element(alloc, arena, "b")?;
+    if !link(arena, a, top) || !link(arena, b, top) {
         return Err("not linked".into());
     }
-    Ok((arena, a, b))
+    Ok((a, b))
 }
 
-#[test]
-fn unlinks_and_links_where_it_was(rt: HostRuntime) -> Result<(), Fail> {
-    let (mut arena, a, _b) = page(rt.alloc())?;
-    assert!(rt; can_unlink(&arena, a));
+fn unlinks_and_links_where_it_was(alloc: Global, arena: &mut Arena) -> Result<bool, Fail> {
+    let (a, _b) = page(alloc, arena)?;
+    if !can_unlink(arena, a) {
+        return Ok(false);
+    }
     let mut step = Step::Unlink { node: a };
-    once(&mut step, &mut arena);
-    assert_eq!(rt; shown(&arena, a), Some((None, None)));
-    once(&mut step, &mut arena);
-    assert_eq!(rt; shown(&arena, a), Some((Some(0), Some(2))));
-    Ok(())
+    once(&mut step, arena);
+    let unlinked = shown(arena, a) == Some((None, None));
+    once(&mut step, arena);
+    Ok(unlinked && shown(arena, a) == Some((Some(0), Some(2))))
 }
 
-#[test]
-fn places_and_places_back(rt: HostRuntime) -> Result<(), Fail> {
-    let (mut arena, a, b) = page(rt.alloc())?;
-    assert!(rt; can_place(&arena, a, b));
+fn places_and_places_back(alloc: Global, arena: &mut Arena) -> Result<bool, Fail> {
+    let (a, b) = page(alloc, arena)?;
+    if !can_place(arena, a, b) {
+        return Ok(false);
+    }
     let mut step = Step::Place {
         node: a,
         parent: b,
         before: None,
     };
-    once(&mut step, &mut arena);
-    assert_eq!(rt; shown(&arena, a), Some((Some(2), None)));
-    once(&mut step, &mut arena);
-    assert_eq!(rt; shown(&arena, a), Some((Some(0), Some(2))));
-    Ok(())
+    once(&mut step, arena);
+    let placed = shown(arena, a) == Some((Some(2), None));
+    once(&mut step, arena);
+    Ok(placed && shown(arena, a) == Some((Some(0), Some(2))))
 }
 
-#[test]
-fn exchanges_words(rt: HostRuntime) -> Result<(), Fail> {
-    let mut arena = Arena::new(rt.alloc(), 9)?;
-    let text = arena.make_words(Chars::from_slice(rt.alloc(), &['x'])?)?;
-    let words = Chars::from_slice(rt.alloc(), &['n', 'e', 'w'])?;
-    assert!(rt; can_write(&arena, text, &words));
+fn exchanges_words(alloc: Global, arena: &mut Arena) -> Result<bool, Fail> {
+    let text = words(alloc, arena, &['x'])?;
+    let words = Chars::from_slice(alloc, &['n', 'e', 'w'])?;
+    if !can_write(arena, text, &words) {
+        return Ok(false);
+    }
     let mut step = Step::Words { node: text, words };
-    once(&mut step, &mut arena);
-    assert_eq!(rt; text_length(&arena, text), Some(3));
-    once(&mut step, &mut arena);
-    assert_eq!(rt; text_length(&arena, text), Some(1));
-    Ok(())
+    once(&mut step, arena);
+    let exchanged = text_length(arena, text) == Some(3);
+    once(&mut step, arena);
+    Ok(exchanged && text_length(arena, text) == Some(1))
 }
 
-#[test]
-fn exchanges_attributes(rt: HostRuntime) -> Result<(), Fail> {
-    let (mut arena, a, _b) = page(rt.alloc())?;
-    let mut list = Attributes::new(rt.alloc());
-    list.insert(
-        Name::from_slice(rt.alloc(), b"q")?,
-        Chars::from_slice(rt.alloc(), &['v'])?,
-    )?;
-    assert!(rt; can_dress(&arena, a, &list));
+fn exchanges_attributes(alloc: Global, arena: &mut Arena) -> Result<bool, Fail> {
+    let (a, _b) = page(alloc, arena)?;
+    let mut list = Attributes::new(alloc);
+    list.insert(name(alloc, "q")?, Chars::from_slice(alloc, &['v'])?)?;
+    if !can_dress(arena, a, &list) {
+        return Ok(false);
+    }
     let mut step = Step::Attributes { node: a, list };
-    once(&mut step, &mut arena);
-    assert_eq!(rt; first_name(&arena, a), Some(b'q'));
-    once(&mut step, &mut arena);
-    assert_eq!(rt; first_name(&arena, a), None);
+    once(&mut step, arena);
+    let exchanged = first_name(arena, a) == Some(b'q');
+    once(&mut step, arena);
+    Ok(exchanged && first_name(arena, a).is_none())
+}
+
+#[derive(Debug)]
+enum Inverse {
+    OfUnlink,
+    OfPlace,
+    OfWords,
+    OfAttributes,
+}
+
+impl Trial for Inverse {
+    type Found = bool;
+
+    fn run(&self, alloc: Global, arena: &mut Arena) -> Result<bool, Fail> {
+        match self {
+            Inverse::OfUnlink => unlinks_and_links_where_it_was(alloc, arena),
+            Inverse::OfPlace => places_and_places_back(alloc, arena),
+            Inverse::OfWords => exchanges_words(alloc, arena),
+            Inverse::OfAttributes => exchanges_attributes(alloc, arena),
+        }
+    }
+}
+
+static INVERSES: [Inverse; 4] = [
+    Inverse::OfUnlink,
+    Inverse::OfPlace,
+    Inverse::OfWords,
+    Inverse::OfAttributes,
+];
+
+#[test]
+fn steps_are_taken_back(rt: HostRuntime) -> Result<(), Fail> {
+    for inverse in &INVERSES {
+        assert!(rt; found(rt.alloc(), 8, inverse)?, "{inverse:?}");
+    }
     Ok(())
 }

@@ -42,12 +42,11 @@ fn reads_in_pieces(rt: HostRuntime) -> Result<(), Fail> {
         (10, 20, Err(ReadAllFault::TooLong), 3, 21),
     ] {
         let mut input = in_sevens(rt.alloc(), failing)?;
-        let read = read_all(rt.alloc(), &mut input, limit);
-        assert_eq!(rt;
-            read.map(|bytes| bytes.len()),
-            wanted,
-            "failing at {failing}"
-        );
+        let read = match read_all(rt.alloc(), &mut input, limit) {
+            Ok(bytes) => Ok(bytes.len()),
+            Err(fault) => Err(fault),
+        };
+        assert_eq!(rt; read, wanted, "failing at {failing}");
         assert_eq!(rt;
             (input.calls, input.at),
             (calls, at),

@@ -3,6 +3,7 @@
 ghost use Rattle.std.specs.Prelude.{IfOk};
 ghost use Rattle.node_arena.specs.Held.{Holds};
 
+use super::trees::{Trial, found};
 use css_value::{Display, FontStyle, TextAlign, WhiteSpace};
 use node_arena::{Arena, Attributes, Chars, Name, NodeRef};
 use node_styles::{
@@ -31,28 +32,43 @@ fn element(
     Ok(arena.make_element(Name::from_slice(alloc, name)?, attributes)?)
 }
 
+const STYLE: &str = "white-space: pre-line; font-size: 10px; font-style: oblique; text-align: end";
+
+fn is_styled(arena: &Arena, node: NodeRef) -> bool
+    requires { Holds arena.now node }
+{
+    let block = display(arena, node) == Display::Block && nearest_block(arena, node).is_none();
+    let space = white_space(arena, node) == WhiteSpace::PreLine;
+    let font = font_weight(arena, node) == 700
+        && font_size(arena, node) == 10
+        && font_style(arena, node) == FontStyle::Oblique;
+    let plain = text_decoration(arena, node).keywords() == b"none".as_slice()
+        && background_color(arena, node).clear;
+    block && space && font && plain && text_align(arena, node) == TextAlign::Right
+}
+
+fn is_hinted(arena: &Arena, node: NodeRef) -> bool
+    requires { Holds arena.now node }
+{
+    color(arena, node).blue == 255 && is_named(arena, node, b"font") && !is_hidden(arena, node)
+}
+
+struct Styles;
+
+impl Trial for Styles {
+    type Found = (bool, bool);
+
+    fn run(&self, alloc: Global, arena: &mut Arena) -> Result<(bool, bool), Fail> {
+        let heading = element(arena, alloc, b"h1", b"style", STYLE)?;
+        let styled = is_styled(arena, heading);
+        let font = element(arena, alloc, b"font", b"color", "#00f")?;
+        Ok((styled, is_hinted(arena, font)))
+    }
+}
+
 #[test]
 fn styles_hints_and_defaults(rt: HostRuntime) -> Result<(), Fail> {
-    let alloc = rt.alloc();
-    let mut arena = Arena::new(alloc, 10)?;
-    let styled = element(
-        &mut arena,
-        alloc,
-        b"h1",
-        b"style",
-        "white-space: pre-line; font-size: 10px; font-style: oblique; text-align: end",
-    )?;
-    assert_eq!(rt; display(&arena, styled), Display::Block);
-    assert_eq!(rt; white_space(&arena, styled), WhiteSpace::PreLine);
-    assert_eq!(rt; font_weight(&arena, styled), 700);
-    assert_eq!(rt; font_size(&arena, styled), 10);
-    assert_eq!(rt; font_style(&arena, styled), FontStyle::Oblique);
-    assert_eq!(rt; text_align(&arena, styled), TextAlign::Right);
-    assert!(rt; text_decoration(&arena, styled).keywords() == b"none".as_slice());
-    assert!(rt; background_color(&arena, styled).clear && nearest_block(&arena, styled).is_none());
-    let hinted = element(&mut arena, alloc, b"font", b"color", "#00f")?;
-    assert_eq!(rt; color(&arena, hinted).blue, 255);
-    assert!(rt; is_named(&arena, hinted, b"font") && !is_hidden(&arena, hinted));
+    assert_eq!(rt; found(rt.alloc(), 9, &Styles)?, (true, true));
     Ok(())
 }
 
@@ -71,7 +87,11 @@ static SIZES: [(&[char], Option<u16>); 8] = [
 #[test]
 fn sizes_of_fonts(rt: HostRuntime) -> Result<(), Fail> {
     for (text, pixels) in &SIZES {
-        assert_eq!(rt; read_legacy_size(text).map(pixels_of), *pixels);
+        let found = match read_legacy_size(text) {
+            Some(size) => Some(pixels_of(size)),
+            None => None,
+        };
+        assert_eq!(rt; found, *pixels);
     }
     Ok(())
 }

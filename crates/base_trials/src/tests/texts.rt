@@ -31,25 +31,37 @@ fn set(list: &mut Attributes, alloc: Global, name: &[u8], value: char) -> Result
     Ok(())
 }
 
-#[test]
-fn keeps_the_order(rt: HostRuntime) -> Result<(), Fail> {
-    let mut list = Attributes::new(rt.alloc());
-    set(&mut list, rt.alloc(), b"b", '1')?;
-    set(&mut list, rt.alloc(), b"a", '2')?;
-    set(&mut list, rt.alloc(), b"b", '3')?;
-    let name = Name::from_vec(b"c".to_vec(rt.alloc())?);
-    let value = Chars::from_vec(['4'].to_vec(rt.alloc())?);
-    assert_eq!(rt; (name.as_slice(), value.len()), (b"c".as_slice(), 1));
+// Sets and inserts attributes, and answers whether they stand in the order in which their names came.
+fn keeps_the_order(alloc: Global, list: &mut Attributes) -> Result<bool, Fail> {
+    set(list, alloc, b"b", '1')?;
+    set(list, alloc, b"a", '2')?;
+    set(list, alloc, b"b", '3')?;
+    let name = Name::from_vec(b"c".to_vec(alloc)?);
+    let value = Chars::from_vec(['4'].to_vec(alloc)?);
+    let made = name.as_slice() == b"c".as_slice() && value.len() == 1;
     list.insert(name, value)?;
-    assert!(rt; is_list(&list, &[(b"b", '3'), (b"a", '2'), (b"c", '4')]));
+    Ok(made && is_list(list, &[(b"b", '3'), (b"a", '2'), (b"c", '4')]))
+}
+
+fn forgets(copied: &mut Attributes) -> bool {
+    copied.unset(b"b") && !copied.unset(b"d") && is_list(copied, &[(b"a", '2'), (b"c", '4')])
+}
+
+fn finds(list: &Attributes) -> bool {
+    let found = match list.get(b"b") {
+        Some(value) => value.as_slice() == ['3'].as_slice(),
+        None => false,
+    };
+    found && list.get(b"d").is_none() && list.at(3).is_none()
+}
+
+#[test]
+fn attributes_keep_their_order(rt: HostRuntime) -> Result<(), Fail> {
+    let mut list = Attributes::new(rt.alloc());
+    let kept = keeps_the_order(rt.alloc(), &mut list)?;
     let mut copied = list.copy()?;
-    assert!(rt; copied.unset(b"b") && !copied.unset(b"d"));
-    assert!(rt; is_list(&copied, &[(b"a", '2'), (b"c", '4')]));
-    assert!(rt;
-        list.get(b"b")
-            .is_some_and(|v| v.as_slice() == ['3'].as_slice())
-    );
-    assert!(rt; list.get(b"d").is_none() && list.at(3).is_none());
+    let forgotten = forgets(&mut copied);
+    assert!(rt; kept && forgotten && finds(&list));
     Ok(())
 }
 

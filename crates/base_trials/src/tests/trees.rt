@@ -82,5 +82,22 @@ pub(crate) fn put<L: Ledger>(
 }
 
 pub(crate) fn label(node: Option<NodeRef>) -> Option<u32> {
-    node.map(|n| n.label)
+    match node {
+        Some(node) => Some(node.label),
+        None => None,
+    }
+}
+
+/// What is done in an arena, and what is found there.
+pub(crate) trait Trial {
+    type Found;
+
+    fn run(&self, alloc: Global, arena: &mut Arena) -> Result<Self::Found, Fail>;
+}
+
+/// What a trial finds in an arena with room for so many nodes beside the document. Arenas are let go here alone, since the
+/// proof of that takes long, and again on each way out of the function that owns one.
+pub(crate) fn found<T: Trial>(alloc: Global, room: u16, trial: &T) -> Result<T::Found, Fail> {
+    let mut arena = Arena::new(alloc, room as u32 + 1)?;
+    trial.run(alloc, &mut arena)
 }

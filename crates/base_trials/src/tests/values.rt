@@ -414,22 +414,33 @@ fn styles_are_read_and_printed(rt: HostRuntime) -> Result<(), Fail> {
     Ok(())
 }
 
-#[test]
-fn a_property_is_set_and_unset(rt: HostRuntime) -> Result<(), Fail> {
-    let mut style = Declarations::read(rt.alloc(), &['a', ':', '1', ';', 'b', ':', '2'])?;
+// Sets `a` and `c`, tries to set values that are none, and takes `b` away.
+fn change(style: &mut Declarations) -> Result<(), AllocError> {
     style.set(b"a", &[' ', '3', ' '])?;
     style.set(b"c", &['4'])?;
     style.set(b"c", &['5', ';'])?;
     style.set(b"C", &['5'])?;
     style.set(b"d", &['\''])?;
-    assert_eq!(rt; style.get(b"a"), Some(['3'].as_slice()));
-    assert_eq!(rt; style.get(b"c"), Some(['4'].as_slice()));
-    assert_eq!(rt; style.get(b"d"), None);
     style.unset(b"b");
-    let printed: Vec<char> = "a: 3; c: 4;".chars().collect(rt.alloc())?;
-    assert_eq!(rt; style.print()?.as_slice(), printed.as_slice());
-    assert_eq!(rt; find(&printed, b"c"), Some(['4'].as_slice()));
-    assert_eq!(rt; find(&printed, b"b"), None);
+    Ok(())
+}
+
+fn is_changed(style: &Declarations) -> bool {
+    style.get(b"a") == Some(['3'].as_slice())
+        && style.get(b"c") == Some(['4'].as_slice())
+        && style.get(b"d").is_none()
+}
+
+#[test]
+fn a_property_is_set_and_unset(rt: HostRuntime) -> Result<(), Fail> {
+    let mut style = Declarations::read(rt.alloc(), &['a', ':', '1', ';', 'b', ':', '2'])?;
+    change(&mut style)?;
+    let changed = is_changed(&style);
+    let printed = style.print()?;
+    let wanted: Vec<char> = "a: 3; c: 4;".chars().collect(rt.alloc())?;
+    assert!(rt; changed && printed.as_slice() == wanted.as_slice());
+    assert_eq!(rt; find(&wanted, b"c"), Some(['4'].as_slice()));
+    assert_eq!(rt; find(&wanted, b"b"), None);
     Ok(())
 }
 
@@ -474,22 +485,41 @@ fn resolved(
     reader: Reader,
     value: &[char],
 ) -> Result<Option<Vec<char>>, AllocError> {
-    match reader {
-        Reader::Display => read_display(value).map(|v| v.print(alloc)).transpose(),
-        Reader::WhiteSpace => read_white_space(value).map(|v| v.print(alloc)).transpose(),
-        Reader::FontWeight => read_font_weight(value)
-            .map(|v| print_font_weight(alloc, v))
-            .transpose(),
-        Reader::FontStyle => read_font_style(value).map(|v| v.print(alloc)).transpose(),
-        Reader::FontSize => read_font_size(value)
-            .map(|v| print_font_size(alloc, v))
-            .transpose(),
-        Reader::Colour => Colour::read(value).map(|v| v.print(alloc)).transpose(),
-        Reader::TextDecoration => read_text_decoration(value)
-            .map(|v| v.print(alloc))
-            .transpose(),
-        Reader::TextAlign => read_text_align(value).map(|v| v.print(alloc)).transpose(),
-    }
+    let printed = match reader {
+        Reader::Display => match read_display(value) {
+            Some(v) => v.print(alloc)?,
+            None => return Ok(None),
+        },
+        Reader::WhiteSpace => match read_white_space(value) {
+            Some(v) => v.print(alloc)?,
+            None => return Ok(None),
+        },
+        Reader::FontWeight => match read_font_weight(value) {
+            Some(v) => print_font_weight(alloc, v)?,
+            None => return Ok(None),
+        },
+        Reader::FontStyle => match read_font_style(value) {
+            Some(v) => v.print(alloc)?,
+            None => return Ok(None),
+        },
+        Reader::FontSize => match read_font_size(value) {
+            Some(v) => print_font_size(alloc, v)?,
+            None => return Ok(None),
+        },
+        Reader::Colour => match Colour::read(value) {
+            Some(v) => v.print(alloc)?,
+            None => return Ok(None),
+        },
+        Reader::TextDecoration => match read_text_decoration(value) {
+            Some(v) => v.print(alloc)?,
+            None => return Ok(None),
+        },
+        Reader::TextAlign => match read_text_align(value) {
+            Some(v) => v.print(alloc)?,
+            None => return Ok(None),
+        },
+    };
+    Ok(Some(printed))
 }
 
 fn check_rows(

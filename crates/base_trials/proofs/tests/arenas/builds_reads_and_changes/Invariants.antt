@@ -1,4 +1,4 @@
 use Rattle.base_trials.proofs.tests.arenas.builds_reads_and_changes.Given as goal
 
-abbrev pub ghosts-tries : goal.ghosts-tries
-ghosts-tries g a = record { name = a.blank.name; parts = a.blank.parts }
+abbrev pub ghosts-page_right : goal.ghosts-page_right
+ghosts-page_right a = record { name = a.blank.name; parts = a.blank.parts }
