@@ -1,16 +1,17 @@
 //! Indenting a list of siblings. The steps are those of docs/ALGORITHMS.md.
 
-ghost use Rattle.std.specs.Prelude.{◌≡◌, IfOk};
+ghost use Rattle.std.specs.Prelude.{◌≡◌, IfOk, codes};
 ghost use Rattle.edit_model.specs.Gives.{Gives, GivesMaybe, label_of, labels_of};
 ghost use Rattle.edit_doc.specs.Whole.{IsOpen};
 ghost use Rattle.edit_doc.specs.Held.{Holds, IfHeld, EachHeld, Finds, Keeps};
+ghost use Rattle.inline_value.specs.Wrappers as wrappers;
 ghost use Rattle.list_indent.specs.Indenting.{if_list, nested, fixed, wrap_quote, quoted, indent_from, indent_list};
 
 use crate::lists::is_list;
 use edit_actions::tag_of;
 use edit_doc::{Attributes, Doc, EditFault, NodeList, NodeRef};
 use inline_value::{bare, fix_ancestors};
-use std::alloc::Global;
+use std::alloc::{AllocError, Global};
 use wrap_split::{Blank, CopyMade, IndentationSibling, NamedSibling, WrapRule, wrap};
 
 fn if_list(doc: &Doc, node: Option<NodeRef>) -> Option<NodeRef>
@@ -54,6 +55,13 @@ pub fn fix(alloc: Global, doc: &mut Doc, node: Option<NodeRef>) -> Result<(), Ed
     }
 }
 
+// What a blockquote is made of.
+fn blockquote(alloc: Global) -> Result<Blank, AllocError>
+    ensures { IfOk result (λ blank. blank ≡ wrappers.bare (codes "blockquote")) }
+{
+    bare(alloc, b"blockquote")
+}
+
 // Wraps siblings in a simple indentation element.
 #[tactic(auto, using(edit_model::proofs::Steps::steps, edit_model::proofs::Steps::exits), unfolding(crate::specs::Indenting::wrap_quote))]
 fn wrap_quote(alloc: Global, doc: &mut Doc, list: NodeList) -> Result<Option<NodeRef>, EditFault>
@@ -63,7 +71,7 @@ fn wrap_quote(alloc: Global, doc: &mut Doc, list: NodeList) -> Result<Option<Nod
     ensures held { IfOk result (λ found. IfHeld doc.new found) }
     ensures keeps { Keeps doc.old doc.new }
 {
-    let blank = bare(alloc, b"blockquote")?;
+    let blank = blockquote(alloc)?;
     let rule = WrapRule::new(IndentationSibling, CopyMade { blank });
     wrap(alloc, doc, list, &rule)
 }
