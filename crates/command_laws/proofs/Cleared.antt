@@ -20,7 +20,7 @@ use Rattle.edit_model.proofs.IslandRuns.{trees_made, trees_left}
 use Rattle.edit_model.proofs.Steps.{final-bind, final-answer, final-look, final-edit}
 use Rattle.edit_model.proofs.Tests.{removes}
 use Rattle.wrap_split.specs.Walks.{turn_bound, walk, followed, last_within, preceding, is_invisible}
-use Rattle.wrap_split.specs.Breaks.{last_below, back_step, back, break_before, breaks_before}
+use Rattle.wrap_split.specs.Breaks.{last_below, back_step, back, last_break_before, breaks_before}
 use Rattle.command_laws.proofs.Positions.{position, child_later, beside_earlier}
 
 -- what a step keeps, a walk keeps
@@ -90,15 +90,15 @@ module _ (s : State) (is : IsValid s) (o p : ℕ) (prev : prev_of s.trees o ≡ 
       by_test true k = omega (arith, h, preceding_earlier s.trees is.forest.distinct r m k)
       by_test false k = absurd (let k' = k in cc)
 
-  found_earlier : position s.trees (break_before s o p) < position s.trees o
+  found_earlier : position s.trees (last_break_before s o p) < position s.trees o
   unfolding back
   found_earlier =
       walk_keeps (λ r. position s.trees r < position s.trees o) (back_step s (parent_of s.trees o)) (λ r m h e. step_earlier (parent_of s.trees o) r m h e) (turn_bound s) (last_below s p) low_earlier
 
-  pub found_no_child : parent_of s.trees (break_before s o p) ≡ Some o → ⊥
-  found_no_child e = omega (arith, found_earlier, child_later s.trees is.forest.distinct (break_before s o p) o e)
+  pub found_no_child : parent_of s.trees (last_break_before s o p) ≡ Some o → ⊥
+  found_no_child e = omega (arith, found_earlier, child_later s.trees is.forest.distinct (last_break_before s o p) o e)
 
-  pub found_other : break_before s o p ≢ o
+  pub found_other : last_break_before s o p ≢ o
   found_other e = let k = ap (position s.trees) e in omega (arith, found_earlier, k)
 
 -- ---- what stays of a node
@@ -138,12 +138,12 @@ pub cleared : (o : ℕ) (s : State) → IsValid s → Undisturbed s (final (brea
 unfolding breaks_before
 cleared o s is = rw final-look (by_prev (prev_of s.trees o) refl)
   where
-    by_test : (p : ℕ) → prev_of s.trees o ≡ Some p → (v : Bool) → Undisturbed s (final (if v then remove (break_before s o p) >> done else done) s) o
+    by_test : (p : ℕ) → prev_of s.trees o ≡ Some p → (v : Bool) → Undisturbed s (final (if v then remove (last_break_before s o p) >> done else done) s) o
     by_test p prev true =
         rw (final-bind, final-edit, final-answer)
-        (removed_other (break_before s o p) o s is (found_other s is o p prev (prev_known s is o p prev)) (found_no_child s is o p prev (prev_known s is o p prev)))
+        (removed_other (last_break_before s o p) o s is (found_other s is o p prev (prev_known s is o p prev)) (found_no_child s is o p prev (prev_known s is o p prev)))
     by_test p prev false = rw final-answer (undisturbed s o)
 
-    by_prev : (v : Option ℕ) → prev_of s.trees o ≡ v → Undisturbed s (final (given v done (λ p. if is_editable_for s (break_before s o p) && is_extraneous_break s.trees (break_before s o p) then remove (break_before s o p) >> done else done)) s) o
+    by_prev : (v : Option ℕ) → prev_of s.trees o ≡ v → Undisturbed s (final (given v done (λ p. if is_editable_for s (last_break_before s o p) && is_extraneous_break s.trees (last_break_before s o p) then remove (last_break_before s o p) >> done else done)) s) o
     by_prev None prev = rw final-answer (undisturbed s o)
-    by_prev (Some p) prev = by_test p prev (is_editable_for s (break_before s o p) && is_extraneous_break s.trees (break_before s o p))
+    by_prev (Some p) prev = by_test p prev (is_editable_for s (last_break_before s o p) && is_extraneous_break s.trees (last_break_before s o p))

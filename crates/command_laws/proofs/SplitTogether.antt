@@ -67,9 +67,9 @@ fewer_breaks o s is l r up = by_prev (prev_of s.trees o) (sym (ap (λ t. parent_
         fewer_removed k s is l r (sym (ap (λ t. parent_of t.trees l) one) ∙ e)
     by_test k false e = sym (ap (λ t. parent_of t.trees l) (final-answer tt s)) ∙ e
 
-    by_prev : (p : Option ℕ) → parent_of (final (given p done (λ p. if is_editable_for s (breaks.break_before s o p) && is_extraneous_break s.trees (breaks.break_before s o p) then remove (breaks.break_before s o p) >> done else done)) s).trees l ≡ Some r → parent_of s.trees l ≡ Some r
+    by_prev : (p : Option ℕ) → parent_of (final (given p done (λ p. if is_editable_for s (breaks.last_break_before s o p) && is_extraneous_break s.trees (breaks.last_break_before s o p) then remove (breaks.last_break_before s o p) >> done else done)) s).trees l ≡ Some r → parent_of s.trees l ≡ Some r
     by_prev None e = sym (ap (λ t. parent_of t.trees l) (final-answer tt s)) ∙ e
-    by_prev (Some p) e = by_test (breaks.break_before s o p) (is_editable_for s (breaks.break_before s o p) && is_extraneous_break s.trees (breaks.break_before s o p)) e
+    by_prev (Some p) e = by_test (breaks.last_break_before s o p) (is_editable_for s (breaks.last_break_before s o p) && is_extraneous_break s.trees (breaks.last_break_before s o p)) e
 
 holding_breaks : (list : List ℕ) (n : ℕ) → Holding list (breaks_before n)
 unfolding breaks_before

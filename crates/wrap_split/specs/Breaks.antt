@@ -34,8 +34,8 @@ unfoldable pub top_hidden : State → ℕ → ℕ
 top_hidden s r = walk (up_step s) (turn_bound s) r
 
 -- where the line breaks before n would stand, from the sibling p before it on back
-abbrev pub break_before : State → ℕ → ℕ → ℕ
-break_before s n p = back s (parent_of s.trees n) (last_below s p)
+abbrev pub last_break_before : State → ℕ → ℕ → ℕ
+last_break_before s n p = back s (parent_of s.trees n) (last_below s p)
 
 abbrev pub break_at_end : State → ℕ → ℕ
 break_at_end s n = back s (Some n) (last_below s n)
@@ -43,8 +43,8 @@ break_at_end s n = back s (Some n) (last_below s n)
 -- remove line breaks before, steps 1 to 4
 unfoldable pub breaks_before : ℕ → Run (Unit {0})
 breaks_before n = look λ s. given (prev_of s.trees n) done λ p.
-    if is_editable_for s (break_before s n p) && is_extraneous_break s.trees (break_before s n p)
-    then remove (break_before s n p) >> done
+    if is_editable_for s (last_break_before s n p) && is_extraneous_break s.trees (last_break_before s n p)
+    then remove (last_break_before s n p) >> done
     else done
 
 -- remove line breaks at the end, steps 1 to 5
