@@ -4,14 +4,15 @@
 Runs `rt ci` with these words, and prints for each crate the seconds of processor that its proofs, its tests and its
 must-fail edits took, and the sum. What an earlier run on this machine proved costs nothing, so `--anew` for all.
 
-The seconds are read from /proc of each process of the prover five times a second, so what a process took after it was
-last read is left out.
+The seconds are read from /proc, of each process of the prover and of those that it started, five times a second: what
+one took after it was last read is left out.
 """
+import contextlib
 import os
 import subprocess
 import sys
 import time
-from collections import Counter
+from collections import Counter, defaultdict
 from pathlib import Path
 
 TICKS = os.sysconf("SC_CLK_TCK")
@@ -25,30 +26,47 @@ def kind_of(words, folder):
     return "tests" if "--test" in words else "proofs"
 
 
-def read_process(folder):
-    """The words of a process, the number of the one that started it, its folder, and its seconds of processor."""
-    words = (folder / "cmdline").read_text(errors="replace").split("\0")
-    fields = (folder / "stat").read_text().rpartition(")")[2].split()
-    seconds = sum(int(field) for field in fields[11:15]) / TICKS
-    return words, int(fields[1]), os.readlink(folder / "cwd"), seconds
+def read_processes():
+    """By its number, of each process: the number of the one that started it, and its seconds with those of ended children."""
+    found = {}
+    for folder in Path("/proc").glob("[0-9]*"):
+        with contextlib.suppress(OSError):
+            fields = (folder / "stat").read_text().rpartition(")")[2].split()
+            found[int(folder.name)] = (int(fields[1]), sum(int(field) for field in fields[11:15]) / TICKS)
+    return found
+
+
+def crate_of(number):
+    """The crate that a process of the prover checks and what it does there, or None for any other process."""
+    folder = Path("/proc", str(number))
+    try:
+        words = (folder / "cmdline").read_text(errors="replace").split("\0")
+        place = os.readlink(folder / "cwd")
+    except OSError:
+        return None
+    return (words[words.index("--crate-name") + 1], kind_of(words, place)) if "--crate-name" in words else None
 
 
 def read_provers(gate, found):
-    """Notes the seconds of each process of the prover that the gate has started."""
-    for folder in Path("/proc").glob("[0-9]*"):
-        try:
-            words, parent, place, seconds = read_process(folder)
-        except OSError:
-            continue
-        if parent == gate and "--crate-name" in words:
-            crate = words[words.index("--crate-name") + 1]
-            found[folder.name] = (crate, kind_of(words, place), seconds)
+    """Notes the seconds of each process of the prover that the gate has started, with those of what runs below it."""
+    running = read_processes()
+    children = defaultdict(list)
+    for number, (parent, _) in running.items():
+        children[parent].append(number)
+
+    def seconds_below(number):
+        return running[number][1] + sum(seconds_below(child) for child in children[number])
+
+    for number in children[gate]:
+        key = found[number][0] if number in found else crate_of(number)
+        if key:
+            found[number] = (key, max(seconds_below(number), found[number][1] if number in found else 0))
 
 
 def print_table(found):
     """Prints the seconds of each crate, the costliest first, and their sums."""
     sums = Counter()
-    for crate, kind, seconds in found.values():
+    for (crate, kind), seconds in found.values():
         sums[crate, kind] += seconds
     crates = sorted({crate for crate, _ in sums}, key=lambda it: -sum(sums[it, kind] for kind in KINDS))
     rows = [(crate, *(sums[crate, kind] for kind in KINDS)) for crate in crates]
