@@ -47,7 +47,8 @@ first_or_empty [] = []
 first_or_empty (w ∷ ws) = w
 
 -- where in a token the machine stands: text, the tag's name, attributes, an attribute's name and value, open elements
-abbrev pub lexical_of : Lexical → (text tag : List ℕ) → List page.Attribute → (name value : List ℕ) → List (List ℕ) → machine.Lexical
+abbrev pub lexical_of : Lexical → (text tag : List ℕ) → List page.Attribute → (name value : List ℕ) → List (List ℕ)
+    → machine.Lexical
 lexical_of Data t w ts k v ws = machine.Data
 lexical_of InText t w ts k v ws = machine.InText t
 lexical_of (TextReference r) t w ts k v ws = machine.TextReference t (reference_of r)
@@ -75,7 +76,8 @@ opened_of _ ws = ws
 
 abbrev pub machine_of : Scanner → machine.Machine
 machine_of s = record {
-  lex = lexical_of s.lexical s.text.items s.tag.items (read_attributes s.attributes) s.name.items s.value.items (names_of s.opened.items);
+  lex = lexical_of s.lexical s.text.items s.tag.items (read_attributes s.attributes) s.name.items s.value.items
+      (names_of s.opened.items);
   opened = opened_of s.lexical (names_of s.opened.items);
   room = s.room;
   next = s.arena.next;
@@ -96,16 +98,18 @@ told_by (Some m) = m.out
 
 -- the scanner is where the machine is, and has planted what it told
 abbrev pub Goes : Option machine.Machine → (old new : Scanner) → Type 0
-Goes o old new = (silenced o ≡ Some (machine_of new)) × (tree_construction_of new ≡ plant_all (told_by o) (tree_construction_of old))
+Goes o old new =
+    (silenced o ≡ Some (machine_of new))
+    × (tree_construction_of new ≡ plant_all (told_by o) (tree_construction_of old))
 
 -- whether the machine went on; where it didn't, the scanner is as before
 abbrev pub Went : Bool → Option machine.Machine → (old new : Scanner) → Type 0
 Went true o old new = Goes o old new
 Went false o old new = (o ≡ None) × (machine_of new ≡ machine_of old)
 
--- nothing is told
-abbrev pub Keeps : (old new : Scanner) → Type 0
-Keeps old new = tree_construction_of new ≡ tree_construction_of old
+-- the same of the machine's step on a character
+abbrev pub Steps : Bool → (c : ℕ) → (old new : Scanner) → Type 0
+Steps went c old new = Went went (machine.step old.arena.cap (machine_of old) c) old new
 
 -- the element of the start tag is made: only the arena and the attributes have changed
 pub record MakesElement (old new : Scanner) (node : NodeRef) : Type 0 where
@@ -123,13 +127,18 @@ pub record MakesElement (old new : Scanner) (node : NodeRef) : Type 0 where
 
 -- the last attribute is added: only the attributes have changed, and the place in the token
 pub record AddsAttribute (old new : Scanner) : Type 0 where
-  pub added : read_attributes new.attributes ≡ machine.with_attribute (read_attributes old.attributes) old.name.items old.value.items
+  pub added : read_attributes new.attributes
+      ≡ machine.with_attribute (read_attributes old.attributes) old.name.items old.value.items
   pub texts : EachText new.attributes
   pub rest : new ≡ record old { attributes = new.attributes; lexical = AfterAttributeValue }
 
 -- the arena that the end of the characters gives, if they may end here
 abbrev pub Ends : Option ArenaState → (c : ℕ) → machine.Machine → TreeConstruction → Type 0
-Ends (Some a) c m p = machine.IsEnd m × (a.trees ≡ (plant_all (machine.told m) p).trees) × (a.next ≡ (plant_all (machine.told m) p).next) × (a.cap ≡ c)
+Ends (Some a) c m p =
+    machine.IsEnd m
+    × (a.trees ≡ (plant_all (machine.told m) p).trees)
+    × (a.next ≡ (plant_all (machine.told m) p).next)
+    × (a.cap ≡ c)
 Ends None c m p = machine.IsEnd m → ⊥
 
 -- what a name has at a place, and leaves behind it

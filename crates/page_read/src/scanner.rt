@@ -8,7 +8,7 @@ ghost use Rattle.page_grammar.specs.Kind as kinds;
 ghost use Rattle.page_grammar.specs.Reader.{takes_wide};
 ghost use Rattle.page_read.specs.Faults.{kind_of};
 ghost use Rattle.page_read.specs.declared.scanner.Lexical.TheVariants.{Data, InText, TextReference, TagOpen, MarkupDeclaration, CommentStart, InComment, TagName, BeforeAttributeName, AttributeName, AfterAttributeName, BeforeAttributeValue, InAttributeValue, ValueReference, AfterAttributeValue, SelfClosing, EndTagName, AfterEndTagName};
-ghost use Rattle.page_read.specs.View.{machine_of, tree_construction_of, Went, Goes, names_of, labels_of, dashes_of, first_or_empty, Ends, LeavesAt};
+ghost use Rattle.page_read.specs.View.{machine_of, tree_construction_of, Steps, Goes, names_of, labels_of, dashes_of, first_or_empty, Ends, LeavesAt};
 ghost use Rattle.page_read.specs.Steady.{Steady, EachOpen, is_closing};
 ghost use Rattle.page_read.specs.Construction.{IsOpen};
 ghost use Rattle.page_grammar.specs.TreeConstruction.{plant, innermost, seed};
@@ -145,7 +145,8 @@ impl Scanner {
     // May a `<` stand behind a run of text?
     fn may_end_text(&self) -> bool
         requires { self.now.arena.next < self.now.arena.cap }
-        ensures { result ≡ (machine.is_some_open (names_of self.now.opened.items) || (nat_lt (suc self.now.arena.next) self.now.arena.cap && nat_lt 0 self.now.room)) }
+        ensures { result ≡ (machine.is_some_open (names_of self.now.opened.items)
+            || (nat_lt (suc self.now.arena.next) self.now.arena.cap && nat_lt 0 self.now.room)) }
     {
         let next = self.arena.next_label();
         let cap = self.arena.cap();
@@ -169,7 +170,7 @@ impl Scanner {
     fn in_data(&mut self, c: char) -> Result<bool, AllocError>
         requires state { self.old.lexical ≡ Data }
         requires steady { Steady self.old }
-        ensures went { IfOk result (λ went. Went went (machine.step self.old.arena.cap (machine_of self.old) c) self.old self.new) }
+        ensures went { IfOk result (λ went. Steps went c self.old self.new) }
         ensures cap { OnOk result (self.new.arena.cap ≡ self.old.arena.cap) }
         ensures steady { OnOk result (Steady self.new) }
     {
@@ -197,8 +198,10 @@ impl Scanner {
     fn end_text(&mut self) -> Result<(), AllocError>
         requires state { self.old.lexical ≡ InText }
         requires steady { Steady self.old }
-        ensures leaf { OnOk result (machine_of self.new ≡ machine.quiet (machine.after_leaf (machine_of self.old) (machine.TextEvent self.old.text.items))) }
-        ensures planted { OnOk result (tree_construction_of self.new ≡ plant (machine.TextEvent self.old.text.items) (tree_construction_of self.old)) }
+        ensures leaf { OnOk result (machine_of self.new
+            ≡ machine.quiet (machine.after_leaf (machine_of self.old) (machine.TextEvent self.old.text.items))) }
+        ensures planted { OnOk result (tree_construction_of self.new
+            ≡ plant (machine.TextEvent self.old.text.items) (tree_construction_of self.old)) }
         ensures cap { OnOk result (self.new.arena.cap ≡ self.old.arena.cap) }
         ensures steady { OnOk result (Steady self.new) }
     {
@@ -212,7 +215,7 @@ impl Scanner {
     fn in_text(&mut self, c: char) -> Result<bool, AllocError>
         requires state { self.old.lexical ≡ InText }
         requires steady { Steady self.old }
-        ensures went { IfOk result (λ went. Went went (machine.step self.old.arena.cap (machine_of self.old) c) self.old self.new) }
+        ensures went { IfOk result (λ went. Steps went c self.old self.new) }
         ensures cap { OnOk result (self.new.arena.cap ≡ self.old.arena.cap) }
         ensures steady { OnOk result (Steady self.new) }
     {
@@ -235,7 +238,7 @@ impl Scanner {
     fn in_text_reference(&mut self, reference: Reference, c: char) -> Result<bool, AllocError>
         requires state { self.old.lexical ≡ TextReference reference }
         requires steady { Steady self.old }
-        ensures went { IfOk result (λ went. Went went (machine.step self.old.arena.cap (machine_of self.old) c) self.old self.new) }
+        ensures went { IfOk result (λ went. Steps went c self.old self.new) }
         ensures cap { OnOk result (self.new.arena.cap ≡ self.old.arena.cap) }
         ensures steady { OnOk result (Steady self.new) }
     {
@@ -274,7 +277,7 @@ impl Scanner {
     fn tag_open(&mut self, c: char) -> Result<bool, AllocError>
         requires state { self.old.lexical ≡ TagOpen }
         requires steady { Steady self.old }
-        ensures went { IfOk result (λ went. Went went (machine.step self.old.arena.cap (machine_of self.old) c) self.old self.new) }
+        ensures went { IfOk result (λ went. Steps went c self.old self.new) }
         ensures cap { OnOk result (self.new.arena.cap ≡ self.old.arena.cap) }
         ensures steady { OnOk result (Steady self.new) }
     {
@@ -302,7 +305,7 @@ impl Scanner {
     fn markup_declaration(&mut self, c: char) -> bool
         requires state { self.old.lexical ≡ MarkupDeclaration }
         requires steady { Steady self.old }
-        ensures went { Went result (machine.step self.old.arena.cap (machine_of self.old) c) self.old self.new }
+        ensures went { Steps result c self.old self.new }
         ensures cap { self.new.arena.cap ≡ self.old.arena.cap }
         ensures steady { Steady self.new }
     {
@@ -316,7 +319,7 @@ impl Scanner {
     fn comment_start(&mut self, c: char) -> bool
         requires state { self.old.lexical ≡ CommentStart }
         requires steady { Steady self.old }
-        ensures went { Went result (machine.step self.old.arena.cap (machine_of self.old) c) self.old self.new }
+        ensures went { Steps result c self.old self.new }
         ensures cap { self.new.arena.cap ≡ self.old.arena.cap }
         ensures steady { Steady self.new }
     {
@@ -331,8 +334,10 @@ impl Scanner {
     fn end_comment(&mut self) -> Result<(), AllocError>
         requires state { self.old.lexical ≡ InComment Dashes.TwoDashes }
         requires steady { Steady self.old }
-        ensures leaf { OnOk result (machine_of self.new ≡ machine.quiet (machine.after_leaf (machine_of self.old) (machine.CommentEvent self.old.text.items))) }
-        ensures planted { OnOk result (tree_construction_of self.new ≡ plant (machine.CommentEvent self.old.text.items) (tree_construction_of self.old)) }
+        ensures leaf { OnOk result (machine_of self.new
+            ≡ machine.quiet (machine.after_leaf (machine_of self.old) (machine.CommentEvent self.old.text.items))) }
+        ensures planted { OnOk result (tree_construction_of self.new
+            ≡ plant (machine.CommentEvent self.old.text.items) (tree_construction_of self.old)) }
         ensures cap { OnOk result (self.new.arena.cap ≡ self.old.arena.cap) }
         ensures steady { OnOk result (Steady self.new) }
     {
@@ -347,7 +352,8 @@ impl Scanner {
     fn comment_dash(&mut self, dashes: Dashes) -> Result<(), AllocError>
         requires state { self.old.lexical ≡ InComment dashes }
         requires steady { Steady self.old }
-        ensures dash { OnOk result (machine_of self.new ≡ machine.at (machine_of self.old) (machine.dash self.old.text.items (dashes_of dashes))) }
+        ensures dash { OnOk result (machine_of self.new
+            ≡ machine.at (machine_of self.old) (machine.dash self.old.text.items (dashes_of dashes))) }
         ensures kept { OnOk result (tree_construction_of self.new ≡ tree_construction_of self.old) }
         ensures cap { OnOk result (self.new.arena.cap ≡ self.old.arena.cap) }
         ensures steady { OnOk result (Steady self.new) }
@@ -364,7 +370,10 @@ impl Scanner {
     fn comment_char(&mut self, dashes: Dashes, c: char) -> Result<(), AllocError>
         requires state { self.old.lexical ≡ InComment dashes }
         requires steady { Steady self.old }
-        ensures text { OnOk result (machine_of self.new ≡ machine.at (machine_of self.old) (machine.InComment (self.old.text.items ++ (machine.dashes (dashes_of dashes) ++ c ∷ [])) machine.NoDash)) }
+        ensures text { OnOk result (machine_of self.new
+            ≡ machine.at (machine_of self.old)
+            (machine.InComment (self.old.text.items ++ (machine.dashes (dashes_of dashes) ++ c ∷ []))
+            machine.NoDash)) }
         ensures kept { OnOk result (tree_construction_of self.new ≡ tree_construction_of self.old) }
         ensures cap { OnOk result (self.new.arena.cap ≡ self.old.arena.cap) }
         ensures steady { OnOk result (Steady self.new) }
@@ -385,7 +394,7 @@ impl Scanner {
     fn in_comment(&mut self, dashes: Dashes, c: char) -> Result<(), AllocError>
         requires state { self.old.lexical ≡ InComment dashes }
         requires steady { Steady self.old }
-        ensures went { OnOk result (Goes (machine.step self.old.arena.cap (machine_of self.old) c) self.old self.new) }
+        ensures went { OnOk result (Steps true c self.old self.new) }
         ensures cap { OnOk result (self.new.arena.cap ≡ self.old.arena.cap) }
         ensures steady { OnOk result (Steady self.new) }
     {
@@ -418,7 +427,7 @@ impl Scanner {
     fn after_end_tag_name(&mut self, c: char) -> bool
         requires state { self.old.lexical ≡ AfterEndTagName }
         requires steady { Steady self.old }
-        ensures went { Went result (machine.step self.old.arena.cap (machine_of self.old) c) self.old self.new }
+        ensures went { Steps result c self.old self.new }
         ensures cap { self.new.arena.cap ≡ self.old.arena.cap }
         ensures steady { Steady self.new }
     {
@@ -446,7 +455,7 @@ impl Scanner {
     fn end_tag_name(&mut self, read: usize, c: char) -> bool
         requires state { self.old.lexical ≡ EndTagName read }
         requires steady { Steady self.old }
-        ensures went { Went result (machine.step self.old.arena.cap (machine_of self.old) c) self.old self.new }
+        ensures went { Steps result c self.old self.new }
         ensures cap { self.new.arena.cap ≡ self.old.arena.cap }
         ensures steady { Steady self.new }
     {
@@ -471,7 +480,7 @@ impl Scanner {
     /// The next character. False where no page goes on so; then the scanner is as before.
     pub(crate) fn feed(&mut self, c: char) -> Result<bool, AllocError>
         requires steady { Steady self.old }
-        ensures went { IfOk result (λ went. Went went (machine.step self.old.arena.cap (machine_of self.old) c) self.old self.new) }
+        ensures went { IfOk result (λ went. Steps went c self.old self.new) }
         ensures cap { OnOk result (self.new.arena.cap ≡ self.old.arena.cap) }
         ensures steady { OnOk result (Steady self.new) }
     {

@@ -8,7 +8,7 @@ ghost use Rattle.page_grammar.specs.Chars as classes;
 ghost use Rattle.page_grammar.specs.Page.{has_attribute};
 ghost use Rattle.dom_model.specs.AttributeList.{value_of};
 ghost use Rattle.page_read.specs.declared.scanner.Lexical.TheVariants.{Data, TagName, BeforeAttributeName, AttributeName, AfterAttributeName, BeforeAttributeValue, InAttributeValue, ValueReference, AfterAttributeValue, SelfClosing};
-ghost use Rattle.page_read.specs.View.{machine_of, tree_construction_of, Went, Goes, read_attributes, AddsAttribute, MakesElement};
+ghost use Rattle.page_read.specs.View.{machine_of, tree_construction_of, Went, Steps, Goes, read_attributes, AddsAttribute, MakesElement};
 ghost use Rattle.page_read.specs.Steady.{Steady, IsFresh, taken};
 ghost use Rattle.page_grammar.specs.TreeConstruction.{innermost};
 
@@ -41,7 +41,9 @@ impl Scanner {
         requires steady { Steady self.old }
         requires below { self.old.arena.next < self.old.arena.cap }
         requires tag { taken self.old.lexical ≡ 1 }
-        ensures went { OnOk result (Goes (Some (machine.started (machine_of self.old) self.old.tag.items (read_attributes self.old.attributes))) self.old self.new) }
+        ensures went { OnOk result (Goes
+            (Some (machine.started (machine_of self.old) self.old.tag.items (read_attributes self.old.attributes)))
+            self.old self.new) }
         ensures cap { OnOk result (self.new.arena.cap ≡ self.old.arena.cap) }
         ensures steady { OnOk result (Steady self.new) }
     {
@@ -63,12 +65,15 @@ impl Scanner {
         c == '>' || c == '/' && is_void(&self.tag)
     }
 
-    fn end_tag(&mut self, c: char) -> Result<(), AllocError>
+    // A character that may end the start tag so.
+    fn take_tag_end(&mut self, c: char) -> Result<(), AllocError>
         requires steady { Steady self.old }
         requires below { self.old.arena.next < self.old.arena.cap }
         requires tag { taken self.old.lexical ≡ 1 }
         requires may { ((c == 62) || ((c == 47) && names.is_void self.old.tag.items)) ≡ true }
-        ensures went { OnOk result (Goes (machine.tag_end (machine_of self.old) self.old.tag.items (read_attributes self.old.attributes) c) self.old self.new) }
+        ensures went { OnOk result (Goes
+            (machine.tag_end (machine_of self.old) self.old.tag.items (read_attributes self.old.attributes) c)
+            self.old self.new) }
         ensures cap { OnOk result (self.new.arena.cap ≡ self.old.arena.cap) }
         ensures steady { OnOk result (Steady self.new) }
     {
@@ -79,10 +84,28 @@ impl Scanner {
         Ok(())
     }
 
+    // The start tag ends, if it may end so.
+    fn end_tag(&mut self, c: char) -> Result<bool, AllocError>
+        requires steady { Steady self.old }
+        requires below { self.old.arena.next < self.old.arena.cap }
+        requires tag { taken self.old.lexical ≡ 1 }
+        ensures went { IfOk result (λ went. Went went
+            (machine.tag_end (machine_of self.old) self.old.tag.items (read_attributes self.old.attributes) c)
+            self.old self.new) }
+        ensures cap { OnOk result (self.new.arena.cap ≡ self.old.arena.cap) }
+        ensures steady { OnOk result (Steady self.new) }
+    {
+        if !self.may_end_tag(c) {
+            return Ok(false);
+        }
+        self.take_tag_end(c)?;
+        Ok(true)
+    }
+
     pub(super) fn tag_name(&mut self, c: char) -> Result<bool, AllocError>
         requires state { self.old.lexical ≡ TagName }
         requires steady { Steady self.old }
-        ensures went { IfOk result (λ went. Went went (machine.step self.old.arena.cap (machine_of self.old) c) self.old self.new) }
+        ensures went { IfOk result (λ went. Steps went c self.old self.new) }
         ensures cap { OnOk result (self.new.arena.cap ≡ self.old.arena.cap) }
         ensures steady { OnOk result (Steady self.new) }
     {
@@ -97,18 +120,16 @@ impl Scanner {
             self.lexical = Lexical::BeforeAttributeName;
             return Ok(true);
         }
-        if !self.may_end_tag(c) {
-            return Ok(false);
-        }
-        self.end_tag(c)?;
-        Ok(true)
+        self.end_tag(c)
     }
 
     fn begin_name(&mut self, c: char) -> Result<(), AllocError>
         requires steady { Steady self.old }
         requires below { self.old.arena.next < self.old.arena.cap }
         requires tag { taken self.old.lexical ≡ 1 }
-        ensures name { OnOk result (machine_of self.new ≡ machine.at (machine_of self.old) (machine.AttributeName self.old.tag.items (read_attributes self.old.attributes) (classes.lower c ∷ []))) }
+        ensures name { OnOk result (machine_of self.new
+            ≡ machine.at (machine_of self.old)
+            (machine.AttributeName self.old.tag.items (read_attributes self.old.attributes) (classes.lower c ∷ []))) }
         ensures kept { OnOk result (tree_construction_of self.new ≡ tree_construction_of self.old) }
         ensures cap { OnOk result (self.new.arena.cap ≡ self.old.arena.cap) }
         ensures steady { OnOk result (Steady self.new) }
@@ -123,7 +144,7 @@ impl Scanner {
     pub(super) fn before_attribute_name(&mut self, c: char) -> Result<bool, AllocError>
         requires state { self.old.lexical ≡ BeforeAttributeName }
         requires steady { Steady self.old }
-        ensures went { IfOk result (λ went. Went went (machine.step self.old.arena.cap (machine_of self.old) c) self.old self.new) }
+        ensures went { IfOk result (λ went. Steps went c self.old self.new) }
         ensures cap { OnOk result (self.new.arena.cap ≡ self.old.arena.cap) }
         ensures steady { OnOk result (Steady self.new) }
     {
@@ -134,19 +155,17 @@ impl Scanner {
             self.begin_name(c)?;
             return Ok(true);
         }
-        if !self.may_end_tag(c) {
-            return Ok(false);
-        }
-        self.end_tag(c)?;
-        Ok(true)
+        self.end_tag(c)
     }
 
     // Whether the tag has an attribute of this name.
     #[tactic(auto, using(crate::proofs::AttributeLemmas::has_is))]
     pub(super) fn is_repeated(&self) -> Result<bool, AllocError>
         requires { Steady self.now }
-        ensures bytes { IfOk result (λ found. found ≡ is_some (value_of self.now.attributes (encodes self.now.name.items))) }
-        ensures characters { IfOk result (λ found. found ≡ has_attribute (read_attributes self.now.attributes) self.now.name.items) }
+        ensures bytes { IfOk result (λ found.
+            found ≡ is_some (value_of self.now.attributes (encodes self.now.name.items))) }
+        ensures characters { IfOk result (λ found.
+            found ≡ has_attribute (read_attributes self.now.attributes) self.now.name.items) }
     {
         let name = encoded(self.alloc, &self.name)?;
         match self.attributes.get(&name) {
@@ -178,7 +197,10 @@ impl Scanner {
         requires tag { taken self.old.lexical ≡ 1 }
         requires fresh { IsFresh self.old.attributes self.old.name.items }
         requires empty { self.old.value.items ≡ [] }
-        ensures went { IfOk result (λ went. Went went (machine.tag_end (machine_of self.old) self.old.tag.items (machine.with_attribute (read_attributes self.old.attributes) self.old.name.items []) c) self.old self.new) }
+        ensures went { IfOk result (λ went. Went went
+            (machine.tag_end (machine_of self.old) self.old.tag.items
+            (machine.with_attribute (read_attributes self.old.attributes) self.old.name.items []) c)
+            self.old self.new) }
         ensures cap { OnOk result (self.new.arena.cap ≡ self.old.arena.cap) }
         ensures steady { OnOk result (Steady self.new) }
     {
@@ -186,7 +208,7 @@ impl Scanner {
             return Ok(false);
         }
         self.add_attribute()?;
-        self.end_tag(c)?;
+        self.take_tag_end(c)?;
         Ok(true)
     }
 
@@ -194,7 +216,7 @@ impl Scanner {
     pub(super) fn attribute_name(&mut self, c: char) -> Result<bool, AllocError>
         requires state { self.old.lexical ≡ AttributeName }
         requires steady { Steady self.old }
-        ensures went { IfOk result (λ went. Went went (machine.step self.old.arena.cap (machine_of self.old) c) self.old self.new) }
+        ensures went { IfOk result (λ went. Steps went c self.old self.new) }
         ensures cap { OnOk result (self.new.arena.cap ≡ self.old.arena.cap) }
         ensures steady { OnOk result (Steady self.new) }
     {
@@ -219,7 +241,7 @@ impl Scanner {
     pub(super) fn after_attribute_name(&mut self, c: char) -> Result<bool, AllocError>
         requires state { self.old.lexical ≡ AfterAttributeName }
         requires steady { Steady self.old }
-        ensures went { IfOk result (λ went. Went went (machine.step self.old.arena.cap (machine_of self.old) c) self.old self.new) }
+        ensures went { IfOk result (λ went. Steps went c self.old self.new) }
         ensures cap { OnOk result (self.new.arena.cap ≡ self.old.arena.cap) }
         ensures steady { OnOk result (Steady self.new) }
     {
@@ -241,7 +263,7 @@ impl Scanner {
     pub(super) fn before_attribute_value(&mut self, c: char) -> bool
         requires state { self.old.lexical ≡ BeforeAttributeValue }
         requires steady { Steady self.old }
-        ensures went { Went result (machine.step self.old.arena.cap (machine_of self.old) c) self.old self.new }
+        ensures went { Steps result c self.old self.new }
         ensures cap { self.new.arena.cap ≡ self.old.arena.cap }
         ensures steady { Steady self.new }
     {
@@ -258,7 +280,7 @@ impl Scanner {
     pub(super) fn in_attribute_value(&mut self, quote: char, c: char) -> Result<(), AllocError>
         requires state { self.old.lexical ≡ InAttributeValue quote }
         requires steady { Steady self.old }
-        ensures went { OnOk result (Goes (machine.step self.old.arena.cap (machine_of self.old) c) self.old self.new) }
+        ensures went { OnOk result (Steps true c self.old self.new) }
         ensures cap { OnOk result (self.new.arena.cap ≡ self.old.arena.cap) }
         ensures steady { OnOk result (Steady self.new) }
     {
@@ -282,7 +304,7 @@ impl Scanner {
     ) -> Result<bool, AllocError>
         requires state { self.old.lexical ≡ ValueReference quote reference }
         requires steady { Steady self.old }
-        ensures went { IfOk result (λ went. Went went (machine.step self.old.arena.cap (machine_of self.old) c) self.old self.new) }
+        ensures went { IfOk result (λ went. Steps went c self.old self.new) }
         ensures cap { OnOk result (self.new.arena.cap ≡ self.old.arena.cap) }
         ensures steady { OnOk result (Steady self.new) }
     {
@@ -303,7 +325,7 @@ impl Scanner {
     pub(super) fn after_attribute_value(&mut self, c: char) -> Result<bool, AllocError>
         requires state { self.old.lexical ≡ AfterAttributeValue }
         requires steady { Steady self.old }
-        ensures went { IfOk result (λ went. Went went (machine.step self.old.arena.cap (machine_of self.old) c) self.old self.new) }
+        ensures went { IfOk result (λ went. Steps went c self.old self.new) }
         ensures cap { OnOk result (self.new.arena.cap ≡ self.old.arena.cap) }
         ensures steady { OnOk result (Steady self.new) }
     {
@@ -311,17 +333,13 @@ impl Scanner {
             self.lexical = Lexical::BeforeAttributeName;
             return Ok(true);
         }
-        if !self.may_end_tag(c) {
-            return Ok(false);
-        }
-        self.end_tag(c)?;
-        Ok(true)
+        self.end_tag(c)
     }
 
     pub(super) fn self_closing(&mut self, c: char) -> Result<bool, AllocError>
         requires state { self.old.lexical ≡ SelfClosing }
         requires steady { Steady self.old }
-        ensures went { IfOk result (λ went. Went went (machine.step self.old.arena.cap (machine_of self.old) c) self.old self.new) }
+        ensures went { IfOk result (λ went. Steps went c self.old self.new) }
         ensures cap { OnOk result (self.new.arena.cap ≡ self.old.arena.cap) }
         ensures steady { OnOk result (Steady self.new) }
     {

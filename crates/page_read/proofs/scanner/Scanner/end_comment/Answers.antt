@@ -1,12 +1,8 @@
-use Rattle.page_read.proofs.OpenLemmas.{each_moves}
+use Rattle.std.proofs.Common.{ap}
+use Rattle.page_read.specs.Steady.{taken}
+use Rattle.page_read.proofs.OpenLemmas.{leaf_steady}
 use Rattle.page_read.proofs.scanner.Scanner.end_comment.Goals as goal
 
 pub returns-clause-steady : goal.returns-clause-steady
 returns-clause-steady c =
-    record {
-      levels = rw c.requires.state at c.requires.steady.levels;
-      opens = each_moves c.args.self.now.arena c.append_remark.new.arena c.args.self.now.opened.items c.in_ok-append_remark.ensures.opens c.requires.steady.opens;
-      texts = c.requires.steady.texts;
-      scalar = c.requires.steady.scalar;
-      at = tt;
-    }
+    leaf_steady c.args.self.now c.append_remark.new.arena c.requires.steady (ap taken c.requires.state) c.in_ok-append_remark.ensures.opens
