@@ -17,7 +17,7 @@ use Rattle.script_read.specs.declared.act.Place.{Place}
 use Rattle.script_read.specs.declared.verb.Verb.{Verb}
 use Rattle.script_read.specs.declared.verb.Verb.TheVariants as verbs
 use Rattle.script_read.specs.Acts.{word_of, BeginsWith, IsName, IsNumber, IsPath, IsPoint, IsValue, Spells, IsUnknown, IsOutside}
-use Rattle.script_read.specs.Reading.{◌>>=◌, cut, name_of, number_of, count_of, path_of, point_of, value_of, select_of, mark_of, unmark_of, exec_parts, exec_of, query_of, undo_of, redo_of, probe_of, word_act, arguments_act, verb_of, first_word, after_word, Line, Long, Unknown, Known, known_line, line_parts, line_of, IsLine}
+use Rattle.script_read.specs.Reading.{◌>>=◌, cut, name_of, number_of, count_of, path_of, point_of, points_of, value_of, select_of, mark_of, unmark_of, exec_parts, exec_of, query_of, undo_of, redo_of, probe_of, word_act, arguments_act, all_verbs, verb_of, first_word, after_word, Line, Long, Unknown, Known, known_line, line_parts, line_of, IsLine}
 use Rattle.script_read.specs.Answers.{Reads, GivesAct}
 use Rattle.script_read.proofs.Tests.{some-is, chosen, differs, bound}
 use Rattle.script_read.proofs.Cutting.{Avoids, cut-found, cut-none, cut-parts}
@@ -47,16 +47,22 @@ kind_avoids_space kinds.State = (refl, (refl, (refl, (refl, (refl, tt)))))
 kind_avoids_space kinds.Supported = (refl, (refl, (refl, (refl, (refl, (refl, (refl, (refl, (refl, tt)))))))))
 kind_avoids_space kinds.Value = (refl, (refl, (refl, (refl, (refl, tt)))))
 
-select_back : (a f : List ℕ) (anchor focus : Place) → IsPoint a anchor → IsPoint f focus → select_of (a ++ 32 ∷ f) ≡ Some (Select anchor focus)
-unfolding select_of
-select_back a f anchor focus p q =
+points_back : (a f : List ℕ) (anchor focus : Place) → IsPoint a anchor → IsPoint f focus
+    → points_of (a ++ 32 ∷ f) ≡ Some (anchor, focus)
+unfolding points_of
+points_back a f anchor focus p q =
     rw (cut-found 32 a f (point_avoids_space a anchor p)) (rw (point_back a anchor p) (rw (point_back f focus q) refl))
 
-mark_back : (name a f : List ℕ) (anchor focus : Place) → IsName name → IsPoint a anchor → IsPoint f focus → mark_of (name ++ 32 ∷ (a ++ 32 ∷ f)) ≡ Some (Mark name anchor focus)
+select_back : (a f : List ℕ) (anchor focus : Place) → IsPoint a anchor → IsPoint f focus
+    → select_of (a ++ 32 ∷ f) ≡ Some (Select anchor focus)
+unfolding select_of
+select_back a f anchor focus p q = rw (points_back a f anchor focus p q) refl
+
+mark_back : (name a f : List ℕ) (anchor focus : Place) → IsName name → IsPoint a anchor → IsPoint f focus
+    → mark_of (name ++ 32 ∷ (a ++ 32 ∷ f)) ≡ Some (Mark name anchor focus)
 unfolding mark_of
 mark_back name a f anchor focus n p q =
-    rw (cut-found 32 name (a ++ 32 ∷ f) (name_avoids_space name n)) (rw (cut-found 32 a f (point_avoids_space a anchor p))
-    (rw (name_back name n) (rw (point_back a anchor p) (rw (point_back f focus q) refl))))
+    rw (cut-found 32 name (a ++ 32 ∷ f) (name_avoids_space name n)) (rw (name_back name n) (rw (points_back a f anchor focus p q) refl))
 
 unmark_back : (name : List ℕ) → IsName name → unmark_of name ≡ Some (Unmark name)
 unfolding unmark_of
@@ -66,12 +72,14 @@ exec_back : (name : List ℕ) → IsName name → exec_of name ≡ Some (Exec na
 unfolding exec_of
 exec_back name n = rw (cut-none 32 name (name_avoids_space name n)) (rw (name_back name n) refl)
 
-exec_with_back : (name bytes value : List ℕ) → IsName name → IsValue bytes value → exec_of (name ++ 32 ∷ bytes) ≡ Some (Exec name value)
+exec_with_back : (name bytes value : List ℕ) → IsName name → IsValue bytes value
+    → exec_of (name ++ 32 ∷ bytes) ≡ Some (Exec name value)
 unfolding exec_of
 exec_with_back name bytes value n v =
     rw (cut-found 32 name bytes (name_avoids_space name n)) (rw (name_back name n) (rw (text_back false bytes value v) refl))
 
-query_back : (kind : QueryKind) (name : List ℕ) → IsName name → query_of (query_word kind ++ 32 ∷ name) ≡ Some (Query kind name)
+query_back : (kind : QueryKind) (name : List ℕ) → IsName name
+    → query_of (query_word kind ++ 32 ∷ name) ≡ Some (Query kind name)
 unfolding query_of
 query_back kind name n =
     rw (cut-found 32 (query_word kind) name (kind_avoids_space kind)) (rw (kind_back kind) (rw (name_back name n) refl))
@@ -138,27 +146,30 @@ word_cut verbs.Points rest = refl
 word_cut verbs.Stat rest = refl
 word_cut verbs.Log rest = refl
 
-found_word : (text : List ℕ) (vs : List Verb) (v : Verb) → find (λ v. bytes_eq (word_of v) text) vs ≡ Some v → text ≡ word_of v
-found_word text [] v e = absurd (cc)
-found_word text (w ∷ vs) v e =
-    elim (chosen (bytes_eq (word_of w) text) (Some w) (find (λ v. bytes_eq (word_of v) text) vs) (Some v) e) [
-      | inl h ↦ sym ((bytes_eq-Decides (word_of w) text).0 h.0) ∙ ap word_of (some-is h.1)
-      | inr h ↦ found_word text vs v h.1
+-- what is found by its word has that word
+found : {A : Type 0} (word : A → List ℕ) (text : List ℕ) (xs : List A) (x : A)
+    → find (λ x. bytes_eq (word x) text) xs ≡ Some x → text ≡ word x
+found word text [] x e = absurd (cc)
+found word text (y ∷ xs) x e =
+    elim (chosen (bytes_eq (word y) text) (Some y) (find (λ x. bytes_eq (word x) text) xs) (Some x) e) [
+      | inl h ↦ sym ((bytes_eq-Decides (word y) text).0 h.0) ∙ ap word (some-is h.1)
+      | inr h ↦ found word text xs x h.1
     ]
 
 verb_sound : (text : List ℕ) (v : Verb) → verb_of text ≡ Some v → text ≡ word_of v
-verb_sound text v e =
-    found_word text (verbs.Select ∷ verbs.Unselect ∷ verbs.Mark ∷ verbs.Unmark ∷ verbs.Exec ∷ verbs.Query ∷ verbs.Undo ∷ verbs.Redo ∷ verbs.Probe ∷ verbs.Html ∷ verbs.Tree ∷ verbs.Points ∷ verbs.Stat ∷ verbs.Log ∷ []) v e
+verb_sound text v e = found word_of text all_verbs v e
 
 line_of_word : (line : List ℕ) (v : Verb) → line ≡ word_of v → line_parts line (cut 32 line) ≡ Known (word_act v)
 line_of_word line v e = rw e (rw (word_alone v) (rw (word_back v) refl))
 
-line_of_parts : (line : List ℕ) (v : Verb) (text : List ℕ) → line ≡ word_of v ++ 32 ∷ text → line_parts line (cut 32 line) ≡ Known (arguments_act v text)
+line_of_parts : (line : List ℕ) (v : Verb) (text : List ℕ) → line ≡ word_of v ++ 32 ∷ text
+    → line_parts line (cut 32 line) ≡ Known (arguments_act v text)
 line_of_parts line v text e = rw e (rw (word_cut v text) (rw (word_back v) refl))
 
 -- ---- a line with an act
 
-with_text : (line : List ℕ) (v : Verb) (text : List ℕ) (act : Act) → line ≡ word_of v ++ 32 ∷ text → arguments_act v text ≡ Some act → line_parts line (cut 32 line) ≡ Known (Some act)
+with_text : (line : List ℕ) (v : Verb) (text : List ℕ) (act : Act) → line ≡ word_of v ++ 32 ∷ text
+    → arguments_act v text ≡ Some act → line_parts line (cut 32 line) ≡ Known (Some act)
 with_text line v text act e is = line_of_parts line v text e ∙ ap Known is
 
 spelled_line : (line : List ℕ) (act : Act) → Spells line act → line_parts line (cut 32 line) ≡ Known (Some act)
@@ -195,55 +206,59 @@ count_sound text n e =
       | inr h ↦ subst (Counts text) (some-is h.1) (number_sound text b.value b.was, let lacks = h.0 in grind (arith, nat_tests))
     ]
 
-found_kind : (text : List ℕ) (ks : List QueryKind) (k : QueryKind) → find (λ k. bytes_eq (query_word k) text) ks ≡ Some k → text ≡ query_word k
-found_kind text [] k e = absurd (cc)
-found_kind text (j ∷ ks) k e =
-    elim (chosen (bytes_eq (query_word j) text) (Some j) (find (λ k. bytes_eq (query_word k) text) ks) (Some k) e) [
-      | inl h ↦ sym ((bytes_eq-Decides (query_word j) text).0 h.0) ∙ ap query_word (some-is h.1)
-      | inr h ↦ found_kind text ks k h.1
-    ]
-
 kind_sound : (text : List ℕ) (k : QueryKind) → query_kind_of text ≡ Some k → text ≡ query_word k
-kind_sound text k e = found_kind text (kinds.Enabled ∷ kinds.Indeterm ∷ kinds.State ∷ kinds.Supported ∷ kinds.Value ∷ []) k e
+kind_sound text k e = found query_word text (kinds.Enabled ∷ kinds.Indeterm ∷ kinds.State ∷ kinds.Supported ∷ kinds.Value ∷ []) k e
 
 -- a word and what follows it
 abbrev Follows : List ℕ → List ℕ → List ℕ → Type 0
 Follows line word text = line ≡ word ++ 32 ∷ text
 
-two_parts : (line word text : List ℕ) (p : List ℕ × List ℕ) → Follows line word text → cut 32 text ≡ Some p → line ≡ word ++ 32 ∷ (p.0 ++ 32 ∷ p.1)
+two_parts : (line word text : List ℕ) (p : List ℕ × List ℕ) → Follows line word text → cut 32 text ≡ Some p
+    → line ≡ word ++ 32 ∷ (p.0 ++ 32 ∷ p.1)
 two_parts line word text p e c = e ∙ ap (λ t. word ++ 32 ∷ t) (cut-parts 32 text p c)
 
-select_sound : (line text : List ℕ) (act : Act) → Follows line (codes "select") text → select_of text ≡ Some act → Spells line act
+points_sound : (text : List ℕ) (points : Place × Place) → points_of text ≡ Some points
+    → (a f : List ℕ) × (text ≡ a ++ 32 ∷ f) × IsPoint a points.0 × IsPoint f points.1
+unfolding points_of
+points_sound text points e =
+    let c = bound (cut 32 text) (λ parts. point_of parts.0 >>= λ anchor. point_of parts.1 >>= λ focus. Some (anchor, focus)) points e in
+    let a = bound (point_of c.value.0) (λ anchor. point_of c.value.1 >>= λ focus. Some (anchor, focus)) points c.gives in
+    let f = bound (point_of c.value.1) (λ focus. Some (a.value, focus)) points a.gives in
+    subst (λ (p : Place × Place). (a f : List ℕ) × (text ≡ a ++ 32 ∷ f) × IsPoint a p.0 × IsPoint f p.1) (some-is f.gives)
+    (c.value.0, c.value.1, cut-parts 32 text c.value c.was, point_sound c.value.0 a.value a.was, point_sound c.value.1 f.value f.was)
+
+select_sound : (line text : List ℕ) (act : Act) → Follows line (codes "select") text → select_of text ≡ Some act
+    → Spells line act
 unfolding select_of
 select_sound line text act follows e =
-    let c = bound (cut 32 text) (λ parts. point_of parts.0 >>= λ anchor. point_of parts.1 >>= λ focus. Some (Select anchor focus)) act e in
-    let a = bound (point_of c.value.0) (λ anchor. point_of c.value.1 >>= λ focus. Some (Select anchor focus)) act c.gives in
-    let f = bound (point_of c.value.1) (λ focus. Some (Select a.value focus)) act a.gives in
-    subst (Spells line) (some-is f.gives)
-    (c.value.0, c.value.1, two_parts line (codes "select") text c.value follows c.was, point_sound c.value.0 a.value a.was, point_sound c.value.1 f.value f.was)
+    let c = bound (points_of text) (λ points. Some (Select points.0 points.1)) act e in
+    let p = points_sound text c.value c.was in
+    subst (Spells line) (some-is c.gives) (p.0, p.1, follows ∙ ap (λ t. codes "select" ++ 32 ∷ t) p.2, p.3, p.4)
 
-mark_sound : (line text : List ℕ) (act : Act) → Follows line (codes "mark") text → mark_of text ≡ Some act → Spells line act
+mark_sound : (line text : List ℕ) (act : Act) → Follows line (codes "mark") text → mark_of text ≡ Some act
+    → Spells line act
 unfolding mark_of
 mark_sound line text act follows e =
-    let c = bound (cut 32 text) (λ parts. cut 32 parts.1 >>= λ points. name_of parts.0 >>= λ name. point_of points.0 >>= λ anchor. point_of points.1 >>= λ focus. Some (Mark name anchor focus)) act e in
-    let d = bound (cut 32 c.value.1) (λ points. name_of c.value.0 >>= λ name. point_of points.0 >>= λ anchor. point_of points.1 >>= λ focus. Some (Mark name anchor focus)) act c.gives in
-    let n = bound (name_of c.value.0) (λ name. point_of d.value.0 >>= λ anchor. point_of d.value.1 >>= λ focus. Some (Mark name anchor focus)) act d.gives in
-    let a = bound (point_of d.value.0) (λ anchor. point_of d.value.1 >>= λ focus. Some (Mark n.value anchor focus)) act n.gives in
-    let f = bound (point_of d.value.1) (λ focus. Some (Mark n.value a.value focus)) act a.gives in
+    let c = bound (cut 32 text) (λ parts. name_of parts.0 >>= λ name. points_of parts.1 >>= λ points. Some (Mark name points.0 points.1)) act e in
+    let n = bound (name_of c.value.0) (λ name. points_of c.value.1 >>= λ points. Some (Mark name points.0 points.1)) act c.gives in
+    let b = bound (points_of c.value.1) (λ points. Some (Mark n.value points.0 points.1)) act n.gives in
     let name = name_sound c.value.0 n.value n.was in
-    let parts : line ≡ codes "mark" ++ 32 ∷ (c.value.0 ++ 32 ∷ (d.value.0 ++ 32 ∷ d.value.1)) =
-    two_parts line (codes "mark") text c.value follows c.was ∙ ap (λ t. codes "mark" ++ 32 ∷ (c.value.0 ++ 32 ∷ t)) (cut-parts 32 c.value.1 d.value d.was) in
-    subst (Spells line) (ap (λ x. Mark x a.value f.value) name.1 ∙ some-is f.gives)
-    (d.value.0, d.value.1, parts, name.0, point_sound d.value.0 a.value a.was, point_sound d.value.1 f.value f.was)
+    let p = points_sound c.value.1 b.value b.was in
+    let parts : line ≡ codes "mark" ++ 32 ∷ (c.value.0 ++ 32 ∷ (p.0 ++ 32 ∷ p.1)) =
+    two_parts line (codes "mark") text c.value follows c.was ∙ ap (λ t. codes "mark" ++ 32 ∷ (c.value.0 ++ 32 ∷ t)) p.2 in
+    subst (Spells line) (ap (λ x. Mark x b.value.0 b.value.1) name.1 ∙ some-is b.gives)
+    (p.0, p.1, parts, name.0, p.3, p.4)
 
-unmark_sound : (line text : List ℕ) (act : Act) → Follows line (codes "unmark") text → unmark_of text ≡ Some act → Spells line act
+unmark_sound : (line text : List ℕ) (act : Act) → Follows line (codes "unmark") text → unmark_of text ≡ Some act
+    → Spells line act
 unfolding unmark_of
 unmark_sound line text act follows e =
     let n = bound (name_of text) (λ name. Some (Unmark name)) act e in
     let name = name_sound text n.value n.was in
     subst (Spells line) (ap Unmark name.1 ∙ some-is n.gives) (follows, name.0)
 
-exec_by : (line text : List ℕ) (act : Act) (o : Option (List ℕ × List ℕ)) → Follows line (codes "exec") text → cut 32 text ≡ o → exec_parts text o ≡ Some act → Spells line act
+exec_by : (line text : List ℕ) (act : Act) (o : Option (List ℕ × List ℕ)) → Follows line (codes "exec") text
+    → cut 32 text ≡ o → exec_parts text o ≡ Some act → Spells line act
 exec_by line text act None follows c e =
     let n = bound (name_of text) (λ name. Some (Exec name [])) act e in
     let name = name_sound text n.value n.was in
@@ -255,11 +270,13 @@ exec_by line text act (Some p) follows c e =
     subst (Spells line) (ap (λ x. Exec x v.value) name.1 ∙ some-is v.gives)
     (name.0, inr (p.1, two_parts line (codes "exec") text p follows c, text_sound false p.1 v.value v.was))
 
-exec_sound : (line text : List ℕ) (act : Act) → Follows line (codes "exec") text → exec_of text ≡ Some act → Spells line act
+exec_sound : (line text : List ℕ) (act : Act) → Follows line (codes "exec") text → exec_of text ≡ Some act
+    → Spells line act
 unfolding exec_of
 exec_sound line text act follows e = exec_by line text act (cut 32 text) follows refl e
 
-query_sound : (line text : List ℕ) (act : Act) → Follows line (codes "query") text → query_of text ≡ Some act → Spells line act
+query_sound : (line text : List ℕ) (act : Act) → Follows line (codes "query") text → query_of text ≡ Some act
+    → Spells line act
 unfolding query_of
 query_sound line text act follows e =
     let c = bound (cut 32 text) (λ parts. query_kind_of parts.0 >>= λ kind. name_of parts.1 >>= λ name. Some (Query kind name)) act e in
@@ -270,21 +287,24 @@ query_sound line text act follows e =
     two_parts line (codes "query") text c.value follows c.was ∙ ap (λ t. codes "query" ++ 32 ∷ (t ++ 32 ∷ c.value.1)) (kind_sound c.value.0 k.value k.was) in
     subst (Spells line) (ap (Query k.value) name.1 ∙ some-is n.gives) (parts, name.0)
 
-undo_sound : (line text : List ℕ) (act : Act) → Follows line (codes "undo") text → undo_of text ≡ Some act → Spells line act
+undo_sound : (line text : List ℕ) (act : Act) → Follows line (codes "undo") text → undo_of text ≡ Some act
+    → Spells line act
 unfolding undo_of
 undo_sound line text act follows e =
     let n = bound (count_of text) (λ count. Some (Undo count)) act e in
     let c = count_sound text n.value n.was in
     subst (Spells line) (some-is n.gives) (text, follows, c.0, c.1)
 
-redo_sound : (line text : List ℕ) (act : Act) → Follows line (codes "redo") text → redo_of text ≡ Some act → Spells line act
+redo_sound : (line text : List ℕ) (act : Act) → Follows line (codes "redo") text → redo_of text ≡ Some act
+    → Spells line act
 unfolding redo_of
 redo_sound line text act follows e =
     let n = bound (count_of text) (λ count. Some (Redo count)) act e in
     let c = count_sound text n.value n.was in
     subst (Spells line) (some-is n.gives) (text, follows, c.0, c.1)
 
-probe_sound : (line text : List ℕ) (act : Act) → Follows line (codes "probe") text → probe_of text ≡ Some act → Spells line act
+probe_sound : (line text : List ℕ) (act : Act) → Follows line (codes "probe") text → probe_of text ≡ Some act
+    → Spells line act
 unfolding probe_of
 probe_sound line text act follows e =
     let p = bound (path_of text) (λ path. Some (Probe path)) act e in
@@ -306,7 +326,8 @@ word_sound line verbs.Points act is e = subst (Spells line) (some-is e) is
 word_sound line verbs.Stat act is e = subst (Spells line) (some-is e) is
 word_sound line verbs.Log act is e = subst (Spells line) (some-is e) is
 
-arguments_sound : (line : List ℕ) (v : Verb) (text : List ℕ) (act : Act) → Follows line (word_of v) text → arguments_act v text ≡ Some act → Spells line act
+arguments_sound : (line : List ℕ) (v : Verb) (text : List ℕ) (act : Act) → Follows line (word_of v) text
+    → arguments_act v text ≡ Some act → Spells line act
 arguments_sound line verbs.Select text act is e = select_sound line text act is e
 arguments_sound line verbs.Unselect text act is e = absurd (cc)
 arguments_sound line verbs.Mark text act is e = mark_sound line text act is e
@@ -324,7 +345,8 @@ arguments_sound line verbs.Log text act is e = absurd (cc)
 
 -- ---- what a line is
 
-begins_known : (line : List ℕ) (v : Verb) → BeginsWith line v → (o : Option Act) × (line_parts line (cut 32 line) ≡ Known o)
+begins_known : (line : List ℕ) (v : Verb) → BeginsWith line v
+    → (o : Option Act) × (line_parts line (cut 32 line) ≡ Known o)
 begins_known line v (inl e) = (word_act v, line_of_word line v e)
 begins_known line v (inr (text, e)) = (arguments_act v text, line_of_parts line v text e)
 
@@ -340,11 +362,13 @@ no_act line e act spells = let f : Known None ≡ Known (Some act) = sym e ∙ s
 no_word : (line : List ℕ) → line_parts line (cut 32 line) ≡ Unknown → (verb : Verb) → ¬ (BeginsWith line verb)
 no_word line e verb begins = let b = begins_known line verb begins in let f : Unknown ≡ Known b.0 = sym e ∙ b.1 in absurd (cc)
 
-known_short : (line : List ℕ) (v : Verb) (o : Option Act) → line_parts line (cut 32 line) ≡ Known o → BeginsWith line v → ((act : Act) → o ≡ Some act → Spells line act) → IsShort line (Known o)
+known_short : (line : List ℕ) (v : Verb) (o : Option Act) → line_parts line (cut 32 line) ≡ Known o
+    → BeginsWith line v → ((act : Act) → o ≡ Some act → Spells line act) → IsShort line (Known o)
 known_short line v None e begins sound = ((v, begins), no_act line e)
 known_short line v (Some act) e begins sound = ((v, begins), sound act refl)
 
-short_by : (line : List ℕ) (o : Option (List ℕ × List ℕ)) (w : Option Verb) → cut 32 line ≡ o → verb_of (first_word line o) ≡ w → IsShort line (known_line (after_word o) w)
+short_by : (line : List ℕ) (o : Option (List ℕ × List ℕ)) (w : Option Verb) → cut 32 line ≡ o
+    → verb_of (first_word line o) ≡ w → IsShort line (known_line (after_word o) w)
 short_by line o None c e = no_word line (rw (c, e) refl)
 short_by line None (Some v) c e =
     let is : line ≡ word_of v = verb_sound line v e in
@@ -409,33 +433,40 @@ one_meaning line (Known (Some act)) is = spelled_at line act is.0 is.1
 
 -- ---- what is answered
 
-pub act_is : (line : List ℕ) (result : Result Act LineFault) (l : Line) → IsLine line l → GivesAct result l → IfOk result (λ act. (length line ≤ 8192) × Spells line act)
+pub act_is : (line : List ℕ) (result : Result Act LineFault) (l : Line) → IsLine line l → GivesAct result l
+    → IfOk result (λ act. (length line ≤ 8192) × Spells line act)
 act_is line (Err fault) l is gives = tt
 act_is line (Ok act) Long is gives = absurd (cc)
 act_is line (Ok act) Unknown is gives = absurd (cc)
 act_is line (Ok act) (Known None) is gives = absurd (cc)
 act_is line (Ok act) (Known (Some read)) is gives = (is.0, subst (Spells line) (some-is gives) is.1)
 
-pub spelled_is : (line : List ℕ) (result : Result Act LineFault) → GivesAct result (line_of line) → (act : Act) → length line ≤ 8192 → Spells line act → Reads result (Some act)
+pub spelled_is : (line : List ℕ) (result : Result Act LineFault) → GivesAct result (line_of line) → (act : Act)
+    → length line ≤ 8192 → Spells line act → Reads result (Some act)
 spelled_is line result gives act le spells = subst (GivesAct result) (spelled_at line act le spells) gives
 
-is_long : (line : List ℕ) (result : Result Act LineFault) (l : Line) → IsLine line l → GivesAct result l → result ≡ Err LongLine → 8192 < length line
+is_long : (line : List ℕ) (result : Result Act LineFault) (l : Line) → IsLine line l → GivesAct result l
+    → result ≡ Err LongLine → 8192 < length line
 is_long line result Long is gives e = is
 is_long line result Unknown is gives e = absurd (let f = sym gives ∙ e in cc)
 is_long line result (Known o) is gives e = absurd (subst (λ (r : Result Act LineFault). Reads r o) e gives)
 
-pub long_is : (line : List ℕ) (result : Result Act LineFault) → GivesAct result (line_of line) → (result ≡ Err LongLine) ↔ (8192 < length line)
+pub long_is : (line : List ℕ) (result : Result Act LineFault) → GivesAct result (line_of line)
+    → (result ≡ Err LongLine) ↔ (8192 < length line)
 long_is line result gives = (is_long line result (line_of line) (means line) gives, λ lt. subst (GivesAct result) (one_meaning line Long lt) gives)
 
-is_unknown : (line : List ℕ) (result : Result Act LineFault) (l : Line) → IsLine line l → GivesAct result l → result ≡ Err UnknownAct → IsUnknown line
+is_unknown : (line : List ℕ) (result : Result Act LineFault) (l : Line) → IsLine line l → GivesAct result l
+    → result ≡ Err UnknownAct → IsUnknown line
 is_unknown line result Long is gives e = absurd (let f = sym gives ∙ e in cc)
 is_unknown line result Unknown is gives e = is
 is_unknown line result (Known o) is gives e = absurd (subst (λ (r : Result Act LineFault). Reads r o) e gives)
 
-pub unknown_is : (line : List ℕ) (result : Result Act LineFault) → GivesAct result (line_of line) → (result ≡ Err UnknownAct) ↔ IsUnknown line
+pub unknown_is : (line : List ℕ) (result : Result Act LineFault) → GivesAct result (line_of line)
+    → (result ≡ Err UnknownAct) ↔ IsUnknown line
 unknown_is line result gives = (is_unknown line result (line_of line) (means line) gives, λ lacks. subst (GivesAct result) (one_meaning line Unknown lacks) gives)
 
-pub syntax_is : (line : List ℕ) (result : Result Act LineFault) (l : Line) → IsLine line l → GivesAct result l → result ≡ Err Syntax → IsOutside line
+pub syntax_is : (line : List ℕ) (result : Result Act LineFault) (l : Line) → IsLine line l → GivesAct result l
+    → result ≡ Err Syntax → IsOutside line
 syntax_is line result Long is gives e = absurd (let f = sym gives ∙ e in cc)
 syntax_is line result Unknown is gives e = absurd (let f = sym gives ∙ e in cc)
 syntax_is line result (Known None) is gives e = is
@@ -448,5 +479,6 @@ none_read (Err UnknownAct) e = absurd e
 none_read (Err LongLine) e = absurd e
 none_read (Err Memory) e = inr refl
 
-pub outside_is : (line : List ℕ) (result : Result Act LineFault) → GivesAct result (line_of line) → IsOutside line → (result ≡ Err Syntax) ⊎ (result ≡ Err Memory)
+pub outside_is : (line : List ℕ) (result : Result Act LineFault) → GivesAct result (line_of line) → IsOutside line
+    → (result ≡ Err Syntax) ⊎ (result ≡ Err Memory)
 outside_is line result gives lacks = none_read result (subst (GivesAct result) (one_meaning line (Known None) lacks) gives)

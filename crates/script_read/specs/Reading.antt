@@ -73,6 +73,12 @@ unfoldable pub point_of : List ℕ → Option Place
 point_of text =
     cut 58 text >>= λ parts. number_of parts.1 >>= λ offset. path_of parts.0 >>= λ path. Some (place_at path offset)
 
+-- two points with a space between
+unfoldable pub points_of : List ℕ → Option (Place × Place)
+points_of text =
+    cut 32 text >>= λ parts. point_of parts.0 >>= λ anchor. point_of parts.1 >>= λ focus.
+    Some (anchor, focus)
+
 -- ---- values and texts
 
 abbrev pub Step : Type 0
@@ -119,7 +125,8 @@ is_outside (escapes.Digits count number) = false
 unfoldable pub value_from : Bool → Escape → List ℕ → Option (List ℕ)
 value_from printed state [] = if is_outside state then Some [] else None
 value_from printed state (c ∷ cs) =
-    stepped printed state c >>= λ step. option_map (λ value. option_to_list step.1 ++ value) (value_from printed step.0 cs)
+    stepped printed state c >>= λ step.
+    option_map (λ value. option_to_list step.1 ++ value) (value_from printed step.0 cs)
 
 unfoldable pub text_of : Bool → List ℕ → Option (List ℕ)
 text_of printed bytes = if is_utf8 bytes then value_from printed escapes.Outside (chars bytes) else None
@@ -133,12 +140,12 @@ printed_of bytes = text_of true bytes
 -- ---- acts
 
 unfoldable pub select_of : List ℕ → Option Act
-select_of text = cut 32 text >>= λ parts. point_of parts.0 >>= λ anchor. point_of parts.1 >>= λ focus. Some (Select anchor focus)
+select_of text = points_of text >>= λ points. Some (Select points.0 points.1)
 
 unfoldable pub mark_of : List ℕ → Option Act
 mark_of text =
-    cut 32 text >>= λ parts. cut 32 parts.1 >>= λ points.
-    name_of parts.0 >>= λ name. point_of points.0 >>= λ anchor. point_of points.1 >>= λ focus. Some (Mark name anchor focus)
+    cut 32 text >>= λ parts. name_of parts.0 >>= λ name. points_of parts.1 >>= λ points.
+    Some (Mark name points.0 points.1)
 
 abbrev pub exec_parts : List ℕ → Option (List ℕ × List ℕ) → Option Act
 exec_parts text None = name_of text >>= λ name. Some (Exec name [])
@@ -148,7 +155,9 @@ unfoldable pub exec_of : List ℕ → Option Act
 exec_of text = exec_parts text (cut 32 text)
 
 unfoldable pub query_of : List ℕ → Option Act
-query_of text = cut 32 text >>= λ parts. query_kind_of parts.0 >>= λ kind. name_of parts.1 >>= λ name. Some (Query kind name)
+query_of text =
+    cut 32 text >>= λ parts. query_kind_of parts.0 >>= λ kind. name_of parts.1 >>= λ name.
+    Some (Query kind name)
 
 -- the act that is its word alone
 abbrev pub word_act : Verb → Option Act
@@ -202,10 +211,13 @@ act_of verb (Some text) = arguments_act verb text
 
 -- ---- lines
 
+abbrev pub all_verbs : List Verb
+all_verbs =
+    verbs.Select ∷ verbs.Unselect ∷ verbs.Mark ∷ verbs.Unmark ∷ verbs.Exec ∷ verbs.Query ∷ verbs.Undo
+    ∷ verbs.Redo ∷ verbs.Probe ∷ verbs.Html ∷ verbs.Tree ∷ verbs.Points ∷ verbs.Stat ∷ verbs.Log ∷ []
+
 abbrev pub verb_of : List ℕ → Option Verb
-verb_of word =
-    find (λ verb. bytes_eq (word_of verb) word)
-    (verbs.Select ∷ verbs.Unselect ∷ verbs.Mark ∷ verbs.Unmark ∷ verbs.Exec ∷ verbs.Query ∷ verbs.Undo ∷ verbs.Redo ∷ verbs.Probe ∷ verbs.Html ∷ verbs.Tree ∷ verbs.Points ∷ verbs.Stat ∷ verbs.Log ∷ [])
+verb_of word = find (λ verb. bytes_eq (word_of verb) word) all_verbs
 
 -- what stands before the first space of a line, and what after it
 abbrev pub first_word : List ℕ → Option (List ℕ × List ℕ) → List ℕ

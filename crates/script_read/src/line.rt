@@ -8,7 +8,7 @@ ghost use Rattle.script_read.specs.Reading.{now_of, cut, name_of, count_of, sele
 
 use crate::act::{Act, LineFault};
 use crate::parts::{cut, is_name, read_number};
-use crate::place::{read_path, read_point};
+use crate::place::{read_path, read_points};
 use crate::value::read_value;
 use crate::verb::Verb;
 use dom_model::{Chars, Name};
@@ -36,9 +36,7 @@ fn read_count(text: &[u8]) -> Option<u32>
 fn read_select(alloc: Global, text: &[u8]) -> Result<Act, LineFault>
     ensures { Reads result (select_of text.now) }
 {
-    let (anchor, focus) = cut(text, b' ').ok_or(LineFault::Syntax)?;
-    let anchor = read_point(alloc, anchor)?;
-    let focus = read_point(alloc, focus)?;
+    let (anchor, focus) = read_points(alloc, text)?;
     Ok(Act::Select { anchor, focus })
 }
 
@@ -47,10 +45,8 @@ fn read_mark(alloc: Global, text: &[u8]) -> Result<Act, LineFault>
     ensures { Reads result (mark_of text.now) }
 {
     let (name, points) = cut(text, b' ').ok_or(LineFault::Syntax)?;
-    let (anchor, focus) = cut(points, b' ').ok_or(LineFault::Syntax)?;
     let name = read_name(alloc, name)?;
-    let anchor = read_point(alloc, anchor)?;
-    let focus = read_point(alloc, focus)?;
+    let (anchor, focus) = read_points(alloc, points)?;
     Ok(Act::Mark {
         name,
         anchor,

@@ -2,7 +2,7 @@
 
 ghost use Rattle.std.specs.Prelude.{◌≡◌};
 ghost use Rattle.script_read.specs.Answers.{Reads};
-ghost use Rattle.script_read.specs.Reading.{indexes_of, path_of, point_of};
+ghost use Rattle.script_read.specs.Reading.{indexes_of, path_of, point_of, points_of};
 
 use crate::act::{LineFault, Path, Place};
 use crate::parts::{cut, read_number};
@@ -48,4 +48,15 @@ pub fn read_point(alloc: Global, text: &[u8]) -> Result<Place, LineFault>
     let offset = read_number(offset).ok_or(LineFault::Syntax)?;
     let path = read_path(alloc, path)?;
     Ok(Place { path, offset })
+}
+
+// Two points with a space between.
+#[tactic(auto, unfolding(crate::specs::Reading::points_of))]
+pub(crate) fn read_points(alloc: Global, text: &[u8]) -> Result<(Place, Place), LineFault>
+    ensures { Reads result (points_of text.now) }
+{
+    let (anchor, focus) = cut(text, b' ').ok_or(LineFault::Syntax)?;
+    let anchor = read_point(alloc, anchor)?;
+    let focus = read_point(alloc, focus)?;
+    Ok((anchor, focus))
 }
