@@ -1,7 +1,7 @@
 use Rattle.std.proofs.Common.{ap, ◌<◌, arith}
 use Rattle.node_arena.specs.Held.{label}
-use Rattle.node_paths.proofs.Visiting.{size_from, come_to, led, size_led, size_here}
-use Rattle.page_write.proofs.Visiting.{html_written}
+use Rattle.node_paths.proofs.Visiting.{size_from, come_to}
+use Rattle.page_write.proofs.Visiting.{leads_on, html_written}
 use Rattle.page_write.proofs.html.+push_trees.Goals as goal
 
 pub push_trees-requires : goal.push_trees-requires
@@ -9,32 +9,28 @@ push_trees-requires t c =
     let a = c.args.arena.now in
     let i = c.loop-at.invariant in
     let v = come_to a c.valid.ensures c.loop-at.at c.in-Some.node _ c.in-Some.is i.held i.inner c.content-content.ensures in
-    let below = size_led a _ _ c.first_child.ensures in
-    let here = size_here a c.loop-at.at c.in-Some.node c.in-Some.is in
+    let below = leads_on a c.loop-at.at c.in-Some.node c.in-Some.is _ _ c.first_child.ensures v.below v.first in
     let whole = c.decreases in
-    let smaller : size_from a.trees (label c.first_child.result) < t = omega (arith, below, v.below, i.fewer, here, whole) in
-    (smaller, (c.first_child.ensures.held, led a _ _ c.first_child.ensures v.first))
+    let smaller : size_from a.trees (label c.first_child.result) < t = omega (arith, below.0, i.fewer, whole) in
+    (smaller, (c.first_child.ensures.held, below.1))
 
 pub loop-at-smaller : goal.loop-at-smaller
 loop-at-smaller t c =
     let a = c.args.arena.now in
     let i = c.loop-at.invariant in
     let v = come_to a c.valid.ensures c.loop-at.at c.in-Some.node _ c.in-Some.is i.held i.inner c.content-content.ensures in
-    let after = size_led a _ _ c.next-at.ensures in
-    let here = size_here a c.loop-at.at c.in-Some.node c.in-Some.is in
-    let smaller : size_from a.trees (label c.next-at.result) < size_from a.trees (label c.loop-at.at) = omega (arith, after, v.after, here) in
-    smaller
+    (leads_on a c.loop-at.at c.in-Some.node c.in-Some.is _ _ c.next-at.ensures v.after v.next).0
 
 pub loop-at-preserved : goal.loop-at-preserved
 loop-at-preserved t c =
     let a = c.args.arena.now in
     let i = c.loop-at.invariant in
     let v = come_to a c.valid.ensures c.loop-at.at c.in-Some.node _ c.in-Some.is i.held i.inner c.content-content.ensures in
-    let after = size_led a _ _ c.next-at.ensures in
-    let here = size_here a c.loop-at.at c.in-Some.node c.in-Some.is in
+    let after = leads_on a c.loop-at.at c.in-Some.node c.in-Some.is _ _ c.next-at.ensures v.after v.next in
     record {
       held = c.next-at.ensures.held;
-      inner = led a _ _ c.next-at.ensures v.next;
-      fewer = omega (arith, after, v.after, i.fewer, here);
-      written = html_written a c.in-Some.node.label _ v _ _ _ c.first_child.ensures.is c.next-at.ensures.is (ap label c.in-Some.is) _ _ _ _ _ i.written c.in_ok-push_opening.ensures.ok c.in_ok-push_trees.ensures.ok c.in_ok-push_closing.ensures.ok;
+      inner = after.1;
+      fewer = omega (arith, after.0, i.fewer);
+      written = html_written a c.in-Some.node.label _ v _ _ _ c.first_child.ensures.is c.next-at.ensures.is (ap label c.in-Some.is)
+          _ _ _ _ _ i.written c.in_ok-push_opening.ensures.ok c.in_ok-push_trees.ensures.ok c.in_ok-push_closing.ensures.ok;
     }

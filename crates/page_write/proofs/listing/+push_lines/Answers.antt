@@ -1,7 +1,7 @@
 use Rattle.std.proofs.Common.{ap, ◌+◌, ◌<◌, ◌^◌, arith}
 use Rattle.node_arena.specs.Held.{label}
-use Rattle.node_paths.proofs.Visiting.{size_from, come_to, led, size_led, size_here}
-use Rattle.page_write.proofs.Visiting.{lines_written}
+use Rattle.node_paths.proofs.Visiting.{size_from, come_to, size_here}
+use Rattle.page_write.proofs.Visiting.{leads_on, lines_written}
 use Rattle.page_write.proofs.listing.+push_lines.Goals as goal
 
 pub push_lines-requires : goal.push_lines-requires
@@ -9,35 +9,31 @@ push_lines-requires t c =
     let a = c.args.arena.now in
     let i = c.loop-at.invariant in
     let v = come_to a c.valid.ensures c.loop-at.at c.in-Some.node _ c.in-Some.is i.held i.inner c.content.ensures in
-    let below = size_led a _ _ c.first_child.ensures in
-    let here = size_here a c.loop-at.at c.in-Some.node c.in-Some.is in
+    let below = leads_on a c.loop-at.at c.in-Some.node c.in-Some.is _ _ c.first_child.ensures v.below v.first in
     let whole = c.decreases in
-    let smaller : size_from a.trees (label c.first_child.result) < t = omega (arith, below, v.below, i.fewer, here, whole) in
-    let room : c.args.level + 1 + size_from a.trees (label c.first_child.result) < 2 ^ 64 = omega (arith, below, v.below, i.fewer, here, c.requires.room) in
-    (smaller, (c.first_child.ensures.held, (led a _ _ c.first_child.ensures v.first, room)))
+    let smaller : size_from a.trees (label c.first_child.result) < t = omega (arith, below.0, i.fewer, whole) in
+    let room : c.args.level + 1 + size_from a.trees (label c.first_child.result) < 2 ^ 64 = omega (arith, below.0, i.fewer, c.requires.room) in
+    (smaller, (c.first_child.ensures.held, (below.1, room)))
 
 pub loop-at-smaller : goal.loop-at-smaller
 loop-at-smaller t c =
     let a = c.args.arena.now in
     let i = c.loop-at.invariant in
     let v = come_to a c.valid.ensures c.loop-at.at c.in-Some.node _ c.in-Some.is i.held i.inner c.content.ensures in
-    let after = size_led a _ _ c.next-at.ensures in
-    let here = size_here a c.loop-at.at c.in-Some.node c.in-Some.is in
-    let smaller : size_from a.trees (label c.next-at.result) < size_from a.trees (label c.loop-at.at) = omega (arith, after, v.after, here) in
-    smaller
+    (leads_on a c.loop-at.at c.in-Some.node c.in-Some.is _ _ c.next-at.ensures v.after v.next).0
 
 pub loop-at-preserved : goal.loop-at-preserved
 loop-at-preserved t c =
     let a = c.args.arena.now in
     let i = c.loop-at.invariant in
     let v = come_to a c.valid.ensures c.loop-at.at c.in-Some.node _ c.in-Some.is i.held i.inner c.content.ensures in
-    let after = size_led a _ _ c.next-at.ensures in
-    let here = size_here a c.loop-at.at c.in-Some.node c.in-Some.is in
+    let after = leads_on a c.loop-at.at c.in-Some.node c.in-Some.is _ _ c.next-at.ensures v.after v.next in
     record {
       held = c.next-at.ensures.held;
-      inner = led a _ _ c.next-at.ensures v.next;
-      fewer = omega (arith, after, v.after, i.fewer, here);
-      written = lines_written a c.in-Some.node.label _ v c.args.level _ _ _ c.first_child.ensures.is c.next-at.ensures.is (ap label c.in-Some.is) _ _ _ _ i.written c.in_ok-push_line.ensures.ok c.in_ok-push_lines.ensures.ok;
+      inner = after.1;
+      fewer = omega (arith, after.0, i.fewer);
+      written = lines_written a c.in-Some.node.label _ v c.args.level _ _ _ c.first_child.ensures.is c.next-at.ensures.is
+          (ap label c.in-Some.is) _ _ _ _ i.written c.in_ok-push_line.ensures.ok c.in_ok-push_lines.ensures.ok;
     }
 
 pub overflow_add-level : goal.overflow_add-level
