@@ -15,7 +15,7 @@ use Rattle.step_text.specs.declared.line.Made.TheVariants as made
 use Rattle.step_text.specs.declared.line.StepLine.{StepLine}
 use Rattle.step_text.specs.declared.line.StepLine.TheVariants.{Entry, Words}
 use Rattle.step_text.specs.StepLine.{is_element_name, is_attribute_name, IsLabel, AreAttributes, IsTag, IsMade, IsStepLine, line_text}
-use Rattle.step_text.specs.StepReading.{within, unescaped, unreferenced, decoded, element_name_of, attribute_name_of, attribute_of, with_attribute, attributes_from, attributes_of, tag_parts, start_tag_of, tag_of, words_of, is_quoted, made_of, before_of, labelled, make_of, insert_of, remove_of, move_of, words_step_of, tag_step_of, arguments_of, parts_of, step_of, confirmed, step_in}
+use Rattle.step_text.specs.StepReading.{within, unescaped, unreferenced, decoded, element_name_of, attribute_name_of, attribute_of, with_attribute, attributes_from, attributes_of, tag_parts, start_tag_of, tag_of, words_of, is_quoted, made_of, before_of, labelled, place_of, make_of, insert_of, remove_of, move_of, words_step_of, tag_step_of, arguments_of, parts_of, step_of, confirmed, step_in}
 use Rattle.step_text.proofs.Loops.{set_are}
 use Rattle.step_text.proofs.Steps.{label_sound, step_back}
 
@@ -29,11 +29,13 @@ any_so : {A : Type 0} (o : Option A) → IfSome o (λ x. Unit {0})
 any_so None = tt
 any_so (Some x) = tt
 
-bound_so : {A B : Type 0} (P : A → Type 0) (Q : B → Type 0) (o : Option A) (f : A → Option B) → IfSome o P → ((x : A) → P x → IfSome (f x) Q) → IfSome (o >>= f) Q
+bound_so : {A B : Type 0} (P : A → Type 0) (Q : B → Type 0) (o : Option A) (f : A → Option B) → IfSome o P
+    → ((x : A) → P x → IfSome (f x) Q) → IfSome (o >>= f) Q
 bound_so P Q None f p h = tt
 bound_so P Q (Some x) f p h = h x p
 
-mapped_so : {A B : Type 0} (P : A → Type 0) (Q : B → Type 0) (o : Option A) (f : A → B) → IfSome o P → ((x : A) → P x → Q (f x)) → IfSome (option_map f o) Q
+mapped_so : {A B : Type 0} (P : A → Type 0) (Q : B → Type 0) (o : Option A) (f : A → B) → IfSome o P
+    → ((x : A) → P x → Q (f x)) → IfSome (option_map f o) Q
 mapped_so P Q None f p h = tt
 mapped_so P Q (Some x) f p h = h x p
 
@@ -76,7 +78,9 @@ words_so text = each_so AreScalars (words_of text) (λ words is. spelled_scalars
 -- ---- tags
 
 -- another name, told from each of a list
-all_set : (name : List ℕ) (list : List Attribute) (n v : List ℕ) → bytes_eq name n ≡ false → AllByRecursion (λ other. bytes_eq name other ≡ false) (names_of list) → AllByRecursion (λ other. bytes_eq name other ≡ false) (names_of (set_in list n v))
+all_set : (name : List ℕ) (list : List Attribute) (n v : List ℕ) → bytes_eq name n ≡ false
+    → AllByRecursion (λ other. bytes_eq name other ≡ false) (names_of list)
+    → AllByRecursion (λ other. bytes_eq name other ≡ false) (names_of (set_in list n v))
 all_set name [] n v other all = (other, tt)
 all_set name (a ∷ list) n v other all = by_test (bytes_eq n a.name) (all_set name list n v other all.1)
   where
@@ -119,7 +123,8 @@ attribute_so head value =
     bound_so (λ name. is_attribute_name name ≡ true) IsAttribute (attribute_name_of (within head)) _ (tested_so (λ name. is_attribute_name name ≡ true) (is_attribute_name (within head)) (within head) (λ is. is))
     (λ name is. bound_so AreScalars IsAttribute (decoded (unreferenced value)) _ (decoded_so (unreferenced value)) (λ chars all. (is, all)))
 
-attributes_so : (list : List Attribute) (parts : List (List ℕ)) → AreDistinct list → IfSome (attributes_from list parts) AreDistinct
+attributes_so : (list : List Attribute) (parts : List (List ℕ)) → AreDistinct list
+    → IfSome (attributes_from list parts) AreDistinct
 attributes_so list [] are = tt
 attributes_so list (last ∷ []) are = are
 attributes_so list (head ∷ (value ∷ parts)) are =
@@ -153,19 +158,26 @@ make_so text =
     bound_so HasLabel IsStepLine (labelled text) _ (labelled_so text)
     (λ node label. bound_so IsMade IsStepLine (made_of node.1) _ (made_so node.1) (λ new is. (label, is)))
 
+abbrev IsPlace : ℕ × Option ℕ → Type 0
+IsPlace place = IsLabel place.0 × IsBefore place.1
+
+place_so : (text : List ℕ) → IfSome (place_of text) IsPlace
+unfolding place_of
+place_so text =
+    bound_so HasLabel IsPlace (labelled text) _ (labelled_so text)
+    (λ parent label. bound_so IsBefore IsPlace (before_of parent.1) _ (before_so parent.1) (λ before is. (label, is)))
+
 insert_so : (text : List ℕ) → IfSome (insert_of text) IsStepLine
 unfolding insert_of
 insert_so text =
     bound_so HasLabel IsStepLine (labelled text) _ (labelled_so text)
-    (λ node label. bound_so HasLabel IsStepLine (labelled node.1) _ (labelled_so node.1)
-    (λ parent place. bound_so IsBefore IsStepLine (before_of parent.1) _ (before_so parent.1) (λ before is. (label, place, is))))
+    (λ node label. bound_so IsPlace IsStepLine (place_of node.1) _ (place_so node.1) (λ place is. (label, is.0, is.1)))
 
 move_so : (text : List ℕ) → IfSome (move_of text) IsStepLine
 unfolding move_of
 move_so text =
     bound_so HasLabel IsStepLine (labelled text) _ (labelled_so text)
-    (λ node label. bound_so HasLabel IsStepLine (labelled node.1) _ (labelled_so node.1)
-    (λ parent place. bound_so IsBefore IsStepLine (before_of parent.1) _ (before_so parent.1) (λ before is. (label, place, is))))
+    (λ node label. bound_so IsPlace IsStepLine (place_of node.1) _ (place_so node.1) (λ place is. (label, is.0, is.1)))
 
 remove_so : (text : List ℕ) → IfSome (remove_of text) IsStepLine
 unfolding remove_of
@@ -203,7 +215,8 @@ step_so line = parts_so line (cut 32 line)
 
 -- ---- the step of a line
 
-confirmed_is : (line : List ℕ) (o : Option StepLine) (step : StepLine) → IfSome o IsStepLine → confirmed line o ≡ Some step → IsStepLine step × (line_text step ≡ line)
+confirmed_is : (line : List ℕ) (o : Option StepLine) (step : StepLine) → IfSome o IsStepLine
+    → confirmed line o ≡ Some step → IsStepLine step × (line_text step ≡ line)
 confirmed_is line None step is e = absurd (cc)
 confirmed_is line (Some s) step is e = by_test (bytes_eq (line_text s) line) (bytes_eq-Decides (line_text s) line) e
   where
@@ -222,5 +235,6 @@ step_is : (line : List ℕ) (step : StepLine) → step_in line ≡ Some step →
 unfolding step_in
 step_is line step e = confirmed_is line (step_of line) step (step_so line) e
 
-pub step_of_line : (line : List ℕ) (step : StepLine) → (step_in line ≡ Some step) ↔ (IsStepLine step × (line_text step ≡ line))
+pub step_of_line : (line : List ℕ) (step : StepLine)
+    → (step_in line ≡ Some step) ↔ (IsStepLine step × (line_text step ≡ line))
 step_of_line line step = (step_is line step, λ is. confirmed_back line step is.0 is.1)

@@ -28,7 +28,7 @@ use Rattle.step_text.specs.declared.line.StepLine.TheVariants.{Entry, Make, Inse
 use Rattle.step_text.specs.declared.line.StepFault.{StepFault}
 use Rattle.step_text.specs.declared.line.StepFault.TheVariants.{Syntax, BadLabel, BadPlace, TooDeep, Memory}
 use Rattle.step_text.specs.StepLine.{quoted, tag_bytes, tag_text, made_text, before_text, line_text, IsLabel, IsTag, IsMade, IsStepLine}
-use Rattle.step_text.specs.StepReading.{Fails, words_of, made_of, before_of, labelled, make_of, insert_of, remove_of, move_of, words_step_of, tag_step_of, arguments_of, step_of}
+use Rattle.step_text.specs.StepReading.{Fails, words_of, made_of, before_of, labelled, place_of, make_of, insert_of, remove_of, move_of, words_step_of, tag_step_of, arguments_of, step_of}
 use Rattle.step_text.proofs.Bytes.{within_back}
 use Rattle.step_text.proofs.Tags.{tag_back}
 
@@ -119,32 +119,41 @@ made_back (made.Words words) is = rw (words_back words is) refl
 -- ---- steps
 
 -- the arguments after each word
-make_back : (n : ℕ) (new : Made) → IsLabel n → IsMade new → make_of ((decimal n ++ 32 ∷ []) ++ made_text new) ≡ Some (Make n new)
+make_back : (n : ℕ) (new : Made) → IsLabel n → IsMade new
+    → make_of ((decimal n ++ 32 ∷ []) ++ made_text new) ≡ Some (Make n new)
 unfolding make_of
 make_back n new label is = rw (spaced_back n (made_text new) label, made_back new is) refl
 
-words_step_back : (n : ℕ) (words : List ℕ) → IsLabel n → all_scalars words ≡ true → words_step_of ((decimal n ++ 32 ∷ []) ++ quoted words) ≡ Some (Words n words)
+words_step_back : (n : ℕ) (words : List ℕ) → IsLabel n → all_scalars words ≡ true
+    → words_step_of ((decimal n ++ 32 ∷ []) ++ quoted words) ≡ Some (Words n words)
 unfolding words_step_of
 words_step_back n words label is = rw (spaced_back n (quoted words) label, words_back words is) refl
 
-tag_step_back : (n : ℕ) (name : List ℕ) (attributes : List Attribute) → IsLabel n → IsTag name attributes → tag_step_of ((decimal n ++ 32 ∷ []) ++ tag_text name attributes) ≡ Some (Tag n name attributes)
+tag_step_back : (n : ℕ) (name : List ℕ) (attributes : List Attribute) → IsLabel n → IsTag name attributes
+    → tag_step_of ((decimal n ++ 32 ∷ []) ++ tag_text name attributes) ≡ Some (Tag n name attributes)
 unfolding tag_step_of
 tag_step_back n name attributes label is = rw (spaced_back n (tag_text name attributes) label, tag_back name attributes is) refl
 
-place_regrouped : (n p : ℕ) (before : List ℕ) → (((decimal n ++ 32 ∷ []) ++ decimal p) ++ 32 ∷ []) ++ before ≡ (decimal n ++ 32 ∷ []) ++ (decimal p ++ 32 ∷ before)
+place_regrouped : (n p : ℕ) (before : List ℕ)
+    → (((decimal n ++ 32 ∷ []) ++ decimal p) ++ 32 ∷ []) ++ before ≡ (decimal n ++ 32 ∷ []) ++ (decimal p ++ 32 ∷ before)
 place_regrouped n p before = simp append_assoc
+
+place_back : (p : ℕ) (before : Option ℕ) → IsLabel p → IfSome before IsLabel
+    → place_of (decimal p ++ 32 ∷ before_text before) ≡ Some (p, before)
+unfolding place_of
+place_back p before parent is = rw (labelled_back p (before_text before) parent, before_back before is) refl
 
 insert_back : (n p : ℕ) (before : Option ℕ) → IsLabel n → IsLabel p → IfSome before IsLabel
     → insert_of ((((decimal n ++ 32 ∷ []) ++ decimal p) ++ 32 ∷ []) ++ before_text before) ≡ Some (Insert n p before)
 unfolding insert_of
 insert_back n p before label parent is =
-    rw (place_regrouped n p (before_text before), spaced_back n (decimal p ++ 32 ∷ before_text before) label, labelled_back p (before_text before) parent, before_back before is) refl
+    rw (place_regrouped n p (before_text before), spaced_back n (decimal p ++ 32 ∷ before_text before) label, place_back p before parent is) refl
 
 move_back : (n p : ℕ) (before : Option ℕ) → IsLabel n → IsLabel p → IfSome before IsLabel
     → move_of ((((decimal n ++ 32 ∷ []) ++ decimal p) ++ 32 ∷ []) ++ before_text before) ≡ Some (Move n p before)
 unfolding move_of
 move_back n p before label parent is =
-    rw (place_regrouped n p (before_text before), spaced_back n (decimal p ++ 32 ∷ before_text before) label, labelled_back p (before_text before) parent, before_back before is) refl
+    rw (place_regrouped n p (before_text before), spaced_back n (decimal p ++ 32 ∷ before_text before) label, place_back p before parent is) refl
 
 remove_back : (n : ℕ) → IsLabel n → remove_of (decimal n) ≡ Some (Remove n)
 unfolding remove_of
@@ -166,7 +175,8 @@ one_step a b p q e = some-is (sym (step_back a p) ∙ ap step_of e ∙ step_back
 -- ---- the answers of a reader
 
 -- a step that the line is the line of is read, or memory runs out
-pub fails_spelled : (line : List ℕ) (fault : StepFault) → Fails fault (step_of line) → (s : StepLine) → IsStepLine s → line_text s ≡ line → fault ≡ Memory
+pub fails_spelled : (line : List ℕ) (fault : StepFault) → Fails fault (step_of line) → (s : StepLine) → IsStepLine s
+    → line_text s ≡ line → fault ≡ Memory
 fails_spelled line Syntax fails s is e = absurd (let back : step_of line ≡ Some s = ap step_of (sym e) ∙ step_back s is in cc)
 fails_spelled line BadLabel fails s is e = absurd fails
 fails_spelled line BadPlace fails s is e = absurd fails
@@ -174,22 +184,26 @@ fails_spelled line TooDeep fails s is e = absurd fails
 fails_spelled line Memory fails s is e = refl
 
 -- what is read is the only step that the line may be the line of
-pub read_is_only : (line : List ℕ) (read : StepLine) → step_of line ≡ Some read → (s : StepLine) → IsStepLine s → line_text s ≡ line → s ≡ read
+pub read_is_only : (line : List ℕ) (read : StepLine) → step_of line ≡ Some read → (s : StepLine) → IsStepLine s
+    → line_text s ≡ line → s ≡ read
 read_is_only line read e s is same = some-is (sym (step_back s is) ∙ ap step_of same ∙ e)
 
-pub exit_spelled : (line : List ℕ) (r : Result StepLine StepFault) (e : StepFault) → IsErrAnd r (λ y. y ≡ e) → Fails e (step_of line)
+pub exit_spelled : (line : List ℕ) (r : Result StepLine StepFault) (e : StepFault) → IsErrAnd r (λ y. y ≡ e)
+    → Fails e (step_of line)
     → (s : StepLine) → IsStepLine s → line_text s ≡ line → (r ≡ Ok s) ⊎ (r ≡ Err Memory)
 exit_spelled line (Ok x) e h fails s is same = absurd h
 exit_spelled line (Err y) e h fails s is same = inr (ap Err (h ∙ fails_spelled line e fails s is same))
 
-pub exit_syntax : (line : List ℕ) (r : Result StepLine StepFault) (e : StepFault) → IsErrAnd r (λ y. y ≡ e) → Fails e (step_of line)
+pub exit_syntax : (line : List ℕ) (r : Result StepLine StepFault) (e : StepFault) → IsErrAnd r (λ y. y ≡ e)
+    → Fails e (step_of line)
     → r ≡ Err Syntax → (s : StepLine) → IsStepLine s → ¬ (line_text s ≡ line)
 exit_syntax line (Ok x) e h fails is_syntax s is same = absurd h
 exit_syntax line (Err y) e h fails is_syntax s is same =
     absurd (let memory : y ≡ Memory = h ∙ fails_spelled line e fails s is same in cc)
 
 -- a line that the step read doesn't print as is no step's
-pub refused : (line printed shown : List ℕ) (read : StepLine) (ne : Bool) → step_of line ≡ Some read → printed ≡ line_text read → shown ≡ printed → ne ≡ not (bytes_eq shown line) → ne ≡ true
+pub refused : (line printed shown : List ℕ) (read : StepLine) (ne : Bool) → step_of line ≡ Some read
+    → printed ≡ line_text read → shown ≡ printed → ne ≡ not (bytes_eq shown line) → ne ≡ true
     → (s : StepLine) → IsStepLine s → ¬ (line_text s ≡ line)
 refused line printed shown read ne e p q test differs s is same =
     let shown_is : shown ≡ line = q ∙ p ∙ ap line_text (sym (read_is_only line read e s is same)) ∙ same in

@@ -154,21 +154,21 @@ before_of text = if bytes_eq text (codes "-") then Some None else option_map Som
 unfoldable pub labelled : List ℕ → Option (ℕ × List ℕ)
 labelled text = cut 32 text >>= λ parts. option_map (λ label. (label, parts.1)) (number_of parts.0)
 
+-- a parent, and the child before which a node goes
+unfoldable pub place_of : List ℕ → Option (ℕ × Option ℕ)
+place_of text = labelled text >>= λ parent. before_of parent.1 >>= λ before. Some (parent.0, before)
+
 unfoldable pub make_of : List ℕ → Option StepLine
 make_of text = labelled text >>= λ node. made_of node.1 >>= λ new. Some (Make node.0 new)
 
 unfoldable pub insert_of : List ℕ → Option StepLine
-insert_of text =
-    labelled text >>= λ node. labelled node.1 >>= λ parent. before_of parent.1 >>= λ before.
-    Some (Insert node.0 parent.0 before)
+insert_of text = labelled text >>= λ node. place_of node.1 >>= λ place. Some (Insert node.0 place.0 place.1)
 
 unfoldable pub remove_of : List ℕ → Option StepLine
 remove_of text = number_of text >>= λ label. Some (Remove label)
 
 unfoldable pub move_of : List ℕ → Option StepLine
-move_of text =
-    labelled text >>= λ node. labelled node.1 >>= λ parent. before_of parent.1 >>= λ before.
-    Some (Move node.0 parent.0 before)
+move_of text = labelled text >>= λ node. place_of node.1 >>= λ place. Some (Move node.0 place.0 place.1)
 
 unfoldable pub words_step_of : List ℕ → Option StepLine
 words_step_of text = labelled text >>= λ node. words_of node.1 >>= λ words. Some (Words node.0 words)

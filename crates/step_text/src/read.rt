@@ -47,6 +47,17 @@ fn read_before(text: &[u8]) -> Result<Option<u32>, StepFault>
     }
 }
 
+// A parent, and the child before which a node goes.
+#[tactic(auto, unfolding(crate::specs::StepReading::place_of))]
+fn read_place(text: &[u8]) -> Result<(u32, Option<u32>), StepFault>
+    ensures read { Reads result (reading.place_of text.now) }
+    ensures sound { IfOk result (λ place. IsLabel place.0 × IfSome place.1 IsLabel) }
+{
+    let (parent, before) = read_labelled(text).ok_or(StepFault::Syntax)?;
+    let before = read_before(before)?;
+    Ok((parent, before))
+}
+
 fn read_words(alloc: Global, text: &[u8]) -> Result<Chars, StepFault>
     ensures read { Reads result (reading.words_of text.now) }
     ensures sound { IfOk result (λ words. all_scalars words ≡ true) }
@@ -91,8 +102,7 @@ fn read_insert(text: &[u8]) -> Result<StepLine, StepFault>
     ensures sound { IfOk result IsStepLine }
 {
     let (label, place) = read_labelled(text).ok_or(StepFault::Syntax)?;
-    let (parent, before) = read_labelled(place).ok_or(StepFault::Syntax)?;
-    let before = read_before(before)?;
+    let (parent, before) = read_place(place)?;
     Ok(StepLine::Insert {
         label,
         parent,
@@ -115,8 +125,7 @@ fn read_move(text: &[u8]) -> Result<StepLine, StepFault>
     ensures sound { IfOk result IsStepLine }
 {
     let (label, place) = read_labelled(text).ok_or(StepFault::Syntax)?;
-    let (parent, before) = read_labelled(place).ok_or(StepFault::Syntax)?;
-    let before = read_before(before)?;
+    let (parent, before) = read_place(place)?;
     Ok(StepLine::Move {
         label,
         parent,
