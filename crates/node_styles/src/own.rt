@@ -97,14 +97,9 @@ fn default_display(content: &Content) -> Option<Display>
 pub(crate) fn own_display(content: &Content) -> Option<Display>
     ensures { result ≡ own.own_display content.now }
 {
-    let stated = match declared(content, b"display") {
-        Some(text) => read_display(text),
-        None => None,
-    };
-    match stated {
-        Some(value) => Some(value),
-        None => default_display(content),
-    }
+    declared(content, b"display")
+        .and_then(|text| read_display(text))
+        .or_else(|| default_display(content))
 }
 
 // The white-space that a text of the table stands for.
@@ -132,62 +127,41 @@ fn default_white_space(content: &Content) -> Option<WhiteSpace>
 pub(crate) fn own_white_space(content: &Content) -> Option<WhiteSpace>
     ensures { result ≡ own.own_white_space content.now }
 {
-    let stated = match declared(content, b"white-space") {
-        Some(text) => read_white_space(text),
-        None => None,
-    };
-    match stated {
-        Some(value) => Some(value),
-        None => default_white_space(content),
-    }
+    declared(content, b"white-space")
+        .and_then(|text| read_white_space(text))
+        .or_else(|| default_white_space(content))
 }
 
 #[tactic(auto, using(crate::proofs::Defaults::weight_default))]
 fn default_font_weight(content: &Content) -> Option<u16>
     ensures { result ≡ option_and_then values.font_weight_of (own.defaulted content.now property.FontWeight) }
 {
-    match defaulted(content, Property::FontWeight) {
-        Some(_) => Some(700),
-        None => None,
-    }
+    defaulted(content, Property::FontWeight).map(|_| 700)
 }
 
 #[tactic(auto, unfolding(crate::specs::OwnStyles::own_font_weight))]
 pub(crate) fn own_font_weight(content: &Content) -> Option<u16>
     ensures { result ≡ own.own_font_weight content.now }
 {
-    let stated = match declared(content, b"font-weight") {
-        Some(text) => read_font_weight(text),
-        None => None,
-    };
-    match stated {
-        Some(value) => Some(value),
-        None => default_font_weight(content),
-    }
+    declared(content, b"font-weight")
+        .and_then(|text| read_font_weight(text))
+        .or_else(|| default_font_weight(content))
 }
 
 #[tactic(auto, using(crate::proofs::Defaults::style_default))]
 fn default_font_style(content: &Content) -> Option<FontStyle>
     ensures { result ≡ option_and_then values.font_style_of (own.defaulted content.now property.FontStyle) }
 {
-    match defaulted(content, Property::FontStyle) {
-        Some(_) => Some(FontStyle::Italic),
-        None => None,
-    }
+    defaulted(content, Property::FontStyle).map(|_| FontStyle::Italic)
 }
 
 #[tactic(auto, unfolding(crate::specs::OwnStyles::own_font_style))]
 pub(crate) fn own_font_style(content: &Content) -> Option<FontStyle>
     ensures { result ≡ own.own_font_style content.now }
 {
-    let stated = match declared(content, b"font-style") {
-        Some(text) => read_font_style(text),
-        None => None,
-    };
-    match stated {
-        Some(value) => Some(value),
-        None => default_font_style(content),
-    }
+    declared(content, b"font-style")
+        .and_then(|text| read_font_style(text))
+        .or_else(|| default_font_style(content))
 }
 
 /// A family's name as the page has it, the one that the table gives, or the initial one.
@@ -202,10 +176,7 @@ pub enum Family<'a> {
 fn default_font_family<'a>(content: &Content) -> Option<Family<'a>>
     ensures { option_map family_text result ≡ option_and_then own.family_of (own.defaulted content.now property.FontFamily) }
 {
-    match defaulted(content, Property::FontFamily) {
-        Some(_) => Some(Family::Monospace),
-        None => None,
-    }
+    defaulted(content, Property::FontFamily).map(|_| Family::Monospace)
 }
 
 // The family that the style gives.
@@ -220,10 +191,7 @@ fn stated_font_family(content: &Content) -> Option<&[char]>
 fn written_font_family(content: &Content) -> Option<&[char]>
     ensures { option_copied result ≡ option_or (option_and_then own.family_of (own.declared content.now (codes "font-family"))) (own.family_hint content.now) }
 {
-    match stated_font_family(content) {
-        Some(text) => Some(text),
-        None => family_hint(content),
-    }
+    stated_font_family(content).or_else(|| family_hint(content))
 }
 
 #[tactic(auto, unfolding(crate::specs::OwnStyles::own_font_family))]
@@ -263,24 +231,16 @@ fn default_font_size(content: &Content) -> Option<u16>
 fn presented_font_size(content: &Content) -> Option<u16>
     ensures { result ≡ option_or (own.size_hint content.now) (option_and_then values.font_size_of (own.defaulted content.now property.FontSize)) }
 {
-    match size_hint(content) {
-        Some(size) => Some(size),
-        None => default_font_size(content),
-    }
+    size_hint(content).or_else(|| default_font_size(content))
 }
 
 #[tactic(auto, unfolding(crate::specs::OwnStyles::own_font_size))]
 pub(crate) fn own_font_size(content: &Content) -> Option<u16>
     ensures { result ≡ own.own_font_size content.now }
 {
-    let stated = match declared(content, b"font-size") {
-        Some(text) => read_font_size(text),
-        None => None,
-    };
-    match stated {
-        Some(value) => Some(value),
-        None => presented_font_size(content),
-    }
+    declared(content, b"font-size")
+        .and_then(|text| read_font_size(text))
+        .or_else(|| presented_font_size(content))
 }
 
 // The colours of the table: links are blue.
@@ -288,38 +248,27 @@ pub(crate) fn own_font_size(content: &Content) -> Option<u16>
 fn default_color(content: &Content) -> Option<Colour>
     ensures { result ≡ option_and_then colour_of (own.defaulted content.now property.Color) }
 {
-    match defaulted(content, Property::Color) {
-        Some(_) => Some(Colour {
-            red: 0,
-            green: 0,
-            blue: 238,
-            clear: false,
-        }),
-        None => None,
-    }
+    defaulted(content, Property::Color).map(|_| Colour {
+        red: 0,
+        green: 0,
+        blue: 238,
+        clear: false,
+    })
 }
 
 fn presented_color(content: &Content) -> Option<Colour>
     ensures { result ≡ option_or (own.color_hint content.now) (option_and_then colour_of (own.defaulted content.now property.Color)) }
 {
-    match color_hint(content) {
-        Some(colour) => Some(colour),
-        None => default_color(content),
-    }
+    color_hint(content).or_else(|| default_color(content))
 }
 
 #[tactic(auto, unfolding(crate::specs::OwnStyles::own_color))]
 pub(crate) fn own_color(content: &Content) -> Option<Colour>
     ensures { result ≡ own.own_color content.now }
 {
-    let stated = match declared(content, b"color") {
-        Some(text) => Colour::read(text),
-        None => None,
-    };
-    match stated {
-        Some(value) => Some(value),
-        None => presented_color(content),
-    }
+    declared(content, b"color")
+        .and_then(|text| Colour::read(text))
+        .or_else(|| presented_color(content))
 }
 
 // What is marked has a yellow background.
@@ -327,15 +276,12 @@ pub(crate) fn own_color(content: &Content) -> Option<Colour>
 fn default_background_color(content: &Content) -> Option<Colour>
     ensures { result ≡ option_and_then colour_of (own.defaulted content.now property.BackgroundColor) }
 {
-    match defaulted(content, Property::BackgroundColor) {
-        Some(_) => Some(Colour {
-            red: 255,
-            green: 255,
-            blue: 0,
-            clear: false,
-        }),
-        None => None,
-    }
+    defaulted(content, Property::BackgroundColor).map(|_| Colour {
+        red: 255,
+        green: 255,
+        blue: 0,
+        clear: false,
+    })
 }
 
 /// The `background-color` that an element gives itself, by its style or by its name.
@@ -343,14 +289,9 @@ fn default_background_color(content: &Content) -> Option<Colour>
 pub fn own_background_color(content: &Content) -> Option<Colour>
     ensures { result ≡ own.own_background_color content.now }
 {
-    let stated = match declared(content, b"background-color") {
-        Some(text) => Colour::read(text),
-        None => None,
-    };
-    match stated {
-        Some(value) => Some(value),
-        None => default_background_color(content),
-    }
+    declared(content, b"background-color")
+        .and_then(|text| Colour::read(text))
+        .or_else(|| default_background_color(content))
 }
 
 // The lines that a text of the table stands for.
@@ -384,47 +325,31 @@ fn default_text_decoration(content: &Content) -> Option<TextDecoration>
 pub fn own_text_decoration(content: &Content) -> Option<TextDecoration>
     ensures { result ≡ own.own_text_decoration content.now }
 {
-    let stated = match declared(content, b"text-decoration") {
-        Some(text) => read_text_decoration(text),
-        None => None,
-    };
-    match stated {
-        Some(value) => Some(value),
-        None => default_text_decoration(content),
-    }
+    declared(content, b"text-decoration")
+        .and_then(|text| read_text_decoration(text))
+        .or_else(|| default_text_decoration(content))
 }
 
 #[tactic(auto, using(crate::proofs::Defaults::align_default))]
 fn default_text_align(content: &Content) -> Option<TextAlign>
     ensures { result ≡ option_and_then values.text_align_of (own.defaulted content.now property.TextAlign) }
 {
-    match defaulted(content, Property::TextAlign) {
-        Some(_) => Some(TextAlign::Center),
-        None => None,
-    }
+    defaulted(content, Property::TextAlign).map(|_| TextAlign::Center)
 }
 
 fn presented_text_align(content: &Content) -> Option<TextAlign>
     ensures { result ≡ option_or (own.align_hint content.now) (option_and_then values.text_align_of (own.defaulted content.now property.TextAlign)) }
 {
-    match align_hint(content) {
-        Some(alignment) => Some(alignment),
-        None => default_text_align(content),
-    }
+    align_hint(content).or_else(|| default_text_align(content))
 }
 
 #[tactic(auto, unfolding(crate::specs::OwnStyles::own_text_align))]
 pub(crate) fn own_text_align(content: &Content) -> Option<TextAlign>
     ensures { result ≡ own.own_text_align content.now }
 {
-    let stated = match declared(content, b"text-align") {
-        Some(text) => read_text_align(text),
-        None => None,
-    };
-    match stated {
-        Some(value) => Some(value),
-        None => presented_text_align(content),
-    }
+    declared(content, b"text-align")
+        .and_then(|text| read_text_align(text))
+        .or_else(|| presented_text_align(content))
 }
 
 // Whether the element gives the property a value.

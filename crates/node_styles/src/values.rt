@@ -1,8 +1,11 @@
 //! The resolved values of the properties of a node.
 
 ghost use Rattle.std.specs.Prelude.{◌≡◌, IfOk};
+ghost use Rattle.std.specs.Option.{option_map};
 ghost use Rattle.node_styles.specs.Families.{family_text};
+ghost use Rattle.node_styles.specs.Lineage.{nearest};
 ghost use Rattle.node_styles.specs.Resolved as resolved;
+ghost use Rattle.node_styles.specs.Traits.{has_own};
 
 use crate::lineage::{Trait, nearest};
 use crate::own::{
@@ -13,9 +16,40 @@ use css_value::{
     Colour, Display, FontStyle, TextAlign, TextDecoration, WhiteSpace, print_font_size,
     print_font_weight,
 };
-use node_arena::{Chars, NodeRef, Nodes};
+use node_arena::{Chars, Content, NodeRef, Nodes};
 use std::alloc::{AllocError, Global};
 use style_table::Property;
+
+const BLACK: Colour = Colour {
+    red: 0,
+    green: 0,
+    blue: 0,
+    clear: false,
+};
+
+const TRANSPARENT: Colour = Colour {
+    red: 0,
+    green: 0,
+    blue: 0,
+    clear: true,
+};
+
+const NO_LINES: TextDecoration = TextDecoration {
+    underline: false,
+    overline: false,
+    line_through: false,
+};
+
+// The content of the innermost of a node and its ancestors that gives the property a value.
+fn owner<N: Nodes>(nodes: &N, node: NodeRef, property: Property) -> Option<&Content>
+    requires { N.holds nodes.now node }
+    ensures { option_map (λ content. content.now) result ≡ option_map (λ k. k.content) (nearest (has_own property) (N.trees nodes.now) node.label) }
+{
+    match nearest(nodes, node, &Trait::Own(property)) {
+        Some(owner) => Some(nodes.content(owner)),
+        None => None,
+    }
+}
 
 /// The resolved `display`.
 #[tactic(auto, unfolding(crate::specs::Resolved::display))]
@@ -23,10 +57,7 @@ pub fn display<N: Nodes>(nodes: &N, node: NodeRef) -> Display
     requires { N.holds nodes.now node }
     ensures { result ≡ resolved.display (N.trees nodes.now) node.label }
 {
-    match own_display(nodes.content(node)) {
-        Some(value) => value,
-        None => Display::Inline,
-    }
+    own_display(nodes.content(node)).unwrap_or(Display::Inline)
 }
 
 /// The resolved `background-color`. It isn't inherited.
@@ -35,15 +66,7 @@ pub fn background_color<N: Nodes>(nodes: &N, node: NodeRef) -> Colour
     requires { N.holds nodes.now node }
     ensures { result ≡ resolved.background_color (N.trees nodes.now) node.label }
 {
-    match own_background_color(nodes.content(node)) {
-        Some(value) => value,
-        None => Colour {
-            red: 0,
-            green: 0,
-            blue: 0,
-            clear: true,
-        },
-    }
+    own_background_color(nodes.content(node)).unwrap_or(TRANSPARENT)
 }
 
 /// The resolved `text-decoration`. It isn't inherited.
@@ -52,14 +75,7 @@ pub fn text_decoration<N: Nodes>(nodes: &N, node: NodeRef) -> TextDecoration
     requires { N.holds nodes.now node }
     ensures { result ≡ resolved.text_decoration (N.trees nodes.now) node.label }
 {
-    match own_text_decoration(nodes.content(node)) {
-        Some(value) => value,
-        None => TextDecoration {
-            underline: false,
-            overline: false,
-            line_through: false,
-        },
-    }
+    own_text_decoration(nodes.content(node)).unwrap_or(NO_LINES)
 }
 
 /// The resolved `white-space`.
@@ -68,14 +84,9 @@ pub fn white_space<N: Nodes>(nodes: &N, node: NodeRef) -> WhiteSpace
     requires { N.holds nodes.now node }
     ensures { result ≡ resolved.white_space (N.trees nodes.now) node.label }
 {
-    let own = match nearest(nodes, node, &Trait::Own(Property::WhiteSpace)) {
-        Some(owner) => own_white_space(nodes.content(owner)),
-        None => None,
-    };
-    match own {
-        Some(value) => value,
-        None => WhiteSpace::Normal,
-    }
+    owner(nodes, node, Property::WhiteSpace)
+        .and_then(own_white_space)
+        .unwrap_or(WhiteSpace::Normal)
 }
 
 /// The resolved `font-weight`, 100 to 900.
@@ -84,14 +95,9 @@ pub fn font_weight<N: Nodes>(nodes: &N, node: NodeRef) -> u16
     requires { N.holds nodes.now node }
     ensures { result ≡ resolved.font_weight (N.trees nodes.now) node.label }
 {
-    let own = match nearest(nodes, node, &Trait::Own(Property::FontWeight)) {
-        Some(owner) => own_font_weight(nodes.content(owner)),
-        None => None,
-    };
-    match own {
-        Some(value) => value,
-        None => 400,
-    }
+    owner(nodes, node, Property::FontWeight)
+        .and_then(own_font_weight)
+        .unwrap_or(400)
 }
 
 /// The resolved `font-style`.
@@ -100,14 +106,9 @@ pub fn font_style<N: Nodes>(nodes: &N, node: NodeRef) -> FontStyle
     requires { N.holds nodes.now node }
     ensures { result ≡ resolved.font_style (N.trees nodes.now) node.label }
 {
-    let own = match nearest(nodes, node, &Trait::Own(Property::FontStyle)) {
-        Some(owner) => own_font_style(nodes.content(owner)),
-        None => None,
-    };
-    match own {
-        Some(value) => value,
-        None => FontStyle::Normal,
-    }
+    owner(nodes, node, Property::FontStyle)
+        .and_then(own_font_style)
+        .unwrap_or(FontStyle::Normal)
 }
 
 /// The resolved `font-size` in pixels.
@@ -116,14 +117,9 @@ pub fn font_size<N: Nodes>(nodes: &N, node: NodeRef) -> u16
     requires { N.holds nodes.now node }
     ensures { result ≡ resolved.font_size (N.trees nodes.now) node.label }
 {
-    let own = match nearest(nodes, node, &Trait::Own(Property::FontSize)) {
-        Some(owner) => own_font_size(nodes.content(owner)),
-        None => None,
-    };
-    match own {
-        Some(value) => value,
-        None => 16,
-    }
+    owner(nodes, node, Property::FontSize)
+        .and_then(own_font_size)
+        .unwrap_or(16)
 }
 
 /// The resolved `color`.
@@ -132,19 +128,9 @@ pub fn color<N: Nodes>(nodes: &N, node: NodeRef) -> Colour
     requires { N.holds nodes.now node }
     ensures { result ≡ resolved.color (N.trees nodes.now) node.label }
 {
-    let own = match nearest(nodes, node, &Trait::Own(Property::Color)) {
-        Some(owner) => own_color(nodes.content(owner)),
-        None => None,
-    };
-    match own {
-        Some(value) => value,
-        None => Colour {
-            red: 0,
-            green: 0,
-            blue: 0,
-            clear: false,
-        },
-    }
+    owner(nodes, node, Property::Color)
+        .and_then(own_color)
+        .unwrap_or(BLACK)
 }
 
 /// The resolved `text-align`.
@@ -153,14 +139,9 @@ pub fn text_align<N: Nodes>(nodes: &N, node: NodeRef) -> TextAlign
     requires { N.holds nodes.now node }
     ensures { result ≡ resolved.text_align (N.trees nodes.now) node.label }
 {
-    let own = match nearest(nodes, node, &Trait::Own(Property::TextAlign)) {
-        Some(owner) => own_text_align(nodes.content(owner)),
-        None => None,
-    };
-    match own {
-        Some(value) => value,
-        None => TextAlign::Left,
-    }
+    owner(nodes, node, Property::TextAlign)
+        .and_then(own_text_align)
+        .unwrap_or(TextAlign::Left)
 }
 
 /// The resolved `font-family`.
@@ -169,14 +150,9 @@ pub fn font_family<N: Nodes>(nodes: &N, node: NodeRef) -> Family<'_>
     requires { N.holds nodes.now node }
     ensures { family_text result ≡ resolved.font_family (N.trees nodes.now) node.label }
 {
-    let own = match nearest(nodes, node, &Trait::Own(Property::FontFamily)) {
-        Some(owner) => own_font_family(nodes.content(owner)),
-        None => None,
-    };
-    match own {
-        Some(family) => family,
-        None => Family::Serif,
-    }
+    owner(nodes, node, Property::FontFamily)
+        .and_then(own_font_family)
+        .unwrap_or(Family::Serif)
 }
 
 // The characters of a word.
