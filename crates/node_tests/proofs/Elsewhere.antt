@@ -88,7 +88,7 @@ module _ (f : Forest Content) (once : IsDistinct f) where
           and_none true = refl
           and_none false = refl
 
-      not_effective : 0 < count_of f end.label → (l : ℕ) → 0 < count_of f l → (IsWithin f root l → ⊥) → is_effectively_contained f start end l ≡ false
+      pub not_effective : 0 < count_of f end.label → (l : ℕ) → 0 < count_of f l → (IsWithin f root l → ⊥) → is_effectively_contained f start end l ≡ false
       unfolding is_effectively_contained
       not_effective end_here l here out = by_end (count_of (tree_of f root) end.label) refl
         where

@@ -79,7 +79,7 @@ module _ {holds : NodeRef → Type 0} {f : Forest Content} {upper : ℕ} (law : 
   child_at_of : (l o k : ℕ) → child_at f l o ≡ Some k → parent_of f k ≡ Some l
   child_at_of l o k e = parent_among f law.distinct l k (get_times (children_of f l) o k e)
 
-  last_alone : (k m : ℕ) → last_of f k ≡ Some m → next_of f m ≡ None
+  pub last_alone : (k m : ℕ) → last_of f k ≡ Some m → next_of f m ≡ None
   last_alone k m last = last_index law m k (parent_of-last f law.distinct k m last) (index_of-last f law.distinct k m last)
 
   -- ---- back

@@ -96,7 +96,7 @@ module _ {holds : NodeRef → Type 0} {f : Forest Content} {upper : ℕ} (law : 
   -- ---- all children in effect
 
   module _ (start end : Point) (ordered : is_before f start end ≡ true) where
-    effective_is : (k : ℕ) → is_effectively_contained f start end k ≡ all_effective f start end (tree_of f k)
+    pub effective_is : (k : ℕ) → is_effectively_contained f start end k ≡ all_effective f start end (tree_of f k)
     unfolding is_effectively_contained
     effective_is k = ap (λ v. v && all_effective f start end (tree_of f k)) ordered
 
@@ -112,17 +112,17 @@ module _ {holds : NodeRef → Type 0} {f : Forest Content} {upper : ℕ} (law : 
     listed_above Contained k contained effective c e = c ∙ sym (listed_contained k)
     listed_above Effective k contained effective c e = e ∙ sym (listed_effective k)
 
-    off_before : (k : ℕ) → parent_of f k ≡ Some p → LiesBefore f start k → all_effective f start end (tree_of f k) ≡ false
+    pub off_before : (k : ℕ) → parent_of f k ≡ Some p → LiesBefore f start k → all_effective f start end (tree_of f k) ≡ false
     off_before k child lies =
         let here = (parent_count f k p law.distinct child).0 in
         sym (listed_effective k) ∙ unwanted_before f law.distinct start end k lies Effective k (within_self f k law.distinct here)
 
-    off_after : (k : ℕ) → parent_of f k ≡ Some p → LiesAfter f end k → all_effective f start end (tree_of f k) ≡ false
+    pub off_after : (k : ℕ) → parent_of f k ≡ Some p → LiesAfter f end k → all_effective f start end (tree_of f k) ≡ false
     off_after k child lies =
         let here = (parent_count f k p law.distinct child).0 in
         sym (listed_effective k) ∙ unwanted_after f law.distinct start end k lies Effective k (within_self f k law.distinct here)
 
-    begins_off : (k : ℕ) → parent_of f k ≡ Some p → all_effective f start end (tree_of f k) ≡ false → all_effective f start end (onward f k) ≡ false
+    pub begins_off : (k : ℕ) → parent_of f k ≡ Some p → all_effective f start end (tree_of f k) ≡ false → all_effective f start end (onward f k) ≡ false
     begins_off k child off = next_effective f start end law.distinct k p child (next_of f k) refl false (sym off)
 
     -- before the first child that is looked at

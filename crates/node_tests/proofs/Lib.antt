@@ -27,3 +27,4 @@ pub mod Reaching
 mod Above
 mod Gathered
 mod Line
+mod Between

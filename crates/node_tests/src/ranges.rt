@@ -1,10 +1,11 @@
 //! Which nodes a range contains, and which it contains in effect.
 
-ghost use Rattle.std.specs.Prelude.{◌≡◌, ◌<◌};
+ghost use Rattle.std.specs.Prelude.{◌≡◌, ◌<◌, Bool};
 ghost use Rattle.dom_model.specs.Forest.{count_of, tree_of};
+ghost use Rattle.point_order.specs.PointOrder.{is_before};
 ghost use Rattle.node_tests.specs.Ranges as ranges;
 
-use crate::neighbours::{is_nothing, is_words};
+use crate::neighbours::is_words;
 use live_range::Point;
 use node_arena::{NodeRef, Nodes};
 use point_order::{comes_before, is_within, node_of};
@@ -83,11 +84,13 @@ fn is_touched<N: Nodes>(nodes: &N, node: NodeRef, range: (Point, Point)) -> bool
     is_contained(nodes, node, range) || is_partial(nodes, node, range)
 }
 
-// Whether a range that isn't collapsed effectively contains a node.
-pub(crate) fn is_effective<N: Nodes>(nodes: &N, node: NodeRef, range: (Point, Point)) -> bool
+// Whether a range that isn't collapsed effectively contains a node. Where it does so with the first child and the last,
+// all children between them lie in the range, so these two tell.
+fn is_effective<N: Nodes>(nodes: &N, node: NodeRef, range: (Point, Point)) -> bool
     requires node_held { N.holds nodes.now node }
     requires start_held { 0 < count_of (N.trees nodes.now) range.0.label }
     requires end_held { 0 < count_of (N.trees nodes.now) range.1.label }
+    requires ordered { is_before (N.trees nodes.now) range.0 range.1 ≡ Bool.true }
     ensures { result ≡ ranges.all_effective (N.trees nodes.now) range.0 range.1 (tree_of (N.trees nodes.now) node.label) }
 {
     nodes.valid();
@@ -97,17 +100,16 @@ pub(crate) fn is_effective<N: Nodes>(nodes: &N, node: NodeRef, range: (Point, Po
     if is_cut(nodes, node, range) {
         return false;
     }
-    let mut child = nodes.first_child(node);
-    if is_nothing(child) {
+    let Some(first) = nodes.first_child(node) else {
+        return false;
+    };
+    if !is_effective(nodes, first, range) {
         return false;
     }
-    while let Some(at) = child {
-        if !is_effective(nodes, at, range) {
-            return false;
-        }
-        child = nodes.next(at);
+    match nodes.last_child(node) {
+        Some(last) if last.label != first.label => is_effective(nodes, last, range),
+        _ => true,
     }
-    true
 }
 
 #[tactic(auto, unfolding(crate::specs::Ranges::is_effectively_contained))]

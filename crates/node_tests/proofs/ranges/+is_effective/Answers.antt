@@ -1,10 +1,11 @@
-use Rattle.std.proofs.Common.{◌&&◌, refl, sym, ap, ◌∙◌, arith}
-use Rattle.dom_model.specs.Forest.{next_of}
+use Rattle.std.proofs.Common.{◌≡◌, true, false, Option, Some, None, refl, sym, ap, ◌∙◌, arith, is_none}
+use Rattle.dom_model.specs.Forest.{first_of, last_of, tree_of}
+use Rattle.dom_model.proofs.Neighbours.{parent_of-first}
 use Rattle.node_arena.specs.Held.{label}
 use Rattle.node_tests.specs.Ranges.{all_effective}
-use Rattle.node_tests.specs.Listing.{siblings}
-use Rattle.node_tests.proofs.Kids.{first_kid, next_kid, next_smaller, tree_smaller}
-use Rattle.node_tests.proofs.Effective.{touched_effective, cut_ineffective, childless_ineffective, kids_effective, next_effective}
+use Rattle.node_tests.proofs.Between.{first_and_last, first_smaller, last_smaller, some_last}
+use Rattle.node_tests.proofs.Effective.{touched_effective, cut_ineffective, childless_ineffective, kids_effective}
+use Rattle.node_tests.proofs.Gathered.{begins_off}
 use Rattle.node_tests.proofs.ranges.+is_effective.Goals as goal
 
 pub returns-then-is_touched : goal.returns-then-is_touched
@@ -17,56 +18,91 @@ returns-then-is_cut g t c =
     let law = c.valid.ensures in
     cut_ineffective (g.N.Nodes.trees c.args.nodes.now) c.args.range.0 c.args.range.1 law.distinct c.args.node.label (law.here c.args.node c.requires.node_held) c.is_touched.result c.is_touched.ensures c.if-is_touched.false c.is_cut.result c.is_cut.ensures c.if-is_cut.true
 
-pub returns-then-is_nothing : goal.returns-then-is_nothing
-returns-then-is_nothing g t c =
+pub returns-in_default : goal.returns-in_default
+returns-in_default g t c =
+    let a = c.args in
+    let f = g.N.Nodes.trees a.nodes.now in
     let law = c.valid.ensures in
-    childless_ineffective (g.N.Nodes.trees c.args.nodes.now) c.args.range.0 c.args.range.1 law.distinct c.args.node.label (law.here c.args.node c.requires.node_held) c.is_touched.result c.is_touched.ensures c.if-is_touched.false c.is_cut.result c.is_cut.ensures c.if-is_cut.false (label c.first_child-child.result) c.first_child-child.ensures.is (sym c.is_nothing.ensures ∙ c.if-is_nothing.true)
-
-pub loop-child-init : goal.loop-child-init
-loop-child-init g t c =
-    let law = c.valid.ensures in
-    record {
-      kid = first_kid law c.args.node c.first_child-child.result c.requires.node_held c.first_child-child.ensures;
-      same = kids_effective (g.N.Nodes.trees c.args.nodes.now) c.args.range.0 c.args.range.1 law.distinct c.args.node.label (law.here c.args.node c.requires.node_held) c.is_touched.result c.is_touched.ensures c.if-is_touched.false c.is_cut.result c.is_cut.ensures c.if-is_cut.false (label c.first_child-child.result) c.first_child-child.ensures.is (sym c.is_nothing.ensures ∙ c.if-is_nothing.false);
-    }
+    let p = a.node.label in
+    let here = law.here a.node c.requires.node_held in
+    childless_ineffective f a.range.0 a.range.1 law.distinct p here c.is_touched.result c.is_touched.ensures c.if-is_touched.false c.is_cut.result c.is_cut.ensures c.if-is_cut.false (label c.first_child.result) c.first_child.ensures.is (ap (λ o. is_none (label o)) c.in_default.is)
 
 pub is_effective-requires : goal.is_effective-requires
 is_effective-requires g t c κs within =
-    let kid = rw c.in-Some.is at c.loop-child.invariant.kid in
-    (omega (arith, c.decreases, tree_smaller c.valid.ensures c.args.node.label c.in-Some.at kid), (within, (kid.held, (c.requires.start_held, c.requires.end_held))))
+    let a = c.args in
+    let f = g.N.Nodes.trees a.nodes.now in
+    let law = c.valid.ensures in
+    let p = a.node.label in
+    let here = law.here a.node c.requires.node_held in
+    let first = c.in-Some.first.label in
+    let is_first : first_of f p ≡ Some first = sym c.first_child.ensures.is ∙ ap label c.in-Some.is in
+    let held = rw c.in-Some.is at c.first_child.ensures.held in
+    (omega (arith, c.decreases, first_smaller law a.range.0 a.range.1 c.requires.ordered c.requires.start_held c.requires.end_held p first is_first here), (within, (held, (c.requires.start_held, (c.requires.end_held, c.requires.ordered)))))
 
 pub returns-then-not-is_effective : goal.returns-then-not-is_effective
 returns-then-not-is_effective g t c =
+    let a = c.args in
+    let f = g.N.Nodes.trees a.nodes.now in
     let law = c.valid.ensures in
-    let kid = rw c.in-Some.is at c.loop-child.invariant.kid in
-    let same = rw c.in-Some.is at c.loop-child.invariant.same in
-    let k = c.in-Some.at.label in
-    let f = (g.N.Nodes.trees c.args.nodes.now) in
-    sym (same ∙ next_effective (g.N.Nodes.trees c.args.nodes.now) c.args.range.0 c.args.range.1 law.distinct k c.args.node.label kid.under (next_of f k) refl c.is_effective.result c.is_effective.ensures ∙ ap (λ b. b && all_effective (g.N.Nodes.trees c.args.nodes.now) c.args.range.0 c.args.range.1 (siblings f (next_of f k))) c.if-not-is_effective.true)
+    let p = a.node.label in
+    let here = law.here a.node c.requires.node_held in
+    let first = c.in-Some.first.label in
+    let is_first : first_of f p ≡ Some first = sym c.first_child.ensures.is ∙ ap label c.in-Some.is in
+    let kids = kids_effective f a.range.0 a.range.1 law.distinct p here c.is_touched.result c.is_touched.ensures c.if-is_touched.false c.is_cut.result c.is_cut.ensures c.if-is_cut.false (Some first) (sym is_first) refl in
+    sym (kids ∙ begins_off law p a.range.0 a.range.1 c.requires.ordered first (parent_of-first f law.distinct p first is_first) (sym c.is_effective.ensures ∙ c.if-not-is_effective.true))
 
-pub next-child-requires : goal.next-child-requires
-next-child-requires g t c = let kid = rw c.in-Some.is at c.loop-child.invariant.kid in kid.held
-
-pub loop-child-smaller : goal.loop-child-smaller
-loop-child-smaller g t c =
-    let kid = rw c.in-Some.is at c.loop-child.invariant.kid in
-    rw c.in-Some.is (next_smaller c.valid.ensures c.args.node.label c.in-Some.at kid c.next-child.result c.next-child.ensures)
-
-pub loop-child-preserved : goal.loop-child-preserved
-loop-child-preserved g t c =
+pub is_effective-requires-in-Some-last_child : goal.is_effective-requires-in-Some-last_child
+is_effective-requires-in-Some-last_child g t c κs within =
+    let a = c.args in
+    let f = g.N.Nodes.trees a.nodes.now in
     let law = c.valid.ensures in
-    let kid = rw c.in-Some.is at c.loop-child.invariant.kid in
-    let same = rw c.in-Some.is at c.loop-child.invariant.same in
-    let k = c.in-Some.at.label in
-    let f = (g.N.Nodes.trees c.args.nodes.now) in
-    let o = label c.next-child.result in
-    record {
-      kid = next_kid law c.args.node.label c.in-Some.at kid c.next-child.result c.next-child.ensures;
-      same =
-          same
-          ∙ next_effective (g.N.Nodes.trees c.args.nodes.now) c.args.range.0 c.args.range.1 law.distinct k c.args.node.label kid.under o c.next-child.ensures.is c.is_effective.result c.is_effective.ensures
-          ∙ ap (λ b. b && all_effective (g.N.Nodes.trees c.args.nodes.now) c.args.range.0 c.args.range.1 (siblings f o)) c.if-not-is_effective.false;
-    }
+    let p = a.node.label in
+    let here = law.here a.node c.requires.node_held in
+    let first = c.in-Some.first.label in
+    let is_first : first_of f p ≡ Some first = sym c.first_child.ensures.is ∙ ap label c.in-Some.is in
+    let last = c.in-Some-last_child.last.label in
+    let is_last : last_of f p ≡ Some last = sym c.last_child.ensures.is ∙ ap label c.in-Some-last_child.is in
+    let held = rw c.in-Some-last_child.is at c.last_child.ensures.held in
+    (omega (arith, c.decreases, last_smaller law a.range.0 a.range.1 c.requires.ordered c.requires.start_held c.requires.end_held p first last is_first is_last here), (within, (held, (c.requires.start_held, (c.requires.end_held, c.requires.ordered)))))
 
-pub returns : goal.returns
-returns g t c = let same = rw c.in_default.is at c.loop-child.invariant.same in sym same
+pub returns-in-Some-last_child : goal.returns-in-Some-last_child
+returns-in-Some-last_child g t c =
+    let a = c.args in
+    let f = g.N.Nodes.trees a.nodes.now in
+    let law = c.valid.ensures in
+    let p = a.node.label in
+    let here = law.here a.node c.requires.node_held in
+    let first = c.in-Some.first.label in
+    let is_first : first_of f p ≡ Some first = sym c.first_child.ensures.is ∙ ap label c.in-Some.is in
+    let last = c.in-Some-last_child.last.label in
+    let is_last : last_of f p ≡ Some last = sym c.last_child.ensures.is ∙ ap label c.in-Some-last_child.is in
+    let kids = kids_effective f a.range.0 a.range.1 law.distinct p here c.is_touched.result c.is_touched.ensures c.if-is_touched.false c.is_cut.result c.is_cut.ensures c.if-is_cut.false (Some first) (sym is_first) refl in
+    let on : all_effective f a.range.0 a.range.1 (tree_of f first) ≡ true = sym c.is_effective.ensures ∙ c.if-not-is_effective.false in
+    c.is_effective-in-Some-last_child.ensures ∙ sym (kids ∙ first_and_last law a.range.0 a.range.1 c.requires.ordered c.requires.start_held c.requires.end_held p first last is_first is_last on)
+
+pub returns-in_default-last_child : goal.returns-in_default-last_child
+returns-in_default-last_child g t c =
+    let a = c.args in
+    let f = g.N.Nodes.trees a.nodes.now in
+    let law = c.valid.ensures in
+    let p = a.node.label in
+    let here = law.here a.node c.requires.node_held in
+    let first = c.in-Some.first.label in
+    let is_first : first_of f p ≡ Some first = sym c.first_child.ensures.is ∙ ap label c.in-Some.is in
+    let last = c.in-Some-last_child.last.label in
+    let is_last : last_of f p ≡ Some last = sym c.last_child.ensures.is ∙ ap label c.in-Some-last_child.is in
+    let kids = kids_effective f a.range.0 a.range.1 law.distinct p here c.is_touched.result c.is_touched.ensures c.if-is_touched.false c.is_cut.result c.is_cut.ensures c.if-is_cut.false (Some first) (sym is_first) refl in
+    let on : all_effective f a.range.0 a.range.1 (tree_of f first) ≡ true = sym c.is_effective.ensures ∙ c.if-not-is_effective.false in
+    let same : last ≡ first = omega (arith, c.if-last-first.false) in
+    sym (kids ∙ first_and_last law a.range.0 a.range.1 c.requires.ordered c.requires.start_held c.requires.end_held p first last is_first is_last on ∙ ap (λ k. all_effective f a.range.0 a.range.1 (tree_of f k)) same ∙ on)
+
+pub returns-in_default-last_child-2 : goal.returns-in_default-last_child-2
+returns-in_default-last_child-2 g t c =
+    let a = c.args in
+    let f = g.N.Nodes.trees a.nodes.now in
+    let law = c.valid.ensures in
+    let p = a.node.label in
+    let here = law.here a.node c.requires.node_held in
+    let first = c.in-Some.first.label in
+    let is_first : first_of f p ≡ Some first = sym c.first_child.ensures.is ∙ ap label c.in-Some.is in
+    absurd (some_last law a.range.0 a.range.1 c.requires.ordered c.requires.start_held c.requires.end_held p first is_first (sym c.last_child.ensures.is ∙ ap label c.in_default-last_child.is))
