@@ -1,18 +1,15 @@
 //! Places in a tree, told by the children beside them, and the steps from one to the next.
 
-ghost use Rattle.std.specs.Prelude.{◌≡◌, ◌<◌, ◌+◌, ◌-◌, ◌↔◌, IfSome, IsTrue, is_none};
+ghost use Rattle.std.specs.Prelude.{◌≡◌, ◌<◌, ◌+◌, ◌-◌, ◌↔◌, IsTrue};
 ghost use Rattle.dom_model.specs.Contents.{length_of};
-ghost use Rattle.dom_model.specs.Forest.{parent_of};
-ghost use Rattle.node_arena.specs.Held.{label};
-ghost use Rattle.node_arena.specs.Reads.{Names};
 ghost use Rattle.node_tests.specs.BlockPoints as points;
 ghost use Rattle.block_extend.specs.BlockExtend as extend;
 ghost use Rattle.block_extend.specs.Gaps as gaps;
 ghost use Rattle.block_extend.specs.Gaps.{Leads, Stands};
 
 use live_range::Point;
-use node_arena::{NodeRef, Nodes, is_break};
-use node_tests::{is_block, is_visible};
+use node_arena::{NodeRef, Nodes};
+use node_tests::{child_at, child_before, ends_before, is_root, starts_after};
 
 /// A place in a node, with the children beside it.
 #[derive(Clone, Copy)]
@@ -39,36 +36,6 @@ pub(crate) fn point_of(at: Place) -> Point
     Point {
         label: at.node.label,
         offset: at.offset,
-    }
-}
-
-// The child at an offset.
-fn child_at<N: Nodes>(nodes: &N, node: NodeRef, offset: u32) -> Option<NodeRef>
-    requires { N.holds nodes.now node }
-    ensures { Names (N.holds nodes.now) result (points.child_at (N.trees nodes.now) node.label offset) }
-{
-    nodes.valid();
-    let mut child = nodes.first_child(node);
-    let mut index: u32 = 0;
-    while index < offset {
-        match child {
-            Some(at) => child = nodes.next(at),
-            None => return None,
-        }
-        index += 1;
-    }
-    child
-}
-
-// The child before an offset.
-fn child_before<N: Nodes>(nodes: &N, node: NodeRef, offset: u32) -> Option<NodeRef>
-    requires { N.holds nodes.now node }
-    ensures { Names (N.holds nodes.now) result (points.child_before (N.trees nodes.now) node.label offset) }
-{
-    if offset == 0 {
-        None
-    } else {
-        child_at(nodes, node, offset - 1)
     }
 }
 
@@ -239,40 +206,6 @@ pub(crate) fn step<N: Nodes>(nodes: &N, way: Way, at: Place) -> Option<Place>
         Way::Forth => forth(nodes, at),
         Way::OutAfter => out_after(nodes, at),
     }
-}
-
-// Whether a block or a line starts after this node, if there is one.
-#[tactic(auto, unfolding(node_tests::specs::BlockPoints::starts_after))]
-fn starts_after<N: Nodes>(nodes: &N, node: Option<NodeRef>) -> bool
-    requires { IfSome node (N.holds nodes.now) }
-    ensures { result ≡ points.starts_after (N.trees nodes.now) (label node) }
-{
-    match node {
-        Some(node) => {
-            is_visible(nodes, node) && (is_block(nodes, node) || is_break(nodes, node))
-        }
-        None => false,
-    }
-}
-
-// Whether a block ends before this node, if there is one.
-#[tactic(auto, unfolding(node_tests::specs::BlockPoints::ends_before))]
-fn ends_before<N: Nodes>(nodes: &N, node: Option<NodeRef>) -> bool
-    requires { IfSome node (N.holds nodes.now) }
-    ensures { result ≡ points.ends_before (N.trees nodes.now) (label node) }
-{
-    match node {
-        Some(node) => is_visible(nodes, node) && is_block(nodes, node),
-        None => false,
-    }
-}
-
-// Whether a node has no parent.
-fn is_root<N: Nodes>(nodes: &N, node: NodeRef) -> bool
-    requires { N.holds nodes.now node }
-    ensures { result ≡ is_none (parent_of (N.trees nodes.now) node.label) }
-{
-    nodes.parent(node).is_none()
 }
 
 /// Whether a place is a block start point.

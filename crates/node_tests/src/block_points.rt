@@ -13,7 +13,7 @@ use node_arena::{NodeRef, Nodes, is_break};
 use node_styles::is_block;
 
 /// The child at an offset.
-pub(crate) fn child_at<N: Nodes>(nodes: &N, node: NodeRef, offset: u32) -> Option<NodeRef>
+pub fn child_at<N: Nodes>(nodes: &N, node: NodeRef, offset: u32) -> Option<NodeRef>
     requires { N.holds nodes.now node }
     ensures { Names (N.holds nodes.now) result (points.child_at (N.trees nodes.now) node.label offset) }
 {
@@ -30,8 +30,8 @@ pub(crate) fn child_at<N: Nodes>(nodes: &N, node: NodeRef, offset: u32) -> Optio
     child
 }
 
-// The child before an offset.
-fn child_before<N: Nodes>(nodes: &N, node: NodeRef, offset: u32) -> Option<NodeRef>
+/// The child before an offset.
+pub fn child_before<N: Nodes>(nodes: &N, node: NodeRef, offset: u32) -> Option<NodeRef>
     requires { N.holds nodes.now node }
     ensures { Names (N.holds nodes.now) result (points.child_before (N.trees nodes.now) node.label offset) }
 {
@@ -44,7 +44,7 @@ fn child_before<N: Nodes>(nodes: &N, node: NodeRef, offset: u32) -> Option<NodeR
 
 #[tactic(auto, unfolding(crate::specs::BlockPoints::starts_after))]
 /// Whether a block or a line starts after this node, if there is one.
-pub(crate) fn starts_after<N: Nodes>(nodes: &N, node: Option<NodeRef>) -> bool
+pub fn starts_after<N: Nodes>(nodes: &N, node: Option<NodeRef>) -> bool
     requires { IfSome node (N.holds nodes.now) }
     ensures { result ≡ points.starts_after (N.trees nodes.now) (label node) }
 {
@@ -58,7 +58,7 @@ pub(crate) fn starts_after<N: Nodes>(nodes: &N, node: Option<NodeRef>) -> bool
 
 #[tactic(auto, unfolding(crate::specs::BlockPoints::ends_before))]
 /// Whether a block ends before this node, if there is one.
-pub(crate) fn ends_before<N: Nodes>(nodes: &N, node: Option<NodeRef>) -> bool
+pub fn ends_before<N: Nodes>(nodes: &N, node: Option<NodeRef>) -> bool
     requires { IfSome node (N.holds nodes.now) }
     ensures { result ≡ points.ends_before (N.trees nodes.now) (label node) }
 {
@@ -69,7 +69,7 @@ pub(crate) fn ends_before<N: Nodes>(nodes: &N, node: Option<NodeRef>) -> bool
 }
 
 /// Whether a node has no parent.
-pub(crate) fn is_root<N: Nodes>(nodes: &N, node: NodeRef) -> bool
+pub fn is_root<N: Nodes>(nodes: &N, node: NodeRef) -> bool
     requires { N.holds nodes.now node }
     ensures { result ≡ is_none (parent_of (N.trees nodes.now) node.label) }
 {

@@ -17,7 +17,10 @@ mod visible;
 mod whitespace;
 
 pub use affected::{affected_host, editing_host};
-pub use block_points::{is_block_boundary, is_block_end, is_block_start};
+pub use block_points::{
+    child_at, child_before, ends_before, is_block_boundary, is_block_end, is_block_start, is_root,
+    starts_after,
+};
 pub use breaks::{follows_break, precedes_break};
 pub use listing::{contained_nodes, effective_nodes};
 pub use neighbours::{is_collapsed_break, is_extraneous_break};
