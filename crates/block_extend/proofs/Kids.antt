@@ -70,21 +70,9 @@ after_place (x ∷ xs) l h =
       | inr (t, _) ↦ (let h' = rw t at h in rw (t, add-one) (after_place xs l (omega (arith, h'))))
     ]
 
-later_none : (xs : List ℕ) (i j : ℕ) → slice_get xs i ≡ None → i ≤ j → slice_get xs j ≡ None
-later_none [] i j e h = refl
-later_none (x ∷ xs) zero j e h = absurd (let t = e in cc)
-later_none (x ∷ xs) (suc i) zero e h = absurd (omega (arith, h))
-later_none (x ∷ xs) (suc i) (suc j) e h = later_none xs i j e (omega (arith, h))
-
 -- ---- children
 
 module _ (f : Forest Content) (once : IsDistinct f) where
-  pub first_kid : (p : ℕ) → child_at f p 0 ≡ first_of f p
-  first_kid p = first_get (children_of f p)
-
-  pub no_kid : (p i j : ℕ) → child_at f p i ≡ None → i ≤ j → child_at f p j ≡ None
-  no_kid p i j e h = later_none (children_of f p) i j e h
-
   -- a child of an index
   module _ (p i k : ℕ) (at : child_at f p i ≡ Some k) where
     pub kid_parent : parent_of f k ≡ Some p
