@@ -3,7 +3,7 @@ use Rattle.edit_model.specs.Gives.{label_of}
 use Rattle.node_paths.specs.Onward.{onward_at}
 use Rattle.node_paths.proofs.Visiting.{size_from}
 use Rattle.edit_query.specs.ListStates.{has_list}
-use Rattle.edit_query.proofs.ListsBelow.{At}
+use Rattle.edit_query.proofs.Search.{At}
 use Rattle.edit_query.proofs.list_states.+has_list.Given as goal
 
 abbrev pub decreases-has_list : goal.decreases-has_list

@@ -1,4 +1,4 @@
-use Rattle.edit_query.proofs.ListsBelow.{begins}
+use Rattle.edit_query.proofs.Search.{begins}
 use Rattle.edit_query.proofs.list_states.is_above_list.Goals as goal
 
 pub has_list-requires-clause-inner : goal.has_list-requires-clause-inner

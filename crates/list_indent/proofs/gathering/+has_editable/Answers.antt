@@ -1,5 +1,6 @@
 use Rattle.std.proofs.Common.{◌∙◌, sym, arith}
-use Rattle.list_indent.proofs.Below.{first_at, next_at, first_smaller, next_smaller, own_editable, editable_below, none_here}
+use Rattle.edit_query.proofs.Search.{first_at, next_at, first_smaller, next_smaller, found_here, found_below, none_here}
+use Rattle.list_indent.proofs.Below.{editable_searched}
 use Rattle.list_indent.proofs.gathering.+has_editable.Goals as goal
 use Rattle.list_indent.proofs.gathering.+has_editable.Goals.{then-is_editable_for-via-then-is_editable_for, then-is_editable_for-via-else-is_editable_for+then-has_editable}
 
@@ -16,10 +17,11 @@ returns-then-is_editable_for t c =
     let d = c.args.doc.now in
     let here = rw c.in-Some.is at c.loop-at.invariant.at in
     let same = rw c.in-Some.is at c.loop-at.invariant.same in
+    let searched = editable_searched d c.valid.ensures c.in-Some.node here in
     elim c.then-is_editable_for.branch [
-      | then-is_editable_for-via-then-is_editable_for w ↦ own_editable d c.valid.ensures c.in-Some.node here (sym c.is_editable_for.ensures ∙ w.if-is_editable_for.true) ∙ same
+      | then-is_editable_for-via-then-is_editable_for w ↦ found_here _ _ _ _ searched (sym c.is_editable_for.ensures ∙ w.if-is_editable_for.true) ∙ same
       | then-is_editable_for-via-else-is_editable_for+then-has_editable w ↦
-          editable_below d c.valid.ensures c.in-Some.node here w.first_child.result w.first_child.ensures (sym w.has_editable.ensures ∙ w.if-has_editable.true) ∙ same
+          found_below _ _ _ _ searched w.first_child.result w.first_child.ensures (sym w.has_editable.ensures ∙ w.if-has_editable.true) ∙ same
     ]
 
 pub loop-at-smaller : goal.loop-at-smaller
@@ -39,6 +41,6 @@ loop-at-preserved t c =
       at = next_at d law r here c.next-at.result c.next-at.ensures;
       fewer = omega (arith, fewer, next_smaller d law r here c.next-at.result c.next-at.ensures);
       same =
-          sym (none_here d law r here c.first_child.result c.next-at.result c.first_child.ensures c.next-at.ensures (sym c.is_editable_for.ensures ∙ c.if-is_editable_for.false) (sym c.has_editable.ensures ∙ c.if-has_editable.false))
+          sym (none_here _ _ _ _ (editable_searched d law r here) c.first_child.result c.next-at.result c.first_child.ensures c.next-at.ensures (sym c.is_editable_for.ensures ∙ c.if-is_editable_for.false) (sym c.has_editable.ensures ∙ c.if-has_editable.false))
           ∙ same;
     }

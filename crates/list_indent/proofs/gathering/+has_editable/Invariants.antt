@@ -3,7 +3,7 @@ use Rattle.edit_model.specs.Gives.{label_of}
 use Rattle.node_paths.specs.Onward.{onward_at}
 use Rattle.node_paths.proofs.Visiting.{size_from}
 use Rattle.list_indent.specs.Commands.{has_editable}
-use Rattle.list_indent.proofs.Below.{At}
+use Rattle.edit_query.proofs.Search.{At}
 use Rattle.list_indent.proofs.gathering.+has_editable.Given as goal
 
 abbrev pub decreases-has_editable : goal.decreases-has_editable

@@ -1,4 +1,4 @@
-use Rattle.list_indent.proofs.Below.{begins}
+use Rattle.edit_query.proofs.Search.{begins}
 use Rattle.list_indent.proofs.gathering.has_editable_below.Goals as goal
 
 pub has_editable-requires-clause-inner : goal.has_editable-requires-clause-inner
