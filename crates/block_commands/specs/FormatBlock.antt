@@ -1,6 +1,6 @@
 -- The command formatBlock (HTML Editing APIs, "the formatBlock command"): the lines of the active
 -- range become blocks of a name. The steps are those of docs/ALGORITHMS.md.
-use Rattle.std.specs.Prelude.{ℕ, ◌==◌, ◌-◌, nat_le, Bool, true, false, ◌&&◌, ◌||◌, not, List, [], ◌∷◌, map, length, take, drop, slice_index, Option, Some, None, bytes_eq, codes, if◌then◌else◌}
+use Rattle.std.specs.Prelude.{ℕ, ◌==◌, ◌-◌, nat_le, Bool, true, false, ◌&&◌, ◌||◌, not, List, [], map, length, take, drop, slice_index, Option, Some, None, bytes_eq, codes, if◌then◌else◌}
 use Rattle.std.specs.Char.{to_ascii_lowercase}
 use Rattle.std.specs.List.{list_any}
 use Rattle.dom_model.specs.declared.Content.{Content}
@@ -17,7 +17,7 @@ use Rattle.block_extend.specs.Prohibited.{is_above_prohibited}
 use Rattle.wrap_split.specs.declared.rule.Blank.{Blank}
 use Rattle.wrap_split.specs.declared.rule.Criterion.TheVariants.{Never, Named}
 use Rattle.wrap_split.specs.declared.rule.Recipe.TheVariants.{Make}
-use Rattle.wrap_split.specs.Split.{split_parent, remove_keeping_children}
+use Rattle.wrap_split.specs.Split.{split_around, remove_keeping_children}
 use Rattle.wrap_split.specs.Walks.{turn_bound}
 use Rattle.wrap_split.specs.Wrap.{wrap}
 use Rattle.inline_value.specs.Ancestors.{fix_ancestors}
@@ -61,11 +61,8 @@ lineage_at f (Some p) = lineage f p
 unfoldable pub has_outer_block : State → ℕ → Bool
 has_outer_block s n = list_any (λ k. is_outer_block s k.label) (lineage_at s.trees (parent_of s.trees n))
 
-unfoldable pub split_once : ℕ → Run ℕ
-split_once n = split_parent (n ∷ []) >> answer n
-
 unfoldable pub leave_blocks : ℕ → Run (Unit {0})
-leave_blocks n = look λ s. while_at_most (turn_bound s) has_outer_block split_once n >> done
+leave_blocks n = look λ s. while_at_most (turn_bound s) has_outer_block split_around n >> done
 
 unfoldable pub leave_each : List ℕ → Run (Unit {0})
 leave_each list = for_each list leave_blocks

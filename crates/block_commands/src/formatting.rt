@@ -17,21 +17,9 @@ use inline_value::{fix_ancestors, record_values, restore_values};
 use node_tests::{has_name, is_single_line};
 use std::alloc::{AllocError, Global};
 use wrap_split::{
-    Blank, CopyMade, NamedSibling, NoSibling, WrapRule, remove_keeping_children, split_parent,
+    Blank, CopyMade, NamedSibling, NoSibling, WrapRule, remove_keeping_children, split_around,
     turn_bound, wrap,
 };
-
-// Step 3: the parent of a node is split around it.
-#[tactic(auto, using(edit_model::proofs::Steps::steps, edit_model::proofs::Steps::exits), unfolding(crate::specs::FormatBlock::split_once))]
-fn split_once(alloc: Global, doc: &mut Doc, node: NodeRef) -> Result<(), EditFault>
-    requires open { IsOpen doc.old }
-    requires node_held { Holds doc.old node }
-    ensures gives { GivesAs (λ v. node.label) result doc.old.state doc.new.state (format.split_once node.label) }
-    ensures keeps { Keeps doc.old doc.new }
-{
-    let list = NodeList::from_slice(alloc, &[node])?;
-    split_parent(alloc, doc, &list)
-}
 
 // Step 3: as long as the node stands in a block with no other block in it.
 #[tactic(auto, using(edit_model::proofs::Steps::whiles, edit_model::proofs::Steps::exits), unfolding(crate::specs::FormatBlock::leave_blocks))]
@@ -43,7 +31,7 @@ fn leave_blocks(alloc: Global, doc: &mut Doc, node: NodeRef) -> Result<(), EditF
 {
     let mut left = turn_bound(doc);
     while left > 0 && has_outer_block(doc, node) {
-        split_once(alloc, doc, node)?;
+        split_around(alloc, doc, node)?;
         left -= 1;
     }
     Ok(())

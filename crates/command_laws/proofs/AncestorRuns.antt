@@ -31,11 +31,10 @@ use Rattle.wrap_split.specs.declared.rule.Criterion.TheVariants.{Named}
 use Rattle.wrap_split.specs.declared.rule.Recipe.TheVariants.{Make}
 use Rattle.edit_query.specs.Rows.{container_name}
 use Rattle.inline_value.specs.Ancestors.{is_prohibited, has_place, lifted, lift, is_description, description_list, wrap_description, hosts_none, split_out, part_child, part_children, lift_renamed, rename, replace_misplaced, fix_ancestors}
-use Rattle.command_laws.proofs.FormatRuns.{order_preserving_split_once, stateless_split_once}
 use Rattle.command_laws.proofs.HostLine.{host_among}
 use Rattle.command_laws.proofs.PushingRuns.{order_preserving_record_values, order_preserving_restore_values, stateless_record_values, stateless_restore_values}
-use Rattle.command_laws.proofs.Splitting.{then_order_preserving_on, order_preserving_split_one}
-use Rattle.command_laws.proofs.StatelessSplits.{stateless_split}
+use Rattle.command_laws.proofs.Splitting.{then_order_preserving_on, order_preserving_split_one, order_preserving_split_around}
+use Rattle.command_laws.proofs.StatelessSplits.{stateless_split, stateless_split_around}
 use Rattle.command_laws.proofs.StatelessWraps.{stateless_wrap}
 use Rattle.command_laws.proofs.Wrapping.{order_preserving_wrap_one}
 
@@ -124,7 +123,7 @@ module _ (s : State) (is : IsValid s) (n : ℕ) (editable : is_editable_for s n 
 
 order_preserving_lifted : (n : ℕ) → OrderPreserving (lifted n)
 unfolding lifted
-order_preserving_lifted n = search (order_preserving, order_preserving_split_once)
+order_preserving_lifted n = search (order_preserving, order_preserving_split_around)
 
 order_preserving_lift : (n : ℕ) → OrderPreserving (lift n)
 unfolding lift
@@ -183,7 +182,7 @@ order_preserving_fix_ancestors n = record { keeps = λ s is. rw final-look (by_t
 
 stateless_lifted : (n : ℕ) → Stateless (lifted n)
 unfolding lifted
-stateless_lifted n = search (stateless_parts, stateless_split_once)
+stateless_lifted n = search (stateless_parts, stateless_split_around)
 
 stateless_lift : (n : ℕ) → Stateless (lift n)
 unfolding lift

@@ -25,7 +25,7 @@ use Rattle.wrap_split.specs.Split.{remove_keeping_children}
 use Rattle.wrap_split.specs.Wrap.{wrap}
 use Rattle.inline_value.specs.Recording.{record_values}
 use Rattle.block_commands.specs.FormatBlock as blocks
-use Rattle.block_commands.specs.FormatBlock.{block_name, split_once, leave_blocks, leave_each, split_blocks, block, is_apart, fixed, made_block, format_children, format_container, format_series, format_first, format_next, format_all, format_list, format_to, format_block}
+use Rattle.block_commands.specs.FormatBlock.{block_name, leave_blocks, leave_each, split_blocks, block, is_apart, fixed, made_block, format_children, format_container, format_series, format_first, format_next, format_all, format_list, format_to, format_block}
 use Rattle.block_commands.specs.Justify as aligning
 use Rattle.block_commands.specs.Justify.{name_div, drop_plain, clear_alignment, clear_alignments, aligned_div, align_series, align_all, align_range, justify}
 use Rattle.block_commands.specs.Series.{count_series, is_next, is_next_on_line}
@@ -37,18 +37,14 @@ use Rattle.command_laws.proofs.Splitting.{then_order_preserving, then_order_pres
 use Rattle.command_laws.proofs.StatelessSplits.{stateless_keeping_children}
 use Rattle.command_laws.proofs.StatelessWraps.{stateless_wrap}
 use Rattle.command_laws.proofs.Unwrapped.{children_stay_together}
-use Rattle.command_laws.proofs.Walks.{Fit, fit, fits, fit_answer, fit_record, fit_restore, fit_split_one, fit_unwrap, fit_fix, fit_unset_style}
+use Rattle.command_laws.proofs.Walks.{Fit, fit, fits, fit_answer, fit_record, fit_restore, fit_split_around, fit_unwrap, fit_fix, fit_unset_style}
 use Rattle.command_laws.proofs.Wrapping.{together_keeps}
 
 -- ---- formatBlock, step 3
 
-fit_split_once : (n : ℕ) → Fit (split_once n)
-unfolding split_once
-fit_split_once n = search (fits, fit_split_one)
-
 fit_leave : (n : ℕ) → Fit (leave_blocks n)
 unfolding leave_blocks
-fit_leave n = search (fits, fit_split_once)
+fit_leave n = search (fits, fit_split_around)
 
 fit_leave_each : (list : List ℕ) → Fit (leave_each list)
 unfolding leave_each

@@ -8,7 +8,7 @@ use Rattle.wrap_split.specs.Wrap.{append_break}
 use Rattle.delete_core.specs.Deletion.{erase_across, erase, delete_recorded, delete_selected, delete_range, delete_between, delete_selection}
 use Rattle.delete_core.specs.Ends.{settle, canonicalize_start, canonicalize_end}
 use Rattle.delete_core.specs.Erasing.{erase_within, cut_after, cut_before, fill_hollow, removed_up, strip_empty, strip_from, remove_under, remove_node, remove_nodes}
-use Rattle.delete_core.specs.Merging.{drop_prop, drop_sole, part_lines, remove_own, drop_parted, drop_soles, drop_block, split_once, split_out, drop_break_before, take_out_line, take_line, merge_content, merge_inner, drop_last_break, take_following, merge_outer, drop_emptied, take_children, merge_beside, merged, join_lists_at, join_next, join_once, join_lists, fill_empty, finish, finish_if, merge, merge_both, merge_if}
+use Rattle.delete_core.specs.Merging.{drop_prop, drop_sole, part_lines, remove_own, drop_parted, drop_soles, drop_block, split_line, split_out, drop_break_before, take_out_line, take_line, merge_content, merge_inner, drop_last_break, take_following, merge_outer, drop_emptied, take_children, merge_beside, merged, join_lists_at, join_next, join_once, join_lists, fill_empty, finish, finish_if, merge, merge_both, merge_if}
 use Rattle.delete_core.specs.Whitespace.{scan_blank, scan_char, scan_turn, scan_blanks, trim_char, trim_turn, trimmed, trimmed_if, put_space, lay_char, lay_out, lay_text, lay_turn, lay_all, laid_between, canonicalize_from, canonicalize}
 use Rattle.command_laws.proofs.PushingRuns.{stateless_restore_values}
 use Rattle.command_laws.proofs.StatelessMoves.{stateless_moves}
@@ -174,13 +174,13 @@ stateless_drop_block : (b c : ℕ) → Stateless (drop_block b c)
 unfolding drop_block
 stateless_drop_block b c = search (stateless_parts, stateless_drop_soles, stateless_drop_parted)
 
-stateless_split_once : (list : List ℕ) (k : ℕ) → Stateless (split_once list k)
-unfolding split_once
-stateless_split_once list k = search (stateless_parts, stateless_split)
+stateless_split_line : (list : List ℕ) (k : ℕ) → Stateless (split_line list k)
+unfolding split_line
+stateless_split_line list k = search (stateless_parts, stateless_split)
 
 stateless_split_out : (b : ℕ) (list : List ℕ) (k : ℕ) → Stateless (split_out b list k)
 unfolding split_out
-stateless_split_out b list k = search (stateless_parts, stateless_split_once)
+stateless_split_out b list k = search (stateless_parts, stateless_split_line)
 
 stateless_drop_break_before : (k : ℕ) → Stateless (drop_break_before k)
 unfolding drop_break_before

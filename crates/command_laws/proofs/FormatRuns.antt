@@ -33,13 +33,12 @@ use Rattle.edit_laws.proofs.StatelessRuns.{stateless_parts}
 use Rattle.edit_laws.proofs.Subsequences.{keeps_trans}
 use Rattle.edit_laws.proofs.OrderPreserving.{order_preserving, order_preserving_answer}
 use Rattle.edit_laws.proofs.Unwrapping.{unwrap_keeps, stateless_unwrap}
-use Rattle.inline_value.specs.Ancestors.{split_once}
 use Rattle.inline_commands.specs.RemovingFormat.{is_candidate, candidates_in_range, unwrap_candidates, part_from_format, part_nodes, clear_command, clear_commands, remove_format}
 use Rattle.inline_value.specs.Selections.{nodes_in_range}
 use Rattle.command_laws.proofs.Criteria.{no_thing}
 use Rattle.command_laws.proofs.SelectionRuns.{order_preserving_set_value, order_preserving_split_ends, stateless_set_value, stateless_split_ends}
-use Rattle.command_laws.proofs.Splitting.{order_preserving_split_one}
-use Rattle.command_laws.proofs.StatelessSplits.{stateless_split}
+use Rattle.command_laws.proofs.Splitting.{order_preserving_split_around}
+use Rattle.command_laws.proofs.StatelessSplits.{stateless_split_around}
 
 -- ---- what nodes have stays where others move and go
 
@@ -149,13 +148,9 @@ order_preserving_unwrap_candidates : OrderPreserving unwrap_candidates
 unfolding unwrap_candidates candidates_in_range
 order_preserving_unwrap_candidates = record { keeps = λ s is. rw final-look (unwrap_each (filter (is_candidate s) (nodes_in_range s)) s is (all_candidates s (nodes_in_range s))) }
 
-pub order_preserving_split_once : (n : ℕ) → OrderPreserving (split_once n)
-unfolding split_once
-order_preserving_split_once n = search (order_preserving, order_preserving_split_one)
-
 order_preserving_part : (n : ℕ) → OrderPreserving (part_from_format n)
 unfolding part_from_format
-order_preserving_part n = search (order_preserving, order_preserving_split_once)
+order_preserving_part n = search (order_preserving, order_preserving_split_around)
 
 order_preserving_part_nodes : OrderPreserving part_nodes
 unfolding part_nodes
@@ -175,13 +170,9 @@ stateless_unwrap_candidates : Stateless unwrap_candidates
 unfolding unwrap_candidates
 stateless_unwrap_candidates = search (stateless_parts, stateless_unwrap)
 
-pub stateless_split_once : (n : ℕ) → Stateless (split_once n)
-unfolding split_once
-stateless_split_once n = search (stateless_parts, stateless_split)
-
 stateless_part : (n : ℕ) → Stateless (part_from_format n)
 unfolding part_from_format
-stateless_part n = search (stateless_parts, stateless_split_once)
+stateless_part n = search (stateless_parts, stateless_split_around)
 
 stateless_part_nodes : Stateless part_nodes
 unfolding part_nodes

@@ -28,7 +28,7 @@ use Rattle.edit_laws.proofs.Fronts.{child_by}
 use Rattle.edit_laws.proofs.MoveLaws.{go_before, go_after}
 use Rattle.edit_actions.specs.Siblings.{first_parent, members, is_among, has, starts_in, ends_in}
 use Rattle.wrap_split.specs.Breaks.{breaks_before, breaks_at_end}
-use Rattle.wrap_split.specs.Split.{break_before, break_after, clear_before, copied, copy_front, drop_first_break, close, tidy_after, split_end, split_rest, split_marked, is_void_thing, split_at, split_members, split_parent, remove_keeping_children}
+use Rattle.wrap_split.specs.Split.{break_before, break_after, clear_before, copied, copy_front, drop_first_break, close, tidy_after, split_end, split_rest, split_marked, is_void_thing, split_at, split_members, split_parent, split_around, remove_keeping_children}
 use Rattle.command_laws.proofs.Breaks.{order_preserving_breaks_before, order_preserving_breaks_at_end}
 use Rattle.command_laws.proofs.SplitParts.{order_preserving_break_before, order_preserving_break_after, order_preserving_drop_first_break, order_preserving_tidy_after, order_preserving_close}
 use Rattle.command_laws.proofs.Cleared.{cleared}
@@ -209,6 +209,10 @@ one_keeps n s is = by_parent (parent_of s.trees n) refl
 
 pub order_preserving_split_one : (n : ℕ) → OrderPreserving (split_parent (n ∷ []))
 order_preserving_split_one n = record { keeps = λ s is. one_keeps n s is }
+
+pub order_preserving_split_around : (n : ℕ) → OrderPreserving (split_around n)
+unfolding split_around
+order_preserving_split_around n = search (order_preserving, order_preserving_split_one)
 
 unwrap_keeps : (n : ℕ) (s : State) → IsKeeping s → (v : Bool) → KeepsOrder s (final (if v then remove n >> done else split_parent (children_of s.trees n)) s)
 unwrap_keeps n s is true = (order_preserving_bind (remove n) (λ _. done) (order_preserving_remove n) (λ _. order_preserving_answer tt)).keeps s is

@@ -16,7 +16,7 @@ use Rattle.edit_laws.specs.Stateless.{Stateless}
 use Rattle.edit_laws.proofs.StatelessRuns.{stateless_parts, stateless_answer, stateless_bind, stateless_copy}
 use Rattle.edit_actions.specs.Siblings.{starts_in, ends_in, has, until}
 use Rattle.wrap_split.specs.Breaks.{breaks_before, breaks_at_end, breaks_from}
-use Rattle.wrap_split.specs.Split.{break_before, break_after, clear_before, copied, copy_front, drop_first_break, close, tidy_after, split_end, split_rest, split_marked, is_void_thing, split_at, split_members, split_parent, remove_keeping_children}
+use Rattle.wrap_split.specs.Split.{break_before, break_after, clear_before, copied, copy_front, drop_first_break, close, tidy_after, split_end, split_rest, split_marked, is_void_thing, split_at, split_members, split_parent, split_around, remove_keeping_children}
 use Rattle.command_laws.proofs.Cleared.{cleared}
 use Rattle.command_laws.proofs.StatelessMoves.{stateless_moves}
 
@@ -169,6 +169,10 @@ stateless_members o list = search (stateless_parts, stateless_at)
 pub stateless_split : (list : List ℕ) → Stateless (split_parent list)
 unfolding split_parent
 stateless_split list = search (stateless_parts, stateless_members)
+
+pub stateless_split_around : (n : ℕ) → Stateless (split_around n)
+unfolding split_around
+stateless_split_around n = search (stateless_parts, stateless_split)
 
 pub stateless_keeping_children : (n : ℕ) → Stateless (remove_keeping_children n)
 unfolding remove_keeping_children

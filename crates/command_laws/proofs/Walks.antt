@@ -9,14 +9,14 @@ use Rattle.edit_laws.specs.Stateless.{Stateless}
 use Rattle.edit_laws.specs.OrderPreserving.{OrderPreserving}
 use Rattle.edit_laws.proofs.StatelessRuns.{stateless_answer, stateless_bind, stateless_look_at, stateless_if, stateless_given, stateless_each, stateless_while, stateless_edit}
 use Rattle.edit_laws.proofs.OrderPreserving.{order_preserving_answer, order_preserving_bind, order_preserving_look, order_preserving_if, order_preserving_given, order_preserving_each, order_preserving_while, order_preserving_remove, order_preserving_set, order_preserving_unset}
-use Rattle.wrap_split.specs.Split.{split_parent, remove_keeping_children}
+use Rattle.wrap_split.specs.Split.{split_around, remove_keeping_children}
 use Rattle.inline_value.specs.Ancestors.{fix_ancestors}
 use Rattle.inline_value.specs.Recording.{Recorded, record_values, restore_values}
 use Rattle.inline_value.specs.Styling.{unset_style}
 use Rattle.command_laws.proofs.AncestorRuns.{order_preserving_fix_ancestors, stateless_fix_ancestors}
 use Rattle.command_laws.proofs.PushingRuns.{order_preserving_record_values, order_preserving_restore_values, stateless_record_values, stateless_restore_values}
-use Rattle.command_laws.proofs.Splitting.{order_preserving_split_one, order_preserving_unwrap}
-use Rattle.command_laws.proofs.StatelessSplits.{stateless_split, stateless_keeping_children}
+use Rattle.command_laws.proofs.Splitting.{order_preserving_split_around, order_preserving_unwrap}
+use Rattle.command_laws.proofs.StatelessSplits.{stateless_split_around, stateless_keeping_children}
 use Rattle.command_laws.proofs.StylingRuns.{order_preserving_unset_style, stateless_unset_style}
 
 pub record Fit {T : Type 0} (m : Run T) : Type 0 where
@@ -69,8 +69,8 @@ fit_record list = fit (order_preserving_record_values list) (stateless_record_va
 pub fit_restore : (list : List Recorded) → Fit (restore_values list)
 fit_restore list = fit (order_preserving_restore_values list) (stateless_restore_values list)
 
-pub fit_split_one : (n : ℕ) → Fit (split_parent (n ∷ []))
-fit_split_one n = fit (order_preserving_split_one n) (stateless_split (n ∷ []))
+pub fit_split_around : (n : ℕ) → Fit (split_around n)
+fit_split_around n = fit (order_preserving_split_around n) (stateless_split_around n)
 
 pub fit_unwrap : (n : ℕ) → Fit (remove_keeping_children n)
 fit_unwrap n = fit (order_preserving_unwrap n) (stateless_keeping_children n)

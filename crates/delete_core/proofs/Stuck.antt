@@ -9,7 +9,7 @@ use Rattle.edit_model.specs.State.{State}
 use Rattle.edit_model.proofs.Steps.{final-look, final-answer, final-bind, value-bind, value-answer}
 use Rattle.edit_actions.specs.Siblings.{first_parent, members}
 use Rattle.wrap_split.specs.Split.{is_void_thing, split_at, split_members, split_parent}
-use Rattle.delete_core.specs.Merging.{is_stuck, split_once}
+use Rattle.delete_core.specs.Merging.{is_stuck, split_line}
 
 nothing_there : (k : ℕ) → None ≡ Some k → ⊥
 nothing_there k e = absurd (let t = e in cc)
@@ -50,19 +50,19 @@ module _ (s : State) (list : List ℕ) (k : ℕ) (head : first_in list ≡ Some 
           let t = rw e at stuck in
           rw (final-look, heads list p head e) (same_members s p t (members s p list))
 
-  same_once : final (split_once list k) s ≡ s
-  unfolding split_once
+  same_once : final (split_line list k) s ≡ s
+  unfolding split_line
   same_once = rw (final-bind, same_split) (final-answer k s)
 
-  same_answer : value (split_once list k) s ≡ k
-  unfolding split_once
+  same_answer : value (split_line list k) s ≡ k
+  unfolding split_line
   same_answer = rw (value-bind, same_split) (value-answer k s)
 
-  pub same_while : (n : ℕ) (test : State → ℕ → Bool) → final (while_at_most n test (split_once list) k) s ≡ s
+  pub same_while : (n : ℕ) (test : State → ℕ → Bool) → final (while_at_most n test (split_line list) k) s ≡ s
   unfolding while_at_most
   same_while zero test = final-answer k s
   same_while (suc n) test = rw final-look (by_test (test s k) (same_while n test))
     where
-      by_test : (b : Bool) → final (while_at_most n test (split_once list) k) s ≡ s → final (if b then (split_once list k >>= while_at_most n test (split_once list)) else answer k) s ≡ s
+      by_test : (b : Bool) → final (while_at_most n test (split_line list) k) s ≡ s → final (if b then (split_line list k >>= while_at_most n test (split_line list)) else answer k) s ≡ s
       by_test true rest = rw (final-bind, same_answer, same_once) rest
       by_test false rest = final-answer k s

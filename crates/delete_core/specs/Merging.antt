@@ -89,11 +89,11 @@ unfoldable pub drop_block : ℕ → ℕ → Run (Unit {0})
 drop_block b c = drop_soles b c >>= drop_parted
 
 -- step 11 e: the line that begins with k is taken out of its parent
-unfoldable pub split_once : List ℕ → ℕ → Run ℕ
-split_once list k = split_parent list >> answer k
+unfoldable pub split_line : List ℕ → ℕ → Run ℕ
+split_line list k = split_parent list >> answer k
 
 unfoldable pub split_out : ℕ → List ℕ → ℕ → Run (Unit {0})
-split_out b list k = look λ s. while_at_most (turn_bound s) (is_apart b) (split_once list) k >> done
+split_out b list k = look λ s. while_at_most (turn_bound s) (is_apart b) (split_line list) k >> done
 
 -- splitting the parent of a line that begins with k changes nothing, so a loop of it may end. Only proofs cite it.
 unfoldable pub is_stuck : State → ℕ → Bool

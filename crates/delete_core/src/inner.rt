@@ -5,7 +5,7 @@ ghost use Rattle.std.specs.Prelude.{◌≡◌, IfOk, Some, None};
 ghost use Rattle.edit_model.specs.Gives.{Gives, GivesAs, GivesNode, labels_of};
 ghost use Rattle.edit_doc.specs.Whole.{IsOpen};
 ghost use Rattle.edit_doc.specs.Held.{Holds, EachHeld, Keeps};
-ghost use Rattle.delete_core.specs.Merging.{is_apart, is_sole, drop_sole, parts_lines, part_lines, remove_own, drop_parted, drop_soles, drop_block, split_once, is_stuck, split_out, drop_break_before, take_out_line, take_line, merge_content, merge_inner};
+ghost use Rattle.delete_core.specs.Merging.{is_apart, is_sole, drop_sole, parts_lines, part_lines, remove_own, drop_parted, drop_soles, drop_block, split_line, is_stuck, split_out, drop_break_before, take_out_line, take_line, merge_content, merge_inner};
 ghost use Rattle.dom_model.specs.Forest.{first_in};
 ghost use Rattle.delete_core.specs.Values.{ValuesHeld, recorded_in};
 
@@ -159,7 +159,7 @@ fn is_stuck(doc: &Doc, node: NodeRef) -> bool
 
 // Step 11 e: takes a line out of its parent, until it stands in the outer block. A turn that
 // changes nothing is the last.
-#[tactic(auto, using(edit_model::proofs::Steps::whiles, edit_model::proofs::Steps::exits, crate::proofs::Stuck::same_while), unfolding(crate::specs::Merging::split_out, crate::specs::Merging::split_once))]
+#[tactic(auto, using(edit_model::proofs::Steps::whiles, edit_model::proofs::Steps::exits, crate::proofs::Stuck::same_while), unfolding(crate::specs::Merging::split_out, crate::specs::Merging::split_line))]
 fn split_out(
     alloc: Global,
     doc: &mut Doc,

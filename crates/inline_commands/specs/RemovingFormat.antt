@@ -7,8 +7,8 @@ use Rattle.node_styles.specs.NameClasses.{is_format_candidate}
 use Rattle.edit_model.specs.State.{State}
 use Rattle.edit_model.specs.Moves.{unwrap}
 use Rattle.edit_model.specs.Run.{Run, ◌>>=◌, ◌>>◌, answer, done, look, for_each, while_at_most}
+use Rattle.wrap_split.specs.Split.{split_around}
 use Rattle.wrap_split.specs.Walks.{turn_bound}
-use Rattle.inline_value.specs.Ancestors.{split_once}
 use Rattle.inline_value.specs.Recording.{recorded_commands}
 use Rattle.inline_value.specs.Selections.{nodes_in_range, editable_in_range, split_ends, set_value}
 
@@ -28,7 +28,7 @@ unfoldable pub is_formatted : State → ℕ → Bool
 is_formatted s n = option_map_or (is_candidate s) (parent_of s.trees n) false
 
 unfoldable pub part_from_format : ℕ → Run (Unit {0})
-part_from_format n = look λ s. while_at_most (turn_bound s) is_formatted split_once n >> done
+part_from_format n = look λ s. while_at_most (turn_bound s) is_formatted split_around n >> done
 
 unfoldable pub part_nodes : Run (Unit {0})
 part_nodes = look λ s. for_each (editable_in_range s) part_from_format

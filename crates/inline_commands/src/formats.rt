@@ -1,22 +1,21 @@
 //! The command removeFormat. The steps are those of docs/ALGORITHMS.md.
 
-ghost use Rattle.std.specs.Prelude.{◌≡◌, IfOk};
-ghost use Rattle.edit_model.specs.Gives.{Gives, GivesNode, labels_of};
+ghost use Rattle.std.specs.Prelude.{◌≡◌};
+ghost use Rattle.edit_model.specs.Gives.{Gives, labels_of};
 ghost use Rattle.edit_model.specs.Moves.{unwrap};
 ghost use Rattle.edit_model.specs.Run.{for_each};
 ghost use Rattle.edit_doc.specs.Held.{Holds, EachHeld, Keeps};
 ghost use Rattle.edit_doc.specs.Whole.{IsOpen};
-ghost use Rattle.inline_value.specs.Ancestors.{split_once};
 ghost use Rattle.inline_value.specs.Recording.{recorded_commands};
 ghost use Rattle.inline_commands.specs.RemovingFormat.{unwrap_candidates, is_formatted, part_from_format, part_nodes, clear_command, clear_commands, remove_format};
 
 use crate::ranges::{candidates_in_range, is_candidate};
 use edit_actions::unwrap;
-use edit_doc::{Doc, EditFault, NodeList, NodeRef};
+use edit_doc::{Doc, EditFault, NodeRef};
 use html_names::Command;
 use inline_value::{editable_in_range, set_value, split_ends};
 use std::alloc::Global;
-use wrap_split::{split_parent, turn_bound};
+use wrap_split::{split_around, turn_bound};
 
 // Remove the format, step 1: of each node of a list.
 #[tactic(auto, using(edit_model::proofs::Steps::eachs, edit_model::proofs::Steps::exits))]
@@ -55,20 +54,6 @@ fn is_formatted(doc: &Doc, node: NodeRef) -> bool
     }
 }
 
-// Remove the format, step 3: one turn.
-#[tactic(auto, using(edit_model::proofs::Steps::steps, edit_model::proofs::Steps::exits), unfolding(inline_value::specs::Ancestors::split_once))]
-fn split_once(alloc: Global, doc: &mut Doc, node: NodeRef) -> Result<NodeRef, EditFault>
-    requires open { IsOpen doc.old }
-    requires node_held { Holds doc.old node }
-    ensures gives { GivesNode result doc.old.state doc.new.state (split_once node.label) }
-    ensures held { IfOk result (λ r. Holds doc.new r) }
-    ensures keeps { Keeps doc.old doc.new }
-{
-    let list = NodeList::from_slice(alloc, &[node])?;
-    split_parent(alloc, doc, &list)?;
-    Ok(node)
-}
-
 // Remove the format, step 3: of one node.
 #[tactic(auto, using(edit_model::proofs::Steps::whiles, edit_model::proofs::Steps::exits), unfolding(crate::specs::RemovingFormat::part_from_format))]
 fn part_from_format(alloc: Global, doc: &mut Doc, node: NodeRef) -> Result<(), EditFault>
@@ -77,10 +62,9 @@ fn part_from_format(alloc: Global, doc: &mut Doc, node: NodeRef) -> Result<(), E
     ensures gives { Gives result doc.old.state doc.new.state (part_from_format node.label) }
     ensures keeps { Keeps doc.old doc.new }
 {
-    let mut at = node;
     let mut turns = turn_bound(doc);
-    while turns > 0 && is_formatted(doc, at) {
-        at = split_once(alloc, doc, at)?;
+    while turns > 0 && is_formatted(doc, node) {
+        split_around(alloc, doc, node)?;
         turns -= 1;
     }
     Ok(())

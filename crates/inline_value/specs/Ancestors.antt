@@ -10,11 +10,11 @@ use Rattle.node_styles.specs.Allowed.{allowed_in, name_allowed_in}
 use Rattle.edit_model.specs.State.{State}
 use Rattle.edit_model.specs.Confined.{is_editable_for, is_inside}
 use Rattle.edit_model.specs.Compositions.{set_tag_name}
-use Rattle.edit_model.specs.Run.{Run, ◌>>=◌, ◌>>◌, done, look, answer, for_each, while_at_most}
+use Rattle.edit_model.specs.Run.{Run, ◌>>=◌, ◌>>◌, done, look, for_each, while_at_most}
 use Rattle.wrap_split.specs.declared.rule.Blank.{Blank}
 use Rattle.wrap_split.specs.declared.rule.Criterion.TheVariants.{Named}
 use Rattle.wrap_split.specs.declared.rule.Recipe.TheVariants.{Make}
-use Rattle.wrap_split.specs.Split.{split_parent}
+use Rattle.wrap_split.specs.Split.{split_parent, split_around}
 use Rattle.wrap_split.specs.Walks.{turn_bound}
 use Rattle.wrap_split.specs.Wrap.{wrap}
 use Rattle.edit_query.specs.Rows.{container_name}
@@ -32,11 +32,8 @@ has_place s n = list_any (λ a. is_inside s a && allowed_in s.trees n a) (ancest
 abbrev pub is_misplaced : State → ℕ → Bool
 is_misplaced s n = option_map_or (λ p. not (allowed_in s.trees n p)) (parent_of s.trees n) false
 
-unfoldable pub split_once : ℕ → Run ℕ
-split_once n = split_parent (n ∷ []) >> answer n
-
 unfoldable pub lifted : ℕ → Run (Unit {0})
-lifted n = look λ s. while_at_most (turn_bound s) is_misplaced split_once n >> done
+lifted n = look λ s. while_at_most (turn_bound s) is_misplaced split_around n >> done
 
 unfoldable pub lift : ℕ → Run (Unit {0})
 lift n = do

@@ -18,7 +18,7 @@ use edit_doc::{Doc, EditFault, NodeList, NodeRef};
 use html_names::is_prohibited_child;
 use node_tests::{allowed_in, has_name, name_allowed_in};
 use std::alloc::{AllocError, Global};
-use wrap_split::{Blank, CopyMade, NamedSibling, WrapRule, split_parent, turn_bound, wrap};
+use wrap_split::{Blank, CopyMade, NamedSibling, WrapRule, split_around, split_parent, turn_bound, wrap};
 
 /// Whether a node is an element that may not stand in a paragraph.
 #[tactic(auto, unfolding(crate::specs::Ancestors::is_prohibited))]
@@ -84,20 +84,16 @@ fn is_misplaced(doc: &Doc, node: NodeRef) -> bool
 // ---- step 3
 
 // Fix disallowed ancestors, step 3: splits the parent as long as the node may not stand in it.
-#[tactic(auto, using(edit_model::proofs::Steps::whiles, edit_model::proofs::Steps::exits), unfolding(crate::specs::Ancestors::lifted, crate::specs::Ancestors::split_once))]
+#[tactic(auto, using(edit_model::proofs::Steps::whiles, edit_model::proofs::Steps::exits), unfolding(crate::specs::Ancestors::lifted))]
 fn lift_out(alloc: Global, doc: &mut Doc, node: NodeRef) -> Result<(), EditFault>
     requires open { IsOpen doc.old }
     requires node_held { Holds doc.old node }
     ensures gives { Gives result doc.old.state doc.new.state (lifted node.label) }
     ensures keeps { Keeps doc.old doc.new }
 {
-    let list = NodeList::from_slice(alloc, &[node])?;
     let mut turns = turn_bound(doc);
-    while turns > 0 {
-        if !is_misplaced(doc, node) {
-            return Ok(());
-        }
-        split_parent(alloc, doc, &list)?;
+    while turns > 0 && is_misplaced(doc, node) {
+        split_around(alloc, doc, node)?;
         turns -= 1;
     }
     Ok(())

@@ -1,7 +1,7 @@
 -- Splitting the parent of a list of siblings, and removing a node while its children stay (HTML
 -- Editing APIs, "split the parent", "remove preserving its descendants"). The steps are those of
 -- docs/ALGORITHMS.md.
-use Rattle.std.specs.Prelude.{ℕ, Bool, false, ◌||◌, ◌&&◌, not, List, if◌then◌else◌, codes, is_none}
+use Rattle.std.specs.Prelude.{ℕ, Bool, false, ◌||◌, ◌&&◌, not, List, [], ◌∷◌, if◌then◌else◌, codes, is_none}
 use Rattle.std.specs.Option.{option_map_or}
 use Rattle.dom_model.specs.Contents.{name_of, is_break}
 use Rattle.dom_model.specs.Forest.{parent_of, next_of, children_of, first_of, first_in, last_in}
@@ -12,7 +12,7 @@ use Rattle.edit_model.specs.Kept.{is_thing}
 use Rattle.edit_model.specs.Confined.{is_editable_for}
 use Rattle.edit_model.specs.Compositions.{tag_of, attribute_list_of}
 use Rattle.edit_model.specs.Moves.{insert_before, insert_after, make_break, move_all_before, move_all_after, move_each_last}
-use Rattle.edit_model.specs.Run.{Run, ◌>>=◌, ◌>>◌, done, look, given, remove, unset_attribute, make_element}
+use Rattle.edit_model.specs.Run.{Run, ◌>>=◌, ◌>>◌, answer, done, look, given, remove, unset_attribute, make_element}
 use Rattle.edit_actions.specs.Siblings.{first_parent, members, until, starts_in, ends_in}
 use Rattle.wrap_split.specs.Breaks.{breaks_before, breaks_at_end}
 
@@ -100,6 +100,10 @@ split_members o list = given (first_in list) done λ a. given (last_in list) don
 -- split the parent, step 1: of the list, those that have a parent, and the same parent as the first of them, are taken
 unfoldable pub split_parent : List ℕ → Run (Unit {0})
 split_parent list = look λ s. given (first_parent s list) done λ o. split_members o (members s o list)
+
+-- the parent of one node is split around it; it answers the node, for a loop of this
+unfoldable pub split_around : ℕ → Run ℕ
+split_around n = split_parent (n ∷ []) >> answer n
 
 -- remove, preserving descendants, steps 1 and 2
 unfoldable pub remove_keeping_children : ℕ → Run (Unit {0})

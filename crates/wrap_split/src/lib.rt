@@ -26,6 +26,6 @@ pub use edit_doc::{Doc, EditFault, NodeList, NodeRef};
 pub use filling::{append_break, is_inline};
 pub use listing::break_next;
 pub use rule::{Blank, Criterion, Makes, Meets, Recipe, WrapRule};
-pub use split::{is_void_thing, remove_keeping_children, split_parent};
+pub use split::{is_void_thing, remove_keeping_children, split_around, split_parent};
 pub use walks::turn_bound;
 pub use wrapping::wrap;

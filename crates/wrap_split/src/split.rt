@@ -2,10 +2,10 @@
 //! docs/ALGORITHMS.md.
 
 ghost use Rattle.std.specs.Prelude.{◌≡◌};
-ghost use Rattle.edit_model.specs.Gives.{Gives, labels_of};
+ghost use Rattle.edit_model.specs.Gives.{Gives, GivesAs, labels_of};
 ghost use Rattle.edit_doc.specs.Whole.{IsOpen};
 ghost use Rattle.edit_doc.specs.Held.{Holds, EachHeld, Keeps};
-ghost use Rattle.wrap_split.specs.Split.{break_before, break_after, clear_before, copied, copy_front, drop_first_break, close, tidy_after, split_end, split_rest, split_marked, is_void_thing, split_at, split_members, split_parent, remove_keeping_children};
+ghost use Rattle.wrap_split.specs.Split.{break_before, break_after, clear_before, copied, copy_front, drop_first_break, close, tidy_after, split_end, split_rest, split_marked, is_void_thing, split_at, split_members, split_parent, split_around, remove_keeping_children};
 
 use crate::breaks::{breaks_at_end, breaks_before};
 use edit_actions::{
@@ -315,6 +315,17 @@ pub fn split_parent(alloc: Global, doc: &mut Doc, list: &NodeList) -> Result<(),
     ensures keeps { Keeps doc.old doc.new }
 {
     split_parent_of(alloc, doc, list.as_slice())
+}
+
+/// Splits the parent of a node, so that the node comes to stand beside it.
+#[tactic(auto, using(edit_model::proofs::Steps::steps, edit_model::proofs::Steps::exits), unfolding(crate::specs::Split::split_around))]
+pub fn split_around(alloc: Global, doc: &mut Doc, node: NodeRef) -> Result<(), EditFault>
+    requires open { IsOpen doc.old }
+    requires node_held { Holds doc.old node }
+    ensures gives { GivesAs (λ v. node.label) result doc.old.state doc.new.state (split_around node.label) }
+    ensures keeps { Keeps doc.old doc.new }
+{
+    split_parent_of(alloc, doc, &[node])
 }
 
 /// Removes a node, whose children come to stand in its place.

@@ -3,14 +3,14 @@ use Rattle.edit_model.specs.Gives.{label_of, labels_of}
 use Rattle.edit_model.specs.Run.{final, value, while_at_most}
 use Rattle.edit_doc.specs.Held.{Holds, IfHeld, Keeps}
 use Rattle.wrap_split.specs.Walks.{turn_bound}
-use Rattle.delete_core.specs.Merging.{is_apart, split_once}
+use Rattle.delete_core.specs.Merging.{is_apart, split_line}
 use Rattle.delete_core.proofs.inner.split_out.Given as goal
 
 -- what is left to do ends where the whole ends
 abbrev pub invariant-loop-turns : goal.invariant-loop-turns
 invariant-loop-turns l =
-    (final (while_at_most l.turns (is_apart l.outer.label) (split_once (labels_of l.line)) l.first.label) l.doc.state
-    ≡ final (while_at_most (turn_bound l.initial.doc.state) (is_apart l.outer.label) (split_once (labels_of l.line)) l.first.label) l.initial.doc.state)
+    (final (while_at_most l.turns (is_apart l.outer.label) (split_line (labels_of l.line)) l.first.label) l.doc.state
+    ≡ final (while_at_most (turn_bound l.initial.doc.state) (is_apart l.outer.label) (split_line (labels_of l.line)) l.first.label) l.initial.doc.state)
     × (Keeps l.initial.doc l.doc)
 
 abbrev pub decreases-loop-turns : goal.decreases-loop-turns
