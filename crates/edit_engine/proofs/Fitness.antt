@@ -23,7 +23,8 @@ use Rattle.command_laws.proofs.TypingRuns.{stateless_insert_text, stateless_inse
 use Rattle.inline_value.specs.Overrides.{overrides_of}
 use Rattle.inline_value.specs.declared.overrides.Override.{Override}
 use Rattle.inline_commands.specs.RestoringStates.{restore_states}
-use Rattle.edit_engine.specs.Framing.{is_collapsed, restore_collapsed, give_back, recorded_action, framed}
+use Rattle.edit_query.specs.Carets.{is_caret}
+use Rattle.edit_engine.specs.Framing.{restore_at_caret, give_back, recorded_action, framed}
 use Rattle.edit_engine.specs.Commands.{row_of, own_action, action_of, is_value, flags_taken, set_css_styling, separator_set, set_separator}
 
 -- a run leaves the states of contenteditable, and a keeping one keeps the order
@@ -91,18 +92,18 @@ own_fit command.InsertImage value = other (stateless_insert_image value)
 -- ---- with the overrides recorded and restored
 
 stateless_back : (list : List Override) (b : Bool) → Stateless (give_back list b)
-unfolding restore_collapsed
+unfolding restore_at_caret
 stateless_back list true =
-    stateless_bind (restore_collapsed list) (λ _. answer true)
-    (stateless_look_at (λ s. if is_collapsed s then restore_states list else done) (λ s. stateless_if (is_collapsed s) (restore_states list) done (stateless_restore_states list) (stateless_answer tt)))
+    stateless_bind (restore_at_caret list) (λ _. answer true)
+    (stateless_look_at (λ s. if is_caret s then restore_states list else done) (λ s. stateless_if (is_caret s) (restore_states list) done (stateless_restore_states list) (stateless_answer tt)))
     (λ _. stateless_answer true)
 stateless_back list false = stateless_answer false
 
 order_preserving_back : (list : List Override) (b : Bool) → OrderPreserving (give_back list b)
-unfolding restore_collapsed
+unfolding restore_at_caret
 order_preserving_back list true =
-    order_preserving_bind (restore_collapsed list) (λ _. answer true)
-    (order_preserving_look (λ s. if is_collapsed s then restore_states list else done) (λ s. order_preserving_if (is_collapsed s) (restore_states list) done (order_preserving_restore_states list) (order_preserving_answer tt)))
+    order_preserving_bind (restore_at_caret list) (λ _. answer true)
+    (order_preserving_look (λ s. if is_caret s then restore_states list else done) (λ s. order_preserving_if (is_caret s) (restore_states list) done (order_preserving_restore_states list) (order_preserving_answer tt)))
     (λ _. order_preserving_answer true)
 order_preserving_back list false = order_preserving_answer false
 

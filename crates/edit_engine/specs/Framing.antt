@@ -1,29 +1,20 @@
 -- What stands round the action of a command: commands that change blocks or delete give back at a
 -- caret the overrides that were set before (HTML Editing APIs, "record current overrides", "restore
 -- states and values").
-use Rattle.std.specs.Prelude.{Bool, true, false, ◌==◌, ◌&&◌, List, Option, Some, None, if◌then◌else◌}
-use Rattle.live_range.specs.declared.places.Pair.{Pair}
-use Rattle.edit_model.specs.State.{State}
+use Rattle.std.specs.Prelude.{Bool, true, false, List, if◌then◌else◌}
 use Rattle.edit_model.specs.Run.{Run, ◌>>=◌, ◌>>◌, answer, done, look}
+use Rattle.edit_query.specs.Carets.{is_caret}
 use Rattle.inline_value.specs.Overrides.{overrides_of}
 use Rattle.inline_value.specs.declared.overrides.Override.{Override}
 use Rattle.inline_commands.specs.RestoringStates.{restore_states}
 
--- both points are at the same place
-abbrev pub is_caret : Option Pair → Bool
-is_caret None = false
-is_caret (Some pair) = (pair.anchor.label == pair.focus.label) && (pair.anchor.offset == pair.focus.offset)
-
--- the selection is a caret now
-unfoldable pub is_collapsed : State → Bool
-is_collapsed s = is_caret s.points.selection
-
-unfoldable pub restore_collapsed : List Override → Run (Unit {0})
-restore_collapsed list = look λ s. if is_collapsed s then restore_states list else done
+-- only where the selection is a caret now
+unfoldable pub restore_at_caret : List Override → Run (Unit {0})
+restore_at_caret list = look λ s. if is_caret s then restore_states list else done
 
 -- an action that answers false is taken back, so there is nothing to restore
 abbrev pub give_back : List Override → Bool → Run Bool
-give_back list true = restore_collapsed list >> answer true
+give_back list true = restore_at_caret list >> answer true
 give_back list false = answer false
 
 unfoldable pub recorded_action : Run Bool → Run Bool

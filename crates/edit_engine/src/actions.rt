@@ -7,7 +7,7 @@ ghost use Rattle.edit_doc.specs.Whole.{IsOpen, IsClosed, opened};
 ghost use Rattle.edit_actions.specs.ActiveRange.{affected_host};
 ghost use Rattle.edit_engine.specs.Commands.{is_value, set_css_styling, set_separator, own_action, action_of, row_of, types_text};
 ghost use Rattle.edit_engine.specs.Editing.{IsJoinable};
-ghost use Rattle.edit_engine.specs.Framing.{is_collapsed, restore_collapsed, give_back, recorded_action};
+ghost use Rattle.edit_engine.specs.Framing.{restore_at_caret, give_back, recorded_action};
 ghost use Rattle.edit_engine.specs.Running.{Ran, has_entry};
 
 use crate::commands::{is_value, row_of, types_text};
@@ -15,6 +15,7 @@ use block_commands::{format_block, justify};
 use css_value::TextAlign;
 use edit_actions::affected_host;
 use edit_doc::{Committed, Doc, EditFault, Flags};
+use edit_query::is_caret;
 use html_names::Command;
 use inline_commands::{
     apply_value, create_link, remove_format, restore_states, toggle_script, toggle_style, unlink,
@@ -101,27 +102,14 @@ fn act(alloc: Global, doc: &mut Doc, command: Command, value: &[char]) -> Result
     }
 }
 
-// Whether the selection is a caret.
-#[tactic(auto, unfolding(crate::specs::Framing::is_collapsed))]
-fn is_collapsed(doc: &Doc) -> bool
-    ensures { result ≡ is_collapsed doc.now.state }
-{
-    match doc.points().selection() {
-        Some(pair) => {
-            pair.anchor.label == pair.focus.label && pair.anchor.offset == pair.focus.offset
-        }
-        None => false,
-    }
-}
-
 // Restores recorded overrides at a caret.
-#[tactic(auto, using(edit_model::proofs::Steps::steps, edit_model::proofs::Steps::exits), unfolding(crate::specs::Framing::restore_collapsed))]
-fn restore_collapsed(alloc: Global, doc: &mut Doc, list: &Overrides) -> Result<(), EditFault>
+#[tactic(auto, using(edit_model::proofs::Steps::steps, edit_model::proofs::Steps::exits), unfolding(crate::specs::Framing::restore_at_caret))]
+fn restore_at_caret(alloc: Global, doc: &mut Doc, list: &Overrides) -> Result<(), EditFault>
     requires open { IsOpen doc.old }
-    ensures gives { Gives result doc.old.state doc.new.state (restore_collapsed list.now) }
+    ensures gives { Gives result doc.old.state doc.new.state (restore_at_caret list.now) }
     ensures keeps { Keeps doc.old doc.new }
 {
-    if is_collapsed(doc) {
+    if is_caret(doc) {
         return restore_states(alloc, doc, list);
     }
     Ok(())
@@ -140,7 +128,7 @@ fn give_back(
     ensures keeps { Keeps doc.old doc.new }
 {
     if answer {
-        restore_collapsed(alloc, doc, list)?;
+        restore_at_caret(alloc, doc, list)?;
         return Ok(true);
     }
     Ok(false)

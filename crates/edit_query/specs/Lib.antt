@@ -1,3 +1,4 @@
+pub mod Carets
 pub mod Formattable
 pub mod Leaves
 pub mod Sought

@@ -10,6 +10,7 @@
 #![tactic(auto)]
 
 mod block_types;
+mod carets;
 mod formattable;
 mod leaves;
 mod list_states;
@@ -19,6 +20,7 @@ mod reply;
 mod rows;
 mod sought;
 
+pub use carets::is_caret;
 pub use formattable::{first_formattable, formattable_nodes};
 pub use leaves::nodes_in;
 pub use list_states::{ListState, is_child_of, is_list_of, list_members, list_name, list_state};

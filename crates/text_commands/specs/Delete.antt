@@ -13,6 +13,7 @@ use Rattle.node_tests.specs.CollapsedWhitespace.{is_words}
 use Rattle.edit_model.specs.State.{State}
 use Rattle.edit_model.specs.Run.{Run, ◌>>=◌, ◌>>◌, answer, done, look, given, select, collapse, extend, set_scratch}
 use Rattle.edit_actions.specs.ActiveRange.{start_of}
+use Rattle.edit_query.specs.Carets.{is_caret}
 use Rattle.wrap_split.specs.Walks.{turn_bound}
 use Rattle.delete_core.specs.Ends.{canonicalize_start}
 use Rattle.delete_core.specs.Places.{at, start_in, end_in, walk_points}
@@ -179,11 +180,6 @@ delete_at_start = look λ s. given s.points.selection (answer true) λ pair. del
 unfoldable pub delete_at_caret : Run Bool
 delete_at_caret = canonicalize_start true >> delete_at_start
 
--- step 1: both points are at one place
-abbrev pub is_caret : Option Pair → Bool
-is_caret None = false
-is_caret (Some pair) = (pair.anchor.label == pair.focus.label) && (pair.anchor.offset == pair.focus.offset)
-
 -- step 1, or from 2 on
 unfoldable pub delete : Run Bool
-delete = look λ s. if is_caret s.points.selection then delete_at_caret else erased false
+delete = look λ s. if is_caret s then delete_at_caret else erased false

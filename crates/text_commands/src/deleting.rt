@@ -15,6 +15,7 @@ use crate::outdents::{outdent_line, starts_indented};
 use delete_core::canonicalize_start;
 use edit_actions::ends_of;
 use edit_doc::{Doc, EditFault, NodeRef, Point};
+use edit_query::is_caret;
 use node_tests::is_block;
 use point_order::node_of;
 use std::alloc::Global;
@@ -158,18 +159,6 @@ fn delete_at_caret(alloc: Global, doc: &mut Doc) -> Result<bool, EditFault>
     delete_at_start(alloc, doc)
 }
 
-// Step 1: whether the selection is a caret.
-fn is_caret(doc: &Doc) -> bool
-    ensures { result ≡ command.is_caret doc.now.state.points.selection }
-{
-    match doc.points().selection() {
-        Some(pair) => {
-            pair.anchor.label == pair.focus.label && pair.anchor.offset == pair.focus.offset
-        }
-        None => false,
-    }
-}
-
 /// The command delete: what is selected goes. At a caret it is what stands before it: a character,
 /// a br, hr or img, the edge between two blocks, the place of the first entry of a list, or an
 /// indentation. A table before the caret is selected, and a link gives way to its text.
@@ -180,6 +169,7 @@ pub fn delete(alloc: Global, doc: &mut Doc) -> Result<bool, EditFault>
     ensures taken { IfOk result (λ answer. answer ≡ true) }
     ensures keeps { Keeps doc.old doc.new }
 {
+    // step 1
     if is_caret(doc) {
         delete_at_caret(alloc, doc)
     } else {
