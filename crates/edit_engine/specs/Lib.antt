@@ -1,6 +1,7 @@
 pub mod Framing
 pub mod Commands
 pub mod Editing
+pub mod Turning
 pub mod Execution
 pub mod Queries
 pub mod Places

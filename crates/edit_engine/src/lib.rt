@@ -14,9 +14,11 @@ mod log;
 mod places;
 mod probe;
 mod queries;
+mod turning;
 mod views;
 
 pub use answers::{Answer, ExecFault, LogFault, PlaceFault, ViewFault, ViewKind};
 pub use edit_query::Reply;
 pub use editor::Editor;
 pub use laws::{locked_span_is_island, refusals_leave_the_state};
+pub use turning::Turn;

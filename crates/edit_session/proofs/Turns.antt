@@ -2,7 +2,10 @@
 use Rattle.std.proofs.Common.{◌≡◌, ℕ, zero, suc, ◌+◌, ◌-◌, ◌<◌, ◌≤◌, List, [], ◌∷◌, length, Bool, false, true≢false, refl, sym, ap, arith}
 use Rattle.std.specs.Prelude.{min, IsTrue, ◌↔◌}
 use Rattle.edit_model.specs.History.{Entry, undone_state, undone_history, redone_state, redone_history}
+use Rattle.edit_engine.specs.declared.turning.Turn.{Turn}
+use Rattle.edit_engine.specs.declared.turning.Turn.TheVariants.{Undo, Redo}
 use Rattle.edit_engine.specs.Editing.{Editing, undone, redone, turned}
+use Rattle.edit_engine.specs.Turning.{entries_of, turned_by}
 
 -- one turn more
 pub turn_more : (n m : ℕ) (turn : Editing → Editing) (e : Editing) → n ≡ suc m → turned n turn e ≡ turned m turn (turn e)
@@ -13,7 +16,7 @@ pub turn_none : (n : ℕ) (turn : Editing → Editing) (e : Editing) → n ≡ 0
 unfolding turned
 turn_none n turn e is = ap (λ k. turned k turn e) is
 
-pub undone_length : (e : Editing) → 0 < length e.history.undo → length e.history.undo ≡ suc (length (undone e).history.undo)
+undone_length : (e : Editing) → 0 < length e.history.undo → length e.history.undo ≡ suc (length (undone e).history.undo)
 unfolding undone_history
 undone_length e some = by_entries e.history.undo refl some
   where
@@ -21,7 +24,7 @@ undone_length e some = by_entries e.history.undo refl some
     by_entries [] is h = absurd (omega (arith, h))
     by_entries (x ∷ xs) is h = rw is refl
 
-pub redone_length : (e : Editing) → 0 < length e.history.redo → length e.history.redo ≡ suc (length (redone e).history.redo)
+redone_length : (e : Editing) → 0 < length e.history.redo → length e.history.redo ≡ suc (length (redone e).history.redo)
 unfolding redone_history
 redone_length e some = by_entries e.history.redo refl some
   where
@@ -29,7 +32,7 @@ redone_length e some = by_entries e.history.redo refl some
     by_entries [] is h = absurd (omega (arith, h))
     by_entries (x ∷ xs) is h = rw is refl
 
-pub undone_none : (e : Editing) → length e.history.undo ≡ 0 → undone e ≡ e
+undone_none : (e : Editing) → length e.history.undo ≡ 0 → undone e ≡ e
 unfolding undone_state undone_history
 undone_none e none = by_entries e.history.undo refl none
   where
@@ -37,13 +40,22 @@ undone_none e none = by_entries e.history.undo refl none
     by_entries [] is h = rw is refl
     by_entries (x ∷ xs) is h = absurd (omega (arith, h))
 
-pub redone_none : (e : Editing) → length e.history.redo ≡ 0 → redone e ≡ e
+redone_none : (e : Editing) → length e.history.redo ≡ 0 → redone e ≡ e
 unfolding redone_state redone_history
 redone_none e none = by_entries e.history.redo refl none
   where
     by_entries : (es : List Entry) → e.history.redo ≡ es → length es ≡ 0 → redone e ≡ e
     by_entries [] is h = rw is refl
     by_entries (x ∷ xs) is h = absurd (omega (arith, h))
+
+-- a turn takes one entry of those that are there
+pub turned_length : (way : Turn) (e : Editing) → 0 < length (entries_of way e.history) → length (entries_of way e.history) ≡ suc (length (entries_of way (turned_by way e).history))
+turned_length Undo e some = undone_length e some
+turned_length Redo e some = redone_length e some
+
+pub turned_none : (way : Turn) (e : Editing) → length (entries_of way e.history) ≡ 0 → turned_by way e ≡ e
+turned_none Undo e none = undone_none e none
+turned_none Redo e none = redone_none e none
 
 -- so many are left of those asked for and there
 pub one_left : (count taken there later : ℕ) → taken < count → there ≡ suc later → min (count - taken) there ≡ suc (min (count - (taken + 1)) later)

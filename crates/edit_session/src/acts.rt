@@ -1,25 +1,25 @@
 //! The replies to the lines of a session.
 
-ghost use Rattle.std.specs.Prelude.{◌≡◌, ◌<◌, ◌&&◌, min, length, codes, IfOk, OnOk, string_bytes, true};
+ghost use Rattle.std.specs.Prelude.{◌≡◌, ◌&&◌, min, length, codes, IfOk, OnOk, string_bytes, true};
 ghost use Rattle.script_read.specs.Acts.{is_name};
 ghost use Rattle.script_read.specs.Reading.{line_of};
-ghost use Rattle.edit_engine.specs.Editing.{undone, redone, turned};
+ghost use Rattle.edit_engine.specs.Editing.{turned};
 ghost use Rattle.edit_engine.specs.Execution.{gated_outcome};
 ghost use Rattle.edit_engine.specs.Places.{pair_at};
 ghost use Rattle.edit_engine.specs.Queries.{reply_of};
+ghost use Rattle.edit_engine.specs.Turning.{entries_of, turned_by};
 ghost use Rattle.edit_engine.specs.Views.{view_text};
 ghost use Rattle.edit_session.specs.Replies.{truth, select_reply, mark_reply, exec_reply, query_text, taken, undo_reply, redo_reply, log_reply, shown, act_reply, read_reply, line_reply, IsNamed};
 
 use command_gate::{Gate, NameList};
 use dom_model::{Chars, Name};
-use edit_engine::{Answer, Editor, ExecFault, LogFault, PlaceFault, Reply, ViewFault, ViewKind};
+use edit_engine::{
+    Answer, Editor, ExecFault, LogFault, PlaceFault, Reply, Turn, ViewFault, ViewKind,
+};
 use escaped_text::push_escaped;
 use html_names::QueryKind;
 use script_read::{Act, LineFault, Place, read_line};
 use std::alloc::{AllocError, Global};
-use std::marker::Brand;
-use std::sync::ledger::{Blank, Ledger};
-use step_count::Steps;
 
 fn truth(flag: bool) -> &'static [u8]
     ensures { result.now ≡ truth flag }
@@ -110,57 +110,23 @@ fn query(
     }
 }
 
-// Takes as many entries back as are asked for and there.
-fn undo<L: Ledger>(editor: &mut Editor, count: u32, steps: &mut Steps<L>) -> u32
-    ensures count { result ≡ min count (length editor.old.history.undo) }
-    ensures after { editor.new ≡ turned (min count (length editor.old.history.undo)) undone editor.old }
+// Undoes or redoes as many entries as are asked for and there.
+fn turn_through(editor: &mut Editor, turn: Turn, count: u32) -> u32
+    ensures count { result ≡ min count (length (entries_of turn editor.old.history)) }
+    ensures after { editor.new ≡ turned
+        (min count (length (entries_of turn editor.old.history))) (turned_by turn) editor.old }
 {
     let mut taken = 0;
-    while taken < count && editor.undo(steps) {
+    while taken < count && editor.turn(turn) {
         taken += 1;
     }
     taken
-}
-
-fn redo<L: Ledger>(editor: &mut Editor, count: u32, steps: &mut Steps<L>) -> u32
-    ensures count { result ≡ min count (length editor.old.history.redo) }
-    ensures after { editor.new ≡ turned (min count (length editor.old.history.redo)) redone editor.old }
-{
-    let mut taken = 0;
-    while taken < count && editor.redo(steps) {
-        taken += 1;
-    }
-    taken
-}
-
-// The same, where nobody counts the steps.
-fn undo_uncounted<L: Ledger>(editor: &mut Editor, count: u32, blank: Blank) -> u32
-    requires name { blank.name ≡ L.name }
-    requires parts { blank.parts ≡ L.parts }
-    requires some { 0 < blank.parts }
-    ensures count { result ≡ min count (length editor.old.history.undo) }
-    ensures after { editor.new ≡ turned (min count (length editor.old.history.undo)) undone editor.old }
-{
-    let mut steps = Steps::<L>::open(blank);
-    undo(editor, count, &mut steps)
 }
 
 fn undo_text(alloc: Global, count: u32) -> Result<String, AllocError>
     ensures { IfOk result (λ text. string_bytes text ≡ taken (codes "undo ") count) }
 {
     format!(in alloc; "undo {count}\n")
-}
-
-// The same, where nobody counts the steps.
-fn redo_uncounted<L: Ledger>(editor: &mut Editor, count: u32, blank: Blank) -> u32
-    requires name { blank.name ≡ L.name }
-    requires parts { blank.parts ≡ L.parts }
-    requires some { 0 < blank.parts }
-    ensures count { result ≡ min count (length editor.old.history.redo) }
-    ensures after { editor.new ≡ turned (min count (length editor.old.history.redo)) redone editor.old }
-{
-    let mut steps = Steps::<L>::open(blank);
-    redo(editor, count, &mut steps)
 }
 
 fn redo_text(alloc: Global, count: u32) -> Result<String, AllocError>
@@ -174,7 +140,7 @@ fn answer_undo(alloc: Global, editor: &mut Editor, count: u32) -> Result<Vec<u8>
     ensures text { IfOk result (λ bytes. bytes.items ≡ (undo_reply editor.old count).text) }
     ensures after { OnOk result (editor.new ≡ (undo_reply editor.old count).after) }
 {
-    let taken = undo_uncounted::<Brand>(editor, count, Blank::new(1));
+    let taken = turn_through(editor, Turn::Undo, count);
     undo_text(alloc, taken)?.as_bytes().to_vec(alloc)
 }
 
@@ -183,7 +149,7 @@ fn answer_redo(alloc: Global, editor: &mut Editor, count: u32) -> Result<Vec<u8>
     ensures text { IfOk result (λ bytes. bytes.items ≡ (redo_reply editor.old count).text) }
     ensures after { OnOk result (editor.new ≡ (redo_reply editor.old count).after) }
 {
-    let taken = redo_uncounted::<Brand>(editor, count, Blank::new(1));
+    let taken = turn_through(editor, Turn::Redo, count);
     redo_text(alloc, taken)?.as_bytes().to_vec(alloc)
 }
 

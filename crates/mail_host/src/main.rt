@@ -4,20 +4,17 @@
 //! A real host gets its selection and its commands from its user; in this one they are written down.
 #![tactic(auto)]
 
-ghost use Rattle.std.specs.Prelude.{◌≡◌, ◌<◌, IfSome};
+ghost use Rattle.std.specs.Prelude.{IfSome};
 ghost use Rattle.edit_doc.specs.Whole.{HasNoLoose};
 
-use edit_engine::{Answer, Editor, ExecFault, Reply, ViewKind};
+use edit_engine::{Answer, Editor, ExecFault, Reply, Turn, ViewKind};
 use edit_io::{WriteSink, write_all};
 use html_names::QueryKind;
 use node_arena::Arena;
 use page_read::read_page;
 use script_read::{Path, Place};
 use std::alloc::{AllocError, Global};
-use std::marker::Brand;
 use std::process::ExitCode;
-use std::sync::ledger::{Blank, Ledger};
-use step_count::Steps;
 
 const MAIL: &[u8] = b"<div contenteditable=\"true\"><h1>Plan</h1><p>Call Ann &amp; Bob.</p></div>";
 
@@ -89,20 +86,6 @@ fn show(alloc: Global, editor: &Editor, screen: &mut Vec<u8>) -> Result<(), Allo
     Ok(())
 }
 
-fn undo_counting<L: Ledger>(editor: &mut Editor, blank: Blank) -> bool
-    requires name { blank.name ≡ L.name }
-    requires parts { blank.parts ≡ L.parts }
-    requires some { 0 < blank.parts }
-{
-    let mut steps = Steps::<L>::open(blank);
-    editor.undo(&mut steps)
-}
-
-// The editor counts the steps that an undo takes, for its contracts; nothing is counted as the program runs.
-fn undo(editor: &mut Editor) -> bool {
-    undo_counting::<Brand>(editor, Blank::new(1))
-}
-
 fn edit(alloc: Global, editor: &mut Editor, screen: &mut Vec<u8>) -> Result<(), AllocError> {
     show(alloc, editor, screen)?;
     if !select_name(alloc, editor)? {
@@ -113,7 +96,7 @@ fn edit(alloc: Global, editor: &mut Editor, screen: &mut Vec<u8>) -> Result<(), 
     screen.extend_from_slice(told(editor.exec(alloc, "insertUnorderedList", &[])))?;
     show(alloc, editor, screen)?;
     screen.extend_from_slice(told(editor.exec(alloc, "createLink", &[])))?;
-    undo(editor);
+    editor.turn(Turn::Undo);
     show(alloc, editor, screen)
 }
 

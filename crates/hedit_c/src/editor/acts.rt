@@ -1,6 +1,6 @@
 //! Calls that change an editor.
 
-ghost use Rattle.std.specs.Prelude.{◌≡◌, ◌<◌, nat_lt, length};
+ghost use Rattle.std.specs.Prelude.{◌≡◌, nat_lt, length};
 ghost use Rattle.edit_engine.specs.Editing.{undone, redone};
 ghost use Rattle.edit_engine.specs.Execution.{outcome};
 ghost use Rattle.std.specs.Str.{chars};
@@ -9,12 +9,9 @@ ghost use Rattle.hedit_c.specs.Calls.{ExecAnswers, ExecTells, SelectTells, MarkT
 use super::status::Status;
 use super::texts::{collect_chars, place_of};
 use dom_model::{Chars, Name};
-use edit_engine::{Answer, Editor, ExecFault, PlaceFault};
+use edit_engine::{Answer, Editor, ExecFault, PlaceFault, Turn};
 use script_read::Place;
 use std::alloc::Global;
-use std::marker::Brand;
-use std::sync::ledger::{Blank, Ledger};
-use step_count::Steps;
 
 fn exec_chars(alloc: Global, editor: &mut Editor, name: &str, value: &Chars) -> Status
     ensures { ExecAnswers result editor.old editor.new (outcome editor.old name.now value.now) }
@@ -48,34 +45,12 @@ pub(crate) fn exec(alloc: Global, editor: &mut Editor, name: &[u8], value: &[u8]
     }
 }
 
-fn undo_uncounted<L: Ledger>(editor: &mut Editor, blank: Blank) -> bool
-    requires name { blank.name ≡ L.name }
-    requires parts { blank.parts ≡ L.parts }
-    requires some { 0 < blank.parts }
-    ensures answer { result ≡ nat_lt 0 (length editor.old.history.undo) }
-    ensures undone { editor.new ≡ undone editor.old }
-{
-    let mut steps = Steps::<L>::open(blank);
-    editor.undo(&mut steps)
-}
-
-fn redo_uncounted<L: Ledger>(editor: &mut Editor, blank: Blank) -> bool
-    requires name { blank.name ≡ L.name }
-    requires parts { blank.parts ≡ L.parts }
-    requires some { 0 < blank.parts }
-    ensures answer { result ≡ nat_lt 0 (length editor.old.history.redo) }
-    ensures redone { editor.new ≡ redone editor.old }
-{
-    let mut steps = Steps::<L>::open(blank);
-    editor.redo(&mut steps)
-}
-
 /// Takes one entry back. Nothing is counted as it runs.
 pub(crate) fn undo(editor: &mut Editor) -> bool
     ensures answer { result ≡ nat_lt 0 (length editor.old.history.undo) }
     ensures undone { editor.new ≡ undone editor.old }
 {
-    undo_uncounted::<Brand>(editor, Blank::new(1))
+    editor.turn(Turn::Undo)
 }
 
 /// Takes one entry forth again. Nothing is counted as it runs.
@@ -83,7 +58,7 @@ pub(crate) fn redo(editor: &mut Editor) -> bool
     ensures answer { result ≡ nat_lt 0 (length editor.old.history.redo) }
     ensures redone { editor.new ≡ redone editor.old }
 {
-    redo_uncounted::<Brand>(editor, Blank::new(1))
+    editor.turn(Turn::Redo)
 }
 
 // Selects from one place to another.

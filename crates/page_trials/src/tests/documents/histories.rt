@@ -214,7 +214,13 @@ fn end(doc: &mut Doc) -> bool
     matches!(doc.commit(), Committed::Entry)
 }
 
-fn undo_uncounted<L: Ledger>(doc: &mut Doc, blank: Blank) -> bool
+#[derive(Clone, Copy)]
+enum Turn {
+    Undo,
+    Redo,
+}
+
+fn turn_uncounted<L: Ledger>(doc: &mut Doc, turn: Turn, blank: Blank) -> bool
     requires name { blank.name ≡ L.name }
     requires parts { blank.parts ≡ L.parts }
     requires some { 0 < blank.parts }
@@ -222,32 +228,17 @@ fn undo_uncounted<L: Ledger>(doc: &mut Doc, blank: Blank) -> bool
     ensures { IsClosed doc.new }
 {
     let mut steps = Steps::<L>::open(blank);
-    doc.undo(&mut steps)
+    match turn {
+        Turn::Undo => doc.undo(&mut steps),
+        Turn::Redo => doc.redo(&mut steps),
+    }
 }
 
-fn redo_uncounted<L: Ledger>(doc: &mut Doc, blank: Blank) -> bool
-    requires name { blank.name ≡ L.name }
-    requires parts { blank.parts ≡ L.parts }
-    requires some { 0 < blank.parts }
-    requires closed { IsClosed doc.old }
-    ensures { IsClosed doc.new }
-{
-    let mut steps = Steps::<L>::open(blank);
-    doc.redo(&mut steps)
-}
-
-fn undo(doc: &mut Doc) -> bool
+fn turn(doc: &mut Doc, turn: Turn) -> bool
     requires { IsClosed doc.old }
     ensures { IsClosed doc.new }
 {
-    undo_uncounted::<Brand>(doc, Blank::new(1))
-}
-
-fn redo(doc: &mut Doc) -> bool
-    requires { IsClosed doc.old }
-    ensures { IsClosed doc.new }
-{
-    redo_uncounted::<Brand>(doc, Blank::new(1))
+    turn_uncounted::<Brand>(doc, turn, Blank::new(1))
 }
 
 // How many entries undo and redo would take, and the edits of the next one.
@@ -269,9 +260,9 @@ fn turns(alloc: Global, doc: &mut Doc, before: &str, after: &str) -> Result<bool
     requires { IsClosed doc.old }
     ensures { IsClosed doc.new }
 {
-    let undone = undo(doc);
+    let undone = turn(doc, Turn::Undo);
     let is_before = is_as(alloc, doc, before)?;
-    let redone = redo(doc);
+    let redone = turn(doc, Turn::Redo);
     let is_after = is_as(alloc, doc, after)?;
     Ok(undone && is_before && redone && is_after)
 }

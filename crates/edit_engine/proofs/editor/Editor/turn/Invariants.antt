@@ -1,0 +1,4 @@
+use Rattle.edit_engine.proofs.editor.Editor.turn.Given as goal
+
+abbrev pub ghosts-turn_uncounted : goal.ghosts-turn_uncounted
+ghosts-turn_uncounted a = record { name = a.blank.name; parts = a.blank.parts }

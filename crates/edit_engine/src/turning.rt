@@ -1,0 +1,42 @@
+//! Undo and redo of an entry, where nobody counts the edits that it has.
+
+ghost use Rattle.std.specs.Prelude.{◌≡◌, ◌↔◌, ◌<◌, IsTrue, length};
+ghost use Rattle.edit_engine.specs.Turning.{entries_of, turned_by};
+
+use crate::editor::Editor;
+use std::marker::Brand;
+use std::sync::ledger::{Blank, Ledger};
+use step_count::Steps;
+
+/// A way through the history.
+#[derive(Clone, Copy, PartialEq, Eq, Debug)]
+pub enum Turn {
+    /// Back before the entry before the cursor.
+    Undo,
+    /// Forth again past the entry after the cursor.
+    Redo,
+}
+
+impl Editor {
+    fn turn_uncounted<L: Ledger>(&mut self, turn: Turn, blank: Blank) -> bool
+        requires name { blank.name ≡ L.name }
+        requires parts { blank.parts ≡ L.parts }
+        requires some { 0 < blank.parts }
+        ensures answer { IsTrue result ↔ (0 < length (entries_of turn self.old.history)) }
+        ensures turned { self.new ≡ turned_by turn self.old }
+    {
+        let mut steps = Steps::<L>::open(blank);
+        match turn {
+            Turn::Undo => self.undo(&mut steps),
+            Turn::Redo => self.redo(&mut steps),
+        }
+    }
+
+    /// Undoes or redoes an entry, as `undo` and `redo` do. Nothing is counted as it runs. False where there is none.
+    pub fn turn(&mut self, turn: Turn) -> bool
+        ensures answer { IsTrue result ↔ (0 < length (entries_of turn self.old.history)) }
+        ensures turned { self.new ≡ turned_by turn self.old }
+    {
+        self.turn_uncounted::<Brand>(turn, Blank::new(1))
+    }
+}

@@ -1,4 +1,0 @@
-use Rattle.page_trials.proofs.tests.documents.histories.redo.Given as goal
-
-abbrev pub ghosts-redo_uncounted : goal.ghosts-redo_uncounted
-ghosts-redo_uncounted a = record { name = a.blank.name; parts = a.blank.parts }
