@@ -23,7 +23,8 @@ use Rattle.wrap_split.specs.Walks.{turn_bound}
 use Rattle.wrap_split.specs.Wrap.{wrap}
 use Rattle.inline_value.specs.Styling.{unset_style}
 use Rattle.block_commands.specs.Gathered.{outermost, contained}
-use Rattle.block_commands.specs.Series.{count_series, is_next, has_members}
+use Rattle.block_extend.specs.Series.{count_series, is_next}
+use Rattle.block_commands.specs.Series.{has_members}
 
 -- ---- justify, step 1: elements that align what is in them give that up
 
@@ -84,7 +85,7 @@ wrapped alignment list = wrap (Aligned alignment) (Make (aligned_div alignment))
 
 unfoldable pub align_series : List ℕ → List ℕ → Run (List ℕ)
 align_series alignment list = look λ s.
-    let count = count_series (is_next s) list in
+    let count = count_series (is_next s.trees) list in
     wrapped alignment (take count list) >> answer (drop count list)
 
 unfoldable pub align_all : List ℕ → List ℕ → Run (Unit {0})

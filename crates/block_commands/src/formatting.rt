@@ -150,7 +150,7 @@ fn format_container(
 }
 
 // Step 4 b: how many members the first line of a list has, which are wrapped.
-#[tactic(auto, using(edit_model::proofs::Steps::steps, edit_model::proofs::Steps::exits, crate::proofs::Counting::labels_of_take, crate::proofs::Counting::labels_of_rest, crate::proofs::Counting::exit_count), unfolding(crate::specs::FormatBlock::format_series))]
+#[tactic(auto, using(edit_model::proofs::Steps::steps, edit_model::proofs::Steps::exits, edit_query::proofs::Lists::labels_of_front, edit_query::proofs::Lists::labels_of_rest, crate::proofs::Counting::exit_count), unfolding(crate::specs::FormatBlock::format_series))]
 fn format_series(
     alloc: Global,
     doc: &mut Doc,
@@ -170,7 +170,7 @@ fn format_series(
 }
 
 // Step 4, one turn, with the first member of the list: how many members are done with.
-#[tactic(auto, using(edit_model::proofs::Steps::steps, edit_model::proofs::Steps::exits, crate::proofs::Counting::labels_of_rest, crate::proofs::Counting::exit_count), unfolding(crate::specs::FormatBlock::format_first))]
+#[tactic(auto, using(edit_model::proofs::Steps::steps, edit_model::proofs::Steps::exits, edit_query::proofs::Lists::labels_of_rest, crate::proofs::Counting::exit_count), unfolding(crate::specs::FormatBlock::format_first))]
 fn format_first(
     alloc: Global,
     doc: &mut Doc,

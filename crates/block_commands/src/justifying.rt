@@ -126,7 +126,7 @@ fn wrap_aligned(
 }
 
 // Step 3, one turn: how many members the first series of a list has, which are wrapped.
-#[tactic(auto, using(edit_model::proofs::Steps::steps, edit_model::proofs::Steps::exits, crate::proofs::Counting::labels_of_take, crate::proofs::Counting::labels_of_rest, crate::proofs::Counting::exit_count), unfolding(crate::specs::Justify::align_series))]
+#[tactic(auto, using(edit_model::proofs::Steps::steps, edit_model::proofs::Steps::exits, edit_query::proofs::Lists::labels_of_front, edit_query::proofs::Lists::labels_of_rest, crate::proofs::Counting::exit_count), unfolding(crate::specs::Justify::align_series))]
 fn align_series(
     alloc: Global,
     doc: &mut Doc,

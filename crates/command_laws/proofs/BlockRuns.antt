@@ -28,7 +28,8 @@ use Rattle.block_commands.specs.FormatBlock as blocks
 use Rattle.block_commands.specs.FormatBlock.{block_name, leave_blocks, leave_each, split_blocks, block, is_apart, fixed, made_block, format_children, format_container, format_series, format_first, format_next, format_all, format_list, format_to, format_block}
 use Rattle.block_commands.specs.Justify as aligning
 use Rattle.block_commands.specs.Justify.{name_div, drop_plain, clear_alignment, clear_alignments, aligned_div, align_series, align_all, align_range, justify}
-use Rattle.block_commands.specs.Series.{count_series, is_next, is_next_on_line}
+use Rattle.block_extend.specs.Series.{count_series, is_next}
+use Rattle.block_commands.specs.Series.{is_next_on_line}
 use Rattle.command_laws.specs.WrapLaws.{NamesNoThing}
 use Rattle.command_laws.proofs.Criteria.{no_thing, named_bare}
 use Rattle.command_laws.proofs.PushingRuns.{order_preserving_restore_values, stateless_record_values, stateless_restore_values}
@@ -176,9 +177,9 @@ fit_clear_all = search (fits, fit_clear)
 
 -- ---- justify, step 3
 
-align_keeps : (alignment list : List ℕ) (s : State) → IsKeeping s → KeepsOrder s (final (aligning.wrapped alignment (take (count_series (is_next s) list) list)) s)
+align_keeps : (alignment list : List ℕ) (s : State) → IsKeeping s → KeepsOrder s (final (aligning.wrapped alignment (take (count_series (is_next s.trees) list) list)) s)
 unfolding aligning.wrapped
-align_keeps alignment list s is = series_keeps (Aligned alignment) (Make (aligned_div alignment)) tt refl s is (is_next s) (next_is s) list
+align_keeps alignment list s is = series_keeps (Aligned alignment) (Make (aligned_div alignment)) tt refl s is (is_next s.trees) (next_is s) list
 
 stateless_aligned : (alignment list : List ℕ) → Stateless (aligning.wrapped alignment list)
 unfolding aligning.wrapped
@@ -188,7 +189,7 @@ fit_align : (alignment list : List ℕ) → Fit (align_series alignment list)
 unfolding align_series
 fit_align alignment list =
     fit (record { keeps = λ s is. rw final-look (then_order_preserving _ _ s is (align_keeps alignment list s is) (order_preserving_answer _)) })
-    (stateless_look_at _ (λ s. stateless_bind _ _ (stateless_aligned alignment (take (count_series (is_next s) list) list)) (λ _. stateless_answer _)))
+    (stateless_look_at _ (λ s. stateless_bind _ _ (stateless_aligned alignment (take (count_series (is_next s.trees) list) list)) (λ _. stateless_answer _)))
 
 fit_align_all : (alignment list : List ℕ) → Fit (align_all alignment list)
 unfolding align_all

@@ -1,8 +1,8 @@
 -- Lists of nodes as tests of nodes list them, and as calls on a document under edits list them.
-use Rattle.std.proofs.Common.{◌≡◌, ℕ, Bool, true, false, if◌then◌else◌, List, [], ◌∷◌, ◌++◌, refl, ap, ◌∙◌, append_assoc}
+use Rattle.std.proofs.Common.{◌≡◌, ℕ, zero, suc, Bool, true, false, if◌then◌else◌, List, [], ◌∷◌, ◌++◌, take, drop, refl, ap, ◌∙◌, append_assoc}
 use Rattle.std.specs.Prelude.{map, filter}
 use Rattle.std.specs.List.{All}
-use Rattle.std.proofs.lemmas.List.Elements.{All-get_or}
+use Rattle.std.proofs.lemmas.List.Elements.{All-from_get_or, All-get_or}
 use Rattle.node_arena.specs.declared.NodeRef.{NodeRef}
 use Rattle.node_tests.specs.Listing.{only_if}
 use Rattle.edit_model.specs.Gives.{labels_of}
@@ -15,6 +15,22 @@ labels_mapped (x ∷ xs) = ap (λ ls. x.label ∷ ls) (labels_mapped xs)
 
 pub each_held : (d : Whole) (xs : List NodeRef) → All (λ r. Holds d r) xs → EachHeld d xs
 each_held d xs all = λ k small. All-get_or (λ r. Holds d r) xs k _ small all
+
+pub all_held : (d : Whole) (xs : List NodeRef) → EachHeld d xs → All (λ r. Holds d r) xs
+all_held d xs held = All-from_get_or (λ r. Holds d r) xs record { slot = 0; label = 0 } held
+
+-- the labels of the first members, and of those after them
+pub labels_of_front : (xs : List NodeRef) (n : ℕ) → labels_of (take n xs) ≡ take n (labels_of xs)
+labels_of_front [] zero = refl
+labels_of_front [] (suc n) = refl
+labels_of_front (x ∷ xs) zero = refl
+labels_of_front (x ∷ xs) (suc n) = ap (λ ls. x.label ∷ ls) (labels_of_front xs n)
+
+pub labels_of_rest : (xs : List NodeRef) (n : ℕ) → labels_of (drop n xs) ≡ drop n (labels_of xs)
+labels_of_rest [] zero = refl
+labels_of_rest [] (suc n) = refl
+labels_of_rest (x ∷ xs) zero = refl
+labels_of_rest (x ∷ xs) (suc n) = labels_of_rest xs n
 
 -- a member, where it passes, goes from the members that are still to be tested to those found
 pub filtered_on : (test : ℕ → Bool) (l : ℕ) (found new ls all : List ℕ) →

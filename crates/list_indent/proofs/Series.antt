@@ -1,8 +1,8 @@
 -- How a list is taken series by series.
 use Rattle.std.proofs.Common.{◌≡◌, ℕ, zero, suc, ◌+◌, ◌-◌, ◌<◌, ◌≤◌, Bool, List, [], ◌∷◌, length, take, drop, map, min, get_or, refl, sym, ap, ◌∙◌, subst, add-one, arith}
 use Rattle.std.proofs.Math.ListN.{drop_of_length-le}
-use Rattle.std.proofs.lemmas.List.{length-take, length-drop, get_or-take, get_or-drop, take_all}
-use Rattle.std.proofs.lemmas.List.Elements.{All-from_get_or, All-get_or, All-drop}
+use Rattle.std.proofs.lemmas.List.{length-take, length-drop, drop-drop, get_or-take, get_or-drop, take_all}
+use Rattle.std.proofs.lemmas.List.Elements.{All-drop}
 use Rattle.std.specs.List.{All}
 use Rattle.node_arena.specs.declared.NodeRef.{NodeRef}
 use Rattle.edit_model.specs.State.{State}
@@ -13,32 +13,8 @@ use Rattle.edit_model.proofs.Steps.{steps, final-bind, fails-bind, length-labels
 use Rattle.edit_doc.specs.Whole.{Whole}
 use Rattle.edit_doc.specs.Held.{Holds, EachHeld}
 use Rattle.block_extend.specs.Series.{count_after, count_series}
+use Rattle.edit_query.proofs.Lists.{labels_mapped, all_held, labels_of_front, labels_of_rest}
 use Rattle.list_indent.specs.Series.{for_series}
-
--- ---- lists of references
-
-pub labels_map : (xs : List NodeRef) → map (λ r. r.label) xs ≡ labels_of xs
-labels_map [] = refl
-labels_map (x ∷ xs) = ap (λ r. x.label ∷ r) (labels_map xs)
-
-labels_take : (n : ℕ) (xs : List NodeRef) → take n (labels_of xs) ≡ labels_of (take n xs)
-labels_take zero xs = refl
-labels_take (suc n) [] = refl
-labels_take (suc n) (x ∷ xs) = ap (λ r. x.label ∷ r) (labels_take n xs)
-
-labels_drop : (n : ℕ) (xs : List NodeRef) → drop n (labels_of xs) ≡ labels_of (drop n xs)
-labels_drop zero xs = refl
-labels_drop (suc n) [] = refl
-labels_drop (suc n) (x ∷ xs) = labels_drop n xs
-
-drop_none : (n : ℕ) → drop {A = NodeRef} n [] ≡ []
-drop_none zero = refl
-drop_none (suc n) = refl
-
-drop_drop : (m n : ℕ) (xs : List NodeRef) → drop n (drop m xs) ≡ drop (m + n) xs
-drop_drop zero n xs = let same : n ≡ zero + n = omega arith in ap (λ k. drop k xs) same
-drop_drop (suc m) n [] = drop_none n ∙ sym (drop_none (suc m + n))
-drop_drop (suc m) n (x ∷ xs) = let same : suc (m + n) ≡ suc m + n = omega arith in drop_drop m n xs ∙ ap (λ k. drop k (x ∷ xs)) same
 
 -- ---- what is passed over
 
@@ -66,11 +42,11 @@ pub series_turn : (on : State → ℕ → ℕ → Bool) (body : List ℕ → Run
     ≡ final (body (labels_of (take n (drop at xs))) >>= (λ _. for_series on body 0 (labels_of (drop (at + n) xs)))) s
 series_turn on body xs at n s h count =
     let some : 0 < length (labels_of (drop at xs)) = rw (length-labels_of (drop at xs), length-drop at xs) (omega (arith, h)) in
-    let n_is : count_series (on s) (labels_of (drop at xs)) ≡ n = sym (count ∙ ap (count_series (on s)) (labels_map (drop at xs))) in
-    let rest : drop n (labels_of (drop at xs)) ≡ labels_of (drop (at + n) xs) = labels_drop n (drop at xs) ∙ ap labels_of (drop_drop at n xs) in
+    let n_is : count_series (on s) (labels_of (drop at xs)) ≡ n = sym (count ∙ ap (count_series (on s)) (labels_mapped (drop at xs))) in
+    let rest : drop n (labels_of (drop at xs)) ≡ labels_of (drop (at + n) xs) = sym (labels_of_rest (drop at xs) n) ∙ ap labels_of (drop-drop n at xs) in
     first_turn on body (labels_of (drop at xs)) s some
     ∙ ap (λ j. final (body (take j (labels_of (drop at xs))) >>= (λ _. for_series on body 0 (drop j (labels_of (drop at xs))))) s) n_is
-    ∙ ap (λ ys. final (body ys >>= (λ _. for_series on body 0 (drop n (labels_of (drop at xs))))) s) (labels_take n (drop at xs))
+    ∙ ap (λ ys. final (body ys >>= (λ _. for_series on body 0 (drop n (labels_of (drop at xs))))) s) (sym (labels_of_front (drop at xs) n))
     ∙ ap (λ ys. final (body (labels_of (take n (drop at xs))) >>= (λ _. for_series on body 0 ys)) s) rest
 
 pub series_end : (on : State → ℕ → ℕ → Bool) (body : List ℕ → Run (Unit {0})) (xs : List NodeRef) (at : ℕ) → length xs ≤ at →
@@ -106,10 +82,7 @@ module _ (on : State → ℕ → ℕ → Bool) (body : List ℕ → Run (Unit {0
 -- ---- what is held of a list is held of a part of it
 
 pub held_drop : (d : Whole) (xs : List NodeRef) (at : ℕ) → EachHeld d xs → All (Holds d) (drop at xs)
-held_drop d xs at held = All-drop (Holds d) at xs (All-from_get_or (Holds d) xs record { slot = 0; label = 0 } held)
-
-pub held_all : (d : Whole) (xs : List NodeRef) → All (Holds d) xs → EachHeld d xs
-held_all d xs held = λ k low. All-get_or (Holds d) xs k record { slot = 0; label = 0 } low held
+held_drop d xs at held = All-drop (Holds d) at xs (all_held d xs held)
 
 pub held_part : (d : Whole) (xs : List NodeRef) (at n : ℕ) → EachHeld d xs → EachHeld d (take n (drop at xs))
 held_part d xs at n held = λ k low. at_place k low

@@ -14,7 +14,8 @@ use Rattle.edit_model.specs.declared.settings.EditFault.{EditFault}
 use Rattle.edit_model.proofs.Steps.{final-bind, value-bind, final-answer, value-answer, final-look, value-look, fails-bind, final_while_turn, value_while_turn, final_while_stop, value_while_stop, while_end}
 use Rattle.wrap_split.specs.Walks.{turn_bound}
 use Rattle.wrap_split.specs.Wrap.{one_of}
-use Rattle.block_commands.proofs.Counting.{drop_more, labels_of_rest}
+use Rattle.edit_query.proofs.Lists.{labels_of_rest}
+use Rattle.block_commands.proofs.Counting.{drop_more}
 use Rattle.list_toggle.specs.Collecting.{Made, Collected, is_container, make_item, next_item, goes_on, collected, collect_next, collect_items}
 
 -- a p or div is an element

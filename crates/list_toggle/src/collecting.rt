@@ -80,7 +80,7 @@ fn wrap_item(alloc: Global, doc: &mut Doc, line: &[NodeRef]) -> Result<Option<No
 }
 
 // Wraps the first members of a list, so many.
-#[tactic(auto, using(edit_model::proofs::Steps::steps, edit_model::proofs::Steps::exits, crate::proofs::Exits::exit_made, block_commands::proofs::Counting::labels_of_take), unfolding(crate::specs::Collecting::wrap_first))]
+#[tactic(auto, using(edit_model::proofs::Steps::steps, edit_model::proofs::Steps::exits, crate::proofs::Exits::exit_made, edit_query::proofs::Lists::labels_of_front), unfolding(crate::specs::Collecting::wrap_first))]
 fn wrap_first(
     alloc: Global,
     doc: &mut Doc,
