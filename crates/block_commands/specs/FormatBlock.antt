@@ -14,7 +14,6 @@ use Rattle.edit_model.specs.State.{State}
 use Rattle.edit_model.specs.Confined.{is_editable_for}
 use Rattle.edit_model.specs.Run.{Run, ◌>>=◌, ◌>>◌, answer, done, look, given, for_each, while_at_most}
 use Rattle.block_extend.specs.Prohibited.{is_above_prohibited}
-use Rattle.wrap_split.specs.declared.rule.Blank.{Blank}
 use Rattle.wrap_split.specs.declared.rule.Criterion.TheVariants.{Never, Named}
 use Rattle.wrap_split.specs.declared.rule.Recipe.TheVariants.{Make}
 use Rattle.wrap_split.specs.Split.{split_around, remove_keeping_children}
@@ -22,6 +21,7 @@ use Rattle.wrap_split.specs.Walks.{turn_bound}
 use Rattle.wrap_split.specs.Wrap.{wrap}
 use Rattle.inline_value.specs.Ancestors.{fix_ancestors}
 use Rattle.inline_value.specs.Recording.{record_values, restore_values}
+use Rattle.inline_value.specs.Wrappers.{bare}
 use Rattle.block_commands.specs.Gathered.{outermost}
 use Rattle.block_extend.specs.Series.{count_series}
 use Rattle.block_commands.specs.Series.{is_next_on_line, has_members}
@@ -76,9 +76,6 @@ split_blocks list = do
 
 -- ---- formatBlock, step 4: they are wrapped, line by line
 
-abbrev pub block : List ℕ → Blank
-block name = record { name = name; attributes = [] }
-
 -- paragraphs and divs stay apart
 unfoldable pub is_apart : List ℕ → Bool
 is_apart name = bytes_eq name (codes "div") || bytes_eq name (codes "p")
@@ -86,7 +83,7 @@ is_apart name = bytes_eq name (codes "div") || bytes_eq name (codes "p")
 -- step 4 c
 unfoldable pub wrapped : List ℕ → List ℕ → Run (Option ℕ)
 wrapped name list =
-    if is_apart name then wrap Never (Make (block name)) list else wrap (Named name true) (Make (block name)) list
+    if is_apart name then wrap Never (Make (bare name)) list else wrap (Named name true) (Make (bare name)) list
 
 -- step 4 d
 unfoldable pub fixed : Option ℕ → Run (Unit {0})

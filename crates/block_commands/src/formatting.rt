@@ -11,14 +11,14 @@ use crate::gathered::outermost;
 use crate::lines::{Formatted, has_outer_block};
 use crate::names::block_name;
 use crate::series::count_line;
-use dom_model::{Attributes, Name};
+use dom_model::Name;
 use edit_doc::{Doc, EditFault, NodeList, NodeRef};
-use inline_value::{fix_ancestors, record_values, restore_values};
+use inline_value::{bare, fix_ancestors, record_values, restore_values};
 use node_tests::{has_name, is_single_line};
 use std::alloc::{AllocError, Global};
 use wrap_split::{
-    Blank, CopyMade, NamedSibling, NoSibling, WrapRule, remove_keeping_children, split_around,
-    turn_bound, wrap,
+    CopyMade, NamedSibling, NoSibling, WrapRule, remove_keeping_children, split_around, turn_bound,
+    wrap,
 };
 
 // Step 3: as long as the node stands in a block with no other block in it.
@@ -79,10 +79,7 @@ fn wrap_block(
     ensures keeps { Keeps doc.old doc.new }
 {
     let maker = CopyMade {
-        blank: Blank {
-            name: name.clone()?,
-            attributes: Attributes::new(alloc),
-        },
+        blank: bare(alloc, name.as_slice())?,
     };
     let members = NodeList::from_slice(alloc, list)?;
     if name.as_slice() == b"div".as_slice() || name.as_slice() == b"p".as_slice() {

@@ -11,6 +11,7 @@ use edit_doc::{Doc, NodeRef};
 use node_tests::{is_break, is_single_line};
 
 // A node goes on a series of siblings where it is the next one.
+#[derive(Clone, Copy)]
 struct Siblings;
 
 impl Link<Doc> for Siblings {
@@ -24,6 +25,7 @@ impl Link<Doc> for Siblings {
 }
 
 // The same on one line: it is no single-line container, and the other one is no br.
+#[derive(Clone, Copy)]
 struct OnLine;
 
 impl Link<Doc> for OnLine {

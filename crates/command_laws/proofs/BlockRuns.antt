@@ -24,8 +24,9 @@ use Rattle.wrap_split.specs.declared.rule.Recipe.TheVariants.{Make}
 use Rattle.wrap_split.specs.Split.{remove_keeping_children}
 use Rattle.wrap_split.specs.Wrap.{wrap}
 use Rattle.inline_value.specs.Recording.{record_values}
+use Rattle.inline_value.specs.Wrappers.{bare}
 use Rattle.block_commands.specs.FormatBlock as blocks
-use Rattle.block_commands.specs.FormatBlock.{block_name, leave_blocks, leave_each, split_blocks, block, is_apart, fixed, made_block, format_children, format_container, format_series, format_first, format_next, format_all, format_list, format_to, format_block}
+use Rattle.block_commands.specs.FormatBlock.{block_name, leave_blocks, leave_each, split_blocks, is_apart, fixed, made_block, format_children, format_container, format_series, format_first, format_next, format_all, format_list, format_to, format_block}
 use Rattle.block_commands.specs.Justify as aligning
 use Rattle.block_commands.specs.Justify.{name_div, drop_plain, clear_alignment, clear_alignments, aligned_div, align_series, align_all, align_range, justify}
 use Rattle.block_extend.specs.Series.{count_series, is_next}
@@ -75,11 +76,11 @@ block_no_thing name h = no_thing names.is_formattable_block block_img block_hr n
 
 module _ (name : List ℕ) (plain : is_thing name ≡ false) where
   -- a series is wrapped, or the children of a container that went
-  wrapped_keeps : (s : State) → IsKeeping s → (list : List ℕ) → ((c : Criterion) → NamesNoThing c → KeepsOrder s (final (wrap c (Make (block name)) list) s)) → KeepsOrder s (final (made_block name list) s)
+  wrapped_keeps : (s : State) → IsKeeping s → (list : List ℕ) → ((c : Criterion) → NamesNoThing c → KeepsOrder s (final (wrap c (Make (bare name)) list) s)) → KeepsOrder s (final (made_block name list) s)
   unfolding made_block blocks.wrapped
   wrapped_keeps s is list keeps = then_order_preserving_on (blocks.wrapped name list) fixed s is (by_name (is_apart name)) (λ made. (fit_fixed made).order)
     where
-      by_name : (v : Bool) → KeepsOrder s (final (if v then wrap Never (Make (block name)) list else wrap (Named name true) (Make (block name)) list) s)
+      by_name : (v : Bool) → KeepsOrder s (final (if v then wrap Never (Make (bare name)) list else wrap (Named name true) (Make (bare name)) list) s)
       by_name true = keeps Never tt
       by_name false = keeps (Named name true) plain
 
@@ -87,7 +88,7 @@ module _ (name : List ℕ) (plain : is_thing name ≡ false) where
   unfolding made_block blocks.wrapped
   stateless_made list =
       stateless_bind _ fixed
-      (stateless_if (is_apart name) _ _ (stateless_wrap Never (Make (block name)) refl list) (stateless_wrap (Named name true) (Make (block name)) refl list))
+      (stateless_if (is_apart name) _ _ (stateless_wrap Never (Make (bare name)) refl list) (stateless_wrap (Named name true) (Make (bare name)) refl list))
       (λ made. (fit_fixed made).states)
 
   container_keeps : (n : ℕ) (s : State) → IsKeeping s → KeepsOrder s (final (format_children name n (children_of s.trees n)) s)
@@ -97,7 +98,7 @@ module _ (name : List ℕ) (plain : is_thing name ≡ false) where
       let t : State = final (remove_keeping_children n) s in
       let is_t = keeping_final (remove_keeping_children n) s is in
       let stay = children_stay_together n s is.valid in
-      let made = wrapped_keeps t is_t children (λ c named. together_keeps c (Make (block name)) named plain t is_t children stay.siblings) in
+      let made = wrapped_keeps t is_t children (λ c named. together_keeps c (Make (bare name)) named plain t is_t children stay.siblings) in
       rw (final-bind, final-look, final-answer, final-bind)
       (keeps_trans ((order_preserving_unwrap n).keeps s is) (then_order_preserving (made_block name children) _ t is_t made (order_preserving_restore_values _)))
 
@@ -111,7 +112,7 @@ module _ (name : List ℕ) (plain : is_thing name ≡ false) where
 
   series_block_keeps : (list : List ℕ) (s : State) → IsKeeping s → KeepsOrder s (final (made_block name (take (count_series (is_next_on_line s) list) list)) s)
   series_block_keeps list s is =
-      wrapped_keeps s is (take (count_series (is_next_on_line s) list) list) (λ c named. series_keeps c (Make (block name)) named plain s is (is_next_on_line s) (next_on_line s) list)
+      wrapped_keeps s is (take (count_series (is_next_on_line s) list) list) (λ c named. series_keeps c (Make (bare name)) named plain s is (is_next_on_line s) (next_on_line s) list)
 
   fit_series : (list : List ℕ) → Fit (format_series name list)
   unfolding format_series

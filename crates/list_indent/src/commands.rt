@@ -5,7 +5,6 @@ ghost use Rattle.edit_model.specs.Gives.{Gives, label_of, labels_of};
 ghost use Rattle.edit_model.specs.Run.{for_each};
 ghost use Rattle.edit_doc.specs.Whole.{IsOpen};
 ghost use Rattle.edit_doc.specs.Held.{Holds, IfHeld, EachHeld, Finds, Keeps};
-ghost use Rattle.wrap_split.specs.Wrap.{first_visible};
 ghost use Rattle.list_indent.specs.Sublists.{normalize_sublists};
 ghost use Rattle.list_indent.specs.Indenting.{indent_list};
 ghost use Rattle.list_indent.specs.Series.{for_series};
@@ -21,7 +20,7 @@ use edit_doc::{Doc, EditFault, NodeList, NodeRef};
 use inline_value::{record_values, restore_values};
 use node_tests::is_visible;
 use std::alloc::Global;
-use wrap_split::split_parent;
+use wrap_split::{first_visible, split_parent};
 
 /// Normalizes the sublists of each node of a list.
 #[tactic(auto, using(edit_model::proofs::Steps::eachs, edit_model::proofs::Steps::exits))]
@@ -60,19 +59,6 @@ fn shown_before(doc: &Doc, node: NodeRef) -> Option<NodeRef>
             return Some(sibling);
         }
         at = doc.prev(sibling);
-    }
-    None
-}
-
-#[tactic(auto, using(edit_model::proofs::Steps::labels_of_drop, edit_model::proofs::Steps::labels_of_end), unfolding(wrap_split::specs::Wrap::first_visible))]
-fn first_visible(doc: &Doc, list: &[NodeRef]) -> Option<NodeRef>
-    requires { EachHeld doc.now list.now }
-    ensures { Finds doc.now result (first_visible doc.now.state (labels_of list.now)) }
-{
-    for member in list {
-        if is_visible(doc, *member) {
-            return Some(*member);
-        }
     }
     None
 }

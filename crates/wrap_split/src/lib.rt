@@ -24,7 +24,7 @@ pub use answers::{
 pub use breaks::{breaks_at_end, breaks_before, breaks_from, last_below};
 pub use edit_doc::{Doc, EditFault, NodeList, NodeRef};
 pub use filling::{append_break, is_inline};
-pub use listing::break_next;
+pub use listing::{break_next, first_visible};
 pub use rule::{Blank, Criterion, Makes, Meets, Recipe, WrapRule};
 pub use split::{is_void_thing, remove_keeping_children, split_around, split_parent};
 pub use walks::turn_bound;

@@ -25,8 +25,9 @@ pub(crate) fn all_hidden(doc: &Doc, list: &[NodeRef]) -> bool
     true
 }
 
+/// The first visible node of a list.
 #[tactic(auto, using(edit_model::proofs::Steps::labels_of_drop, edit_model::proofs::Steps::labels_of_end), unfolding(crate::specs::Wrap::first_visible))]
-pub(crate) fn first_visible(doc: &Doc, list: &[NodeRef]) -> Option<NodeRef>
+pub fn first_visible(doc: &Doc, list: &[NodeRef]) -> Option<NodeRef>
     requires { EachHeld doc.now list.now }
     ensures { Finds doc.now result (first_visible doc.now.state (labels_of list.now)) }
 {
