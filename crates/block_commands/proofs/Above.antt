@@ -1,29 +1,16 @@
 -- The ancestors of a node, from one of them on.
-use Rattle.std.proofs.Common.{◌≡◌, ℕ, suc, ◌<◌, Bool, ◌||◌, Option, Some, None, refl, ap, arith}
+use Rattle.std.proofs.Common.{◌≡◌, ℕ, ◌<◌, Bool, ◌||◌, Option, Some, None, refl, ap}
 use Rattle.std.specs.List.{list_any}
 use Rattle.dom_model.specs.declared.Content.{Content}
-use Rattle.dom_model.specs.Forest.{Forest, count_of, parent_of, depth_of, IsDistinct}
+use Rattle.dom_model.specs.Forest.{Forest, count_of, parent_of, IsDistinct}
 use Rattle.dom_model.proofs.Parts.{at_label}
-use Rattle.dom_model.proofs.Within.{depth_of-parent}
 use Rattle.node_styles.proofs.Lineages.{lineage-child, lineage-root}
 use Rattle.block_commands.specs.FormatBlock.{lineage_at}
-
--- how many a node, if there is one, and its ancestors are at most
-abbrev pub height : Forest Content → Option ℕ → ℕ
-height f None = 0
-height f (Some l) = suc (depth_of f l)
 
 abbrev pub any_from : (ℕ → Bool) → Forest Content → Option ℕ → Bool
 any_from test f o = list_any (λ k. test k.label) (lineage_at f o)
 
 module _ (test : ℕ → Bool) (f : Forest Content) (once : IsDistinct f) (l : ℕ) (here : 0 < count_of f l) where
-  lower_by : (o : Option ℕ) → parent_of f l ≡ o → height f o < height f (Some l)
-  lower_by None up = omega arith
-  lower_by (Some p) up = let deep = depth_of-parent f l p once up in omega (arith, deep)
-
-  pub lower : height f (parent_of f l) < height f (Some l)
-  lower = lower_by (parent_of f l) refl
-
   any_by : (o : Option ℕ) → parent_of f l ≡ o → any_from test f (Some l) ≡ (test l || any_from test f o)
   any_by None up = let at = at_label f once l here in ap (list_any (λ k. test k.label)) (lineage-root f once l at.content here up at.content_is)
   any_by (Some p) up = let at = at_label f once l here in ap (list_any (λ k. test k.label)) (lineage-child f once l p at.content up at.content_is)

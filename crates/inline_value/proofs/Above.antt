@@ -22,6 +22,13 @@ abbrev pub height : Forest Content → Option ℕ → ℕ
 height f None = 0
 height f (Some l) = suc (depth_of f l)
 
+pub height_parent : (f : Forest Content) → IsDistinct f → (l : ℕ) → height f (parent_of f l) < height f (Some l)
+height_parent f once l = by (parent_of f l) refl
+  where
+    by : (o : Option ℕ) → parent_of f l ≡ o → height f o < height f (Some l)
+    by None up = omega arith
+    by (Some p) up = let deep = depth_of-parent f l p once up in omega (arith, deep)
+
 module _ (f : Forest Content) (once : IsDistinct f) (l : ℕ) (here : 0 < count_of f l) where
   by_parent : (o : Option ℕ) → parent_of f l ≡ o → map (λ k. k.label) (lineage f l) ≡ l ∷ from f o
   by_parent None up = let at = at_label f once l here in ap (λ ks. map (λ k. k.label) ks) (lineage-root f once l at.content here up at.content_is)
@@ -30,13 +37,6 @@ module _ (f : Forest Content) (once : IsDistinct f) (l : ℕ) (here : 0 < count_
   -- a node and its ancestors are the node, and its parent with its ancestors
   pub from_here : from f (Some l) ≡ l ∷ from f (parent_of f l)
   from_here = by_parent (parent_of f l) refl
-
-  lower_by : (o : Option ℕ) → parent_of f l ≡ o → height f o < height f (Some l)
-  lower_by None up = omega arith
-  lower_by (Some p) up = let deep = depth_of-parent f l p once up in omega (arith, deep)
-
-  pub lower : height f (parent_of f l) < height f (Some l)
-  lower = lower_by (parent_of f l) refl
 
   above_by : (o : Option ℕ) → parent_of f l ≡ o → ancestors f l ≡ from f o
   unfolding ancestors
@@ -57,8 +57,8 @@ pub listed_next : (f : Forest Content) → IsDistinct f → (r : NodeRef) → 0 
 listed_next f once r here o is xs ys more whole before =
     rw (more, is) (labels_of_push xs r (from f (parent_of f r.label)) ∙ (ap (λ t. labels_of xs ++ t) (sym (from_here f once r.label here)) ∙ before))
 
-pub lower_next : (f : Forest Content) → IsDistinct f → (l : ℕ) → 0 < count_of f l → (o : Option NodeRef) → label_of o ≡ parent_of f l → height f (label_of o) < height f (Some l)
-lower_next f once l here o is = rw is (lower f once l here)
+pub lower_next : (f : Forest Content) → IsDistinct f → (l : ℕ) → (o : Option NodeRef) → label_of o ≡ parent_of f l → height f (label_of o) < height f (Some l)
+lower_next f once l o is = rw is (height_parent f once l)
 
 -- whether one of them passes: the nearest does, or it is left to the others
 pub any_found : (P : ℕ → Bool) (p : ℕ) (xs ys : List ℕ) (b : Bool) → ys ≡ p ∷ xs → P p ≡ true → list_any P ys ≡ b → true ≡ b

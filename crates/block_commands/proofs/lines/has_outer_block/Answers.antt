@@ -1,7 +1,8 @@
 use Rattle.std.proofs.Common.{◌||◌, sym, ap, ◌∙◌}
 use Rattle.dom_model.specs.Forest.{parent_of}
 use Rattle.block_commands.specs.FormatBlock.{is_outer_block, has_outer_block}
-use Rattle.block_commands.proofs.Above.{any_from, lower, any_here}
+use Rattle.inline_value.proofs.Above.{height_parent}
+use Rattle.block_commands.proofs.Above.{any_from, any_here}
 use Rattle.block_commands.proofs.lines.has_outer_block.Goals as goal
 
 pub loop-at-init : goal.loop-at-init
@@ -24,9 +25,7 @@ returns-then-is_outer_block c =
 
 pub loop-at-smaller : goal.loop-at-smaller
 loop-at-smaller c =
-    let f = c.args.doc.now.state.trees in
-    let held = rw c.in-Some.is at c.loop-at.invariant.held in
-    rw (c.in-Some.is, c.parent-at-in-Some.ensures.is) (lower (is_outer_block c.args.doc.now.state) f c.valid.ensures.valid.forest.distinct c.in-Some.above.label held.here)
+    rw (c.in-Some.is, c.parent-at-in-Some.ensures.is) (height_parent c.args.doc.now.state.trees c.valid.ensures.valid.forest.distinct c.in-Some.above.label)
 
 pub loop-at-preserved : goal.loop-at-preserved
 loop-at-preserved c =

@@ -2,7 +2,8 @@ use Rattle.std.proofs.Common.{◌≡◌}
 use Rattle.edit_model.specs.Gives.{label_of}
 use Rattle.edit_doc.specs.Held.{IfHeld}
 use Rattle.block_commands.specs.FormatBlock.{is_outer_block, has_outer_block}
-use Rattle.block_commands.proofs.Above.{height, any_from}
+use Rattle.inline_value.proofs.Above.{height}
+use Rattle.block_commands.proofs.Above.{any_from}
 use Rattle.block_commands.proofs.lines.has_outer_block.Given as goal
 
 abbrev pub invariant-loop-at : goal.invariant-loop-at

@@ -18,10 +18,9 @@ loop-at-init c =
 pub loop-at-smaller : goal.loop-at-smaller
 loop-at-smaller c =
     let f = c.args.doc.now.state.trees in
-    let held : Holds c.args.doc.now c.in-Some.above = (rw c.in-Some.is at c.loop-at.invariant.held) in
     let at : Some c.in-Some.above.label ≡ label_of c.loop-at.at = sym (ap label_of c.in-Some.is) in
     subst (λ o. height f (label_of c.parent-at-in-Some.result) < height f o) at
-    (lower_next f c.valid.ensures.valid.forest.distinct c.in-Some.above.label held.here c.parent-at-in-Some.result c.parent-at-in-Some.ensures.is)
+    (lower_next f c.valid.ensures.valid.forest.distinct c.in-Some.above.label c.parent-at-in-Some.result c.parent-at-in-Some.ensures.is)
 
 pub loop-at-preserved : goal.loop-at-preserved
 loop-at-preserved c =

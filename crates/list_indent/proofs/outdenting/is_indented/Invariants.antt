@@ -4,14 +4,14 @@ use Rattle.node_styles.specs.NameClasses.{is_indentation}
 use Rattle.edit_model.specs.Gives.{label_of}
 use Rattle.edit_doc.specs.Held.{IfHeld}
 use Rattle.list_indent.specs.Outdenting.{is_indented}
-use Rattle.list_indent.proofs.Ancestors.{chain, height}
+use Rattle.inline_value.proofs.Above.{from, height}
 use Rattle.list_indent.proofs.outdenting.is_indented.Given as goal
 
 -- the ancestors still to be asked decide
 abbrev pub invariant-loop-at : goal.invariant-loop-at
 invariant-loop-at l = record {
   held : IfHeld l.doc l.at;
-  rest : list_any (is_indentation l.doc.state.trees) (chain l.doc.state.trees (label_of l.at)) ≡ is_indented l.doc.state l.fn.node.label;
+  rest : list_any (is_indentation l.doc.state.trees) (from l.doc.state.trees (label_of l.at)) ≡ is_indented l.doc.state l.fn.node.label;
 }
 
 abbrev pub decreases-loop-at : goal.decreases-loop-at

@@ -4,14 +4,15 @@ use Rattle.edit_doc.proofs.Children.{none_held, pushed_held}
 use Rattle.inline_value.specs.Forcing.{ancestors}
 use Rattle.inline_value.specs.Pushing.{leading}
 use Rattle.list_indent.specs.Outdenting.{is_passed, beyond, if_indents, passed_by, indenter_by}
-use Rattle.list_indent.proofs.Ancestors.{chain_above, none_passed, none_end, stop_passed, stop_end, on_passed, on_end, lower}
+use Rattle.inline_value.proofs.Above.{ancestors_from}
+use Rattle.list_indent.proofs.Ancestors.{none_passed, none_end, stop_passed, stop_end, on_passed, on_end, lower}
 use Rattle.list_indent.proofs.outdenting.way_by.Goals as goal
 
 pub loop-at-init : goal.loop-at-init
 loop-at-init c =
     let d = c.args.doc.now in
     let test = is_passed c.args.simple d.state in
-    let whole = chain_above d.state.trees c.valid.ensures.valid.forest.distinct c.args.node.label c.requires.here in
+    let whole = ancestors_from d.state.trees c.valid.ensures.valid.forest.distinct c.args.node.label c.requires.here in
     record {
       held = c.parent-at.ensures.held;
       each = none_held d c.new-passed.result.items c.new-passed.ensures.items;
