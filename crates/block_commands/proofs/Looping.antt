@@ -1,8 +1,5 @@
 -- A loop whose turns each are done with some first members of a list.
-use Rattle.std.proofs.Common.{◌≡◌, ℕ, ◌+◌, ◌-◌, ◌<◌, ◌≤◌, List, length, take, drop, length-drop, sym, ap, subst, ◌∙◌}
-use Rattle.std.proofs.Math.Seq.{take-length}
-use Rattle.edit_doc.specs.Held.{Keeps}
-use Rattle.edit_doc.specs.Whole.{Whole}
+use Rattle.std.proofs.Common.{◌≡◌, ℕ, ◌+◌, ◌-◌, ◌<◌, ◌≤◌, List, length, drop, sym, ap, subst, ◌∙◌}
 use Rattle.node_arena.specs.declared.NodeRef.{NodeRef}
 use Rattle.edit_model.specs.Gives.{labels_of, Fails}
 use Rattle.edit_model.specs.Run.{Run, ◌>>=◌, ◌>>◌, final, value, done, look, while_at_most}
@@ -12,19 +9,6 @@ use Rattle.edit_model.proofs.Steps.{final-bind, final-look, final-answer, fails-
 use Rattle.wrap_split.specs.Walks.{turn_bound}
 use Rattle.block_commands.specs.Series.{has_members}
 use Rattle.block_commands.proofs.Counting.{members_on, members_off, drop_more}
-
--- the members from a place on, as a slice has them
-pub tail_is : (xs : List NodeRef) (i : ℕ) → take (length xs - i) (drop i xs) ≡ drop i xs
-tail_is xs i = ap (λ n. take n (drop i xs)) (sym (length-drop i xs)) ∙ take-length (drop i xs)
-
-pub keeps_on : (first old new : Whole) → Keeps first old → Keeps old new → Keeps first new
-keeps_on first old new a b = record {
-  held = λ r h. b.held r (a.held r h);
-  history = b.history ∙ a.history;
-  began = b.began ∙ a.began;
-  start = b.start ∙ a.start;
-  cap = b.cap ∙ a.cap;
-}
 
 module _ (body : List ℕ → Run (List ℕ)) (xs : List NodeRef) where
   abbrev loop : ℕ → List ℕ → Run (List ℕ)

@@ -135,6 +135,10 @@ pub first_part : (a b : Bool) → (a && b) ≡ true → a ≡ true
 first_part true b h = refl
 first_part false b h = h
 
+pub second_part : (a b : Bool) → (a && b) ≡ true → b ≡ true
+second_part true b h = h
+second_part false b h = absurd (true≢false (sym h))
+
 pub meets_bare : (c : Criterion) (s : State) (l : ℕ) → NamesNoThing c → meets c s.trees l ≡ true → IsBare s l
 unfolding meets meets_value is_simple_indentation is_aligned
 meets_bare Never s l plain h = absurd (true≢false (sym h))

@@ -12,11 +12,12 @@ use Rattle.text_insertion.specs.Start.{erase}
 use Rattle.text_commands.specs.Entries.{normalize_around, lift_entry, outdent_line, close_line, add_line, part_entry, part_entries}
 use Rattle.text_commands.specs.Delete.{erased, erase_single, select_before, collapse_kept, erase_line, join_entries, join_lines, join_from, join, erase_or_join, select_or_join, outdent_or_join, delete_across, lift_or_cross, delete_before, delete_approached, delete_from, delete_at_start, delete_at_caret, delete}
 use Rattle.command_laws.proofs.AncestorRuns.{stateless_fix_ancestors}
-use Rattle.command_laws.proofs.ErasingRuns.{stateless_canonicalize_start, stateless_append_break, stateless_delete_selection}
+use Rattle.command_laws.proofs.ErasingRuns.{stateless_canonicalize_start, stateless_delete_selection}
 use Rattle.command_laws.proofs.IndentRuns.{fit_outdent_node}
 use Rattle.command_laws.proofs.PushingRuns.{stateless_record_values, stateless_restore_values}
 use Rattle.command_laws.proofs.RestoringRuns.{stateless_restore_states}
 use Rattle.command_laws.proofs.StatelessSplits.{stateless_split, stateless_keeping_children}
+use Rattle.command_laws.proofs.StatelessWraps.{stateless_append_break}
 use Rattle.command_laws.proofs.SublistRuns.{fit_normalize}
 
 -- ---- the ways back from a caret

@@ -4,7 +4,6 @@ use Rattle.live_range.specs.declared.places.Point.{Point}
 use Rattle.edit_laws.specs.Stateless.{Stateless}
 use Rattle.edit_laws.proofs.StatelessRuns.{stateless_parts, stateless_answer}
 use Rattle.inline_value.specs.Recording.{Recorded}
-use Rattle.wrap_split.specs.Wrap.{append_break}
 use Rattle.delete_core.specs.Deletion.{erase_across, erase, delete_recorded, delete_selected, delete_range, delete_between, delete_selection}
 use Rattle.delete_core.specs.Ends.{settle, canonicalize_start, canonicalize_end}
 use Rattle.delete_core.specs.Erasing.{erase_within, cut_after, cut_before, fill_hollow, removed_up, strip_empty, strip_from, remove_under, remove_node, remove_nodes}
@@ -13,6 +12,7 @@ use Rattle.delete_core.specs.Whitespace.{scan_blank, scan_char, scan_turn, scan_
 use Rattle.command_laws.proofs.PushingRuns.{stateless_restore_values}
 use Rattle.command_laws.proofs.StatelessMoves.{stateless_moves}
 use Rattle.command_laws.proofs.StatelessSplits.{stateless_split, stateless_breaks_at_end}
+use Rattle.command_laws.proofs.StatelessWraps.{stateless_append_break}
 
 -- ---- canonicalizing whitespace
 
@@ -111,10 +111,6 @@ stateless_cut_after p = search stateless_parts
 stateless_cut_before : (q : Point) → Stateless (cut_before q)
 unfolding cut_before
 stateless_cut_before q = search stateless_parts
-
-pub stateless_append_break : (p : ℕ) → Stateless (append_break p)
-unfolding append_break
-stateless_append_break p = search (stateless_parts, stateless_moves)
 
 stateless_fill_hollow : (p : ℕ) → Stateless (fill_hollow p)
 unfolding fill_hollow

@@ -1,5 +1,5 @@
 -- Removing the format keeps the order, and leaves the states of contenteditable.
-use Rattle.std.proofs.Common.{◌≡◌, ℕ, Bool, true, false, ◌&&◌, if◌then◌else◌, List, [], ◌∷◌, Option, Some, None, refl, sym, ap, ◌∙◌, inl, inr, true≢false}
+use Rattle.std.proofs.Common.{◌≡◌, ℕ, Bool, true, false, if◌then◌else◌, List, [], ◌∷◌, Option, Some, None, refl, sym, ap, ◌∙◌, inl, inr, true≢false}
 use Rattle.std.specs.Prelude.{codes, filter}
 use Rattle.std.specs.List.{AllByRecursion}
 use Rattle.std.specs.Option.{option_map_or}
@@ -35,7 +35,7 @@ use Rattle.edit_laws.proofs.OrderPreserving.{order_preserving, order_preserving_
 use Rattle.edit_laws.proofs.Unwrapping.{unwrap_keeps, stateless_unwrap}
 use Rattle.inline_commands.specs.RemovingFormat.{is_candidate, candidates_in_range, unwrap_candidates, part_from_format, part_nodes, clear_command, clear_commands, remove_format}
 use Rattle.inline_value.specs.Selections.{nodes_in_range}
-use Rattle.command_laws.proofs.Criteria.{no_thing}
+use Rattle.command_laws.proofs.Criteria.{no_thing, second_part}
 use Rattle.command_laws.proofs.SelectionRuns.{order_preserving_set_value, order_preserving_split_ends, stateless_set_value, stateless_split_ends}
 use Rattle.command_laws.proofs.Splitting.{order_preserving_split_around}
 use Rattle.command_laws.proofs.StatelessSplits.{stateless_split_around}
@@ -120,10 +120,6 @@ named_candidate s l h (Element name attributes) e =
     rw plain refl
 named_candidate s l h (Words chars) e = absurd (true≢false (sym h ∙ ap (λ (o : Option Content). option_map_or (λ c. option_map_or is_remove_format_candidate (name_in c) false) o false) e))
 named_candidate s l h (Remark chars) e = refl
-
-second_part : (a b : Bool) → (a && b) ≡ true → b ≡ true
-second_part true b h = h
-second_part false b h = absurd (true≢false (sym h))
 
 candidate_bare : (s : State) (l : ℕ) → is_candidate s l ≡ true → IsBare s l
 unfolding is_candidate is_format_candidate

@@ -3,7 +3,6 @@ use Rattle.std.proofs.Common.{◌≡◌, ℕ, ◌<◌, ◌≤◌, zero, suc, Boo
 use Rattle.std.specs.Prelude.{codes, bytes_eq}
 use Rattle.std.specs.List.{AllByRecursion, list_any}
 use Rattle.std.specs.Option.{option_map_or}
-use Rattle.std.proofs.lemmas.Bool.{and_parts}
 use Rattle.std.proofs.lemmas.Bool.Decides.{eqb_tells}
 use Rattle.std.proofs.lemmas.List.{append-nil}
 use Rattle.dom_model.specs.declared.Content.{Content}
@@ -54,7 +53,7 @@ use Rattle.list_toggle.specs.Converting.{is_beside_fit, join, join_list, name_li
 use Rattle.edit_query.specs.ListStates.{list_name, is_list_of, is_child_of, is_member, members_in}
 use Rattle.list_toggle.specs.Ranges.{keep_range, free_range, is_other_list, other_lists_by, other_lists, ends_in, members_by, range_members, is_line, range_lines}
 use Rattle.list_toggle.specs.Toggle.{goes_on_out, release_from, release_series, release_all, release_lines, wrap_list, move_items, enlist, stays, place_from, place_items, place_collected, enlist_next, enlist_all, enlist_lines, toggle_on, toggle_range, toggle_from, toggle_lists}
-use Rattle.command_laws.proofs.Criteria.{first_part, named_bare}
+use Rattle.command_laws.proofs.Criteria.{first_part, second_part, named_bare}
 use Rattle.command_laws.proofs.ListWalks.{FitAt, at_once, looking, fit_seen, Consecutive, fit_series}
 use Rattle.command_laws.proofs.PushingRuns.{stateless_record_values, stateless_restore_values, order_preserving_restore_values}
 use Rattle.command_laws.proofs.IndentRuns.{fit_outdent_node, recorded_same, fit_range, fit_fixed, split_items_fits}
@@ -163,9 +162,6 @@ convert_each ordered (l ∷ list) s is all =
     let m = convert_list ordered l in
     rw (for_each-cons, final-bind)
     (keeps_trans (convert_keeps ordered l s is (list_of_bare (not ordered) s l all.0)) (convert_each ordered list (final m s) (keeping_final m s is) (lists_stay (not ordered) m s is list all.1)))
-
-second_part : (a b : Bool) → (a && b) ≡ true → b ≡ true
-second_part a b h = (and_parts a b h).1
 
 filtered_lists : (ordered : Bool) (s : State) (list : List ℕ) → AllLists (not ordered) s (filter (is_other_list ordered s) list)
 unfolding AllLists is_other_list

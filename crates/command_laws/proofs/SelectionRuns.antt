@@ -1,5 +1,5 @@
 -- Setting a value on the selection keeps the order, and leaves the states of contenteditable.
-use Rattle.std.proofs.Common.{◌≡◌, ℕ, Bool, true, false, ◌&&◌, if◌then◌else◌, List, Option, Some, None, refl, sym, true≢false}
+use Rattle.std.proofs.Common.{◌≡◌, ℕ, Bool, true, false, if◌then◌else◌, List, Option, Some, None, refl, sym, true≢false}
 use Rattle.std.specs.Option.{option_map_or}
 use Rattle.dom_model.specs.declared.Content.{Content}
 use Rattle.dom_model.specs.declared.Content.TheVariants.{Document, Element, Words, Remark}
@@ -24,7 +24,7 @@ use Rattle.edit_laws.proofs.StatelessRuns.{stateless_parts, stateless_answer, st
 use Rattle.edit_laws.proofs.OrderPreserving.{order_preserving, order_preserving_answer, order_preserving_perform}
 use Rattle.inline_value.specs.Selections.{is_amid, with_start, set_start, start_text, split_at_start, split_at_end, split_start, split_end, split_ends, unset_rival, set_overrides, clear_one, clear_elements, force_phrase, give_node, give_nodes, give_range, set_value}
 use Rattle.command_laws.proofs.ClearingRuns.{order_preserving_clear_value, stateless_clear_value}
-use Rattle.command_laws.proofs.Criteria.{first_part}
+use Rattle.command_laws.proofs.Criteria.{first_part, second_part}
 use Rattle.command_laws.proofs.ForcingRuns.{order_preserving_force, stateless_force}
 use Rattle.command_laws.proofs.PushingRuns.{order_preserving_push_down, stateless_push_down}
 use Rattle.command_laws.proofs.Splitting.{then_order_preserving, then_order_preserving_on}
@@ -41,10 +41,6 @@ words_there s l h = by_content (content_of s.trees l) h
     by_content (Some (Element name attributes)) k = absurd (true≢false (sym k))
     by_content (Some (Words chars)) k = (chars, refl)
     by_content (Some (Remark chars)) k = absurd (true≢false (sym k))
-
-second_part : (a b : Bool) → (a && b) ≡ true → b ≡ true
-second_part true b h = h
-second_part false b h = absurd (true≢false (sym h))
 
 amid_keeps : (s : State) → IsKeeping s → (at : Point) → is_amid s at ≡ true → KeepsOrder s (final (split_words at.label at.offset) s)
 unfolding is_amid

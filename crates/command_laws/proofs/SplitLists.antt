@@ -14,13 +14,14 @@ use Rattle.edit_model.specs.Edit.{Move, edited}
 use Rattle.edit_model.specs.Valid.{IsValid}
 use Rattle.edit_model.specs.Moves.{move_before, move_after, move_all_before, move_all_after}
 use Rattle.edit_model.specs.Run.{final, edit, for_each}
-use Rattle.edit_model.proofs.Steps.{final-answer, final-bind, final-look, final-edit, final_next, for_each-cons, for_each-nil}
+use Rattle.edit_model.proofs.Steps.{final-answer, final-bind, final-edit, final_next, for_each-cons, for_each-nil}
 use Rattle.edit_model.proofs.Tests.{label_is}
 use Rattle.edit_model.proofs.Trees.{none_or_some}
 use Rattle.edit_laws.proofs.Around.{self_one}
 use Rattle.edit_laws.proofs.Fronts.{child_by}
 use Rattle.edit_laws.proofs.Lifting.{final_move_before, move_stays}
 use Rattle.edit_laws.proofs.Slides.{parent_other}
+use Rattle.edit_laws.proofs.Turned.{final_move_after}
 use Rattle.edit_actions.specs.Siblings.{members}
 use Rattle.command_laws.proofs.StatelessSplits.{valid_final}
 use Rattle.command_laws.proofs.Together.{dropped, dropped-append, dropped-absent, members-append, members-one, members-other, members-same, Together, put_in-seam}
@@ -326,10 +327,6 @@ module _ (t : State) (is : IsValid t) (o q : ℕ) (up : parent_of t.trees o ≡ 
           | inr (e, elsewhere) ↦ (let h' = rw e at h in subst (λ p. (p ≡ Some o) ⊎ (p ≡ Some q)) (sym (other l elsewhere)) (w.from l (omega (arith, h'))))
         ];
       }
-
-final_move_after : (o n q : ℕ) (s : State) → parent_of s.trees o ≡ Some q → final (move_after o n) s ≡ edited (Move n q (next_of s.trees o)) s
-unfolding move_after
-final_move_after o n q s up = rw (final-look, up, final-bind, final-edit, final-answer) refl
 
 -- turns are the others, from the last one on
 after_all : (turns taken list : List ℕ) (o q : ℕ) (s t : State) → Since s t o q list → ((l : ℕ) → 0 < times turns l → 0 < times list l) → ((n : ℕ) → times (reverse turns ++ taken) n ≤ 1) → After t o q taken (reverse turns)

@@ -11,7 +11,7 @@ use Rattle.command_laws.specs.WrapLaws.{MakesNoState}
 use Rattle.command_laws.proofs.StatelessMoves.{stateless_moves}
 use Rattle.command_laws.proofs.StatelessSplits.{stateless_breaks_from}
 
-stateless_append_break : (p : ℕ) → Stateless (append_break p)
+pub stateless_append_break : (p : ℕ) → Stateless (append_break p)
 unfolding append_break
 stateless_append_break p = search (stateless_parts, stateless_moves)
 

@@ -26,13 +26,13 @@ use Rattle.text_insertion.specs.Typing.{put_in_text, drop_sole_break, select_who
 use Rattle.command_laws.proofs.AncestorRuns.{stateless_fix_ancestors}
 use Rattle.command_laws.proofs.Criteria.{first_part}
 use Rattle.command_laws.proofs.DeleteRuns.{stateless_rename_stray, stateless_erase}
-use Rattle.command_laws.proofs.ErasingRuns.{stateless_canonicalize, stateless_canonicalize_start, stateless_canonicalize_end, stateless_settle, stateless_append_break, stateless_fill_empty}
+use Rattle.command_laws.proofs.ErasingRuns.{stateless_canonicalize, stateless_canonicalize_start, stateless_canonicalize_end, stateless_settle, stateless_fill_empty}
 use Rattle.command_laws.proofs.NewWraps.{IsNew, new_parts, new_wrap}
 use Rattle.command_laws.proofs.NoStates.{HasNoState, editable_unstated, made_unstated, unstated_without_id}
 use Rattle.command_laws.proofs.RestoringRuns.{stateless_restore_states}
 use Rattle.command_laws.proofs.StatelessMoves.{stateless_moves, stateless_insert_after}
 use Rattle.command_laws.proofs.StatelessSplits.{At, at_bind, at_look, valid_final, stateless_split}
-use Rattle.command_laws.proofs.StatelessWraps.{stateless_wrap}
+use Rattle.command_laws.proofs.StatelessWraps.{stateless_append_break, stateless_wrap}
 
 stateless_insert_at : (x : ℕ) (p : Point) → Stateless (insert_at x p)
 unfolding insert_at

@@ -1,5 +1,5 @@
 -- Runs that keep the order and leave the states of contenteditable, by their parts: both certificates in one walk.
-use Rattle.std.proofs.Common.{ℕ, Bool, if◌then◌else◌, List, [], ◌∷◌, Option}
+use Rattle.std.proofs.Common.{ℕ, Bool, if◌then◌else◌, List, Option}
 use Rattle.edit_model.specs.State.{State}
 use Rattle.edit_model.specs.Edit.{Remove, Set, Unset}
 use Rattle.edit_model.specs.Action.{Change}

@@ -1,5 +1,6 @@
 -- Lists of nodes as tests of nodes list them, and as calls on a document under edits list them.
-use Rattle.std.proofs.Common.{◌≡◌, ℕ, zero, suc, Bool, true, false, if◌then◌else◌, List, [], ◌∷◌, ◌++◌, take, drop, refl, ap, ◌∙◌, append_assoc}
+use Rattle.std.proofs.Common.{◌≡◌, ℕ, zero, suc, Bool, true, false, if◌then◌else◌, List, [], ◌∷◌, ◌++◌, ◌-◌, length, take, drop, length-drop, refl, sym, ap, ◌∙◌, append_assoc}
+use Rattle.std.proofs.Math.Seq.{take-length}
 use Rattle.std.specs.Prelude.{map, filter}
 use Rattle.std.specs.List.{All}
 use Rattle.std.proofs.lemmas.List.Elements.{All-from_get_or, All-get_or}
@@ -31,6 +32,10 @@ labels_of_rest [] zero = refl
 labels_of_rest [] (suc n) = refl
 labels_of_rest (x ∷ xs) zero = refl
 labels_of_rest (x ∷ xs) (suc n) = labels_of_rest xs n
+
+-- the members from a place on, as a slice has them
+pub tail_is : (xs : List NodeRef) (i : ℕ) → take (length xs - i) (drop i xs) ≡ drop i xs
+tail_is xs i = ap (λ n. take n (drop i xs)) (sym (length-drop i xs)) ∙ take-length (drop i xs)
 
 -- a member, where it passes, goes from the members that are still to be tested to those found
 pub filtered_on : (test : ℕ → Bool) (l : ℕ) (found new ls all : List ℕ) →

@@ -1,5 +1,5 @@
 -- A search for a list, from a node on.
-use Rattle.std.proofs.Common.{◌≡◌, Bool, ◌||◌, Option, Some, refl, sym, ap, ◌∙◌}
+use Rattle.std.proofs.Common.{◌≡◌, Bool, ◌||◌, Some, refl, sym, ap, ◌∙◌}
 use Rattle.dom_model.specs.Forest.{first_of, next_of}
 use Rattle.node_arena.specs.declared.NodeRef.{NodeRef}
 use Rattle.node_paths.specs.Onward.{onward_at}

@@ -177,7 +177,7 @@ and_false false b off = refl
 same_tests : (a b : ℕ) → (0 < a → 0 < b) → (0 < b → 0 < a) → nat_lt 0 a ≡ nat_lt 0 b
 same_tests a b to from = grind (arith, nat_tests)
 
-none_told : (n : ℕ) → (0 < n → ⊥) → nat_lt 0 n ≡ false
+pub none_told : (n : ℕ) → (0 < n → ⊥) → nat_lt 0 n ≡ false
 none_told n h = grind (arith, nat_tests)
 
 nowhere : (f : Forest Content) (l x : ℕ) → count_of f l ≡ 0 → is_within f l x ≡ false

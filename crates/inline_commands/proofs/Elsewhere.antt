@@ -30,7 +30,7 @@ found_in p (x ∷ xs) k e = by_test (p x) refl e (λ e'. found_in p xs k e')
     by_test true t e more = (let is : x ≡ k = (let u = e in cc) in (subst (λ j. 0 < times (x ∷ xs) j) is (head_in x xs), ap p (sym is) ∙ t))
     by_test false t e more = (let r = more e in (omega (arith, r.0), r.1))
 
-some_count : (n : ℕ) → nat_lt 0 n ≡ true → 0 < n
+pub some_count : (n : ℕ) → nat_lt 0 n ≡ true → 0 < n
 some_count n h = grind (arith, nat_tests)
 
 -- ---- labels of different trees

@@ -1,9 +1,8 @@
 -- What three tests find in a list in tree order, put together from what each of them finds.
-use Rattle.std.proofs.Common.{◌≡◌, ℕ, ◌+◌, ◌-◌, ◌<◌, ◌≤◌, Bool, true, false, cond, ◌||◌, List, [], ◌∷◌, ◌++◌, length, take, drop, length-drop, get_or, append_assoc, refl, sym, ap, subst, ◌∙◌, inl, inr, arith}
+use Rattle.std.proofs.Common.{◌≡◌, ℕ, ◌+◌, ◌<◌, ◌≤◌, Bool, true, false, cond, ◌||◌, List, [], ◌∷◌, ◌++◌, length, drop, get_or, append_assoc, refl, sym, ap, subst, ◌∙◌, inl, inr, arith}
 use Rattle.std.specs.Prelude.{filter}
 use Rattle.std.specs.List.{All}
 use Rattle.std.proofs.lemmas.Bool.Decides.{eqb_tells}
-use Rattle.std.proofs.Math.Seq.{take-length}
 use Rattle.std.proofs.lemmas.List.Elements.{All-append, All-drop, All-from_get_or, All-get_or}
 use Rattle.dom_model.specs.declared.Content.{Content}
 use Rattle.dom_model.specs.Forest.{Forest, times}
@@ -179,10 +178,6 @@ module _ (T : ℕ → Bool) (xs : List NodeRef) (i : ℕ) (low : i < length xs) 
       let rest = filter T (labels_of (drop (i + 1) xs)) in
       let head : filter T (x.label ∷ labels_of (drop (i + 1) xs)) ≡ rest = rw fails refl in
       ap (λ ys. labels_of kept ++ ys) (sym (turn ∙ head)) ∙ same
-
--- the members from a place on, as a slice has them
-pub tail_is : (xs : List NodeRef) (i : ℕ) → take (length xs - i) (drop i xs) ≡ drop i xs
-tail_is xs i = ap (λ n. take n (drop i xs)) (sym (length-drop i xs)) ∙ take-length (drop i xs)
 
 -- what is held of two lists is held of the one with a part of the other
 pub rest_held : (d : Whole) (xs ys new : List NodeRef) (at : ℕ) → EachHeld d xs → EachHeld d ys → new ≡ xs ++ drop at ys → EachHeld d new

@@ -1,6 +1,6 @@
 -- The links that a range touches: those around its start, and those around its end alone with those that it contains.
 use Rattle.std.proofs.Common.{◌≡◌, ◌≢◌, ◌⊎◌, inl, inr, ℕ, zero, suc, ◌+◌, ◌<◌, ◌≤◌, Bool, true, false, cond, not, ◌&&◌, ◌||◌, List, [], ◌∷◌, ◌++◌, Option, Some, None, refl, sym, ap, subst, ◌∙◌, arith, eqb}
-use Rattle.std.specs.Prelude.{filter, nat_lt}
+use Rattle.std.specs.Prelude.{filter}
 use Rattle.std.proofs.lemmas.Bool.{and_parts, le-ltb}
 use Rattle.std.proofs.lemmas.Bool.Decides.{eqb_tells, nat_tests}
 use Rattle.dom_model.specs.declared.Content.{Content}
@@ -22,8 +22,8 @@ use Rattle.edit_actions.specs.ActiveRange.{start_of, end_of}
 use Rattle.inline_commands.specs.Linking.{links_above}
 use Rattle.inline_commands.specs.Merging.{links_inside, merged}
 use Rattle.inline_commands.specs.Unlink.{is_link, is_touched, links_in}
-use Rattle.inline_commands.proofs.Ancestors.{filter_by, filter_both, filter_none, and_false, links_around}
-use Rattle.inline_commands.proofs.Elsewhere.{contained_in}
+use Rattle.inline_commands.proofs.Ancestors.{filter_by, filter_both, filter_none, and_false, none_told, links_around}
+use Rattle.inline_commands.proofs.Elsewhere.{contained_in, some_count}
 use Rattle.inline_commands.proofs.Merging.{Agree, parted}
 use Rattle.inline_commands.proofs.Pairs.{document_pairs}
 
@@ -40,12 +40,6 @@ ends_ordered f pair = by_focus (is_before f pair.focus pair.anchor) refl
 
 -- ---- one node above another
 
-some_count : (n : ℕ) → nat_lt 0 n ≡ true → 0 < n
-some_count n h = grind (arith, nat_tests)
-
-none_count : (n : ℕ) → (0 < n → ⊥) → nat_lt 0 n ≡ false
-none_count n h = grind (arith, nat_tests)
-
 module _ (f : Forest Content) (once : IsDistinct f) where
   apart_labels : (p q : ℕ) → (not (eqb p q)) ≡ true → p ≢ q
   apart_labels p q e = elim (eqb_tells p q) [ inl (t, _) ↦ absurd (let u : false ≡ true = ap not (sym t) ∙ e in cc) | inr (_, off) ↦ off ]
@@ -57,7 +51,7 @@ module _ (f : Forest Content) (once : IsDistinct f) where
   above_is p q off inside = elim (eqb_tells p q) [ inl (_, same) ↦ absurd (off same) | inr (t, _) ↦ rw t (grind (arith, nat_tests, inside)) ]
 
   above_off : (p q : ℕ) → (IsWithin f p q → ⊥) → is_ancestor f p q ≡ false
-  above_off p q out = and_false (not (eqb p q)) (is_within f p q) (none_count (count_of (tree_of f p) q) out)
+  above_off p q out = and_false (not (eqb p q)) (is_within f p q) (none_told (count_of (tree_of f p) q) out)
 
   -- of two nodes not each stands below the other
   one_way : (p q : ℕ) → IsWithin f p q → IsWithin f q p → p ≡ q

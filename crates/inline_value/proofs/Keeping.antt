@@ -13,11 +13,11 @@ use Rattle.inline_value.specs.Pushing.{is_other, leading, others_above, needs_no
 
 -- ---- the last of the leading members of a list of which none passes
 
-rest_off : (a b : Bool) → (a || b) ≡ false → b ≡ false
+pub rest_off : (a b : Bool) → (a || b) ≡ false → b ≡ false
 rest_off true b off = cc
 rest_off false b off = off
 
-first_off : (a b : Bool) → (a || b) ≡ false → a ≡ false
+pub first_off : (a b : Bool) → (a || b) ≡ false → a ≡ false
 first_off true b off = off
 first_off false b off = refl
 

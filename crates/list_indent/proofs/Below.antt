@@ -1,5 +1,5 @@
 -- A search for an editable node, from a node on.
-use Rattle.std.proofs.Common.{Option, Some, ap}
+use Rattle.std.proofs.Common.{Some, ap}
 use Rattle.node_arena.specs.declared.NodeRef.{NodeRef}
 use Rattle.edit_model.specs.Confined.{is_editable_for}
 use Rattle.edit_doc.specs.Whole.{Whole, IsDoc}

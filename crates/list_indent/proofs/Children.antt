@@ -1,11 +1,11 @@
 -- Walks over the children of a node, from the first on and from one of them back.
-use Rattle.std.proofs.Common.{◌≡◌, ℕ, ◌<◌, Bool, true, false, [], Option, Some, None, refl, sym, ap, ◌∙◌, subst}
+use Rattle.std.proofs.Common.{◌≡◌, ℕ, Bool, true, false, Option, Some, None, refl, ap, ◌∙◌}
 use Rattle.std.specs.Prelude.{find}
 use Rattle.std.specs.List.{list_any}
-use Rattle.std.specs.Option.{option_map_or, unwrap_or}
+use Rattle.std.specs.Option.{unwrap_or}
 use Rattle.dom_model.specs.declared.Content.{Content}
-use Rattle.dom_model.specs.Forest.{Forest, Seen, IsDistinct, times, parent_of, children_of, next_of, prev_of}
-use Rattle.dom_model.proofs.Links.{child_of_parent, times-children_of}
+use Rattle.dom_model.specs.Forest.{Forest, IsDistinct, parent_of, children_of, next_of, prev_of}
+use Rattle.dom_model.proofs.Links.{times-children_of}
 use Rattle.dom_model.proofs.Neighbours.{parent_of-prev_sibling}
 use Rattle.node_arena.specs.declared.NodeRef.{NodeRef}
 use Rattle.edit_model.specs.Gives.{label_of}
@@ -14,7 +14,7 @@ use Rattle.edit_doc.specs.Held.{IfHeld, Finds}
 use Rattle.edit_doc.proofs.Children.{IsChild}
 use Rattle.edit_actions.proofs.Children.{rest_at, rest_is}
 use Rattle.wrap_split.proofs.Backward.{up_to, up_to_before}
-use Rattle.wrap_split.proofs.Children.{front_at}
+use Rattle.wrap_split.proofs.Children.{front_at, child_there, child_by}
 use Rattle.wrap_split.specs.Wrap.{last_visible}
 use Rattle.list_indent.specs.Commands.{shown_before}
 
@@ -45,10 +45,6 @@ module _ (d : Whole) (law : IsDoc d) (node : NodeRef) (test : ℕ → Bool) wher
 
 -- ---- from a node back
 
-child_by : (f : Forest Content) (o : Option ℕ) (p : ℕ) → ((k : ℕ) → o ≡ Some k → parent_of f k ≡ Some p) → IsChild f p o
-child_by f None p h = tt
-child_by f (Some k) p h = h k refl
-
 -- the parent of a node, or no node
 abbrev pub holder : Whole → NodeRef → NodeRef
 holder d node = record { slot = 0; label = unwrap_or (parent_of d.state.trees node.label) 0 }
@@ -59,11 +55,6 @@ module _ (d : Whole) (law : IsDoc d) (node : NodeRef) where
 
   once : IsDistinct g
   once = law.valid.forest.distinct
-
-  there : (p : ℕ) → parent_of g node.label ≡ Some p → 0 < times (children_of g p) node.label
-  there p child =
-      let r = child_of_parent g node.label p once child in
-      subst (λ (o : Option (Seen Content)). 0 < times (option_map_or (λ (s : Seen Content). s.children) o []) node.label) (sym r.2) r.3
 
   before_child : (o : Option ℕ) → parent_of g node.label ≡ o → IsChild g (unwrap_or o 0) (prev_of g node.label)
   before_child None root = rw root tt
@@ -77,7 +68,7 @@ module _ (d : Whole) (law : IsDoc d) (node : NodeRef) where
   unfolding shown_before last_visible
   front_before None root = rw root refl
   front_before (Some p) up =
-      rw up (ap (last_visible d.state) (up_to_before (children_of g p) node.label (λ n. times-children_of g p n once) (there p up)))
+      rw up (ap (last_visible d.state) (up_to_before (children_of g p) node.label (λ n. times-children_of g p n once) (child_there g node.label p once up)))
 
   pub shown_from : (prev : Option NodeRef) → Finds d prev (prev_of g node.label) → last_visible d.state (front_at d (holder d node) prev) ≡ shown_before d.state node.label
   shown_from prev finds = ap (λ q. last_visible d.state (up_to (children_of g (holder d node).label) q)) finds.is ∙ front_before (parent_of g node.label) refl

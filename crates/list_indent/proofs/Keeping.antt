@@ -1,5 +1,5 @@
 -- What outdenting a node leaves as it is, by what the node and its ancestors are.
-use Rattle.std.proofs.Common.{◌≡◌, ℕ, Bool, true, false, ◌||◌, ◌&&◌, List, [], ◌∷◌, Option, Some, None, if◌then◌else◌, refl, ap, ◌∙◌}
+use Rattle.std.proofs.Common.{◌≡◌, ℕ, Bool, true, false, ◌&&◌, List, [], ◌∷◌, Option, Some, None, if◌then◌else◌, refl, ap, ◌∙◌}
 use Rattle.std.specs.Prelude.{not}
 use Rattle.std.specs.List.{list_any}
 use Rattle.std.specs.Option.{option_map_or}
@@ -11,16 +11,9 @@ use Rattle.edit_model.specs.Confined.{is_editable_for}
 use Rattle.edit_model.specs.Run.{final, done, given}
 use Rattle.edit_model.proofs.Steps.{final-look, final-answer}
 use Rattle.inline_value.specs.Forcing.{ancestors}
+use Rattle.inline_value.proofs.Keeping.{first_off, rest_off}
 use Rattle.list_indent.specs.Sublists.{is_list}
 use Rattle.list_indent.specs.Outdenting.{indents, is_passed, beyond, if_indents, indenter_by, indenter, passed, unindented, outdent_list, outdent_through, outdent_alone, outdent_inner, outdent_own, outdent_node, is_indented, keeps_place}
-
-first_off : (a b : Bool) → (a || b) ≡ false → a ≡ false
-first_off true b off = off
-first_off false b off = refl
-
-rest_off : (a b : Bool) → (a || b) ≡ false → b ≡ false
-rest_off true b off = cc
-rest_off false b off = off
 
 -- ---- no indentation element is no simple one
 

@@ -1,7 +1,7 @@
 -- How a list is taken series by series.
 use Rattle.std.proofs.Common.{◌≡◌, ℕ, zero, suc, ◌+◌, ◌-◌, ◌<◌, ◌≤◌, Bool, List, [], ◌∷◌, length, take, drop, map, min, get_or, refl, sym, ap, ◌∙◌, subst, add-one, arith}
 use Rattle.std.proofs.Math.ListN.{drop_of_length-le}
-use Rattle.std.proofs.lemmas.List.{length-take, length-drop, drop-drop, get_or-take, get_or-drop, take_all}
+use Rattle.std.proofs.lemmas.List.{length-take, length-drop, drop-drop, get_or-take, get_or-drop}
 use Rattle.std.proofs.lemmas.List.Elements.{All-drop}
 use Rattle.std.specs.List.{All}
 use Rattle.node_arena.specs.declared.NodeRef.{NodeRef}
@@ -13,7 +13,7 @@ use Rattle.edit_model.proofs.Steps.{steps, final-bind, fails-bind, length-labels
 use Rattle.edit_doc.specs.Whole.{Whole}
 use Rattle.edit_doc.specs.Held.{Holds, EachHeld}
 use Rattle.block_extend.specs.Series.{count_after, count_series}
-use Rattle.edit_query.proofs.Lists.{labels_mapped, all_held, labels_of_front, labels_of_rest}
+use Rattle.edit_query.proofs.Lists.{labels_mapped, all_held, labels_of_front, labels_of_rest, tail_is}
 use Rattle.list_indent.specs.Series.{for_series}
 
 -- ---- what is passed over
@@ -58,16 +58,13 @@ pub ruleset series = (steps, series_end)
 
 -- a turn that is done, and one in which a fault comes
 
-pub rest_same : (xs : List NodeRef) (at : ℕ) → take (length xs - at) (drop at xs) ≡ drop at xs
-rest_same xs at = let long = length-drop at xs in take_all (length xs - at) (drop at xs) (omega (arith, long))
-
 module _ (on : State → ℕ → ℕ → Bool) (body : List ℕ → Run (Unit {0})) (xs part : List NodeRef) (at n : ℕ) (s : State) (low : at < length xs)
     (count : n ≡ count_series (on s) (map (λ r. r.label) (take (length xs - at) (drop at xs)))) (is : part ≡ take n (take (length xs - at) (drop at xs))) where
   turn : final (for_series on body 0 (labels_of (drop at xs))) s
       ≡ final (body (labels_of part) >>= (λ _. for_series on body 0 (labels_of (drop (at + n) xs)))) s
   turn =
-      series_turn on body xs at n s low (count ∙ ap (λ ys. count_series (on s) (map (λ r. r.label) ys)) (rest_same xs at))
-      ∙ ap (λ ys. final (body (labels_of ys) >>= (λ _. for_series on body 0 (labels_of (drop (at + n) xs)))) s) (sym (is ∙ ap (take n) (rest_same xs at)))
+      series_turn on body xs at n s low (count ∙ ap (λ ys. count_series (on s) (map (λ r. r.label) ys)) (tail_is xs at))
+      ∙ ap (λ ys. final (body (labels_of ys) >>= (λ _. for_series on body 0 (labels_of (drop (at + n) xs)))) s) (sym (is ∙ ap (take n) (tail_is xs at)))
 
   pub turn_done : (t whole : State) → final (body (labels_of part)) s ≡ t → final (for_series on body 0 (labels_of (drop at xs))) s ≡ whole
       → final (for_series on body 0 (labels_of (drop (at + n) xs))) t ≡ whole

@@ -30,12 +30,12 @@ pub last_none : (d : Whole) (node : NodeRef) (o : Option NodeRef) → o ≡ None
 unfolding last_visible
 last_none d node o none = rw none refl
 
-child_there : (f : Forest Content) (l p : ℕ) → IsDistinct f → parent_of f l ≡ Some p → 0 < times (children_of f p) l
+pub child_there : (f : Forest Content) (l p : ℕ) → IsDistinct f → parent_of f l ≡ Some p → 0 < times (children_of f p) l
 child_there f l p once child =
     let r = child_of_parent f l p once child in
     subst (λ (o : Option (Seen Content)). 0 < times (option_map_or (λ (s : Seen Content). s.children) o []) l) (sym r.2) r.3
 
-child_by : (f : Forest Content) (o : Option ℕ) (p : ℕ) → ((k : ℕ) → o ≡ Some k → parent_of f k ≡ Some p) → IsChild f p o
+pub child_by : (f : Forest Content) (o : Option ℕ) (p : ℕ) → ((k : ℕ) → o ≡ Some k → parent_of f k ≡ Some p) → IsChild f p o
 child_by f None p h = tt
 child_by f (Some k) p h = h k refl
 

@@ -1,7 +1,9 @@
 use Rattle.std.proofs.Common.{refl, ◌∙◌, arith, length-drop}
 use Rattle.edit_model.proofs.Steps.{exit}
 use Rattle.block_commands.specs.FormatBlock.{format_all, format_next}
-use Rattle.block_commands.proofs.Looping.{tail_is, keeps_on, turn, run_fails, run_ends}
+use Rattle.edit_doc.proofs.Chosen.{keeps_both}
+use Rattle.edit_query.proofs.Lists.{tail_is}
+use Rattle.block_commands.proofs.Looping.{turn, run_fails, run_ends}
 use Rattle.block_commands.proofs.formatting.format_all.Goals as goal
 
 pub returns-in_err-at-clause-gives : goal.returns-in_err-at-clause-gives
@@ -22,7 +24,7 @@ loop-left-preserved c =
     let low = c.if-at-list.true in (
       turn (format_next c.args.name.now) c.args.list.now c.loop-left.left c.loop-left.at c.loop-left.doc.state c.loop-left-test.true c.if-at-list.true c.in_ok-at.field-0 c.format_next.new.doc.state ended left ∙ c.loop-left.invariant.0,
       omega (arith, within, low, length-drop c.loop-left.at c.args.list.now),
-      keeps_on c.args.doc.now c.loop-left.doc c.format_next.new.doc c.loop-left.invariant.2 given.keeps,
+      keeps_both c.args.doc.now c.loop-left.doc c.format_next.new.doc c.loop-left.invariant.2 given.keeps,
     )
 
 pub returns-else-at-list-clause-gives : goal.returns-else-at-list-clause-gives

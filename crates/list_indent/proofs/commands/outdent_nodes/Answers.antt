@@ -3,7 +3,8 @@ use Rattle.std.proofs.lemmas.List.{length-drop}
 use Rattle.edit_model.proofs.Steps.{exit}
 use Rattle.edit_doc.proofs.Chosen.{keeps_both}
 use Rattle.list_indent.specs.Commands.{goes_on_items, outdent_series, outdent_nodes}
-use Rattle.list_indent.proofs.Series.{rest_same, turn_done, turn_fails}
+use Rattle.edit_query.proofs.Lists.{tail_is}
+use Rattle.list_indent.proofs.Series.{turn_done, turn_fails}
 use Rattle.list_indent.proofs.commands.outdent_nodes.Goals as goal
 
 pub loop-at-preserved : goal.loop-at-preserved
@@ -12,7 +13,7 @@ loop-at-preserved c =
     let xs = c.args.list.now in
     let at = c.loop-at.at in
     let n = c.count_series-count.result in
-    let within : n ≤ length xs - at = rw (rest_same xs at, length-drop at xs) at c.count_series-count.ensures.within in (
+    let within : n ≤ length xs - at = rw (tail_is xs at, length-drop at xs) at c.count_series-count.ensures.within in (
       omega (arith, within, c.loop-at-test.true),
       (
         turn_done goes_on_items outdent_series xs c.in_ok-series.series at n c.loop-at.doc.state c.loop-at-test.true c.count_series-count.ensures.count c.in_ok-series.ensures c.outdent_series.new.doc.state _ c.in_ok-outdent_series.ensures.gives.0 i.1.0,

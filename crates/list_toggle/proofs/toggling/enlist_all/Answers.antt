@@ -1,6 +1,8 @@
 use Rattle.std.proofs.Common.{refl, ◌∙◌, arith, length-drop}
 use Rattle.edit_model.proofs.Steps.{exit}
-use Rattle.block_commands.proofs.Looping.{tail_is, keeps_on, turn, run_fails, run_ends}
+use Rattle.edit_doc.proofs.Chosen.{keeps_both}
+use Rattle.edit_query.proofs.Lists.{tail_is}
+use Rattle.block_commands.proofs.Looping.{turn, run_fails, run_ends}
 use Rattle.list_toggle.specs.Toggle.{enlist_all, enlist_next}
 use Rattle.list_toggle.proofs.toggling.enlist_all.Goals as goal
 
@@ -22,7 +24,7 @@ loop-left-preserved c =
     let low = c.if-at-list.true in (
       turn (enlist_next c.args.ordered) c.args.list.now c.loop-left.left c.loop-left.at c.loop-left.doc.state c.loop-left-test.true c.if-at-list.true c.in_ok-at.field-0 c.enlist_next.new.doc.state ended left ∙ c.loop-left.invariant.0,
       omega (arith, within, low, length-drop c.loop-left.at c.args.list.now),
-      keeps_on c.args.doc.now c.loop-left.doc c.enlist_next.new.doc c.loop-left.invariant.2 given.keeps,
+      keeps_both c.args.doc.now c.loop-left.doc c.enlist_next.new.doc c.loop-left.invariant.2 given.keeps,
     )
 
 pub returns-else-at-list-clause-gives : goal.returns-else-at-list-clause-gives
