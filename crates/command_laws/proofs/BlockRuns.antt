@@ -33,13 +33,14 @@ use Rattle.block_extend.specs.Series.{count_series, is_next}
 use Rattle.block_commands.specs.Series.{is_next_on_line}
 use Rattle.command_laws.specs.WrapLaws.{NamesNoThing}
 use Rattle.command_laws.proofs.Criteria.{no_thing, named_bare}
-use Rattle.command_laws.proofs.PushingRuns.{order_preserving_restore_values, stateless_record_values, stateless_restore_values}
+use Rattle.command_laws.proofs.PushingRuns.{order_preserving_restore_values, stateless_record_values, stateless_restore_values, fit_record_values, fit_restore_values}
 use Rattle.command_laws.proofs.Series.{next_is, next_on_line, series_keeps}
 use Rattle.command_laws.proofs.Splitting.{then_order_preserving, then_order_preserving_on, order_preserving_unwrap}
 use Rattle.command_laws.proofs.StatelessSplits.{stateless_keeping_children}
 use Rattle.command_laws.proofs.StatelessWraps.{stateless_wrap}
 use Rattle.command_laws.proofs.Unwrapped.{children_stay_together}
-use Rattle.command_laws.proofs.Walks.{Fit, fit, fits, fit_answer, fit_record, fit_restore, fit_split_around, fit_unwrap, fit_fix, fit_unset_style}
+use Rattle.command_laws.proofs.Fits.{Fit, fit, fits, fit_answer}
+use Rattle.command_laws.proofs.Walks.{fit_split_around, fit_unwrap, fit_fix, fit_unset_style}
 use Rattle.command_laws.proofs.Wrapping.{together_keeps}
 
 -- ---- formatBlock, step 3
@@ -54,7 +55,7 @@ fit_leave_each list = search (fits, fit_leave)
 
 fit_split_blocks : (list : List ℕ) → Fit (split_blocks list)
 unfolding split_blocks
-fit_split_blocks list = search (fits, fit_record, fit_leave_each, fit_restore)
+fit_split_blocks list = search (fits, fit_record_values, fit_leave_each, fit_restore_values)
 
 -- ---- formatBlock, step 4
 

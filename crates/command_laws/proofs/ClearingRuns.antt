@@ -32,6 +32,7 @@ use Rattle.edit_laws.proofs.Unwrapping.{unwrap_keeps, stateless_unwrap}
 use Rattle.wrap_split.specs.Split.{is_void_thing}
 use Rattle.inline_value.specs.Clearing.{write_words, drop_line, drop_word, drop_property, hint_of, drop_attribute, drop_hint, drop_link, span_for, stripped, unwrapped, clear_value}
 use Rattle.command_laws.proofs.Criteria.{modifiable_bare}
+use Rattle.command_laws.proofs.Fits.{Fit, fit}
 use Rattle.command_laws.proofs.Splitting.{then_order_preserving, then_order_preserving_on}
 use Rattle.command_laws.proofs.StylingRuns.{order_preserving_set_style, order_preserving_unset_style, stateless_set_style, stateless_unset_style}
 
@@ -110,7 +111,7 @@ unwrapped_keeps : (e : ℕ) (s : State) → IsKeeping s → IsBare s e → Keeps
 unfolding unwrapped
 unwrapped_keeps e s is bare = rw final-look (then_order_preserving (unwrap e) (answer (children_of s.trees e)) s is (unwrap_keeps e s is bare) (order_preserving_answer (children_of s.trees e)))
 
-pub order_preserving_clear_value : (command : Command) (e : ℕ) → OrderPreserving (clear_value command e)
+order_preserving_clear_value : (command : Command) (e : ℕ) → OrderPreserving (clear_value command e)
 unfolding clear_value
 order_preserving_clear_value command e = record { keeps = λ s is. rw final-look (by_test s is (not (is_editable_for s e) || is_none (specified s.trees e command)) (is_simple_modifiable s.trees e) refl) }
   where
@@ -190,6 +191,9 @@ stateless_unwrapped : (e : ℕ) → Stateless (unwrapped e)
 unfolding unwrapped
 stateless_unwrapped e = search (stateless_parts, stateless_unwrap)
 
-pub stateless_clear_value : (command : Command) (e : ℕ) → Stateless (clear_value command e)
+stateless_clear_value : (command : Command) (e : ℕ) → Stateless (clear_value command e)
 unfolding clear_value
 stateless_clear_value command e = search (stateless_parts, stateless_unwrapped, stateless_stripped)
+
+pub fit_clear_value : (command : Command) (e : ℕ) → Fit (clear_value command e)
+fit_clear_value command e = fit (order_preserving_clear_value command e) (stateless_clear_value command e)

@@ -22,15 +22,16 @@ use Rattle.edit_laws.specs.OrderPreserving.{OrderPreserving}
 use Rattle.edit_laws.proofs.Nesting.{Held, put_near, near_shaped, goes_in, goes_out}
 use Rattle.edit_laws.proofs.QuietActions.{keeping_final}
 use Rattle.edit_laws.proofs.Renaming.{tag_name_keeps, keeping_made}
-use Rattle.edit_laws.proofs.StatelessRuns.{stateless_parts, stateless_answer, stateless_bind, stateless_each, stateless_if, stateless_look_at, stateless_make_element}
+use Rattle.edit_laws.proofs.StatelessRuns.{stateless_parts, stateless_answer, stateless_bind, stateless_look_at, stateless_make_element}
 use Rattle.edit_laws.proofs.Subsequences.{keeps_trans}
-use Rattle.edit_laws.proofs.OrderPreserving.{order_preserving, order_preserving_answer, order_preserving_bind, order_preserving_each, order_preserving_if, order_preserving_look, order_preserving_remove}
+use Rattle.edit_laws.proofs.OrderPreserving.{order_preserving, order_preserving_answer, order_preserving_bind, order_preserving_remove}
 use Rattle.wrap_split.specs.declared.rule.Criterion.TheVariants.{SameValue}
 use Rattle.wrap_split.specs.declared.rule.Recipe.TheVariants.{Nothing as NoNode}
 use Rattle.wrap_split.specs.Wrap.{wrap}
 use Rattle.inline_value.specs.Forcing.{lacks, reorder_prev, reorder_next, joined, rename_link, rename_links, clear_way, make_wrapper, style_by, style_wrapper, taken_back, settled, put_in, wrapped, unless_alike, force_node, force_self, heirs, force_child, force_heirs, forced, force_value, force}
 use Rattle.inline_value.specs.Wrappers.{wrapper_for}
 use Rattle.command_laws.proofs.Criteria.{named_bare}
+use Rattle.command_laws.proofs.Fits.{Fit, fit, fits, fit_answer, fit_bind, fit_look, fit_if, fit_each}
 use Rattle.command_laws.proofs.ReorderRuns.{order_preserving_reorder, stateless_reorder}
 use Rattle.command_laws.proofs.Splitting.{then_order_preserving}
 use Rattle.command_laws.proofs.StatelessMoves.{stateless_moves}
@@ -160,44 +161,6 @@ order_preserving_wrapped command v n = record {
       (put_in_keeps command v n t (keeping_final way s is) w.name w.attributes (plain_wrapper t.flags.css_styling command v).named)));
 }
 
--- ---- the whole
-
-order_preserving_unless : (command : Command) (v : List ℕ) (n : ℕ) → OrderPreserving (unless_alike command v n)
-unfolding unless_alike
-order_preserving_unless command v n = search (order_preserving, order_preserving_wrapped)
-
-order_preserving_node : (command : Command) (v : List ℕ) (n : ℕ) → OrderPreserving (force_node command v n)
-unfolding force_node
-order_preserving_node command v n = search (order_preserving, order_preserving_joined, order_preserving_unless)
-
-order_preserving_self : (command : Command) (v : List ℕ) (n : ℕ) → OrderPreserving (force_self command v n)
-unfolding force_self
-order_preserving_self command v n = search (order_preserving, order_preserving_node)
-
-order_preserving_child : (again : ℕ → Run (Unit {0})) → ((k : ℕ) → OrderPreserving (again k)) → (command : Command) (v : List ℕ) (k : ℕ) → OrderPreserving (force_child again command v k)
-unfolding force_child
-order_preserving_child again t command v k = order_preserving_look _ (λ s. order_preserving_if _ done (again k) (order_preserving_answer tt) (t k))
-
-order_preserving_heirs : (again : ℕ → Run (Unit {0})) → ((k : ℕ) → OrderPreserving (again k)) → (command : Command) (v : List ℕ) (n : ℕ) (wanted : Bool) → OrderPreserving (force_heirs again command v n wanted)
-unfolding force_heirs
-order_preserving_heirs again t command v n wanted =
-    order_preserving_if wanted _ done (order_preserving_look _ (λ s. order_preserving_each (heirs s n) (force_child again command v) (λ k. order_preserving_child again t command v k))) (order_preserving_answer tt)
-
-order_preserving_forced : (fuel : ℕ) (command : Command) (v : List ℕ) (n : ℕ) → OrderPreserving (forced fuel command v n)
-unfolding forced
-order_preserving_forced zero command v n = order_preserving_answer tt
-order_preserving_forced (suc fuel) command v n =
-    order_preserving_bind (force_self command v n) (force_heirs (forced fuel command v) command v n) (order_preserving_self command v n)
-    (λ wanted. order_preserving_heirs (forced fuel command v) (λ k. order_preserving_forced fuel command v k) command v n wanted)
-
-order_preserving_force_value : (command : Command) (v : List ℕ) (n : ℕ) → OrderPreserving (force_value command v n)
-unfolding force_value
-order_preserving_force_value command v n = search (order_preserving, order_preserving_forced)
-
-pub order_preserving_force : (command : Command) (v : Option (List ℕ)) (n : ℕ) → OrderPreserving (force command v n)
-unfolding force
-order_preserving_force command v n = search (order_preserving, order_preserving_force_value)
-
 -- ---- the states of contenteditable
 
 stateless_reorder_prev : (command : Command) (v : List ℕ) (n : ℕ) → Stateless (reorder_prev command v n)
@@ -270,38 +233,46 @@ stateless_wrapped : (command : Command) (v : List ℕ) (n : ℕ) → Stateless (
 unfolding wrapped
 stateless_wrapped command v n = search (stateless_parts, stateless_make_wrapper, stateless_put_in)
 
-stateless_unless : (command : Command) (v : List ℕ) (n : ℕ) → Stateless (unless_alike command v n)
+-- ---- the whole
+
+fit_joined : (command : Command) (v : List ℕ) (n : ℕ) → Fit (joined command v n)
+fit_joined command v n = fit (order_preserving_joined command v n) (stateless_joined command v n)
+
+fit_wrapped : (command : Command) (v : List ℕ) (n : ℕ) → Fit (wrapped command v n)
+fit_wrapped command v n = fit (order_preserving_wrapped command v n) (stateless_wrapped command v n)
+
+fit_unless : (command : Command) (v : List ℕ) (n : ℕ) → Fit (unless_alike command v n)
 unfolding unless_alike
-stateless_unless command v n = search (stateless_parts, stateless_wrapped)
+fit_unless command v n = search (fits, fit_wrapped)
 
-stateless_node : (command : Command) (v : List ℕ) (n : ℕ) → Stateless (force_node command v n)
+fit_node : (command : Command) (v : List ℕ) (n : ℕ) → Fit (force_node command v n)
 unfolding force_node
-stateless_node command v n = search (stateless_parts, stateless_joined, stateless_unless)
+fit_node command v n = search (fits, fit_joined, fit_unless)
 
-stateless_self : (command : Command) (v : List ℕ) (n : ℕ) → Stateless (force_self command v n)
+fit_self : (command : Command) (v : List ℕ) (n : ℕ) → Fit (force_self command v n)
 unfolding force_self
-stateless_self command v n = search (stateless_parts, stateless_node)
+fit_self command v n = search (fits, fit_node)
 
-stateless_child : (again : ℕ → Run (Unit {0})) → ((k : ℕ) → Stateless (again k)) → (command : Command) (v : List ℕ) (k : ℕ) → Stateless (force_child again command v k)
+fit_child : (again : ℕ → Run (Unit {0})) → ((k : ℕ) → Fit (again k)) → (command : Command) (v : List ℕ) (k : ℕ) → Fit (force_child again command v k)
 unfolding force_child
-stateless_child again t command v k = stateless_look_at _ (λ s. stateless_if _ done (again k) (stateless_answer tt) (t k))
+fit_child again t command v k = fit_look _ (λ s. fit_if _ done (again k) (fit_answer tt) (t k))
 
-stateless_heirs : (again : ℕ → Run (Unit {0})) → ((k : ℕ) → Stateless (again k)) → (command : Command) (v : List ℕ) (n : ℕ) (wanted : Bool) → Stateless (force_heirs again command v n wanted)
+fit_heirs : (again : ℕ → Run (Unit {0})) → ((k : ℕ) → Fit (again k)) → (command : Command) (v : List ℕ) (n : ℕ) (wanted : Bool) → Fit (force_heirs again command v n wanted)
 unfolding force_heirs
-stateless_heirs again t command v n wanted =
-    stateless_if wanted _ done (stateless_look_at _ (λ s. stateless_each (heirs s n) (force_child again command v) (λ k. stateless_child again t command v k))) (stateless_answer tt)
+fit_heirs again t command v n wanted =
+    fit_if wanted _ done (fit_look _ (λ s. fit_each (heirs s n) (force_child again command v) (λ k. fit_child again t command v k))) (fit_answer tt)
 
-stateless_forced : (fuel : ℕ) (command : Command) (v : List ℕ) (n : ℕ) → Stateless (forced fuel command v n)
+fit_forced : (fuel : ℕ) (command : Command) (v : List ℕ) (n : ℕ) → Fit (forced fuel command v n)
 unfolding forced
-stateless_forced zero command v n = stateless_answer tt
-stateless_forced (suc fuel) command v n =
-    stateless_bind (force_self command v n) (force_heirs (forced fuel command v) command v n) (stateless_self command v n)
-    (λ wanted. stateless_heirs (forced fuel command v) (λ k. stateless_forced fuel command v k) command v n wanted)
+fit_forced zero command v n = fit_answer tt
+fit_forced (suc fuel) command v n =
+    fit_bind (force_self command v n) (force_heirs (forced fuel command v) command v n) (fit_self command v n)
+    (λ wanted. fit_heirs (forced fuel command v) (λ k. fit_forced fuel command v k) command v n wanted)
 
-stateless_force_value : (command : Command) (v : List ℕ) (n : ℕ) → Stateless (force_value command v n)
+fit_force_value : (command : Command) (v : List ℕ) (n : ℕ) → Fit (force_value command v n)
 unfolding force_value
-stateless_force_value command v n = search (stateless_parts, stateless_forced)
+fit_force_value command v n = search (fits, fit_forced)
 
-pub stateless_force : (command : Command) (v : Option (List ℕ)) (n : ℕ) → Stateless (force command v n)
+pub fit_force : (command : Command) (v : Option (List ℕ)) (n : ℕ) → Fit (force command v n)
 unfolding force
-stateless_force command v n = search (stateless_parts, stateless_force_value)
+fit_force command v n = search (fits, fit_force_value)

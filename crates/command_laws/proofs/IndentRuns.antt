@@ -37,7 +37,9 @@ use Rattle.command_laws.proofs.ListWalks.{FitAt, at_once, looking, onwards, then
 use Rattle.command_laws.proofs.StatelessSplits.{valid_final}
 use Rattle.command_laws.proofs.StylingRuns.{Shaping, shaping, shaping_unset_style}
 use Rattle.command_laws.proofs.SublistRuns.{fit_normalize}
-use Rattle.command_laws.proofs.Walks.{Fit, fits, fit_answer, fit_bind, fit_record, fit_restore, fit_unwrap, fit_fix, fit_unset_style}
+use Rattle.command_laws.proofs.Fits.{Fit, fits, fit_answer, fit_bind}
+use Rattle.command_laws.proofs.PushingRuns.{fit_record_values, fit_restore_values}
+use Rattle.command_laws.proofs.Walks.{fit_unwrap, fit_fix, fit_unset_style}
 
 -- ---- indenting a list of siblings
 
@@ -159,7 +161,7 @@ fit_unindented n = fit_seen _ (λ s is. by_test s is (is_simple_indentation s.tr
 
 fit_unwrapped : (n : ℕ) (children : List ℕ) → Fit (unwrapped n children)
 unfolding unwrapped
-fit_unwrapped n children = search (fits, fit_record, fit_unwrap, fit_restore)
+fit_unwrapped n children = search (fits, fit_record_values, fit_unwrap, fit_restore_values)
 
 released_fits : (children : List ℕ) (s : State) (n : ℕ) → IsValid s → IsBare s n → FitAt s (released n children)
 unfolding released
@@ -283,13 +285,13 @@ unfolding record_values
 recorded_same list s = rw (final-look, final-answer) refl
 
 fit_after_split : (list : List ℕ) (values : List Recorded) → Fit (for_each list fix_ancestors >> restore_values values)
-fit_after_split list values = search (fits, fit_fix, fit_restore)
+fit_after_split list values = search (fits, fit_fix, fit_restore_values)
 
 pub split_items_fits : (s : State) (list : List ℕ) → IsValid s → Consecutive s list → FitAt s (split_items list)
 unfolding split_items
 split_items_fits s list is k =
     onwards (record_values list) (λ values. split_parent list >> (for_each list fix_ancestors >> restore_values values)) s
-    (at_once (record_values list) s is (fit_record list))
+    (at_once (record_values list) s is (fit_record_values list))
     (subst (λ t. FitAt t (split_parent list >> (for_each list fix_ancestors >> restore_values (value (record_values list) s)))) (sym (recorded_same list s))
     (then_fit (split_parent list) (λ _. for_each list fix_ancestors >> restore_values (value (record_values list) s)) s is (split_fits s list is k) (λ _. fit_after_split list (value (record_values list) s))))
 

@@ -14,6 +14,7 @@ pub mod Wrapping
 pub mod StatelessMoves
 pub mod StatelessSplits
 pub mod StatelessWraps
+pub mod Fits
 pub mod StylingRuns
 pub mod ClearingRuns
 pub mod ReorderRuns

@@ -62,7 +62,7 @@ use Rattle.command_laws.proofs.StatelessSplits.{stateless_split}
 use Rattle.command_laws.proofs.StatelessWraps.{stateless_wrap, stateless_wrap_found}
 use Rattle.command_laws.proofs.SublistRuns.{Ends, ends_answer, ends_look, ends_bind}
 use Rattle.command_laws.proofs.Together.{Together}
-use Rattle.command_laws.proofs.Walks.{Fit, fit, fits, fit_answer}
+use Rattle.command_laws.proofs.Fits.{Fit, fit, fits, fit_answer}
 use Rattle.command_laws.proofs.Widening.{member}
 use Rattle.command_laws.proofs.Wrapping.{together_keeps}
 use Rattle.command_laws.proofs.CollectRuns.{Items, collect_ends, stateless_collect}

@@ -24,7 +24,7 @@ use Rattle.command_laws.specs.WrapLaws.{NamesNoThing, MakesNoThing, MakesNoState
 use Rattle.command_laws.proofs.Splitting.{parted, split_keeps, order_preserving_split_one}
 use Rattle.command_laws.proofs.StatelessSplits.{at_bind, at_look, valid_final, stateless_split}
 use Rattle.command_laws.proofs.StatelessWraps.{stateless_wrap}
-use Rattle.command_laws.proofs.Walks.{Fit, fit, fit_answer}
+use Rattle.command_laws.proofs.Fits.{Fit, fit, fit_answer}
 use Rattle.command_laws.proofs.Widening.{Siblings, pushed-last, one_after, same_list}
 use Rattle.command_laws.proofs.Wrapping.{wrap_keeps, order_preserving_wrap_one}
 

@@ -20,13 +20,14 @@ use Rattle.edit_laws.specs.Order.{KeepsOrder, IsKeeping}
 use Rattle.edit_laws.specs.Stateless.{Stateless}
 use Rattle.edit_laws.specs.OrderPreserving.{OrderPreserving}
 use Rattle.edit_laws.proofs.Splitting.{split_keeps}
-use Rattle.edit_laws.proofs.StatelessRuns.{stateless_parts, stateless_answer, stateless_perform}
-use Rattle.edit_laws.proofs.OrderPreserving.{order_preserving, order_preserving_answer, order_preserving_perform}
+use Rattle.edit_laws.proofs.StatelessRuns.{stateless_parts}
+use Rattle.edit_laws.proofs.OrderPreserving.{order_preserving, order_preserving_answer}
 use Rattle.inline_value.specs.Selections.{is_amid, with_start, set_start, start_text, split_at_start, split_at_end, split_start, split_end, split_ends, unset_rival, set_overrides, clear_one, clear_elements, force_phrase, give_node, give_nodes, give_range, set_value}
-use Rattle.command_laws.proofs.ClearingRuns.{order_preserving_clear_value, stateless_clear_value}
+use Rattle.command_laws.proofs.ClearingRuns.{fit_clear_value}
 use Rattle.command_laws.proofs.Criteria.{first_part, second_part}
-use Rattle.command_laws.proofs.ForcingRuns.{order_preserving_force, stateless_force}
-use Rattle.command_laws.proofs.PushingRuns.{order_preserving_push_down, stateless_push_down}
+use Rattle.command_laws.proofs.Fits.{Fit, fit, fits, fit_answer, fit_perform}
+use Rattle.command_laws.proofs.ForcingRuns.{fit_force}
+use Rattle.command_laws.proofs.PushingRuns.{fit_push_down}
 use Rattle.command_laws.proofs.Splitting.{then_order_preserving, then_order_preserving_on}
 
 -- ---- splitting the texts at the ends
@@ -87,77 +88,7 @@ pub order_preserving_split_ends : OrderPreserving split_ends
 unfolding split_ends
 order_preserving_split_ends = search (order_preserving, order_preserving_start, order_preserving_end)
 
--- ---- the overrides
-
-order_preserving_rival : (c : Command) → OrderPreserving (unset_rival c)
-order_preserving_rival command.Bold = order_preserving_answer tt
-order_preserving_rival command.Italic = order_preserving_answer tt
-order_preserving_rival command.Underline = order_preserving_answer tt
-order_preserving_rival command.Strikethrough = order_preserving_answer tt
-order_preserving_rival command.Subscript = order_preserving_perform (Override command.Superscript Absent) tt
-order_preserving_rival command.Superscript = order_preserving_perform (Override command.Subscript Absent) tt
-order_preserving_rival command.CreateLink = order_preserving_answer tt
-order_preserving_rival command.Unlink = order_preserving_answer tt
-order_preserving_rival command.FontName = order_preserving_answer tt
-order_preserving_rival command.FontSize = order_preserving_answer tt
-order_preserving_rival command.ForeColor = order_preserving_answer tt
-order_preserving_rival command.BackColor = order_preserving_answer tt
-order_preserving_rival command.HiliteColor = order_preserving_answer tt
-order_preserving_rival command.RemoveFormat = order_preserving_answer tt
-order_preserving_rival command.FormatBlock = order_preserving_answer tt
-order_preserving_rival command.JustifyLeft = order_preserving_answer tt
-order_preserving_rival command.JustifyCenter = order_preserving_answer tt
-order_preserving_rival command.JustifyRight = order_preserving_answer tt
-order_preserving_rival command.JustifyFull = order_preserving_answer tt
-order_preserving_rival command.Indent = order_preserving_answer tt
-order_preserving_rival command.Outdent = order_preserving_answer tt
-order_preserving_rival command.Delete = order_preserving_answer tt
-order_preserving_rival command.InsertText = order_preserving_answer tt
-order_preserving_rival command.InsertParagraph = order_preserving_answer tt
-order_preserving_rival command.StyleWithCss = order_preserving_answer tt
-order_preserving_rival command.UseCss = order_preserving_answer tt
-order_preserving_rival command.DefaultParagraphSeparator = order_preserving_answer tt
-order_preserving_rival command.InsertOrderedList = order_preserving_answer tt
-order_preserving_rival command.InsertUnorderedList = order_preserving_answer tt
-order_preserving_rival command.InsertLineBreak = order_preserving_answer tt
-order_preserving_rival command.InsertHorizontalRule = order_preserving_answer tt
-order_preserving_rival command.InsertImage = order_preserving_answer tt
-
-order_preserving_set_overrides : (c : Command) (v : Option (List ℕ)) → OrderPreserving (set_overrides c v)
-unfolding set_overrides
-order_preserving_set_overrides c v = search (order_preserving, order_preserving_rival)
-
--- ---- the whole
-
-pub order_preserving_clear_one : (c : Command) (e : ℕ) → OrderPreserving (clear_one c e)
-unfolding clear_one
-order_preserving_clear_one c e = search (order_preserving, order_preserving_clear_value)
-
-order_preserving_clear_elements : (c : Command) → OrderPreserving (clear_elements c)
-unfolding clear_elements
-order_preserving_clear_elements c = search (order_preserving, order_preserving_clear_one)
-
-order_preserving_force_phrase : (c : Command) (v : Option (List ℕ)) (n : ℕ) → OrderPreserving (force_phrase c v n)
-unfolding force_phrase
-order_preserving_force_phrase c v n = search (order_preserving, order_preserving_force)
-
-order_preserving_give_node : (c : Command) (v : Option (List ℕ)) (n : ℕ) → OrderPreserving (give_node c v n)
-unfolding give_node
-order_preserving_give_node c v n = search (order_preserving, order_preserving_push_down, order_preserving_force_phrase)
-
-order_preserving_give_nodes : (c : Command) (v : Option (List ℕ)) → OrderPreserving (give_nodes c v)
-unfolding give_nodes
-order_preserving_give_nodes c v = search (order_preserving, order_preserving_give_node)
-
-order_preserving_give_range : (c : Command) (v : Option (List ℕ)) → OrderPreserving (give_range c v)
-unfolding give_range
-order_preserving_give_range c v = search (order_preserving, order_preserving_split_ends, order_preserving_clear_elements, order_preserving_give_nodes)
-
-pub order_preserving_set_value : (c : Command) (v : Option (List ℕ)) → OrderPreserving (set_value c v)
-unfolding set_value
-order_preserving_set_value c v = search (order_preserving, order_preserving_set_overrides, order_preserving_give_range)
-
--- ---- the states of contenteditable
+-- ---- splitting leaves the states of contenteditable
 
 stateless_with_start : (f : Forest Content) (pair : Pair) (at : Point) → Stateless (with_start f pair at)
 stateless_with_start f pair at = search stateless_parts
@@ -190,68 +121,83 @@ pub stateless_split_ends : Stateless split_ends
 unfolding split_ends
 stateless_split_ends = search (stateless_parts, stateless_start, stateless_end)
 
-stateless_rival : (c : Command) → Stateless (unset_rival c)
-stateless_rival command.Bold = stateless_answer tt
-stateless_rival command.Italic = stateless_answer tt
-stateless_rival command.Underline = stateless_answer tt
-stateless_rival command.Strikethrough = stateless_answer tt
-stateless_rival command.Subscript = stateless_perform (Override command.Superscript Absent) tt
-stateless_rival command.Superscript = stateless_perform (Override command.Subscript Absent) tt
-stateless_rival command.CreateLink = stateless_answer tt
-stateless_rival command.Unlink = stateless_answer tt
-stateless_rival command.FontName = stateless_answer tt
-stateless_rival command.FontSize = stateless_answer tt
-stateless_rival command.ForeColor = stateless_answer tt
-stateless_rival command.BackColor = stateless_answer tt
-stateless_rival command.HiliteColor = stateless_answer tt
-stateless_rival command.RemoveFormat = stateless_answer tt
-stateless_rival command.FormatBlock = stateless_answer tt
-stateless_rival command.JustifyLeft = stateless_answer tt
-stateless_rival command.JustifyCenter = stateless_answer tt
-stateless_rival command.JustifyRight = stateless_answer tt
-stateless_rival command.JustifyFull = stateless_answer tt
-stateless_rival command.Indent = stateless_answer tt
-stateless_rival command.Outdent = stateless_answer tt
-stateless_rival command.Delete = stateless_answer tt
-stateless_rival command.InsertText = stateless_answer tt
-stateless_rival command.InsertParagraph = stateless_answer tt
-stateless_rival command.StyleWithCss = stateless_answer tt
-stateless_rival command.UseCss = stateless_answer tt
-stateless_rival command.DefaultParagraphSeparator = stateless_answer tt
-stateless_rival command.InsertOrderedList = stateless_answer tt
-stateless_rival command.InsertUnorderedList = stateless_answer tt
-stateless_rival command.InsertLineBreak = stateless_answer tt
-stateless_rival command.InsertHorizontalRule = stateless_answer tt
-stateless_rival command.InsertImage = stateless_answer tt
+fit_split_ends : Fit split_ends
+fit_split_ends = fit order_preserving_split_ends stateless_split_ends
 
-stateless_set_overrides : (c : Command) (v : Option (List ℕ)) → Stateless (set_overrides c v)
+-- ---- the overrides
+
+fit_rival : (c : Command) → Fit (unset_rival c)
+fit_rival command.Bold = fit_answer tt
+fit_rival command.Italic = fit_answer tt
+fit_rival command.Underline = fit_answer tt
+fit_rival command.Strikethrough = fit_answer tt
+fit_rival command.Subscript = fit_perform (Override command.Superscript Absent) tt tt
+fit_rival command.Superscript = fit_perform (Override command.Subscript Absent) tt tt
+fit_rival command.CreateLink = fit_answer tt
+fit_rival command.Unlink = fit_answer tt
+fit_rival command.FontName = fit_answer tt
+fit_rival command.FontSize = fit_answer tt
+fit_rival command.ForeColor = fit_answer tt
+fit_rival command.BackColor = fit_answer tt
+fit_rival command.HiliteColor = fit_answer tt
+fit_rival command.RemoveFormat = fit_answer tt
+fit_rival command.FormatBlock = fit_answer tt
+fit_rival command.JustifyLeft = fit_answer tt
+fit_rival command.JustifyCenter = fit_answer tt
+fit_rival command.JustifyRight = fit_answer tt
+fit_rival command.JustifyFull = fit_answer tt
+fit_rival command.Indent = fit_answer tt
+fit_rival command.Outdent = fit_answer tt
+fit_rival command.Delete = fit_answer tt
+fit_rival command.InsertText = fit_answer tt
+fit_rival command.InsertParagraph = fit_answer tt
+fit_rival command.StyleWithCss = fit_answer tt
+fit_rival command.UseCss = fit_answer tt
+fit_rival command.DefaultParagraphSeparator = fit_answer tt
+fit_rival command.InsertOrderedList = fit_answer tt
+fit_rival command.InsertUnorderedList = fit_answer tt
+fit_rival command.InsertLineBreak = fit_answer tt
+fit_rival command.InsertHorizontalRule = fit_answer tt
+fit_rival command.InsertImage = fit_answer tt
+
+fit_set_overrides : (c : Command) (v : Option (List ℕ)) → Fit (set_overrides c v)
 unfolding set_overrides
-stateless_set_overrides c v = search (stateless_parts, stateless_rival)
+fit_set_overrides c v = search (fits, fit_rival)
 
-pub stateless_clear_one : (c : Command) (e : ℕ) → Stateless (clear_one c e)
+-- ---- the whole
+
+pub fit_clear_one : (c : Command) (e : ℕ) → Fit (clear_one c e)
 unfolding clear_one
-stateless_clear_one c e = search (stateless_parts, stateless_clear_value)
+fit_clear_one c e = search (fits, fit_clear_value)
 
-stateless_clear_elements : (c : Command) → Stateless (clear_elements c)
+fit_clear_elements : (c : Command) → Fit (clear_elements c)
 unfolding clear_elements
-stateless_clear_elements c = search (stateless_parts, stateless_clear_one)
+fit_clear_elements c = search (fits, fit_clear_one)
 
-stateless_force_phrase : (c : Command) (v : Option (List ℕ)) (n : ℕ) → Stateless (force_phrase c v n)
+fit_force_phrase : (c : Command) (v : Option (List ℕ)) (n : ℕ) → Fit (force_phrase c v n)
 unfolding force_phrase
-stateless_force_phrase c v n = search (stateless_parts, stateless_force)
+fit_force_phrase c v n = search (fits, fit_force)
 
-stateless_give_node : (c : Command) (v : Option (List ℕ)) (n : ℕ) → Stateless (give_node c v n)
+fit_give_node : (c : Command) (v : Option (List ℕ)) (n : ℕ) → Fit (give_node c v n)
 unfolding give_node
-stateless_give_node c v n = search (stateless_parts, stateless_push_down, stateless_force_phrase)
+fit_give_node c v n = search (fits, fit_push_down, fit_force_phrase)
 
-stateless_give_nodes : (c : Command) (v : Option (List ℕ)) → Stateless (give_nodes c v)
+fit_give_nodes : (c : Command) (v : Option (List ℕ)) → Fit (give_nodes c v)
 unfolding give_nodes
-stateless_give_nodes c v = search (stateless_parts, stateless_give_node)
+fit_give_nodes c v = search (fits, fit_give_node)
 
-stateless_give_range : (c : Command) (v : Option (List ℕ)) → Stateless (give_range c v)
+fit_give_range : (c : Command) (v : Option (List ℕ)) → Fit (give_range c v)
 unfolding give_range
-stateless_give_range c v = search (stateless_parts, stateless_split_ends, stateless_clear_elements, stateless_give_nodes)
+fit_give_range c v = search (fits, fit_split_ends, fit_clear_elements, fit_give_nodes)
+
+pub fit_set_value : (c : Command) (v : Option (List ℕ)) → Fit (set_value c v)
+unfolding set_value
+fit_set_value c v = search (fits, fit_set_overrides, fit_give_range)
+
+-- ---- each certificate by itself
+
+pub order_preserving_set_value : (c : Command) (v : Option (List ℕ)) → OrderPreserving (set_value c v)
+order_preserving_set_value c v = (fit_set_value c v).order
 
 pub stateless_set_value : (c : Command) (v : Option (List ℕ)) → Stateless (set_value c v)
-unfolding set_value
-stateless_set_value c v = search (stateless_parts, stateless_set_overrides, stateless_give_range)
+stateless_set_value c v = (fit_set_value c v).states

@@ -19,7 +19,7 @@ use Rattle.list_indent.specs.Sublists.{has_sublist, leaves, parted, make_followe
 use Rattle.command_laws.proofs.Followers.{Follows, goes_on, stands_after}
 use Rattle.command_laws.proofs.Splitting.{then_order_preserving}
 use Rattle.command_laws.proofs.StatelessMoves.{stateless_moves, stateless_move_after, stateless_move_first}
-use Rattle.command_laws.proofs.Walks.{Fit, fit, fits}
+use Rattle.command_laws.proofs.Fits.{Fit, fit, fits}
 use Rattle.command_laws.proofs.Widening.{last_parted}
 
 -- ---- what is known of the state and the answer that a run ends with

@@ -4,74 +4,59 @@ use Rattle.std.proofs.Common.{ℕ, Bool, List, Option}
 use Rattle.html_names.specs.declared.commands.Command.{Command}
 use Rattle.edit_laws.specs.Stateless.{Stateless}
 use Rattle.edit_laws.specs.OrderPreserving.{OrderPreserving}
-use Rattle.edit_laws.proofs.StatelessRuns.{stateless_parts}
-use Rattle.edit_laws.proofs.OrderPreserving.{order_preserving}
 use Rattle.inline_commands.specs.Toggling.{set_toggled, toggle_style, set_unless, set_script, toggle_script}
 use Rattle.inline_commands.specs.ValueCommands.{set_taken, take, apply_value}
-use Rattle.command_laws.proofs.SelectionRuns.{order_preserving_set_value, stateless_set_value}
+use Rattle.command_laws.proofs.Fits.{Fit, fits}
+use Rattle.command_laws.proofs.SelectionRuns.{fit_set_value}
 
-order_preserving_toggled : (c : Command) (on : List ℕ) → OrderPreserving (set_toggled c on)
+fit_toggled : (c : Command) (on : List ℕ) → Fit (set_toggled c on)
 unfolding set_toggled
-order_preserving_toggled c on = search (order_preserving, order_preserving_set_value)
+fit_toggled c on = search (fits, fit_set_value)
+
+pub fit_toggle_style : (c : Command) → Fit (toggle_style c)
+unfolding toggle_style
+fit_toggle_style c = search (fits, fit_toggled)
+
+fit_unless_on : (state : Bool) (c : Command) (on : List ℕ) → Fit (set_unless state c on)
+unfolding set_unless
+fit_unless_on state c on = search (fits, fit_set_value)
+
+fit_set_script : (c : Command) (on : List ℕ) → Fit (set_script c on)
+unfolding set_script
+fit_set_script c on = search (fits, fit_set_value, fit_unless_on)
+
+pub fit_toggle_script : (c : Command) → Fit (toggle_script c)
+unfolding toggle_script
+fit_toggle_script c = search (fits, fit_set_script)
+
+fit_taken : (c : Command) (v : List ℕ) → Fit (set_taken c v)
+unfolding set_taken
+fit_taken c v = search (fits, fit_set_value)
+
+fit_take : (c : Command) (taken : Option (List ℕ)) → Fit (take c taken)
+unfolding take
+fit_take c taken = search (fits, fit_taken)
+
+pub fit_apply_value : (c : Command) (v : List ℕ) → Fit (apply_value c v)
+unfolding apply_value
+fit_apply_value c v = search (fits, fit_take)
+
+-- ---- each certificate by itself
 
 pub order_preserving_toggle_style : (c : Command) → OrderPreserving (toggle_style c)
-unfolding toggle_style
-order_preserving_toggle_style c = search (order_preserving, order_preserving_toggled)
-
-order_preserving_unless_on : (state : Bool) (c : Command) (on : List ℕ) → OrderPreserving (set_unless state c on)
-unfolding set_unless
-order_preserving_unless_on state c on = search (order_preserving, order_preserving_set_value)
-
-order_preserving_set_script : (c : Command) (on : List ℕ) → OrderPreserving (set_script c on)
-unfolding set_script
-order_preserving_set_script c on = search (order_preserving, order_preserving_set_value, order_preserving_unless_on)
-
-pub order_preserving_toggle_script : (c : Command) → OrderPreserving (toggle_script c)
-unfolding toggle_script
-order_preserving_toggle_script c = search (order_preserving, order_preserving_set_script)
-
-order_preserving_taken : (c : Command) (v : List ℕ) → OrderPreserving (set_taken c v)
-unfolding set_taken
-order_preserving_taken c v = search (order_preserving, order_preserving_set_value)
-
-order_preserving_take : (c : Command) (taken : Option (List ℕ)) → OrderPreserving (take c taken)
-unfolding take
-order_preserving_take c taken = search (order_preserving, order_preserving_taken)
-
-pub order_preserving_apply_value : (c : Command) (v : List ℕ) → OrderPreserving (apply_value c v)
-unfolding apply_value
-order_preserving_apply_value c v = search (order_preserving, order_preserving_take)
-
--- ---- the states of contenteditable
-
-stateless_toggled : (c : Command) (on : List ℕ) → Stateless (set_toggled c on)
-unfolding set_toggled
-stateless_toggled c on = search (stateless_parts, stateless_set_value)
+order_preserving_toggle_style c = (fit_toggle_style c).order
 
 pub stateless_toggle_style : (c : Command) → Stateless (toggle_style c)
-unfolding toggle_style
-stateless_toggle_style c = search (stateless_parts, stateless_toggled)
+stateless_toggle_style c = (fit_toggle_style c).states
 
-stateless_unless_on : (state : Bool) (c : Command) (on : List ℕ) → Stateless (set_unless state c on)
-unfolding set_unless
-stateless_unless_on state c on = search (stateless_parts, stateless_set_value)
-
-stateless_set_script : (c : Command) (on : List ℕ) → Stateless (set_script c on)
-unfolding set_script
-stateless_set_script c on = search (stateless_parts, stateless_set_value, stateless_unless_on)
+pub order_preserving_toggle_script : (c : Command) → OrderPreserving (toggle_script c)
+order_preserving_toggle_script c = (fit_toggle_script c).order
 
 pub stateless_toggle_script : (c : Command) → Stateless (toggle_script c)
-unfolding toggle_script
-stateless_toggle_script c = search (stateless_parts, stateless_set_script)
+stateless_toggle_script c = (fit_toggle_script c).states
 
-stateless_taken : (c : Command) (v : List ℕ) → Stateless (set_taken c v)
-unfolding set_taken
-stateless_taken c v = search (stateless_parts, stateless_set_value)
-
-stateless_take : (c : Command) (taken : Option (List ℕ)) → Stateless (take c taken)
-unfolding take
-stateless_take c taken = search (stateless_parts, stateless_taken)
+pub order_preserving_apply_value : (c : Command) (v : List ℕ) → OrderPreserving (apply_value c v)
+order_preserving_apply_value c v = (fit_apply_value c v).order
 
 pub stateless_apply_value : (c : Command) (v : List ℕ) → Stateless (apply_value c v)
-unfolding apply_value
-stateless_apply_value c v = search (stateless_parts, stateless_take)
+stateless_apply_value c v = (fit_apply_value c v).states
