@@ -18,7 +18,9 @@ use edit_doc::{Doc, EditFault, NodeList, NodeRef};
 use html_names::is_prohibited_child;
 use node_tests::{allowed_in, has_name, name_allowed_in};
 use std::alloc::{AllocError, Global};
-use wrap_split::{Blank, CopyMade, NamedSibling, WrapRule, split_around, split_parent, turn_bound, wrap};
+use wrap_split::{
+    Blank, CopyMade, NamedSibling, WrapRule, split_around, split_parent, turn_bound, wrap,
+};
 
 /// Whether a node is an element that may not stand in a paragraph.
 #[tactic(auto, unfolding(crate::specs::Ancestors::is_prohibited))]
