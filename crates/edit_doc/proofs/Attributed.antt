@@ -27,10 +27,8 @@ use Rattle.point_order.specs.PointOrder.{is_before}
 use Rattle.forest_changes.specs.Change.{SetAttributes, applied, inverse}
 use Rattle.forest_changes.proofs.Twice.{forest_of}
 use Rattle.forest_changes.proofs.PrunedChanges.{content_of-pruned}
-use Rattle.edit_steps.specs.declared.step.Step.{Step}
 use Rattle.edit_steps.specs.declared.step.Step.TheVariants.{Attributes}
 use Rattle.edit_steps.specs.Step.{StepFits, change_of, step_applied, step_inverse}
-use Rattle.undo_log.specs.Log.{Log, with_step}
 use Rattle.edit_model.specs.State.{State}
 use Rattle.edit_model.specs.Edit.{Edit, Set, Unset, is_made_edit, change_of as edit_change, trees_after, points_after, overrides_after, with_set, with_unset}
 use Rattle.edit_model.specs.Confined.{is_own, may_set, may_unset, has_value}
@@ -40,6 +38,7 @@ use Rattle.edit_doc.specs.Whole.{Whole, IsOpen}
 use Rattle.edit_doc.specs.Held.{Holds}
 use Rattle.edit_doc.specs.Marks.{Marks}
 use Rattle.edit_doc.specs.Sound.{RefIn}
+use Rattle.edit_doc.specs.Trail.{Trail, with_note}
 use Rattle.edit_doc.proofs.Inner.{seen, Ok}
 use Rattle.edit_doc.proofs.SeenNodes.{out_of, IsSeen, held_seen, attributes_seen}
 use Rattle.edit_doc.proofs.Changing.{Follows}
@@ -213,16 +212,16 @@ module _ (d : Inside) (v : Whole) (is : seen d ≡ v) (law : IsArena d.arena) (s
   unfolding is_made_edit may_set
   not_set_here name value same = rw (own_seen, same) (and_false (is_own v.state node.label))
 
-  module _ (list : List Attribute) (c : Command) (m : Marks (node.label ∷ []) d.command c) (arena : Arena) (log : Log Step) (arena_is : arena ≡ step_applied (Attributes node list) d.arena) (log_is : log ≡ with_step d.log (step_inverse (Attributes node list) d.arena)) where
-    pub unset_done : (name : List ℕ) → list ≡ unset_in own name → is_made_edit (Unset node.label name) v.state ≡ true → Done d v (Unset node.label name) arena d.points d.overrides.items d.counts c log
+  module _ (list : List Attribute) (c : Command) (m : Marks (node.label ∷ []) d.command c) (arena : Arena) (trail : Trail) (arena_is : arena ≡ step_applied (Attributes node list) d.arena) (trail_is : trail ≡ with_note d.history (step_inverse (Attributes node list) d.arena)) where
+    pub unset_done : (name : List ℕ) → list ≡ unset_in own name → is_made_edit (Unset node.label name) v.state ≡ true → Done d v (Unset node.label name) arena d.points d.overrides.items d.counts c trail
     unset_done name same may =
         edit_called d v is law now_open ok (Unset node.label name) (Attributes node list) d.points d.overrides.items d.counts c may
-        (unsets d law slotted ok node held_here.slot held_here.here tag own list content c m name same) arena log arena_is log_is
+        (unsets d law slotted ok node held_here.slot held_here.here tag own list content c m name same) arena trail arena_is trail_is
 
-    pub set_done : (name value : List ℕ) → list ≡ set_in own name value → is_made_edit (Set node.label name value) v.state ≡ true → Done d v (Set node.label name value) arena d.points d.overrides.items d.counts c log
+    pub set_done : (name value : List ℕ) → list ≡ set_in own name value → is_made_edit (Set node.label name value) v.state ≡ true → Done d v (Set node.label name value) arena d.points d.overrides.items d.counts c trail
     set_done name value same may =
         edit_called d v is law now_open ok (Set node.label name value) (Attributes node list) d.points d.overrides.items d.counts c may
-        (sets d law slotted ok node held_here.slot held_here.here tag own list content c m name value same) arena log arena_is log_is
+        (sets d law slotted ok node held_here.slot held_here.here tag own list content c m name value same) arena trail arena_is trail_is
 
 -- where the node isn't the command's own, or no element, nothing is done
 pub not_own_unset : (s : State) (n : ℕ) (name : List ℕ) → is_own s n ≡ false → is_made_edit (Unset n name) s ≡ false

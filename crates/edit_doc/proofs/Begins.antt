@@ -29,6 +29,7 @@ use Rattle.edit_doc.specs.Held.{IfHeld}
 use Rattle.edit_doc.specs.History.{edits_before, roots_from, begun_forest, is_hidden, seen_trees, state_of, begun_state, began_with, history_of, whole_of}
 use Rattle.edit_doc.specs.Marks.{has_named}
 use Rattle.edit_doc.specs.Sound.{RefIn, IsRunning, OpenSound, UndoSound, RedoSound, AreNeeded, next_first, IsSoundDoc}
+use Rattle.edit_doc.specs.Trail.{trail_of, with_log}
 use Rattle.edit_doc.proofs.Inner.{seen, Ok}
 use Rattle.edit_doc.proofs.Laid.{undo_later, redo_later, next_first_low}
 use Rattle.edit_doc.proofs.Rests.{rest_state, AtRest, rest_of, trees_are, none_noted, arena_forest}
@@ -70,23 +71,23 @@ pub record Opens (d : Inside) (c : Command) (log : Log Step) : Type 0 where
   pub kept : IsKept d.points d.overrides.items d.flags d.counts c.kept
   pub detached_before : c.detached_before ≡ length c.detached.items
   pub none : noted log.open_entry ≡ []
-  pub depth : log.depth ≡ d.log.depth
+  pub depth : log.depth ≡ d.history.log.depth
 
-module _ (d : Inside) (law : IsArena d.arena) (closed : d.log.open_entry ≡ Closed) (ok : Ok d) where
-  pub rest : AtRest d.arena d.points d.overrides.items d.flags d.counts d.command d.log d.undo_sides.items d.redo_sides.items d.undo_sides.capacity d.redo_sides.capacity
-  rest = rest_of d.arena d.points d.overrides.items d.flags d.counts d.command d.log d.undo_sides.items d.redo_sides.items d.undo_sides.capacity d.redo_sides.capacity law closed ok
+module _ (d : Inside) (law : IsArena d.arena) (closed : d.history.log.open_entry ≡ Closed) (ok : Ok d) where
+  pub rest : AtRest d.arena d.points d.overrides.items d.flags d.counts d.command d.history
+  rest = rest_of d.arena d.points d.overrides.items d.flags d.counts d.command d.history law closed ok
 
-  was : begun_forest d.log d.arena.trees ≡ d.arena.trees
-  was = none_noted d.log d.arena.trees (ap noted closed)
+  was : begun_forest d.history.log d.arena.trees ≡ d.arena.trees
+  was = none_noted d.history.log d.arena.trees (ap noted closed)
 
-  whole_document : seen_trees d.log d.command.start d.arena.trees ≡ document_of d.arena.trees
-  whole_document = trees_are d.arena d.points d.overrides.items d.flags d.counts d.command d.log d.undo_sides.items d.redo_sides.items d.undo_sides.capacity d.redo_sides.capacity law closed rest.idle.start
+  whole_document : seen_trees d.history.log d.command.start d.arena.trees ≡ document_of d.arena.trees
+  whole_document = trees_are d.arena d.points d.overrides.items d.flags d.counts d.command d.history law closed rest.idle.start
 
   module _ (c : Command) (log : Log Step) (o : Opens d c log) where
     now : begun_forest log d.arena.trees ≡ d.arena.trees
     now = none_noted log d.arena.trees o.none
 
-    same_trees : seen_trees log c.start d.arena.trees ≡ seen_trees d.log d.command.start d.arena.trees
+    same_trees : seen_trees log c.start d.arena.trees ≡ seen_trees d.history.log d.command.start d.arena.trees
     same_trees = λ i. pruned (is_hidden ((now ∙ sym was) i) (o.start i)) d.arena.trees
 
     start_is : c.start ≡ d.arena.next
@@ -133,11 +134,11 @@ module _ (d : Inside) (law : IsArena d.arena) (closed : d.log.open_entry ≡ Clo
     pub opened_ok : (us : List EntrySnapshot) →
         ((g : Forest Content) → IsRunning d.arena d.points.names c [] g → OpenSound d.arena d.points c g log.open_entry) →
         c.resumed ≡ is_resumed log.open_entry →
-        IfSome c.host (λ h. RefIn d.arena.held h × (0 < count_of (seen_trees d.log d.command.start d.arena.trees) h.label)) →
-        UndoSound d.arena.held d.points.names c.resumed c (next_first c.start d.redo_sides.items) d.arena.trees log.undo us →
-        RedoSound d.arena.held d.points.names c d.arena.trees log.redo d.redo_sides.items →
+        IfSome c.host (λ h. RefIn d.arena.held h × (0 < count_of (seen_trees d.history.log d.command.start d.arena.trees) h.label)) →
+        UndoSound d.arena.held d.points.names c.resumed c (next_first c.start d.history.future) d.arena.trees log.undo us →
+        RedoSound d.arena.held d.points.names c d.arena.trees log.redo d.history.future →
         AreNeeded d.command.start d.arena.trees log.undo log.redo →
-        IsSoundDoc d.arena d.points d.overrides.items d.flags d.counts c log us d.redo_sides.items d.undo_sides.capacity d.redo_sides.capacity
+        IsSoundDoc d.arena d.points d.overrides.items d.flags d.counts c (trail_of log us d.history.future)
     opened_ok us running resumed host undo redo needed = record {
       valid = record {
         forest = subst (λ t. IsForest t d.arena.next) (sym same_trees) ok.valid.forest;
@@ -153,14 +154,12 @@ module _ (d : Inside) (law : IsArena d.arena) (closed : d.log.open_entry ≡ Clo
       running = running (begun_forest log d.arena.trees) (subst (λ g. IsRunning d.arena d.points.names c [] g) (sym now) runs);
       resumed = resumed;
       host = subst (λ t. IfSome c.host (λ h. RefIn d.arena.held h × (0 < count_of t h.label))) (sym same_trees) host;
-      undo = subst (λ g. UndoSound d.arena.held d.points.names c.resumed c (next_first c.start d.redo_sides.items) g log.undo us) (sym now) undo;
-      redo = subst (λ g. RedoSound d.arena.held d.points.names c g log.redo d.redo_sides.items) (sym now) redo;
+      undo = subst (λ g. UndoSound d.arena.held d.points.names c.resumed c (next_first c.start d.history.future) g log.undo us) (sym now) undo;
+      redo = subst (λ g. RedoSound d.arena.held d.points.names c g log.redo d.history.future) (sym now) redo;
       needed = subst (λ g. AreNeeded c.start g log.undo log.redo) (sym now) (subst (λ n. AreNeeded n d.arena.trees log.undo log.redo) (sym o.start) needed);
-      us_room_is = ok.us_room_is ∙ sym o.depth;
-      rs_room_is = ok.rs_room_is ∙ sym o.depth;
     }
 
-    kept_state : begun_state d.arena d.points.names c log ≡ state_of d.arena d.points d.overrides.items d.flags d.command d.log
+    kept_state : begun_state d.arena d.points.names c log ≡ state_of d.arena d.points d.overrides.items d.flags d.command d.history.log
     kept_state = λ i. record {
       trees = (ap document_of now ∙ sym whole_document) i;
       points = o.kept.shown i;
@@ -172,13 +171,13 @@ module _ (d : Inside) (law : IsArena d.arena) (closed : d.log.open_entry ≡ Clo
       host = label_of (sym rest.idle.host i);
       keeping = sym rest.idle.keeping i;
       edits = sym (ap (λ o. edits_before (noted o) d.arena.trees) closed ∙ no_edits d.arena.trees) i;
-      made = sym (ap (λ (s : State). s.made) (rest_state d.arena d.points d.overrides.items d.flags d.counts d.command d.log d.undo_sides.items d.redo_sides.items d.undo_sides.capacity d.redo_sides.capacity rest)) i;
+      made = sym (ap (λ (s : State). s.made) (rest_state d.arena d.points d.overrides.items d.flags d.counts d.command d.history rest)) i;
     }
 
     pub opened_is : (us : List EntrySnapshot) (resumed : Bool) →
         ((s : State) → began_with s log.open_entry ≡ Some (record { state = s; resumed = resumed })) →
-        history_of d.points.names d.arena.trees log us d.redo_sides.items ≡ history_of d.points.names d.arena.trees d.log d.undo_sides.items d.redo_sides.items →
-        whole_of d.arena d.points d.overrides.items d.flags c log us d.redo_sides.items ≡ opened (label_of c.host) c.keeping resumed (seen d)
+        history_of d.points.names d.arena.trees (trail_of log us d.history.future) ≡ history_of d.points.names d.arena.trees d.history →
+        whole_of d.arena d.points d.overrides.items d.flags c (trail_of log us d.history.future) ≡ opened (label_of c.host) c.keeping resumed (seen d)
     unfolding opened begun
     opened_is us resumed began history = λ i. record {
       state = record {
@@ -194,7 +193,7 @@ module _ (d : Inside) (law : IsArena d.arena) (closed : d.log.open_entry ≡ Clo
         edits = (ap (λ ys. edits_before ys d.arena.trees) o.none ∙ no_edits d.arena.trees) i;
         made = (ap (roots_from c.start) now ∙ (ap (λ n. roots_from n d.arena.trees) start_is ∙ roots-none d.arena.next d.arena.trees law.below)) i;
       };
-      history = (ap (λ g. history_of d.points.names g log us d.redo_sides.items) now ∙ (history ∙ ap (λ g. history_of d.points.names g d.log d.undo_sides.items d.redo_sides.items) (sym was))) i;
+      history = (ap (λ g. history_of d.points.names g (trail_of log us d.history.future)) now ∙ (history ∙ ap (λ g. history_of d.points.names g d.history) (sym was))) i;
       began = (began (begun_state d.arena d.points.names c log) ∙ ap (λ s. Some (began_at s resumed)) kept_state) i;
       held = d.arena.held;
     }
@@ -202,12 +201,12 @@ module _ (d : Inside) (law : IsArena d.arena) (closed : d.log.open_entry ≡ Clo
         began_at : State → Bool → Began
         began_at s r = record { state = s; resumed = r }
 
-  pub needed_now : AreNeeded d.command.start d.arena.trees d.log.undo d.log.redo
-  needed_now = subst (λ g. AreNeeded d.command.start g d.log.undo d.log.redo) (none_noted d.log d.arena.trees (ap noted closed)) ok.needed
+  pub needed_now : AreNeeded d.command.start d.arena.trees d.history.log.undo d.history.log.redo
+  needed_now = subst (λ g. AreNeeded d.command.start g d.history.log.undo d.history.log.redo) (none_noted d.history.log d.arena.trees (ap noted closed)) ok.needed
 
   -- ---- begin
 
-  pub held_host : (o : Option NodeRef) → IfHeld (seen d) o → IfSome o (λ h. RefIn d.arena.held h × (0 < count_of (seen_trees d.log d.command.start d.arena.trees) h.label))
+  pub held_host : (o : Option NodeRef) → IfHeld (seen d) o → IfSome o (λ h. RefIn d.arena.held h × (0 < count_of (seen_trees d.history.log d.command.start d.arena.trees) h.label))
   held_host None h = tt
   held_host (Some r) h = (h.slot, h.here)
 
@@ -215,7 +214,7 @@ module _ (d : Inside) (law : IsArena d.arena) (closed : d.log.open_entry ≡ Clo
     abbrev begun_command : Command
     begun_command = record d.command { host = host; keeping = keeping; kept = k }
 
-    begun_opens : Opens d begun_command (begun_log d.log)
+    begun_opens : Opens d begun_command (begun_log d.history.log)
     begun_opens = record {
       start = refl;
       named = rest.idle.named;
@@ -225,15 +224,15 @@ module _ (d : Inside) (law : IsArena d.arena) (closed : d.log.open_entry ≡ Clo
       depth = refl;
     }
 
-    pub begin_ok : IfHeld (seen d) host → IsSoundDoc d.arena d.points d.overrides.items d.flags d.counts begun_command (begun_log d.log) d.undo_sides.items d.redo_sides.items d.undo_sides.capacity d.redo_sides.capacity
+    pub begin_ok : IfHeld (seen d) host → IsSoundDoc d.arena d.points d.overrides.items d.flags d.counts begun_command (with_log d.history (begun_log d.history.log))
     begin_ok held =
         let c = begun_command in
-        let first = next_first_low d.arena.held d.points.names d.command d.arena.trees d.log.redo d.redo_sides.items rest.redo in
-        opened_ok c (begun_log d.log) begun_opens d.undo_sides.items (λ g h. h) rest.resumed (held_host host held)
-        (subst (λ b. UndoSound d.arena.held d.points.names b c (next_first c.start d.redo_sides.items) d.arena.trees d.log.undo d.undo_sides.items) (sym rest.resumed)
-        (undo_later d.arena.held d.points.names d.command c (omega arith) (next_first d.command.start d.redo_sides.items) (next_first d.command.start d.redo_sides.items) d.arena.trees d.log.undo d.undo_sides.items (omega arith) first rest.undo))
-        (redo_later d.arena.held d.points.names d.command c (omega arith) d.arena.trees d.log.redo d.redo_sides.items rest.redo)
+        let first = next_first_low d.arena.held d.points.names d.command d.arena.trees d.history.log.redo d.history.future rest.redo in
+        opened_ok c (begun_log d.history.log) begun_opens d.history.past (λ g h. h) rest.resumed (held_host host held)
+        (subst (λ b. UndoSound d.arena.held d.points.names b c (next_first c.start d.history.future) d.arena.trees d.history.log.undo d.history.past) (sym rest.resumed)
+        (undo_later d.arena.held d.points.names d.command c (omega arith) (next_first d.command.start d.history.future) (next_first d.command.start d.history.future) d.arena.trees d.history.log.undo d.history.past (omega arith) first rest.undo))
+        (redo_later d.arena.held d.points.names d.command c (omega arith) d.arena.trees d.history.log.redo d.history.future rest.redo)
         needed_now
 
-    pub begin_is : whole_of d.arena d.points d.overrides.items d.flags begun_command (begun_log d.log) d.undo_sides.items d.redo_sides.items ≡ opened (label_of host) keeping false (seen d)
-    begin_is = opened_is begun_command (begun_log d.log) begun_opens d.undo_sides.items false (λ s. refl) refl
+    pub begin_is : whole_of d.arena d.points d.overrides.items d.flags begun_command (with_log d.history (begun_log d.history.log)) ≡ opened (label_of host) keeping false (seen d)
+    begin_is = opened_is begun_command (begun_log d.history.log) begun_opens d.history.past false (λ s. refl) refl

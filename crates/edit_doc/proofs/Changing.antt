@@ -1,6 +1,6 @@
 -- A change of what is seen, with the note of the step that takes it back: the fields stay sound, the history stays, and
 -- what is seen changes the same way.
-use Rattle.std.proofs.Common.{◌≡◌, ◌≢◌, ◌⊎◌, ℕ, ◌+◌, ◌<◌, ◌≤◌, Bool, true, false, true≢false, ◌||◌, List, [], ◌∷◌, ◌++◌, length, take, drop, Option, Some, None, IfSome, refl, sym, ap, subst, ◌∙◌, inl, inr, arith, length-append}
+use Rattle.std.proofs.Common.{◌≡◌, ◌≢◌, ◌⊎◌, ℕ, ◌<◌, ◌≤◌, Bool, true, false, true≢false, ◌||◌, List, [], ◌∷◌, ◌++◌, length, take, drop, Option, Some, None, IfSome, refl, sym, ap, subst, ◌∙◌, inl, inr, arith, length-append}
 use Rattle.std.specs.Prelude.{IsTrue, ◌==◌}
 use Rattle.std.proofs.lemmas.List.{take-append-le, drop-append-le}
 use Rattle.std.proofs.lemmas.List.Folds.{list_any-append}
@@ -15,7 +15,7 @@ use Rattle.live_range.specs.LivePoints.{LivePoints}
 use Rattle.live_range.specs.PointsEdit.{has_label}
 use Rattle.live_range.specs.Names.{shown}
 use Rattle.undo_log.specs.Turning.{back, inverses_back, FitsBack}
-use Rattle.undo_log.specs.Log.{Log, Open, noted, is_open, is_resumed, with_noted, with_step}
+use Rattle.undo_log.specs.Log.{Open, noted, is_open, is_resumed, with_noted, with_step}
 use Rattle.undo_log.specs.Log.Open.{Closed, Begun, Resumed}
 use Rattle.undo_log.proofs.Turns.{back-append, inverses_back-append, FitsBack-more}
 use Rattle.forest_changes.specs.Change.{Change, Fits, Turns, applied, inverse}
@@ -41,6 +41,7 @@ use Rattle.edit_doc.specs.Whole.{with_state}
 use Rattle.edit_doc.specs.Marks.{IsMarked, has_named}
 use Rattle.edit_doc.specs.History.{edits_before, roots_from, forest_before, begun_forest, is_hidden, seen_trees, state_of, begun_state, began_with, history_of, whole_of}
 use Rattle.edit_doc.specs.Sound.{RefIn, EachHeldIn, CanGoBack, IsSide, AreAlone, IsSnapshot, IsRunning, OpenSound, UndoSound, RedoSound, detached_of, next_first, IsSoundDoc, AreNeeded}
+use Rattle.edit_doc.specs.Trail.{Trail, with_note}
 use Rattle.edit_doc.proofs.Laid.{redo_later}
 use Rattle.edit_doc.proofs.HiddenTrees.{top_loose}
 use Rattle.edit_doc.proofs.Places.{node_of, loosed, named_node, each_loosed, root_stays, root_was}
@@ -149,23 +150,23 @@ pub record Follows (c d : Command) (x y : Change) : Type 0 where
   pub detached : d.detached.items ≡ c.detached.items ++ more
   pub loosed_is : labels_of more ≡ loosed x
 
-module _ (a : Arena) (points : LivePoints) (overrides : List Setting) (flags : Flags) (counts : Counts) (c : Command) (log : Log Step) (us rs : List EntrySnapshot) (us_room rs_room : ℕ)
-    (law : IsArena a) (open_now : IsTrue (is_open log.open_entry))
-    (ok : IsSoundDoc a points overrides flags counts c log us rs us_room rs_room) where
+module _ (a : Arena) (points : LivePoints) (overrides : List Setting) (flags : Flags) (counts : Counts) (c : Command) (trail : Trail)
+    (law : IsArena a) (open_now : IsTrue (is_open trail.log.open_entry))
+    (ok : IsSoundDoc a points overrides flags counts c trail) where
   abbrev g : Forest Content
-  g = begun_forest log a.trees
+  g = begun_forest trail.log a.trees
 
   abbrev pub hides : ℕ → Bool
-  hides = is_hidden (begun_forest log a.trees) c.start
+  hides = is_hidden (begun_forest trail.log a.trees) c.start
 
   abbrev xs : List Step
-  xs = noted log.open_entry
+  xs = noted trail.log.open_entry
 
   pub seen_prunes : Prunes hides a.trees
   seen_prunes = prunes_roots hides a.trees (forest_of a law) refl (λ l h. top_loose a.trees l law.distinct (ok.hidden l h))
 
   pub run : IsRunning a points.names c xs g
-  run = running_of a points c g log.open_entry open_now ok.running
+  run = running_of a points c g trail.log.open_entry open_now ok.running
 
   module _ (x : Step) (fits : StepFits x a) (seen : Each (IsLeft hides a.trees) (named (change_of x))) where
     abbrev y : Step
@@ -183,11 +184,11 @@ module _ (a : Arena) (points : LivePoints) (overrides : List Setting) (flags : F
     y_is : change_of y ≡ inverse (change_of x) a.trees
     y_is = change_of-inverse x a
 
-    ys_are : changes_of (noted (with_noted log.open_entry y)) ≡ changes_of xs ++ inverse (change_of x) a.trees ∷ []
-    ys_are = ap changes_of (noted_more log.open_entry y open_now) ∙ (changes_more xs y ∙ ap (λ z. changes_of xs ++ z ∷ []) y_is)
+    ys_are : changes_of (noted (with_noted trail.log.open_entry y)) ≡ changes_of xs ++ inverse (change_of x) a.trees ∷ []
+    ys_are = ap changes_of (noted_more trail.log.open_entry y open_now) ∙ (changes_more xs y ∙ ap (λ z. changes_of xs ++ z ∷ []) y_is)
 
     -- the forest at the begin is the same
-    pub begun_same : begun_forest (with_step log y) f ≡ g
+    pub begun_same : begun_forest (with_step trail.log y) f ≡ g
     begun_same = ap (λ ls. back applied ls f) ys_are ∙ (back-append applied (changes_of xs) (inverse (change_of x) a.trees) f ∙ ap (back applied (changes_of xs)) T.back)
 
     inverse_same : inverses_back applied inverse (changes_of xs ++ inverse (change_of x) a.trees ∷ []) f ≡ inverses_back applied inverse (changes_of xs) a.trees ++ change_of x ∷ []
@@ -220,7 +221,7 @@ module _ (a : Arena) (points : LivePoints) (overrides : List Setting) (flags : F
         true≢false (sym h ∙ (ap hides (sym same) ∙ out))
 
     module _ (d : Command) (now : Follows c d (change_of x) (inverse (change_of x) a.trees)) where
-      hides_same : is_hidden (begun_forest (with_step log y) f) d.start ≡ hides
+      hides_same : is_hidden (begun_forest (with_step trail.log y) f) d.start ≡ hides
       hides_same = λ i. is_hidden (begun_same i) (now.start i)
 
       marked_still : (ls : List Change) → Each (IsMarked c) (named_in ls) → Each (IsMarked d) (named_in ls)
@@ -267,7 +268,7 @@ module _ (a : Arena) (points : LivePoints) (overrides : List Setting) (flags : F
             ]));
       }
 
-      host_still : (o : Option NodeRef) → IfSome o (λ h. RefIn a.held h × (0 < count_of (seen_trees log c.start a.trees) h.label)) → IfSome o (λ h. RefIn a.held h × (0 < count_of (pruned hides f) h.label))
+      host_still : (o : Option NodeRef) → IfSome o (λ h. RefIn a.held h × (0 < count_of (seen_trees trail.log c.start a.trees) h.label)) → IfSome o (λ h. RefIn a.held h × (0 < count_of (pruned hides f) h.label))
       host_still None h = tt
       host_still (Some r) h = (h.0, still r.label h.1)
 
@@ -277,7 +278,7 @@ module _ (a : Arena) (points : LivePoints) (overrides : List Setting) (flags : F
 
       -- what is seen afterwards
       abbrev pub seen_next : LivePoints → List Setting → State
-      seen_next points' overrides' = record (state_of a points overrides flags c log) {
+      seen_next points' overrides' = record (state_of a points overrides flags c trail.log) {
         trees = applied (change_of x) (pruned hides a.trees);
         points = points';
         overrides = overrides';
@@ -285,7 +286,7 @@ module _ (a : Arena) (points : LivePoints) (overrides : List Setting) (flags : F
       }
 
       module _ (points' : LivePoints) (overrides' : List Setting) (names : points'.names ≡ points.names) where
-        pub state_next : state_of (record a { trees = f }) points' overrides' flags d (with_step log y) ≡ seen_next points' overrides'
+        pub state_next : state_of (record a { trees = f }) points' overrides' flags d (with_step trail.log y) ≡ seen_next points' overrides'
         state_next = λ i. record {
           trees = (ap (λ k. pruned k f) hides_same ∙ goes.same) i;
           points = points';
@@ -300,15 +301,15 @@ module _ (a : Arena) (points : LivePoints) (overrides : List Setting) (flags : F
           made = roots_from (now.start i) (begun_same i);
         }
 
-        pub whole_next : whole_of (record a { trees = f }) points' overrides' flags d (with_step log y) us rs ≡ with_state (whole_of a points overrides flags c log us rs) (seen_next points' overrides')
+        pub whole_next : whole_of (record a { trees = f }) points' overrides' flags d (with_note trail y) ≡ with_state (whole_of a points overrides flags c trail) (seen_next points' overrides')
         whole_next = λ i. record {
           state = state_next i;
-          history = history_of (names i) (begun_same i) (with_step log y) us rs;
-          began = (ap (λ (s : State). began_with s (with_noted log.open_entry y)) begun_is ∙ began_more (begun_state a points.names c log) log.open_entry y) i;
+          history = history_of (names i) (begun_same i) (with_note trail y);
+          began = (ap (λ (s : State). began_with s (with_noted trail.log.open_entry y)) begun_is ∙ began_more (begun_state a points.names c trail.log) trail.log.open_entry y) i;
           held = a.held;
         }
           where
-            begun_is : begun_state (record a { trees = f }) points'.names d (with_step log y) ≡ begun_state a points.names c log
+            begun_is : begun_state (record a { trees = f }) points'.names d (with_step trail.log y) ≡ begun_state a points.names c trail.log
             begun_is = λ i. record {
               trees = document_of (begun_same i);
               points = shown (names i) (now.kept i).places;
@@ -324,12 +325,12 @@ module _ (a : Arena) (points : LivePoints) (overrides : List Setting) (flags : F
             }
 
         pub sound_next : (counts' : Counts) → IsValid (seen_next points' overrides') → counts'.nodes ≡ node_count f → counts'.chars ≡ char_count f → page_depth f ≤ counts'.depth →
-            IsSoundDoc (record a { trees = f }) points' overrides' flags counts' d (with_step log y) us rs us_room rs_room
+            IsSoundDoc (record a { trees = f }) points' overrides' flags counts' d (with_note trail y)
         sound_next counts' valid nodes chars depth =
             let start : c.start ≡ d.start = sym now.start in
-            let undo : UndoSound a.held points.names c.resumed d (next_first c.start rs) g log.undo us = undo_carried a.held points.names c d start c.resumed (next_first c.start rs) g log.undo us (detached_same c.resumed) ok.undo in
+            let undo : UndoSound a.held points.names c.resumed d (next_first c.start trail.future) g trail.log.undo trail.past = undo_carried a.held points.names c d start c.resumed (next_first c.start trail.future) g trail.log.undo trail.past (detached_same c.resumed) ok.undo in
             let le : c.start ≤ d.start = omega (arith, start) in
-            let redo : RedoSound a.held points.names d g log.redo rs = redo_later a.held points.names c d le g log.redo rs ok.redo in
+            let redo : RedoSound a.held points.names d g trail.log.redo trail.future = redo_later a.held points.names c d le g trail.log.redo trail.future ok.redo in
             record {
               valid = subst IsValid (sym state_next) valid;
               some_label = subst (λ n. 0 < n) start ok.some_label;
@@ -337,16 +338,14 @@ module _ (a : Arena) (points : LivePoints) (overrides : List Setting) (flags : F
               chars = chars;
               depth = depth;
               hidden = λ l h. (let h' : hides l ≡ true = subst (λ k. k l ≡ true) hides_same h in root_stays (change_of x) a.trees l fits.fits (off_hidden l h') (ok.hidden l h'));
-              running = of_running (record a { trees = f }) points' d (begun_forest (with_step log y) f) log.open_entry y open_now
+              running = of_running (record a { trees = f }) points' d (begun_forest (with_step trail.log y) f) trail.log.open_entry y open_now
                   (subst (λ t. IsRunning (record a { trees = f }) points'.names d (xs ++ y ∷ []) t) (sym begun_same) (subst (λ ns. IsRunning (record a { trees = f }) ns d (xs ++ y ∷ []) g) (sym names) runs));
-              resumed = now.resumed ∙ (ok.resumed ∙ sym (resumed_more log.open_entry y));
+              resumed = now.resumed ∙ (ok.resumed ∙ sym (resumed_more trail.log.open_entry y));
               host = subst (λ k. IfSome d.host (λ h. RefIn a.held h × (0 < count_of (pruned k f) h.label))) (sym hides_same) (subst (λ o. IfSome o (λ h. RefIn a.held h × (0 < count_of (pruned hides f) h.label))) (sym now.host) (host_still c.host ok.host));
-              undo = subst (λ t. UndoSound a.held points'.names d.resumed d (next_first d.start rs) t log.undo us) (sym begun_same)
-                  (subst (λ ns. UndoSound a.held ns d.resumed d (next_first d.start rs) g log.undo us) (sym names)
-                  (subst (λ r. UndoSound a.held points.names r d (next_first d.start rs) g log.undo us) (sym now.resumed)
-                  (subst (λ n. UndoSound a.held points.names c.resumed d (next_first n rs) g log.undo us) start undo)));
-              redo = subst (λ t. RedoSound a.held points'.names d t log.redo rs) (sym begun_same) (subst (λ ns. RedoSound a.held ns d g log.redo rs) (sym names) redo);
-              needed = subst (λ n. AreNeeded n (begun_forest (with_step log y) f) log.undo log.redo) start (subst (λ t. AreNeeded c.start t log.undo log.redo) (sym begun_same) ok.needed);
-              us_room_is = ok.us_room_is;
-              rs_room_is = ok.rs_room_is;
+              undo = subst (λ t. UndoSound a.held points'.names d.resumed d (next_first d.start trail.future) t trail.log.undo trail.past) (sym begun_same)
+                  (subst (λ ns. UndoSound a.held ns d.resumed d (next_first d.start trail.future) g trail.log.undo trail.past) (sym names)
+                  (subst (λ r. UndoSound a.held points.names r d (next_first d.start trail.future) g trail.log.undo trail.past) (sym now.resumed)
+                  (subst (λ n. UndoSound a.held points.names c.resumed d (next_first n trail.future) g trail.log.undo trail.past) start undo)));
+              redo = subst (λ t. RedoSound a.held points'.names d t trail.log.redo trail.future) (sym begun_same) (subst (λ ns. RedoSound a.held ns d g trail.log.redo trail.future) (sym names) redo);
+              needed = subst (λ n. AreNeeded n (begun_forest (with_step trail.log y) f) trail.log.undo trail.log.redo) start (subst (λ t. AreNeeded c.start t trail.log.undo trail.log.redo) (sym begun_same) ok.needed);
             }

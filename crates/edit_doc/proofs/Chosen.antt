@@ -48,10 +48,10 @@ module _ (d : Inside) (ok : Ok d) (selection scratch : Option Pair) (marks : Lis
   points = moved_to d.points selection scratch marks
 
   pub other_ok :
-      IsPlaced (seen_trees d.log d.command.start d.arena.trees) points →
+      IsPlaced (seen_trees d.history.log d.command.start d.arena.trees) points →
       length overrides ≡ 32 →
-      (d.log.open_entry ≡ Closed → scratch ≡ None) →
-      IsSoundDoc d.arena points overrides flags d.counts d.command d.log d.undo_sides.items d.redo_sides.items d.undo_sides.capacity d.redo_sides.capacity
+      (d.history.log.open_entry ≡ Closed → scratch ≡ None) →
+      IsSoundDoc d.arena points overrides flags d.counts d.command d.history
   other_ok placed settings none = record {
     valid = record { forest = ok.valid.forest; placed = placed; started = ok.valid.started; settings = settings };
     some_label = ok.some_label;
@@ -59,26 +59,24 @@ module _ (d : Inside) (ok : Ok d) (selection scratch : Option Pair) (marks : Lis
     chars = ok.chars;
     depth = ok.depth;
     hidden = ok.hidden;
-    running = open_other d.arena d.points d.command _ d.log.open_entry selection scratch marks none ok.running;
+    running = open_other d.arena d.points d.command _ d.history.log.open_entry selection scratch marks none ok.running;
     resumed = ok.resumed;
     host = ok.host;
     undo = ok.undo;
     redo = ok.redo;
     needed = ok.needed;
-    us_room_is = ok.us_room_is;
-    rs_room_is = ok.rs_room_is;
   }
 
   -- the rest of the value stays
   pub other_is : (v : Whole) → seen d ≡ v →
-      whole_of d.arena points overrides flags d.command d.log d.undo_sides.items d.redo_sides.items
+      whole_of d.arena points overrides flags d.command d.history
       ≡ with_state v (record v.state { points = record v.state.points { selection = selection; scratch = scratch; marks = marks }; overrides = overrides; flags = flags })
   other_is v is = ap (λ (w : Whole). with_state w (record w.state { points = record w.state.points { selection = selection; scratch = scratch; marks = marks }; overrides = overrides; flags = flags })) is
 
 -- outside commands no scratch pair is kept
-pub scratch_at_rest : (d : Inside) → Ok d → d.log.open_entry ≡ Closed → d.points.scratch ≡ None
+pub scratch_at_rest : (d : Inside) → Ok d → d.history.log.open_entry ≡ Closed → d.points.scratch ≡ None
 scratch_at_rest d ok closed =
-    let idle : IsIdle d.command d.points d.arena.next = subst (λ o. OpenSound d.arena d.points d.command (begun_forest d.log d.arena.trees) o) closed ok.running in
+    let idle : IsIdle d.command d.points d.arena.next = subst (λ o. OpenSound d.arena d.points d.command (begun_forest d.history.log d.arena.trees) o) closed ok.running in
     idle.scratch
 
 -- ---- what stays held

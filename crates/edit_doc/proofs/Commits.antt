@@ -26,6 +26,7 @@ use Rattle.edit_doc.specs.Whole.{Whole, history_committed, committed_history}
 use Rattle.edit_doc.specs.Held.{KeepsThere}
 use Rattle.edit_doc.specs.History.{edits_before, begun_forest, is_hidden, seen_trees, state_of, begun_state, began_with, history_of, whole_of}
 use Rattle.edit_doc.specs.Sound.{IsSoundDoc}
+use Rattle.edit_doc.specs.Trail.{trail_of}
 use Rattle.edit_doc.proofs.HiddenTrees.{false_le, document-pruned, placed-pruned, placed-whole, node_count-pruned, char_count-pruned, page_depth-pruned}
 use Rattle.edit_doc.proofs.Inner.{seen, Ok}
 use Rattle.edit_doc.proofs.Rests.{AtRest, rest_sound, rest_state, none_noted, arena_forest}
@@ -55,28 +56,28 @@ nothing_recorded s0 (Begun xs) w e = rw e refl
 nothing_recorded s0 (Resumed xs) w e = rw e refl
 
 -- as many edits as steps were noted
-pub edits_count : (d : Inside) (v : Whole) → seen d ≡ v → length (noted d.log.open_entry) ≡ length v.state.edits
-edits_count d v sees = sym (count_edits (noted d.log.open_entry) d.arena.trees) ∙ ap (λ (w : Whole). length w.state.edits) sees
+pub edits_count : (d : Inside) (v : Whole) → seen d ≡ v → length (noted d.history.log.open_entry) ≡ length v.state.edits
+edits_count d v sees = sym (count_edits (noted d.history.log.open_entry) d.arena.trees) ∙ ap (λ (w : Whole). length w.state.edits) sees
 
 -- ---- where no step was noted
 
-module _ (d : Inside) (law : IsArena d.arena) (ok : Ok d) (opened : IsTrue (is_open d.log.open_entry)) (p : Places) (resting : AreResting d.points p) where
+module _ (d : Inside) (law : IsArena d.arena) (ok : Ok d) (opened : IsTrue (is_open d.history.log.open_entry)) (p : Places) (resting : AreResting d.points p) where
   abbrev rested_points : LivePoints
   rested_points = shown d.points.names p
 
   -- the points stand in the document, without the scratch pair too
   pub placed_now : IsPlaced d.arena.trees rested_points
   placed_now =
-      let h = placed-whole d.arena.trees d.arena.next (arena_forest d.arena law) (is_hidden (begun_forest d.log d.arena.trees) d.command.start) refl d.points ok.valid.placed in
+      let h = placed-whole d.arena.trees d.arena.next (arena_forest d.arena law) (is_hidden (begun_forest d.history.log d.arena.trees) d.command.start) refl d.points ok.valid.placed in
       let own : IsPlaced d.arena.trees (record d.points { scratch = None }) = record { selection = h.selection; scratch = tt; marks = h.marks } in
       subst (IsPlaced d.arena.trees) (sym resting.shown) own
 
-  pub document_now : document_of (seen_trees d.log d.command.start d.arena.trees) ≡ document_of d.arena.trees
-  document_now = document-pruned d.arena.trees d.arena.next (arena_forest d.arena law) (is_hidden (begun_forest d.log d.arena.trees) d.command.start) refl
+  pub document_now : document_of (seen_trees d.history.log d.command.start d.arena.trees) ≡ document_of d.arena.trees
+  document_now = document-pruned d.arena.trees d.arena.next (arena_forest d.arena law) (is_hidden (begun_forest d.history.log d.arena.trees) d.command.start) refl
 
-  module _ (nothing : noted d.log.open_entry ≡ []) where
-    same_forest : begun_forest d.log d.arena.trees ≡ d.arena.trees
-    same_forest = none_noted d.log d.arena.trees nothing
+  module _ (nothing : noted d.history.log.open_entry ≡ []) where
+    same_forest : begun_forest d.history.log d.arena.trees ≡ d.arena.trees
+    same_forest = none_noted d.history.log d.arena.trees nothing
 
     abbrev k : ℕ → Bool
     k l = nat_le d.command.start l
@@ -84,7 +85,7 @@ module _ (d : Inside) (law : IsArena d.arena) (ok : Ok d) (opened : IsTrue (is_o
     pub nothing_whole : IsWhole k d.arena.trees
     nothing_whole = subst (IsWhole k) same_forest (whole_g d law ok opened)
 
-    module _ (a : Arena) (drops : DropsMade d.arena a d.command.start) (valid : IsArena a) (us : List EntrySnapshot) (forgets : Forgets d.undo_sides.items us d.command) (c : Command) (ended : IsEnded a.next c) where
+    module _ (a : Arena) (drops : DropsMade d.arena a d.command.start) (valid : IsArena a) (us : List EntrySnapshot) (forgets : Forgets d.history.past us d.command) (c : Command) (ended : IsEnded a.next c) where
       detached_out : Without d law ok opened a
       detached_out = record {
         valid = valid;
@@ -95,12 +96,12 @@ module _ (d : Inside) (law : IsArena d.arena) (ok : Ok d) (opened : IsTrue (is_o
       }
 
       abbrev log' : Log Step
-      log' = record d.log { open_entry = Closed }
+      log' = record d.history.log { open_entry = Closed }
 
       prunes : k 0 ≡ false
       prunes = (prunes_g d law ok opened).document
 
-      ends : AtRest a rested_points d.overrides.items d.flags d.counts c log' us d.redo_sides.items d.undo_sides.capacity d.redo_sides.capacity
+      ends : AtRest a rested_points d.overrides.items d.flags d.counts c (trail_of log' us d.history.future)
       ends =
           let f = arena_forest d.arena law in
           without_rest d law ok opened a detached_out us forgets c ended log' refl refl refl refl refl rested_points d.overrides.items d.flags d.counts
@@ -111,17 +112,17 @@ module _ (d : Inside) (law : IsArena d.arena) (ok : Ok d) (opened : IsTrue (is_o
           (ok.chars ∙ (sym (char_count-pruned d.arena.trees d.arena.next f k prunes) ∙ ap char_count (sym drops.trees)))
           (subst (λ n. n ≤ d.counts.depth) (sym (page_depth-pruned d.arena.trees d.arena.next f k prunes) ∙ ap page_depth (sym drops.trees)) ok.depth)
 
-      pub nothing_ok : IsSoundDoc a rested_points d.overrides.items d.flags d.counts c log' us d.redo_sides.items d.undo_sides.capacity d.redo_sides.capacity
-      nothing_ok = rest_sound a rested_points d.overrides.items d.flags d.counts c log' us d.redo_sides.items d.undo_sides.capacity d.redo_sides.capacity ends
+      pub nothing_ok : IsSoundDoc a rested_points d.overrides.items d.flags d.counts c (trail_of log' us d.history.future)
+      nothing_ok = rest_sound a rested_points d.overrides.items d.flags d.counts c (trail_of log' us d.history.future) ends
           (without_needed d law ok opened a detached_out us forgets c ended log' refl refl refl refl refl)
 
-      document_is : document_of a.trees ≡ document_of (seen_trees d.log d.command.start d.arena.trees)
+      document_is : document_of a.trees ≡ document_of (seen_trees d.history.log d.command.start d.arena.trees)
       document_is = ap document_of drops.trees ∙ (document-pruned d.arena.trees d.arena.next (arena_forest d.arena law) k prunes ∙ sym document_now)
 
       pub nothing_state : (v : Whole) → seen d ≡ v → state_of a rested_points d.overrides.items d.flags c log' ≡ rested v.state
       unfolding rested
       nothing_state v sees =
-          rest_state a rested_points d.overrides.items d.flags d.counts c log' us d.redo_sides.items d.undo_sides.capacity d.redo_sides.capacity ends
+          rest_state a rested_points d.overrides.items d.flags d.counts c (trail_of log' us d.history.future) ends
           ∙ ((λ i. record {
             trees = document_is i;
             points = resting.shown i;
@@ -137,15 +138,15 @@ module _ (d : Inside) (law : IsArena d.arena) (ok : Ok d) (opened : IsTrue (is_o
           })
           ∙ ap (λ (w : Whole). rested w.state) sees)
 
-      pub nothing_history : (v : Whole) → seen d ≡ v → history_of d.points.names (begun_forest log' a.trees) log' us d.redo_sides.items ≡ history_committed v
+      pub nothing_history : (v : Whole) → seen d ≡ v → history_of d.points.names (begun_forest log' a.trees) (trail_of log' us d.history.future) ≡ history_committed v
       unfolding history_committed
       nothing_history v sees =
-          ap (λ f. history_of d.points.names f log' us d.redo_sides.items) (none_noted log' a.trees refl)
+          ap (λ f. history_of d.points.names f (trail_of log' us d.history.future)) (none_noted log' a.trees refl)
           ∙ (without_history d law ok opened a detached_out us forgets c ended log' refl refl refl refl refl d.points.names refl
-          ∙ (nothing_recorded (begun_state d.arena d.points.names d.command d.log) d.log.open_entry (seen d) (ap (λ ys. edits_before ys d.arena.trees) nothing ∙ no_edits d.arena.trees) ∙ ap history_committed sees))
+          ∙ (nothing_recorded (begun_state d.arena d.points.names d.command d.history.log) d.history.log.open_entry (seen d) (ap (λ ys. edits_before ys d.arena.trees) nothing ∙ no_edits d.arena.trees) ∙ ap history_committed sees))
 
       abbrev nothing_doc : Whole
-      nothing_doc = whole_of a rested_points d.overrides.items d.flags c log' us d.redo_sides.items
+      nothing_doc = whole_of a rested_points d.overrides.items d.flags c (trail_of log' us d.history.future)
 
       by_detached : (l : ℕ) → 0 < count_of a.trees l → l < d.command.start
       by_detached l here = false_le d.command.start l ((prunes_g d law ok opened).out l (subst (λ t. 0 < count_of t l) detached_out.trees here))

@@ -7,7 +7,7 @@ use Rattle.dom_model.specs.Forest.{Forest}
 use Rattle.dom_model.specs.Pruned.{pruned}
 use Rattle.dom_model.specs.ArenaState.{ArenaState as Arena, IsValid as IsArena}
 use Rattle.live_range.specs.LivePoints.{LivePoints}
-use Rattle.undo_log.specs.Log.{Log, noted, is_open, with_step}
+use Rattle.undo_log.specs.Log.{noted, is_open, with_step}
 use Rattle.forest_changes.specs.Change.{applied, inverse}
 use Rattle.forest_changes.specs.Named.{Each, named}
 use Rattle.forest_changes.specs.Down.{IsLeft}
@@ -31,22 +31,23 @@ use Rattle.edit_doc.specs.Whole.{Whole, IsOpen, with_state}
 use Rattle.edit_doc.specs.Held.{Keeps}
 use Rattle.edit_doc.specs.History.{edits_before, state_of, whole_of}
 use Rattle.edit_doc.specs.Sound.{IsSoundDoc}
+use Rattle.edit_doc.specs.Trail.{Trail, with_note}
 use Rattle.edit_doc.proofs.Inner.{seen, seen as seen_of, Ok as OkInside, open_of}
 use Rattle.edit_doc.proofs.SeenNodes.{out_of}
 use Rattle.edit_doc.proofs.Freely.{freed_edit}
 use Rattle.edit_doc.proofs.Changing.{Follows, goes, seen_next, state_next, whole_next, sound_next}
 
 -- what a call that makes an edit without its test owes after it
-pub record Applied (d : Inside) (v : Whole) (e : Edit) (arena : Arena) (points : LivePoints) (overrides : List Setting) (counts : Counts) (c : Command) (log : Log Step) : Type 0 where
-  pub invariant : IsSoundDoc arena points overrides d.flags counts c log d.undo_sides.items d.redo_sides.items d.undo_sides.capacity d.redo_sides.capacity
-  pub state : state_of arena points overrides d.flags c log ≡ edit_applied e v.state
-  pub keeps : Keeps v (whole_of arena points overrides d.flags c log d.undo_sides.items d.redo_sides.items)
+pub record Applied (d : Inside) (v : Whole) (e : Edit) (arena : Arena) (points : LivePoints) (overrides : List Setting) (counts : Counts) (c : Command) (trail : Trail) : Type 0 where
+  pub invariant : IsSoundDoc arena points overrides d.flags counts c trail
+  pub state : state_of arena points overrides d.flags c trail.log ≡ edit_applied e v.state
+  pub keeps : Keeps v (whole_of arena points overrides d.flags c trail)
 
 -- and what a call that makes its test first owes
-pub record Done (d : Inside) (v : Whole) (e : Edit) (arena : Arena) (points : LivePoints) (overrides : List Setting) (counts : Counts) (c : Command) (log : Log Step) : Type 0 where
-  pub invariant : IsSoundDoc arena points overrides d.flags counts c log d.undo_sides.items d.redo_sides.items d.undo_sides.capacity d.redo_sides.capacity
-  pub gives : Gives (Ok true) v.state (state_of arena points overrides d.flags c log) (edit e)
-  pub keeps : Keeps v (whole_of arena points overrides d.flags c log d.undo_sides.items d.redo_sides.items)
+pub record Done (d : Inside) (v : Whole) (e : Edit) (arena : Arena) (points : LivePoints) (overrides : List Setting) (counts : Counts) (c : Command) (trail : Trail) : Type 0 where
+  pub invariant : IsSoundDoc arena points overrides d.flags counts c trail
+  pub gives : Gives (Ok true) v.state (state_of arena points overrides d.flags c trail.log) (edit e)
+  pub keeps : Keeps v (whole_of arena points overrides d.flags c trail)
 
 -- the edit in the terms of the arena: the step that is made, and what the other fields become
 pub record Makes (d : Inside) (e : Edit) (x : Step) (points : LivePoints) (overrides : List Setting) (counts : Counts) (c : Command) : Type 0 where
@@ -69,14 +70,14 @@ gives_applied e s t may is = gives_made e s t may is
 
 module _ (d : Inside) (v : Whole) (is : seen d ≡ v) (law : IsArena d.arena) (now_open : IsOpen v) (ok : OkInside d) where
   module _ (e : Edit) (x : Step) (points : LivePoints) (overrides : List Setting) (counts : Counts) (c : Command) (may : is_made_edit e (freed v.state) ≡ true) (m : Makes d e x points overrides counts c) where
-    opened : IsTrue (is_open d.log.open_entry)
+    opened : IsTrue (is_open d.history.log.open_entry)
     opened = open_of d v is now_open
 
     abbrev f : Forest Content
     f = applied (change_of x) d.arena.trees
 
     abbrev next : State
-    next = seen_next d.arena d.points d.overrides.items d.flags d.counts d.command d.log d.undo_sides.items d.redo_sides.items d.undo_sides.capacity d.redo_sides.capacity law opened ok x m.fits m.seen c m.follows points overrides
+    next = seen_next d.arena d.points d.overrides.items d.flags d.counts d.command d.history law opened ok x m.fits m.seen c m.follows points overrides
 
     may_seen : is_made_edit e (freed (seen d).state) ≡ true
     may_seen = subst (λ (w : Whole). is_made_edit e (freed w.state) ≡ true) (sym is) may
@@ -87,23 +88,23 @@ module _ (d : Inside) (v : Whole) (is : seen d ≡ v) (law : IsArena d.arena) (n
       trees = m.trees i;
       points = m.points_are i;
       overrides = m.overrides_are i;
-      edits = edits_before (noted d.log.open_entry) d.arena.trees ++ m.change i ∷ [];
+      edits = edits_before (noted d.history.log.open_entry) d.arena.trees ++ m.change i ∷ [];
     }
 
     valid_next : IsValid next
     valid_next = subst IsValid (sym (next_is)) (valid_applied e (seen d).state ok.valid may_seen)
 
-    state_is : state_of (record d.arena { trees = f }) points overrides d.flags c (with_step d.log (step_inverse x d.arena)) ≡ next
-    state_is = state_next d.arena d.points d.overrides.items d.flags d.counts d.command d.log d.undo_sides.items d.redo_sides.items d.undo_sides.capacity d.redo_sides.capacity law opened ok x m.fits m.seen c m.follows points overrides m.names
+    state_is : state_of (record d.arena { trees = f }) points overrides d.flags c (with_step d.history.log (step_inverse x d.arena)) ≡ next
+    state_is = state_next d.arena d.points d.overrides.items d.flags d.counts d.command d.history law opened ok x m.fits m.seen c m.follows points overrides m.names
 
-    whole_is : whole_of (record d.arena { trees = f }) points overrides d.flags c (with_step d.log (step_inverse x d.arena)) d.undo_sides.items d.redo_sides.items ≡ with_state (seen d) next
-    whole_is = whole_next d.arena d.points d.overrides.items d.flags d.counts d.command d.log d.undo_sides.items d.redo_sides.items d.undo_sides.capacity d.redo_sides.capacity law opened ok x m.fits m.seen c m.follows points overrides m.names
+    whole_is : whole_of (record d.arena { trees = f }) points overrides d.flags c (with_note d.history (step_inverse x d.arena)) ≡ with_state (seen d) next
+    whole_is = whole_next d.arena d.points d.overrides.items d.flags d.counts d.command d.history law opened ok x m.fits m.seen c m.follows points overrides m.names
 
     keeps_seen : Keeps (seen d) (with_state (seen d) next)
     keeps_seen = record {
       held = λ r h. record {
         slot = h.slot;
-        here = (let down = goes d.arena d.points d.overrides.items d.flags d.counts d.command d.log d.undo_sides.items d.redo_sides.items d.undo_sides.capacity d.redo_sides.capacity law opened ok x m.fits m.seen in
+        here = (let down = goes d.arena d.points d.overrides.items d.flags d.counts d.command d.history law opened ok x m.fits m.seen in
             let same = count_of-applied (change_of x) (pruned (out_of d) d.arena.trees) down.fits r.label in let here = h.here in omega (arith, same, here));
       };
       history = refl;
@@ -112,25 +113,25 @@ module _ (d : Inside) (v : Whole) (is : seen d ≡ v) (law : IsArena d.arena) (n
       cap = refl;
     }
 
-    applied_here : Applied d v e (record d.arena { trees = f }) points overrides counts c (with_step d.log (step_inverse x d.arena))
+    applied_here : Applied d v e (record d.arena { trees = f }) points overrides counts c (with_note d.history (step_inverse x d.arena))
     applied_here = record {
-      invariant = sound_next d.arena d.points d.overrides.items d.flags d.counts d.command d.log d.undo_sides.items d.redo_sides.items d.undo_sides.capacity d.redo_sides.capacity law opened ok x m.fits m.seen c m.follows points overrides m.names counts valid_next m.nodes m.chars m.depth;
+      invariant = sound_next d.arena d.points d.overrides.items d.flags d.counts d.command d.history law opened ok x m.fits m.seen c m.follows points overrides m.names counts valid_next m.nodes m.chars m.depth;
       state = state_is ∙ (next_is ∙ ap (λ (w : Whole). edit_applied e w.state) is);
-      keeps = subst (λ w. Keeps w (whole_of (record d.arena { trees = f }) points overrides d.flags c (with_step d.log (step_inverse x d.arena)) d.undo_sides.items d.redo_sides.items)) is (subst (Keeps (seen d)) (sym whole_is) keeps_seen);
+      keeps = subst (λ w. Keeps w (whole_of (record d.arena { trees = f }) points overrides d.flags c (with_note d.history (step_inverse x d.arena)))) is (subst (Keeps (seen d)) (sym whole_is) keeps_seen);
     }
 
     -- the same of what the calls that make it leave
-    pub edit_linked : (arena : Arena) (log : Log Step) → arena ≡ step_applied x d.arena → log ≡ with_step d.log (step_inverse x d.arena) → Applied d v e arena points overrides counts c log
+    pub edit_linked : (arena : Arena) (trail : Trail) → arena ≡ step_applied x d.arena → trail ≡ with_note d.history (step_inverse x d.arena) → Applied d v e arena points overrides counts c trail
     unfolding step_applied
-    edit_linked arena log arena_is log_is =
-        subst (λ l. Applied d v e arena points overrides counts c l) (sym log_is) (subst (λ a. Applied d v e a points overrides counts c (with_step d.log (step_inverse x d.arena))) (sym arena_is) applied_here)
+    edit_linked arena trail arena_is trail_is =
+        subst (λ l. Applied d v e arena points overrides counts c l) (sym trail_is) (subst (λ a. Applied d v e a points overrides counts c (with_note d.history (step_inverse x d.arena))) (sym arena_is) applied_here)
 
   -- and where the test was made
   module _ (e : Edit) (x : Step) (points : LivePoints) (overrides : List Setting) (counts : Counts) (c : Command) (may : is_made_edit e v.state ≡ true) (m : Makes d e x points overrides counts c) where
-    pub edit_called : (arena : Arena) (log : Log Step) → arena ≡ step_applied x d.arena → log ≡ with_step d.log (step_inverse x d.arena) → Done d v e arena points overrides counts c log
-    edit_called arena log arena_is log_is =
-        let a = edit_linked e x points overrides counts c (freed_edit e v.state may) m arena log arena_is log_is in
-        record { invariant = a.invariant; gives = gives_applied e v.state (state_of arena points overrides d.flags c log) may a.state; keeps = a.keeps }
+    pub edit_called : (arena : Arena) (trail : Trail) → arena ≡ step_applied x d.arena → trail ≡ with_note d.history (step_inverse x d.arena) → Done d v e arena points overrides counts c trail
+    edit_called arena trail arena_is trail_is =
+        let a = edit_linked e x points overrides counts c (freed_edit e v.state may) m arena trail arena_is trail_is in
+        record { invariant = a.invariant; gives = gives_applied e v.state (state_of arena points overrides d.flags c trail.log) may a.state; keeps = a.keeps }
 
 pub keeps_same : (v : Whole) → Keeps v v
 keeps_same v = record { held = λ r h. h; history = refl; began = refl; start = refl; cap = refl }

@@ -11,10 +11,10 @@ use Rattle.edit_doc.specs.History.{whole_of, began_with}
 use Rattle.edit_doc.specs.Sound.{IsSoundDoc}
 
 abbrev pub seen : Inside → Whole
-seen d = whole_of d.arena d.points d.overrides.items d.flags d.command d.log d.undo_sides.items d.redo_sides.items
+seen d = whole_of d.arena d.points d.overrides.items d.flags d.command d.history
 
 abbrev pub Ok : Inside → Type 0
-Ok d = IsSoundDoc d.arena d.points d.overrides.items d.flags d.counts d.command d.log d.undo_sides.items d.redo_sides.items d.undo_sides.capacity d.redo_sides.capacity
+Ok d = IsSoundDoc d.arena d.points d.overrides.items d.flags d.counts d.command d.history
 
 closed_in : (s : State) (o : Open Step) → began_with s o ≡ None → o ≡ Closed
 closed_in s Closed e = refl
@@ -27,8 +27,8 @@ open_in s (Begun xs) h = refl
 open_in s (Resumed xs) h = refl
 
 -- where the value has no command, no entry is open
-pub closed_of : (d : Inside) (v : Whole) → seen d ≡ v → IsClosed v → d.log.open_entry ≡ Closed
-closed_of d v is h = closed_in _ d.log.open_entry (ap (λ (w : Whole). w.began) is ∙ h)
+pub closed_of : (d : Inside) (v : Whole) → seen d ≡ v → IsClosed v → d.history.log.open_entry ≡ Closed
+closed_of d v is h = closed_in _ d.history.log.open_entry (ap (λ (w : Whole). w.began) is ∙ h)
 
-pub open_of : (d : Inside) (v : Whole) → seen d ≡ v → IsOpen v → IsTrue (is_open d.log.open_entry)
-open_of d v is h = open_in _ d.log.open_entry (subst (λ (w : Whole). IsSome w.began) (sym is) h)
+pub open_of : (d : Inside) (v : Whole) → seen d ≡ v → IsOpen v → IsTrue (is_open d.history.log.open_entry)
+open_of d v is h = open_in _ d.history.log.open_entry (subst (λ (w : Whole). IsSome w.began) (sym is) h)

@@ -13,7 +13,6 @@ use Rattle.node_arena.specs.Held.{label}
 use Rattle.live_range.specs.PointsEdit as range
 use Rattle.live_range.specs.LivePoints.{LivePoints, Fits, mapped}
 use Rattle.point_order.specs.PointOrder.{is_in_document}
-use Rattle.undo_log.specs.Log.{Log, with_step}
 use Rattle.forest_changes.specs.Change.{applied}
 use Rattle.forest_changes.specs.Named.{Each, named}
 use Rattle.forest_changes.specs.Down.{IsLeft}
@@ -40,6 +39,7 @@ use Rattle.edit_doc.specs.Fields.{IsRaised, with_more}
 use Rattle.edit_doc.specs.Whole.{Whole, IsOpen}
 use Rattle.edit_doc.specs.Held.{Holds, IfHeld}
 use Rattle.edit_doc.specs.Marks.{Marks, place_labels}
+use Rattle.edit_doc.specs.Trail.{Trail, with_note}
 use Rattle.edit_doc.proofs.Inner.{seen, Ok}
 use Rattle.edit_doc.proofs.SeenNodes.{out_of, held_seen, is_parent_seen}
 use Rattle.edit_doc.proofs.Rests.{arena_forest}
@@ -166,7 +166,7 @@ module _ (d : Inside) (v : Whole) (is : seen d ≡ v) (law : IsArena d.arena) (s
       module _ (overrides : List Setting) (overrides_are : overrides ≡ settled f d.points arena.trees points d.overrides.items) (enters : Bool) (enters_is : enters ≡ is_in_document f p) (counts : Counts)
           (nodes_are : counts.nodes ≡ with_more enters d.counts.nodes (total (λ _ _. 1) (tree_of f n))) (chars_are : counts.chars ≡ with_more enters d.counts.chars (total (λ _ c. words_length c) (tree_of f n)))
           (raised : IsRaised f p n enters d.counts.depth counts.depth)
-          (c : Command) (m : Marks (place_labels node parent before) d.command c) (log : Log Step) (log_is : log ≡ with_step d.log (step_inverse x d.arena)) where
+          (c : Command) (m : Marks (place_labels node parent before) d.command c) (trail : Trail) (trail_is : trail ≡ with_note d.history (step_inverse x d.arena)) where
         makes : Makes d (Insert p b n) x points overrides counts c
         unfolding applied edit_change
         makes = record {
@@ -183,5 +183,5 @@ module _ (d : Inside) (v : Whole) (is : seen d ≡ v) (law : IsArena d.arena) (s
           depth = depth_is enters enters_is counts.depth raised;
         }
 
-        pub link_done : Applied d v (Insert p (label_of before) n) arena points overrides counts c log
-        link_done = subst (λ o. Applied d v (Insert p o n) arena points overrides counts c log) (labels_same before) (edit_linked d v is law now_open ok (Insert p b n) x points overrides counts c made makes arena log arena_is log_is)
+        pub link_done : Applied d v (Insert p (label_of before) n) arena points overrides counts c trail
+        link_done = subst (λ o. Applied d v (Insert p o n) arena points overrides counts c trail) (labels_same before) (edit_linked d v is law now_open ok (Insert p b n) x points overrides counts c made makes arena trail arena_is trail_is)

@@ -1,5 +1,5 @@
 -- A command with an edit joins the entry that it resumed.
-use Rattle.std.proofs.Common.{◌≡◌, ℕ, ◌<◌, ◌≤◌, Bool, true, false, List, [], ◌∷◌, ◌++◌, length, take, Option, refl, sym, ap, subst, ◌∙◌, arith, length-append, inl, inr}
+use Rattle.std.proofs.Common.{◌≡◌, ℕ, ◌<◌, ◌≤◌, Bool, true, false, List, [], ◌∷◌, ◌++◌, length, take, Option, refl, sym, ap, subst, ◌∙◌, arith, inl, inr}
 use Rattle.std.specs.Prelude.{IsTrue}
 use Rattle.std.proofs.lemmas.List.{map-append}
 use Rattle.dom_model.specs.declared.Content.{Content}
@@ -31,6 +31,7 @@ use Rattle.edit_doc.specs.GivingUp.{loose_roots}
 use Rattle.edit_doc.specs.Whole.{Whole, history_committed, committed_history}
 use Rattle.edit_doc.specs.History.{forest_before, edits_before, roots_from, is_hidden, begun_forest, state_of, began_with, history_of, undo_entries, redo_entries, view_at}
 use Rattle.edit_doc.specs.Sound.{RefIn, CanGoBack, IsOff, IsSnapshot, UndoSound}
+use Rattle.edit_doc.specs.Trail.{trail_of}
 use Rattle.edit_doc.proofs.GivingUp.{filtered_loose, loose_is, listed_loose, listed_after, listed_before}
 use Rattle.edit_doc.proofs.Off.{Passes, passes_back, off_moved, each_here, each_off}
 use Rattle.live_range.specs.PointsEdit.{has_label}
@@ -86,7 +87,7 @@ joined_recorded s0 Closed w r some = absurd (cc)
 joined_recorded s0 (Begun ys) w r some = absurd (cc)
 joined_recorded s0 (Resumed ys) w r some = rw (some_edits (length w.state.edits) some) refl
 
-module _ (d : Inside) (law : IsArena d.arena) (ok : Ok d) (opened : IsTrue (is_open d.log.open_entry)) (p : Places) (resting : AreResting d.points p) (c : Command) (ended : IsEnded d.arena.next c) where
+module _ (d : Inside) (law : IsArena d.arena) (ok : Ok d) (opened : IsTrue (is_open d.history.log.open_entry)) (p : Places) (resting : AreResting d.points p) (c : Command) (ended : IsEnded d.arena.next c) where
   abbrev steps : List Step
   steps = xs d law ok opened
 
@@ -282,28 +283,28 @@ module _ (d : Inside) (law : IsArena d.arena) (ok : Ok d) (opened : IsTrue (is_o
         made = nodes i;
       } ∷ undo_entries d.points.names (join i) es (enters.0 i)
 
-  module _ (resumed : is_resumed d.log.open_entry ≡ true) (us : List EntrySnapshot) (out : Option EntrySnapshot) (enters : Enters d.command (loose_roots d.arena.trees d.command.detached.items) p d.counts d.undo_sides.capacity d.undo_sides.items us out) where
-    pub entering : EntersIn true (made_sides d.command p d.counts) detached_now p d.counts d.undo_sides.capacity d.undo_sides.items us out
-    entering = subst (λ r. EntersIn r (made_sides d.command p d.counts) detached_now p d.counts d.undo_sides.capacity d.undo_sides.items us out) (ok.resumed ∙ resumed) enters
+  module _ (resumed : is_resumed d.history.log.open_entry ≡ true) (us : List EntrySnapshot) (out : Option EntrySnapshot) (enters : Enters d.command (loose_roots d.arena.trees d.command.detached.items) p d.counts d.history.log.depth d.history.past us out) where
+    pub entering : EntersIn true (made_sides d.command p d.counts) detached_now p d.counts d.history.log.depth d.history.past us out
+    entering = subst (λ r. EntersIn r (made_sides d.command p d.counts) detached_now p d.counts d.history.log.depth d.history.past us out) (ok.resumed ∙ resumed) enters
 
-    pub joined_sound : UndoSound d.arena.held d.points.names false c d.arena.next now (joined d.log.undo steps) us
+    pub joined_sound : UndoSound d.arena.held d.points.names false c d.arena.next now (joined d.history.log.undo steps) us
     joined_sound =
         let up = high d law ok opened p resting in
-        joined_undo up d.undo_sides.capacity (made_sides d.command p d.counts) d.log.undo d.undo_sides.items us out (high_le d law ok opened p resting) entering
-        (subst (λ r. UndoSound d.arena.held d.points.names r d.command up begun d.log.undo d.undo_sides.items) (ok.resumed ∙ resumed) ok.undo)
+        joined_undo up d.history.log.depth (made_sides d.command p d.counts) d.history.log.undo d.history.past us out (high_le d law ok opened p resting) entering
+        (subst (λ r. UndoSound d.arena.held d.points.names r d.command up begun d.history.log.undo d.history.past) (ok.resumed ∙ resumed) ok.undo)
 
-    pub joined_history_is : d.log.redo ≡ [] → 0 < length steps → (v : Whole) → seen d ≡ v →
-        history_of d.points.names now (record d.log { undo = joined d.log.undo steps; open_entry = Closed }) us [] ≡ history_committed v
+    pub joined_history_is : d.history.log.redo ≡ [] → 0 < length steps → (v : Whole) → seen d ≡ v →
+        history_of d.points.names now (trail_of (record d.history.log { undo = joined d.history.log.undo steps; open_entry = Closed }) us []) ≡ history_committed v
     unfolding history_committed
     joined_history_is nothing some v sees =
         (λ i. record {
-          undo = joined_entries (high d law ok opened p resting) d.undo_sides.capacity (made_sides d.command p d.counts) d.log.undo d.undo_sides.items us out (high_le d law ok opened p resting) entering
-              (subst (λ r. UndoSound d.arena.held d.points.names r d.command (high d law ok opened p resting) begun d.log.undo d.undo_sides.items) (ok.resumed ∙ resumed) ok.undo) i;
-          redo = (ap (λ es. redo_entries d.points.names now es []) nothing ∙ sym (ap (λ es. redo_entries d.points.names begun es d.redo_sides.items) nothing)) i;
-          depth = d.log.depth;
-          dropped = d.log.dropped;
+          undo = joined_entries (high d law ok opened p resting) d.history.log.depth (made_sides d.command p d.counts) d.history.log.undo d.history.past us out (high_le d law ok opened p resting) entering
+              (subst (λ r. UndoSound d.arena.held d.points.names r d.command (high d law ok opened p resting) begun d.history.log.undo d.history.past) (ok.resumed ∙ resumed) ok.undo) i;
+          redo = (ap (λ es. redo_entries d.points.names now es []) nothing ∙ sym (ap (λ es. redo_entries d.points.names begun es d.history.future) nothing)) i;
+          depth = d.history.log.depth;
+          dropped = d.history.log.dropped;
         })
-        ∙ (sym (joined_recorded (state_before d law ok opened p resting) d.log.open_entry (seen d) resumed (subst (λ n. 0 < n) (sym (count_edits steps d.arena.trees)) some)) ∙ ap history_committed sees)
+        ∙ (sym (joined_recorded (state_before d law ok opened p resting) d.history.log.open_entry (seen d) resumed (subst (λ n. 0 < n) (sym (count_edits steps d.arena.trees)) some)) ∙ ap history_committed sees)
 
 -- ---- either way
 
@@ -311,25 +312,25 @@ pub true_is : (b : Bool) → b ≡ true → IsTrue b
 true_is true e = refl
 true_is false e = absurd (cc)
 
-module _ (d : Inside) (law : IsArena d.arena) (ok : Ok d) (opened : IsTrue (is_open d.log.open_entry)) (p : Places) (resting : AreResting d.points p) (logged : IsLog d.log) (some : 0 < length (noted d.log.open_entry)) (c : Command) (ended : IsEnded d.arena.next c) (us : List EntrySnapshot) (out : Option EntrySnapshot) (enters : Enters d.command (loose_roots d.arena.trees d.command.detached.items) p d.counts d.undo_sides.capacity d.undo_sides.items us out) where
+module _ (d : Inside) (law : IsArena d.arena) (ok : Ok d) (opened : IsTrue (is_open d.history.log.open_entry)) (p : Places) (resting : AreResting d.points p) (logged : IsLog d.history.log) (some : 0 < length (noted d.history.log.open_entry)) (c : Command) (ended : IsEnded d.arena.next c) (us : List EntrySnapshot) (out : Option EntrySnapshot) (enters : Enters d.command (loose_roots d.arena.trees d.command.detached.items) p d.counts d.history.log.depth d.history.past us out) where
   record Recorded (log : Log Step) : Type 0 where
     closed : log.open_entry ≡ Closed
     redo : log.redo ≡ []
-    depth : log.depth ≡ d.log.depth
+    depth : log.depth ≡ d.history.log.depth
     undo : UndoSound d.arena.held d.points.names false c d.arena.next d.arena.trees log.undo us
-    history : (v : Whole) → seen d ≡ v → history_of d.points.names d.arena.trees log us [] ≡ history_committed v
+    history : (v : Whole) → seen d ≡ v → history_of d.points.names d.arena.trees (trail_of log us []) ≡ history_committed v
 
-  recorded_is : Recorded (committed d.log)
-  recorded_is = elim (true_or_false (is_resumed d.log.open_entry)) [
-    | inl r ↦ (let nothing = (logged.resumes_last (true_is (is_resumed d.log.open_entry) r)).1 in
-        subst Recorded (sym (committed_joined d.log d.log.open_entry r)) (record {
+  recorded_is : Recorded (committed d.history.log)
+  recorded_is = elim (true_or_false (is_resumed d.history.log.open_entry)) [
+    | inl r ↦ (let nothing = (logged.resumes_last (true_is (is_resumed d.history.log.open_entry) r)).1 in
+        subst Recorded (sym (committed_joined d.history.log d.history.log.open_entry r)) (record {
           closed = refl;
           redo = nothing;
           depth = refl;
           undo = joined_sound d law ok opened p resting c ended r us out enters;
           history = λ v sees. joined_history_is d law ok opened p resting c ended r us out enters nothing some v sees;
         }))
-    | inr r ↦ subst Recorded (sym (committed_made d.log d.log.open_entry opened r some)) (record {
+    | inr r ↦ subst Recorded (sym (committed_made d.history.log d.history.log.open_entry opened r some)) (record {
       closed = refl;
       redo = refl;
       depth = refl;
@@ -338,18 +339,18 @@ module _ (d : Inside) (law : IsArena d.arena) (ok : Ok d) (opened : IsTrue (is_o
     })
   ]
 
-  module _ (log : Log Step) (is : log ≡ committed d.log) where
+  module _ (log : Log Step) (is : log ≡ committed d.history.log) where
     here : Recorded log
     here = subst Recorded (sym is) recorded_is
 
     pub entry_redo : log.redo ≡ []
     entry_redo = here.redo
 
-    pub entry_rests : AtRest d.arena (shown d.points.names p) d.overrides.items d.flags d.counts c log us [] d.undo_sides.capacity d.redo_sides.capacity
+    pub entry_rests : AtRest d.arena (shown d.points.names p) d.overrides.items d.flags d.counts c (trail_of log us [])
     entry_rests = ends d law ok opened p resting log here.closed here.redo here.depth us c ended here.undo
 
     pub entry_state : (v : Whole) → seen d ≡ v → state_of d.arena (shown d.points.names p) d.overrides.items d.flags c log ≡ rested v.state
     entry_state v sees = recorded_state d law ok opened p resting log here.closed here.redo here.depth us c ended here.undo v sees
 
-    pub entry_history : (v : Whole) → seen d ≡ v → history_of d.points.names (begun_forest log d.arena.trees) log us [] ≡ history_committed v
-    entry_history v sees = ap (λ f. history_of d.points.names f log us []) (none_noted log d.arena.trees (ap noted here.closed)) ∙ here.history v sees
+    pub entry_history : (v : Whole) → seen d ≡ v → history_of d.points.names (begun_forest log d.arena.trees) (trail_of log us []) ≡ history_committed v
+    entry_history v sees = ap (λ f. history_of d.points.names f (trail_of log us [])) (none_noted log d.arena.trees (ap noted here.closed)) ∙ here.history v sees

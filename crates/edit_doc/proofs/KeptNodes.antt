@@ -88,32 +88,32 @@ module _ (f : Forest Content) (r : ℕ) where
     | inl h ↦ elim (entries_or es) [ inl t ↦ inl (h, t) | inr t ↦ inr (t.0, inr t.1, t.2) ]
   ]
 
-module _ (d : Inside) (law : IsArena d.arena) (slotted : IsSlotted d.arena) (closed : d.log.open_entry ≡ Closed) (ok : Ok d) where
+module _ (d : Inside) (law : IsArena d.arena) (slotted : IsSlotted d.arena) (closed : d.history.log.open_entry ≡ Closed) (ok : Ok d) where
   abbrev f : Forest Content
-  f = begun_forest d.log d.arena.trees
+  f = begun_forest d.history.log d.arena.trees
 
   is : f ≡ d.arena.trees
-  is = none_noted d.log d.arena.trees (ap noted closed)
+  is = none_noted d.history.log d.arena.trees (ap noted closed)
 
-  rests : AtRest d.arena d.points d.overrides.items d.flags d.counts d.command d.log d.undo_sides.items d.redo_sides.items d.undo_sides.capacity d.redo_sides.capacity
-  rests = rest_of d.arena d.points d.overrides.items d.flags d.counts d.command d.log d.undo_sides.items d.redo_sides.items d.undo_sides.capacity d.redo_sides.capacity law closed ok
+  rests : AtRest d.arena d.points d.overrides.items d.flags d.counts d.command d.history
+  rests = rest_of d.arena d.points d.overrides.items d.flags d.counts d.command d.history law closed ok
 
   once : IsDistinct f
   once = subst (λ t. IsDistinct t) (sym is) law.distinct
 
   abbrev undone : List (List Change)
-  undone = map changes_of d.log.undo
+  undone = map changes_of d.history.log.undo
 
   abbrev redone : List (List Change)
-  redone = map changes_of d.log.redo
+  redone = map changes_of d.history.log.redo
 
   in_tree : (l r : ℕ) → 0 < times (tops f) r → IsWithin f r l → (n : ℕ) → r ≡ n → IsWithin f 0 l ⊎ ((r : ℕ) × (m : ℕ) × AreInTree f r l m × (IsNamed undone m ⊎ IsNamed redone m))
   in_tree l r top within zero e = inl (subst (λ n. IsWithin f n l) e within)
   in_tree l r top within (suc n) e =
       let loose = top_loose f r once top in
-      elim (entries_or f r d.log.undo) [
+      elim (entries_or f r d.history.log.undo) [
         | inr h ↦ inr (r, h.0, record { root = loose; has = within; has_too = h.2 }, inl h.1)
-        | inl h ↦ elim (entries_or f r d.log.redo) [
+        | inl h ↦ elim (entries_or f r d.history.log.redo) [
           | inr t ↦ inr (r, t.0, record { root = loose; has = within; has_too = t.2 }, inr t.1)
           | inl t ↦ absurd (
               let below = law.below r (subst (λ g. 0 < count_of g r) is (omega (arith, top, times-tops f r))) in
@@ -129,11 +129,11 @@ module _ (d : Inside) (law : IsArena d.arena) (slotted : IsSlotted d.arena) (clo
     redone,
     record {
       forest = subst (λ t. IsForest t) (sym is) (forest_of d.arena law);
-      document = ap document_of is ∙ sym (trees_are d.arena d.points d.overrides.items d.flags d.counts d.command d.log d.undo_sides.items d.redo_sides.items d.undo_sides.capacity d.redo_sides.capacity law closed rests.idle.start);
+      document = ap document_of is ∙ sym (trees_are d.arena d.points d.overrides.items d.flags d.counts d.command d.history law closed rests.idle.start);
       held = λ slot l h. subst (λ t. 0 < count_of t l) (sym is) (law.here slot l h);
       slotted = λ l here. slotted.kept l (subst (λ t. 0 < count_of t l) is here);
-      undo = lead_back d.arena.held d.points.names d.command d.command.resumed (next_first d.command.start d.redo_sides.items) f d.log.undo d.undo_sides.items ok.undo;
-      redo = lead_forth d.arena.held d.points.names d.command f d.log.redo d.redo_sides.items ok.redo;
+      undo = lead_back d.arena.held d.points.names d.command d.command.resumed (next_first d.command.start d.history.future) f d.history.log.undo d.history.past ok.undo;
+      redo = lead_forth d.arena.held d.points.names d.command f d.history.log.redo d.history.future ok.redo;
       needed = λ l here. (let t = root_over f l once here in in_tree l t.0 t.1 t.2 t.0 refl);
     },
   )

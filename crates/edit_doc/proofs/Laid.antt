@@ -57,35 +57,35 @@ redo_first_edits names f (e ∷ es) [] h = absurd (omega arith)
 redo_first_edits names f (e ∷ es) (b ∷ bs) h = count_changes e
 
 module _ (d : Inside) (v : Whole) (is : seen d ≡ v) (ok : Ok d) where
-  us_length : length d.undo_sides.items ≡ length d.log.undo
-  us_length = undo_sides_length d.arena.held d.points.names d.command d.command.resumed (next_first d.command.start d.redo_sides.items) (begun_forest d.log d.arena.trees) d.log.undo d.undo_sides.items ok.undo
+  us_length : length d.history.past ≡ length d.history.log.undo
+  us_length = undo_sides_length d.arena.held d.points.names d.command d.command.resumed (next_first d.command.start d.history.future) (begun_forest d.history.log d.arena.trees) d.history.log.undo d.history.past ok.undo
 
-  rs_length : length d.redo_sides.items ≡ length d.log.redo
-  rs_length = redo_sides_length d.arena.held d.points.names d.command (begun_forest d.log d.arena.trees) d.log.redo d.redo_sides.items ok.redo
+  rs_length : length d.history.future ≡ length d.history.log.redo
+  rs_length = redo_sides_length d.arena.held d.points.names d.command (begun_forest d.history.log d.arena.trees) d.history.log.redo d.history.future ok.redo
 
-  pub undo_count : length d.log.undo ≡ length v.history.undo
-  undo_count = sym (undo_entries_length d.points.names (begun_forest d.log d.arena.trees) d.log.undo d.undo_sides.items us_length) ∙ ap (λ (w : Whole). length w.history.undo) is
+  pub undo_count : length d.history.log.undo ≡ length v.history.undo
+  undo_count = sym (undo_entries_length d.points.names (begun_forest d.history.log d.arena.trees) d.history.log.undo d.history.past us_length) ∙ ap (λ (w : Whole). length w.history.undo) is
 
-  pub redo_count : length d.log.redo ≡ length v.history.redo
-  redo_count = sym (redo_entries_length d.points.names (begun_forest d.log d.arena.trees) d.log.redo d.redo_sides.items rs_length) ∙ ap (λ (w : Whole). length w.history.redo) is
+  pub redo_count : length d.history.log.redo ≡ length v.history.redo
+  redo_count = sym (redo_entries_length d.points.names (begun_forest d.history.log d.arena.trees) d.history.log.redo d.history.future rs_length) ∙ ap (λ (w : Whole). length w.history.redo) is
 
-  pub undo_edits : first_length d.log.undo ≡ first_edits v.history.undo
-  undo_edits = sym (undo_first_edits d.points.names (begun_forest d.log d.arena.trees) d.log.undo d.undo_sides.items us_length) ∙ ap (λ (w : Whole). first_edits w.history.undo) is
+  pub undo_edits : first_length d.history.log.undo ≡ first_edits v.history.undo
+  undo_edits = sym (undo_first_edits d.points.names (begun_forest d.history.log d.arena.trees) d.history.log.undo d.history.past us_length) ∙ ap (λ (w : Whole). first_edits w.history.undo) is
 
-  pub redo_edits : first_length d.log.redo ≡ first_edits v.history.redo
-  redo_edits = sym (redo_first_edits d.points.names (begun_forest d.log d.arena.trees) d.log.redo d.redo_sides.items rs_length) ∙ ap (λ (w : Whole). first_edits w.history.redo) is
+  pub redo_edits : first_length d.history.log.redo ≡ first_edits v.history.redo
+  redo_edits = sym (redo_first_edits d.points.names (begun_forest d.history.log d.arena.trees) d.history.log.redo d.history.future rs_length) ∙ ap (λ (w : Whole). first_edits w.history.redo) is
 
   nil : {A : Type 0} (xs : List A) → length xs ≡ 0 → xs ≡ []
   nil [] e = refl
   nil (x ∷ xs) e = absurd (omega (arith, e))
 
   -- whether the last entry can be resumed
-  pub resume_answer : (b : Bool) → (IsTrue b ↔ ((0 < length d.log.undo) × (d.log.redo ≡ []))) → IsTrue b ↔ ((0 < length v.history.undo) × (v.history.redo ≡ []))
+  pub resume_answer : (b : Bool) → (IsTrue b ↔ ((0 < length d.history.log.undo) × (d.history.log.redo ≡ []))) → IsTrue b ↔ ((0 < length v.history.undo) × (v.history.redo ≡ []))
   resume_answer b a =
       let n = undo_count in
       let m = redo_count in (
         λ t. (let h = a.0 t in let some = h.0 in let none = ap length h.1 in (omega (arith, n, some), nil v.history.redo (omega (arith, m, none)))),
-        λ h. a.1 (let some = h.0 in let none = ap length h.1 in (omega (arith, n, some), nil d.log.redo (omega (arith, m, none)))),
+        λ h. a.1 (let some = h.0 in let none = ap length h.1 in (omega (arith, n, some), nil d.history.log.redo (omega (arith, m, none)))),
       )
 
 -- ---- what a command's fields say of the history

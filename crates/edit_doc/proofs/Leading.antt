@@ -157,15 +157,15 @@ module _ (names : List (List ℕ)) where
         let known = s.known in
         record { below = document_old f b.sides.first_label is s.some_label s.fresh; known = omega arith }
 
-module _ (d : Inside) (law : IsArena d.arena) (closed : d.log.open_entry ≡ Closed) (ok : Ok d) where
+module _ (d : Inside) (law : IsArena d.arena) (closed : d.history.log.open_entry ≡ Closed) (ok : Ok d) where
   abbrev f : Forest Content
-  f = begun_forest d.log d.arena.trees
+  f = begun_forest d.history.log d.arena.trees
 
   is : f ≡ d.arena.trees
-  is = none_noted d.log d.arena.trees (ap noted closed)
+  is = none_noted d.history.log d.arena.trees (ap noted closed)
 
-  rests : AtRest d.arena d.points d.overrides.items d.flags d.counts d.command d.log d.undo_sides.items d.redo_sides.items d.undo_sides.capacity d.redo_sides.capacity
-  rests = rest_of d.arena d.points d.overrides.items d.flags d.counts d.command d.log d.undo_sides.items d.redo_sides.items d.undo_sides.capacity d.redo_sides.capacity law closed ok
+  rests : AtRest d.arena d.points d.overrides.items d.flags d.counts d.command d.history
+  rests = rest_of d.arena d.points d.overrides.items d.flags d.counts d.command d.history law closed ok
 
   pub has_led : (v : Whole) → seen d ≡ v → HasLedOnward v
   has_led v sees =
@@ -173,12 +173,12 @@ module _ (d : Inside) (law : IsArena d.arena) (closed : d.log.open_entry ≡ Clo
       let start : c.start ≡ d.arena.next = rests.idle.start in
       let forest : IsForest f = subst IsForest (sym is) (forest_of d.arena law) in
       let low : IsBelow f c.start = record { below = λ l h. (let below = law.below l (subst (λ (t : Forest Content). 0 < count_of t l) is h) in omega (arith, below, start)) } in
-      let old = redo_old d.points.names d.arena.held c f d.log.redo d.redo_sides.items ok.redo forest low in
-      let led = undo_leads d.points.names d.arena.held c c.resumed (next_first c.start d.redo_sides.items) f d.log.undo d.undo_sides.items ok.undo forest (record { next = c.start; below = low.below }) old.below in
+      let old = redo_old d.points.names d.arena.held c f d.history.log.redo d.history.future ok.redo forest low in
+      let led = undo_leads d.points.names d.arena.held c c.resumed (next_first c.start d.history.future) f d.history.log.undo d.history.past ok.undo forest (record { next = c.start; below = low.below }) old.below in
       let lead = led.2 in
       let known = old.known in
-      let here = ap document_of is ∙ sym (trees_are d.arena d.points d.overrides.items d.flags d.counts d.command d.log d.undo_sides.items d.redo_sides.items d.undo_sides.capacity d.redo_sides.capacity law closed start) in
-      let es = undo_entries d.points.names f d.log.undo d.undo_sides.items in
+      let here = ap document_of is ∙ sym (trees_are d.arena d.points d.overrides.items d.flags d.counts d.command d.history law closed start) in
+      let es = undo_entries d.points.names f d.history.log.undo d.history.past in
       subst (λ (w : Whole). HasLedOnward w) sees (
         led.0,
         led.1,
@@ -187,6 +187,6 @@ module _ (d : Inside) (law : IsArena d.arena) (closed : d.log.open_entry ≡ Clo
           alone = lead.alone;
           below = lead.below;
           onward = subst (λ (w : Forest Content). LeadOnward led.1 led.0 (reverse es) w d.arena.next) here
-              (lead_longer (reverse es) led.1 led.0 (document_of f) (next_first c.start d.redo_sides.items) d.arena.next (omega (arith, known, start)) lead.onward);
+              (lead_longer (reverse es) led.1 led.0 (document_of f) (next_first c.start d.history.future) d.arena.next (omega (arith, known, start)) lead.onward);
         },
       )

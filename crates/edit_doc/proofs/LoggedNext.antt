@@ -1,7 +1,7 @@
 -- The entry that redo would take, read from the fields of a document.
 use Rattle.std.proofs.Common.{◌≡◌, ℕ, ◌<◌, ◌≤◌, List, [], ◌∷◌, drop, map, Option, Some, None, Bor, sym, ap, subst, ◌∙◌}
 use Rattle.std.specs.Prelude.{slice_get}
-use Rattle.std.specs.Option.{option_map, option_copied}
+use Rattle.std.specs.Option.{option_map}
 use Rattle.dom_model.specs.declared.Content.{Content}
 use Rattle.dom_model.specs.Forest.{Forest, content_of}
 use Rattle.dom_model.specs.ArenaState.{IsValid as IsArena}
@@ -23,17 +23,17 @@ use Rattle.edit_doc.proofs.Inner.{seen, Ok}
 use Rattle.edit_doc.proofs.LoggedNodes.{contents_seen, edits_same}
 use Rattle.edit_doc.proofs.Rests.{AtRest, rest_of, none_noted}
 
-module _ (d : Inside) (v : Whole) (sees : seen d ≡ v) (law : IsArena d.arena) (closed : d.log.open_entry ≡ Closed) (ok : Ok d) where
+module _ (d : Inside) (v : Whole) (sees : seen d ≡ v) (law : IsArena d.arena) (closed : d.history.log.open_entry ≡ Closed) (ok : Ok d) where
   abbrev f : Forest Content
   f = d.arena.trees
 
-  rests : AtRest d.arena d.points d.overrides.items d.flags d.counts d.command d.log d.undo_sides.items d.redo_sides.items d.undo_sides.capacity d.redo_sides.capacity
-  rests = rest_of d.arena d.points d.overrides.items d.flags d.counts d.command d.log d.undo_sides.items d.redo_sides.items d.undo_sides.capacity d.redo_sides.capacity law closed ok
+  rests : AtRest d.arena d.points d.overrides.items d.flags d.counts d.command d.history
+  rests = rest_of d.arena d.points d.overrides.items d.flags d.counts d.command d.history law closed ok
 
-  entries_are : v.history.redo ≡ redo_entries d.points.names f d.log.redo d.redo_sides.items
+  entries_are : v.history.redo ≡ redo_entries d.points.names f d.history.log.redo d.history.future
   entries_are =
       ap (λ (w : Whole). w.history.redo) (sym sees)
-      ∙ ap (λ g. redo_entries d.points.names g d.log.redo d.redo_sides.items) (none_noted d.log f (ap noted closed))
+      ∙ ap (λ g. redo_entries d.points.names g d.history.log.redo d.history.future) (none_noted d.history.log f (ap noted closed))
 
   -- what reading the entry needs, and what it then is
   pub record Next (e : List Step) (first end : ℕ) : Type 0 where
@@ -44,15 +44,13 @@ module _ (d : Inside) (v : Whole) (sees : seen d ≡ v) (law : IsArena d.arena) 
     pub value : (entry : Logged) → entry ≡ logged_with (content_of f) (used (changes_of e) (roots_from first f)) (changes_of e) → option_map logged_entry (slice_get v.history.redo 0) ≡ Some entry
 
   next_in : (es : List (List Step)) (bs : List EntrySnapshot) → RedoSound d.arena.held d.points.names d.command f es bs → v.history.redo ≡ redo_entries d.points.names f es bs →
-      (e : List Step) (b : EntrySnapshot) → slice_get es 0 ≡ Some e → slice_get bs 0 ≡ Some b → Next e b.sides.first_label (next_first d.command.start (drop 1 bs))
-  next_in [] bs h is e b at snapshot = absurd (let t : None ≡ Some e = at in cc)
-  next_in (x ∷ es) [] h is e b at snapshot = absurd h
-  next_in (x ∷ es) (y ∷ bs) h is e b at snapshot =
+      (e : List Step) → slice_get es 0 ≡ Some e → Next e (next_first d.command.start bs) (next_first d.command.start (drop 1 bs))
+  next_in [] bs h is e at = absurd (let t : None ≡ Some e = at in cc)
+  next_in (x ∷ es) [] h is e at = absurd h
+  next_in (x ∷ es) (y ∷ bs) h is e at =
       let here : Some x ≡ Some e = at in
-      let there : Some y ≡ Some b = snapshot in
       let same : x ≡ e = cc in
-      let same' : y ≡ b = cc in
-      subst (λ z. Next z b.sides.first_label (next_first d.command.start bs)) same (subst (λ (z : EntrySnapshot). Next x z.sides.first_label (next_first d.command.start bs)) same' own)
+      subst (λ z. Next z y.sides.first_label (next_first d.command.start bs)) same own
     where
       own : Next x y.sides.first_label (next_first d.command.start bs)
       own = record {
@@ -67,13 +65,10 @@ module _ (d : Inside) (v : Whole) (sees : seen d ≡ v) (law : IsArena d.arena) 
             ∙ ap Some (ap (λ es. record { made = map made_node made; edits = es }) (edits_same _ (content_of f) (changes_of x) seen) ∙ sym eq));
       }
 
-  pub next_of : (e : List Step) (b : EntrySnapshot) → slice_get d.log.redo 0 ≡ Some e → slice_get d.redo_sides.items 0 ≡ Some b → Next e b.sides.first_label (next_first d.command.start (drop 1 d.redo_sides.items))
-  next_of e b = next_in d.log.redo d.redo_sides.items rests.redo entries_are e b
-
-  -- where the code has looked both up
-  pub next_read : (o : Option (Bor (List Step))) (e : Bor (List Step)) (q : Option (Bor EntrySnapshot)) (b : Bor EntrySnapshot) (end : ℕ) →
-      option_map (λ r. r.now) o ≡ slice_get d.log.redo 0 → o ≡ Some e → option_copied q ≡ slice_get d.redo_sides.items 0 → q ≡ Some b → end ≡ next_first d.command.start (drop 1 d.redo_sides.items) →
-      Next e.now b.now.sides.first_label end
-  next_read o e q b end at is snapshot there last =
-      subst (λ n. Next e.now b.now.sides.first_label n) (sym last)
-      (next_of e.now b.now (sym at ∙ ap (option_map (λ (r : Bor (List Step)). r.now)) is) (sym snapshot ∙ ap (λ (r : Option (Bor EntrySnapshot)). option_copied r) there))
+  -- where the code has looked them up
+  pub next_read : (o : Option (Bor (List Step))) (e : Bor (List Step)) (first end : ℕ) →
+      option_map (λ r. r.now) o ≡ slice_get d.history.log.redo 0 → o ≡ Some e → first ≡ next_first d.command.start d.history.future → end ≡ next_first d.command.start (drop 1 d.history.future) →
+      Next e.now first end
+  next_read o e first end at is begins last =
+      subst (λ n. Next e.now n end) (sym begins) (subst (λ n. Next e.now (next_first d.command.start d.history.future) n) (sym last)
+      (next_in d.history.log.redo d.history.future rests.redo entries_are e.now (sym at ∙ ap (option_map (λ (r : Bor (List Step)). r.now)) is)))

@@ -169,22 +169,22 @@ open_marked a old new c g (Resumed xs) closed same runs = absurd (cc)
 none_begun : (s t : State) (o : Open Step) → o ≡ Closed → began_with s o ≡ began_with t o
 none_begun s t o closed = ap (began_with s) closed ∙ sym (ap (began_with t) closed)
 
-module _ (d : Inside) (ok : Ok d) (closed : d.log.open_entry ≡ Closed) (name : List ℕ) (pair : Pair) where
+module _ (d : Inside) (ok : Ok d) (closed : d.history.log.open_entry ≡ Closed) (name : List ℕ) (pair : Pair) where
   abbrev pub points : LivePoints
   points = with_mark name pair d.points
 
   longer : AreLonger d.points.names points.names
   longer = longer_by name pair d.points
 
-  pub marked_ok : IsPlacedPair (seen_trees d.log d.command.start d.arena.trees) pair →
-      IsSoundDoc d.arena points d.overrides.items d.flags d.counts d.command d.log d.undo_sides.items d.redo_sides.items d.undo_sides.capacity d.redo_sides.capacity
+  pub marked_ok : IsPlacedPair (seen_trees d.history.log d.command.start d.arena.trees) pair →
+      IsSoundDoc d.arena points d.overrides.items d.flags d.counts d.command d.history
   marked_ok placed = record {
     valid = record {
       forest = ok.valid.forest;
       placed = record {
         selection = ok.valid.placed.selection;
         scratch = ok.valid.placed.scratch;
-        marks = inserted (IsPlacedPair (seen_trees d.log d.command.start d.arena.trees)) name pair placed d.points.marks ok.valid.placed.marks;
+        marks = inserted (IsPlacedPair (seen_trees d.history.log d.command.start d.arena.trees)) name pair placed d.points.marks ok.valid.placed.marks;
       };
       started = ok.valid.started;
       settings = ok.valid.settings;
@@ -194,27 +194,25 @@ module _ (d : Inside) (ok : Ok d) (closed : d.log.open_entry ≡ Closed) (name :
     chars = ok.chars;
     depth = ok.depth;
     hidden = ok.hidden;
-    running = open_marked d.arena d.points points d.command (begun_forest d.log d.arena.trees) d.log.open_entry closed refl ok.running;
+    running = open_marked d.arena d.points points d.command (begun_forest d.history.log d.arena.trees) d.history.log.open_entry closed refl ok.running;
     resumed = ok.resumed;
     host = ok.host;
-    undo = undo_longer d.points.names points.names longer d.arena.held d.command d.command.resumed (next_first d.command.start d.redo_sides.items) (begun_forest d.log d.arena.trees) d.log.undo d.undo_sides.items ok.undo;
-    redo = redo_longer d.points.names points.names longer d.arena.held d.command (begun_forest d.log d.arena.trees) d.log.redo d.redo_sides.items ok.redo;
+    undo = undo_longer d.points.names points.names longer d.arena.held d.command d.command.resumed (next_first d.command.start d.history.future) (begun_forest d.history.log d.arena.trees) d.history.log.undo d.history.past ok.undo;
+    redo = redo_longer d.points.names points.names longer d.arena.held d.command (begun_forest d.history.log d.arena.trees) d.history.log.redo d.history.future ok.redo;
     needed = ok.needed;
-    us_room_is = ok.us_room_is;
-    rs_room_is = ok.rs_room_is;
   }
 
-  history_same : history_of points.names (begun_forest d.log d.arena.trees) d.log d.undo_sides.items d.redo_sides.items ≡ history_of d.points.names (begun_forest d.log d.arena.trees) d.log d.undo_sides.items d.redo_sides.items
+  history_same : history_of points.names (begun_forest d.history.log d.arena.trees) d.history ≡ history_of d.points.names (begun_forest d.history.log d.arena.trees) d.history
   history_same =
-      let u = undo_same d.points.names points.names longer d.arena.held d.command d.command.resumed (next_first d.command.start d.redo_sides.items) (begun_forest d.log d.arena.trees) d.log.undo d.undo_sides.items ok.undo in
-      let r = redo_same d.points.names points.names longer d.arena.held d.command (begun_forest d.log d.arena.trees) d.log.redo d.redo_sides.items ok.redo in
-      λ i. record { undo = u i; redo = r i; depth = d.log.depth; dropped = d.log.dropped }
+      let u = undo_same d.points.names points.names longer d.arena.held d.command d.command.resumed (next_first d.command.start d.history.future) (begun_forest d.history.log d.arena.trees) d.history.log.undo d.history.past ok.undo in
+      let r = redo_same d.points.names points.names longer d.arena.held d.command (begun_forest d.history.log d.arena.trees) d.history.log.redo d.history.future ok.redo in
+      λ i. record { undo = u i; redo = r i; depth = d.history.log.depth; dropped = d.history.log.dropped }
 
   pub marked_is : (v : Whole) → seen d ≡ v →
-      whole_of d.arena points d.overrides.items d.flags d.command d.log d.undo_sides.items d.redo_sides.items
+      whole_of d.arena points d.overrides.items d.flags d.command d.history
       ≡ with_state v (record v.state { points = with_mark name pair v.state.points })
   marked_is v is =
-      let began = none_begun (begun_state d.arena points.names d.command d.log) (begun_state d.arena d.points.names d.command d.log) d.log.open_entry closed in
-      let here : whole_of d.arena points d.overrides.items d.flags d.command d.log d.undo_sides.items d.redo_sides.items ≡ with_state (seen d) (record (seen d).state { points = points }) =
-      (λ i. record { state = state_of d.arena points d.overrides.items d.flags d.command d.log; history = history_same i; began = began i; held = d.arena.held }) in
+      let began = none_begun (begun_state d.arena points.names d.command d.history.log) (begun_state d.arena d.points.names d.command d.history.log) d.history.log.open_entry closed in
+      let here : whole_of d.arena points d.overrides.items d.flags d.command d.history ≡ with_state (seen d) (record (seen d).state { points = points }) =
+      (λ i. record { state = state_of d.arena points d.overrides.items d.flags d.command d.history.log; history = history_same i; began = began i; held = d.arena.held }) in
       here ∙ ap (λ (w : Whole). with_state w (record w.state { points = with_mark name pair w.state.points })) is

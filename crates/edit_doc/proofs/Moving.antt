@@ -22,7 +22,6 @@ use Rattle.live_range.specs.PointsEdit as range
 use Rattle.live_range.specs.PointsEdit.{has_label}
 use Rattle.live_range.specs.LivePoints.{LivePoints, Fits, mapped, labels_of}
 use Rattle.point_order.specs.PointOrder.{is_in_document}
-use Rattle.undo_log.specs.Log.{Log, with_step}
 use Rattle.forest_changes.specs.Change.{applied, inverse, Fits as ChangeFits}
 use Rattle.dom_model.specs.Change as change
 use Rattle.forest_changes.specs.Named.{Each, listed, named}
@@ -51,6 +50,7 @@ use Rattle.edit_doc.specs.Fields.{IsRaised, with_more}
 use Rattle.edit_doc.specs.Whole.{Whole, IsOpen}
 use Rattle.edit_doc.specs.Held.{Holds, IfHeld}
 use Rattle.edit_doc.specs.Marks.{Marks, IsMarked, AreMarkable, place_labels}
+use Rattle.edit_doc.specs.Trail.{Trail, with_note}
 use Rattle.edit_doc.proofs.Inner.{seen, Ok, open_of}
 use Rattle.edit_doc.proofs.SeenNodes.{out_of, held_seen, parent_seen, index_seen, tree_seen}
 use Rattle.edit_doc.proofs.Rests.{arena_forest}
@@ -233,7 +233,7 @@ module _ (d : Inside) (v : Whole) (is : seen d ≡ v) (law : IsArena d.arena) (s
   }
 
   fits_here : ChangeFits (change.Move n p b) f
-  fits_here = (goes_up (out_of d) (change.Move n p b) f (seen_prunes d.arena d.points d.overrides.items d.flags d.counts d.command d.log d.undo_sides.items d.redo_sides.items d.undo_sides.capacity d.redo_sides.capacity law (open_of d v is now_open) ok) (forest_of d.arena law) fits_seen).0
+  fits_here = (goes_up (out_of d) (change.Move n p b) f (seen_prunes d.arena d.points d.overrides.items d.flags d.counts d.command d.history law (open_of d v is now_open) ok) (forest_of d.arena law) fits_seen).0
 
   can : CanPut (unlink f n) p b n
   can = fits_here.here.1.place
@@ -256,7 +256,7 @@ module _ (d : Inside) (v : Whole) (is : seen d ≡ v) (law : IsArena d.arena) (s
   markable r h =
       let k = held_seen d v is r h in
       let low = law.below r.label (law.here r.slot r.label k.slot) in
-      let marks = (run d.arena d.points d.overrides.items d.flags d.counts d.command d.log d.undo_sides.items d.redo_sides.items d.undo_sides.capacity d.redo_sides.capacity law (open_of d v is now_open) ok).marks in
+      let marks = (run d.arena d.points d.overrides.items d.flags d.counts d.command d.history law (open_of d v is now_open) ok).marks in
       omega (arith, low, marks)
 
   pub place_markable : (a c : NodeRef) (o : Option NodeRef) → Holds v a → Holds v c → IfHeld v o → AreMarkable d.command (place_labels a c o)
@@ -362,7 +362,7 @@ module _ (d : Inside) (v : Whole) (is : seen d ≡ v) (law : IsArena d.arena) (s
       module _ (overrides : List Setting) (overrides_are : overrides ≡ settled f d.points arena.trees points d.overrides.items) (enters : Bool) (enters_is : enters ≡ (not (is_in_document f n) && is_in_document f p)) (counts : Counts)
           (nodes_are : counts.nodes ≡ with_more enters d.counts.nodes (total (λ _ _. 1) (tree_of f n))) (chars_are : counts.chars ≡ with_more enters d.counts.chars (total (λ _ c. words_length c) (tree_of f n)))
           (raised : IsRaised f p n (is_in_document f p) d.counts.depth counts.depth)
-          (next : Option NodeRef) (next_is : label next ≡ next_of f n) (mid c : Command) (m : Marks (place_labels node from next) d.command mid) (k : Marks (place_labels node parent before) mid c) (log : Log Step) (log_is : log ≡ with_step d.log (step_inverse x d.arena)) where
+          (next : Option NodeRef) (next_is : label next ≡ next_of f n) (mid c : Command) (m : Marks (place_labels node from next) d.command mid) (k : Marks (place_labels node parent before) mid c) (trail : Trail) (trail_is : trail ≡ with_note d.history (step_inverse x d.arena)) where
         makes : Makes d (Move n p b) x points overrides counts c
         unfolding applied edit_change
         makes = record {
@@ -379,5 +379,5 @@ module _ (d : Inside) (v : Whole) (is : seen d ≡ v) (law : IsArena d.arena) (s
           depth = depth_is counts.depth raised;
         }
 
-        pub move_done : Done d v (Move n p (label_of before)) arena points overrides counts c log
-        move_done = subst (λ o. Done d v (Move n p o) arena points overrides counts c log) (labels_same before) (edit_called d v is law now_open ok (Move n p b) x points overrides counts c made makes arena log arena_is log_is)
+        pub move_done : Done d v (Move n p (label_of before)) arena points overrides counts c trail
+        move_done = subst (λ o. Done d v (Move n p o) arena points overrides counts c trail) (labels_same before) (edit_called d v is law now_open ok (Move n p b) x points overrides counts c made makes arena trail arena_is trail_is)

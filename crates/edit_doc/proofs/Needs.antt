@@ -84,7 +84,7 @@ module _ (held : List (Option ℕ)) (names : List (List ℕ)) (c : Command) wher
       let drawn = s.1.0.drawn in
       (own, entries_moved l h f (λ m. sym (ps.same m)) es (redo_off h es bs (forth_forest ch f s.0.0 is) s.1.1 l inner (omega (arith, old, drawn)) ps.top))
 
-module _ (d : Inside) (law : IsArena d.arena) (ok : Ok d) (opened : IsTrue (is_open d.log.open_entry)) (p : Places) (resting : AreResting d.points p) (logged : IsLog d.log) (some : 0 < length (noted d.log.open_entry)) (us : List EntrySnapshot) (out : Option EntrySnapshot) (enters : Enters d.command (loose_roots d.arena.trees d.command.detached.items) p d.counts d.undo_sides.capacity d.undo_sides.items us out) where
+module _ (d : Inside) (law : IsArena d.arena) (ok : Ok d) (opened : IsTrue (is_open d.history.log.open_entry)) (p : Places) (resting : AreResting d.points p) (logged : IsLog d.history.log) (some : 0 < length (noted d.history.log.open_entry)) (us : List EntrySnapshot) (out : Option EntrySnapshot) (enters : Enters d.command (loose_roots d.arena.trees d.command.detached.items) p d.counts d.history.log.depth d.history.past us out) where
   abbrev f : Forest Content
   f = d.arena.trees
 
@@ -97,7 +97,7 @@ module _ (d : Inside) (law : IsArena d.arena) (ok : Ok d) (opened : IsTrue (is_o
   abbrev k : ℕ → Bool
   k = unkept d law ok opened p resting some us out enters
 
-  none_named : (l : ℕ) → 0 < l → 0 < times (tops f) l → unnamed d law ok opened l ≡ false → Each (IsOff f l) (named_in (changes_of steps)) → EntriesOff l f d.log.undo → ⊥
+  none_named : (l : ℕ) → 0 < l → 0 < times (tops f) l → unnamed d law ok opened l ≡ false → Each (IsOff f l) (named_in (changes_of steps)) → EntriesOff l f d.history.log.undo → ⊥
   none_named l inner top named off off_undo =
       let r = run d law ok opened in
       let ch = changes_of steps in
@@ -113,32 +113,32 @@ module _ (d : Inside) (law : IsArena d.arena) (ok : Ok d) (opened : IsTrue (is_o
         | inl t ↦ elim (r.named_all l t) [ inl x ↦ unlisted (named_in ch) off x | inr x ↦ unlisted (named_in turns) ps.turns x ]
         | inr t ↦ (
             let old = early t in
-            let low_le = next_first_low d.arena.held d.points.names d.command begun d.log.redo d.redo_sides.items ok.redo in
-            ok.needed l inner (omega (arith, old, low_le)) ps.top (entries_moved l f begun ps.same d.log.undo off_undo)
-            (redo_off d.arena.held d.points.names d.command begun d.log.redo d.redo_sides.items (forest_g d law ok opened) ok.redo l inner old ps.top))
+            let low_le = next_first_low d.arena.held d.points.names d.command begun d.history.log.redo d.history.future ok.redo in
+            ok.needed l inner (omega (arith, old, low_le)) ps.top (entries_moved l f begun ps.same d.history.log.undo off_undo)
+            (redo_off d.arena.held d.points.names d.command begun d.history.log.redo d.history.future (forest_g d law ok opened) ok.redo l inner old ps.top))
       ]
 
-  pub needed_after : (log : Log Step) → log ≡ committed d.log → (a : Arena) → GivesUp k d.arena a → (start : ℕ) → AreNeeded start a.trees log.undo log.redo
+  pub needed_after : (log : Log Step) → log ≡ committed d.history.log → (a : Arena) → GivesUp k d.arena a → (start : ℕ) → AreNeeded start a.trees log.undo log.redo
   needed_after log is a gives start l inner old top off_undo off_redo =
       let top' : 0 < times (tops (pruned k f)) l = subst (λ t. 0 < times (tops t) l) gives.trees top in
       let was = tops_detached k f l top' in
       let same : (m : ℕ) → count_of (tree_of f l) m ≡ count_of (tree_of a.trees l) m = λ m. sym (ap (λ t. count_of (tree_of t l) m) gives.trees ∙ tree_pruned l k f law.distinct top' m) in
-      let off : EntriesOff l f (committed d.log).undo = subst (λ (x : Log Step). EntriesOff l f x.undo) is (entries_moved l a.trees f same log.undo off_undo) in
+      let off : EntriesOff l f (committed d.history.log).undo = subst (λ (x : Log Step). EntriesOff l f x.undo) is (entries_moved l a.trees f same log.undo off_undo) in
       let kept = or_false (unnamed d law ok opened l) (has_detached out l) was.1 in
-      elim (true_or_false (is_resumed d.log.open_entry)) [
+      elim (true_or_false (is_resumed d.history.log.open_entry)) [
         | inl r ↦ (
-            let off' : EntriesOff l f (joined d.log.undo steps) = subst (λ (x : Log Step). EntriesOff l f x.undo) (committed_joined d.log d.log.open_entry r) off in
-            let last = (logged.resumes_last (true_is (is_resumed d.log.open_entry) r)).0 in
-            none_named l inner was.0 kept.0 (joined_last l f d.log.undo steps last off') (joined_first l f d.log.undo steps off'))
+            let off' : EntriesOff l f (joined d.history.log.undo steps) = subst (λ (x : Log Step). EntriesOff l f x.undo) (committed_joined d.history.log d.history.log.open_entry r) off in
+            let last = (logged.resumes_last (true_is (is_resumed d.history.log.open_entry) r)).0 in
+            none_named l inner was.0 kept.0 (joined_last l f d.history.log.undo steps last off') (joined_first l f d.history.log.undo steps off'))
         | inr r ↦ (
             let c : Command = record d.command { start = d.arena.next } in
             let h = entering d law ok opened p resting r c refl us out enters in
-            let bs : List EntrySnapshot = h.0 ∷ d.undo_sides.items in
-            let es : List (List Step) = steps ∷ d.log.undo in
-            let off' : EntriesOff l f (take d.log.depth es) = subst (λ (x : Log Step). EntriesOff l f x.undo) (committed_made d.log d.log.open_entry opened r some) off in
-            let unlisted : has_detached (slice_get bs d.log.depth) l ≡ false = subst (λ o. has_detached o l ≡ false) (h.4 ∙ ap (slice_get bs) ok.us_room_is) kept.1 in
+            let bs : List EntrySnapshot = h.0 ∷ d.history.past in
+            let es : List (List Step) = steps ∷ d.history.log.undo in
+            let off' : EntriesOff l f (take d.history.log.depth es) = subst (λ (x : Log Step). EntriesOff l f x.undo) (committed_made d.history.log d.history.log.open_entry opened r some) off in
+            let unlisted : has_detached (slice_get bs d.history.log.depth) l ≡ false = subst (λ o. has_detached o l ≡ false) h.4 kept.1 in
             let within = logged.within in
-            let few : length es ≤ d.log.depth + 1 = omega (arith, within) in
-            nearly d.arena.held d.points.names c d.log.depth d.arena.next f es bs (forest_of d.arena law) (with_first d law ok opened p resting r c refl us out h.0 h.1 h.2) few l inner was.0 unlisted off'
+            let few : length es ≤ d.history.log.depth + 1 = omega (arith, within) in
+            nearly d.arena.held d.points.names c d.history.log.depth d.arena.next f es bs (forest_of d.arena law) (with_first d law ok opened p resting r c refl us out h.0 h.1 h.2) few l inner was.0 unlisted off'
             (λ x. none_named l inner was.0 kept.0 x.0 x.1))
       ]

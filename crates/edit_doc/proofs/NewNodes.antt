@@ -26,7 +26,7 @@ use Rattle.live_range.specs.LivePoints.{LivePoints}
 use Rattle.live_range.specs.PointsEdit.{has_label}
 use Rattle.live_range.specs.Names.{shown, named as named_marks, marks_of}
 use Rattle.undo_log.specs.Turning.{inverses_back, inverses_forth, FitsBack, FitsForth}
-use Rattle.undo_log.specs.Log.{Log, Open, noted, is_open}
+use Rattle.undo_log.specs.Log.{Open, noted, is_open}
 use Rattle.undo_log.specs.Log.Open.{Closed, Begun, Resumed}
 use Rattle.forest_changes.specs.Change.{Change, IsForest, Fits, applied, inverse}
 use Rattle.forest_changes.specs.Named.{Each, named_in}
@@ -61,6 +61,7 @@ use Rattle.edit_doc.specs.Held.{Holds, Keeps}
 use Rattle.edit_doc.specs.Marks.{IsMarked, has_named, NotesMade}
 use Rattle.edit_doc.specs.History.{edits_before, roots_from, forest_before, forest_after, begun_forest, is_hidden, seen_trees, state_of, begun_state, began_with, view_at, undo_entries, redo_entries, history_of, whole_of}
 use Rattle.edit_doc.specs.Sound.{RefIn, EachHeldIn, IsSide, AreFresh, IsOff, AreNeeded, AreAlone, IsSnapshot, IsRunning, OpenSound, UndoSound, RedoSound, detached_of, next_first, IsSoundDoc}
+use Rattle.edit_doc.specs.Trail.{Trail}
 use Rattle.edit_doc.proofs.Laid.{redo_later}
 use Rattle.edit_doc.proofs.Downs.{back_forest, forth_forest}
 use Rattle.edit_doc.proofs.HiddenTrees.{model_forest, true_lt}
@@ -339,9 +340,9 @@ of_running a points c g Closed h r = absurd (let h' = h in cc)
 of_running a points c g (Begun xs) h r = r
 of_running a points c g (Resumed xs) h r = r
 
-module _ (a : Arena) (points : LivePoints) (overrides : List Setting) (flags : Flags) (counts : Counts) (c d : Command) (log : Log Step) (us rs : List EntrySnapshot) (us_room rs_room : ℕ)
-    (open_now : IsTrue (is_open log.open_entry)) (law : IsArena a)
-    (ok : IsSoundDoc a points overrides flags counts (record d { named = c.named; detached = c.detached }) log us rs us_room rs_room) where
+module _ (a : Arena) (points : LivePoints) (overrides : List Setting) (flags : Flags) (counts : Counts) (c d : Command) (trail : Trail)
+    (open_now : IsTrue (is_open trail.log.open_entry)) (law : IsArena a)
+    (ok : IsSoundDoc a points overrides flags counts (record d { named = c.named; detached = c.detached }) trail) where
   -- the command with the marks and the left trees of before
   abbrev e : Command
   e = record d { named = c.named; detached = c.detached }
@@ -350,17 +351,17 @@ module _ (a : Arena) (points : LivePoints) (overrides : List Setting) (flags : F
   f = a.trees
 
   abbrev g : Forest Content
-  g = begun_forest log a.trees
+  g = begun_forest trail.log a.trees
 
   abbrev xs : List Step
-  xs = noted log.open_entry
+  xs = noted trail.log.open_entry
 
   run : IsRunning a points.names e xs g
-  run = running_of a points e g log.open_entry open_now ok.running
+  run = running_of a points e g trail.log.open_entry open_now ok.running
 
   -- ---- room for more
 
-  pub sound_carried : d.named.items ≡ c.named.items → d.detached.items ≡ c.detached.items → IsSoundDoc a points overrides flags counts d log us rs us_room rs_room
+  pub sound_carried : d.named.items ≡ c.named.items → d.detached.items ≡ c.detached.items → IsSoundDoc a points overrides flags counts d trail
   sound_carried named detached = record {
     valid = ok.valid;
     some_label = ok.some_label;
@@ -368,7 +369,7 @@ module _ (a : Arena) (points : LivePoints) (overrides : List Setting) (flags : F
     chars = ok.chars;
     depth = ok.depth;
     hidden = ok.hidden;
-    running = of_running a points d g log.open_entry open_now (record {
+    running = of_running a points d g trail.log.open_entry open_now (record {
       kept = run.kept;
       settings = run.settings;
       made = run.made;
@@ -384,11 +385,9 @@ module _ (a : Arena) (points : LivePoints) (overrides : List Setting) (flags : F
     });
     resumed = ok.resumed;
     host = ok.host;
-    undo = undo_carried a.held points.names e d refl d.resumed (next_first d.start rs) g log.undo us (detached_same d.resumed) ok.undo;
-    redo = redo_later a.held points.names e d (omega arith) g log.redo rs ok.redo;
+    undo = undo_carried a.held points.names e d refl d.resumed (next_first d.start trail.future) g trail.log.undo trail.past (detached_same d.resumed) ok.undo;
+    redo = redo_later a.held points.names e d (omega arith) g trail.log.redo trail.future ok.redo;
     needed = ok.needed;
-    us_room_is = ok.us_room_is;
-    rs_room_is = ok.rs_room_is;
   }
     where
       mark : (l : ℕ) → IsMarked e l → IsMarked d l
@@ -426,7 +425,7 @@ module _ (a : Arena) (points : LivePoints) (overrides : List Setting) (flags : F
     begun_is_forest : IsForest g
     begun_is_forest = back_forest (changes_of xs) f run.can.0 is
 
-    begun_is : begun_forest log (with_leaf f l x) ≡ with_leaf g l x
+    begun_is : begun_forest trail.log (with_leaf f l x) ≡ with_leaf g l x
     begun_is = bb.same
 
     abbrev hides : ℕ → Bool
@@ -435,16 +434,16 @@ module _ (a : Arena) (points : LivePoints) (overrides : List Setting) (flags : F
     off : hides l ≡ false
     off = hidden_off l x g d.start started
 
-    hides_is : is_hidden (begun_forest log (with_leaf f l x)) d.start ≡ hides
+    hides_is : is_hidden (begun_forest trail.log (with_leaf f l x)) d.start ≡ hides
     hides_is = ap (λ t. is_hidden t d.start) begun_is ∙ hides_leaf l x g d.start started
 
-    seen_is : seen_trees log d.start (with_leaf f l x) ≡ with_leaf (pruned hides f) l x
+    seen_is : seen_trees trail.log d.start (with_leaf f l x) ≡ with_leaf (pruned hides f) l x
     seen_is = ap (λ k. pruned k (with_leaf f l x)) hides_is ∙ pruned-with_leaf hides l x off f
 
     abbrev s : State
-    s = state_of a points overrides flags e log
+    s = state_of a points overrides flags e trail.log
 
-    state_is : state_of arena_made points overrides flags d log ≡ made x s
+    state_is : state_of arena_made points overrides flags d trail.log ≡ made x s
     unfolding made
     state_is = λ i. record {
       trees = seen_is i;
@@ -544,13 +543,13 @@ module _ (a : Arena) (points : LivePoints) (overrides : List Setting) (flags : F
     host_still None h = tt
     host_still (Some r) h = (keeps r h.0, seen_more r.label h.1)
 
-    undo_now : UndoSound a.held points.names d.resumed d (next_first d.start rs) g log.undo us
-    undo_now = undo_carried a.held points.names e d refl d.resumed (next_first d.start rs) g log.undo us (detached_same d.resumed) ok.undo
+    undo_now : UndoSound a.held points.names d.resumed d (next_first d.start trail.future) g trail.log.undo trail.past
+    undo_now = undo_carried a.held points.names e d refl d.resumed (next_first d.start trail.future) g trail.log.undo trail.past (detached_same d.resumed) ok.undo
 
-    redo_now : RedoSound a.held points.names d g log.redo rs
-    redo_now = redo_later a.held points.names e d (omega arith) g log.redo rs ok.redo
+    redo_now : RedoSound a.held points.names d g trail.log.redo trail.future
+    redo_now = redo_later a.held points.names e d (omega arith) g trail.log.redo trail.future ok.redo
 
-    pub sound_made : IsSoundDoc arena_made points overrides flags counts d log us rs us_room rs_room
+    pub sound_made : IsSoundDoc arena_made points overrides flags counts d trail
     sound_made = record {
       valid = subst IsValid (sym state_is) valid_made;
       some_label = ok.some_label;
@@ -558,33 +557,31 @@ module _ (a : Arena) (points : LivePoints) (overrides : List Setting) (flags : F
       chars = ok.chars ∙ sym (chars_leaf l x f is low);
       depth = subst (λ n. n ≤ counts.depth) (sym (depth_leaf l x f is low)) ok.depth;
       hidden = λ j h. (let h' : hides j ≡ true = subst (λ k. k j ≡ true) hides_is h in let top = ok.hidden j h' in omega (arith, top, times-with_leaf l x f j));
-      running = of_running arena_made points d (begun_forest log (with_leaf f l x)) log.open_entry open_now (subst (λ t. IsRunning arena_made points.names d xs t) (sym begun_is) runs);
+      running = of_running arena_made points d (begun_forest trail.log (with_leaf f l x)) trail.log.open_entry open_now (subst (λ t. IsRunning arena_made points.names d xs t) (sym begun_is) runs);
       resumed = ok.resumed;
       host = subst (λ t. IfSome d.host (λ h. RefIn held h × (0 < count_of t h.label))) (sym seen_is) (host_still d.host ok.host);
-      undo = subst (λ t. UndoSound held points.names d.resumed d (next_first d.start rs) t log.undo us) (sym begun_is)
-          (undo_leaf l x made_of some a.held held keeps points.names d started d.resumed (next_first d.start rs) g log.undo us begun_is_forest bb.below undo_now);
-      redo = subst (λ t. RedoSound held points.names d t log.redo rs) (sym begun_is)
-          (redo_leaf l x made_of some a.held held keeps points.names d started g log.redo rs begun_is_forest bb.below redo_now);
-      needed = subst (λ t. AreNeeded d.start t log.undo log.redo) (sym begun_is) (λ j inner old top u r. (
+      undo = subst (λ t. UndoSound held points.names d.resumed d (next_first d.start trail.future) t trail.log.undo trail.past) (sym begun_is)
+          (undo_leaf l x made_of some a.held held keeps points.names d started d.resumed (next_first d.start trail.future) g trail.log.undo trail.past begun_is_forest bb.below undo_now);
+      redo = subst (λ t. RedoSound held points.names d t trail.log.redo trail.future) (sym begun_is)
+          (redo_leaf l x made_of some a.held held keeps points.names d started g trail.log.redo trail.future begun_is_forest bb.below redo_now);
+      needed = subst (λ t. AreNeeded d.start t trail.log.undo trail.log.redo) (sym begun_is) (λ j inner old top u r. (
           let lt : j < l = (let s = started in omega (arith, old, s)) in
           let t = times-with_leaf l x g j in
           let apart : eqb l j ≡ false = not_own l j lt in
           let t' = rw apart at t in
           let same : (m : ℕ) → count_of (tree_of g j) m ≡ count_of (tree_of (with_leaf g l x) j) m = λ m. ap (λ z. count_of z m) (sym (tree_of-with_leaf l x g j lt)) in
-          ok.needed j inner old (omega (arith, t', top)) (entries_moved j (with_leaf g l x) g same log.undo u) (entries_moved j (with_leaf g l x) g same log.redo r)));
-      us_room_is = ok.us_room_is;
-      rs_room_is = ok.rs_room_is;
+          ok.needed j inner old (omega (arith, t', top)) (entries_moved j (with_leaf g l x) g same trail.log.undo u) (entries_moved j (with_leaf g l x) g same trail.log.redo r)));
     }
 
-    history_is : history_of points.names (begun_forest log (with_leaf f l x)) log us rs ≡ history_of points.names g log us rs
-    history_is = ap (λ t. history_of points.names t log us rs) begun_is ∙ (λ i. record {
-      undo = undo_entries_leaf l x made_of some a.held held keeps points.names d started d.resumed (next_first d.start rs) g log.undo us begun_is_forest bb.below undo_now i;
-      redo = redo_entries_leaf l x made_of some a.held held keeps points.names d started g log.redo rs begun_is_forest bb.below redo_now i;
-      depth = log.depth;
-      dropped = log.dropped;
+    history_is : history_of points.names (begun_forest trail.log (with_leaf f l x)) trail ≡ history_of points.names g trail
+    history_is = ap (λ t. history_of points.names t trail) begun_is ∙ (λ i. record {
+      undo = undo_entries_leaf l x made_of some a.held held keeps points.names d started d.resumed (next_first d.start trail.future) g trail.log.undo trail.past begun_is_forest bb.below undo_now i;
+      redo = redo_entries_leaf l x made_of some a.held held keeps points.names d started g trail.log.redo trail.future begun_is_forest bb.below redo_now i;
+      depth = trail.log.depth;
+      dropped = trail.log.dropped;
     })
 
-    begun_state_is : begun_state arena_made points.names d log ≡ begun_state a points.names e log
+    begun_state_is : begun_state arena_made points.names d trail.log ≡ begun_state a points.names e trail.log
     begun_state_is = λ i. record {
       trees = (ap document_of begun_is ∙ document_leaf l x g begun_is_forest bb.below) i;
       points = shown points.names d.kept.places;
@@ -599,15 +596,15 @@ module _ (a : Arena) (points : LivePoints) (overrides : List Setting) (flags : F
       made = [];
     }
 
-    pub whole_made : whole_of arena_made points overrides flags d log us rs ≡ record (whole_of a points overrides flags e log us rs) { state = made x s; held = held }
+    pub whole_made : whole_of arena_made points overrides flags d trail ≡ record (whole_of a points overrides flags e trail) { state = made x s; held = held }
     whole_made = λ i. record {
       state = state_is i;
       history = history_is i;
-      began = began_with (begun_state_is i) log.open_entry;
+      began = began_with (begun_state_is i) trail.log.open_entry;
       held = held;
     }
 
-    pub keeps_made : Keeps (whole_of a points overrides flags e log us rs) (record (whole_of a points overrides flags e log us rs) { state = made x s; held = held })
+    pub keeps_made : Keeps (whole_of a points overrides flags e trail) (record (whole_of a points overrides flags e trail) { state = made x s; held = held })
     unfolding made
     keeps_made = record {
       held = λ r h. record { slot = keeps r h.slot; here = seen_more r.label h.here };
@@ -617,46 +614,46 @@ module _ (a : Arena) (points : LivePoints) (overrides : List Setting) (flags : F
       cap = refl;
     }
 
-    pub held_made : Holds (record (whole_of a points overrides flags e log us rs) { state = made x s; held = held }) node
+    pub held_made : Holds (record (whole_of a points overrides flags e trail) { state = made x s; held = held }) node
     unfolding made
     held_made = record { slot = own; here = subst (λ j. 0 < count_of (with_leaf (pruned hides f) l x) j) (sym label) (count-own l x (pruned hides f)) }
 
 -- ---- what the calls owe
 
 pub record Given (d : Inside) (v : Whole) (x : Content) (node : NodeRef) (a : Arena) (c : Command) : Type 0 where
-  pub invariant : IsSoundDoc a d.points d.overrides.items d.flags d.counts c d.log d.undo_sides.items d.redo_sides.items d.undo_sides.capacity d.redo_sides.capacity
-  pub state : state_of a d.points d.overrides.items d.flags c d.log ≡ made x v.state
-  pub held : Holds (whole_of a d.points d.overrides.items d.flags c d.log d.undo_sides.items d.redo_sides.items) node
-  pub keeps : Keeps v (whole_of a d.points d.overrides.items d.flags c d.log d.undo_sides.items d.redo_sides.items)
+  pub invariant : IsSoundDoc a d.points d.overrides.items d.flags d.counts c d.history
+  pub state : state_of a d.points d.overrides.items d.flags c d.history.log ≡ made x v.state
+  pub held : Holds (whole_of a d.points d.overrides.items d.flags c d.history) node
+  pub keeps : Keeps v (whole_of a d.points d.overrides.items d.flags c d.history)
 
 module _ (d : Inside) (v : Whole) (sees : seen d ≡ v) (law : IsArena d.arena) (now_open : IsOpen v) (ok : Ok d) where
-  opened : IsTrue (is_open d.log.open_entry)
+  opened : IsTrue (is_open d.history.log.open_entry)
   opened = open_of d v sees now_open
 
   -- only room was made
   pub room_made : (c : Command) → record c { named = d.command.named; detached = d.command.detached } ≡ d.command → c.named.items ≡ d.command.named.items → c.detached.items ≡ d.command.detached.items →
-      IsSoundDoc d.arena d.points d.overrides.items d.flags d.counts c d.log d.undo_sides.items d.redo_sides.items d.undo_sides.capacity d.redo_sides.capacity
+      IsSoundDoc d.arena d.points d.overrides.items d.flags d.counts c d.history
   room_made c rest named detached =
-      sound_carried d.arena d.points d.overrides.items d.flags d.counts d.command c d.log d.undo_sides.items d.redo_sides.items d.undo_sides.capacity d.redo_sides.capacity opened law
-      (subst (λ z. IsSoundDoc d.arena d.points d.overrides.items d.flags d.counts z d.log d.undo_sides.items d.redo_sides.items d.undo_sides.capacity d.redo_sides.capacity) (sym rest) ok) named detached
+      sound_carried d.arena d.points d.overrides.items d.flags d.counts d.command c d.history opened law
+      (subst (λ z. IsSoundDoc d.arena d.points d.overrides.items d.flags d.counts z d.history) (sym rest) ok) named detached
 
   pub node_made : (x : Content) → IsMade x → (a : Arena) (node : NodeRef) → Makes d.arena a node x → (b c : Command) → record b { named = d.command.named; detached = d.command.detached } ≡ d.command →
       b.named.items ≡ d.command.named.items → b.detached.items ≡ d.command.detached.items → NotesMade node b c → Given d v x node a c
   node_made x made_of a node m b c base named detached notes =
       let rest : record c { named = d.command.named; detached = d.command.detached } ≡ d.command = ap (λ (z : Command). record z { named = d.command.named; detached = d.command.detached }) notes.rest ∙ base in
-      let ok' = subst (λ z. IsSoundDoc d.arena d.points d.overrides.items d.flags d.counts z d.log d.undo_sides.items d.redo_sides.items d.undo_sides.capacity d.redo_sides.capacity) (sym rest) ok in
+      let ok' = subst (λ z. IsSoundDoc d.arena d.points d.overrides.items d.flags d.counts z d.history) (sym rest) ok in
       let named' : c.named.items ≡ d.command.named.items ++ false ∷ [] = notes.named ∙ ap (λ ms. ms ++ false ∷ []) named in
       let left' : c.detached.items ≡ d.command.detached.items ++ node ∷ [] = notes.detached ∙ ap (λ ls. ls ++ node ∷ []) detached in
       let arena_is : record { trees = with_leaf d.arena.trees d.arena.next x; next = d.arena.next + 1; cap = d.arena.cap; held = a.held } ≡ a = (λ i. record { trees = sym m.trees i; next = sym m.next i; cap = sym m.cap i; held = a.held }) in
-      let whole_is = whole_made d.arena d.points d.overrides.items d.flags d.counts d.command c d.log d.undo_sides.items d.redo_sides.items d.undo_sides.capacity d.redo_sides.capacity opened law ok' a.held node x made_of m.keeps m.held m.label named' left' in
-      let same : whole_of d.arena d.points d.overrides.items d.flags (record c { named = d.command.named; detached = d.command.detached }) d.log d.undo_sides.items d.redo_sides.items ≡ v =
-      ap (λ z. whole_of d.arena d.points d.overrides.items d.flags z d.log d.undo_sides.items d.redo_sides.items) rest ∙ sees in
+      let whole_is = whole_made d.arena d.points d.overrides.items d.flags d.counts d.command c d.history opened law ok' a.held node x made_of m.keeps m.held m.label named' left' in
+      let same : whole_of d.arena d.points d.overrides.items d.flags (record c { named = d.command.named; detached = d.command.detached }) d.history ≡ v =
+      ap (λ z. whole_of d.arena d.points d.overrides.items d.flags z d.history) rest ∙ sees in
       subst (λ t. Given d v x node t c) arena_is (record {
-        invariant = sound_made d.arena d.points d.overrides.items d.flags d.counts d.command c d.log d.undo_sides.items d.redo_sides.items d.undo_sides.capacity d.redo_sides.capacity opened law ok' a.held node x made_of m.keeps m.held m.label named' left';
+        invariant = sound_made d.arena d.points d.overrides.items d.flags d.counts d.command c d.history opened law ok' a.held node x made_of m.keeps m.held m.label named' left';
         state = ap (λ (w : Whole). w.state) whole_is ∙ ap (λ (w : Whole). made x w.state) same;
-        held = subst (λ w. Holds w node) (sym whole_is) (held_made d.arena d.points d.overrides.items d.flags d.counts d.command c d.log d.undo_sides.items d.redo_sides.items d.undo_sides.capacity d.redo_sides.capacity opened law ok' a.held node x made_of m.keeps m.held m.label named' left');
-        keeps = subst (Keeps v) (sym whole_is) (subst (λ w. Keeps w (record (whole_of d.arena d.points d.overrides.items d.flags (record c { named = d.command.named; detached = d.command.detached }) d.log d.undo_sides.items d.redo_sides.items) { state = made x (state_of d.arena d.points d.overrides.items d.flags (record c { named = d.command.named; detached = d.command.detached }) d.log); held = a.held })) same
-            (keeps_made d.arena d.points d.overrides.items d.flags d.counts d.command c d.log d.undo_sides.items d.redo_sides.items d.undo_sides.capacity d.redo_sides.capacity opened law ok' a.held node x made_of m.keeps m.held m.label named' left'));
+        held = subst (λ w. Holds w node) (sym whole_is) (held_made d.arena d.points d.overrides.items d.flags d.counts d.command c d.history opened law ok' a.held node x made_of m.keeps m.held m.label named' left');
+        keeps = subst (Keeps v) (sym whole_is) (subst (λ w. Keeps w (record (whole_of d.arena d.points d.overrides.items d.flags (record c { named = d.command.named; detached = d.command.detached }) d.history) { state = made x (state_of d.arena d.points d.overrides.items d.flags (record c { named = d.command.named; detached = d.command.detached }) d.history.log); held = a.held })) same
+            (keeps_made d.arena d.points d.overrides.items d.flags d.counts d.command c d.history opened law ok' a.held node x made_of m.keeps m.held m.label named' left'));
       })
 
   -- no node was made

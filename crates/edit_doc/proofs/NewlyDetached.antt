@@ -1,5 +1,5 @@
 -- Which nodes the running command made or detached, and which a label finds.
-use Rattle.std.proofs.Common.{◌≡◌, ◌≢◌, ◌⊎◌, ℕ, zero, suc, ◌<◌, ◌≤◌, Bool, true, false, true≢false, List, [], ◌∷◌, drop, None, refl, sym, ap, subst, ◌∙◌, inl, inr, arith, eqb}
+use Rattle.std.proofs.Common.{◌≡◌, ◌≢◌, ◌⊎◌, ℕ, zero, suc, ◌<◌, ◌≤◌, Bool, true, false, true≢false, List, [], ◌∷◌, drop, None, refl, sym, subst, ◌∙◌, inl, inr, arith}
 use Rattle.std.specs.Prelude.{◌||◌, nat_le}
 use Rattle.std.proofs.lemmas.Bool.Decides.{nat_tests}
 use Rattle.dom_model.specs.Forest.{tops, times, count_of, parent_of, IsWithin}
@@ -7,7 +7,6 @@ use Rattle.dom_model.specs.Pruned.{pruned}
 use Rattle.dom_model.specs.ArenaState.{IsValid as IsArena}
 use Rattle.dom_model.proofs.Pruning.{count_of-pruned}
 use Rattle.dom_model.proofs.Stands.{true_or_false}
-use Rattle.forest_changes.specs.Named.{Each}
 use Rattle.live_range.specs.PointsEdit.{has_label}
 use Rattle.undo_log.specs.Log.{Open}
 use Rattle.undo_log.specs.Log.Open.{Closed, Begun, Resumed}
@@ -52,14 +51,14 @@ module _ (d : Inside) (law : IsArena d.arena) (ok : Ok d) where
   -- a label that isn't below the start isn't hidden
   made_out : (l : ℕ) → d.command.start ≤ l → out_of d l ≡ false
   made_out l later = elim (true_or_false (out_of d l)) [
-    | inl t ↦ absurd (let h = hidden_is (begun_forest d.log d.arena.trees) d.command.start l t in let o = h.old in omega arith)
+    | inl t ↦ absurd (let h = hidden_is (begun_forest d.history.log d.arena.trees) d.command.start l t in let o = h.old in omega arith)
     | inr t ↦ t
   ]
 
   detached_seen : (l : ℕ) → has_label (labels_of (drop d.command.detached_before d.command.detached.items)) l ≡ true → IsSeen d l
-  detached_seen l e = at d.log.open_entry refl ok.running
+  detached_seen l e = at d.history.log.open_entry refl ok.running
     where
-      at : (o : Open Step) → d.log.open_entry ≡ o → OpenSound d.arena d.points d.command (begun_forest d.log d.arena.trees) o → IsSeen d l
+      at : (o : Open Step) → d.history.log.open_entry ≡ o → OpenSound d.arena d.points d.command (begun_forest d.history.log d.arena.trees) o → IsSeen d l
       at Closed is idle = absurd (let none : has_label [] l ≡ true = subst (λ rs. has_label (labels_of rs) l ≡ true) (drop_none d.command.detached_before d.command.detached.items idle.detached) e in cc)
       at (Begun xs) is run = listed_has (IsSeen d) (labels_of (drop d.command.detached_before d.command.detached.items)) l run.detached_seen e
       at (Resumed xs) is run = listed_has (IsSeen d) (labels_of (drop d.command.detached_before d.command.detached.items)) l run.detached_seen e
@@ -73,14 +72,14 @@ module _ (d : Inside) (law : IsArena d.arena) (ok : Ok d) where
 
   -- a root that is seen, but for the Document, was detached by the command
   seen_newly_detached : (r : ℕ) → 0 < r → 0 < times (tops (pruned (out_of d) d.arena.trees)) r → has_newly_detached d.command r ≡ false → ⊥
-  seen_newly_detached r inner top e = at d.log.open_entry refl ok.running
+  seen_newly_detached r inner top e = at d.history.log.open_entry refl ok.running
     where
       out : has_label (labels_of (drop d.command.detached_before d.command.detached.items)) r ≡ false
       out = (or_false (nat_le d.command.start r) (has_label (labels_of (drop d.command.detached_before d.command.detached.items)) r) e).1
 
-      at : (o : Open Step) → d.log.open_entry ≡ o → OpenSound d.arena d.points d.command (begun_forest d.log d.arena.trees) o → ⊥
+      at : (o : Open Step) → d.history.log.open_entry ≡ o → OpenSound d.arena d.points d.command (begun_forest d.history.log d.arena.trees) o → ⊥
       at Closed is idle = document_tops d.arena.trees d.arena.next r (arena_forest d.arena law) inner
-          (subst (λ g. 0 < times (tops g) r) (trees_are d.arena d.points d.overrides.items d.flags d.counts d.command d.log d.undo_sides.items d.redo_sides.items d.undo_sides.capacity d.redo_sides.capacity law is idle.start) top)
+          (subst (λ g. 0 < times (tops g) r) (trees_are d.arena d.points d.overrides.items d.flags d.counts d.command d.history law is idle.start) top)
       at (Begun xs) is run = true≢false (sym (run.newly_detached r inner top) ∙ out)
       at (Resumed xs) is run = true≢false (sym (run.newly_detached r inner top) ∙ out)
 

@@ -115,17 +115,17 @@ module _ (held : List (Option ℕ)) (names : List (List ℕ)) (c : Command) wher
       by_count f l some zero e = absent_loose f l e
       by_count f l some (suc i) e = some (omega (arith, e))
 
-module _ (d : Inside) (law : IsArena d.arena) (ok : Ok d) (opened : IsTrue (is_open d.log.open_entry)) (p : Places) (resting : AreResting d.points p) (some : 0 < length (noted d.log.open_entry)) (us : List EntrySnapshot) (out : Option EntrySnapshot) (enters : Enters d.command (loose_roots d.arena.trees d.command.detached.items) p d.counts d.undo_sides.capacity d.undo_sides.items us out) where
+module _ (d : Inside) (law : IsArena d.arena) (ok : Ok d) (opened : IsTrue (is_open d.history.log.open_entry)) (p : Places) (resting : AreResting d.points p) (some : 0 < length (noted d.history.log.open_entry)) (us : List EntrySnapshot) (out : Option EntrySnapshot) (enters : Enters d.command (loose_roots d.arena.trees d.command.detached.items) p d.counts d.history.log.depth d.history.past us out) where
   abbrev f : Forest Content
   f = d.arena.trees
 
   record GoesOut (o : Option EntrySnapshot) : Type 0 where
     inner : (l : ℕ) → has_detached o l ≡ true → 0 < l
     loose : (l : ℕ) → has_detached o l ≡ true → parent_of f l ≡ None
-    detached : EntriesLeft (has_detached o) f (committed d.log).undo
+    detached : EntriesLeft (has_detached o) f (committed d.history.log).undo
 
   none_out : GoesOut None
-  none_out = record { inner = λ l t. absurd (cc); loose = λ l t. absurd (cc); detached = entries_none (unnamed d law ok opened) f (committed d.log).undo (kept_detached d law ok opened some) }
+  none_out = record { inner = λ l t. absurd (cc); loose = λ l t. absurd (cc); detached = entries_none (unnamed d law ok opened) f (committed d.history.log).undo (kept_detached d law ok opened some) }
 
   joined_out : (s : Sides) (detached : List NodeRef) (room : ℕ) (bs new : List EntrySnapshot) (o : Option EntrySnapshot) → EntersIn true s detached p d.counts room bs new o → o ≡ None
   joined_out s detached room [] new o h = absurd h
@@ -133,20 +133,20 @@ module _ (d : Inside) (law : IsArena d.arena) (ok : Ok d) (opened : IsTrue (is_o
   joined_out s detached room (b ∷ bs) (b' ∷ bs') o h = h.1.1.1
 
   goes_out : GoesOut out
-  goes_out = elim (true_or_false (is_resumed d.log.open_entry)) [
-    | inl r ↦ subst GoesOut (sym (joined_out (made_sides d.command p d.counts) (loose_roots f d.command.detached.items) d.undo_sides.capacity d.undo_sides.items us out (subst (λ b. EntersIn b (made_sides d.command p d.counts) (loose_roots f d.command.detached.items) p d.counts d.undo_sides.capacity d.undo_sides.items us out) (ok.resumed ∙ r) enters))) none_out
+  goes_out = elim (true_or_false (is_resumed d.history.log.open_entry)) [
+    | inl r ↦ subst GoesOut (sym (joined_out (made_sides d.command p d.counts) (loose_roots f d.command.detached.items) d.history.log.depth d.history.past us out (subst (λ b. EntersIn b (made_sides d.command p d.counts) (loose_roots f d.command.detached.items) p d.counts d.history.log.depth d.history.past us out) (ok.resumed ∙ r) enters))) none_out
     | inr r ↦ (
         let c : Command = record d.command { start = d.arena.next } in
         let h = entering d law ok opened p resting r c refl us out enters in
-        let bs : List EntrySnapshot = h.0 ∷ d.undo_sides.items in
-        let es : List (List Step) = xs d law ok opened ∷ d.log.undo in
-        let o = outgone d.arena.held d.points.names c d.log.depth d.arena.next f es bs (forest_of d.arena law) (with_first d law ok opened p resting r c refl us out h.0 h.1 h.2) in
-        let own : GoesOut (slice_get bs d.log.depth) = record {
+        let bs : List EntrySnapshot = h.0 ∷ d.history.past in
+        let es : List (List Step) = xs d law ok opened ∷ d.history.log.undo in
+        let o = outgone d.arena.held d.points.names c d.history.log.depth d.arena.next f es bs (forest_of d.arena law) (with_first d law ok opened p resting r c refl us out h.0 h.1 h.2) in
+        let own : GoesOut (slice_get bs d.history.log.depth) = record {
           inner = λ l t. (o.loose l t).0;
           loose = λ l t. (o.loose l t).1.1;
-          detached = subst (λ (g : Log Step). EntriesLeft (has_detached (slice_get bs d.log.depth)) f g.undo) (sym (committed_made d.log d.log.open_entry opened r some)) o.detached;
+          detached = subst (λ (g : Log Step). EntriesLeft (has_detached (slice_get bs d.history.log.depth)) f g.undo) (sym (committed_made d.history.log d.history.log.open_entry opened r some)) o.detached;
         } in
-        subst GoesOut (sym (h.4 ∙ ap (slice_get bs) ok.us_room_is)) own)
+        subst GoesOut (sym h.4) own)
   ]
 
   -- ---- with what is left unnamed
@@ -175,5 +175,5 @@ module _ (d : Inside) (law : IsArena d.arena) (ok : Ok d) (opened : IsTrue (is_o
         | inr t ↦ t
       ]
 
-  pub kept_both : (log : Log Step) → log ≡ committed d.log → EntriesLeft unkept f log.undo
-  kept_both log is = subst (λ (g : Log Step). EntriesLeft unkept f g.undo) (sym is) (entries_both (unnamed d law ok opened) (has_detached out) f (committed d.log).undo law.distinct (kept_detached d law ok opened some) goes_out.detached)
+  pub kept_both : (log : Log Step) → log ≡ committed d.history.log → EntriesLeft unkept f log.undo
+  kept_both log is = subst (λ (g : Log Step). EntriesLeft unkept f g.undo) (sym is) (entries_both (unnamed d law ok opened) (has_detached out) f (committed d.history.log).undo law.distinct (kept_detached d law ok opened some) goes_out.detached)

@@ -1,5 +1,5 @@
 -- How deep the document is at most after a tree is linked, moved or made loose.
-use Rattle.std.proofs.Common.{◌≡◌, ℕ, ◌+◌, ◌<◌, ◌≤◌, ◌^◌, max, min, Bool, true, false, Option, Some, refl, sym, ap, subst, ◌∙◌, inl, inr, arith}
+use Rattle.std.proofs.Common.{◌≡◌, ℕ, ◌+◌, ◌<◌, ◌≤◌, ◌^◌, max, min, Bool, true, false, Option, Some, ap, ◌∙◌, inl, inr, arith}
 use Rattle.dom_model.specs.declared.Content.{Content}
 use Rattle.dom_model.specs.Document.{node_count, page_depth}
 use Rattle.dom_model.specs.Forest.{Forest, total, count_of, depth_of, tree_of, parent_of, link, unlink, CanPut}

@@ -28,6 +28,7 @@ use Rattle.node_arena.specs.declared.NodeRef.{NodeRef}
 use Rattle.edit_doc.specs.Whole.{Whole, history_committed, committed_history}
 use Rattle.edit_doc.specs.History.{edits_before, roots_from, state_of, begun_state, began_with, history_of, undo_entries, view_at}
 use Rattle.edit_doc.specs.Sound.{IsSnapshot, UndoSound, RedoSound, next_first}
+use Rattle.edit_doc.specs.Trail.{trail_of}
 use Rattle.edit_doc.proofs.Inner.{seen, Ok}
 use Rattle.edit_doc.proofs.Laid.{undo_count, undo_later, next_first_low}
 use Rattle.edit_doc.proofs.HiddenTrees.{model_forest}
@@ -62,7 +63,7 @@ made_recorded s0 (Resumed ys) w t r some = absurd (cc)
 pub document_twice : (f : Forest Content) (next : ℕ) → IsForest f next → document_of (document_of f) ≡ document_of f
 document_twice f next is = let d = document_shape f next is in subst (λ h. document_of (document_of h) ≡ document_of h) (sym d.3) refl
 
-module _ (d : Inside) (law : IsArena d.arena) (ok : Ok d) (opened : IsTrue (is_open d.log.open_entry)) (p : Places) (resting : AreResting d.points p) where
+module _ (d : Inside) (law : IsArena d.arena) (ok : Ok d) (opened : IsTrue (is_open d.history.log.open_entry)) (p : Places) (resting : AreResting d.points p) where
   abbrev steps : List Step
   steps = xs d law ok opened
 
@@ -73,16 +74,16 @@ module _ (d : Inside) (law : IsArena d.arena) (ok : Ok d) (opened : IsTrue (is_o
   rested_points = shown d.points.names p
 
   abbrev pub high : ℕ
-  high = next_first d.command.start d.redo_sides.items
+  high = next_first d.command.start d.history.future
 
   pub high_le : high ≤ d.command.start
-  high_le = next_first_low d.arena.held d.points.names d.command before d.log.redo d.redo_sides.items ok.redo
+  high_le = next_first_low d.arena.held d.points.names d.command before d.history.log.redo d.history.future ok.redo
 
   -- ---- a document whose history has the entry
 
-  module _ (log : Log Step) (closed : log.open_entry ≡ Closed) (redo : log.redo ≡ []) (depth : log.depth ≡ d.log.depth) (us : List EntrySnapshot) (c : Command) (ended : IsEnded d.arena.next c) where
+  module _ (log : Log Step) (closed : log.open_entry ≡ Closed) (redo : log.redo ≡ []) (depth : log.depth ≡ d.history.log.depth) (us : List EntrySnapshot) (c : Command) (ended : IsEnded d.arena.next c) where
     module _ (undo : UndoSound d.arena.held d.points.names false c d.arena.next d.arena.trees log.undo us) where
-      pub ends : AtRest d.arena rested_points d.overrides.items d.flags d.counts c log us [] d.undo_sides.capacity d.redo_sides.capacity
+      pub ends : AtRest d.arena rested_points d.overrides.items d.flags d.counts c (trail_of log us [])
       ends = record {
         law = law;
         closed = closed;
@@ -103,14 +104,12 @@ module _ (d : Inside) (law : IsArena d.arena) (ok : Ok d) (opened : IsTrue (is_o
         depth = ok.depth;
         undo = subst (λ n. UndoSound d.arena.held d.points.names false c n d.arena.trees log.undo us) (sym ended.start) undo;
         redo = subst (λ es. RedoSound d.arena.held d.points.names c d.arena.trees es []) (sym redo) tt;
-        us_room_is = ok.us_room_is ∙ sym depth;
-        rs_room_is = ok.rs_room_is ∙ sym depth;
       }
 
       pub recorded_state : (v : Whole) → seen d ≡ v → state_of d.arena rested_points d.overrides.items d.flags c log ≡ rested v.state
       unfolding rested
       recorded_state v sees =
-          rest_state d.arena rested_points d.overrides.items d.flags d.counts c log us [] d.undo_sides.capacity d.redo_sides.capacity ends
+          rest_state d.arena rested_points d.overrides.items d.flags d.counts c (trail_of log us []) ends
           ∙ ((λ i. record {
             trees = sym (document_now d law ok opened p resting) i;
             points = resting.shown i;
@@ -129,10 +128,10 @@ module _ (d : Inside) (law : IsArena d.arena) (ok : Ok d) (opened : IsTrue (is_o
   -- ---- the views on both sides of the entry
 
   abbrev pub state_before : State
-  state_before = begun_state d.arena d.points.names d.command d.log
+  state_before = begun_state d.arena d.points.names d.command d.history.log
 
   abbrev pub state_now : State
-  state_now = state_of d.arena d.points d.overrides.items d.flags d.command d.log
+  state_now = state_of d.arena d.points d.overrides.items d.flags d.command d.history.log
 
   pub view_before : view_at d.points.names before d.command.kept.places ≡ view_of state_before
   unfolding view_of
@@ -152,53 +151,53 @@ module _ (d : Inside) (law : IsArena d.arena) (ok : Ok d) (opened : IsTrue (is_o
 
   -- ---- an entry that the command began
 
-  module _ (begun : is_resumed d.log.open_entry ≡ false) (c : Command) (starts : c.start ≡ d.arena.next) (us : List EntrySnapshot) (out : Option EntrySnapshot) where
+  module _ (begun : is_resumed d.history.log.open_entry ≡ false) (c : Command) (starts : c.start ≡ d.arena.next) (us : List EntrySnapshot) (out : Option EntrySnapshot) where
     abbrev roots : List NodeRef
     roots = loose_roots d.arena.trees d.command.detached.items
 
-    begun_undo : UndoSound d.arena.held d.points.names false d.command high before d.log.undo d.undo_sides.items
-    begun_undo = subst (λ r. UndoSound d.arena.held d.points.names r d.command high before d.log.undo d.undo_sides.items) (ok.resumed ∙ begun) ok.undo
+    begun_undo : UndoSound d.arena.held d.points.names false d.command high before d.history.log.undo d.history.past
+    begun_undo = subst (λ r. UndoSound d.arena.held d.points.names r d.command high before d.history.log.undo d.history.past) (ok.resumed ∙ begun) ok.undo
 
     start_le : d.command.start ≤ c.start
     start_le = (let s = starts in let t = ok.valid.started in omega (arith, s, t))
 
     pub with_first : (b : EntrySnapshot) → b.sides ≡ made_sides d.command p d.counts → b.detached.items ≡ roots →
-        UndoSound d.arena.held d.points.names false c d.arena.next d.arena.trees (steps ∷ d.log.undo) (b ∷ d.undo_sides.items)
+        UndoSound d.arena.held d.points.names false c d.arena.next d.arena.trees (steps ∷ d.history.log.undo) (b ∷ d.history.past)
     with_first b same none =
         let f = d.arena.trees in
         let ts = inverses_back applied inverse (changes_of steps) f in
-        let rest = undo_later d.arena.held d.points.names d.command c start_le high d.command.start before d.log.undo d.undo_sides.items high_le start_le begun_undo in (
+        let rest = undo_later d.arena.held d.points.names d.command c start_le high d.command.start before d.history.log.undo d.history.past high_le start_le begun_undo in (
           (run d law ok opened).can,
           (
             subst (λ n. IsSnapshot d.points.names before f steps ts b b.detached.items d.arena.next n) (sym starts) (made_snapshot d law ok opened p resting b b.detached.items none same),
-            subst (λ (s : Sides). UndoSound d.arena.held d.points.names false c s.first_label before d.log.undo d.undo_sides.items) (sym same) rest,
+            subst (λ (s : Sides). UndoSound d.arena.held d.points.names false c s.first_label before d.history.log.undo d.history.past) (sym same) rest,
           ),
         )
 
-    pub entering : Enters d.command roots p d.counts d.undo_sides.capacity d.undo_sides.items us out → EntersIn false (made_sides d.command p d.counts) roots p d.counts d.undo_sides.capacity d.undo_sides.items us out
-    entering h = subst (λ r. EntersIn r (made_sides d.command p d.counts) roots p d.counts d.undo_sides.capacity d.undo_sides.items us out) (ok.resumed ∙ begun) h
+    pub entering : Enters d.command roots p d.counts d.history.log.depth d.history.past us out → EntersIn false (made_sides d.command p d.counts) roots p d.counts d.history.log.depth d.history.past us out
+    entering h = subst (λ r. EntersIn r (made_sides d.command p d.counts) roots p d.counts d.history.log.depth d.history.past us out) (ok.resumed ∙ begun) h
 
-    module _ (enters : Enters d.command roots p d.counts d.undo_sides.capacity d.undo_sides.items us out) where
-      pub begun_sound : UndoSound d.arena.held d.points.names false c d.arena.next d.arena.trees (take d.log.depth (steps ∷ d.log.undo)) us
+    module _ (enters : Enters d.command roots p d.counts d.history.log.depth d.history.past us out) where
+      pub begun_sound : UndoSound d.arena.held d.points.names false c d.arena.next d.arena.trees (take d.history.log.depth (steps ∷ d.history.log.undo)) us
       begun_sound =
           let h = entering enters in
-          let all = undo-take d.arena.held d.points.names c d.log.depth d.arena.next d.arena.trees (steps ∷ d.log.undo) (h.0 ∷ d.undo_sides.items) (with_first h.0 h.1 h.2) in
-          let is : us ≡ take d.log.depth (h.0 ∷ d.undo_sides.items) = h.3 ∙ ap (λ n. take n (h.0 ∷ d.undo_sides.items)) ok.us_room_is in
-          subst (λ bs. UndoSound d.arena.held d.points.names false c d.arena.next d.arena.trees (take d.log.depth (steps ∷ d.log.undo)) bs) (sym is) all
+          let all = undo-take d.arena.held d.points.names c d.history.log.depth d.arena.next d.arena.trees (steps ∷ d.history.log.undo) (h.0 ∷ d.history.past) (with_first h.0 h.1 h.2) in
+          let is : us ≡ take d.history.log.depth (h.0 ∷ d.history.past) = h.3 in
+          subst (λ bs. UndoSound d.arena.held d.points.names false c d.arena.next d.arena.trees (take d.history.log.depth (steps ∷ d.history.log.undo)) bs) (sym is) all
 
       pub begun_history : 0 < length steps → (v : Whole) → seen d ≡ v →
-          history_of d.points.names d.arena.trees (record d.log { undo = take d.log.depth (steps ∷ d.log.undo); redo = []; open_entry = Closed; dropped = d.log.dropped || nat_le d.log.depth (length d.log.undo) }) us [] ≡ history_committed v
+          history_of d.points.names d.arena.trees (trail_of (record d.history.log { undo = take d.history.log.depth (steps ∷ d.history.log.undo); redo = []; open_entry = Closed; dropped = d.history.log.dropped || nat_le d.history.log.depth (length d.history.log.undo) }) us []) ≡ history_committed v
       unfolding history_committed
       begun_history some v sees =
           let f = d.arena.trees in
           let h = entering enters in
-          let is : us ≡ take d.log.depth (h.0 ∷ d.undo_sides.items) = h.3 ∙ ap (λ n. take n (h.0 ∷ d.undo_sides.items)) ok.us_room_is in
+          let is : us ≡ take d.history.log.depth (h.0 ∷ d.history.past) = h.3 in
           let was = ap (λ (s : Sides). view_at d.points.names before s.before) h.1 ∙ view_before in
           let now = ap (λ (s : Sides). view_at d.points.names f s.after) h.1 ∙ view_now in
           let made_is = ap (λ (s : Sides). used (edits_before steps f) (roots_from s.first_label before)) h.1 in
-          let entries : undo_entries d.points.names f (take d.log.depth (steps ∷ d.log.undo)) us ≡ take d.log.depth (entry_of state_before state_now ∷ undo_entries d.points.names before d.log.undo d.undo_sides.items) =
-          ap (undo_entries d.points.names f (take d.log.depth (steps ∷ d.log.undo))) is
-          ∙ (undo_entries-take d.points.names d.log.depth f (steps ∷ d.log.undo) (h.0 ∷ d.undo_sides.items)
-          ∙ (λ i. take d.log.depth (record { before = was i; after = now i; edits = edits_before steps f; made = made_is i } ∷ undo_entries d.points.names before d.log.undo d.undo_sides.items))) in
-          (λ i. record { undo = entries i; redo = []; depth = d.log.depth; dropped = d.log.dropped || nat_le d.log.depth (undo_count d (seen d) refl ok i) })
-          ∙ (sym (made_recorded state_before d.log.open_entry (seen d) opened begun (subst (λ n. 0 < n) (sym (count_edits steps d.arena.trees)) some)) ∙ ap history_committed sees)
+          let entries : undo_entries d.points.names f (take d.history.log.depth (steps ∷ d.history.log.undo)) us ≡ take d.history.log.depth (entry_of state_before state_now ∷ undo_entries d.points.names before d.history.log.undo d.history.past) =
+          ap (undo_entries d.points.names f (take d.history.log.depth (steps ∷ d.history.log.undo))) is
+          ∙ (undo_entries-take d.points.names d.history.log.depth f (steps ∷ d.history.log.undo) (h.0 ∷ d.history.past)
+          ∙ (λ i. take d.history.log.depth (record { before = was i; after = now i; edits = edits_before steps f; made = made_is i } ∷ undo_entries d.points.names before d.history.log.undo d.history.past))) in
+          (λ i. record { undo = entries i; redo = []; depth = d.history.log.depth; dropped = d.history.log.dropped || nat_le d.history.log.depth (undo_count d (seen d) refl ok i) })
+          ∙ (sym (made_recorded state_before d.history.log.open_entry (seen d) opened begun (subst (λ n. 0 < n) (sym (count_edits steps d.arena.trees)) some)) ∙ ap history_committed sees)

@@ -17,10 +17,8 @@ use Rattle.dom_model.specs.Change as change
 use Rattle.forest_changes.specs.Named.{Each, named, listed}
 use Rattle.forest_changes.specs.Down.{IsLeft}
 use Rattle.forest_changes.proofs.Twice.{forest_of}
-use Rattle.edit_steps.specs.declared.step.Step.{Step}
 use Rattle.edit_steps.specs.declared.step.Step.TheVariants.{Unlink}
 use Rattle.edit_steps.specs.Step.{StepFits, change_of, step_applied, step_inverse}
-use Rattle.undo_log.specs.Log.{Log, with_step}
 use Rattle.edit_model.specs.declared.settings.Setting.{Setting}
 use Rattle.edit_model.specs.Edit.{Remove, is_made_edit, change_of as edit_change, trees_after, points_after}
 use Rattle.edit_model.specs.Confined.{may_leave, may_remove}
@@ -33,6 +31,7 @@ use Rattle.edit_doc.specs.declared.command.Command.{Command}
 use Rattle.edit_doc.specs.Whole.{Whole, IsOpen}
 use Rattle.edit_doc.specs.Held.{Holds, IfHeld}
 use Rattle.edit_doc.specs.Marks.{Marks, IsMarked, AreMarkable, place_labels, has_named}
+use Rattle.edit_doc.specs.Trail.{Trail, with_note}
 use Rattle.edit_doc.proofs.Changing.{Follows, run}
 use Rattle.edit_doc.proofs.Edited.{Makes, Applied, edit_linked}
 use Rattle.edit_doc.proofs.Inner.{seen, Ok, open_of}
@@ -71,7 +70,7 @@ module _ (d : Inside) (law : IsArena d.arena) (v : Whole) (is : seen d ≡ v) (n
   markable r h =
       let here = (held_seen d v is r h).here in
       let below = law.below r.label (omega (arith, here, count_of-pruned (out_of d) d.arena.trees r.label)) in
-      let marks = (run d.arena d.points d.overrides.items d.flags d.counts d.command d.log d.undo_sides.items d.redo_sides.items d.undo_sides.capacity d.redo_sides.capacity law (open_of d v is now_open) ok).marks in
+      let marks = (run d.arena d.points d.overrides.items d.flags d.counts d.command d.history law (open_of d v is now_open) ok).marks in
       omega (arith, below, marks)
 
   pub place_markable : (node parent : NodeRef) (o : Option NodeRef) → Holds v node → Holds v parent → IfHeld v o → AreMarkable d.command (place_labels node parent o)
@@ -160,6 +159,6 @@ module _ (d : Inside) (law : IsArena d.arena) (v : Whole) (is : seen d ≡ v) (n
           depth = depth_is counts.depth depth;
         }
 
-        pub unlink_done : (arena : Arena) (log : Log Step) → arena ≡ step_applied (Unlink node) d.arena → log ≡ with_step d.log (step_inverse (Unlink node) d.arena) → Applied d v (Remove node.label) arena points overrides counts c log
-        unlink_done arena log arena_is log_is =
-            edit_linked d v is law now_open ok (Remove node.label) (Unlink node) points overrides counts c may removes arena log arena_is log_is
+        pub unlink_done : (arena : Arena) (trail : Trail) → arena ≡ step_applied (Unlink node) d.arena → trail ≡ with_note d.history (step_inverse (Unlink node) d.arena) → Applied d v (Remove node.label) arena points overrides counts c trail
+        unlink_done arena trail arena_is trail_is =
+            edit_linked d v is law now_open ok (Remove node.label) (Unlink node) points overrides counts c may removes arena trail arena_is trail_is

@@ -22,10 +22,8 @@ use Rattle.forest_changes.specs.Named.{Each, named}
 use Rattle.forest_changes.specs.Down.{IsLeft}
 use Rattle.forest_changes.proofs.Twice.{forest_of}
 use Rattle.forest_changes.proofs.PrunedChanges.{content_of-pruned}
-use Rattle.edit_steps.specs.declared.step.Step.{Step}
 use Rattle.edit_steps.specs.declared.step.Step.TheVariants.{Words as Rewords}
 use Rattle.edit_steps.specs.Step.{StepFits, change_of, step_applied, step_inverse}
-use Rattle.undo_log.specs.Log.{Log, with_step}
 use Rattle.edit_model.specs.declared.settings.Setting.{Setting}
 use Rattle.edit_model.specs.State.{State}
 use Rattle.edit_model.specs.Edit.{Replace, is_made_edit, change_of as edit_change, trees_after, points_after, with_replaced}
@@ -37,6 +35,7 @@ use Rattle.edit_doc.specs.declared.command.Command.{Command}
 use Rattle.edit_doc.specs.Whole.{Whole, IsOpen}
 use Rattle.edit_doc.specs.Held.{Holds}
 use Rattle.edit_doc.specs.Marks.{Marks}
+use Rattle.edit_doc.specs.Trail.{Trail, with_note}
 use Rattle.edit_doc.proofs.Attributed.{revised_same}
 use Rattle.edit_doc.proofs.Rests.{arena_forest}
 use Rattle.edit_doc.proofs.Raised.{revised_depth}
@@ -167,9 +166,9 @@ module _ (d : Inside) (law : IsArena d.arena) (v : Whole) (is : seen d ≡ v) (n
         depth = (let low = ok.depth in omega (arith, depth_same, low, depth));
       }
 
-      pub replace_done : (arena : Arena) (log : Log Step) → arena ≡ step_applied (Rewords node words) d.arena → log ≡ with_step d.log (step_inverse (Rewords node words) d.arena) → Done d v (Replace node.label at count put) arena points overrides counts c log
-      replace_done arena log arena_is log_is =
-          edit_called d v is law now_open ok (Replace node.label at count put) (Rewords node words) points overrides counts c (may_replace_here own change) replaces arena log arena_is log_is
+      pub replace_done : (arena : Arena) (trail : Trail) → arena ≡ step_applied (Rewords node words) d.arena → trail ≡ with_note d.history (step_inverse (Rewords node words) d.arena) → Done d v (Replace node.label at count put) arena points overrides counts c trail
+      replace_done arena trail arena_is trail_is =
+          edit_called d v is law now_open ok (Replace node.label at count put) (Rewords node words) points overrides counts c (may_replace_here own change) replaces arena trail arena_is trail_is
 
 pub not_own_replace : (s : State) (n at count : ℕ) (put : List ℕ) → is_own s n ≡ false → is_made_edit (Replace n at count put) s ≡ false
 unfolding is_made_edit may_replace

@@ -1,5 +1,5 @@
 -- A document outside commands.
-use Rattle.std.proofs.Common.{◌≡◌, ℕ, ◌<◌, ◌≤◌, false, List, [], length, Option, Some, None, IfSome, refl, sym, ap, subst, ◌∙◌, arith}
+use Rattle.std.proofs.Common.{◌≡◌, ◌<◌, ◌≤◌, false, List, [], length, Option, Some, None, IfSome, refl, sym, ap, subst, ◌∙◌, arith}
 use Rattle.dom_model.specs.declared.Content.{Content}
 use Rattle.dom_model.specs.Document.{node_count, char_count, page_depth}
 use Rattle.dom_model.specs.Forest.{Forest, tops, times, count_of}
@@ -21,11 +21,11 @@ use Rattle.edit_model.specs.History.{document_of}
 use Rattle.edit_model.proofs.Resting.{forest-document, leaves-document}
 use Rattle.edit_model.proofs.Points.{points_left}
 use Rattle.edit_parts.specs.declared.Counts.{Counts}
-use Rattle.edit_doc.specs.declared.command.EntrySnapshot.{EntrySnapshot}
 use Rattle.edit_doc.specs.declared.command.Command.{Command}
 use Rattle.edit_doc.specs.History.{edits_before, roots_from, begun_forest, forest_before, is_hidden, seen_trees, state_of, begun_state, began_with, history_of, whole_of}
 use Rattle.node_arena.specs.declared.NodeRef.{NodeRef}
 use Rattle.edit_doc.specs.Sound.{RefIn, IsIdle, OpenSound, UndoSound, RedoSound, AreNeeded, next_first, IsSoundDoc}
+use Rattle.edit_doc.specs.Trail.{Trail}
 use Rattle.edit_doc.proofs.HiddenTrees.{hidden_is, seen_at_rest, model_forest, placed-whole}
 use Rattle.edit_doc.proofs.MadeNodes.{no_edits, roots-none}
 
@@ -55,11 +55,11 @@ rested_state a points overrides flags = record {
   made = [];
 }
 
-module _ (a : Arena) (points : LivePoints) (overrides : List Setting) (flags : Flags) (counts : Counts) (c : Command) (log : Log Step) (us rs : List EntrySnapshot) (us_room rs_room : ℕ) where
+module _ (a : Arena) (points : LivePoints) (overrides : List Setting) (flags : Flags) (counts : Counts) (c : Command) (trail : Trail) where
   -- what has to hold of the fields outside commands
   pub record AtRest : Type 0 where
     pub law : IsArena a
-    pub closed : log.open_entry ≡ Closed
+    pub closed : trail.log.open_entry ≡ Closed
     pub idle : IsIdle c points a.next
     pub resumed : c.resumed ≡ false
     pub placed : IsPlaced a.trees points
@@ -67,20 +67,18 @@ module _ (a : Arena) (points : LivePoints) (overrides : List Setting) (flags : F
     pub nodes : counts.nodes ≡ node_count a.trees
     pub chars : counts.chars ≡ char_count a.trees
     pub depth : page_depth a.trees ≤ counts.depth
-    pub undo : UndoSound a.held points.names false c (next_first c.start rs) a.trees log.undo us
-    pub redo : RedoSound a.held points.names c a.trees log.redo rs
-    pub us_room_is : us_room ≡ log.depth
-    pub rs_room_is : rs_room ≡ log.depth
+    pub undo : UndoSound a.held points.names false c (next_first c.start trail.future) a.trees trail.log.undo trail.past
+    pub redo : RedoSound a.held points.names c a.trees trail.log.redo trail.future
 
-  forest_is : log.open_entry ≡ Closed → begun_forest log a.trees ≡ a.trees
-  forest_is closed = none_noted log a.trees (ap noted closed)
+  forest_is : trail.log.open_entry ≡ Closed → begun_forest trail.log a.trees ≡ a.trees
+  forest_is closed = none_noted trail.log a.trees (ap noted closed)
 
-  pub trees_are : IsArena a → log.open_entry ≡ Closed → c.start ≡ a.next → seen_trees log c.start a.trees ≡ document_of a.trees
+  pub trees_are : IsArena a → trail.log.open_entry ≡ Closed → c.start ≡ a.next → seen_trees trail.log c.start a.trees ≡ document_of a.trees
   trees_are law closed start =
       ap (λ g. pruned (is_hidden g c.start) a.trees) (forest_is closed)
       ∙ (ap (λ n. pruned (is_hidden a.trees n) a.trees) start ∙ seen_at_rest a.trees a.next (arena_forest a law))
 
-  pub rest_state : AtRest → state_of a points overrides flags c log ≡ rested_state a points overrides flags
+  pub rest_state : AtRest → state_of a points overrides flags c trail.log ≡ rested_state a points overrides flags
   rest_state r = λ i. record {
     trees = trees_are r.law r.closed r.idle.start i;
     points = points;
@@ -92,19 +90,19 @@ module _ (a : Arena) (points : LivePoints) (overrides : List Setting) (flags : F
     host = label_of (r.idle.host i);
     keeping = r.idle.keeping i;
     edits = (ap (λ o. edits_before (noted o) a.trees) r.closed ∙ no_edits a.trees) i;
-    made = (ap (λ n. roots_from n (begun_forest log a.trees)) r.idle.start ∙ (ap (roots_from a.next) (forest_is r.closed) ∙ roots-none a.next a.trees r.law.below)) i;
+    made = (ap (λ n. roots_from n (begun_forest trail.log a.trees)) r.idle.start ∙ (ap (roots_from a.next) (forest_is r.closed) ∙ roots-none a.next a.trees r.law.below)) i;
   }
 
-  pub rest_whole : AtRest → whole_of a points overrides flags c log us rs ≡ record {
+  pub rest_whole : AtRest → whole_of a points overrides flags c trail ≡ record {
     state = rested_state a points overrides flags;
-    history = history_of points.names a.trees log us rs;
+    history = history_of points.names a.trees trail;
     began = None;
     held = a.held;
   }
   rest_whole r = λ i. record {
     state = rest_state r i;
-    history = history_of points.names (forest_is r.closed i) log us rs;
-    began = began_with (begun_state a points.names c log) (r.closed i);
+    history = history_of points.names (forest_is r.closed i) trail;
+    began = began_with (begun_state a points.names c trail.log) (r.closed i);
     held = a.held;
   }
 
@@ -118,7 +116,7 @@ module _ (a : Arena) (points : LivePoints) (overrides : List Setting) (flags : F
         settings = r.settings;
       }
 
-  pub rest_sound : AtRest → AreNeeded c.start a.trees log.undo log.redo → IsSoundDoc a points overrides flags counts c log us rs us_room rs_room
+  pub rest_sound : AtRest → AreNeeded c.start a.trees trail.log.undo trail.log.redo → IsSoundDoc a points overrides flags counts c trail
   rest_sound r needed =
       let e = forest_is r.closed in
       record {
@@ -127,21 +125,19 @@ module _ (a : Arena) (points : LivePoints) (overrides : List Setting) (flags : F
         nodes = r.nodes;
         chars = r.chars;
         depth = r.depth;
-        hidden = λ l h. subst (λ g. 0 < times (tops g) l) e (hidden_is (begun_forest log a.trees) c.start l h).root;
-        running = subst (λ o. OpenSound a points c (begun_forest log a.trees) o) (sym r.closed) r.idle;
+        hidden = λ l h. subst (λ g. 0 < times (tops g) l) e (hidden_is (begun_forest trail.log a.trees) c.start l h).root;
+        running = subst (λ o. OpenSound a points c (begun_forest trail.log a.trees) o) (sym r.closed) r.idle;
         resumed = r.resumed ∙ ap is_resumed (sym r.closed);
-        host = no_host c.host (λ h. RefIn a.held h × (0 < count_of (seen_trees log c.start a.trees) h.label)) r.idle.host;
-        undo = subst (λ b. UndoSound a.held points.names b c (next_first c.start rs) (begun_forest log a.trees) log.undo us) (sym r.resumed) (subst (λ g. UndoSound a.held points.names false c (next_first c.start rs) g log.undo us) (sym e) r.undo);
-        redo = subst (λ g. RedoSound a.held points.names c g log.redo rs) (sym e) r.redo;
-        needed = subst (λ g. AreNeeded c.start g log.undo log.redo) (sym e) needed;
-        us_room_is = r.us_room_is;
-        rs_room_is = r.rs_room_is;
+        host = no_host c.host (λ h. RefIn a.held h × (0 < count_of (seen_trees trail.log c.start a.trees) h.label)) r.idle.host;
+        undo = subst (λ b. UndoSound a.held points.names b c (next_first c.start trail.future) (begun_forest trail.log a.trees) trail.log.undo trail.past) (sym r.resumed) (subst (λ g. UndoSound a.held points.names false c (next_first c.start trail.future) g trail.log.undo trail.past) (sym e) r.undo);
+        redo = subst (λ g. RedoSound a.held points.names c g trail.log.redo trail.future) (sym e) r.redo;
+        needed = subst (λ g. AreNeeded c.start g trail.log.undo trail.log.redo) (sym e) needed;
       }
 
-  pub rest_of : IsArena a → log.open_entry ≡ Closed → IsSoundDoc a points overrides flags counts c log us rs us_room rs_room → AtRest
+  pub rest_of : IsArena a → trail.log.open_entry ≡ Closed → IsSoundDoc a points overrides flags counts c trail → AtRest
   rest_of law closed ok =
       let e = forest_is closed in
-      let idle : IsIdle c points a.next = subst (λ o. OpenSound a points c (begun_forest log a.trees) o) closed ok.running in
+      let idle : IsIdle c points a.next = subst (λ o. OpenSound a points c (begun_forest trail.log a.trees) o) closed ok.running in
       let resumed : c.resumed ≡ false = ok.resumed ∙ ap is_resumed closed in
       let f = arena_forest a law in
       record {
@@ -149,13 +145,11 @@ module _ (a : Arena) (points : LivePoints) (overrides : List Setting) (flags : F
         closed = closed;
         idle = idle;
         resumed = resumed;
-        placed = placed-whole a.trees a.next f (is_hidden (begun_forest log a.trees) c.start) refl points ok.valid.placed;
+        placed = placed-whole a.trees a.next f (is_hidden (begun_forest trail.log a.trees) c.start) refl points ok.valid.placed;
         settings = ok.valid.settings;
         nodes = ok.nodes;
         chars = ok.chars;
         depth = ok.depth;
-        undo = subst (λ g. UndoSound a.held points.names false c (next_first c.start rs) g log.undo us) e (subst (λ b. UndoSound a.held points.names b c (next_first c.start rs) (begun_forest log a.trees) log.undo us) resumed ok.undo);
-        redo = subst (λ g. RedoSound a.held points.names c g log.redo rs) e ok.redo;
-        us_room_is = ok.us_room_is;
-        rs_room_is = ok.rs_room_is;
+        undo = subst (λ g. UndoSound a.held points.names false c (next_first c.start trail.future) g trail.log.undo trail.past) e (subst (λ b. UndoSound a.held points.names b c (next_first c.start trail.future) (begun_forest trail.log a.trees) trail.log.undo trail.past) resumed ok.undo);
+        redo = subst (λ g. RedoSound a.held points.names c g trail.log.redo trail.future) e ok.redo;
       }

@@ -20,6 +20,7 @@ use Rattle.edit_doc.specs.Whole.{opened}
 use Rattle.edit_doc.specs.Held.{IfHeld}
 use Rattle.edit_doc.specs.History.{forest_before, undo_entries, redo_entries, whole_of}
 use Rattle.edit_doc.specs.Sound.{IsSnapshot, UndoSound, next_first, IsSoundDoc}
+use Rattle.edit_doc.specs.Trail.{trail_of}
 use Rattle.edit_doc.proofs.Inner.{seen, Ok}
 use Rattle.edit_doc.proofs.Laid.{snapshot_later, undo_later, redo_later, next_first_low, undo_sides_length}
 use Rattle.edit_doc.proofs.Rolls.{snapshot_of}
@@ -58,21 +59,21 @@ swapped_undo held names c m r le same all high f (e ∷ es) (b ∷ bs) new known
       ),
     )
 
-module _ (d : Inside) (law : IsArena d.arena) (closed : d.log.open_entry ≡ Closed) (ok : Ok d) where
-  pub some_sides : 0 < length d.log.undo → 0 < length d.undo_sides.items
+module _ (d : Inside) (law : IsArena d.arena) (closed : d.history.log.open_entry ≡ Closed) (ok : Ok d) where
+  pub some_sides : 0 < length d.history.log.undo → 0 < length d.history.past
   some_sides h =
       let r = rest d law closed ok in
-      let n = undo_sides_length d.arena.held d.points.names d.command false (next_first d.command.start d.redo_sides.items) d.arena.trees d.log.undo d.undo_sides.items r.undo in
+      let n = undo_sides_length d.arena.held d.points.names d.command false (next_first d.command.start d.history.future) d.arena.trees d.history.log.undo d.history.past r.undo in
       omega (arith, n, h)
 
-  module _ (k : Kept) (host : Option NodeRef) (keeps : IsKept d.points d.overrides.items d.flags d.counts k) (us : List EntrySnapshot) (m : Command) (swaps : SwapsLeft d.undo_sides.items us d.command m) (n : ℕ) (all : n ≡ length m.detached.items) where
+  module _ (k : Kept) (host : Option NodeRef) (keeps : IsKept d.points d.overrides.items d.flags d.counts k) (us : List EntrySnapshot) (m : Command) (swaps : SwapsLeft d.history.past us d.command m) (n : ℕ) (all : n ≡ length m.detached.items) where
     abbrev command : Command
     command = record m { host = host; resumed = true; detached_before = n; kept = k }
 
-    opens : Opens d command (resumed_log d.log)
+    opens : Opens d command (resumed_log d.history.log)
     opens =
         let r = rest d law closed ok in
-        let s = swapped d.undo_sides.items us d.command m swaps in
+        let s = swapped d.history.past us d.command m swaps in
         record {
           start = s.start;
           named = s.named ∙ r.idle.named;
@@ -85,26 +86,26 @@ module _ (d : Inside) (law : IsArena d.arena) (closed : d.log.open_entry ≡ Clo
     start_le : d.command.start ≤ command.start
     start_le = (let e = opens.start in omega (arith, e))
 
-    pub resume_ok : IfHeld (seen d) host → IsSoundDoc d.arena d.points d.overrides.items d.flags d.counts command (resumed_log d.log) us d.redo_sides.items d.undo_sides.capacity d.redo_sides.capacity
+    pub resume_ok : IfHeld (seen d) host → IsSoundDoc d.arena d.points d.overrides.items d.flags d.counts command (trail_of (resumed_log d.history.log) us d.history.future)
     resume_ok held =
         let r = rest d law closed ok in
-        let high = next_first d.command.start d.redo_sides.items in
-        let low = next_first_low d.arena.held d.points.names d.command d.arena.trees d.log.redo d.redo_sides.items r.redo in
-        let undo = swapped_undo d.arena.held d.points.names d.command m command start_le refl all high d.arena.trees d.log.undo d.undo_sides.items us (omega (arith, low, start_le)) swaps r.undo in
-        opened_ok d law closed ok command (resumed_log d.log) opens us (λ g h. h) refl (held_host d law closed ok host held)
-        (subst (λ (x : ℕ). UndoSound d.arena.held d.points.names true command (next_first x d.redo_sides.items) d.arena.trees d.log.undo us) (sym opens.start) undo)
-        (redo_later d.arena.held d.points.names d.command command start_le d.arena.trees d.log.redo d.redo_sides.items r.redo)
+        let high = next_first d.command.start d.history.future in
+        let low = next_first_low d.arena.held d.points.names d.command d.arena.trees d.history.log.redo d.history.future r.redo in
+        let undo = swapped_undo d.arena.held d.points.names d.command m command start_le refl all high d.arena.trees d.history.log.undo d.history.past us (omega (arith, low, start_le)) swaps r.undo in
+        opened_ok d law closed ok command (resumed_log d.history.log) opens us (λ g h. h) refl (held_host d law closed ok host held)
+        (subst (λ (x : ℕ). UndoSound d.arena.held d.points.names true command (next_first x d.history.future) d.arena.trees d.history.log.undo us) (sym opens.start) undo)
+        (redo_later d.arena.held d.points.names d.command command start_le d.arena.trees d.history.log.redo d.history.future r.redo)
         (needed_now d law closed ok)
 
-    pub resume_is : whole_of d.arena d.points d.overrides.items d.flags command (resumed_log d.log) us d.redo_sides.items ≡ opened (label_of host) false true (seen d)
+    pub resume_is : whole_of d.arena d.points d.overrides.items d.flags command (trail_of (resumed_log d.history.log) us d.history.future) ≡ opened (label_of host) false true (seen d)
     resume_is =
         let r = rest d law closed ok in
-        let s = swapped d.undo_sides.items us d.command m swaps in
-        opened_is d law closed ok command (resumed_log d.log) opens us true (λ t. refl)
+        let s = swapped d.history.past us d.command m swaps in
+        opened_is d law closed ok command (resumed_log d.history.log) opens us true (λ t. refl)
         (λ i. record {
-          undo = swapped_entries d.points.names d.arena.trees d.log.undo d.undo_sides.items us d.command m swaps i;
-          redo = redo_entries d.points.names d.arena.trees d.log.redo d.redo_sides.items;
-          depth = d.log.depth;
-          dropped = d.log.dropped;
+          undo = swapped_entries d.points.names d.arena.trees d.history.log.undo d.history.past us d.command m swaps i;
+          redo = redo_entries d.points.names d.arena.trees d.history.log.redo d.history.future;
+          depth = d.history.log.depth;
+          dropped = d.history.log.dropped;
         })
         ∙ ap (λ b. opened (label_of host) b true (seen d)) (s.keeping ∙ r.idle.keeping)

@@ -16,7 +16,7 @@ use Rattle.node_arena.specs.Held.{DropsMade}
 use Rattle.live_range.specs.LivePoints.{LivePoints}
 use Rattle.live_range.specs.Names.{shown}
 use Rattle.undo_log.specs.Turning.{back, inverses_back, FitsBack}
-use Rattle.undo_log.specs.Log.{Log, IsLog, Open, noted, is_open, is_resumed, abandoned}
+use Rattle.undo_log.specs.Log.{Log, Open, noted, is_open, is_resumed, abandoned}
 use Rattle.undo_log.specs.Log.Open.{Closed, Begun, Resumed}
 use Rattle.undo_log.specs.States.{start, start_with}
 use Rattle.forest_changes.specs.Change.{Change, IsForest, applied, inverse}
@@ -42,10 +42,11 @@ use Rattle.edit_doc.specs.Whole.{Whole, state_rolled_back, rolled_to}
 use Rattle.edit_doc.specs.Held.{KeepsThere}
 use Rattle.edit_doc.specs.History.{edits_before, roots_from, forest_before, forest_after, is_hidden, view_at, begun_forest, state_of, begun_state, began_with, history_of, undo_entries, redo_entries, whole_of}
 use Rattle.edit_doc.specs.Sound.{RefIn, AreFresh, AreAlone, IsSide, IsSnapshot, IsRunning, OpenSound, UndoSound, RedoSound, EntriesOff, AreNeeded, next_first, IsSoundDoc}
+use Rattle.edit_doc.specs.Trail.{trail_of, IsTrail}
 use Rattle.edit_doc.proofs.HiddenTrees.{tops_detached, le_false, true_le, false_le, document-pruned, model_forest}
 use Rattle.edit_doc.proofs.Downs.{back_forest, back_bounded, forth_labels, back_labels, Bounded, KeepsLeft, EntriesLeft, side-pruned, undo-pruned, redo-pruned, undo_entries-pruned, redo_entries-pruned}
 use Rattle.edit_doc.proofs.Inner.{seen, Ok}
-use Rattle.edit_doc.proofs.Laid.{undo_later, redo_later, next_first_low, undo_sides_length}
+use Rattle.edit_doc.proofs.Laid.{undo_later, redo_later, next_first_low}
 use Rattle.edit_doc.proofs.Off.{tree_pruned, entries_moved as entries_off}
 use Rattle.edit_doc.proofs.Rests.{AtRest, rest_sound, rest_state, none_noted}
 
@@ -164,15 +165,15 @@ whole_alone g first next once below alone = whole_those (nat_le first) g once (�
 
 -- The arena at the forest as the command began, or at one where it noted nothing, without what was made since. The labels
 -- may be drawn again from the start on, or stay spent.
-module _ (d : Inside) (law : IsArena d.arena) (ok : Ok d) (opened : IsTrue (is_open d.log.open_entry)) where
-  pub run : IsRunning d.arena d.points.names d.command (noted d.log.open_entry) (begun_forest d.log d.arena.trees)
-  run = run_of d.arena d.points d.command (begun_forest d.log d.arena.trees) d.log.open_entry opened ok.running
+module _ (d : Inside) (law : IsArena d.arena) (ok : Ok d) (opened : IsTrue (is_open d.history.log.open_entry)) where
+  pub run : IsRunning d.arena d.points.names d.command (noted d.history.log.open_entry) (begun_forest d.history.log d.arena.trees)
+  run = run_of d.arena d.points d.command (begun_forest d.history.log d.arena.trees) d.history.log.open_entry opened ok.running
 
   abbrev pub g : Forest Content
-  g = begun_forest d.log d.arena.trees
+  g = begun_forest d.history.log d.arena.trees
 
   abbrev pub xs : List Step
-  xs = noted d.log.open_entry
+  xs = noted d.history.log.open_entry
 
   abbrev pub k : ℕ → Bool
   k l = nat_le d.command.start l
@@ -198,11 +199,11 @@ module _ (d : Inside) (law : IsArena d.arena) (ok : Ok d) (opened : IsTrue (is_o
   stays_g : (l : ℕ) → l < d.command.start → 0 < count_of g l → IsLeft k g l
   stays_g l low here = (let s = whole_stays k g forest_g.distinct whole_g l (le_false d.command.start l low) in omega (arith, s, here))
 
-  pub undo_detached_g : EntriesLeft k g d.log.undo
-  undo_detached_g = undo_detached k g d.arena.held d.points.names d.command stays_g d.command.resumed (next_first d.command.start d.redo_sides.items) g d.log.undo d.undo_sides.items (λ l. refl) ok.undo
+  pub undo_detached_g : EntriesLeft k g d.history.log.undo
+  undo_detached_g = undo_detached k g d.arena.held d.points.names d.command stays_g d.command.resumed (next_first d.command.start d.history.future) g d.history.log.undo d.history.past (λ l. refl) ok.undo
 
-  pub redo_detached_g : EntriesLeft k g d.log.redo
-  redo_detached_g = redo_detached k g d.arena.held d.points.names d.command stays_g g d.log.redo d.redo_sides.items (λ l. refl) ok.redo
+  pub redo_detached_g : EntriesLeft k g d.history.log.redo
+  redo_detached_g = redo_detached k g d.arena.held d.points.names d.command stays_g g d.history.log.redo d.history.future (λ l. refl) ok.redo
 
   -- the arena without them
   pub record Without (a : Arena) : Type 0 where
@@ -213,7 +214,7 @@ module _ (d : Inside) (law : IsArena d.arena) (ok : Ok d) (opened : IsTrue (is_o
     pub held : (q : NodeRef) → RefIn d.arena.held q → q.label < d.command.start → RefIn a.held q
 
   -- the fields afterwards
-  module _ (a : Arena) (w : Without a) (us : List EntrySnapshot) (forgets : Forgets d.undo_sides.items us d.command) (c : Command) (ended : IsEnded a.next c) (log : Log Step) (closed : log.open_entry ≡ Closed) (depth : log.depth ≡ d.log.depth) (dropped : log.dropped ≡ d.log.dropped) (undo_is : log.undo ≡ d.log.undo) (redo_is : log.redo ≡ d.log.redo) where
+  module _ (a : Arena) (w : Without a) (us : List EntrySnapshot) (forgets : Forgets d.history.past us d.command) (c : Command) (ended : IsEnded a.next c) (log : Log Step) (closed : log.open_entry ≡ Closed) (depth : log.depth ≡ d.history.log.depth) (dropped : log.dropped ≡ d.history.log.dropped) (undo_is : log.undo ≡ d.history.log.undo) (redo_is : log.redo ≡ d.history.log.redo) where
     keeps : KeepsLeft k g d.arena.held a.held
     keeps q h detached = w.held q h (false_le d.command.start q.label (prunes_g.out q.label detached))
 
@@ -221,32 +222,32 @@ module _ (d : Inside) (law : IsArena d.arena) (ok : Ok d) (opened : IsTrue (is_o
     start_le = (let s = ended.start in let n = w.next in omega (arith, s, n))
 
     abbrev high : ℕ
-    high = next_first d.command.start d.redo_sides.items
+    high = next_first d.command.start d.history.future
 
-    undo_sound : UndoSound a.held d.points.names false d.command high a.trees d.log.undo us
+    undo_sound : UndoSound a.held d.points.names false d.command high a.trees d.history.log.undo us
     undo_sound =
-        subst (λ t. UndoSound a.held d.points.names false d.command high t d.log.undo us) (sym w.trees)
-        (undo_forgets a.held d.points.names d.command d.command.resumed high (pruned k g) d.log.undo d.undo_sides.items us forgets
-        (undo-pruned k d.arena.held a.held d.points.names d.command d.command.resumed high g d.log.undo d.undo_sides.items prunes_g forest_g bound_g keeps undo_detached_g ok.undo))
+        subst (λ t. UndoSound a.held d.points.names false d.command high t d.history.log.undo us) (sym w.trees)
+        (undo_forgets a.held d.points.names d.command d.command.resumed high (pruned k g) d.history.log.undo d.history.past us forgets
+        (undo-pruned k d.arena.held a.held d.points.names d.command d.command.resumed high g d.history.log.undo d.history.past prunes_g forest_g bound_g keeps undo_detached_g ok.undo))
 
-    redo_sound : RedoSound a.held d.points.names d.command a.trees d.log.redo d.redo_sides.items
+    redo_sound : RedoSound a.held d.points.names d.command a.trees d.history.log.redo d.history.future
     redo_sound =
-        subst (λ t. RedoSound a.held d.points.names d.command t d.log.redo d.redo_sides.items) (sym w.trees)
-        (redo-pruned k d.arena.held a.held d.points.names d.command g d.log.redo d.redo_sides.items prunes_g forest_g bound_g keeps redo_detached_g ok.redo)
+        subst (λ t. RedoSound a.held d.points.names d.command t d.history.log.redo d.history.future) (sym w.trees)
+        (redo-pruned k d.arena.held a.held d.points.names d.command g d.history.log.redo d.history.future prunes_g forest_g bound_g keeps redo_detached_g ok.redo)
 
-    high_le : high ≤ next_first c.start d.redo_sides.items
-    high_le = by_case d.redo_sides.items
+    high_le : high ≤ next_first c.start d.history.future
+    high_le = by_case d.history.future
       where
         by_case : (bs : List EntrySnapshot) → next_first d.command.start bs ≤ next_first c.start bs
         by_case [] = start_le
         by_case (b ∷ bs) = omega arith
 
-    high_known : next_first c.start d.redo_sides.items ≤ c.start
-    high_known = next_first_low a.held d.points.names c a.trees d.log.redo d.redo_sides.items (redo_later a.held d.points.names d.command c start_le a.trees d.log.redo d.redo_sides.items redo_sound)
+    high_known : next_first c.start d.history.future ≤ c.start
+    high_known = next_first_low a.held d.points.names c a.trees d.history.log.redo d.history.future (redo_later a.held d.points.names d.command c start_le a.trees d.history.log.redo d.history.future redo_sound)
 
     pub without_rest : (points : LivePoints) (overrides : List Setting) (flags : Flags) (counts : Counts) →
         points.names ≡ d.points.names → points.scratch ≡ None → IsPlaced a.trees points → length overrides ≡ 32 → counts.nodes ≡ node_count a.trees → counts.chars ≡ char_count a.trees → page_depth a.trees ≤ counts.depth →
-        AtRest a points overrides flags counts c log us d.redo_sides.items d.undo_sides.capacity d.redo_sides.capacity
+        AtRest a points overrides flags counts c (trail_of log us d.history.future)
     without_rest points overrides flags counts names scratch placed settings nodes chars deep = record {
       law = w.valid;
       closed = closed;
@@ -265,14 +266,12 @@ module _ (d : Inside) (law : IsArena d.arena) (ok : Ok d) (opened : IsTrue (is_o
       nodes = nodes;
       chars = chars;
       depth = deep;
-      undo = subst (λ es. UndoSound a.held points.names false c (next_first c.start d.redo_sides.items) a.trees es us) (sym undo_is)
-          (subst (λ ns. UndoSound a.held ns false c (next_first c.start d.redo_sides.items) a.trees d.log.undo us) (sym names)
-          (undo_later a.held d.points.names d.command c start_le high (next_first c.start d.redo_sides.items) a.trees d.log.undo us high_le high_known undo_sound));
-      redo = subst (λ es. RedoSound a.held points.names c a.trees es d.redo_sides.items) (sym redo_is)
-          (subst (λ ns. RedoSound a.held ns c a.trees d.log.redo d.redo_sides.items) (sym names)
-          (redo_later a.held d.points.names d.command c start_le a.trees d.log.redo d.redo_sides.items redo_sound));
-      us_room_is = ok.us_room_is ∙ sym depth;
-      rs_room_is = ok.rs_room_is ∙ sym depth;
+      undo = subst (λ es. UndoSound a.held points.names false c (next_first c.start d.history.future) a.trees es us) (sym undo_is)
+          (subst (λ ns. UndoSound a.held ns false c (next_first c.start d.history.future) a.trees d.history.log.undo us) (sym names)
+          (undo_later a.held d.points.names d.command c start_le high (next_first c.start d.history.future) a.trees d.history.log.undo us high_le high_known undo_sound));
+      redo = subst (λ es. RedoSound a.held points.names c a.trees es d.history.future) (sym redo_is)
+          (subst (λ ns. RedoSound a.held ns c a.trees d.history.log.redo d.history.future) (sym names)
+          (redo_later a.held d.points.names d.command c start_le a.trees d.history.log.redo d.history.future redo_sound));
     }
 
     pub without_needed : AreNeeded c.start a.trees log.undo log.redo
@@ -283,37 +282,37 @@ module _ (d : Inside) (law : IsArena d.arena) (ok : Ok d) (opened : IsTrue (is_o
         ok.needed l inner (false_le d.command.start l was.1) was.0
         (subst (EntriesOff l g) undo_is (entries_off l a.trees g same log.undo off_undo)) (subst (EntriesOff l g) redo_is (entries_off l a.trees g same log.redo off_redo))
 
-    pub without_history : (names : List (List ℕ)) → names ≡ d.points.names → history_of names a.trees log us d.redo_sides.items ≡ history_of d.points.names g d.log d.undo_sides.items d.redo_sides.items
+    pub without_history : (names : List (List ℕ)) → names ≡ d.points.names → history_of names a.trees (trail_of log us d.history.future) ≡ history_of d.points.names g d.history
     without_history names same =
         (λ i. record {
           undo = undo_entries (same i) (w.trees i) (undo_is i) us;
-          redo = redo_entries (same i) (w.trees i) (redo_is i) d.redo_sides.items;
+          redo = redo_entries (same i) (w.trees i) (redo_is i) d.history.future;
           depth = depth i;
           dropped = dropped i;
         })
         ∙ (λ i. record {
-          undo = (entries_forget a.held d.points.names d.command d.command.resumed (pruned k g) d.log.undo d.undo_sides.items us forgets
-              ∙ undo_entries-pruned k d.arena.held a.held d.points.names d.command d.command.resumed high g d.log.undo d.undo_sides.items prunes_g forest_g bound_g undo_detached_g ok.undo) i;
-          redo = redo_entries-pruned k d.arena.held a.held d.points.names d.command g d.log.redo d.redo_sides.items prunes_g forest_g bound_g redo_detached_g ok.redo i;
-          depth = d.log.depth;
-          dropped = d.log.dropped;
+          undo = (entries_forget a.held d.points.names d.command d.command.resumed (pruned k g) d.history.log.undo d.history.past us forgets
+              ∙ undo_entries-pruned k d.arena.held a.held d.points.names d.command d.command.resumed high g d.history.log.undo d.history.past prunes_g forest_g bound_g undo_detached_g ok.undo) i;
+          redo = redo_entries-pruned k d.arena.held a.held d.points.names d.command g d.history.log.redo d.history.future prunes_g forest_g bound_g redo_detached_g ok.redo i;
+          depth = d.history.log.depth;
+          dropped = d.history.log.dropped;
         })
 
   -- ---- roll_back
 
-  pub resumed_some : IsLog d.log → d.command.resumed ≡ true → 0 < length d.undo_sides.items
-  resumed_some log e =
-      let n = undo_sides_length d.arena.held d.points.names d.command d.command.resumed (next_first d.command.start d.redo_sides.items) g d.log.undo d.undo_sides.items ok.undo in
-      let more = (log.resumes_last (true_is (is_resumed d.log.open_entry) (sym ok.resumed ∙ e))).0 in
+  pub resumed_some : IsTrail d.history → d.command.resumed ≡ true → 0 < length d.history.past
+  resumed_some beside e =
+      let n = beside.past in
+      let more = (beside.log.resumes_last (true_is (is_resumed d.history.log.open_entry) (sym ok.resumed ∙ e))).0 in
       omega (arith, n, more)
     where
       true_is : (b : Bool) → b ≡ true → IsTrue b
       true_is true e = refl
       true_is false e = absurd (cc)
 
-  module _ (slotted : IsSlotted d.arena) (a1 : Arena) (abandons : a1 ≡ start step_applied d.log d.arena) where
+  module _ (slotted : IsSlotted d.arena) (a1 : Arena) (abandons : a1 ≡ start step_applied d.history.log d.arena) where
     pub back_is : a1 ≡ record d.arena { trees = g }
-    back_is = abandons ∙ (started_at d.log.open_entry d.arena opened ∙ (go_back xs d.arena (fits_of slotted)).state)
+    back_is = abandons ∙ (started_at d.history.log.open_entry d.arena opened ∙ (go_back xs d.arena (fits_of slotted)).state)
 
     pub drop_whole : IsWhole k a1.trees
     drop_whole = subst (λ (b : Arena). IsWhole k b.trees) (sym back_is) whole_g
@@ -328,14 +327,14 @@ module _ (d : Inside) (law : IsArena d.arena) (ok : Ok d) (opened : IsTrue (is_o
         held = λ q h low. subst (λ (b : Arena). RefIn b.held q) (sym rewinds) ((drops.held q).1 (subst (λ (b : Arena). RefIn b.held q) (sym back_is) h, low));
       }
 
-      module _ (us : List EntrySnapshot) (forgets : Forgets d.undo_sides.items us d.command) (c : Command) (ended : IsEnded a3.next c) where
+      module _ (us : List EntrySnapshot) (forgets : Forgets d.history.past us d.command) (c : Command) (ended : IsEnded a3.next c) where
         abbrev kept_points : LivePoints
         kept_points = shown d.points.names d.command.kept.places
 
         abbrev log' : Log Step
-        log' = abandoned d.log
+        log' = abandoned d.history.log
 
-        resting : AtRest a3 kept_points d.command.kept.overrides.items d.command.kept.flags d.command.kept.counts c log' us d.redo_sides.items d.undo_sides.capacity d.redo_sides.capacity
+        resting : AtRest a3 kept_points d.command.kept.overrides.items d.command.kept.flags d.command.kept.counts c (trail_of log' us d.history.future)
         resting =
             let side = side-pruned k prunes_g.document d.points.names g d.command.kept.places d.command.kept.counts.nodes d.command.kept.counts.chars d.command.kept.counts.depth forest_g bound_g run.kept in
             without_rest a3 rolled us forgets c ended log' refl refl refl refl refl kept_points d.command.kept.overrides.items d.command.kept.flags d.command.kept.counts
@@ -346,8 +345,8 @@ module _ (d : Inside) (law : IsArena d.arena) (ok : Ok d) (opened : IsTrue (is_o
             (side.chars_are ∙ ap char_count (sym rolled.trees))
             (subst (λ t. page_depth t ≤ d.command.kept.counts.depth) (sym rolled.trees) side.no_deeper)
 
-        pub rolled_ok : IsSoundDoc a3 kept_points d.command.kept.overrides.items d.command.kept.flags d.command.kept.counts c log' us d.redo_sides.items d.undo_sides.capacity d.redo_sides.capacity
-        rolled_ok = rest_sound a3 kept_points d.command.kept.overrides.items d.command.kept.flags d.command.kept.counts c log' us d.redo_sides.items d.undo_sides.capacity d.redo_sides.capacity resting
+        pub rolled_ok : IsSoundDoc a3 kept_points d.command.kept.overrides.items d.command.kept.flags d.command.kept.counts c (trail_of log' us d.history.future)
+        rolled_ok = rest_sound a3 kept_points d.command.kept.overrides.items d.command.kept.flags d.command.kept.counts c (trail_of log' us d.history.future) resting
             (without_needed a3 rolled us forgets c ended log' refl refl refl refl refl)
 
         begun_is : (o : Open Step) (s t : State) → IsTrue (is_open o) → t ≡ rolled_to s (began_with t o)
@@ -364,7 +363,7 @@ module _ (d : Inside) (law : IsArena d.arena) (ok : Ok d) (opened : IsTrue (is_o
         pub rolled_state : (v : Whole) → seen d ≡ v → state_of a3 kept_points d.command.kept.overrides.items d.command.kept.flags c log' ≡ state_rolled_back v
         unfolding state_rolled_back
         rolled_state v sees =
-            rest_state a3 kept_points d.command.kept.overrides.items d.command.kept.flags d.command.kept.counts c log' us d.redo_sides.items d.undo_sides.capacity d.redo_sides.capacity resting
+            rest_state a3 kept_points d.command.kept.overrides.items d.command.kept.flags d.command.kept.counts c (trail_of log' us d.history.future) resting
             ∙ ((λ i. record {
               trees = document_is i;
               points = kept_points;
@@ -378,18 +377,18 @@ module _ (d : Inside) (law : IsArena d.arena) (ok : Ok d) (opened : IsTrue (is_o
               edits = [];
               made = [];
             })
-            ∙ (begun_is d.log.open_entry (seen d).state (begun_state d.arena d.points.names d.command d.log) opened ∙ ap state_rolled_back sees))
+            ∙ (begun_is d.history.log.open_entry (seen d).state (begun_state d.arena d.points.names d.command d.history.log) opened ∙ ap state_rolled_back sees))
 
-        pub rolled_history : (v : Whole) → seen d ≡ v → history_of d.points.names (begun_forest log' a3.trees) log' us d.redo_sides.items ≡ v.history
+        pub rolled_history : (v : Whole) → seen d ≡ v → history_of d.points.names (begun_forest log' a3.trees) (trail_of log' us d.history.future) ≡ v.history
         rolled_history v sees =
-            ap (λ f. history_of d.points.names f log' us d.redo_sides.items) (none_noted log' a3.trees refl)
+            ap (λ f. history_of d.points.names f (trail_of log' us d.history.future)) (none_noted log' a3.trees refl)
             ∙ (without_history a3 rolled us forgets c ended log' refl refl refl refl refl d.points.names refl ∙ ap (λ (w : Whole). w.history) sees)
 
         by_detached : (l : ℕ) → 0 < count_of a3.trees l → l < d.command.start
         by_detached l here = false_le d.command.start l (prunes_g.out l (subst (λ t. 0 < count_of t l) rolled.trees here))
 
         abbrev rolled_whole : Whole
-        rolled_whole = whole_of a3 kept_points d.command.kept.overrides.items d.command.kept.flags c log' us d.redo_sides.items
+        rolled_whole = whole_of a3 kept_points d.command.kept.overrides.items d.command.kept.flags c (trail_of log' us d.history.future)
 
         pub rolled_keeps : (v : Whole) → seen d ≡ v → KeepsThere v rolled_whole
         rolled_keeps v sees =

@@ -6,7 +6,7 @@ use Rattle.dom_model.specs.Pruned.{pruned}
 use Rattle.dom_model.specs.ArenaState.{ArenaState as Arena}
 use Rattle.live_range.specs.PointsEdit.{has_label}
 use Rattle.live_range.specs.LivePoints.{LivePoints}
-use Rattle.undo_log.specs.Log.{Log, Open, noted}
+use Rattle.undo_log.specs.Log.{Open, noted}
 use Rattle.undo_log.specs.Log.Open.{Closed, Begun, Resumed}
 use Rattle.forest_changes.specs.Named.{Each}
 use Rattle.edit_steps.specs.declared.step.Step.{Step}
@@ -18,6 +18,7 @@ use Rattle.edit_doc.specs.declared.command.EntrySnapshot.{EntrySnapshot}
 use Rattle.edit_doc.specs.declared.command.Command.{Command}
 use Rattle.edit_doc.specs.History.{begun_forest, is_hidden}
 use Rattle.edit_doc.specs.Sound.{IsRunning, OpenSound, IsSoundDoc, detached_of, next_first}
+use Rattle.edit_doc.specs.Trail.{Trail}
 use Rattle.edit_doc.proofs.Changing.{undo_carried}
 use Rattle.edit_doc.proofs.Laid.{redo_later}
 
@@ -50,21 +51,19 @@ module _ (c : Command) (l : _) (e : (record c { detached = l }).detached.items �
   opens a points g (Begun xs) h = runs a points.names (noted (Begun xs)) g h
   opens a points g (Resumed xs) h = runs a points.names (noted (Resumed xs)) g h
 
-  pub room_made : (a : Arena) (points : LivePoints) (overrides : List Setting) (flags : Flags) (counts : Counts) (log : Log Step) (us rs : List EntrySnapshot) (us_room rs_room : ℕ) →
-      IsSoundDoc a points overrides flags counts c log us rs us_room rs_room → IsSoundDoc a points overrides flags counts d log us rs us_room rs_room
-  room_made a points overrides flags counts log us rs us_room rs_room ok = record {
+  pub room_made : (a : Arena) (points : LivePoints) (overrides : List Setting) (flags : Flags) (counts : Counts) (trail : Trail) →
+      IsSoundDoc a points overrides flags counts c trail → IsSoundDoc a points overrides flags counts d trail
+  room_made a points overrides flags counts trail ok = record {
     valid = ok.valid;
     some_label = ok.some_label;
     nodes = ok.nodes;
     chars = ok.chars;
     depth = ok.depth;
     hidden = ok.hidden;
-    running = opens a points (begun_forest log a.trees) log.open_entry ok.running;
+    running = opens a points (begun_forest trail.log a.trees) trail.log.open_entry ok.running;
     resumed = ok.resumed;
     host = ok.host;
-    undo = undo_carried a.held points.names c d refl c.resumed (next_first c.start rs) (begun_forest log a.trees) log.undo us (detached_same c.resumed) ok.undo;
-    redo = redo_later a.held points.names c d (omega arith) (begun_forest log a.trees) log.redo rs ok.redo;
+    undo = undo_carried a.held points.names c d refl c.resumed (next_first c.start trail.future) (begun_forest trail.log a.trees) trail.log.undo trail.past (detached_same c.resumed) ok.undo;
+    redo = redo_later a.held points.names c d (omega arith) (begun_forest trail.log a.trees) trail.log.redo trail.future ok.redo;
     needed = ok.needed;
-    us_room_is = ok.us_room_is;
-    rs_room_is = ok.rs_room_is;
   }

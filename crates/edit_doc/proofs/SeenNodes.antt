@@ -23,7 +23,7 @@ use Rattle.edit_doc.proofs.SeenLookUps.{first_detached, last_detached, prev_deta
 
 -- the trees that are hidden
 abbrev pub out_of : Inside → ℕ → Bool
-out_of d = is_hidden (begun_forest d.log d.arena.trees) d.command.start
+out_of d = is_hidden (begun_forest d.history.log d.arena.trees) d.command.start
 
 -- the label stands in the trees that are seen
 abbrev pub IsSeen : Inside → ℕ → Type 0

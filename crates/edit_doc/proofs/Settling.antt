@@ -57,7 +57,7 @@ module _ (d : Inside) (v : Whole) (is : seen d ≡ v) (law : IsArena d.arena) (n
   after = points_after e (pruned (out_of d) d.arena.trees) d.points
 
   down : GoesDown (out_of d) (change_of x) d.arena.trees
-  down = goes d.arena d.points d.overrides.items d.flags d.counts d.command d.log d.undo_sides.items d.redo_sides.items d.undo_sides.capacity d.redo_sides.capacity law (open_of d v is now_open) ok x fits detached
+  down = goes d.arena d.points d.overrides.items d.flags d.counts d.command d.history law (open_of d v is now_open) ok x fits detached
 
   pruned_is : pruned (out_of d) g ≡ trees_after e (pruned (out_of d) f)
   pruned_is = down.same ∙ trees

@@ -7,8 +7,6 @@ use Rattle.dom_model.specs.Forest.{Forest, tops, times}
 use Rattle.dom_model.specs.Forest.Forest.{Nil, Tree}
 use Rattle.dom_model.specs.ArenaState.{ArenaState as Arena, IsValid as IsArena}
 use Rattle.live_range.specs.LivePoints.{no_points}
-use Rattle.undo_log.specs.Log.{Log, empty}
-use Rattle.edit_steps.specs.declared.step.Step.{Step}
 use Rattle.edit_model.specs.declared.settings.Flags.{Flags}
 use Rattle.edit_model.specs.Valid.{IsForest, IsPlacedPair}
 use Rattle.std.proofs.lemmas.List.Elements.{All-nil}
@@ -21,6 +19,7 @@ use Rattle.edit_doc.specs.Fields.{IsEnded}
 use Rattle.edit_doc.specs.Whole.{HasNoLoose, first_doc, first_state}
 use Rattle.edit_doc.specs.History.{whole_of}
 use Rattle.edit_doc.specs.Sound.{IsSoundDoc, AreNeeded}
+use Rattle.edit_doc.specs.Trail.{first_trail}
 use Rattle.edit_doc.proofs.Rests.{AtRest, rest_sound, rest_whole, arena_forest}
 use Rattle.edit_doc.proofs.Turnings.{unset_length}
 
@@ -38,10 +37,7 @@ module _ (a : Arena) (law : IsArena a) (loose : HasNoLoose a) (depth : ℕ) (cou
   abbrev flags : Flags
   flags = record { css_styling = false; paragraphs = false }
 
-  abbrev log : Log Step
-  log = empty depth
-
-  fresh : AtRest a no_points no_overrides flags counts c log [] [] depth depth
+  fresh : AtRest a no_points no_overrides flags counts c (first_trail depth)
   fresh = record {
     law = law;
     closed = refl;
@@ -62,8 +58,6 @@ module _ (a : Arena) (law : IsArena a) (loose : HasNoLoose a) (depth : ℕ) (cou
     depth = omega (arith, deep);
     undo = tt;
     redo = tt;
-    us_room_is = refl;
-    rs_room_is = refl;
   }
 
   none_needed : AreNeeded c.start a.trees [] []
@@ -73,12 +67,12 @@ module _ (a : Arena) (law : IsArena a) (loose : HasNoLoose a) (depth : ℕ) (cou
       alone zero h t = absurd (omega (arith, h))
       alone (suc n) h t = absurd (let e : eqb 0 (suc n) ≡ false = grind (arith, nat_tests) in let t' = rw e at t in omega (arith, t'))
 
-  pub new_ok : IsSoundDoc a no_points no_overrides flags counts c log [] [] depth depth
-  new_ok = rest_sound a no_points no_overrides flags counts c log [] [] depth depth fresh none_needed
+  pub new_ok : IsSoundDoc a no_points no_overrides flags counts c (first_trail depth)
+  new_ok = rest_sound a no_points no_overrides flags counts c (first_trail depth) fresh none_needed
 
-  pub new_is : whole_of a no_points no_overrides flags c log [] [] ≡ first_doc a depth
+  pub new_is : whole_of a no_points no_overrides flags c (first_trail depth) ≡ first_doc a depth
   unfolding first_doc first_state
-  new_is = rest_whole a no_points no_overrides flags counts c log [] [] depth depth fresh
+  new_is = rest_whole a no_points no_overrides flags counts c (first_trail depth) fresh
       ∙ (λ i. record {
         state = record {
           trees = alone_is a.trees a.next (arena_forest a law) loose i;

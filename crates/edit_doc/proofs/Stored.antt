@@ -32,14 +32,14 @@ module _ (d : Inside) (law : IsArena d.arena) (ok : Ok d) where
   at_rest : IsClosed (seen d) → rested (seen d).state ≡ (seen d).state
   unfolding rested rested_state
   at_rest closed =
-      let rest = rest_of d.arena d.points d.overrides.items d.flags d.counts d.command d.log d.undo_sides.items d.redo_sides.items d.undo_sides.capacity d.redo_sides.capacity law (closed_of d (seen d) refl closed) ok in
-      let e = rest_state d.arena d.points d.overrides.items d.flags d.counts d.command d.log d.undo_sides.items d.redo_sides.items d.undo_sides.capacity d.redo_sides.capacity rest in
+      let rest = rest_of d.arena d.points d.overrides.items d.flags d.counts d.command d.history law (closed_of d (seen d) refl closed) ok in
+      let e = rest_state d.arena d.points d.overrides.items d.flags d.counts d.command d.history rest in
       ap rested e ∙ ((λ i. record (rested_state d.arena d.points d.overrides.items d.flags) {
         trees = document_twice d.arena.trees d.arena.next (arena_forest d.arena law) i;
         points = no_scratch d.points rest.idle.scratch i;
       }) ∙ sym e)
 
-  pub is_doc : IsLog d.log → (v : Whole) → seen d ≡ v → IsDoc v
+  pub is_doc : IsLog d.history.log → (v : Whole) → seen d ≡ v → IsDoc v
   is_doc log v is = subst IsDoc is (record {
     valid = ok.valid;
     capped = law.capped;

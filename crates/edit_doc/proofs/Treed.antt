@@ -38,7 +38,7 @@ module _ (d : Inside) (v : Whole) (is : seen d ≡ v) (law : IsArena d.arena) (n
   may_seen = subst (λ (w : Whole). is_made_edit e (freed w.state) ≡ true) (sym is) may
 
   goes_down : GoesDown (out_of d) (change_of x) d.arena.trees
-  goes_down = down (out_of d) (change_of x) d.arena.trees (seen_prunes d.arena d.points d.overrides.items d.flags d.counts d.command d.log d.undo_sides.items d.redo_sides.items d.undo_sides.capacity d.redo_sides.capacity law (open_of d v is now_open) ok) fits.fits detached
+  goes_down = down (out_of d) (change_of x) d.arena.trees (seen_prunes d.arena d.points d.overrides.items d.flags d.counts d.command d.history law (open_of d v is now_open) ok) fits.fits detached
 
   same_after : pruned (out_of d) f' ≡ trees_after e g
   same_after = goes_down.same ∙ trees

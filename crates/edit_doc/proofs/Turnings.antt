@@ -1,14 +1,16 @@
 -- An entry is taken back, or forth again.
-use Rattle.std.proofs.Common.{◌≡◌, ℕ, zero, suc, ◌<◌, ◌≤◌, true, false, List, [], ◌∷◌, length, take, drop, Some, None, refl, sym, ap, subst, ◌∙◌, arith}
+use Rattle.std.proofs.Common.{◌≡◌, ℕ, ◌<◌, ◌≤◌, true, false, List, [], ◌∷◌, ◌++◌, length, take, drop, Option, Some, None, refl, sym, ap, subst, ◌∙◌, arith}
 use Rattle.std.specs.Prelude.{slice_get}
+use Rattle.std.specs.Option.{option_map}
 use Rattle.dom_model.specs.declared.Content.{Content}
 use Rattle.dom_model.specs.Document.{page_depth}
 use Rattle.dom_model.specs.Forest.{Forest, tops, times, count_of, tree_of}
 use Rattle.dom_model.specs.ArenaState.{ArenaState as Arena, IsValid as IsArena, IsSlotted}
+use Rattle.live_range.specs.declared.places.Places.{Places}
 use Rattle.live_range.specs.LivePoints.{LivePoints}
 use Rattle.live_range.specs.Names.{shown, IsOver}
 use Rattle.undo_log.specs.Turning.{back, forth, inverses_back, inverses_forth, FitsBack, FitsForth, TurnsBack, TurnsForth}
-use Rattle.undo_log.specs.Log.{Log, IsLog, noted, FitsUndo, FitsRedo, undone_state, redone_state, undone, redone, undone_with, redone_with}
+use Rattle.undo_log.specs.Log.{noted, FitsUndo, FitsRedo, undone_state, redone_state, undone_with, redone_with}
 use Rattle.undo_log.specs.Log.Open.{Closed}
 use Rattle.forest_changes.specs.Change.{IsForest, Fits, applied, inverse}
 use Rattle.forest_changes.specs.Named.{Each, named_in}
@@ -20,17 +22,19 @@ use Rattle.edit_steps.specs.declared.step.Step.{Step}
 use Rattle.edit_steps.specs.Step.{changes_of, step_applied, step_inverse, StepFits, GoBack, GoForth}
 use Rattle.edit_steps.proofs.StepLists.{go_back, go_forth, back_fits, forth_fits}
 use Rattle.edit_model.specs.Overrides.{no_overrides}
-use Rattle.edit_model.specs.History.{used, document_of, at_view, undone_state as undone_doc, undone_history, redone_state as redone_doc, redone_history, undone_state_by, undone_history_by, redone_state_by, redone_history_by}
+use Rattle.edit_model.specs.History.{History, used, at_view, undone_state as undone_doc, undone_history, redone_state as redone_doc, redone_history, undone_state_by, undone_history_by, redone_state_by, redone_history_by}
 use Rattle.node_arena.specs.declared.NodeRef.{NodeRef}
 use Rattle.edit_parts.specs.declared.Counts.{Counts}
 use Rattle.edit_doc.specs.declared.Doc.TheInside.{Inside}
 use Rattle.edit_doc.specs.declared.command.EntrySnapshot.{EntrySnapshot}
+use Rattle.edit_doc.specs.declared.command.Sides.{Sides}
+use Rattle.edit_doc.specs.Trail.{Trail, IsTrail, trail_of, trail_undone, trail_redone}
 use Rattle.edit_doc.specs.Whole.{Whole}
-use Rattle.edit_doc.specs.History.{edits_before, roots_from, forest_before, forest_after, is_hidden, undo_entries, redo_entries, whole_of, view_at}
-use Rattle.edit_doc.specs.Sound.{CanGoBack, CanGoForth, IsOff, EntriesOff, AreNeeded, IsSnapshot, UndoSound, RedoSound, next_first, IsSoundDoc}
+use Rattle.edit_doc.specs.History.{edits_before, roots_from, forest_before, forest_after, is_hidden, undo_entries, redo_entries, history_of, whole_of, view_at}
+use Rattle.edit_doc.specs.Sound.{CanGoBack, CanGoForth, IsOff, EntriesOff, AreNeeded, IsSide, IsSnapshot, UndoSound, RedoSound, next_first, IsSoundDoc}
 use Rattle.edit_doc.proofs.HiddenTrees.{hidden_is, top_loose}
 use Rattle.edit_doc.proofs.Inner.{seen, Ok}
-use Rattle.edit_doc.proofs.Laid.{undo_sides_length, redo_sides_length, undo_count, redo_count}
+use Rattle.edit_doc.proofs.Laid.{undo_count, redo_count}
 use Rattle.edit_doc.proofs.Off.{Passes, passes_back, passes_forth, off_moved, entries_moved, each_here}
 use Rattle.edit_doc.proofs.Rests.{AtRest, rest_of, rest_sound, rest_whole, none_noted, rested_state}
 
@@ -138,15 +142,6 @@ uncons : {A : Type 0} (xs : List A) → 0 < length xs → (x : A) × (ys : List 
 uncons [] h = absurd (omega arith)
 uncons (x ∷ xs) h = (x, xs, refl)
 
-take_nil : {A : Type 0} (k : ℕ) → take {A = A} k [] ≡ []
-take_nil zero = refl
-take_nil (suc k) = refl
-
-take_whole : {A : Type 0} (n : ℕ) (xs : List A) → length xs ≤ n → take n xs ≡ xs
-take_whole n [] h = take_nil n
-take_whole zero (x ∷ xs) h = absurd (omega arith)
-take_whole (suc n) (x ∷ xs) h = ap (λ r. x ∷ r) (take_whole n xs (omega arith))
-
 some_eq : {A : Type 0} (x y : A) → Some x ≡ Some y → x ≡ y
 some_eq x y e = cc
 
@@ -154,148 +149,168 @@ pub unset_length : length no_overrides ≡ 32
 unfolding no_overrides
 unset_length = refl
 
+-- the sides of the first snapshot, if there is one
+abbrev first_sides : List EntrySnapshot → Option Sides
+first_sides bs = option_map (λ (b : EntrySnapshot). b.sides) (slice_get bs 0)
+
+no_first : (bs : List EntrySnapshot) → None ≡ first_sides bs → bs ≡ []
+no_first [] e = refl
+no_first (b ∷ bs) e = absurd (let e' : None ≡ Some b.sides = e in cc)
+
+none_long : {A : Type 0} (xs : List A) → length xs ≡ 0 → xs ≡ []
+none_long [] e = refl
+none_long (x ∷ xs) e = absurd (omega (arith, e))
+
 -- ---- for the value that a contract sees
 
-module _ (d : Inside) (v : Whole) (sees : seen d ≡ v) (law : IsArena d.arena) (slotted : IsSlotted d.arena) (logged : IsLog d.log) (closed : d.log.open_entry ≡ Closed) (ok : Ok d) where
-  at_rest : AtRest d.arena d.points d.overrides.items d.flags d.counts d.command d.log d.undo_sides.items d.redo_sides.items d.undo_sides.capacity d.redo_sides.capacity
-  at_rest = rest_of d.arena d.points d.overrides.items d.flags d.counts d.command d.log d.undo_sides.items d.redo_sides.items d.undo_sides.capacity d.redo_sides.capacity law closed ok
-
-  us_len : length d.undo_sides.items ≡ length d.log.undo
-  us_len = undo_sides_length d.arena.held d.points.names d.command false (next_first d.command.start d.redo_sides.items) d.arena.trees d.log.undo d.undo_sides.items at_rest.undo
-
-  rs_len : length d.redo_sides.items ≡ length d.log.redo
-  rs_len = redo_sides_length d.arena.held d.points.names d.command d.arena.trees d.log.redo d.redo_sides.items at_rest.redo
+module _ (d : Inside) (v : Whole) (sees : seen d ≡ v) (law : IsArena d.arena) (slotted : IsSlotted d.arena) (beside : IsTrail d.history) (closed : d.history.log.open_entry ≡ Closed) (ok : Ok d) where
+  at_rest : AtRest d.arena d.points d.overrides.items d.flags d.counts d.command d.history
+  at_rest = rest_of d.arena d.points d.overrides.items d.flags d.counts d.command d.history law closed ok
 
   undo_fit_of : (high : ℕ) (es : List (List Step)) (bs : List EntrySnapshot) → UndoSound d.arena.held d.points.names false d.command high d.arena.trees es bs → FitsUndo step_applied StepFits es d.arena
   undo_fit_of high [] bs h = tt
   undo_fit_of high (e ∷ es) [] h = absurd h
   undo_fit_of high (e ∷ es) (b ∷ bs) h = back_fits e d.arena slotted h.0.1 h.0.0
 
-  pub undo_fits : FitsUndo step_applied StepFits d.log.undo d.arena
-  undo_fits = undo_fit_of (next_first d.command.start d.redo_sides.items) d.log.undo d.undo_sides.items at_rest.undo
+  pub undo_fits : FitsUndo step_applied StepFits d.history.log.undo d.arena
+  undo_fits = undo_fit_of (next_first d.command.start d.history.future) d.history.log.undo d.history.past at_rest.undo
 
   redo_fit_of : (es : List (List Step)) (bs : List EntrySnapshot) → RedoSound d.arena.held d.points.names d.command d.arena.trees es bs → FitsRedo step_applied StepFits es d.arena
   redo_fit_of [] bs h = tt
   redo_fit_of (e ∷ es) [] h = absurd h
   redo_fit_of (e ∷ es) (b ∷ bs) h = forth_fits e d.arena slotted h.0.1 h.0.0
 
-  pub redo_fits : FitsRedo step_applied StepFits d.log.redo d.arena
-  redo_fits = redo_fit_of d.log.redo d.redo_sides.items at_rest.redo
+  pub redo_fits : FitsRedo step_applied StepFits d.history.log.redo d.arena
+  redo_fits = redo_fit_of d.history.log.redo d.history.future at_rest.redo
 
-  needed_now : AreNeeded d.command.start d.arena.trees d.log.undo d.log.redo
-  needed_now = subst (λ g. AreNeeded d.command.start g d.log.undo d.log.redo) (none_noted d.log d.arena.trees (ap noted closed)) ok.needed
+  needed_now : AreNeeded d.command.start d.arena.trees d.history.log.undo d.history.log.redo
+  needed_now = subst (λ g. AreNeeded d.command.start g d.history.log.undo d.history.log.redo) (none_noted d.history.log d.arena.trees (ap noted closed)) ok.needed
 
-  pub record Turned (a : Arena) (points : LivePoints) (counts : Counts) (log : Log Step) (us rs : List EntrySnapshot) (new : Whole) : Type 0 where
-    pub invariant : IsSoundDoc a points no_overrides d.flags counts d.command log us rs d.undo_sides.capacity d.redo_sides.capacity
-    pub value : whole_of a points no_overrides d.flags d.command log us rs ≡ new
+  pub record Turned (a : Arena) (points : LivePoints) (counts : Counts) (trail : Trail) (new : Whole) : Type 0 where
+    pub invariant : IsSoundDoc a points no_overrides d.flags counts d.command trail
+    pub value : whole_of a points no_overrides d.flags d.command trail ≡ new
 
-  -- the value, where the history has these entries
-  abbrev resting_with : List (List Step) → List EntrySnapshot → List (List Step) → List EntrySnapshot → Whole
-  resting_with es bs fs cs = record {
+  -- the value, where the history is this one
+  abbrev resting_with : Trail → Whole
+  resting_with trail = record {
     state = rested_state d.arena d.points d.overrides.items d.flags;
-    history = record {
-      undo = undo_entries d.points.names d.arena.trees es bs;
-      redo = redo_entries d.points.names d.arena.trees fs cs;
-      depth = d.log.depth;
-      dropped = d.log.dropped;
-    };
+    history = history_of d.points.names d.arena.trees trail;
     began = None;
     held = d.arena.held;
   }
 
-  resting_is : seen d ≡ resting_with d.log.undo d.undo_sides.items d.log.redo d.redo_sides.items
-  resting_is = rest_whole d.arena d.points d.overrides.items d.flags d.counts d.command d.log d.undo_sides.items d.redo_sides.items d.undo_sides.capacity d.redo_sides.capacity at_rest
+  resting_is : seen d ≡ resting_with d.history
+  resting_is = rest_whole d.arena d.points d.overrides.items d.flags d.counts d.command d.history at_rest
 
-  abbrev undo_whole : Whole → Whole
+  -- ---- the document at a side of an entry
+
+  module _ (g : Forest Content) (law' : IsArena (record d.arena { trees = g })) (p : Places) (nodes chars depth : ℕ) (side : IsSide d.points.names g p nodes chars depth)
+      (counts : Counts) (nodes_are : counts.nodes ≡ nodes) (chars_are : counts.chars ≡ chars) (depth_is : counts.depth ≡ depth)
+      (trail : Trail) (closed' : trail.log.open_entry ≡ Closed)
+      (undo : UndoSound d.arena.held d.points.names false d.command (next_first d.command.start trail.future) g trail.log.undo trail.past)
+      (redo : RedoSound d.arena.held d.points.names d.command g trail.log.redo trail.future) where
+    abbrev there : Arena
+    there = record d.arena { trees = g }
+
+    rests_there : AtRest there (shown d.points.names p) no_overrides d.flags counts d.command trail
+    rests_there = record {
+      law = law';
+      closed = closed';
+      idle = record {
+        start = at_rest.idle.start;
+        host = at_rest.idle.host;
+        keeping = at_rest.idle.keeping;
+        named = at_rest.idle.named;
+        detached = at_rest.idle.detached;
+        detached_before = at_rest.idle.detached_before;
+        scratch = side.resting;
+      };
+      resumed = at_rest.resumed;
+      placed = side.placed;
+      settings = unset_length;
+      nodes = nodes_are ∙ side.nodes_are;
+      chars = chars_are ∙ side.chars_are;
+      depth = subst (λ n. page_depth g ≤ n) (sym depth_is) side.no_deeper;
+      undo = undo;
+      redo = redo;
+    }
+
+    -- as undo and redo say it
+    abbrev standing : History → Whole
+    standing h = record {
+      state = record (rested_state there (shown d.points.names p) no_overrides d.flags) { points = record (shown d.points.names p) { scratch = None } };
+      history = h;
+      began = None;
+      held = d.arena.held;
+    }
+
+    stands : AreNeeded d.command.start g trail.log.undo trail.log.redo → (h : History) → history_of d.points.names g trail ≡ h → Turned there (shown d.points.names p) counts trail (standing h)
+    stands needed h is = record {
+      invariant = rest_sound there (shown d.points.names p) no_overrides d.flags counts d.command trail rests_there needed;
+      value = rest_whole there (shown d.points.names p) no_overrides d.flags counts d.command trail rests_there
+          ∙ (λ i. record {
+            state = record (rested_state there (shown d.points.names p) no_overrides d.flags) { points = record (shown d.points.names p) { scratch = side.resting i } };
+            history = is i;
+            began = None;
+            held = d.arena.held;
+          });
+    }
+
+  -- ---- undo
+
+  abbrev pub undo_whole : Whole → Whole
   undo_whole w = record w { state = undone_doc w.history w.state; history = undone_history w.history }
 
-  undo_go : (e : List Step) (es : List (List Step)) (b : EntrySnapshot) (bs : List EntrySnapshot) → d.log.undo ≡ e ∷ es → d.undo_sides.items ≡ b ∷ bs →
+  undo_go : (e : List Step) (es : List (List Step)) (b : EntrySnapshot) (bs : List EntrySnapshot) → d.history.log.undo ≡ e ∷ es → d.history.past ≡ b ∷ bs →
       IsArena (record d.arena { trees = forest_before e d.arena.trees }) → (counts : Counts) → counts.nodes ≡ b.sides.nodes_before → counts.chars ≡ b.sides.chars_before → counts.depth ≡ b.sides.depth_before →
       Turned (record d.arena { trees = forest_before e d.arena.trees }) (shown d.points.names b.sides.before) counts
-      (record d.log { undo = es; redo = inverses_back step_applied step_inverse e d.arena ∷ d.log.redo }) bs (b ∷ d.redo_sides.items)
+      (trail_of (record d.history.log { undo = es; redo = inverses_back step_applied step_inverse e d.arena ∷ d.history.log.redo }) bs (b ∷ d.history.future))
       (undo_whole (seen d))
   unfolding undone_doc undone_history at_view
   undo_go e es b bs eu su law' counts nodes chars depth =
       let f = d.arena.trees in
       let g = forest_before e f in
-      let high = next_first d.command.start d.redo_sides.items in
+      let high = next_first d.command.start d.history.future in
       let h : UndoSound d.arena.held d.points.names false d.command high f (e ∷ es) (b ∷ bs) =
-      subst (λ xs. UndoSound d.arena.held d.points.names false d.command high f xs (b ∷ bs)) eu (subst (λ xs. UndoSound d.arena.held d.points.names false d.command high f d.log.undo xs) su at_rest.undo) in
+      subst (λ xs. UndoSound d.arena.held d.points.names false d.command high f xs (b ∷ bs)) eu (subst (λ xs. UndoSound d.arena.held d.points.names false d.command high f d.history.log.undo xs) su at_rest.undo) in
       let t = inverses_back step_applied step_inverse e d.arena in
       let tb = taken_back d.arena (forest_of d.arena law) slotted d.points.names e b b.detached.items high d.command.start h.0 h.1.0 in
       let a' : Arena = record d.arena { trees = g } in
-      let log' : Log Step = record d.log { undo = es; redo = t ∷ d.log.redo } in
-      let r : AtRest a' (shown d.points.names b.sides.before) no_overrides d.flags counts d.command log' bs (b ∷ d.redo_sides.items) d.undo_sides.capacity d.redo_sides.capacity = record {
-        law = law';
-        closed = closed;
-        idle = record {
-          start = at_rest.idle.start;
-          host = at_rest.idle.host;
-          keeping = at_rest.idle.keeping;
-          named = at_rest.idle.named;
-          detached = at_rest.idle.detached;
-          detached_before = at_rest.idle.detached_before;
-          scratch = h.1.0.was.resting;
-        };
-        resumed = at_rest.resumed;
-        placed = h.1.0.was.placed;
-        settings = unset_length;
-        nodes = nodes ∙ h.1.0.was.nodes_are;
-        chars = chars ∙ h.1.0.was.chars_are;
-        depth = subst (λ n. page_depth g ≤ n) (sym depth) h.1.0.was.no_deeper;
-        undo = h.1.1;
-        redo = (tb.can, (tb.snapshot, subst (λ x. RedoSound d.arena.held d.points.names d.command x d.log.redo d.redo_sides.items) (sym tb.again) at_rest.redo));
-        us_room_is = at_rest.us_room_is;
-        rs_room_is = at_rest.rs_room_is;
-      } in
-      let needed : AreNeeded d.command.start g es (t ∷ d.log.redo) = λ l inner old top off_undo off_redo. (
+      let trail' : Trail = trail_of (record d.history.log { undo = es; redo = t ∷ d.history.log.redo }) bs (b ∷ d.history.future) in
+      let needed : AreNeeded d.command.start g es (t ∷ d.history.log.redo) = λ l inner old top off_undo off_redo. (
       let ch = changes_of t in
       let ps : Passes l g (forest_after t g) (inverses_forth applied inverse ch g) = passes_forth l ch g (forest_of a' law') inner top tb.can.0 (each_here (is_hidden g b.sides.first_label) g (named_in ch) tb.snapshot.names_seen) off_redo.0 in
       let top' : 0 < times (tops f) l = subst (λ h. 0 < times (tops h) l) tb.again ps.top in
       let same : (m : ℕ) → count_of (tree_of f l) m ≡ count_of (tree_of g l) m = λ m. subst (λ h. count_of (tree_of h l) m ≡ count_of (tree_of g l) m) tb.again (ps.same m) in
       let own : Each (IsOff f l) (named_in (changes_of e)) = off_moved l g f same (named_in (changes_of e)) (subst (λ xs. Each (IsOff g l) (named_in xs)) tb.steps ps.turns) in
-      needed_now l inner old top' (subst (EntriesOff l f) (sym eu) (own, entries_moved l g f same es off_undo)) (entries_moved l g f same d.log.redo off_redo.1)) in
-      let w0 : resting_with d.log.undo d.undo_sides.items d.log.redo d.redo_sides.items ≡ resting_with (e ∷ es) (b ∷ bs) d.log.redo d.redo_sides.items = (λ i. resting_with (eu i) (su i) d.log.redo d.redo_sides.items) in
-      record {
-        invariant = rest_sound a' (shown d.points.names b.sides.before) no_overrides d.flags counts d.command log' bs (b ∷ d.redo_sides.items) d.undo_sides.capacity d.redo_sides.capacity r needed;
-        value = rest_whole a' (shown d.points.names b.sides.before) no_overrides d.flags counts d.command log' bs (b ∷ d.redo_sides.items) d.undo_sides.capacity d.redo_sides.capacity r
-            ∙ ((λ i. record {
-              state = record {
-                trees = document_of g;
-                points = record (shown d.points.names b.sides.before) { scratch = h.1.0.was.resting i };
-                overrides = no_overrides;
-                flags = d.flags;
-                next = d.arena.next;
-                cap = d.arena.cap;
-                start = d.arena.next;
-                host = None;
-                keeping = false;
-                edits = [];
-                made = [];
-              };
-              history = record {
-                undo = undo_entries d.points.names g es bs;
-                redo = record {
-                  before = view_at d.points.names g b.sides.before;
-                  after = view_at d.points.names (tb.again i) b.sides.after;
-                  edits = tb.own i;
-                  made = used (tb.own i) (roots_from b.sides.first_label g);
-                } ∷ redo_entries d.points.names (tb.again i) d.log.redo d.redo_sides.items;
-                depth = d.log.depth;
-                dropped = d.log.dropped;
-              };
-              began = None;
-              held = d.arena.held;
-            }) ∙ ap undo_whole (sym (resting_is ∙ w0)));
-      }
+      needed_now l inner old top' (subst (EntriesOff l f) (sym eu) (own, entries_moved l g f same es off_undo)) (entries_moved l g f same d.history.log.redo off_redo.1)) in
+      let w : Whole = resting_with (trail_of (record d.history.log { undo = e ∷ es }) (b ∷ bs) d.history.future) in
+      let was : resting_with d.history ≡ w = (λ i. resting_with (trail_of (record d.history.log { undo = eu i }) (su i) d.history.future)) in
+      let history : history_of d.points.names g trail' ≡ undone_history w.history = λ i. record {
+        undo = undo_entries d.points.names g es bs;
+        redo = record {
+          before = view_at d.points.names g b.sides.before;
+          after = view_at d.points.names (tb.again i) b.sides.after;
+          edits = tb.own i;
+          made = used (tb.own i) (roots_from b.sides.first_label g);
+        } ∷ redo_entries d.points.names (tb.again i) d.history.log.redo d.history.future;
+        depth = d.history.log.depth;
+        dropped = d.history.log.dropped;
+      } in
+      subst (Turned a' (shown d.points.names b.sides.before) counts trail') (ap undo_whole (sym (resting_is ∙ was)))
+      (stands g law' b.sides.before b.sides.nodes_before b.sides.chars_before b.sides.depth_before h.1.0.was counts nodes chars depth trail' closed h.1.1
+      (tb.can, (tb.snapshot, subst (λ x. RedoSound d.arena.held d.points.names d.command x d.history.log.redo d.history.future) (sym tb.again) at_rest.redo)) needed
+      (undone_history w.history) history)
 
-  abbrev redo_whole : Whole → Whole
+  -- ---- redo
+
+  abbrev pub redo_whole : Whole → Whole
   redo_whole w = record w { state = redone_doc w.history w.state; history = redone_history w.history }
 
-  redo_go : (e : List Step) (es : List (List Step)) (b : EntrySnapshot) (bs : List EntrySnapshot) → d.log.redo ≡ e ∷ es → d.redo_sides.items ≡ b ∷ bs →
+  redo_go : (e : List Step) (es : List (List Step)) (b : EntrySnapshot) (bs : List EntrySnapshot) → d.history.log.redo ≡ e ∷ es → d.history.future ≡ b ∷ bs →
       IsArena (record d.arena { trees = forest_after e d.arena.trees }) → (counts : Counts) → counts.nodes ≡ b.sides.nodes_after → counts.chars ≡ b.sides.chars_after → counts.depth ≡ b.sides.depth_after →
       Turned (record d.arena { trees = forest_after e d.arena.trees }) (shown d.points.names b.sides.after) counts
-      (record d.log { undo = inverses_forth step_applied step_inverse e d.arena ∷ d.log.undo; redo = es }) (b ∷ d.undo_sides.items) bs
+      (trail_of (record d.history.log { undo = inverses_forth step_applied step_inverse e d.arena ∷ d.history.log.undo; redo = es }) (b ∷ d.history.past) bs)
       (redo_whole (seen d))
   unfolding redone_doc redone_history at_view
   redo_go e es b bs eu su law' counts nodes chars depth =
@@ -303,143 +318,95 @@ module _ (d : Inside) (v : Whole) (sees : seen d ≡ v) (law : IsArena d.arena) 
       let g = forest_after e f in
       let high = next_first d.command.start bs in
       let h : RedoSound d.arena.held d.points.names d.command f (e ∷ es) (b ∷ bs) =
-      subst (λ xs. RedoSound d.arena.held d.points.names d.command f xs (b ∷ bs)) eu (subst (λ xs. RedoSound d.arena.held d.points.names d.command f d.log.redo xs) su at_rest.redo) in
-      let under : UndoSound d.arena.held d.points.names false d.command b.sides.first_label f d.log.undo d.undo_sides.items =
-      subst (λ xs. UndoSound d.arena.held d.points.names false d.command (next_first d.command.start xs) f d.log.undo d.undo_sides.items) su at_rest.undo in
+      subst (λ xs. RedoSound d.arena.held d.points.names d.command f xs (b ∷ bs)) eu (subst (λ xs. RedoSound d.arena.held d.points.names d.command f d.history.log.redo xs) su at_rest.redo) in
+      let under : UndoSound d.arena.held d.points.names false d.command b.sides.first_label f d.history.log.undo d.history.past =
+      subst (λ xs. UndoSound d.arena.held d.points.names false d.command (next_first d.command.start xs) f d.history.log.undo d.history.past) su at_rest.undo in
       let t = inverses_forth step_applied step_inverse e d.arena in
       let tb = taken_forth d.arena (forest_of d.arena law) slotted d.points.names e b b.detached.items high d.command.start h.0 h.1.0 in
       let a' : Arena = record d.arena { trees = g } in
-      let log' : Log Step = record d.log { undo = t ∷ d.log.undo; redo = es } in
-      let r : AtRest a' (shown d.points.names b.sides.after) no_overrides d.flags counts d.command log' (b ∷ d.undo_sides.items) bs d.undo_sides.capacity d.redo_sides.capacity = record {
-        law = law';
-        closed = closed;
-        idle = record {
-          start = at_rest.idle.start;
-          host = at_rest.idle.host;
-          keeping = at_rest.idle.keeping;
-          named = at_rest.idle.named;
-          detached = at_rest.idle.detached;
-          detached_before = at_rest.idle.detached_before;
-          scratch = h.1.0.is.resting;
-        };
-        resumed = at_rest.resumed;
-        placed = h.1.0.is.placed;
-        settings = unset_length;
-        nodes = nodes ∙ h.1.0.is.nodes_are;
-        chars = chars ∙ h.1.0.is.chars_are;
-        depth = subst (λ n. page_depth g ≤ n) (sym depth) h.1.0.is.no_deeper;
-        undo = (tb.can, (tb.snapshot, subst (λ x. UndoSound d.arena.held d.points.names false d.command b.sides.first_label x d.log.undo d.undo_sides.items) (sym tb.again) under));
-        redo = h.1.1;
-        us_room_is = at_rest.us_room_is;
-        rs_room_is = at_rest.rs_room_is;
-      } in
-      let needed : AreNeeded d.command.start g (t ∷ d.log.undo) es = λ l inner old top off_undo off_redo. (
+      let trail' : Trail = trail_of (record d.history.log { undo = t ∷ d.history.log.undo; redo = es }) (b ∷ d.history.past) bs in
+      let needed : AreNeeded d.command.start g (t ∷ d.history.log.undo) es = λ l inner old top off_undo off_redo. (
       let ch = changes_of t in
       let ps : Passes l g (forest_before t g) (inverses_back applied inverse ch g) = passes_back l ch g (forest_of a' law') inner top tb.can.0 (each_here (is_hidden (forest_before t g) b.sides.first_label) g (named_in ch) tb.snapshot.names_there) off_undo.0 in
       let top' : 0 < times (tops f) l = subst (λ h. 0 < times (tops h) l) tb.again ps.top in
       let same : (m : ℕ) → count_of (tree_of f l) m ≡ count_of (tree_of g l) m = λ m. subst (λ h. count_of (tree_of h l) m ≡ count_of (tree_of g l) m) tb.again (ps.same m) in
       let own : Each (IsOff f l) (named_in (changes_of e)) = off_moved l g f same (named_in (changes_of e)) (subst (λ xs. Each (IsOff g l) (named_in xs)) tb.steps ps.turns) in
-      needed_now l inner old top' (entries_moved l g f same d.log.undo off_undo.1) (subst (EntriesOff l f) (sym eu) (own, entries_moved l g f same es off_redo))) in
-      let w0 : resting_with d.log.undo d.undo_sides.items d.log.redo d.redo_sides.items ≡ resting_with d.log.undo d.undo_sides.items (e ∷ es) (b ∷ bs) = (λ i. resting_with d.log.undo d.undo_sides.items (eu i) (su i)) in
-      record {
-        invariant = rest_sound a' (shown d.points.names b.sides.after) no_overrides d.flags counts d.command log' (b ∷ d.undo_sides.items) bs d.undo_sides.capacity d.redo_sides.capacity r needed;
-        value = rest_whole a' (shown d.points.names b.sides.after) no_overrides d.flags counts d.command log' (b ∷ d.undo_sides.items) bs d.undo_sides.capacity d.redo_sides.capacity r
-            ∙ ((λ i. record {
-              state = record {
-                trees = document_of g;
-                points = record (shown d.points.names b.sides.after) { scratch = h.1.0.is.resting i };
-                overrides = no_overrides;
-                flags = d.flags;
-                next = d.arena.next;
-                cap = d.arena.cap;
-                start = d.arena.next;
-                host = None;
-                keeping = false;
-                edits = [];
-                made = [];
-              };
-              history = record {
-                undo = record {
-                  before = view_at d.points.names (tb.again i) b.sides.before;
-                  after = view_at d.points.names g b.sides.after;
-                  edits = tb.steps i;
-                  made = used (tb.steps i) (roots_from b.sides.first_label (tb.again i));
-                } ∷ undo_entries d.points.names (tb.again i) d.log.undo d.undo_sides.items;
-                redo = redo_entries d.points.names g es bs;
-                depth = d.log.depth;
-                dropped = d.log.dropped;
-              };
-              began = None;
-              held = d.arena.held;
-            }) ∙ ap redo_whole (sym (resting_is ∙ w0)));
-      }
+      needed_now l inner old top' (entries_moved l g f same d.history.log.undo off_undo.1) (subst (EntriesOff l f) (sym eu) (own, entries_moved l g f same es off_redo))) in
+      let w : Whole = resting_with (trail_of (record d.history.log { redo = e ∷ es }) d.history.past (b ∷ bs)) in
+      let was : resting_with d.history ≡ w = (λ i. resting_with (trail_of (record d.history.log { redo = eu i }) d.history.past (su i))) in
+      let history : history_of d.points.names g trail' ≡ redone_history w.history = λ i. record {
+        undo = record {
+          before = view_at d.points.names (tb.again i) b.sides.before;
+          after = view_at d.points.names g b.sides.after;
+          edits = tb.steps i;
+          made = used (tb.steps i) (roots_from b.sides.first_label (tb.again i));
+        } ∷ undo_entries d.points.names (tb.again i) d.history.log.undo d.history.past;
+        redo = redo_entries d.points.names g es bs;
+        depth = d.history.log.depth;
+        dropped = d.history.log.dropped;
+      } in
+      subst (Turned a' (shown d.points.names b.sides.after) counts trail') (ap redo_whole (sym (resting_is ∙ was)))
+      (stands g law' b.sides.after b.sides.nodes_after b.sides.chars_after b.sides.depth_after h.1.0.is counts nodes chars depth trail' closed
+      (tb.can, (tb.snapshot, subst (λ x. UndoSound d.arena.held d.points.names false d.command b.sides.first_label x d.history.log.undo d.history.past) (sym tb.again) under)) h.1.1 needed
+      (redone_history w.history) history)
 
-  -- what the calls give
-  pub undo_placed : (b : EntrySnapshot) → Some b ≡ slice_get d.undo_sides.items 0 → IsOver d.points.names b.sides.before
-  undo_placed b same = by_first (next_first d.command.start d.redo_sides.items) d.log.undo d.undo_sides.items at_rest.undo same
+  -- ---- what the calls give
+
+  pub undo_placed : (s : Sides) → Some s ≡ first_sides d.history.past → IsOver d.points.names s.before
+  undo_placed s same = by_first (next_first d.command.start d.history.future) d.history.log.undo d.history.past at_rest.undo same
     where
-      by_first : (high : ℕ) (es : List (List Step)) (bs : List EntrySnapshot) → UndoSound d.arena.held d.points.names false d.command high d.arena.trees es bs → Some b ≡ slice_get bs 0 → IsOver d.points.names b.sides.before
-      by_first high es [] h e = absurd (cc)
+      by_first : (high : ℕ) (es : List (List Step)) (bs : List EntrySnapshot) → UndoSound d.arena.held d.points.names false d.command high d.arena.trees es bs → Some s ≡ first_sides bs → IsOver d.points.names s.before
+      by_first high es [] h e = absurd (let e' : Some s ≡ None = e in cc)
       by_first high [] (c ∷ bs) h e = absurd h
-      by_first high (x ∷ es) (c ∷ bs) h e = subst (λ (o : EntrySnapshot). IsOver d.points.names o.sides.before) (sym (some_eq b c e)) h.1.0.was.over
+      by_first high (x ∷ es) (c ∷ bs) h e = subst (λ (o : Sides). IsOver d.points.names o.before) (sym (some_eq s c.sides e)) h.1.0.was.over
 
-  pub redo_placed : (b : EntrySnapshot) → Some b ≡ slice_get d.redo_sides.items 0 → IsOver d.points.names b.sides.after
-  redo_placed b same = by_first d.log.redo d.redo_sides.items at_rest.redo same
+  pub redo_placed : (s : Sides) → Some s ≡ first_sides d.history.future → IsOver d.points.names s.after
+  redo_placed s same = by_first d.history.log.redo d.history.future at_rest.redo same
     where
-      by_first : (es : List (List Step)) (bs : List EntrySnapshot) → RedoSound d.arena.held d.points.names d.command d.arena.trees es bs → Some b ≡ slice_get bs 0 → IsOver d.points.names b.sides.after
-      by_first es [] h e = absurd (cc)
+      by_first : (es : List (List Step)) (bs : List EntrySnapshot) → RedoSound d.arena.held d.points.names d.command d.arena.trees es bs → Some s ≡ first_sides bs → IsOver d.points.names s.after
+      by_first es [] h e = absurd (let e' : Some s ≡ None = e in cc)
       by_first [] (c ∷ bs) h e = absurd h
-      by_first (x ∷ es) (c ∷ bs) h e = subst (λ (o : EntrySnapshot). IsOver d.points.names o.sides.after) (sym (some_eq b c e)) h.1.0.is.over
+      by_first (x ∷ es) (c ∷ bs) h e = subst (λ (o : Sides). IsOver d.points.names o.after) (sym (some_eq s c.sides e)) h.1.0.is.over
 
-  pub undo_done : (a : Arena) (points : LivePoints) (counts : Counts) (log : Log Step) (us rs : List EntrySnapshot) (b : EntrySnapshot) → 0 < length d.log.undo → IsArena a →
-      a ≡ undone_state step_applied d.log.undo d.arena → log ≡ undone step_applied step_inverse d.log d.arena → points ≡ shown d.points.names b.sides.before →
-      counts.nodes ≡ b.sides.nodes_before → counts.chars ≡ b.sides.chars_before → counts.depth ≡ b.sides.depth_before →
-      us ≡ drop 1 d.undo_sides.items → Some b ≡ slice_get d.undo_sides.items 0 → rs ≡ take d.redo_sides.capacity (b ∷ d.redo_sides.items) →
-      Turned a points counts log us rs (undo_whole v)
-  undo_done a points counts log us rs b more law' ea el ep nodes chars depth eus es' ers =
-      let u = uncons d.log.undo more in
-      let w = uncons d.undo_sides.items (let s = us_len in omega (arith, more, s)) in
-      let same : b ≡ w.0 = some_eq b w.0 (es' ∙ ap (λ xs. slice_get xs 0) w.2) in
-      let room : length (b ∷ d.redo_sides.items) ≤ d.redo_sides.capacity = (let s = rs_len in let t = at_rest.rs_room_is in let within = logged.within in omega (arith, s, t, within, more)) in
+  some_entries : (s : Sides) (bs : List EntrySnapshot) → Some s ≡ first_sides bs → 0 < length bs
+  some_entries s [] e = absurd (let e' : Some s ≡ None = e in cc)
+  some_entries s (b ∷ bs) e = omega arith
+
+  pub undo_done : (a : Arena) (points : LivePoints) (counts : Counts) (trail : Trail) (s : Sides) → Some s ≡ first_sides d.history.past → IsArena a →
+      a ≡ undone_state step_applied d.history.log.undo d.arena → trail ≡ trail_undone d.history d.arena → points ≡ shown d.points.names s.before →
+      counts.nodes ≡ s.nodes_before → counts.chars ≡ s.chars_before → counts.depth ≡ s.depth_before →
+      Turned a points counts trail (undo_whole v)
+  undo_done a points counts trail s first law' ea et ep nodes chars depth =
+      let more = some_entries s d.history.past first in
+      let u = uncons d.history.log.undo (let n = beside.past in omega (arith, more, n)) in
+      let w = uncons d.history.past more in
+      let same : s ≡ w.0.sides = some_eq s w.0.sides (first ∙ ap first_sides w.2) in
       let fits : FitsUndo step_applied StepFits (u.0 ∷ u.1) d.arena = subst (λ xs. FitsUndo step_applied StepFits xs d.arena) u.2 undo_fits in
       let ea' : a ≡ record d.arena { trees = forest_before u.0 d.arena.trees } = ea ∙ (ap (λ xs. undone_state step_applied xs d.arena) u.2 ∙ (go_back u.0 d.arena fits).state) in
-      let el' : log ≡ record d.log { undo = u.1; redo = inverses_back step_applied step_inverse u.0 d.arena ∷ d.log.redo } = el ∙ undone_is u.0 u.1 u.2 in
-      let eus' : us ≡ w.1 = eus ∙ ap (drop 1) w.2 in
-      let ers' : rs ≡ w.0 ∷ d.redo_sides.items = ers ∙ (take_whole d.redo_sides.capacity (b ∷ d.redo_sides.items) room ∙ ap (λ x. x ∷ d.redo_sides.items) same) in
-      let ep' : points ≡ shown d.points.names w.0.sides.before = ep ∙ ap (λ (o : EntrySnapshot). shown d.points.names o.sides.before) same in
-      let r = undo_go u.0 u.1 w.0 w.1 u.2 w.2 (subst IsArena ea' law') counts (nodes ∙ ap (λ (o : EntrySnapshot). o.sides.nodes_before) same) (chars ∙ ap (λ (o : EntrySnapshot). o.sides.chars_before) same) (depth ∙ ap (λ (o : EntrySnapshot). o.sides.depth_before) same) in
-      subst (λ (x : Whole). Turned a points counts log us rs (undo_whole x)) sees (rw (ea', el', eus', ers', ep') r)
-    where
-      undone_is : (e : List Step) (es : List (List Step)) → d.log.undo ≡ e ∷ es → undone step_applied step_inverse d.log d.arena ≡ record d.log { undo = es; redo = inverses_back step_applied step_inverse e d.arena ∷ d.log.redo }
-      undone_is e es eu = rw eu refl
+      let et' : trail ≡ trail_of (record d.history.log { undo = u.1; redo = inverses_back step_applied step_inverse u.0 d.arena ∷ d.history.log.redo }) w.1 (w.0 ∷ d.history.future) =
+      et ∙ (λ i. trail_of (undone_with step_applied step_inverse d.history.log (u.2 i) d.arena) (drop 1 (w.2 i)) (take 1 (w.2 i) ++ d.history.future)) in
+      let ep' : points ≡ shown d.points.names w.0.sides.before = ep ∙ ap (λ (o : Sides). shown d.points.names o.before) same in
+      let r = undo_go u.0 u.1 w.0 w.1 u.2 w.2 (subst IsArena ea' law') counts (nodes ∙ ap (λ (o : Sides). o.nodes_before) same) (chars ∙ ap (λ (o : Sides). o.chars_before) same) (depth ∙ ap (λ (o : Sides). o.depth_before) same) in
+      subst (λ (x : Whole). Turned a points counts trail (undo_whole x)) sees (rw (ea', et', ep') r)
 
-  pub redo_done : (a : Arena) (points : LivePoints) (counts : Counts) (log : Log Step) (us rs : List EntrySnapshot) (b : EntrySnapshot) → 0 < length d.log.redo → IsArena a →
-      a ≡ redone_state step_applied d.log.redo d.arena → log ≡ redone step_applied step_inverse d.log d.arena → points ≡ shown d.points.names b.sides.after →
-      counts.nodes ≡ b.sides.nodes_after → counts.chars ≡ b.sides.chars_after → counts.depth ≡ b.sides.depth_after →
-      rs ≡ drop 1 d.redo_sides.items → Some b ≡ slice_get d.redo_sides.items 0 → us ≡ take d.undo_sides.capacity (b ∷ d.undo_sides.items) →
-      Turned a points counts log us rs (redo_whole v)
-  redo_done a points counts log us rs b more law' ea el ep nodes chars depth ers es' eus =
-      let u = uncons d.log.redo more in
-      let w = uncons d.redo_sides.items (let s = rs_len in omega (arith, more, s)) in
-      let same : b ≡ w.0 = some_eq b w.0 (es' ∙ ap (λ xs. slice_get xs 0) w.2) in
-      let room : length (b ∷ d.undo_sides.items) ≤ d.undo_sides.capacity = (let s = us_len in let t = at_rest.us_room_is in let within = logged.within in omega (arith, s, t, within, more)) in
+  pub redo_done : (a : Arena) (points : LivePoints) (counts : Counts) (trail : Trail) (s : Sides) → Some s ≡ first_sides d.history.future → IsArena a →
+      a ≡ redone_state step_applied d.history.log.redo d.arena → trail ≡ trail_redone d.history d.arena → points ≡ shown d.points.names s.after →
+      counts.nodes ≡ s.nodes_after → counts.chars ≡ s.chars_after → counts.depth ≡ s.depth_after →
+      Turned a points counts trail (redo_whole v)
+  redo_done a points counts trail s first law' ea et ep nodes chars depth =
+      let more = some_entries s d.history.future first in
+      let u = uncons d.history.log.redo (let n = beside.future in omega (arith, more, n)) in
+      let w = uncons d.history.future more in
+      let same : s ≡ w.0.sides = some_eq s w.0.sides (first ∙ ap first_sides w.2) in
       let fits : FitsRedo step_applied StepFits (u.0 ∷ u.1) d.arena = subst (λ xs. FitsRedo step_applied StepFits xs d.arena) u.2 redo_fits in
       let ea' : a ≡ record d.arena { trees = forest_after u.0 d.arena.trees } = ea ∙ (ap (λ xs. redone_state step_applied xs d.arena) u.2 ∙ (go_forth u.0 d.arena fits).state) in
-      let el' : log ≡ record d.log { undo = inverses_forth step_applied step_inverse u.0 d.arena ∷ d.log.undo; redo = u.1 } = el ∙ redone_is u.0 u.1 u.2 in
-      let ers' : rs ≡ w.1 = ers ∙ ap (drop 1) w.2 in
-      let eus' : us ≡ w.0 ∷ d.undo_sides.items = eus ∙ (take_whole d.undo_sides.capacity (b ∷ d.undo_sides.items) room ∙ ap (λ x. x ∷ d.undo_sides.items) same) in
-      let ep' : points ≡ shown d.points.names w.0.sides.after = ep ∙ ap (λ (o : EntrySnapshot). shown d.points.names o.sides.after) same in
-      let r = redo_go u.0 u.1 w.0 w.1 u.2 w.2 (subst IsArena ea' law') counts (nodes ∙ ap (λ (o : EntrySnapshot). o.sides.nodes_after) same) (chars ∙ ap (λ (o : EntrySnapshot). o.sides.chars_after) same) (depth ∙ ap (λ (o : EntrySnapshot). o.sides.depth_after) same) in
-      subst (λ (x : Whole). Turned a points counts log us rs (redo_whole x)) sees (rw (ea', el', eus', ers', ep') r)
-    where
-      redone_is : (e : List Step) (es : List (List Step)) → d.log.redo ≡ e ∷ es → redone step_applied step_inverse d.log d.arena ≡ record d.log { undo = inverses_forth step_applied step_inverse e d.arena ∷ d.log.undo; redo = es }
-      redone_is e es eu = rw eu refl
+      let et' : trail ≡ trail_of (record d.history.log { undo = inverses_forth step_applied step_inverse u.0 d.arena ∷ d.history.log.undo; redo = u.1 }) (w.0 ∷ d.history.past) w.1 =
+      et ∙ (λ i. trail_of (redone_with step_applied step_inverse d.history.log (u.2 i) d.arena) (take 1 (w.2 i) ++ d.history.past) (drop 1 (w.2 i))) in
+      let ep' : points ≡ shown d.points.names w.0.sides.after = ep ∙ ap (λ (o : Sides). shown d.points.names o.after) same in
+      let r = redo_go u.0 u.1 w.0 w.1 u.2 w.2 (subst IsArena ea' law') counts (nodes ∙ ap (λ (o : Sides). o.nodes_after) same) (chars ∙ ap (λ (o : Sides). o.chars_after) same) (depth ∙ ap (λ (o : Sides). o.depth_after) same) in
+      subst (λ (x : Whole). Turned a points counts trail (redo_whole x)) sees (rw (ea', et', ep') r)
 
   -- where no entry lies that way
-  empty : {A : Type 0} (xs : List A) → (0 < length xs → ⊥) → xs ≡ []
-  empty [] h = refl
-  empty (x ∷ xs) h = absurd (h (omega arith))
-
   undo_same : (w : Whole) → w.history.undo ≡ [] → w ≡ undo_whole w
   unfolding undone_doc undone_history
   undo_same w e = λ i. record w { state = undone_state_by (sym e i) w.state; history = undone_history_by (sym e i) w.history }
@@ -448,22 +415,22 @@ module _ (d : Inside) (v : Whole) (sees : seen d ≡ v) (law : IsArena d.arena) 
   unfolding redone_doc redone_history
   redo_same w e = λ i. record w { state = redone_state_by (sym e i) w.state; history = redone_history_by (sym e i) w.history }
 
-  pub undo_none : (a : Arena) (log : Log Step) → (0 < length d.log.undo → ⊥) → a ≡ undone_state step_applied d.log.undo d.arena → log ≡ undone step_applied step_inverse d.log d.arena →
-      whole_of a d.points d.overrides.items d.flags d.command log d.undo_sides.items d.redo_sides.items ≡ undo_whole v
-  undo_none a log none ea el =
-      let nil = empty d.log.undo none in
+  pub undo_none : (a : Arena) (trail : Trail) → None ≡ first_sides d.history.past → a ≡ undone_state step_applied d.history.log.undo d.arena → trail ≡ trail_undone d.history d.arena →
+      whole_of a d.points d.overrides.items d.flags d.command trail ≡ undo_whole v
+  undo_none a trail none ea et =
+      let past = no_first d.history.past none in
+      let nil = none_long d.history.log.undo (sym beside.past ∙ ap length past) in
       let ea' : a ≡ d.arena = ea ∙ ap (λ xs. undone_state step_applied xs d.arena) nil in
-      let el' : log ≡ d.log = el ∙ ap (λ xs. undone_with step_applied step_inverse d.log xs d.arena) nil in
-      let n = undo_count d v sees ok in
-      (λ i. whole_of (ea' i) d.points d.overrides.items d.flags d.command (el' i) d.undo_sides.items d.redo_sides.items)
-      ∙ (sees ∙ undo_same v (empty v.history.undo (λ h. none (omega (arith, n, h)))))
+      let et' : trail ≡ d.history =
+      et ∙ ((λ i. trail_of (undone_with step_applied step_inverse d.history.log (nil i) d.arena) (drop 1 (past i)) (take 1 (past i) ++ d.history.future)) ∙ (λ i. trail_of d.history.log (sym past i) d.history.future)) in
+      (λ i. whole_of (ea' i) d.points d.overrides.items d.flags d.command (et' i)) ∙ (sees ∙ undo_same v (none_long v.history.undo (sym (undo_count d v sees ok) ∙ ap length nil)))
 
-  pub redo_none : (a : Arena) (log : Log Step) → (0 < length d.log.redo → ⊥) → a ≡ redone_state step_applied d.log.redo d.arena → log ≡ redone step_applied step_inverse d.log d.arena →
-      whole_of a d.points d.overrides.items d.flags d.command log d.undo_sides.items d.redo_sides.items ≡ redo_whole v
-  redo_none a log none ea el =
-      let nil = empty d.log.redo none in
+  pub redo_none : (a : Arena) (trail : Trail) → None ≡ first_sides d.history.future → a ≡ redone_state step_applied d.history.log.redo d.arena → trail ≡ trail_redone d.history d.arena →
+      whole_of a d.points d.overrides.items d.flags d.command trail ≡ redo_whole v
+  redo_none a trail none ea et =
+      let future = no_first d.history.future none in
+      let nil = none_long d.history.log.redo (sym beside.future ∙ ap length future) in
       let ea' : a ≡ d.arena = ea ∙ ap (λ xs. redone_state step_applied xs d.arena) nil in
-      let el' : log ≡ d.log = el ∙ ap (λ xs. redone_with step_applied step_inverse d.log xs d.arena) nil in
-      let n = redo_count d v sees ok in
-      (λ i. whole_of (ea' i) d.points d.overrides.items d.flags d.command (el' i) d.undo_sides.items d.redo_sides.items)
-      ∙ (sees ∙ redo_same v (empty v.history.redo (λ h. none (omega (arith, n, h)))))
+      let et' : trail ≡ d.history =
+      et ∙ ((λ i. trail_of (redone_with step_applied step_inverse d.history.log (nil i) d.arena) (take 1 (future i) ++ d.history.past) (drop 1 (future i))) ∙ (λ i. trail_of d.history.log d.history.past (sym future i))) in
+      (λ i. whole_of (ea' i) d.points d.overrides.items d.flags d.command (et' i)) ∙ (sees ∙ redo_same v (none_long v.history.redo (sym (redo_count d v sees ok) ∙ ap length nil)))

@@ -50,7 +50,7 @@ entries_joined k f (e ∷ es) ys h t = (each_named (IsLeft k f) e ys h.0 t, h.1)
 marked_named : (c : Command) (m : ℕ) → c.start ≤ m → IsMarked c m → has_named c m ≡ true
 marked_named c m from marked = (let t = le_true c.start m from in let n = marked from in rw (t, n) refl)
 
-module _ (d : Inside) (law : IsArena d.arena) (ok : Ok d) (opened : IsTrue (is_open d.log.open_entry)) where
+module _ (d : Inside) (law : IsArena d.arena) (ok : Ok d) (opened : IsTrue (is_open d.history.log.open_entry)) where
   abbrev f : Forest Content
   f = d.arena.trees
 
@@ -67,16 +67,16 @@ module _ (d : Inside) (law : IsArena d.arena) (ok : Ok d) (opened : IsTrue (is_o
   hides = is_hidden begun d.command.start
 
   abbrev pub low : ℕ
-  low = next_first d.command.start d.redo_sides.items
+  low = next_first d.command.start d.history.future
 
   abbrev pub unnamed : ℕ → Bool
   unnamed = is_unnamed low d.command
 
   low_le : low ≤ d.command.start
-  low_le = next_first_low d.arena.held d.points.names d.command begun d.log.redo d.redo_sides.items ok.redo
+  low_le = next_first_low d.arena.held d.points.names d.command begun d.history.log.redo d.history.future ok.redo
 
   pub some_low : 0 < low
-  some_low = by_case d.log.redo d.redo_sides.items ok.redo
+  some_low = by_case d.history.log.redo d.history.future ok.redo
     where
       by_case : (es : List (List Step)) (bs : List EntrySnapshot) → RedoSound d.arena.held d.points.names d.command begun es bs → 0 < next_first d.command.start bs
       by_case es [] h = ok.some_label
@@ -85,7 +85,7 @@ module _ (d : Inside) (law : IsArena d.arena) (ok : Ok d) (opened : IsTrue (is_o
 
   -- each node with a label that redo, or the command, drew was alone as the command began
   fresh : AreFresh begun low
-  fresh = by_case d.log.redo d.redo_sides.items ok.redo
+  fresh = by_case d.history.log.redo d.history.future ok.redo
     where
       by_case : (es : List (List Step)) (bs : List EntrySnapshot) → RedoSound d.arena.held d.points.names d.command begun es bs → AreFresh begun (next_first d.command.start bs)
       by_case es [] h = (let r = run d law ok opened in record {
@@ -210,11 +210,11 @@ module _ (d : Inside) (law : IsArena d.arena) (ok : Ok d) (opened : IsTrue (is_o
           older : (l : ℕ) → l < low → unnamed l ≡ false
           older l lt = elim (true_or_false (unnamed l)) [ inl t ↦ absurd (let from = from_low l t in omega (arith, lt, from)) | inr t ↦ t ]
 
-  pub kept_detached : 0 < length (noted d.log.open_entry) → EntriesLeft unnamed f (committed d.log).undo
+  pub kept_detached : 0 < length (noted d.history.log.open_entry) → EntriesLeft unnamed f (committed d.history.log).undo
   kept_detached some =
-      let older : EntriesLeft unnamed f d.log.undo = entries_below d.command.resumed low begun d.log.undo d.undo_sides.items (omega arith) (λ l. refl) ok.undo in
+      let older : EntriesLeft unnamed f d.history.log.undo = entries_below d.command.resumed low begun d.history.log.undo d.history.past (omega arith) (λ l. refl) ok.undo in
       let own : Each (IsLeft unnamed f) (named_in (changes_of steps)) = each_of IsKept (IsLeft unnamed f) (named_in (changes_of steps)) (detached_now unnamed (λ l t. t)) steps_kept in
-      elim (true_or_false (is_resumed d.log.open_entry)) [
-        | inl r ↦ subst (λ (l : Log Step). EntriesLeft unnamed f l.undo) (sym (committed_joined d.log d.log.open_entry r)) (entries_joined unnamed f d.log.undo steps older own)
-        | inr r ↦ subst (λ (l : Log Step). EntriesLeft unnamed f l.undo) (sym (committed_made d.log d.log.open_entry opened r some)) (entries_take unnamed f d.log.depth (steps ∷ d.log.undo) (own, older))
+      elim (true_or_false (is_resumed d.history.log.open_entry)) [
+        | inl r ↦ subst (λ (l : Log Step). EntriesLeft unnamed f l.undo) (sym (committed_joined d.history.log d.history.log.open_entry r)) (entries_joined unnamed f d.history.log.undo steps older own)
+        | inr r ↦ subst (λ (l : Log Step). EntriesLeft unnamed f l.undo) (sym (committed_made d.history.log d.history.log.open_entry opened r some)) (entries_take unnamed f d.history.log.depth (steps ∷ d.history.log.undo) (own, older))
       ]

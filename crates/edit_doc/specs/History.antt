@@ -25,6 +25,7 @@ use Rattle.edit_model.specs.Gives.{label_of}
 use Rattle.edit_model.specs.History.{View, Entry, History, document_of, used}
 use Rattle.edit_doc.specs.declared.command.EntrySnapshot.{EntrySnapshot}
 use Rattle.edit_doc.specs.declared.command.Command.{Command}
+use Rattle.edit_doc.specs.Trail.{Trail}
 use Rattle.edit_doc.specs.Whole.{Began, Whole}
 
 -- the forest before the edits that the steps take back, and after the edits that they make again
@@ -122,20 +123,20 @@ redo_entries names f (e ∷ es) (b ∷ bs) =
       made = used (changes_of e) (roots_from b.sides.first_label f);
     } ∷ redo_entries names (forest_after e f) es bs
 
-abbrev pub history_of : List (List ℕ) → Forest Content → Log Step → List EntrySnapshot → List EntrySnapshot → History
-history_of names f log us rs = record {
-  undo = undo_entries names f log.undo us;
-  redo = redo_entries names f log.redo rs;
-  depth = log.depth;
-  dropped = log.dropped;
+abbrev pub history_of : List (List ℕ) → Forest Content → Trail → History
+history_of names f t = record {
+  undo = undo_entries names f t.log.undo t.past;
+  redo = redo_entries names f t.log.redo t.future;
+  depth = t.log.depth;
+  dropped = t.log.dropped;
 }
 
 -- ---- the document
 
-abbrev pub whole_of : Arena → LivePoints → List Setting → Flags → Command → Log Step → List EntrySnapshot → List EntrySnapshot → Whole
-whole_of a points overrides flags c log us rs = record {
-  state = state_of a points overrides flags c log;
-  history = history_of points.names (begun_forest log a.trees) log us rs;
-  began = began_with (begun_state a points.names c log) log.open_entry;
+abbrev pub whole_of : Arena → LivePoints → List Setting → Flags → Command → Trail → Whole
+whole_of a points overrides flags c t = record {
+  state = state_of a points overrides flags c t.log;
+  history = history_of points.names (begun_forest t.log a.trees) t;
+  began = began_with (begun_state a points.names c t.log) t.log.open_entry;
   held = a.held;
 }

@@ -3,6 +3,8 @@ pub mod Held
 pub mod WholeCode
 pub mod History
 pub mod Sound
+pub mod Trail
+pub mod Closing
 pub mod GivingUp
 pub mod Fields
 pub mod Marks

@@ -10,7 +10,7 @@ use Rattle.live_range.specs.LivePoints.{LivePoints}
 use Rattle.live_range.specs.PointsEdit.{has_label}
 use Rattle.live_range.specs.Names.{shown, IsOver}
 use Rattle.undo_log.specs.Turning.{inverses_back, inverses_forth, FitsBack, FitsForth}
-use Rattle.undo_log.specs.Log.{Log, Open, noted, is_resumed}
+use Rattle.undo_log.specs.Log.{Open, noted, is_resumed}
 use Rattle.undo_log.specs.Log.Open.{Closed}
 use Rattle.node_arena.specs.declared.NodeRef.{NodeRef}
 use Rattle.forest_changes.specs.Change.{Change, Fits, applied, inverse}
@@ -25,6 +25,7 @@ use Rattle.edit_model.specs.Valid.{IsValid, IsPlaced}
 use Rattle.edit_parts.specs.declared.Counts.{Counts}
 use Rattle.edit_doc.specs.declared.command.EntrySnapshot.{EntrySnapshot}
 use Rattle.edit_doc.specs.declared.command.Command.{Command}
+use Rattle.edit_doc.specs.Trail.{Trail}
 use Rattle.edit_doc.specs.Marks.{IsMarked, has_named}
 use Rattle.edit_doc.specs.History.{forest_before, forest_after, begun_forest, is_hidden, seen_trees, state_of}
 
@@ -161,18 +162,16 @@ OpenSound a points c g o = IsRunning a points.names c (noted o) g
 
 -- ---- all of it
 
-pub record IsSoundDoc (a : Arena) (points : LivePoints) (overrides : List Setting) (flags : Flags) (counts : Counts) (c : Command) (log : Log Step) (us rs : List EntrySnapshot) (us_room rs_room : ℕ) : Type 0 where
-  pub valid : IsValid (state_of a points overrides flags c log)
+pub record IsSoundDoc (a : Arena) (points : LivePoints) (overrides : List Setting) (flags : Flags) (counts : Counts) (c : Command) (t : Trail) : Type 0 where
+  pub valid : IsValid (state_of a points overrides flags c t.log)
   pub some_label : 0 < c.start
   pub nodes : counts.nodes ≡ node_count a.trees
   pub chars : counts.chars ≡ char_count a.trees
   pub depth : page_depth a.trees ≤ counts.depth
-  pub hidden : (l : ℕ) → is_hidden (begun_forest log a.trees) c.start l ≡ true → 0 < times (tops a.trees) l
-  pub running : OpenSound a points c (begun_forest log a.trees) log.open_entry
-  pub resumed : c.resumed ≡ is_resumed log.open_entry
-  pub host : IfSome c.host (λ h. RefIn a.held h × (0 < count_of (seen_trees log c.start a.trees) h.label))
-  pub undo : UndoSound a.held points.names c.resumed c (next_first c.start rs) (begun_forest log a.trees) log.undo us
-  pub redo : RedoSound a.held points.names c (begun_forest log a.trees) log.redo rs
-  pub needed : AreNeeded c.start (begun_forest log a.trees) log.undo log.redo
-  pub us_room_is : us_room ≡ log.depth
-  pub rs_room_is : rs_room ≡ log.depth
+  pub hidden : (l : ℕ) → is_hidden (begun_forest t.log a.trees) c.start l ≡ true → 0 < times (tops a.trees) l
+  pub running : OpenSound a points c (begun_forest t.log a.trees) t.log.open_entry
+  pub resumed : c.resumed ≡ is_resumed t.log.open_entry
+  pub host : IfSome c.host (λ h. RefIn a.held h × (0 < count_of (seen_trees t.log c.start a.trees) h.label))
+  pub undo : UndoSound a.held points.names c.resumed c (next_first c.start t.future) (begun_forest t.log a.trees) t.log.undo t.past
+  pub redo : RedoSound a.held points.names c (begun_forest t.log a.trees) t.log.redo t.future
+  pub needed : AreNeeded c.start (begun_forest t.log a.trees) t.log.undo t.log.redo

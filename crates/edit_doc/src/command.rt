@@ -26,6 +26,32 @@ pub struct Sides {
     pub depth_after: u32,
 }
 
+impl Sides {
+    pub(crate) fn counts_before(&self) -> Counts
+        ensures nodes { result.nodes ≡ self.now.nodes_before }
+        ensures chars { result.chars ≡ self.now.chars_before }
+        ensures depth { result.depth ≡ self.now.depth_before }
+    {
+        Counts {
+            nodes: self.nodes_before,
+            chars: self.chars_before,
+            depth: self.depth_before,
+        }
+    }
+
+    pub(crate) fn counts_after(&self) -> Counts
+        ensures nodes { result.nodes ≡ self.now.nodes_after }
+        ensures chars { result.chars ≡ self.now.chars_after }
+        ensures depth { result.depth ≡ self.now.depth_after }
+    {
+        Counts {
+            nodes: self.nodes_after,
+            chars: self.chars_after,
+            depth: self.depth_after,
+        }
+    }
+}
+
 // What is kept beside an entry: its sides, and the roots of the trees that its commands detached, which go when the entry
 // does.
 #[derive(Drop)]
@@ -179,30 +205,6 @@ impl Command {
 }
 
 impl EntrySnapshot {
-    pub(crate) fn counts_before(&self) -> Counts
-        ensures nodes { result.nodes ≡ self.now.sides.nodes_before }
-        ensures chars { result.chars ≡ self.now.sides.chars_before }
-        ensures depth { result.depth ≡ self.now.sides.depth_before }
-    {
-        Counts {
-            nodes: self.sides.nodes_before,
-            chars: self.sides.chars_before,
-            depth: self.sides.depth_before,
-        }
-    }
-
-    pub(crate) fn counts_after(&self) -> Counts
-        ensures nodes { result.nodes ≡ self.now.sides.nodes_after }
-        ensures chars { result.chars ≡ self.now.sides.chars_after }
-        ensures depth { result.depth ≡ self.now.sides.depth_after }
-    {
-        Counts {
-            nodes: self.sides.nodes_after,
-            chars: self.sides.chars_after,
-            depth: self.sides.depth_after,
-        }
-    }
-
     // Another command joined the entry.
     pub(crate) fn join(&mut self, after: Places, counts: Counts)
         ensures sides { self.new.sides ≡ joined_sides self.old.sides after counts }

@@ -70,7 +70,7 @@ impl Doc {
             parent,
             before,
         };
-        make_change(&mut self.arena, &mut self.log, link)?;
+        make_change(&mut self.arena, &mut self.history, link)?;
         self.counts = counts;
         self.command.name_place(node, parent, before);
         adjust_inserted(&self.arena, &mut self.points, parent, node);
@@ -115,7 +115,7 @@ impl Doc {
         let removal = removal_of(&self.arena, &self.points, node, parent);
         let counts = counts_without(&self.arena, self.counts, node, parent);
         let next = self.arena.next(node);
-        make_change(&mut self.arena, &mut self.log, Step::Unlink { node })?;
+        make_change(&mut self.arena, &mut self.history, Step::Unlink { node })?;
         self.counts = counts;
         let _ = self.command.detached.push(node);
         self.command.name_place(node, parent, next);
@@ -157,7 +157,7 @@ impl Doc {
             parent,
             before,
         };
-        make_change(&mut self.arena, &mut self.log, step)?;
+        make_change(&mut self.arena, &mut self.history, step)?;
         self.counts = counts;
         self.command.name_place(node, from, next);
         self.command.name_place(node, parent, before);
@@ -192,7 +192,7 @@ impl Doc {
         let watch = watch_range(&self.arena, &self.points, &self.overrides);
         let chars = chars_replaced(&self.arena, self.counts.chars, node, at, count, put);
         let step = Step::Words { node, words };
-        make_change(&mut self.arena, &mut self.log, step)?;
+        make_change(&mut self.arena, &mut self.history, step)?;
         self.counts.chars = chars;
         self.command.name(node);
         self.points
@@ -229,7 +229,7 @@ impl Doc {
         let mut list = attributes.copy()?;
         list.set(name, value)?;
         let step = Step::Attributes { node, list };
-        make_change(&mut self.arena, &mut self.log, step)?;
+        make_change(&mut self.arena, &mut self.history, step)?;
         self.command.name(node);
         Ok(true)
     }
@@ -256,7 +256,7 @@ impl Doc {
         let mut list = attributes.copy()?;
         list.unset(name.as_slice());
         let step = Step::Attributes { node, list };
-        make_change(&mut self.arena, &mut self.log, step)?;
+        make_change(&mut self.arena, &mut self.history, step)?;
         self.command.name(node);
         Ok(true)
     }

@@ -6,21 +6,9 @@ ghost use Rattle.live_range.specs.PointsEdit.{has_label};
 ghost use Rattle.edit_model.specs.Gives.{labels_of};
 ghost use Rattle.edit_doc.specs.GivingUp.{GivesUp, is_unnamed, is_loose, loose_roots, has_detached};
 ghost use Rattle.edit_doc.specs.Marks.{has_named};
-ghost use Rattle.edit_doc.specs.Sound.{next_first};
 
 use crate::command::{Command, EntrySnapshot};
-use circular_buffer::HeapCircularBuffer;
 use node_arena::{Arena, NodeRef};
-
-// The first label of the entries that redo would take; without any, that of the command.
-pub(crate) fn first_undone(redo_sides: &HeapCircularBuffer<EntrySnapshot>, start: u32) -> u32
-    ensures { result ≡ next_first start redo_sides.now.items }
-{
-    match redo_sides.front() {
-        Some(snapshot) => snapshot.sides.first_label,
-        None => start,
-    }
-}
 
 // Whether an edit names a node that the command made.
 fn has_named(command: &Command, label: u32) -> bool

@@ -17,6 +17,7 @@ mod confined;
 mod edits;
 mod extracting;
 mod giving_up;
+mod history;
 mod logged;
 mod making;
 mod nodes;
@@ -24,21 +25,19 @@ mod numbers;
 mod reads;
 mod selecting;
 
-use circular_buffer::HeapCircularBuffer;
 pub use command::Sides;
-use command::{Command, EntrySnapshot, Kept};
+use command::{Command, Kept};
 pub use dom_model::{Attributes, Chars, Name};
 pub use edit_model::{EditFault, Flags, Setting};
 pub use edit_parts::Counts;
 use edit_parts::no_overrides;
-use edit_steps::Step;
+use history::History;
 pub use live_range::{MarkFault, Pair, Point, Points};
 pub use logged::{LoggedEdit, LoggedEntry, MadeNode};
 pub use node_arena::{Arena, Kind, NodeList, NodeRef};
 use std::alloc::{AllocError, Global};
 use std::marker::Model;
 pub use undo_log::Committed;
-use undo_log::UndoLog;
 
 /// A document under edits.
 #[derive(Drop)]
@@ -51,9 +50,7 @@ pub struct Doc {
     overrides: Vec<Setting>,
     flags: Flags,
     counts: Counts,
-    log: UndoLog<Step>,
-    undo_sides: HeapCircularBuffer<EntrySnapshot>,
-    redo_sides: HeapCircularBuffer<EntrySnapshot>,
+    history: History,
     command: Command,
 }
 
@@ -69,9 +66,9 @@ impl Model for Doc {
     ghost use Rattle.edit_doc.specs.History.{whole_of};
     ghost use Rattle.edit_doc.specs.Sound.{IsSoundDoc};
 
-    ghost view = { λ d. whole_of d.arena d.points d.overrides.items d.flags d.command d.log d.undo_sides.items d.redo_sides.items };
+    ghost view = { λ d. whole_of d.arena d.points d.overrides.items d.flags d.command d.history };
 
-    ghost invariant = { λ d. IsSoundDoc d.arena d.points d.overrides.items d.flags d.counts d.command d.log d.undo_sides.items d.redo_sides.items d.undo_sides.capacity d.redo_sides.capacity };
+    ghost invariant = { λ d. IsSoundDoc d.arena d.points d.overrides.items d.flags d.counts d.command d.history };
 }
 
 impl Doc {
@@ -106,9 +103,7 @@ impl Doc {
             overrides: no_overrides(alloc)?,
             flags,
             counts,
-            log: UndoLog::new(alloc, undo_depth)?,
-            undo_sides: HeapCircularBuffer::with_capacity(alloc, undo_depth)?,
-            redo_sides: HeapCircularBuffer::with_capacity(alloc, undo_depth)?,
+            history: History::new(alloc, undo_depth)?,
             command: Command::none(alloc, next, kept),
         })
     }

@@ -13,12 +13,11 @@ ghost use Rattle.edit_model.specs.Valid.{IsPlaced};
 ghost use Rattle.edit_doc.specs.Whole.{IsClosed, with_state};
 ghost use Rattle.edit_doc.specs.History.{roots_from};
 ghost use Rattle.edit_doc.specs.Marks.{place_labels};
-ghost use Rattle.edit_doc.specs.Sound.{AreFresh, next_first};
+ghost use Rattle.edit_doc.specs.Sound.{AreFresh};
 ghost use Rattle.edit_doc.specs.Logged.{Logged, element_name, logged_edit, logged_with, logged_entry, made_node, node_at, TellNamed, HasMoved};
 
-use crate::command::{EntrySnapshot, Kept};
+use crate::command::Kept;
 use crate::{Arena, Attributes, Chars, Doc, Name, NodeRef};
-use circular_buffer::HeapCircularBuffer;
 use edit_steps::Step;
 use node_arena::Content;
 use std::alloc::{AllocError, Global};
@@ -209,9 +208,9 @@ impl Doc {
     {
         self.arena.valid();
         self.arena.slotted();
-        let steps = self.log.next_entry().unwrap();
-        let first = self.redo_sides.front().unwrap().sides.first_label;
-        let end = first_later(&self.redo_sides, self.command.start);
+        let steps = self.history.next_entry().unwrap();
+        let first = self.history.first_undone(self.command.start);
+        let end = self.history.first_later(self.command.start);
         read_entry(alloc, &self.arena, steps, first, end)
     }
 
@@ -228,16 +227,6 @@ impl Doc {
         self.points.set_places(&kept.places);
         swap(&mut self.overrides, &mut kept.overrides);
         self.flags = kept.flags;
-    }
-}
-
-// The first label of the entries past the one that redo would take; without any, the next one.
-fn first_later(redo_sides: &HeapCircularBuffer<EntrySnapshot>, start: u32) -> u32
-    ensures { result ≡ next_first start (drop 1 redo_sides.now.items) }
-{
-    match redo_sides.get(1) {
-        Some(snapshot) => snapshot.sides.first_label,
-        None => start,
     }
 }
 

@@ -24,7 +24,7 @@ impl Doc {
         ensures { IsDoc self.now }
     {
         self.arena.valid();
-        self.log.valid();
+        self.history.valid();
     }
 
     /// Which nodes are held outside commands, for proofs: each is in the document, or in a loose tree with a node that a

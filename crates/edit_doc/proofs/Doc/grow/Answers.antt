@@ -30,7 +30,7 @@ grown-requires c =
     let low = c.valid.ensures.small in
     fits-grow (seen c.self.inside).state c.args.at c.self.invariant.valid (omega (arith, capped, low)) may
 
-placed : (c : goal.After-self-1) → IsPlaced (seen_trees c.self.inside.log c.self.inside.command.start c.self.inside.arena.trees) (mapped (range.Grown c.args.at) c.self.inside.points)
+placed : (c : goal.After-self-1) → IsPlaced (seen_trees c.self.inside.history.log c.self.inside.command.start c.self.inside.arena.trees) (mapped (range.Grown c.args.at) c.self.inside.points)
 placed c =
     let may = ap (λ (w : Whole). may_grow w.state c.args.at) c.self.view_is ∙ (sym c.may_grow.ensures ∙ c.if-may_grow.true) in
     mapped_placed (range.Grown c.args.at) (seen c.self.inside).state.trees (seen c.self.inside).state.trees (places-grow (seen c.self.inside).state c.args.at c.self.invariant.valid may) c.self.inside.points c.self.invariant.valid.placed

@@ -65,12 +65,12 @@ overrides_are c =
     let w = ap length c.deref_mut.ensures.value in
     with_items_is d.overrides c.unset_overrides_if_range_changed.new.overrides (omega (arith, a, s, l, w)) ∙ e'
 
-done : (c : goal.After-self-1) → Applied c.self.inside c.args.self.now (Insert c.args.parent.label (label_of c.args.before) c.args.node.label) c.make_change.new.arena c.adjust_inserted.new.points (with_items c.self.inside.overrides c.unset_overrides_if_range_changed.new.overrides).items c.counts_with-counts.result c.name_place.new.self c.make_change.new.log
+done : (c : goal.After-self-1) → Applied c.self.inside c.args.self.now (Insert c.args.parent.label (label_of c.args.before) c.args.node.label) c.make_change.new.arena c.adjust_inserted.new.points (with_items c.self.inside.overrides c.unset_overrides_if_range_changed.new.overrides).items c.counts_with-counts.result c.name_place.new.self c.make_change.new.history
 done c =
     let a = c.args in
     link_done c.self.inside a.self.now c.self.view_is c.valid.ensures c.slotted.ensures c.requires.open c.self.invariant a.node a.parent a.before c.requires.node_held c.requires.parent_held c.requires.before_held c.requires.possible
     c.make_change.new.arena c.in_ok-make_change.ensures.arena c.adjust_inserted.new.points c.adjust_inserted.ensures (with_items c.self.inside.overrides c.unset_overrides_if_range_changed.new.overrides).items (overrides_are c)
-    c.is_in_document-enters.result c.is_in_document-enters.ensures c.counts_with-counts.result c.counts_with-counts.ensures.nodes c.counts_with-counts.ensures.chars c.counts_with-counts.ensures.depth c.name_place.new.self c.name_place.ensures c.make_change.new.log c.in_ok-make_change.ensures.log
+    c.is_in_document-enters.result c.is_in_document-enters.ensures c.counts_with-counts.result c.counts_with-counts.ensures.nodes c.counts_with-counts.ensures.chars c.counts_with-counts.ensures.depth c.name_place.new.self c.name_place.ensures c.make_change.new.history c.in_ok-make_change.ensures.history
 
 pub invariant_of-self-2 : goal.invariant_of-self-2
 invariant_of-self-2 c = (done c).invariant

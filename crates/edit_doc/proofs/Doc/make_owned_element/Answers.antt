@@ -21,7 +21,7 @@ invariant_of-self-in-Ok c =
 pub invariant_of-self-in-Err : goal.invariant_of-self-in-Err
 invariant_of-self-in-Err c =
     let i = c.self.inside in
-    subst (λ a. IsSoundDoc a i.points i.overrides.items i.flags i.counts (record i.command { detached = c.reserve.new.self; named = c.reserve-2.new.self }) i.log i.undo_sides.items i.redo_sides.items i.undo_sides.capacity i.redo_sides.capacity) (sym c.in-Err.ensures.err)
+    subst (λ a. IsSoundDoc a i.points i.overrides.items i.flags i.counts (record i.command { detached = c.reserve.new.self; named = c.reserve-2.new.self }) i.history) (sym c.in-Err.ensures.err)
     (room_made i c.args.self.now c.self.view_is c.valid.ensures c.requires.open c.self.invariant (record i.command { detached = c.reserve.new.self; named = c.reserve-2.new.self }) refl c.reserve-2.ensures.items c.reserve.ensures.items)
 
 pub returns-in-Ok-clause-gives : goal.returns-in-Ok-clause-gives

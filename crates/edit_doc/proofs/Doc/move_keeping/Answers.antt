@@ -105,12 +105,12 @@ overrides_are c =
     let w = ap length c.deref_mut.ensures.value in
     with_items_is d.overrides c.unset_overrides_if_range_changed.new.overrides (omega (arith, a, s, l, w)) ∙ e'
 
-done : (c : goal.After-self-1) → Done c.self.inside c.args.self.now (Move c.args.node.label c.args.parent.label (label_of c.args.before)) c.make_change.new.arena c.adjust_moved.new.points (with_items c.self.inside.overrides c.unset_overrides_if_range_changed.new.overrides).items c.counts_moved-counts.result c.name_place-2.new.self c.make_change.new.log
+done : (c : goal.After-self-1) → Done c.self.inside c.args.self.now (Move c.args.node.label c.args.parent.label (label_of c.args.before)) c.make_change.new.arena c.adjust_moved.new.points (with_items c.self.inside.overrides c.unset_overrides_if_range_changed.new.overrides).items c.counts_moved-counts.result c.name_place-2.new.self c.make_change.new.history
 done c =
     let a = c.args in
     move_done c.self.inside a.self.now c.self.view_is c.valid.ensures c.slotted.ensures c.requires.open c.self.invariant a.node c.in-Some.from a.parent a.before c.requires.node_held c.requires.parent_held c.requires.before_held (up c.self.inside a.node c.in-Some.from c.parent.result c.parent.ensures c.in-Some.is) (sym c.may_go.ensures ∙ c.if-not-may_go.false)
     c.make_change.new.arena c.in_ok-make_change.ensures.arena c.adjust_moved.new.points c.moving_from-place.result c.moving_from-place.ensures c.adjust_moved.ensures.moved c.adjust_moved.ensures.none (with_items c.self.inside.overrides c.unset_overrides_if_range_changed.new.overrides).items (overrides_are c)
-    (comes_in c.self.inside.arena.trees a.node.label a.parent.label) refl c.counts_moved-counts.result c.counts_moved-counts.ensures.nodes c.counts_moved-counts.ensures.chars c.counts_moved-counts.ensures.depth c.next-next.result c.next-next.ensures.is c.name_place.new.self c.name_place-2.new.self c.name_place.ensures c.name_place-2.ensures c.make_change.new.log c.in_ok-make_change.ensures.log
+    (comes_in c.self.inside.arena.trees a.node.label a.parent.label) refl c.counts_moved-counts.result c.counts_moved-counts.ensures.nodes c.counts_moved-counts.ensures.chars c.counts_moved-counts.ensures.depth c.next-next.result c.next-next.ensures.is c.name_place.new.self c.name_place-2.new.self c.name_place.ensures c.name_place-2.ensures c.make_change.new.history c.in_ok-make_change.ensures.history
 
 pub invariant_of-self-2 : goal.invariant_of-self-2
 invariant_of-self-2 c = (done c).invariant

@@ -9,10 +9,10 @@ ended c = subst (λ (n : ℕ). IsEnded n c.none.result) c.next_label-next.ensure
 
 pub invariant_of-result-2 : goal.invariant_of-result-2
 invariant_of-result-2 c =
-    rw (c.arena.view_is, c.in_ok-points.ensures, c.in_ok-no_overrides.ensures, c.in_ok-new.ensures, c.in_ok-with_capacity.ensures, c.in_ok-with_capacity-2.ensures)
+    rw (c.arena.view_is, c.in_ok-points.ensures, c.in_ok-no_overrides.ensures, c.in_ok-new.ensures)
     (new_ok c.args.arena c.valid.ensures c.requires.loose c.args.undo_depth (record { nodes = c.node_count.result; chars = c.char_count.result; depth = c.page_depth.result }) c.node_count.ensures c.char_count.ensures c.page_depth.ensures c.none.result (ended c))
 
 pub returns : goal.returns
 returns c =
-    (λ i. whole_of (c.arena.view_is i) (c.in_ok-points.ensures i) (c.in_ok-no_overrides.ensures i) (record { css_styling = false; paragraphs = false }) c.none.result (c.in_ok-new.ensures i) (c.in_ok-with_capacity.ensures i).items (c.in_ok-with_capacity-2.ensures i).items)
+    (λ i. whole_of (c.arena.view_is i) (c.in_ok-points.ensures i) (c.in_ok-no_overrides.ensures i) (record { css_styling = false; paragraphs = false }) c.none.result (c.in_ok-new.ensures i))
     ∙ new_is c.args.arena c.valid.ensures c.requires.loose c.args.undo_depth (record { nodes = c.node_count.result; chars = c.char_count.result; depth = c.page_depth.result }) c.node_count.ensures c.char_count.ensures c.page_depth.ensures c.none.result (ended c)

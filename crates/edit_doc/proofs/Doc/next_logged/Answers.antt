@@ -1,7 +1,8 @@
+-- What reading the entry that redo would take needs and gives.
 use Rattle.std.proofs.Common.{arith}
 use Rattle.std.proofs.lemmas.Result.{IfOk-weaker}
 use Rattle.edit_doc.proofs.Inner.{closed_of}
-use Rattle.edit_doc.proofs.Laid.{redo_count, redo_sides_length}
+use Rattle.edit_doc.proofs.Laid.{redo_count}
 use Rattle.edit_doc.proofs.LoggedDocs.{some_of}
 use Rattle.edit_doc.proofs.LoggedNext.{next_read}
 use Rattle.edit_doc.proofs.Doc.next_logged.Goals as goal
@@ -9,47 +10,40 @@ use Rattle.edit_doc.proofs.Doc.next_logged.Goals as goal
 pub unwrap-steps-requires : goal.unwrap-steps-requires
 unwrap-steps-requires c =
     let more = c.requires.more in
-    some_of _ c.next_entry.result c.self.inside.log.redo c.next_entry.ensures (omega (arith, more, redo_count c.self.inside _ c.self.view_is c.self.invariant))
-
-pub unwrap-requires : goal.unwrap-requires
-unwrap-requires c =
-    let d = c.self.inside in
-    let more = c.requires.more in
-    let sides = redo_sides_length d.arena.held d.points.names d.command _ d.log.redo d.redo_sides.items c.self.invariant.redo in
-    some_of _ c.front.result d.redo_sides.items c.front.ensures (omega (arith, more, sides, redo_count d _ c.self.view_is c.self.invariant))
+    some_of _ c.next_entry.result c.self.inside.history.log.redo c.next_entry.ensures (omega (arith, more, redo_count c.self.inside _ c.self.view_is c.self.invariant))
 
 pub read_entry-requires-clause-order : goal.read_entry-requires-clause-order
 read_entry-requires-clause-order c =
     let d = c.self.inside in
     let closed = closed_of d _ c.self.view_is c.requires.closed in
-    (next_read d _ c.self.view_is c.valid.ensures closed c.self.invariant c.next_entry.result c.unwrap-steps.result c.front.result c.unwrap.result _
-    c.next_entry.ensures c.unwrap-steps.ensures c.front.ensures c.unwrap.ensures c.first_later-end.ensures).order
+    (next_read d _ c.self.view_is c.valid.ensures closed c.self.invariant c.next_entry.result c.unwrap-steps.result _ _
+    c.next_entry.ensures c.unwrap-steps.ensures c.first_undone-first.ensures c.first_later-end.ensures).order
 
 pub read_entry-requires-clause-fresh : goal.read_entry-requires-clause-fresh
 read_entry-requires-clause-fresh c =
     let d = c.self.inside in
     let closed = closed_of d _ c.self.view_is c.requires.closed in
-    (next_read d _ c.self.view_is c.valid.ensures closed c.self.invariant c.next_entry.result c.unwrap-steps.result c.front.result c.unwrap.result _
-    c.next_entry.ensures c.unwrap-steps.ensures c.front.ensures c.unwrap.ensures c.first_later-end.ensures).fresh
+    (next_read d _ c.self.view_is c.valid.ensures closed c.self.invariant c.next_entry.result c.unwrap-steps.result _ _
+    c.next_entry.ensures c.unwrap-steps.ensures c.first_undone-first.ensures c.first_later-end.ensures).fresh
 
 pub read_entry-requires-clause-within : goal.read_entry-requires-clause-within
 read_entry-requires-clause-within c =
     let d = c.self.inside in
     let closed = closed_of d _ c.self.view_is c.requires.closed in
-    (next_read d _ c.self.view_is c.valid.ensures closed c.self.invariant c.next_entry.result c.unwrap-steps.result c.front.result c.unwrap.result _
-    c.next_entry.ensures c.unwrap-steps.ensures c.front.ensures c.unwrap.ensures c.first_later-end.ensures).within
+    (next_read d _ c.self.view_is c.valid.ensures closed c.self.invariant c.next_entry.result c.unwrap-steps.result _ _
+    c.next_entry.ensures c.unwrap-steps.ensures c.first_undone-first.ensures c.first_later-end.ensures).within
 
 pub read_entry-requires-clause-held : goal.read_entry-requires-clause-held
 read_entry-requires-clause-held c =
     let d = c.self.inside in
     let closed = closed_of d _ c.self.view_is c.requires.closed in
-    (next_read d _ c.self.view_is c.valid.ensures closed c.self.invariant c.next_entry.result c.unwrap-steps.result c.front.result c.unwrap.result _
-    c.next_entry.ensures c.unwrap-steps.ensures c.front.ensures c.unwrap.ensures c.first_later-end.ensures).held
+    (next_read d _ c.self.view_is c.valid.ensures closed c.self.invariant c.next_entry.result c.unwrap-steps.result _ _
+    c.next_entry.ensures c.unwrap-steps.ensures c.first_undone-first.ensures c.first_later-end.ensures).held
 
 pub returns : goal.returns
 returns c =
     let d = c.self.inside in
     let closed = closed_of d _ c.self.view_is c.requires.closed in
-    let next = next_read d _ c.self.view_is c.valid.ensures closed c.self.invariant c.next_entry.result c.unwrap-steps.result c.front.result c.unwrap.result _
-    c.next_entry.ensures c.unwrap-steps.ensures c.front.ensures c.unwrap.ensures c.first_later-end.ensures in
+    let next = next_read d _ c.self.view_is c.valid.ensures closed c.self.invariant c.next_entry.result c.unwrap-steps.result _ _
+    c.next_entry.ensures c.unwrap-steps.ensures c.first_undone-first.ensures c.first_later-end.ensures in
     IfOk-weaker c.read_entry.result _ _ next.value c.read_entry.ensures

@@ -21,7 +21,7 @@ unset_overrides_if_range_changed-requires-clause-placed c =
     let pair = subst (λ (w : Whole). IfSome c.args.pair (IsPlacedPair w.state.trees)) (sym c.self.view_is) c.requires in
     rw c.set_selection.ensures (placed_then d c.valid.ensures c.self.invariant c.args.pair d.points.scratch d.points.marks (record { selection = pair; scratch = p.scratch; marks = p.marks })).selection
 
-placed : (c : goal.After-self-1) → IsPlaced (seen_trees c.self.inside.log c.self.inside.command.start c.self.inside.arena.trees) (moved_to c.self.inside.points c.args.pair c.self.inside.points.scratch c.self.inside.points.marks)
+placed : (c : goal.After-self-1) → IsPlaced (seen_trees c.self.inside.history.log c.self.inside.command.start c.self.inside.arena.trees) (moved_to c.self.inside.points c.args.pair c.self.inside.points.scratch c.self.inside.points.marks)
 placed c =
     let p = c.self.invariant.valid.placed in
     record { selection = subst (λ (w : Whole). IfSome c.args.pair (IsPlacedPair w.state.trees)) (sym c.self.view_is) c.requires; scratch = p.scratch; marks = p.marks }

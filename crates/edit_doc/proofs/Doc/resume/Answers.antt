@@ -1,5 +1,8 @@
-use Rattle.std.proofs.Common.{◌≡◌, false, true, ◌∙◌, ap, subst, sym, refl, length, arith}
-use Rattle.edit_doc.specs.Fields.{IsKept}
+-- What resuming the last entry owes.
+use Rattle.std.proofs.Common.{◌≡◌, ◌<◌, false, true, ◌∙◌, ap, subst, sym, refl, length, arith}
+use Rattle.undo_log.specs.Log.{resumed}
+use Rattle.edit_doc.specs.Fields.{IsKept, SwapsLeft}
+use Rattle.edit_doc.specs.Trail.{Trail, trail_of}
 use Rattle.edit_doc.specs.Whole.{Whole, opened}
 use Rattle.edit_doc.specs.Held.{IfHeld}
 use Rattle.edit_model.specs.Gives.{label_of}
@@ -11,7 +14,7 @@ use Rattle.edit_doc.proofs.Doc.resume.Goals as goal
 pub swap_detached-requires : goal.swap_detached-requires
 swap_detached-requires c =
     let closed = closed_of c.self.inside _ c.self.view_is c.requires.closed in
-    some_sides c.self.inside c.valid.ensures closed c.self.invariant (c.if-not-resume.ensures.answer.0 refl).0
+    subst (λ (t : Trail). 0 < length t.past) (sym c.if-not-resume.ensures.history) (some_sides c.self.inside c.valid.ensures closed c.self.invariant (c.if-not-resume.ensures.answer.0 refl).0)
 
 pub returns-then-not-resume-clause-answer : goal.returns-then-not-resume-clause-answer
 returns-then-not-resume-clause-answer c = resume_answer c.self.inside _ c.self.view_is c.self.invariant false c.if-not-resume.ensures.answer
@@ -25,16 +28,22 @@ keeps c = subst (λ xs. IsKept c.self.inside.points xs c.self.inside.flags c.sel
 all : (c : goal.After-self-2-1) → c.len-self-inside.result ≡ length c.swap_detached.new.command.detached.items
 all c = let o = c.swap_detached.new.command.detached.ok in let e = c.len-self-inside.ensures in omega (arith, o, e)
 
+trail : (c : goal.After-self-2-1) → c.swap_detached.new.self ≡ trail_of (resumed c.self.inside.history.log) c.swap_detached.new.self.past c.self.inside.history.future
+trail c = c.swap_detached.ensures.rest ∙ ap (λ (t : Trail). record t { past = c.swap_detached.new.self.past }) c.if-not-resume.ensures.history
+
+swaps : (c : goal.After-self-2-1) → SwapsLeft c.self.inside.history.past c.swap_detached.new.self.past c.self.inside.command c.swap_detached.new.command
+swaps c = subst (λ (t : Trail). SwapsLeft t.past c.swap_detached.new.self.past c.self.inside.command c.swap_detached.new.command) c.if-not-resume.ensures.history c.swap_detached.ensures.swapped
+
 pub invariant_of-self-2 : goal.invariant_of-self-2
 invariant_of-self-2 c =
     let closed = closed_of c.self.inside _ c.self.view_is c.requires.closed in
-    rw (c.if-not-resume.ensures.log, c.swap_detached.ensures.capacity)
-    (resume_ok c.self.inside c.valid.ensures closed c.self.invariant c.in_ok-kept.kept c.args.host (keeps c) c.swap_detached.new.undo_sides.items c.swap_detached.new.command c.swap_detached.ensures.swapped c.len-self-inside.result (all c)
+    rw (trail c)
+    (resume_ok c.self.inside c.valid.ensures closed c.self.invariant c.in_ok-kept.kept c.args.host (keeps c) c.swap_detached.new.self.past c.swap_detached.new.command (swaps c) c.len-self-inside.result (all c)
     (subst (λ (w : Whole). IfHeld w c.args.host) (sym c.self.view_is) c.requires.host_held))
 
 pub returns-clause-begun : goal.returns-clause-begun
 returns-clause-begun c =
     let closed = closed_of c.self.inside _ c.self.view_is c.requires.closed in
-    rw c.if-not-resume.ensures.log
-    (resume_is c.self.inside c.valid.ensures closed c.self.invariant c.in_ok-kept.kept c.args.host (keeps c) c.swap_detached.new.undo_sides.items c.swap_detached.new.command c.swap_detached.ensures.swapped c.len-self-inside.result (all c)
+    rw (trail c)
+    (resume_is c.self.inside c.valid.ensures closed c.self.invariant c.in_ok-kept.kept c.args.host (keeps c) c.swap_detached.new.self.past c.swap_detached.new.command (swaps c) c.len-self-inside.result (all c)
     ∙ ap (opened (label_of c.args.host) false true) c.self.view_is)

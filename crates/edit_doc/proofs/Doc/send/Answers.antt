@@ -30,7 +30,7 @@ split-requires c =
     let low = c.valid.ensures.small in
     fits-send (seen c.self.inside).state c.args.node.label c.args.at c.args.tail.label c.self.invariant.valid (omega (arith, capped, low)) may
 
-placed : (c : goal.After-self-1) → IsPlaced (seen_trees c.self.inside.log c.self.inside.command.start c.self.inside.arena.trees) (mapped (range.Split c.args.node.label c.args.at c.args.tail.label c.args.node.label 0) c.self.inside.points)
+placed : (c : goal.After-self-1) → IsPlaced (seen_trees c.self.inside.history.log c.self.inside.command.start c.self.inside.arena.trees) (mapped (range.Split c.args.node.label c.args.at c.args.tail.label c.args.node.label 0) c.self.inside.points)
 placed c =
     let may = ap (λ (w : Whole). may_send w.state c.args.node.label c.args.at c.args.tail.label) c.self.view_is ∙ (sym c.may_send.ensures ∙ c.if-may_send.true) in
     mapped_placed (range.Split c.args.node.label c.args.at c.args.tail.label c.args.node.label 0) (seen c.self.inside).state.trees (seen c.self.inside).state.trees (places-send (seen c.self.inside).state c.args.node.label c.args.at c.args.tail.label c.self.invariant.valid may) c.self.inside.points c.self.invariant.valid.placed

@@ -43,7 +43,7 @@ invariant_of-self-2 c =
     let same : c.set.new.self ≡ set_in k.attributes a.name.now a.value.now = c.in_ok-set.ensures.ok ∙ ap (λ xs. set_in xs a.name.now a.value.now) c.in_ok-list.ensures in
     let other : has_value k.attributes a.name.now a.value.now ≡ false = sym c.has_value.ensures ∙ c.if-has_value.false in
     let may = may_set_here c.self.inside a.self.now c.self.view_is c.valid.ensures c.slotted.ensures c.requires.open c.self.invariant a.node c.requires.node_held k.name k.attributes content a.name.now a.value.now (sym c.is_own.ensures ∙ c.if-not-is_own.false) other in
-    (set_done c.self.inside a.self.now c.self.view_is c.valid.ensures c.slotted.ensures c.requires.open c.self.invariant a.node c.requires.node_held k.name k.attributes content c.set.new.self c.name.new.self c.name.ensures c.make_change.new.arena c.make_change.new.log c.in_ok-make_change.ensures.arena c.in_ok-make_change.ensures.log a.name.now a.value.now same may).invariant
+    (set_done c.self.inside a.self.now c.self.view_is c.valid.ensures c.slotted.ensures c.requires.open c.self.invariant a.node c.requires.node_held k.name k.attributes content c.set.new.self c.name.new.self c.name.ensures c.make_change.new.arena c.make_change.new.history c.in_ok-make_change.ensures.arena c.in_ok-make_change.ensures.history a.name.now a.value.now same may).invariant
 
 pub returns-clause-gives : goal.returns-clause-gives
 returns-clause-gives c =
@@ -53,7 +53,7 @@ returns-clause-gives c =
     let same : c.set.new.self ≡ set_in k.attributes a.name.now a.value.now = c.in_ok-set.ensures.ok ∙ ap (λ xs. set_in xs a.name.now a.value.now) c.in_ok-list.ensures in
     let other : has_value k.attributes a.name.now a.value.now ≡ false = sym c.has_value.ensures ∙ c.if-has_value.false in
     let may = may_set_here c.self.inside a.self.now c.self.view_is c.valid.ensures c.slotted.ensures c.requires.open c.self.invariant a.node c.requires.node_held k.name k.attributes content a.name.now a.value.now (sym c.is_own.ensures ∙ c.if-not-is_own.false) other in
-    (set_done c.self.inside a.self.now c.self.view_is c.valid.ensures c.slotted.ensures c.requires.open c.self.invariant a.node c.requires.node_held k.name k.attributes content c.set.new.self c.name.new.self c.name.ensures c.make_change.new.arena c.make_change.new.log c.in_ok-make_change.ensures.arena c.in_ok-make_change.ensures.log a.name.now a.value.now same may).gives
+    (set_done c.self.inside a.self.now c.self.view_is c.valid.ensures c.slotted.ensures c.requires.open c.self.invariant a.node c.requires.node_held k.name k.attributes content c.set.new.self c.name.new.self c.name.ensures c.make_change.new.arena c.make_change.new.history c.in_ok-make_change.ensures.arena c.in_ok-make_change.ensures.history a.name.now a.value.now same may).gives
 
 pub returns-clause-keeps : goal.returns-clause-keeps
 returns-clause-keeps c =
@@ -63,4 +63,4 @@ returns-clause-keeps c =
     let same : c.set.new.self ≡ set_in k.attributes a.name.now a.value.now = c.in_ok-set.ensures.ok ∙ ap (λ xs. set_in xs a.name.now a.value.now) c.in_ok-list.ensures in
     let other : has_value k.attributes a.name.now a.value.now ≡ false = sym c.has_value.ensures ∙ c.if-has_value.false in
     let may = may_set_here c.self.inside a.self.now c.self.view_is c.valid.ensures c.slotted.ensures c.requires.open c.self.invariant a.node c.requires.node_held k.name k.attributes content a.name.now a.value.now (sym c.is_own.ensures ∙ c.if-not-is_own.false) other in
-    (set_done c.self.inside a.self.now c.self.view_is c.valid.ensures c.slotted.ensures c.requires.open c.self.invariant a.node c.requires.node_held k.name k.attributes content c.set.new.self c.name.new.self c.name.ensures c.make_change.new.arena c.make_change.new.log c.in_ok-make_change.ensures.arena c.in_ok-make_change.ensures.log a.name.now a.value.now same may).keeps
+    (set_done c.self.inside a.self.now c.self.view_is c.valid.ensures c.slotted.ensures c.requires.open c.self.invariant a.node c.requires.node_held k.name k.attributes content c.set.new.self c.name.new.self c.name.ensures c.make_change.new.arena c.make_change.new.history c.in_ok-make_change.ensures.arena c.in_ok-make_change.ensures.history a.name.now a.value.now same may).keeps

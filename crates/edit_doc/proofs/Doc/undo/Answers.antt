@@ -1,8 +1,9 @@
-use Rattle.std.proofs.Common.{◌≡◌, ◌<◌, length, refl, sym, ap, ◌∙◌, arith}
+-- What taking an entry back owes.
+use Rattle.std.proofs.Common.{◌≡◌, length, sym, ap, ◌∙◌, arith}
 use Rattle.std.specs.Vec.{with_items}
 use Rattle.std.proofs.lemmas.List.{with_items_is}
 use Rattle.edit_model.specs.Overrides.{no_overrides}
-use Rattle.edit_doc.proofs.Turnings.{undo_fits, undo_done, undo_none, unset_length}
+use Rattle.edit_doc.proofs.Turnings.{undo_fits, undo_done, undo_none, Turned, undo_whole, unset_length}
 use Rattle.edit_doc.proofs.Inner.{closed_of}
 use Rattle.edit_doc.proofs.Laid.{undo_edits}
 use Rattle.edit_doc.proofs.Doc.undo.Goals as goal
@@ -10,13 +11,13 @@ use Rattle.edit_doc.proofs.Doc.undo.Goals as goal
 pub undo-requires-clause-fit : goal.undo-requires-clause-fit
 undo-requires-clause-fit g c = undo_fits c.self.inside _ c.self.view_is c.valid-2.ensures c.slotted.ensures c.valid.ensures (closed_of c.self.inside _ c.self.view_is c.requires.closed) c.self.invariant
 
-pub returns-then-not-undo-clause-doc : goal.returns-then-not-undo-clause-doc
-returns-then-not-undo-clause-doc g c =
-    let u = c.if-not-undo.ensures in
+pub returns-in_default-clause-doc : goal.returns-in_default-clause-doc
+returns-in_default-clause-doc g c =
+    let u = c.undo.ensures in
     undo_none c.self.inside _ c.self.view_is c.valid-2.ensures c.slotted.ensures c.valid.ensures (closed_of c.self.inside _ c.self.view_is c.requires.closed) c.self.invariant _ _
-    (λ h. let e = u.answer.1 h in absurd (cc)) u.state u.log
+    (sym c.in_default.is ∙ u.sides) u.arena u.history
 
-unset : (g : _) (c : goal.Joined-push_front g) → (with_items c.self.inside.overrides c.unset_overrides.new.overrides).items ≡ no_overrides
+unset : (g : _) (c : goal.After-self-2-1 g) → (with_items c.self.inside.overrides c.unset_overrides.new.overrides).items ≡ no_overrides
 unset g c =
     let e : c.unset_overrides.new.overrides ≡ no_overrides = c.unset_overrides.ensures in
     let a = ap length e in
@@ -25,24 +26,22 @@ unset g c =
     let w = ap length c.deref_mut.ensures.value in
     with_items_is c.self.inside.overrides c.unset_overrides.new.overrides (omega (arith, a, unset_length, s, l, w)) ∙ e
 
+done : (g : _) (c : goal.After-self-2-1 g) → Turned c.self.inside _ c.self.view_is c.valid-2.ensures c.slotted.ensures c.valid.ensures (closed_of c.self.inside _ c.self.view_is c.requires.closed) c.self.invariant
+    c.undo.new.arena c.set_places.new.self c.counts_before-self-inside.result c.undo.new.self (undo_whole c.self.inside _ c.self.view_is c.valid-2.ensures c.slotted.ensures c.valid.ensures (closed_of c.self.inside _ c.self.view_is c.requires.closed) c.self.invariant c.args.self.now)
+done g c =
+    let u = c.undo.ensures in
+    let n = c.counts_before-self-inside.ensures in
+    undo_done c.self.inside _ c.self.view_is c.valid-2.ensures c.slotted.ensures c.valid.ensures (closed_of c.self.inside _ c.self.view_is c.requires.closed) c.self.invariant
+    _ _ _ _ c.in-Some.sides (sym c.in-Some.is ∙ u.sides) c.valid-3.ensures u.arena u.history c.set_places.ensures n.nodes n.chars n.depth
+
 pub invariant_of-self-2 : goal.invariant_of-self-2
-invariant_of-self-2 g c =
-    let u = c.if-not-undo.ensures in
-    let more : 0 < length c.self.inside.log.undo = u.answer.0 refl in
-    rw (c.pop_front.ensures.items, c.push_front.ensures.items, unset g c)
-    (undo_done c.self.inside _ c.self.view_is c.valid-2.ensures c.slotted.ensures c.valid.ensures (closed_of c.self.inside _ c.self.view_is c.requires.closed) c.self.invariant
-    _ _ _ _ _ _ c.unwrap-snapshot.result more c.valid-3.ensures u.state u.log c.set_places.ensures c.counts_before-self-inside.ensures.nodes c.counts_before-self-inside.ensures.chars c.counts_before-self-inside.ensures.depth refl (sym c.unwrap-snapshot.ensures ∙ c.pop_front.ensures.value) refl).invariant
+invariant_of-self-2 g c = rw (unset g c) (done g c).invariant
 
 pub returns-clause-doc : goal.returns-clause-doc
-returns-clause-doc g c =
-    let u = c.if-not-undo.ensures in
-    let more : 0 < length c.self.inside.log.undo = u.answer.0 refl in
-    rw (c.pop_front.ensures.items, c.push_front.ensures.items, unset g c)
-    (undo_done c.self.inside _ c.self.view_is c.valid-2.ensures c.slotted.ensures c.valid.ensures (closed_of c.self.inside _ c.self.view_is c.requires.closed) c.self.invariant
-    _ _ _ _ _ _ c.unwrap-snapshot.result more c.valid-3.ensures u.state u.log c.set_places.ensures c.counts_before-self-inside.ensures.nodes c.counts_before-self-inside.ensures.chars c.counts_before-self-inside.ensures.depth refl (sym c.unwrap-snapshot.ensures ∙ c.pop_front.ensures.value) refl).value
+returns-clause-doc g c = rw (unset g c) (done g c).value
 
 pub returns-clause-count : goal.returns-clause-count
 returns-clause-count g c =
-    let k = c.if-not-undo.ensures.count in
+    let k = c.undo.ensures.count in
     let e = undo_edits c.self.inside _ c.self.view_is c.self.invariant in
     omega (arith, k, e)

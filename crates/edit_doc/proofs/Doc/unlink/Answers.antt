@@ -14,7 +14,7 @@ use Rattle.edit_doc.proofs.Doc.unlink.Goals as goal
 pub invariant_of-self : goal.invariant_of-self
 invariant_of-self c =
     let d = c.self.inside in
-    room_made d.command c.reserve.new.self c.reserve.ensures.items d.arena d.points d.overrides.items d.flags d.counts d.log d.undo_sides.items d.redo_sides.items d.undo_sides.capacity d.redo_sides.capacity c.self.invariant
+    room_made d.command c.reserve.new.self c.reserve.ensures.items d.arena d.points d.overrides.items d.flags d.counts d.history c.self.invariant
 
 pub watch_range-watch-requires-clause-placed : goal.watch_range-watch-requires-clause-placed
 watch_range-watch-requires-clause-placed c = (points_now c.self.inside c.valid.ensures c.self.invariant).selection
@@ -23,7 +23,7 @@ pub invariant_of-self-in_err-make_change : goal.invariant_of-self-in_err-make_ch
 invariant_of-self-in_err-make_change c =
     let d = c.self.inside in
     let same = c.in_err-make_change.ensures.err in
-    rw (same.0, same.1) (room_made d.command c.reserve.new.self c.reserve.ensures.items d.arena d.points d.overrides.items d.flags d.counts d.log d.undo_sides.items d.redo_sides.items d.undo_sides.capacity d.redo_sides.capacity c.self.invariant)
+    rw (same.0, same.1) (room_made d.command c.reserve.new.self c.reserve.ensures.items d.arena d.points d.overrides.items d.flags d.counts d.history c.self.invariant)
 
 pub name_place-requires : goal.name_place-requires
 name_place-requires c =
@@ -46,7 +46,7 @@ unset_overrides_if_range_changed-requires-clause-placed c =
     let moved = c.adjust.ensures d.arena.trees a.node.label a.parent.label c.removal_of-removal.ensures in
     (placed_called d v c.self.view_is c.valid.ensures c.requires.open c.self.invariant (Remove a.node.label) (Unlink a.node) x l may t c.adjust.new.points c.make_change.new.arena (moved ∙ p) c.in_ok-make_change.ensures.arena).selection
 
-done : (c : goal.After-self-1) → Applied c.self.inside c.args.self.now (Remove c.args.node.label) c.make_change.new.arena c.adjust.new.points (with_items c.self.inside.overrides c.unset_overrides_if_range_changed.new.overrides).items c.counts_without-counts.result c.name_place.new.self c.make_change.new.log
+done : (c : goal.After-self-1) → Applied c.self.inside c.args.self.now (Remove c.args.node.label) c.make_change.new.arena c.adjust.new.points (with_items c.self.inside.overrides c.unset_overrides_if_range_changed.new.overrides).items c.counts_without-counts.result c.name_place.new.self c.make_change.new.history
 done c =
     let a = c.args in
     let d = c.self.inside in
@@ -71,7 +71,7 @@ done c =
     unlink_done d c.valid.ensures v c.self.view_is a.node c.requires.node_held a.parent child c.slotted.ensures c.requires.open c.self.invariant may
     c.adjust.new.points (with_items d.overrides c.unset_overrides_if_range_changed.new.overrides).items c.counts_without-counts.result (record d.command { detached = c.push.new.self }) c.name_place.new.self c.next-next.result c.next-next.ensures.is
     refl pushed c.name_place.ensures moved (with_items_is d.overrides c.unset_overrides_if_range_changed.new.overrides (omega (arith, n, k, s, q, w)) ∙ e) c.counts_without-counts.ensures.nodes c.counts_without-counts.ensures.chars c.counts_without-counts.ensures.depth
-    c.make_change.new.arena c.make_change.new.log c.in_ok-make_change.ensures.arena c.in_ok-make_change.ensures.log
+    c.make_change.new.arena c.make_change.new.history c.in_ok-make_change.ensures.arena c.in_ok-make_change.ensures.history
 
 pub invariant_of-self-2 : goal.invariant_of-self-2
 invariant_of-self-2 c = (done c).invariant

@@ -42,7 +42,7 @@ invariant_of-self-2 c =
     let same : c.unset.new.self ≡ unset_in k.attributes a.name.now = c.unset.ensures.left ∙ (λ i. unset_in (c.in_ok-list.ensures i) (c.as_slice-2.ensures i)) in
     let some : option_map_or (λ _. true) (value_of k.attributes a.name.now) false ≡ true = ap (λ o. option_map_or (λ _. true) o false) (ap (value_of k.attributes) (sym c.as_slice.ensures) ∙ sym c.get.ensures) ∙ (copied_some c.get.result ∙ (c.is_none.ensures ∙ ap not c.if-is_none.false)) in
     let may = may_unset_here c.self.inside a.self.now c.self.view_is c.valid.ensures c.slotted.ensures c.requires.open c.self.invariant a.node c.requires.node_held k.name k.attributes content a.name.now (sym c.is_own.ensures ∙ c.if-not-is_own.false) some in
-    (unset_done c.self.inside a.self.now c.self.view_is c.valid.ensures c.slotted.ensures c.requires.open c.self.invariant a.node c.requires.node_held k.name k.attributes content c.unset.new.self c.name.new.self c.name.ensures c.make_change.new.arena c.make_change.new.log c.in_ok-make_change.ensures.arena c.in_ok-make_change.ensures.log a.name.now same may).invariant
+    (unset_done c.self.inside a.self.now c.self.view_is c.valid.ensures c.slotted.ensures c.requires.open c.self.invariant a.node c.requires.node_held k.name k.attributes content c.unset.new.self c.name.new.self c.name.ensures c.make_change.new.arena c.make_change.new.history c.in_ok-make_change.ensures.arena c.in_ok-make_change.ensures.history a.name.now same may).invariant
 
 pub returns-clause-gives : goal.returns-clause-gives
 returns-clause-gives c =
@@ -52,7 +52,7 @@ returns-clause-gives c =
     let same : c.unset.new.self ≡ unset_in k.attributes a.name.now = c.unset.ensures.left ∙ (λ i. unset_in (c.in_ok-list.ensures i) (c.as_slice-2.ensures i)) in
     let some : option_map_or (λ _. true) (value_of k.attributes a.name.now) false ≡ true = ap (λ o. option_map_or (λ _. true) o false) (ap (value_of k.attributes) (sym c.as_slice.ensures) ∙ sym c.get.ensures) ∙ (copied_some c.get.result ∙ (c.is_none.ensures ∙ ap not c.if-is_none.false)) in
     let may = may_unset_here c.self.inside a.self.now c.self.view_is c.valid.ensures c.slotted.ensures c.requires.open c.self.invariant a.node c.requires.node_held k.name k.attributes content a.name.now (sym c.is_own.ensures ∙ c.if-not-is_own.false) some in
-    (unset_done c.self.inside a.self.now c.self.view_is c.valid.ensures c.slotted.ensures c.requires.open c.self.invariant a.node c.requires.node_held k.name k.attributes content c.unset.new.self c.name.new.self c.name.ensures c.make_change.new.arena c.make_change.new.log c.in_ok-make_change.ensures.arena c.in_ok-make_change.ensures.log a.name.now same may).gives
+    (unset_done c.self.inside a.self.now c.self.view_is c.valid.ensures c.slotted.ensures c.requires.open c.self.invariant a.node c.requires.node_held k.name k.attributes content c.unset.new.self c.name.new.self c.name.ensures c.make_change.new.arena c.make_change.new.history c.in_ok-make_change.ensures.arena c.in_ok-make_change.ensures.history a.name.now same may).gives
 
 pub returns-clause-keeps : goal.returns-clause-keeps
 returns-clause-keeps c =
@@ -62,4 +62,4 @@ returns-clause-keeps c =
     let same : c.unset.new.self ≡ unset_in k.attributes a.name.now = c.unset.ensures.left ∙ (λ i. unset_in (c.in_ok-list.ensures i) (c.as_slice-2.ensures i)) in
     let some : option_map_or (λ _. true) (value_of k.attributes a.name.now) false ≡ true = ap (λ o. option_map_or (λ _. true) o false) (ap (value_of k.attributes) (sym c.as_slice.ensures) ∙ sym c.get.ensures) ∙ (copied_some c.get.result ∙ (c.is_none.ensures ∙ ap not c.if-is_none.false)) in
     let may = may_unset_here c.self.inside a.self.now c.self.view_is c.valid.ensures c.slotted.ensures c.requires.open c.self.invariant a.node c.requires.node_held k.name k.attributes content a.name.now (sym c.is_own.ensures ∙ c.if-not-is_own.false) some in
-    (unset_done c.self.inside a.self.now c.self.view_is c.valid.ensures c.slotted.ensures c.requires.open c.self.invariant a.node c.requires.node_held k.name k.attributes content c.unset.new.self c.name.new.self c.name.ensures c.make_change.new.arena c.make_change.new.log c.in_ok-make_change.ensures.arena c.in_ok-make_change.ensures.log a.name.now same may).keeps
+    (unset_done c.self.inside a.self.now c.self.view_is c.valid.ensures c.slotted.ensures c.requires.open c.self.invariant a.node c.requires.node_held k.name k.attributes content c.unset.new.self c.name.new.self c.name.ensures c.make_change.new.arena c.make_change.new.history c.in_ok-make_change.ensures.arena c.in_ok-make_change.ensures.history a.name.now same may).keeps

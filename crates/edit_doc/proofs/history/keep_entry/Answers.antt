@@ -1,5 +1,6 @@
+-- A new entry goes before the others.
 use Rattle.std.proofs.Common.{refl}
-use Rattle.edit_doc.proofs.commands.keep_entry.Goals as goal
+use Rattle.edit_doc.proofs.history.keep_entry.Goals as goal
 
 pub returns-else-command-clause-entered : goal.returns-else-command-clause-entered
 returns-else-command-clause-entered c =

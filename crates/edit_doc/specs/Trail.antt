@@ -1,0 +1,49 @@
+-- The value of the history of a document: the log of the steps, and a snapshot beside each of its entries. No public clause
+-- cites this module.
+use Rattle.std.specs.Prelude.{◌≡◌, ℕ, List, [], ◌++◌, length, take, drop}
+use Rattle.dom_model.specs.ArenaState.{ArenaState as Arena}
+use Rattle.undo_log.specs.Log.{Log, IsLog, empty, with_step, undone, redone}
+use Rattle.edit_steps.specs.declared.step.Step.{Step}
+use Rattle.edit_steps.specs.Step.{step_applied, step_inverse}
+use Rattle.edit_doc.specs.declared.command.EntrySnapshot.{EntrySnapshot}
+
+-- the log, and what stands beside the entries that undo would take, and beside those that redo would take
+pub record Trail : Type 0 where
+  pub log : Log Step
+  pub past : List EntrySnapshot
+  pub future : List EntrySnapshot
+
+abbrev pub trail_of : Log Step → List EntrySnapshot → List EntrySnapshot → Trail
+trail_of log past future = record { log = log; past = past; future = future }
+
+-- ---- after a call
+
+abbrev pub first_trail : ℕ → Trail
+first_trail depth = trail_of (empty depth) [] []
+
+abbrev pub with_log : Trail → Log Step → Trail
+with_log t log = record t { log = log }
+
+abbrev pub with_note : Trail → Step → Trail
+with_note t x = with_log t (with_step t.log x)
+
+abbrev pub trail_undone : Trail → Arena → Trail
+trail_undone t a = trail_of (undone step_applied step_inverse t.log a) (drop 1 t.past) (take 1 t.past ++ t.future)
+
+abbrev pub trail_redone : Trail → Arena → Trail
+trail_redone t a = trail_of (redone step_applied step_inverse t.log a) (take 1 t.future ++ t.past) (drop 1 t.future)
+
+-- ---- what holds of every one
+
+-- a snapshot stands beside each entry
+pub record IsTrail (t : Trail) : Type 0 where
+  pub log : IsLog t.log
+  pub past : length t.past ≡ length t.log.undo
+  pub future : length t.future ≡ length t.log.redo
+
+-- and there is room for as many as the log can have entries
+pub record IsSoundHistory (t : Trail) (past_room future_room : ℕ) : Type 0 where
+  pub past : length t.past ≡ length t.log.undo
+  pub future : length t.future ≡ length t.log.redo
+  pub past_room_is : past_room ≡ t.log.depth
+  pub future_room_is : future_room ≡ t.log.depth

@@ -1,0 +1,314 @@
+//! The history of a document: the log of the steps, and a snapshot beside each entry of it.
+
+ghost use Rattle.std.specs.Prelude.{◌≡◌, ◌+◌, ◌<◌, ◌↔◌, ◌++◌, IsTrue, IfOk, OnOk, IfErr, Some, [], length, take, drop, slice_get, true, if◌then◌else◌};
+ghost use Rattle.std.specs.Option.{option_map};
+ghost use Rattle.edit_steps.specs.Step.{StepFits, step_applied};
+ghost use Rattle.undo_log.specs.Turning.{FitsBack};
+ghost use Rattle.undo_log.specs.Log.{FitsUndo, FitsRedo, begun, resumed, abandoned, is_open, is_resumed, noted, undone_state, redone_state, first_length};
+ghost use Rattle.undo_log.specs.Log.Open.{Closed};
+ghost use Rattle.undo_log.specs.States.{start};
+ghost use Rattle.edit_doc.specs.Fields.{SwapsLeft, Forgets, Enters};
+ghost use Rattle.edit_doc.specs.Sound.{next_first};
+ghost use Rattle.edit_doc.specs.Trail.{IsTrail, first_trail, with_note, trail_undone, trail_redone};
+ghost use Rattle.edit_doc.specs.Closing.{Closes};
+
+use crate::Counts;
+use crate::command::{Command, EntrySnapshot, Sides};
+use crate::giving_up::keep_loose;
+use circular_buffer::HeapCircularBuffer;
+use edit_steps::Step;
+use live_range::Places;
+use node_arena::Arena;
+use std::alloc::{AllocError, Global};
+use std::marker::Model;
+use std::mem::swap;
+use std::sync::ledger::Ledger;
+use step_count::Steps;
+use undo_log::{Committed, UndoLog};
+
+// The entries around the cursor, and the open one.
+#[derive(Drop)]
+pub(crate) struct History {
+    log: UndoLog<Step>,
+    // beside each entry that undo would take, and each that redo would take
+    past: HeapCircularBuffer<EntrySnapshot>,
+    future: HeapCircularBuffer<EntrySnapshot>,
+}
+
+// What a commit makes of the open entry: nothing, or an entry. Then the oldest goes out where
+// there were too many.
+pub(crate) enum Closing {
+    Nothing,
+    Entry(Option<EntrySnapshot>),
+}
+
+impl Model for History {
+    ghost use Rattle.edit_doc.specs.Trail.{Trail, trail_of, IsSoundHistory};
+
+    ghost Value = { Trail };
+
+    ghost view = { λ h. trail_of h.log h.past.items h.future.items };
+
+    ghost invariant = { λ h. IsSoundHistory (trail_of h.log h.past.items h.future.items) h.past.capacity h.future.capacity };
+}
+
+impl History {
+    // An empty history of at most `depth` entries.
+    pub(crate) fn new(alloc: Global, depth: usize) -> Result<History, AllocError>
+        requires { 0 < depth }
+        ensures { IfOk result (λ t. t ≡ first_trail depth) }
+    {
+        Ok(History {
+            log: UndoLog::new(alloc, depth)?,
+            past: HeapCircularBuffer::with_capacity(alloc, depth)?,
+            future: HeapCircularBuffer::with_capacity(alloc, depth)?,
+        })
+    }
+
+    // What holds of every history, for proofs. It does nothing.
+    pub(crate) fn valid(&self)
+        ensures { IsTrail self.now }
+    {
+        self.log.valid();
+    }
+
+    // Opens a new entry.
+    pub(crate) fn begin(&mut self)
+        requires { self.old.log.open_entry ≡ Closed }
+        ensures { self.new ≡ record self.old { log = begun self.old.log } }
+    {
+        self.log.begin();
+    }
+
+    // Opens the entry that undo would take. False where there is none, and where redo would take
+    // one.
+    pub(crate) fn resume(&mut self) -> bool
+        requires { self.old.log.open_entry ≡ Closed }
+        ensures answer { IsTrue result ↔ ((0 < length self.old.log.undo) × (self.old.log.redo ≡ [])) }
+        ensures history { self.new ≡ (if result then record self.old { log = resumed self.old.log } else self.old) }
+    {
+        self.log.resume()
+    }
+
+    // Notes a step in the open entry, or hands it back for want of memory.
+    pub(crate) fn note(&mut self, step: Step) -> Result<(), Step>
+        requires { IsTrue (is_open self.old.log.open_entry) }
+        ensures ok { OnOk result (self.new ≡ with_note self.old step) }
+        ensures err { IfErr result (λ x. (x ≡ step) × (self.new ≡ self.old)) }
+    {
+        self.log.note(step)
+    }
+
+    // Closes the open entry. With a step it is kept with the roots of the loose trees that the
+    // command left, a new one in place of those that redo would take.
+    pub(crate) fn commit(
+        &mut self,
+        alloc: Global,
+        arena: &Arena,
+        command: &mut Command,
+        after: Places,
+        counts: Counts,
+    ) -> Closing
+        requires open { IsTrue (is_open self.old.log.open_entry) }
+        requires resumed { command.old.resumed ≡ is_resumed self.old.log.open_entry }
+        ensures closes { Closes arena.now.trees after counts self.old self.new command.old command.new result }
+    {
+        self.log.valid();
+        match self.log.commit() {
+            Committed::Nothing => Closing::Nothing,
+            Committed::Entry => {
+                keep_loose(arena, &mut command.detached);
+                let oldest = keep_entry(alloc, &mut self.past, command, after, counts);
+                self.future.clear();
+                Closing::Entry(oldest)
+            }
+        }
+    }
+
+    // Closes the open entry, and takes back the steps noted in it.
+    pub(crate) fn abandon(&mut self, arena: &mut Arena)
+        requires open { IsTrue (is_open self.old.log.open_entry) }
+        requires fit { FitsBack step_applied StepFits (noted self.old.log.open_entry) arena.old }
+        ensures history { self.new ≡ record self.old { log = abandoned self.old.log } }
+        ensures arena { arena.new ≡ start step_applied self.old.log arena.old }
+    {
+        self.log.abandon(arena);
+    }
+
+    // Takes the entry before the cursor back. Answers its sides; none where there is no entry.
+    pub(crate) fn undo<L: Ledger>(
+        &mut self,
+        arena: &mut Arena,
+        steps: &mut Steps<L>,
+    ) -> Option<Sides>
+        requires closed { self.old.log.open_entry ≡ Closed }
+        requires fit { FitsUndo step_applied StepFits self.old.log.undo arena.old }
+        ensures sides { result ≡ option_map (λ b. b.sides) (slice_get self.old.past 0) }
+        ensures history { self.new ≡ trail_undone self.old arena.old }
+        ensures arena { arena.new ≡ undone_state step_applied self.old.log.undo arena.old }
+        ensures count { steps.new ≡ steps.old + first_length self.old.log.undo }
+    {
+        self.log.valid();
+        if !self.log.undo(arena, steps) {
+            return None;
+        }
+        Some(pass(&mut self.past, &mut self.future))
+    }
+
+    // Takes the entry after the cursor forth again. Answers its sides; none where there is no
+    // entry.
+    pub(crate) fn redo<L: Ledger>(
+        &mut self,
+        arena: &mut Arena,
+        steps: &mut Steps<L>,
+    ) -> Option<Sides>
+        requires closed { self.old.log.open_entry ≡ Closed }
+        requires fit { FitsRedo step_applied StepFits self.old.log.redo arena.old }
+        ensures sides { result ≡ option_map (λ b. b.sides) (slice_get self.old.future 0) }
+        ensures history { self.new ≡ trail_redone self.old arena.old }
+        ensures arena { arena.new ≡ redone_state step_applied self.old.log.redo arena.old }
+        ensures count { steps.new ≡ steps.old + first_length self.old.log.redo }
+    {
+        self.log.valid();
+        if !self.log.redo(arena, steps) {
+            return None;
+        }
+        Some(pass(&mut self.future, &mut self.past))
+    }
+
+    // Exchanges the left trees of the command with those of the entry that undo would take.
+    pub(crate) fn swap_detached(&mut self, command: &mut Command)
+        requires { 0 < length self.old.past }
+        ensures swapped { SwapsLeft self.old.past self.new.past command.old command.new }
+        ensures rest { self.new ≡ record self.old { past = self.new.past } }
+    {
+        swap_first(&mut self.past, command);
+    }
+
+    // Forgets what the command left; a resumed entry has its left trees again.
+    pub(crate) fn forget_detached(&mut self, command: &mut Command)
+        requires { command.old.resumed ≡ true → 0 < length self.old.past }
+        ensures forgotten { Forgets self.old.past self.new.past command.old }
+        ensures rest { self.new ≡ record self.old { past = self.new.past } }
+    {
+        if command.resumed {
+            command.detached.truncate(command.detached_before);
+            swap_first(&mut self.past, command);
+        }
+    }
+
+    // How many entries undo would take.
+    pub(crate) fn undo_len(&self) -> usize
+        ensures { result ≡ length self.now.log.undo }
+    {
+        self.log.undo_len()
+    }
+
+    // How many entries redo would take.
+    pub(crate) fn redo_len(&self) -> usize
+        ensures { result ≡ length self.now.log.redo }
+    {
+        self.log.redo_len()
+    }
+
+    // How many steps the entry has that undo would take, 0 if there is none.
+    pub(crate) fn entry_len(&self) -> usize
+        ensures { result ≡ first_length self.now.log.undo }
+    {
+        self.log.entry_len()
+    }
+
+    // Whether a commit ever dropped the oldest entry.
+    pub(crate) fn has_dropped(&self) -> bool
+        ensures { result ≡ self.now.log.dropped }
+    {
+        self.log.has_dropped()
+    }
+
+    // The steps of the entry that redo would take. None where there is none.
+    pub(crate) fn next_entry(&self) -> Option<&[Step]>
+        ensures { option_map (λ steps. steps.now) result ≡ slice_get self.now.log.redo 0 }
+    {
+        self.log.next_entry()
+    }
+
+    // The first label of the entries that redo would take; without any, that of the command.
+    pub(crate) fn first_undone(&self, start: u32) -> u32
+        ensures { result ≡ next_first start self.now.future }
+    {
+        match self.future.front() {
+            Some(snapshot) => snapshot.sides.first_label,
+            None => start,
+        }
+    }
+
+    // The same of the entries past the one that redo would take.
+    pub(crate) fn first_later(&self, start: u32) -> u32
+        ensures { result ≡ next_first start (drop 1 self.now.future) }
+    {
+        match self.future.get(1) {
+            Some(snapshot) => snapshot.sides.first_label,
+            None => start,
+        }
+    }
+}
+
+// Exchanges the left trees of the command with those of the first entry.
+fn swap_first(past: &mut HeapCircularBuffer<EntrySnapshot>, command: &mut Command)
+    requires { 0 < length past.old.items }
+    ensures swapped { SwapsLeft past.old.items past.new.items command.old command.new }
+    ensures capacity { past.new.capacity ≡ past.old.capacity }
+{
+    match past.get_mut(0) {
+        Some(snapshot) => swap(&mut snapshot.detached, &mut command.detached),
+        None => unreachable!(),
+    }
+}
+
+// The command makes an entry, or joins the one that it resumed, with what it left. Answers the
+// oldest entry's snapshot where there were too many.
+fn keep_entry(
+    alloc: Global,
+    past: &mut HeapCircularBuffer<EntrySnapshot>,
+    command: &mut Command,
+    after: Places,
+    counts: Counts,
+) -> Option<EntrySnapshot>
+    requires { command.old.resumed ≡ true → 0 < length past.old.items }
+    ensures entered { Enters command.old command.old.detached.items after counts past.old.capacity past.old.items past.new.items result }
+    ensures capacity { past.new.capacity ≡ past.old.capacity }
+    ensures command { command.new ≡ record command.old { detached = command.new.detached } }
+{
+    if command.resumed {
+        match past.get_mut(0) {
+            Some(snapshot) => {
+                snapshot.join(after, counts);
+                swap(&mut snapshot.detached, &mut command.detached);
+            }
+            None => unreachable!(),
+        }
+        None
+    } else {
+        let mut snapshot = command.snapshot(alloc, after, counts);
+        swap(&mut snapshot.detached, &mut command.detached);
+        past.push_front(snapshot)
+    }
+}
+
+// The first snapshot on one side of the cursor comes to stand on the other. Answers its sides.
+fn pass(
+    from: &mut HeapCircularBuffer<EntrySnapshot>,
+    to: &mut HeapCircularBuffer<EntrySnapshot>,
+) -> Sides
+    requires some { 0 < length from.old.items }
+    requires room { length to.old.items < to.old.capacity }
+    ensures sides { Some result ≡ option_map (λ b. b.sides) (slice_get from.old.items 0) }
+    ensures from { from.new.items ≡ drop 1 from.old.items }
+    ensures to { to.new.items ≡ take 1 from.old.items ++ to.old.items }
+    ensures rooms { (from.new.capacity ≡ from.old.capacity) × (to.new.capacity ≡ to.old.capacity) }
+{
+    let snapshot = from.pop_front().unwrap();
+    let sides = snapshot.sides;
+    let _ = to.push_front(snapshot);
+    sides
+}
