@@ -100,28 +100,49 @@ began_with s (Resumed xs) = Some (record { state = s; resumed = true })
 abbrev pub view_at : List (List ℕ) → Forest Content → Places → View
 view_at names f p = record { document = document_of f; selection = p.selection; marks = map (named names) (marks_of p) }
 
--- the entries that undo would take from the forest on, and redo
-abbrev pub undo_entries : List (List ℕ) → Forest Content → List (List Step) → List EntrySnapshot → List Entry
-undo_entries names f [] bs = []
-undo_entries names f (e ∷ es) [] = []
-undo_entries names f (e ∷ es) (b ∷ bs) =
+-- ---- the two ways through the history
+
+-- back, as undo goes, and forth, as redo goes
+pub data Way : Type 0 where
+  Back : Way
+  Forth : Way
+
+-- the forest to which the steps of an entry lead
+abbrev pub led : Way → List Step → Forest Content → Forest Content
+led Back e f = forest_before e f
+led Forth e f = forest_after e f
+
+-- the forest before an entry, and the one after it, that lead from one place to another
+abbrev pub older : {A : Type 0} → Way → A → A → A
+older Back here there = there
+older Forth here there = here
+
+abbrev pub newer : {A : Type 0} → Way → A → A → A
+newer Back here there = here
+newer Forth here there = there
+
+-- the edits of an entry
+abbrev pub edits_of : Way → List Step → Forest Content → List Change
+edits_of Back e f = edits_before e f
+edits_of Forth e f = changes_of e
+
+-- the entries that lie that way from the forest on
+abbrev pub entries : Way → List (List ℕ) → Forest Content → List (List Step) → List EntrySnapshot → List Entry
+entries w names f [] bs = []
+entries w names f (e ∷ es) [] = []
+entries w names f (e ∷ es) (b ∷ bs) =
     record {
-      before = view_at names (forest_before e f) b.sides.before;
-      after = view_at names f b.sides.after;
-      edits = edits_before e f;
-      made = used (edits_before e f) (roots_from b.sides.first_label (forest_before e f));
-    } ∷ undo_entries names (forest_before e f) es bs
+      before = view_at names (older w f (led w e f)) b.sides.before;
+      after = view_at names (newer w f (led w e f)) b.sides.after;
+      edits = edits_of w e f;
+      made = used (edits_of w e f) (roots_from b.sides.first_label (older w f (led w e f)));
+    } ∷ entries w names (led w e f) es bs
+
+abbrev pub undo_entries : List (List ℕ) → Forest Content → List (List Step) → List EntrySnapshot → List Entry
+undo_entries = entries Back
 
 abbrev pub redo_entries : List (List ℕ) → Forest Content → List (List Step) → List EntrySnapshot → List Entry
-redo_entries names f [] bs = []
-redo_entries names f (e ∷ es) [] = []
-redo_entries names f (e ∷ es) (b ∷ bs) =
-    record {
-      before = view_at names f b.sides.before;
-      after = view_at names (forest_after e f) b.sides.after;
-      edits = changes_of e;
-      made = used (changes_of e) (roots_from b.sides.first_label f);
-    } ∷ redo_entries names (forest_after e f) es bs
+redo_entries = entries Forth
 
 abbrev pub history_of : List (List ℕ) → Forest Content → Trail → History
 history_of names f t = record {

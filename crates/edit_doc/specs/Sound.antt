@@ -27,7 +27,8 @@ use Rattle.edit_doc.specs.declared.command.EntrySnapshot.{EntrySnapshot}
 use Rattle.edit_doc.specs.declared.command.Command.{Command}
 use Rattle.edit_doc.specs.Trail.{Trail}
 use Rattle.edit_doc.specs.Marks.{IsMarked, has_named}
-use Rattle.edit_doc.specs.History.{forest_before, forest_after, begun_forest, is_hidden, seen_trees, state_of}
+use Rattle.edit_doc.specs.History.{Way, led, older, newer, begun_forest, is_hidden, seen_trees, state_of}
+use Rattle.edit_doc.specs.History.Way.{Back, Forth}
 
 -- ---- steps over forests
 
@@ -112,22 +113,40 @@ abbrev pub next_first : ℕ → List EntrySnapshot → ℕ
 next_first start [] = start
 next_first start (b ∷ bs) = b.sides.first_label
 
+-- the steps can be taken that way, and what they turn into
+abbrev pub CanGo : Way → List (Option ℕ) → List Step → Forest Content → Type 0
+CanGo Back held e f = CanGoBack held e f
+CanGo Forth held e f = CanGoForth held e f
+
+abbrev pub turned : Way → List Step → Forest Content → List Change
+turned Back e f = inverses_back applied inverse (changes_of e) f
+turned Forth e f = inverses_forth applied inverse (changes_of e) f
+
+-- The labels of an entry are below those of the later entries: going back, below the bound that the entry before gave, and
+-- going forth, below the first of the entry that follows.
+abbrev pub bound_of : Way → ℕ → ℕ → List EntrySnapshot → ℕ
+bound_of Back high start bs = high
+bound_of Forth high start bs = next_first start bs
+
+abbrev pub next_bound : Way → ℕ → EntrySnapshot → ℕ
+next_bound Back high b = b.sides.first_label
+next_bound Forth high b = high
+
+-- the entries lie that way from the forest on, each with its snapshot
+abbrev pub Lies : Way → List (Option ℕ) → List (List ℕ) → Bool → Command → ℕ → Forest Content → List (List Step) → List EntrySnapshot → Type 0
+Lies w held names resumed c high f [] [] = Unit {0}
+Lies w held names resumed c high f [] (b ∷ bs) = ⊥
+Lies w held names resumed c high f (e ∷ es) [] = ⊥
+Lies w held names resumed c high f (e ∷ es) (b ∷ bs) =
+    CanGo w held e f
+    × (IsSnapshot names (older w f (led w e f)) (newer w f (led w e f)) e (turned w e f) b (detached_of resumed c b) (bound_of w high c.start bs) c.start
+    × Lies w held names false c (next_bound w high b) (led w e f) es bs)
+
 abbrev pub UndoSound : List (Option ℕ) → List (List ℕ) → Bool → Command → ℕ → Forest Content → List (List Step) → List EntrySnapshot → Type 0
-UndoSound held names resumed c high f [] [] = Unit {0}
-UndoSound held names resumed c high f [] (b ∷ bs) = ⊥
-UndoSound held names resumed c high f (e ∷ es) [] = ⊥
-UndoSound held names resumed c high f (e ∷ es) (b ∷ bs) =
-    CanGoBack held e f
-    × (IsSnapshot names (forest_before e f) f e (inverses_back applied inverse (changes_of e) f) b (detached_of resumed c b) high c.start
-    × UndoSound held names false c b.sides.first_label (forest_before e f) es bs)
+UndoSound = Lies Back
 
 abbrev pub RedoSound : List (Option ℕ) → List (List ℕ) → Command → Forest Content → List (List Step) → List EntrySnapshot → Type 0
-RedoSound held names c f [] [] = Unit {0}
-RedoSound held names c f [] (b ∷ bs) = ⊥
-RedoSound held names c f (e ∷ es) [] = ⊥
-RedoSound held names c f (e ∷ es) (b ∷ bs) =
-    CanGoForth held e f
-    × (IsSnapshot names f (forest_after e f) e (inverses_forth applied inverse (changes_of e) f) b b.detached.items (next_first c.start bs) c.start × RedoSound held names c (forest_after e f) es bs)
+RedoSound held names c f es bs = Lies Forth held names false c 0 f es bs
 
 -- ---- the running command
 
