@@ -5,8 +5,8 @@ use Rattle.dom_model.specs.Forest.{Forest, count_of, tree_of, parent_of, first_i
 use Rattle.dom_model.specs.Pruned.{pruned}
 use Rattle.dom_model.proofs.Pruning.{count_of-pruned, tree_of-pruned, parent_of-pruned, children_of-pruned}
 use Rattle.dom_model.proofs.Stands.{times-tops}
-use Rattle.undo_log.specs.Turning.{back, forth, inverses_back, inverses_forth, FitsBack, FitsForth}
-use Rattle.forest_changes.specs.Change.{Change, IsForest, Fits, applied, inverse}
+use Rattle.undo_log.specs.Turning.{back, forth, FitsBack, FitsForth}
+use Rattle.forest_changes.specs.Change.{Change, IsForest, Fits, applied}
 use Rattle.forest_changes.specs.Named.{Each, named_in}
 use Rattle.forest_changes.specs.Down.{Prunes, IsLeft, GoBackDown, GoForthDown}
 use Rattle.forest_changes.proofs.ChangeLists.{each_of, each_first, each_rest, each_join, back_down, forth_down}
@@ -21,8 +21,9 @@ use Rattle.edit_model.specs.Gives.{labels_of}
 use Rattle.edit_model.specs.History.{used}
 use Rattle.edit_doc.specs.declared.command.EntrySnapshot.{EntrySnapshot}
 use Rattle.edit_doc.specs.declared.command.Command.{Command}
-use Rattle.edit_doc.specs.History.{forest_before, forest_after, edits_before, roots_from, is_hidden, view_at, undo_entries, redo_entries}
-use Rattle.edit_doc.specs.Sound.{RefIn, EachHeldIn, IsSide, AreFresh, IsOff, IsSnapshot, detached_of, next_first, UndoSound, RedoSound}
+use Rattle.edit_doc.specs.History.{forest_before, forest_after, edits_before, roots_from, is_hidden, view_at, Way, led, older, newer, edits_of, entries}
+use Rattle.edit_doc.specs.History.Way.{Back, Forth}
+use Rattle.edit_doc.specs.Sound.{RefIn, EachHeldIn, IsSide, AreFresh, IsOff, IsSnapshot, detached_of, Lies, FitsWay, turned, bound_of, next_bound}
 use Rattle.edit_doc.proofs.HiddenTrees.{hidden_is, is_hidden_from, pruned_more, both_detached, tops_detached, tops_stay, loose_detached, model_forest, document-pruned, placed-pruned, node_count-pruned, char_count-pruned, page_depth-pruned}
 use Rattle.edit_doc.proofs.MadeNodes.{listed_has, used-pruned}
 
@@ -62,6 +63,32 @@ forth_bounded e f h b = record { next = b.next; below = λ l here. b.below l (le
 
 pub back_bounded_from : (e : List Step) (f : Forest Content) → FitsBack applied Fits (changes_of e) f → Bounded (forest_before e f) → Bounded f
 back_bounded_from e f h b = record { next = b.next; below = λ l here. b.below l (let s = back_labels (changes_of e) f l h in omega arith) }
+
+-- ---- either way
+
+pub led_forest : (w : Way) (e : List Step) (f : Forest Content) → FitsWay w e f → IsForest f → IsForest (led w e f)
+led_forest Back e f h is = back_forest (changes_of e) f h is
+led_forest Forth e f h is = forth_forest (changes_of e) f h is
+
+pub led_labels : (w : Way) (e : List Step) (f : Forest Content) (l : ℕ) → FitsWay w e f → count_of (led w e f) l ≡ count_of f l
+led_labels Back e f l h = back_labels (changes_of e) f l h
+led_labels Forth e f l h = forth_labels (changes_of e) f l h
+
+led_bounded : (w : Way) (e : List Step) (f : Forest Content) → FitsWay w e f → Bounded f → Bounded (led w e f)
+led_bounded w e f h b = record { next = b.next; below = λ l here. b.below l (let s = led_labels w e f l h in omega arith) }
+
+-- what holds at both ends holds before the entry, and after it
+pub at_older : {A : Type 0} (P : A → A → Type 0) (w : Way) (here there here' there' : A) → P here here' → P there there' → P (older w here there) (older w here' there')
+at_older P Back here there here' there' a b = b
+at_older P Forth here there here' there' a b = a
+
+pub at_newer : {A : Type 0} (P : A → A → Type 0) (w : Way) (here there here' there' : A) → P here here' → P there there' → P (newer w here there) (newer w here' there')
+at_newer P Back here there here' there' a b = a
+at_newer P Forth here there here' there' a b = b
+
+pub ends_of : {A B : Type 0} (h : A → B) (P : B → B → Type 0) (w : Way) (here there : A) → P (h (older w here there)) (h (newer w here there)) → P (older w (h here) (h there)) (newer w (h here) (h there))
+ends_of h P Back here there x = x
+ends_of h P Forth here there x = x
 
 -- ---- one entry
 
@@ -159,73 +186,72 @@ module _ (k : ℕ → Bool) where
   keeps_moved : (f g : Forest Content) → ((l : ℕ) → count_of (pruned k g) l ≡ count_of (pruned k f) l) → (old new : List (Option ℕ)) → KeepsLeft k f old new → KeepsLeft k g old new
   keeps_moved f g same old new keeps q h detached = keeps q h (let s = same q.label in omega arith)
 
-  module _ (old new : List (Option ℕ)) (names : List (List ℕ)) (c : Command) where
-    pub undo-pruned : (r : Bool) (high : ℕ) (f : Forest Content) (es : List (List Step)) (bs : List EntrySnapshot) → Prunes k f → IsForest f → Bounded f → KeepsLeft k f old new → EntriesLeft f es → UndoSound old names r c high f es bs → UndoSound new names r c high (pruned k f) es bs
-    undo-pruned r high f [] [] prunes is bound keeps detached h = tt
-    undo-pruned r high f [] (b ∷ bs) prunes is bound keeps detached h = absurd h
-    undo-pruned r high f (e ∷ es) [] prunes is bound keeps detached h = absurd h
-    undo-pruned r high f (e ∷ es) (b ∷ bs) prunes is bound keeps detached h =
-        let g = forest_before e f in
-        let d : GoBackDown k (changes_of e) f = back_down k (changes_of e) f prunes h.0.0 detached.0 in
-        let is' = back_forest (changes_of e) f h.0.0 is in
-        let bound' = back_bounded e f h.0.0 bound in
-        let seen = each_of (IsLeft k f) (IsLeft k g) (named_in (changes_of e)) (λ l t. (let s = d.stays l in omega arith)) detached.0 in
-        let own = snapshot-pruned k prunes.document names g f e (inverses_back applied inverse (changes_of e) f) b (detached_of r c b) high c.start is' bound' is bound seen detached.0 h.1.0 in
-        let rest = undo-pruned false b.sides.first_label g es bs d.prunes is' bound' (keeps_moved f g d.stays old new keeps) (entries_moved f g d.stays es detached.1) h.1.1 in (
-          (d.fits, held_detached k f old new keeps e detached.0 h.0.1),
-          (
-            subst (λ t. IsSnapshot names t (pruned k f) e (inverses_back applied inverse (changes_of e) (pruned k f)) b (detached_of r c b) high c.start) d.same (subst (λ ts. IsSnapshot names (pruned k g) (pruned k f) e ts b (detached_of r c b) high c.start) (sym d.turns) own),
-            subst (λ t. UndoSound new names false c b.sides.first_label t es bs) d.same rest,
-          ),
-        )
+  -- an entry that names only what is left leads the same way without what goes
+  record LedDown (w : Way) (e : List Step) (f : Forest Content) : Type 0 where
+    fits : FitsWay w e (pruned k f)
+    same : pruned k (led w e f) ≡ led w e (pruned k f)
+    turns : turned w e (pruned k f) ≡ turned w e f
+    edits : edits_of w e (pruned k f) ≡ edits_of w e f
+    names : Each (IsLeft k f) (named_in (turned w e f))
+    there : Each (IsLeft k (led w e f)) (named_in (changes_of e))
+    prunes : Prunes k (led w e f)
+    stays : (l : ℕ) → count_of (pruned k (led w e f)) l ≡ count_of (pruned k f) l
 
-    pub redo-pruned : (f : Forest Content) (es : List (List Step)) (bs : List EntrySnapshot) → Prunes k f → IsForest f → Bounded f → KeepsLeft k f old new → EntriesLeft f es → RedoSound old names c f es bs → RedoSound new names c (pruned k f) es bs
-    redo-pruned f [] [] prunes is bound keeps detached h = tt
-    redo-pruned f [] (b ∷ bs) prunes is bound keeps detached h = absurd h
-    redo-pruned f (e ∷ es) [] prunes is bound keeps detached h = absurd h
-    redo-pruned f (e ∷ es) (b ∷ bs) prunes is bound keeps detached h =
-        let g = forest_after e f in
-        let d : GoForthDown k (changes_of e) f = forth_down k (changes_of e) f prunes h.0.0 detached.0 in
-        let is' = forth_forest (changes_of e) f h.0.0 is in
-        let bound' = forth_bounded e f h.0.0 bound in
-        let there = each_of (IsLeft k f) (IsLeft k g) (named_in (changes_of e)) (λ l t. (let s = d.stays l in omega arith)) detached.0 in
-        let own = snapshot-pruned k prunes.document names f g e (inverses_forth applied inverse (changes_of e) f) b b.detached.items (next_first c.start bs) c.start is bound is' bound' detached.0 there h.1.0 in
-        let rest = redo-pruned g es bs d.prunes is' bound' (keeps_moved f g d.stays old new keeps) (entries_moved f g d.stays es detached.1) h.1.1 in (
+  led_down : (w : Way) (e : List Step) (f : Forest Content) → Prunes k f → FitsWay w e f → Each (IsLeft k f) (named_in (changes_of e)) → LedDown w e f
+  led_down Back e f prunes h ls =
+      let d : GoBackDown k (changes_of e) f = back_down k (changes_of e) f prunes h ls in
+      record { fits = d.fits; same = d.same; turns = d.turns; edits = d.turns; names = d.names; there = each_of (IsLeft k f) (IsLeft k (forest_before e f)) (named_in (changes_of e)) (λ l t. (let s = d.stays l in omega arith)) ls; prunes = d.prunes; stays = d.stays }
+  led_down Forth e f prunes h ls =
+      let d : GoForthDown k (changes_of e) f = forth_down k (changes_of e) f prunes h ls in
+      record { fits = d.fits; same = d.same; turns = d.turns; edits = refl; names = d.names; there = each_of (IsLeft k f) (IsLeft k (forest_after e f)) (named_in (changes_of e)) (λ l t. (let s = d.stays l in omega arith)) ls; prunes = d.prunes; stays = d.stays }
+
+  used_down : (w : Way) (first : ℕ) (e : List Step) (f : Forest Content) → Prunes k f → Each (IsLeft k f) (named_in (changes_of e)) → LedDown w e f →
+      used (edits_of w e (pruned k f)) (roots_from first (older w (pruned k f) (led w e (pruned k f)))) ≡ used (edits_of w e f) (roots_from first (older w f (led w e f)))
+  used_down Back first e f prunes ls d =
+      let g = forest_before e f in
+      let left = each_of (IsLeft k f) (IsLeft k g) (named_in (edits_before e f)) (λ m u. (let s = d.stays m in omega (arith, s, u))) d.names in
+      (λ i. used (d.turns i) (roots_from first (sym d.same i))) ∙ used-pruned k (edits_before e f) first g (λ l t. d.prunes.out l (listed_has (IsLeft k g) (named_in (edits_before e f)) l left t))
+  used_down Forth first e f prunes ls d = used-pruned k (changes_of e) first f (λ l t. prunes.out l (listed_has (IsLeft k f) (named_in (changes_of e)) l ls t))
+
+  module _ (old new : List (Option ℕ)) (names : List (List ℕ)) (c : Command) where
+    pub lies-pruned : (w : Way) (r : Bool) (high : ℕ) (f : Forest Content) (es : List (List Step)) (bs : List EntrySnapshot) → Prunes k f → IsForest f → Bounded f → KeepsLeft k f old new → EntriesLeft f es → Lies w old names r c high f es bs → Lies w new names r c high (pruned k f) es bs
+    lies-pruned w r high f [] [] prunes is bound keeps detached h = tt
+    lies-pruned w r high f [] (b ∷ bs) prunes is bound keeps detached h = absurd h
+    lies-pruned w r high f (e ∷ es) [] prunes is bound keeps detached h = absurd h
+    lies-pruned w r high f (e ∷ es) (b ∷ bs) prunes is bound keeps detached h =
+        let g = led w e f in
+        let d = led_down w e f prunes h.0.0 detached.0 in
+        let is' = led_forest w e f h.0.0 is in
+        let bound' = led_bounded w e f h.0.0 bound in
+        let snap : Forest Content → Forest Content → List Change → Type 0 = λ t u ts. IsSnapshot names t u e ts b (detached_of r c b) (bound_of w high c.start bs) c.start in
+        let own : snap (pruned k (older w f g)) (pruned k (newer w f g)) (turned w e f) = snapshot-pruned k prunes.document names (older w f g) (newer w f g) e (turned w e f) b (detached_of r c b) (bound_of w high c.start bs) c.start
+        (at_older (λ t _. IsForest t) w f g f g is is') (at_older (λ t _. Bounded t) w f g f g bound bound') (at_newer (λ t _. IsForest t) w f g f g is is') (at_newer (λ t _. Bounded t) w f g f g bound bound')
+        (at_older (λ t _. Each (IsLeft k t) (named_in (changes_of e))) w f g f g detached.0 d.there) (at_newer (λ t _. Each (IsLeft k t) (named_in (changes_of e))) w f g f g detached.0 d.there) h.1.0 in
+        let ends = ends_of (pruned k) (λ t u. snap t u (turned w e f)) w f g own in
+        let rest = lies-pruned w false (next_bound w high b) g es bs d.prunes is' bound' (keeps_moved f g d.stays old new keeps) (entries_moved f g d.stays es detached.1) h.1.1 in (
           (d.fits, held_detached k f old new keeps e detached.0 h.0.1),
           (
-            subst (λ t. IsSnapshot names (pruned k f) t e (inverses_forth applied inverse (changes_of e) (pruned k f)) b b.detached.items (next_first c.start bs) c.start) d.same (subst (λ ts. IsSnapshot names (pruned k f) (pruned k g) e ts b b.detached.items (next_first c.start bs) c.start) (sym d.turns) own),
-            subst (λ t. RedoSound new names c t es bs) d.same rest,
+            subst (λ t. snap (older w (pruned k f) t) (newer w (pruned k f) t) (turned w e (pruned k f))) d.same (subst (snap (older w (pruned k f) (pruned k g)) (newer w (pruned k f) (pruned k g))) (sym d.turns) ends),
+            subst (λ t. Lies w new names false c (next_bound w high b) t es bs) d.same rest,
           ),
         )
 
     view-pruned : (f : Forest Content) (p : Places) → Prunes k f → IsForest f → Bounded f → view_at names (pruned k f) p ≡ view_at names f p
     view-pruned f p prunes is b = ap (λ t. record { document = t; selection = p.selection; marks = map (named names) (marks_of p) }) (document-pruned f b.next (model_forest f is b.next b.below) k prunes.document)
 
-    pub undo_entries-pruned : (r : Bool) (high : ℕ) (f : Forest Content) (es : List (List Step)) (bs : List EntrySnapshot) → Prunes k f → IsForest f → Bounded f → EntriesLeft f es → UndoSound old names r c high f es bs → undo_entries names (pruned k f) es bs ≡ undo_entries names f es bs
-    undo_entries-pruned r high f [] bs prunes is bound detached h = refl
-    undo_entries-pruned r high f (e ∷ es) [] prunes is bound detached h = refl
-    undo_entries-pruned r high f (e ∷ es) (b ∷ bs) prunes is bound detached h =
-        let g = forest_before e f in
-        let d : GoBackDown k (changes_of e) f = back_down k (changes_of e) f prunes h.0.0 detached.0 in
-        let is' = back_forest (changes_of e) f h.0.0 is in
-        let bound' = back_bounded e f h.0.0 bound in
-        let was = ap (λ t. view_at names t b.sides.before) (sym d.same) ∙ view-pruned g b.sides.before d.prunes is' bound' in
-        let now = view-pruned f b.sides.after prunes is bound in
-        let used_is = (λ i. used (d.turns i) (roots_from b.sides.first_label (sym d.same i)))
-        ∙ used-pruned k (edits_before e f) b.sides.first_label g (λ l t. d.prunes.out l (listed_has (IsLeft k g) (named_in (edits_before e f)) l (each_of (IsLeft k f) (IsLeft k g) (named_in (edits_before e f)) (λ m u. (let s = d.stays m in omega (arith, s, u))) d.names) t)) in
-        let rest = ap (λ t. undo_entries names t es bs) (sym d.same) ∙ undo_entries-pruned false b.sides.first_label g es bs d.prunes is' bound' (entries_moved f g d.stays es detached.1) h.1.1 in
-        λ i. record { before = was i; after = now i; edits = d.turns i; made = used_is i } ∷ rest i
-
-    pub redo_entries-pruned : (f : Forest Content) (es : List (List Step)) (bs : List EntrySnapshot) → Prunes k f → IsForest f → Bounded f → EntriesLeft f es → RedoSound old names c f es bs → redo_entries names (pruned k f) es bs ≡ redo_entries names f es bs
-    redo_entries-pruned f [] bs prunes is bound detached h = refl
-    redo_entries-pruned f (e ∷ es) [] prunes is bound detached h = refl
-    redo_entries-pruned f (e ∷ es) (b ∷ bs) prunes is bound detached h =
-        let g = forest_after e f in
-        let d : GoForthDown k (changes_of e) f = forth_down k (changes_of e) f prunes h.0.0 detached.0 in
-        let is' = forth_forest (changes_of e) f h.0.0 is in
-        let bound' = forth_bounded e f h.0.0 bound in
-        let now = ap (λ t. view_at names t b.sides.after) (sym d.same) ∙ view-pruned g b.sides.after d.prunes is' bound' in
-        let was = view-pruned f b.sides.before prunes is bound in
-        let used_is = used-pruned k (changes_of e) b.sides.first_label f (λ l t. prunes.out l (listed_has (IsLeft k f) (named_in (changes_of e)) l detached.0 t)) in
-        let rest = ap (λ t. redo_entries names t es bs) (sym d.same) ∙ redo_entries-pruned g es bs d.prunes is' bound' (entries_moved f g d.stays es detached.1) h.1.1 in
-        λ i. record { before = was i; after = now i; edits = changes_of e; made = used_is i } ∷ rest i
+    pub entries-pruned : (w : Way) (r : Bool) (high : ℕ) (f : Forest Content) (es : List (List Step)) (bs : List EntrySnapshot) → Prunes k f → IsForest f → Bounded f → EntriesLeft f es → Lies w old names r c high f es bs → entries w names (pruned k f) es bs ≡ entries w names f es bs
+    entries-pruned w r high f [] bs prunes is bound detached h = refl
+    entries-pruned w r high f (e ∷ es) [] prunes is bound detached h = refl
+    entries-pruned w r high f (e ∷ es) (b ∷ bs) prunes is bound detached h =
+        let g = led w e f in
+        let g' = led w e (pruned k f) in
+        let d = led_down w e f prunes h.0.0 detached.0 in
+        let is' = led_forest w e f h.0.0 is in
+        let bound' = led_bounded w e f h.0.0 bound in
+        let here : (p : Places) → view_at names (pruned k f) p ≡ view_at names f p = λ p. view-pruned f p prunes is bound in
+        let there : (p : Places) → view_at names g' p ≡ view_at names g p = λ p. ap (λ t. view_at names t p) (sym d.same) ∙ view-pruned g p d.prunes is' bound' in
+        let was = at_older (λ t u. view_at names t b.sides.before ≡ view_at names u b.sides.before) w (pruned k f) g' f g (here b.sides.before) (there b.sides.before) in
+        let now = at_newer (λ t u. view_at names t b.sides.after ≡ view_at names u b.sides.after) w (pruned k f) g' f g (here b.sides.after) (there b.sides.after) in
+        let used_is = used_down w b.sides.first_label e f prunes detached.0 d in
+        let rest = ap (λ t. entries w names t es bs) (sym d.same) ∙ entries-pruned w false (next_bound w high b) g es bs d.prunes is' bound' (entries_moved f g d.stays es detached.1) h.1.1 in
+        λ i. record { before = was i; after = now i; edits = d.edits i; made = used_is i } ∷ rest i

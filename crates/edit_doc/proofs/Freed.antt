@@ -14,9 +14,10 @@ use Rattle.edit_parts.specs.declared.Counts.{Counts}
 use Rattle.edit_doc.specs.declared.command.Command.{Command}
 use Rattle.edit_doc.specs.GivingUp.{GivesUp}
 use Rattle.edit_doc.specs.History.{state_of, history_of}
+use Rattle.edit_doc.specs.History.Way.{Back, Forth}
 use Rattle.edit_doc.specs.Sound.{UndoSound, RedoSound, next_first}
 use Rattle.edit_doc.specs.Trail.{Trail}
-use Rattle.edit_doc.proofs.Downs.{Bounded, EntriesLeft, undo-pruned, redo-pruned, undo_entries-pruned, redo_entries-pruned}
+use Rattle.edit_doc.proofs.Downs.{Bounded, EntriesLeft, lies-pruned, entries-pruned}
 use Rattle.edit_doc.proofs.HiddenTrees.{document-pruned, placed-pruned, node_count-pruned, char_count-pruned, page_depth-pruned}
 use Rattle.edit_doc.proofs.Rests.{AtRest, rest_state, arena_forest}
 
@@ -50,9 +51,9 @@ module _ (a b : Arena) (k : ℕ → Bool) (gives : GivesUp k a b) (prunes : Prun
         chars = rests.chars ∙ (sym (char_count-pruned a.trees a.next f k prunes.document) ∙ ap char_count (sym gives.trees));
         depth = subst (λ n. n ≤ counts.depth) (sym (page_depth-pruned a.trees a.next f k prunes.document) ∙ ap page_depth (sym gives.trees)) rests.depth;
         undo = subst (λ t. UndoSound b.held points.names false c (next_first c.start trail.future) t trail.log.undo trail.past) (sym gives.trees)
-            (undo-pruned k a.held b.held points.names c false (next_first c.start trail.future) a.trees trail.log.undo trail.past prunes is bound gives.keeps undo_detached rests.undo);
+            (lies-pruned k a.held b.held points.names c Back false (next_first c.start trail.future) a.trees trail.log.undo trail.past prunes is bound gives.keeps undo_detached rests.undo);
         redo = subst (λ t. RedoSound b.held points.names c t trail.log.redo trail.future) (sym gives.trees)
-            (redo-pruned k a.held b.held points.names c a.trees trail.log.redo trail.future prunes is bound gives.keeps redo_detached rests.redo);
+            (lies-pruned k a.held b.held points.names c Forth false 0 a.trees trail.log.redo trail.future prunes is bound gives.keeps redo_detached rests.redo);
       }
 
   document_is : document_of b.trees ≡ document_of a.trees
@@ -80,8 +81,8 @@ module _ (a b : Arena) (k : ℕ → Bool) (gives : GivesUp k a b) (prunes : Prun
   freed_history =
       ap (λ t. history_of points.names t trail) gives.trees
       ∙ (λ i. record {
-        undo = undo_entries-pruned k a.held b.held points.names c false (next_first c.start trail.future) a.trees trail.log.undo trail.past prunes is bound undo_detached rests.undo i;
-        redo = redo_entries-pruned k a.held b.held points.names c a.trees trail.log.redo trail.future prunes is bound redo_detached rests.redo i;
+        undo = entries-pruned k a.held b.held points.names c Back false (next_first c.start trail.future) a.trees trail.log.undo trail.past prunes is bound undo_detached rests.undo i;
+        redo = entries-pruned k a.held b.held points.names c Forth false 0 a.trees trail.log.redo trail.future prunes is bound redo_detached rests.redo i;
         depth = trail.log.depth;
         dropped = trail.log.dropped;
       })

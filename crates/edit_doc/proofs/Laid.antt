@@ -16,64 +16,53 @@ use Rattle.edit_doc.specs.declared.command.EntrySnapshot.{EntrySnapshot}
 use Rattle.edit_doc.specs.declared.command.Command.{Command}
 use Rattle.edit_doc.specs.declared.Doc.TheInside.{Inside}
 use Rattle.edit_doc.specs.Whole.{Whole, first_edits}
-use Rattle.edit_doc.specs.History.{forest_before, forest_after, begun_forest, undo_entries, redo_entries}
-use Rattle.edit_doc.specs.Sound.{IsSnapshot, next_first, UndoSound, RedoSound}
+use Rattle.edit_doc.specs.History.{forest_before, forest_after, begun_forest, Way, led, edits_of, entries}
+use Rattle.edit_doc.specs.History.Way.{Back, Forth}
+use Rattle.edit_doc.specs.Sound.{IsSnapshot, next_first, UndoSound, RedoSound, Lies, next_bound}
 use Rattle.edit_doc.proofs.Inner.{seen, Ok}
 use Rattle.edit_doc.proofs.MadeNodes.{count_changes, count_edits}
 
 -- ---- lengths
 
 module _ (held : List (Option ℕ)) (names : List (List ℕ)) (c : Command) where
-  pub undo_sides_length : (r : Bool) (high : ℕ) (f : Forest Content) (es : List (List Step)) (bs : List EntrySnapshot) → UndoSound held names r c high f es bs → length bs ≡ length es
-  undo_sides_length r high f [] [] h = refl
-  undo_sides_length r high f [] (b ∷ bs) h = absurd h
-  undo_sides_length r high f (e ∷ es) [] h = absurd h
-  undo_sides_length r high f (e ∷ es) (b ∷ bs) h = ap suc (undo_sides_length false b.sides.first_label (forest_before e f) es bs h.1.1)
+  pub sides_length : (w : Way) (r : Bool) (high : ℕ) (f : Forest Content) (es : List (List Step)) (bs : List EntrySnapshot) → Lies w held names r c high f es bs → length bs ≡ length es
+  sides_length w r high f [] [] h = refl
+  sides_length w r high f [] (b ∷ bs) h = absurd h
+  sides_length w r high f (e ∷ es) [] h = absurd h
+  sides_length w r high f (e ∷ es) (b ∷ bs) h = ap suc (sides_length w false (next_bound w high b) (led w e f) es bs h.1.1)
 
-  pub redo_sides_length : (f : Forest Content) (es : List (List Step)) (bs : List EntrySnapshot) → RedoSound held names c f es bs → length bs ≡ length es
-  redo_sides_length f [] [] h = refl
-  redo_sides_length f [] (b ∷ bs) h = absurd h
-  redo_sides_length f (e ∷ es) [] h = absurd h
-  redo_sides_length f (e ∷ es) (b ∷ bs) h = ap suc (redo_sides_length (forest_after e f) es bs h.1.1)
+entries_length : (w : Way) (names : List (List ℕ)) (f : Forest Content) (es : List (List Step)) (bs : List EntrySnapshot) → length bs ≡ length es → length (entries w names f es bs) ≡ length es
+entries_length w names f [] bs h = refl
+entries_length w names f (e ∷ es) [] h = h
+entries_length w names f (e ∷ es) (b ∷ bs) h = ap suc (entries_length w names (led w e f) es bs (omega arith))
 
-undo_entries_length : (names : List (List ℕ)) (f : Forest Content) (es : List (List Step)) (bs : List EntrySnapshot) → length bs ≡ length es → length (undo_entries names f es bs) ≡ length es
-undo_entries_length names f [] bs h = refl
-undo_entries_length names f (e ∷ es) [] h = h
-undo_entries_length names f (e ∷ es) (b ∷ bs) h = ap suc (undo_entries_length names (forest_before e f) es bs (omega arith))
+edits_length : (w : Way) (e : List Step) (f : Forest Content) → length (edits_of w e f) ≡ length e
+edits_length Back e f = count_edits e f
+edits_length Forth e f = count_changes e
 
-redo_entries_length : (names : List (List ℕ)) (f : Forest Content) (es : List (List Step)) (bs : List EntrySnapshot) → length bs ≡ length es → length (redo_entries names f es bs) ≡ length es
-redo_entries_length names f [] bs h = refl
-redo_entries_length names f (e ∷ es) [] h = h
-redo_entries_length names f (e ∷ es) (b ∷ bs) h = ap suc (redo_entries_length names (forest_after e f) es bs (omega arith))
-
-undo_first_edits : (names : List (List ℕ)) (f : Forest Content) (es : List (List Step)) (bs : List EntrySnapshot) → length bs ≡ length es → first_edits (undo_entries names f es bs) ≡ first_length es
-undo_first_edits names f [] bs h = refl
-undo_first_edits names f (e ∷ es) [] h = absurd (omega arith)
-undo_first_edits names f (e ∷ es) (b ∷ bs) h = count_edits e f
-
-redo_first_edits : (names : List (List ℕ)) (f : Forest Content) (es : List (List Step)) (bs : List EntrySnapshot) → length bs ≡ length es → first_edits (redo_entries names f es bs) ≡ first_length es
-redo_first_edits names f [] bs h = refl
-redo_first_edits names f (e ∷ es) [] h = absurd (omega arith)
-redo_first_edits names f (e ∷ es) (b ∷ bs) h = count_changes e
+first_length_is : (w : Way) (names : List (List ℕ)) (f : Forest Content) (es : List (List Step)) (bs : List EntrySnapshot) → length bs ≡ length es → first_edits (entries w names f es bs) ≡ first_length es
+first_length_is w names f [] bs h = refl
+first_length_is w names f (e ∷ es) [] h = absurd (omega arith)
+first_length_is w names f (e ∷ es) (b ∷ bs) h = edits_length w e f
 
 module _ (d : Inside) (v : Whole) (is : seen d ≡ v) (ok : Ok d) where
   us_length : length d.history.past ≡ length d.history.log.undo
-  us_length = undo_sides_length d.arena.held d.points.names d.command d.command.resumed (next_first d.command.start d.history.future) (begun_forest d.history.log d.arena.trees) d.history.log.undo d.history.past ok.undo
+  us_length = sides_length d.arena.held d.points.names d.command Back d.command.resumed (next_first d.command.start d.history.future) (begun_forest d.history.log d.arena.trees) d.history.log.undo d.history.past ok.undo
 
   rs_length : length d.history.future ≡ length d.history.log.redo
-  rs_length = redo_sides_length d.arena.held d.points.names d.command (begun_forest d.history.log d.arena.trees) d.history.log.redo d.history.future ok.redo
+  rs_length = sides_length d.arena.held d.points.names d.command Forth false 0 (begun_forest d.history.log d.arena.trees) d.history.log.redo d.history.future ok.redo
 
   pub undo_count : length d.history.log.undo ≡ length v.history.undo
-  undo_count = sym (undo_entries_length d.points.names (begun_forest d.history.log d.arena.trees) d.history.log.undo d.history.past us_length) ∙ ap (λ (w : Whole). length w.history.undo) is
+  undo_count = sym (entries_length Back d.points.names (begun_forest d.history.log d.arena.trees) d.history.log.undo d.history.past us_length) ∙ ap (λ (w : Whole). length w.history.undo) is
 
   pub redo_count : length d.history.log.redo ≡ length v.history.redo
-  redo_count = sym (redo_entries_length d.points.names (begun_forest d.history.log d.arena.trees) d.history.log.redo d.history.future rs_length) ∙ ap (λ (w : Whole). length w.history.redo) is
+  redo_count = sym (entries_length Forth d.points.names (begun_forest d.history.log d.arena.trees) d.history.log.redo d.history.future rs_length) ∙ ap (λ (w : Whole). length w.history.redo) is
 
   pub undo_edits : first_length d.history.log.undo ≡ first_edits v.history.undo
-  undo_edits = sym (undo_first_edits d.points.names (begun_forest d.history.log d.arena.trees) d.history.log.undo d.history.past us_length) ∙ ap (λ (w : Whole). first_edits w.history.undo) is
+  undo_edits = sym (first_length_is Back d.points.names (begun_forest d.history.log d.arena.trees) d.history.log.undo d.history.past us_length) ∙ ap (λ (w : Whole). first_edits w.history.undo) is
 
   pub redo_edits : first_length d.history.log.redo ≡ first_edits v.history.redo
-  redo_edits = sym (redo_first_edits d.points.names (begun_forest d.history.log d.arena.trees) d.history.log.redo d.history.future rs_length) ∙ ap (λ (w : Whole). first_edits w.history.redo) is
+  redo_edits = sym (first_length_is Forth d.points.names (begun_forest d.history.log d.arena.trees) d.history.log.redo d.history.future rs_length) ∙ ap (λ (w : Whole). first_edits w.history.redo) is
 
   nil : {A : Type 0} (xs : List A) → length xs ≡ 0 → xs ≡ []
   nil [] e = refl

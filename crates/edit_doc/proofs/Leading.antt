@@ -26,7 +26,7 @@ use Rattle.edit_model.proofs.Resting.{forest-document}
 use Rattle.edit_doc.specs.declared.Doc.TheInside.{Inside}
 use Rattle.edit_doc.specs.declared.command.EntrySnapshot.{EntrySnapshot}
 use Rattle.edit_doc.specs.declared.command.Command.{Command}
-use Rattle.edit_doc.specs.History.{edits_before, roots_from, forest_before, begun_forest, is_hidden, view_at, undo_entries}
+use Rattle.edit_doc.specs.History.{edits_before, roots_from, forest_before, begun_forest, is_hidden, view_at, undo_entries, led}
 use Rattle.edit_doc.specs.Onward.{next_past, LeadsOnward, LeadOnward, LeadFrom, HasLedOnward}
 use Rattle.edit_doc.specs.Sound.{IsSnapshot, UndoSound, RedoSound, detached_of, next_first}
 use Rattle.edit_doc.specs.Whole.{Whole}

@@ -15,10 +15,8 @@ use Rattle.live_range.proofs.Apart.{All-head, All-tail}
 use Rattle.node_arena.specs.declared.NodeRef.{NodeRef}
 use Rattle.undo_log.specs.Log.{Open}
 use Rattle.undo_log.specs.Log.Open.{Closed, Begun, Resumed}
-use Rattle.undo_log.specs.Turning.{inverses_back, inverses_forth}
-use Rattle.forest_changes.specs.Change.{Change, applied, inverse}
+use Rattle.forest_changes.specs.Change.{Change}
 use Rattle.edit_steps.specs.declared.step.Step.{Step}
-use Rattle.edit_steps.specs.Step.{changes_of}
 use Rattle.edit_model.specs.Valid.{IsPlacedPair}
 use Rattle.edit_model.specs.History.{used, document_of}
 use Rattle.edit_model.specs.State.{State}
@@ -26,8 +24,9 @@ use Rattle.edit_doc.specs.declared.Doc.TheInside.{Inside}
 use Rattle.edit_doc.specs.declared.command.EntrySnapshot.{EntrySnapshot}
 use Rattle.edit_doc.specs.declared.command.Command.{Command}
 use Rattle.edit_doc.specs.Whole.{Whole, with_state}
-use Rattle.edit_doc.specs.History.{edits_before, roots_from, forest_before, forest_after, begun_forest, begun_state, began_with, seen_trees, state_of, view_at, undo_entries, redo_entries, history_of, whole_of}
-use Rattle.edit_doc.specs.Sound.{IsSide, IsSnapshot, detached_of, next_first, UndoSound, RedoSound, OpenSound, IsSoundDoc}
+use Rattle.edit_doc.specs.History.{roots_from, begun_forest, begun_state, began_with, seen_trees, state_of, view_at, history_of, whole_of, Way, led, older, newer, edits_of, entries}
+use Rattle.edit_doc.specs.History.Way.{Back, Forth}
+use Rattle.edit_doc.specs.Sound.{IsSide, IsSnapshot, detached_of, next_first, OpenSound, IsSoundDoc, Lies, turned, bound_of, next_bound}
 use Rattle.edit_doc.proofs.Inner.{seen, Ok}
 
 -- each name keeps its place
@@ -107,37 +106,23 @@ module _ (old new : List (List ℕ)) (h : AreLonger old new) where
   -- ---- the history
 
   module _ (held : List (Option ℕ)) (c : Command) where
-    undo_longer : (r : Bool) (high : ℕ) (f : Forest Content) (es : List (List Step)) (bs : List EntrySnapshot) → UndoSound held old r c high f es bs → UndoSound held new r c high f es bs
-    undo_longer r high f [] [] s = tt
-    undo_longer r high f [] (b ∷ bs) s = absurd s
-    undo_longer r high f (e ∷ es) [] s = absurd s
-    undo_longer r high f (e ∷ es) (b ∷ bs) s =
-        (s.0, (snapshot_longer (forest_before e f) f e (inverses_back applied inverse (changes_of e) f) b (detached_of r c b) high c.start s.1.0, undo_longer false b.sides.first_label (forest_before e f) es bs s.1.1))
+    lies_longer : (w : Way) (r : Bool) (high : ℕ) (f : Forest Content) (es : List (List Step)) (bs : List EntrySnapshot) → Lies w held old r c high f es bs → Lies w held new r c high f es bs
+    lies_longer w r high f [] [] s = tt
+    lies_longer w r high f [] (b ∷ bs) s = absurd s
+    lies_longer w r high f (e ∷ es) [] s = absurd s
+    lies_longer w r high f (e ∷ es) (b ∷ bs) s =
+        let g = led w e f in
+        (s.0, (snapshot_longer (older w f g) (newer w f g) e (turned w e f) b (detached_of r c b) (bound_of w high c.start bs) c.start s.1.0, lies_longer w false (next_bound w high b) g es bs s.1.1))
 
-    redo_longer : (f : Forest Content) (es : List (List Step)) (bs : List EntrySnapshot) → RedoSound held old c f es bs → RedoSound held new c f es bs
-    redo_longer f [] [] s = tt
-    redo_longer f [] (b ∷ bs) s = absurd s
-    redo_longer f (e ∷ es) [] s = absurd s
-    redo_longer f (e ∷ es) (b ∷ bs) s =
-        (s.0, (snapshot_longer f (forest_after e f) e (inverses_forth applied inverse (changes_of e) f) b b.detached.items (next_first c.start bs) c.start s.1.0, redo_longer (forest_after e f) es bs s.1.1))
-
-    undo_same : (r : Bool) (high : ℕ) (f : Forest Content) (es : List (List Step)) (bs : List EntrySnapshot) → UndoSound held old r c high f es bs → undo_entries new f es bs ≡ undo_entries old f es bs
-    undo_same r high f [] bs s = refl
-    undo_same r high f (e ∷ es) [] s = refl
-    undo_same r high f (e ∷ es) (b ∷ bs) s =
-        let was = view_same (forest_before e f) b.sides.before s.1.0.was.over in
-        let is = view_same f b.sides.after s.1.0.is.over in
-        let rest = undo_same false b.sides.first_label (forest_before e f) es bs s.1.1 in
-        λ i. record { before = was i; after = is i; edits = edits_before e f; made = used (edits_before e f) (roots_from b.sides.first_label (forest_before e f)) } ∷ rest i
-
-    redo_same : (f : Forest Content) (es : List (List Step)) (bs : List EntrySnapshot) → RedoSound held old c f es bs → redo_entries new f es bs ≡ redo_entries old f es bs
-    redo_same f [] bs s = refl
-    redo_same f (e ∷ es) [] s = refl
-    redo_same f (e ∷ es) (b ∷ bs) s =
-        let was = view_same f b.sides.before s.1.0.was.over in
-        let is = view_same (forest_after e f) b.sides.after s.1.0.is.over in
-        let rest = redo_same (forest_after e f) es bs s.1.1 in
-        λ i. record { before = was i; after = is i; edits = changes_of e; made = used (changes_of e) (roots_from b.sides.first_label f) } ∷ rest i
+    entries_same : (w : Way) (r : Bool) (high : ℕ) (f : Forest Content) (es : List (List Step)) (bs : List EntrySnapshot) → Lies w held old r c high f es bs → entries w new f es bs ≡ entries w old f es bs
+    entries_same w r high f [] bs s = refl
+    entries_same w r high f (e ∷ es) [] s = refl
+    entries_same w r high f (e ∷ es) (b ∷ bs) s =
+        let g = led w e f in
+        let was = view_same (older w f g) b.sides.before s.1.0.was.over in
+        let is = view_same (newer w f g) b.sides.after s.1.0.is.over in
+        let rest = entries_same w false (next_bound w high b) g es bs s.1.1 in
+        λ i. record { before = was i; after = is i; edits = edits_of w e f; made = used (edits_of w e f) (roots_from b.sides.first_label (older w f g)) } ∷ rest i
 
 -- ---- a mark is set
 
@@ -197,15 +182,15 @@ module _ (d : Inside) (ok : Ok d) (closed : d.history.log.open_entry ≡ Closed)
     running = open_marked d.arena d.points points d.command (begun_forest d.history.log d.arena.trees) d.history.log.open_entry closed refl ok.running;
     resumed = ok.resumed;
     host = ok.host;
-    undo = undo_longer d.points.names points.names longer d.arena.held d.command d.command.resumed (next_first d.command.start d.history.future) (begun_forest d.history.log d.arena.trees) d.history.log.undo d.history.past ok.undo;
-    redo = redo_longer d.points.names points.names longer d.arena.held d.command (begun_forest d.history.log d.arena.trees) d.history.log.redo d.history.future ok.redo;
+    undo = lies_longer d.points.names points.names longer d.arena.held d.command Back d.command.resumed (next_first d.command.start d.history.future) (begun_forest d.history.log d.arena.trees) d.history.log.undo d.history.past ok.undo;
+    redo = lies_longer d.points.names points.names longer d.arena.held d.command Forth false 0 (begun_forest d.history.log d.arena.trees) d.history.log.redo d.history.future ok.redo;
     needed = ok.needed;
   }
 
   history_same : history_of points.names (begun_forest d.history.log d.arena.trees) d.history ≡ history_of d.points.names (begun_forest d.history.log d.arena.trees) d.history
   history_same =
-      let u = undo_same d.points.names points.names longer d.arena.held d.command d.command.resumed (next_first d.command.start d.history.future) (begun_forest d.history.log d.arena.trees) d.history.log.undo d.history.past ok.undo in
-      let r = redo_same d.points.names points.names longer d.arena.held d.command (begun_forest d.history.log d.arena.trees) d.history.log.redo d.history.future ok.redo in
+      let u = entries_same d.points.names points.names longer d.arena.held d.command Back d.command.resumed (next_first d.command.start d.history.future) (begun_forest d.history.log d.arena.trees) d.history.log.undo d.history.past ok.undo in
+      let r = entries_same d.points.names points.names longer d.arena.held d.command Forth false 0 (begun_forest d.history.log d.arena.trees) d.history.log.redo d.history.future ok.redo in
       λ i. record { undo = u i; redo = r i; depth = d.history.log.depth; dropped = d.history.log.dropped }
 
   pub marked_is : (v : Whole) → seen d ≡ v →

@@ -19,10 +19,11 @@ use Rattle.edit_doc.specs.Fields.{IsKept, SwapsLeft}
 use Rattle.edit_doc.specs.Whole.{opened}
 use Rattle.edit_doc.specs.Held.{IfHeld}
 use Rattle.edit_doc.specs.History.{forest_before, undo_entries, redo_entries, whole_of}
+use Rattle.edit_doc.specs.History.Way.{Back}
 use Rattle.edit_doc.specs.Sound.{IsSnapshot, UndoSound, next_first, IsSoundDoc}
 use Rattle.edit_doc.specs.Trail.{trail_of}
 use Rattle.edit_doc.proofs.Inner.{seen, Ok}
-use Rattle.edit_doc.proofs.Laid.{snapshot_later, undo_later, redo_later, next_first_low, undo_sides_length}
+use Rattle.edit_doc.proofs.Laid.{snapshot_later, undo_later, redo_later, next_first_low, sides_length}
 use Rattle.edit_doc.proofs.Rolls.{snapshot_of}
 use Rattle.edit_doc.proofs.Begins.{Opens, rest, take_all, held_host, needed_now, opened_ok, opened_is}
 
@@ -63,7 +64,7 @@ module _ (d : Inside) (law : IsArena d.arena) (closed : d.history.log.open_entry
   pub some_sides : 0 < length d.history.log.undo → 0 < length d.history.past
   some_sides h =
       let r = rest d law closed ok in
-      let n = undo_sides_length d.arena.held d.points.names d.command false (next_first d.command.start d.history.future) d.arena.trees d.history.log.undo d.history.past r.undo in
+      let n = sides_length d.arena.held d.points.names d.command Back false (next_first d.command.start d.history.future) d.arena.trees d.history.log.undo d.history.past r.undo in
       omega (arith, n, h)
 
   module _ (k : Kept) (host : Option NodeRef) (keeps : IsKept d.points d.overrides.items d.flags d.counts k) (us : List EntrySnapshot) (m : Command) (swaps : SwapsLeft d.history.past us d.command m) (n : ℕ) (all : n ≡ length m.detached.items) where

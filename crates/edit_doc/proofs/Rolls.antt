@@ -40,11 +40,12 @@ use Rattle.edit_doc.specs.declared.command.Command.{Command}
 use Rattle.edit_doc.specs.Fields.{IsEnded, ForgetsIn, Forgets}
 use Rattle.edit_doc.specs.Whole.{Whole, state_rolled_back, rolled_to}
 use Rattle.edit_doc.specs.Held.{KeepsThere}
-use Rattle.edit_doc.specs.History.{edits_before, roots_from, forest_before, forest_after, is_hidden, view_at, begun_forest, state_of, begun_state, began_with, history_of, undo_entries, redo_entries, whole_of}
-use Rattle.edit_doc.specs.Sound.{RefIn, AreFresh, AreAlone, IsSide, IsSnapshot, IsRunning, OpenSound, UndoSound, RedoSound, EntriesOff, AreNeeded, next_first, IsSoundDoc}
+use Rattle.edit_doc.specs.History.{edits_before, roots_from, forest_before, is_hidden, view_at, begun_forest, state_of, begun_state, began_with, history_of, undo_entries, redo_entries, whole_of, Way, led, older, newer}
+use Rattle.edit_doc.specs.History.Way.{Back, Forth}
+use Rattle.edit_doc.specs.Sound.{RefIn, AreFresh, AreAlone, IsSide, IsSnapshot, IsRunning, OpenSound, UndoSound, RedoSound, EntriesOff, AreNeeded, next_first, IsSoundDoc, Lies, turned, bound_of, next_bound, detached_of}
 use Rattle.edit_doc.specs.Trail.{trail_of, IsTrail}
 use Rattle.edit_doc.proofs.HiddenTrees.{tops_detached, le_false, true_le, false_le, document-pruned, model_forest}
-use Rattle.edit_doc.proofs.Downs.{back_forest, back_bounded, forth_labels, back_labels, Bounded, KeepsLeft, EntriesLeft, side-pruned, undo-pruned, redo-pruned, undo_entries-pruned, redo_entries-pruned}
+use Rattle.edit_doc.proofs.Downs.{back_forest, back_bounded, back_labels, Bounded, KeepsLeft, EntriesLeft, side-pruned, lies-pruned, entries-pruned, led_labels}
 use Rattle.edit_doc.proofs.Inner.{seen, Ok}
 use Rattle.edit_doc.proofs.Laid.{undo_later, redo_later, next_first_low}
 use Rattle.edit_doc.proofs.Off.{tree_pruned, entries_moved as entries_off}
@@ -117,21 +118,20 @@ module _ (k : ℕ → Bool) (f0 : Forest Content) (held : List (Option ℕ)) (na
   here_detached f same j high known (l ∷ ls) a b =
       (stays l (let lt = b.0 in omega (arith, lt, known)) (let s = same l in let here = a.0 in let le = count_of-pruned j f l in omega (arith, s, here, le)), here_detached f same j high known ls a.1 b.1)
 
-  pub undo_detached : (r : Bool) (high : ℕ) (f : Forest Content) (es : List (List Step)) (bs : List EntrySnapshot) → ((l : ℕ) → count_of f l ≡ count_of f0 l) → UndoSound held names r c high f es bs → EntriesLeft k f0 es
-  undo_detached r high f [] bs same h = tt
-  undo_detached r high f (e ∷ es) [] same h = absurd h
-  undo_detached r high f (e ∷ es) (b ∷ bs) same h = (
-    here_detached f same (is_hidden (forest_before e f) b.sides.first_label) high h.1.0.known (named_in (changes_of e)) h.1.0.names_there h.1.0.names_old,
-    undo_detached false b.sides.first_label (forest_before e f) es bs (λ l. back_labels (changes_of e) f l h.0.0 ∙ same l) h.1.1,
-  )
+  names_here : (w : Way) (names' : List (List ℕ)) (f g : Forest Content) (e : List Step) (ts : List Change) (b : EntrySnapshot) (ds : List NodeRef) (high start : ℕ) →
+      IsSnapshot names' (older w f g) (newer w f g) e ts b ds high start → Each (IsLeft (is_hidden (older w f g) b.sides.first_label) f) (named_in (changes_of e))
+  names_here Back names' f g e ts b ds high start h = h.names_there
+  names_here Forth names' f g e ts b ds high start h = h.names_seen
 
-  pub redo_detached : (f : Forest Content) (es : List (List Step)) (bs : List EntrySnapshot) → ((l : ℕ) → count_of f l ≡ count_of f0 l) → RedoSound held names c f es bs → EntriesLeft k f0 es
-  redo_detached f [] bs same h = tt
-  redo_detached f (e ∷ es) [] same h = absurd h
-  redo_detached f (e ∷ es) (b ∷ bs) same h = (
-    here_detached f same (is_hidden f b.sides.first_label) (next_first c.start bs) h.1.0.known (named_in (changes_of e)) h.1.0.names_seen h.1.0.names_old,
-    redo_detached (forest_after e f) es bs (λ l. forth_labels (changes_of e) f l h.0.0 ∙ same l) h.1.1,
-  )
+  pub lies_detached : (w : Way) (r : Bool) (high : ℕ) (f : Forest Content) (es : List (List Step)) (bs : List EntrySnapshot) → ((l : ℕ) → count_of f l ≡ count_of f0 l) → Lies w held names r c high f es bs → EntriesLeft k f0 es
+  lies_detached w r high f [] bs same h = tt
+  lies_detached w r high f (e ∷ es) [] same h = absurd h
+  lies_detached w r high f (e ∷ es) (b ∷ bs) same h =
+      let g = led w e f in (
+        here_detached f same (is_hidden (older w f g) b.sides.first_label) (bound_of w high c.start bs) h.1.0.known (named_in (changes_of e))
+        (names_here w names f g e (turned w e f) b (detached_of r c b) (bound_of w high c.start bs) c.start h.1.0) h.1.0.names_old,
+        lies_detached w false (next_bound w high b) g es bs (λ l. led_labels w e f l h.0.0 ∙ same l) h.1.1,
+      )
 
 -- nodes that are alone are whole trees
 pub whole_those : (k : ℕ → Bool) (g : Forest Content) → IsDistinct g → ((l : ℕ) → k l ≡ true → 0 < count_of g l → (parent_of g l ≡ None) × (first_of g l ≡ None)) → IsWhole k g
@@ -200,10 +200,10 @@ module _ (d : Inside) (law : IsArena d.arena) (ok : Ok d) (opened : IsTrue (is_o
   stays_g l low here = (let s = whole_stays k g forest_g.distinct whole_g l (le_false d.command.start l low) in omega (arith, s, here))
 
   pub undo_detached_g : EntriesLeft k g d.history.log.undo
-  undo_detached_g = undo_detached k g d.arena.held d.points.names d.command stays_g d.command.resumed (next_first d.command.start d.history.future) g d.history.log.undo d.history.past (λ l. refl) ok.undo
+  undo_detached_g = lies_detached k g d.arena.held d.points.names d.command stays_g Back d.command.resumed (next_first d.command.start d.history.future) g d.history.log.undo d.history.past (λ l. refl) ok.undo
 
   pub redo_detached_g : EntriesLeft k g d.history.log.redo
-  redo_detached_g = redo_detached k g d.arena.held d.points.names d.command stays_g g d.history.log.redo d.history.future (λ l. refl) ok.redo
+  redo_detached_g = lies_detached k g d.arena.held d.points.names d.command stays_g Forth false 0 g d.history.log.redo d.history.future (λ l. refl) ok.redo
 
   -- the arena without them
   pub record Without (a : Arena) : Type 0 where
@@ -228,12 +228,12 @@ module _ (d : Inside) (law : IsArena d.arena) (ok : Ok d) (opened : IsTrue (is_o
     undo_sound =
         subst (λ t. UndoSound a.held d.points.names false d.command high t d.history.log.undo us) (sym w.trees)
         (undo_forgets a.held d.points.names d.command d.command.resumed high (pruned k g) d.history.log.undo d.history.past us forgets
-        (undo-pruned k d.arena.held a.held d.points.names d.command d.command.resumed high g d.history.log.undo d.history.past prunes_g forest_g bound_g keeps undo_detached_g ok.undo))
+        (lies-pruned k d.arena.held a.held d.points.names d.command Back d.command.resumed high g d.history.log.undo d.history.past prunes_g forest_g bound_g keeps undo_detached_g ok.undo))
 
     redo_sound : RedoSound a.held d.points.names d.command a.trees d.history.log.redo d.history.future
     redo_sound =
         subst (λ t. RedoSound a.held d.points.names d.command t d.history.log.redo d.history.future) (sym w.trees)
-        (redo-pruned k d.arena.held a.held d.points.names d.command g d.history.log.redo d.history.future prunes_g forest_g bound_g keeps redo_detached_g ok.redo)
+        (lies-pruned k d.arena.held a.held d.points.names d.command Forth false 0 g d.history.log.redo d.history.future prunes_g forest_g bound_g keeps redo_detached_g ok.redo)
 
     high_le : high ≤ next_first c.start d.history.future
     high_le = by_case d.history.future
@@ -292,8 +292,8 @@ module _ (d : Inside) (law : IsArena d.arena) (ok : Ok d) (opened : IsTrue (is_o
         })
         ∙ (λ i. record {
           undo = (entries_forget a.held d.points.names d.command d.command.resumed (pruned k g) d.history.log.undo d.history.past us forgets
-              ∙ undo_entries-pruned k d.arena.held a.held d.points.names d.command d.command.resumed high g d.history.log.undo d.history.past prunes_g forest_g bound_g undo_detached_g ok.undo) i;
-          redo = redo_entries-pruned k d.arena.held a.held d.points.names d.command g d.history.log.redo d.history.future prunes_g forest_g bound_g redo_detached_g ok.redo i;
+              ∙ entries-pruned k d.arena.held a.held d.points.names d.command Back d.command.resumed high g d.history.log.undo d.history.past prunes_g forest_g bound_g undo_detached_g ok.undo) i;
+          redo = entries-pruned k d.arena.held a.held d.points.names d.command Forth false 0 g d.history.log.redo d.history.future prunes_g forest_g bound_g redo_detached_g ok.redo i;
           depth = d.history.log.depth;
           dropped = d.history.log.dropped;
         })

@@ -113,10 +113,13 @@ abbrev pub next_first : ℕ → List EntrySnapshot → ℕ
 next_first start [] = start
 next_first start (b ∷ bs) = b.sides.first_label
 
--- the steps can be taken that way, and what they turn into
+-- the steps fit that way, and name nodes that are held; and what they turn into
+abbrev pub FitsWay : Way → List Step → Forest Content → Type 0
+FitsWay Back e f = FitsBack applied Fits (changes_of e) f
+FitsWay Forth e f = FitsForth applied Fits (changes_of e) f
+
 abbrev pub CanGo : Way → List (Option ℕ) → List Step → Forest Content → Type 0
-CanGo Back held e f = CanGoBack held e f
-CanGo Forth held e f = CanGoForth held e f
+CanGo w held e f = FitsWay w e f × EachHeldIn held e
 
 abbrev pub turned : Way → List Step → Forest Content → List Change
 turned Back e f = inverses_back applied inverse (changes_of e) f

@@ -1,10 +1,11 @@
+-- What making an element owes.
 use Rattle.std.proofs.Common.{refl, sym, ap, subst, ◌∙◌, Err}
 use Rattle.dom_model.specs.declared.Content.TheVariants.{Element}
 use Rattle.edit_model.proofs.Giving.{gives_element, gives_full_element}
 use Rattle.edit_model.specs.Run.{make_element, final}
 use Rattle.edit_doc.specs.Sound.{IsSoundDoc}
 use Rattle.edit_doc.specs.Whole.{Whole}
-use Rattle.edit_doc.proofs.NewNodes.{room_made, node_made, none_made, element_made}
+use Rattle.edit_doc.proofs.NewNodes.{Given, room_made, node_made, none_made, element_made}
 use Rattle.edit_doc.proofs.Doc.make_owned_element.Goals as goal
 
 pub invariant_of-self : goal.invariant_of-self
@@ -13,10 +14,13 @@ invariant_of-self c = room_made c.self.inside c.args.self.now c.self.view_is c.v
 pub invariant_of-self-in_err-reserve-2 : goal.invariant_of-self-in_err-reserve-2
 invariant_of-self-in_err-reserve-2 c = room_made c.self.inside c.args.self.now c.self.view_is c.valid.ensures c.requires.open c.self.invariant (record c.self.inside.command { detached = c.reserve.new.self; named = c.reserve-2.new.self }) refl c.reserve-2.ensures.items c.reserve.ensures.items
 
+given : (c : goal.After-note_made) → Given c.self.inside c.args.self.now (Element c.args.name c.args.attributes) c.in-Ok.node c.make_element.new.self c.note_made.new.self
+given c =
+    node_made c.self.inside c.args.self.now c.self.view_is c.valid.ensures c.requires.open c.self.invariant (Element c.args.name c.args.attributes) (element_made c.args.name c.args.attributes)
+    c.make_element.new.self c.in-Ok.node c.in-Ok.ensures.made (record c.self.inside.command { detached = c.reserve.new.self; named = c.reserve-2.new.self }) c.note_made.new.self refl c.reserve-2.ensures.items c.reserve.ensures.items c.note_made.ensures
+
 pub invariant_of-self-in-Ok : goal.invariant_of-self-in-Ok
-invariant_of-self-in-Ok c =
-    (node_made c.self.inside c.args.self.now c.self.view_is c.valid.ensures c.requires.open c.self.invariant (Element c.args.name c.args.attributes) (element_made c.args.name c.args.attributes)
-    c.make_element.new.self c.in-Ok.node c.in-Ok.ensures.made (record c.self.inside.command { detached = c.reserve.new.self; named = c.reserve-2.new.self }) c.note_made.new.self refl c.reserve-2.ensures.items c.reserve.ensures.items c.note_made.ensures).invariant
+invariant_of-self-in-Ok c = (given c).invariant
 
 pub invariant_of-self-in-Err : goal.invariant_of-self-in-Err
 invariant_of-self-in-Err c =
@@ -28,18 +32,13 @@ pub returns-in-Ok-clause-gives : goal.returns-in-Ok-clause-gives
 returns-in-Ok-clause-gives c =
     let m = c.in-Ok.ensures.made in
     gives_element c.args.name c.args.attributes c.args.self.now.state _ c.in-Ok.node (m.label ∙ ap (λ (w : Whole). w.state.next) c.self.view_is)
-    (node_made c.self.inside c.args.self.now c.self.view_is c.valid.ensures c.requires.open c.self.invariant (Element c.args.name c.args.attributes) (element_made c.args.name c.args.attributes)
-    c.make_element.new.self c.in-Ok.node m (record c.self.inside.command { detached = c.reserve.new.self; named = c.reserve-2.new.self }) c.note_made.new.self refl c.reserve-2.ensures.items c.reserve.ensures.items c.note_made.ensures).state
+    (given c).state
 
 pub returns-in-Ok-clause-held : goal.returns-in-Ok-clause-held
-returns-in-Ok-clause-held c =
-    (node_made c.self.inside c.args.self.now c.self.view_is c.valid.ensures c.requires.open c.self.invariant (Element c.args.name c.args.attributes) (element_made c.args.name c.args.attributes)
-    c.make_element.new.self c.in-Ok.node c.in-Ok.ensures.made (record c.self.inside.command { detached = c.reserve.new.self; named = c.reserve-2.new.self }) c.note_made.new.self refl c.reserve-2.ensures.items c.reserve.ensures.items c.note_made.ensures).held
+returns-in-Ok-clause-held c = (given c).held
 
 pub returns-in-Ok-clause-keeps : goal.returns-in-Ok-clause-keeps
-returns-in-Ok-clause-keeps c =
-    (node_made c.self.inside c.args.self.now c.self.view_is c.valid.ensures c.requires.open c.self.invariant (Element c.args.name c.args.attributes) (element_made c.args.name c.args.attributes)
-    c.make_element.new.self c.in-Ok.node c.in-Ok.ensures.made (record c.self.inside.command { detached = c.reserve.new.self; named = c.reserve-2.new.self }) c.note_made.new.self refl c.reserve-2.ensures.items c.reserve.ensures.items c.note_made.ensures).keeps
+returns-in-Ok-clause-keeps c = (given c).keeps
 
 pub returns-in-Err-clause-gives : goal.returns-in-Err-clause-gives
 returns-in-Err-clause-gives c =

@@ -1,3 +1,4 @@
+-- What setting an attribute owes.
 use Rattle.std.proofs.Common.{◌≡◌, true, false, refl, sym, ap, ◌∙◌, Some}
 use Rattle.std.specs.Option.{option_and_then}
 use Rattle.dom_model.specs.declared.Content.TheVariants.{Element}
@@ -8,7 +9,7 @@ use Rattle.dom_model.specs.Forest.{content_of}
 use Rattle.edit_model.proofs.Giving.{gives_left}
 use Rattle.edit_model.specs.Edit.{Set}
 use Rattle.edit_doc.proofs.Attributed.{not_own_set, no_list_set, not_set_here, may_set_here, set_done, no_list}
-use Rattle.edit_doc.proofs.Edited.{keeps_same}
+use Rattle.edit_doc.proofs.Edited.{Done, keeps_same}
 use Rattle.edit_doc.proofs.SeenNodes.{attributes_seen}
 use Rattle.edit_doc.proofs.Doc.set_attribute.Goals as goal
 
@@ -35,32 +36,21 @@ returns-then-has_value-clause-gives c =
     let same : has_value k.attributes a.name.now a.value.now ≡ true = sym c.has_value.ensures ∙ c.if-has_value.true in
     gives_left (Set a.node.label a.name.now a.value.now) a.self.now.state a.self.now.state (not_set_here c.self.inside a.self.now c.self.view_is c.valid.ensures c.slotted.ensures c.requires.open c.self.invariant a.node c.requires.node_held k.name k.attributes content a.name.now a.value.now same) refl
 
-pub invariant_of-self-2 : goal.invariant_of-self-2
-invariant_of-self-2 c =
+done : (c : goal.After-name) → Done c.self.inside c.args.self.now (Set c.args.node.label c.args.name.now c.args.value.now) c.make_change.new.arena c.self.inside.points c.self.inside.overrides.items c.self.inside.counts c.name.new.self c.make_change.new.history
+done c =
     let a = c.args in
     let k = c.in-Element in
     let content : content_of c.self.inside.arena.trees a.node.label ≡ Some (Element k.name k.attributes) = c.content.ensures ∙ ap Some k.is in
     let same : c.set.new.self ≡ set_in k.attributes a.name.now a.value.now = c.in_ok-set.ensures.ok ∙ ap (λ xs. set_in xs a.name.now a.value.now) c.in_ok-list.ensures in
     let other : has_value k.attributes a.name.now a.value.now ≡ false = sym c.has_value.ensures ∙ c.if-has_value.false in
     let may = may_set_here c.self.inside a.self.now c.self.view_is c.valid.ensures c.slotted.ensures c.requires.open c.self.invariant a.node c.requires.node_held k.name k.attributes content a.name.now a.value.now (sym c.is_own.ensures ∙ c.if-not-is_own.false) other in
-    (set_done c.self.inside a.self.now c.self.view_is c.valid.ensures c.slotted.ensures c.requires.open c.self.invariant a.node c.requires.node_held k.name k.attributes content c.set.new.self c.name.new.self c.name.ensures c.make_change.new.arena c.make_change.new.history c.in_ok-make_change.ensures.arena c.in_ok-make_change.ensures.history a.name.now a.value.now same may).invariant
+    set_done c.self.inside a.self.now c.self.view_is c.valid.ensures c.slotted.ensures c.requires.open c.self.invariant a.node c.requires.node_held k.name k.attributes content c.set.new.self c.name.new.self c.name.ensures c.make_change.new.arena c.make_change.new.history c.in_ok-make_change.ensures.arena c.in_ok-make_change.ensures.history a.name.now a.value.now same may
+
+pub invariant_of-self-2 : goal.invariant_of-self-2
+invariant_of-self-2 c = (done c).invariant
 
 pub returns-clause-gives : goal.returns-clause-gives
-returns-clause-gives c =
-    let a = c.args in
-    let k = c.in-Element in
-    let content : content_of c.self.inside.arena.trees a.node.label ≡ Some (Element k.name k.attributes) = c.content.ensures ∙ ap Some k.is in
-    let same : c.set.new.self ≡ set_in k.attributes a.name.now a.value.now = c.in_ok-set.ensures.ok ∙ ap (λ xs. set_in xs a.name.now a.value.now) c.in_ok-list.ensures in
-    let other : has_value k.attributes a.name.now a.value.now ≡ false = sym c.has_value.ensures ∙ c.if-has_value.false in
-    let may = may_set_here c.self.inside a.self.now c.self.view_is c.valid.ensures c.slotted.ensures c.requires.open c.self.invariant a.node c.requires.node_held k.name k.attributes content a.name.now a.value.now (sym c.is_own.ensures ∙ c.if-not-is_own.false) other in
-    (set_done c.self.inside a.self.now c.self.view_is c.valid.ensures c.slotted.ensures c.requires.open c.self.invariant a.node c.requires.node_held k.name k.attributes content c.set.new.self c.name.new.self c.name.ensures c.make_change.new.arena c.make_change.new.history c.in_ok-make_change.ensures.arena c.in_ok-make_change.ensures.history a.name.now a.value.now same may).gives
+returns-clause-gives c = (done c).gives
 
 pub returns-clause-keeps : goal.returns-clause-keeps
-returns-clause-keeps c =
-    let a = c.args in
-    let k = c.in-Element in
-    let content : content_of c.self.inside.arena.trees a.node.label ≡ Some (Element k.name k.attributes) = c.content.ensures ∙ ap Some k.is in
-    let same : c.set.new.self ≡ set_in k.attributes a.name.now a.value.now = c.in_ok-set.ensures.ok ∙ ap (λ xs. set_in xs a.name.now a.value.now) c.in_ok-list.ensures in
-    let other : has_value k.attributes a.name.now a.value.now ≡ false = sym c.has_value.ensures ∙ c.if-has_value.false in
-    let may = may_set_here c.self.inside a.self.now c.self.view_is c.valid.ensures c.slotted.ensures c.requires.open c.self.invariant a.node c.requires.node_held k.name k.attributes content a.name.now a.value.now (sym c.is_own.ensures ∙ c.if-not-is_own.false) other in
-    (set_done c.self.inside a.self.now c.self.view_is c.valid.ensures c.slotted.ensures c.requires.open c.self.invariant a.node c.requires.node_held k.name k.attributes content c.set.new.self c.name.new.self c.name.ensures c.make_change.new.arena c.make_change.new.history c.in_ok-make_change.ensures.arena c.in_ok-make_change.ensures.history a.name.now a.value.now same may).keeps
+returns-clause-keeps c = (done c).keeps

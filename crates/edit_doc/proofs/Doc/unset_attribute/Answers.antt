@@ -1,3 +1,4 @@
+-- What unsetting an attribute owes.
 use Rattle.std.proofs.Common.{◌≡◌, true, false, not, refl, sym, ap, ◌∙◌, Some}
 use Rattle.std.specs.Option.{option_map_or, option_and_then}
 use Rattle.dom_model.specs.declared.Content.TheVariants.{Element}
@@ -7,7 +8,7 @@ use Rattle.dom_model.specs.Forest.{content_of}
 use Rattle.edit_model.proofs.Giving.{gives_left}
 use Rattle.edit_model.specs.Edit.{Unset}
 use Rattle.edit_doc.proofs.Attributed.{not_own_unset, no_list_unset, not_unset_here, may_unset_here, unset_done, no_list, copied_some}
-use Rattle.edit_doc.proofs.Edited.{keeps_same}
+use Rattle.edit_doc.proofs.Edited.{Done, keeps_same}
 use Rattle.edit_doc.proofs.SeenNodes.{attributes_seen}
 use Rattle.edit_doc.proofs.Doc.unset_attribute.Goals as goal
 
@@ -34,32 +35,21 @@ returns-then-is_none-clause-gives c =
     let none : option_map_or (λ _. true) (value_of k.attributes a.name.now) false ≡ false = ap (λ o. option_map_or (λ _. true) o false) (ap (value_of k.attributes) (sym c.as_slice.ensures) ∙ sym c.get.ensures) ∙ (copied_some c.get.result ∙ (c.is_none.ensures ∙ ap not c.if-is_none.true)) in
     gives_left (Unset a.node.label a.name.now) a.self.now.state a.self.now.state (not_unset_here c.self.inside a.self.now c.self.view_is c.valid.ensures c.slotted.ensures c.requires.open c.self.invariant a.node c.requires.node_held k.name k.attributes content a.name.now none) refl
 
-pub invariant_of-self-2 : goal.invariant_of-self-2
-invariant_of-self-2 c =
+done : (c : goal.After-name) → Done c.self.inside c.args.self.now (Unset c.args.node.label c.args.name.now) c.make_change.new.arena c.self.inside.points c.self.inside.overrides.items c.self.inside.counts c.name.new.self c.make_change.new.history
+done c =
     let a = c.args in
     let k = c.in-Element in
     let content : content_of c.self.inside.arena.trees a.node.label ≡ Some (Element k.name k.attributes) = c.content.ensures ∙ ap Some k.is in
     let same : c.unset.new.self ≡ unset_in k.attributes a.name.now = c.unset.ensures.left ∙ (λ i. unset_in (c.in_ok-list.ensures i) (c.as_slice-2.ensures i)) in
     let some : option_map_or (λ _. true) (value_of k.attributes a.name.now) false ≡ true = ap (λ o. option_map_or (λ _. true) o false) (ap (value_of k.attributes) (sym c.as_slice.ensures) ∙ sym c.get.ensures) ∙ (copied_some c.get.result ∙ (c.is_none.ensures ∙ ap not c.if-is_none.false)) in
     let may = may_unset_here c.self.inside a.self.now c.self.view_is c.valid.ensures c.slotted.ensures c.requires.open c.self.invariant a.node c.requires.node_held k.name k.attributes content a.name.now (sym c.is_own.ensures ∙ c.if-not-is_own.false) some in
-    (unset_done c.self.inside a.self.now c.self.view_is c.valid.ensures c.slotted.ensures c.requires.open c.self.invariant a.node c.requires.node_held k.name k.attributes content c.unset.new.self c.name.new.self c.name.ensures c.make_change.new.arena c.make_change.new.history c.in_ok-make_change.ensures.arena c.in_ok-make_change.ensures.history a.name.now same may).invariant
+    unset_done c.self.inside a.self.now c.self.view_is c.valid.ensures c.slotted.ensures c.requires.open c.self.invariant a.node c.requires.node_held k.name k.attributes content c.unset.new.self c.name.new.self c.name.ensures c.make_change.new.arena c.make_change.new.history c.in_ok-make_change.ensures.arena c.in_ok-make_change.ensures.history a.name.now same may
+
+pub invariant_of-self-2 : goal.invariant_of-self-2
+invariant_of-self-2 c = (done c).invariant
 
 pub returns-clause-gives : goal.returns-clause-gives
-returns-clause-gives c =
-    let a = c.args in
-    let k = c.in-Element in
-    let content : content_of c.self.inside.arena.trees a.node.label ≡ Some (Element k.name k.attributes) = c.content.ensures ∙ ap Some k.is in
-    let same : c.unset.new.self ≡ unset_in k.attributes a.name.now = c.unset.ensures.left ∙ (λ i. unset_in (c.in_ok-list.ensures i) (c.as_slice-2.ensures i)) in
-    let some : option_map_or (λ _. true) (value_of k.attributes a.name.now) false ≡ true = ap (λ o. option_map_or (λ _. true) o false) (ap (value_of k.attributes) (sym c.as_slice.ensures) ∙ sym c.get.ensures) ∙ (copied_some c.get.result ∙ (c.is_none.ensures ∙ ap not c.if-is_none.false)) in
-    let may = may_unset_here c.self.inside a.self.now c.self.view_is c.valid.ensures c.slotted.ensures c.requires.open c.self.invariant a.node c.requires.node_held k.name k.attributes content a.name.now (sym c.is_own.ensures ∙ c.if-not-is_own.false) some in
-    (unset_done c.self.inside a.self.now c.self.view_is c.valid.ensures c.slotted.ensures c.requires.open c.self.invariant a.node c.requires.node_held k.name k.attributes content c.unset.new.self c.name.new.self c.name.ensures c.make_change.new.arena c.make_change.new.history c.in_ok-make_change.ensures.arena c.in_ok-make_change.ensures.history a.name.now same may).gives
+returns-clause-gives c = (done c).gives
 
 pub returns-clause-keeps : goal.returns-clause-keeps
-returns-clause-keeps c =
-    let a = c.args in
-    let k = c.in-Element in
-    let content : content_of c.self.inside.arena.trees a.node.label ≡ Some (Element k.name k.attributes) = c.content.ensures ∙ ap Some k.is in
-    let same : c.unset.new.self ≡ unset_in k.attributes a.name.now = c.unset.ensures.left ∙ (λ i. unset_in (c.in_ok-list.ensures i) (c.as_slice-2.ensures i)) in
-    let some : option_map_or (λ _. true) (value_of k.attributes a.name.now) false ≡ true = ap (λ o. option_map_or (λ _. true) o false) (ap (value_of k.attributes) (sym c.as_slice.ensures) ∙ sym c.get.ensures) ∙ (copied_some c.get.result ∙ (c.is_none.ensures ∙ ap not c.if-is_none.false)) in
-    let may = may_unset_here c.self.inside a.self.now c.self.view_is c.valid.ensures c.slotted.ensures c.requires.open c.self.invariant a.node c.requires.node_held k.name k.attributes content a.name.now (sym c.is_own.ensures ∙ c.if-not-is_own.false) some in
-    (unset_done c.self.inside a.self.now c.self.view_is c.valid.ensures c.slotted.ensures c.requires.open c.self.invariant a.node c.requires.node_held k.name k.attributes content c.unset.new.self c.name.new.self c.name.ensures c.make_change.new.arena c.make_change.new.history c.in_ok-make_change.ensures.arena c.in_ok-make_change.ensures.history a.name.now same may).keeps
+returns-clause-keeps c = (done c).keeps
