@@ -10,6 +10,7 @@ use Rattle.edit_model.specs.Confined.{is_open, is_place, may_go, may_insert, sta
 use Rattle.edit_model.specs.Gives.{label_of}
 use Rattle.edit_doc.specs.Whole.{Whole}
 use Rattle.edit_doc.specs.Held.{Holds}
+use Rattle.edit_doc.specs.History.{other}
 use Rattle.edit_doc.proofs.Confining.{same_label, other_label}
 use Rattle.edit_doc.proofs.HiddenTrees.{true_lt}
 

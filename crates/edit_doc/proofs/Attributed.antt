@@ -39,6 +39,7 @@ use Rattle.edit_doc.specs.Held.{Holds}
 use Rattle.edit_doc.specs.Marks.{Marks}
 use Rattle.edit_doc.specs.Sound.{RefIn}
 use Rattle.edit_doc.specs.Trail.{Trail, with_note}
+use Rattle.edit_doc.specs.History.{other}
 use Rattle.edit_doc.proofs.Inner.{seen, Ok}
 use Rattle.edit_doc.proofs.SeenNodes.{out_of, IsSeen, held_seen, attributes_seen}
 use Rattle.edit_doc.proofs.Changing.{Follows}

@@ -12,6 +12,7 @@ use Rattle.edit_model.specs.Gives.{label_of}
 use Rattle.edit_doc.specs.declared.Doc.TheInside.{Inside}
 use Rattle.edit_doc.specs.Whole.{Whole}
 use Rattle.edit_doc.specs.Held.{Holds}
+use Rattle.edit_doc.specs.History.{other}
 use Rattle.edit_doc.proofs.Inner.{seen}
 use Rattle.edit_doc.proofs.SeenNodes.{editable_seen}
 

@@ -21,7 +21,7 @@ use Rattle.edit_model.specs.Gives.{labels_of}
 use Rattle.edit_model.specs.History.{used}
 use Rattle.edit_doc.specs.declared.command.EntrySnapshot.{EntrySnapshot}
 use Rattle.edit_doc.specs.declared.command.Command.{Command}
-use Rattle.edit_doc.specs.History.{forest_before, forest_after, edits_before, roots_from, is_hidden, view_at, Way, led, older, newer, edits_of, entries}
+use Rattle.edit_doc.specs.History.{forest_before, forest_after, edits_before, roots_from, is_hidden, view_at, Way, led, older, newer, edits_of, entries, other}
 use Rattle.edit_doc.specs.History.Way.{Back, Forth}
 use Rattle.edit_doc.specs.Sound.{RefIn, EachHeldIn, IsSide, AreFresh, IsOff, IsSnapshot, detached_of, Lies, FitsWay, turned, bound_of, next_bound}
 use Rattle.edit_doc.proofs.HiddenTrees.{hidden_is, is_hidden_from, pruned_more, both_detached, tops_detached, tops_stay, loose_detached, model_forest, document-pruned, placed-pruned, node_count-pruned, char_count-pruned, page_depth-pruned}
@@ -89,6 +89,16 @@ at_newer P Forth here there here' there' a b = b
 pub ends_of : {A B : Type 0} (h : A → B) (P : B → B → Type 0) (w : Way) (here there : A) → P (h (older w here there)) (h (newer w here there)) → P (older w (h here) (h there)) (newer w (h here) (h there))
 ends_of h P Back here there x = x
 ends_of h P Forth here there x = x
+
+pub turned_ends : {A : Type 0} (P : A → A → Type 0) (w : Way) (here there : A) → P (older w here there) (newer w here there) → P (older (other w) there here) (newer (other w) there here)
+turned_ends P Back here there x = x
+turned_ends P Forth here there x = x
+
+-- what an entry names is there where one is
+pub names_here : (w : Way) (names : List (List ℕ)) (f g : Forest Content) (e : List Step) (ts : List Change) (b : EntrySnapshot) (ds : List NodeRef) (high start : ℕ) →
+    IsSnapshot names (older w f g) (newer w f g) e ts b ds high start → Each (IsLeft (is_hidden (older w f g) b.sides.first_label) f) (named_in (changes_of e))
+names_here Back names f g e ts b ds high start h = h.names_there
+names_here Forth names f g e ts b ds high start h = h.names_seen
 
 -- ---- one entry
 
@@ -187,17 +197,17 @@ module _ (k : ℕ → Bool) where
   keeps_moved f g same old new keeps q h detached = keeps q h (let s = same q.label in omega arith)
 
   -- an entry that names only what is left leads the same way without what goes
-  record LedDown (w : Way) (e : List Step) (f : Forest Content) : Type 0 where
-    fits : FitsWay w e (pruned k f)
-    same : pruned k (led w e f) ≡ led w e (pruned k f)
-    turns : turned w e (pruned k f) ≡ turned w e f
-    edits : edits_of w e (pruned k f) ≡ edits_of w e f
-    names : Each (IsLeft k f) (named_in (turned w e f))
-    there : Each (IsLeft k (led w e f)) (named_in (changes_of e))
-    prunes : Prunes k (led w e f)
-    stays : (l : ℕ) → count_of (pruned k (led w e f)) l ≡ count_of (pruned k f) l
+  pub record LedDown (w : Way) (e : List Step) (f : Forest Content) : Type 0 where
+    pub fits : FitsWay w e (pruned k f)
+    pub same : pruned k (led w e f) ≡ led w e (pruned k f)
+    pub turns : turned w e (pruned k f) ≡ turned w e f
+    pub edits : edits_of w e (pruned k f) ≡ edits_of w e f
+    pub names : Each (IsLeft k f) (named_in (turned w e f))
+    pub there : Each (IsLeft k (led w e f)) (named_in (changes_of e))
+    pub prunes : Prunes k (led w e f)
+    pub stays : (l : ℕ) → count_of (pruned k (led w e f)) l ≡ count_of (pruned k f) l
 
-  led_down : (w : Way) (e : List Step) (f : Forest Content) → Prunes k f → FitsWay w e f → Each (IsLeft k f) (named_in (changes_of e)) → LedDown w e f
+  pub led_down : (w : Way) (e : List Step) (f : Forest Content) → Prunes k f → FitsWay w e f → Each (IsLeft k f) (named_in (changes_of e)) → LedDown w e f
   led_down Back e f prunes h ls =
       let d : GoBackDown k (changes_of e) f = back_down k (changes_of e) f prunes h ls in
       record { fits = d.fits; same = d.same; turns = d.turns; edits = d.turns; names = d.names; there = each_of (IsLeft k f) (IsLeft k (forest_before e f)) (named_in (changes_of e)) (λ l t. (let s = d.stays l in omega arith)) ls; prunes = d.prunes; stays = d.stays }

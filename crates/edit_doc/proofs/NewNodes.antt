@@ -59,11 +59,12 @@ use Rattle.edit_doc.specs.declared.command.Command.{Command}
 use Rattle.edit_doc.specs.Whole.{Whole, IsOpen}
 use Rattle.edit_doc.specs.Held.{Holds, Keeps}
 use Rattle.edit_doc.specs.Marks.{IsMarked, has_named, NotesMade}
-use Rattle.edit_doc.specs.History.{edits_before, roots_from, forest_before, forest_after, begun_forest, is_hidden, seen_trees, state_of, begun_state, began_with, view_at, undo_entries, redo_entries, history_of, whole_of}
-use Rattle.edit_doc.specs.Sound.{RefIn, EachHeldIn, IsSide, AreFresh, IsOff, AreNeeded, AreAlone, IsSnapshot, IsRunning, OpenSound, UndoSound, RedoSound, detached_of, next_first, IsSoundDoc}
+use Rattle.edit_doc.specs.History.{edits_before, roots_from, forest_before, begun_forest, is_hidden, seen_trees, state_of, begun_state, began_with, view_at, history_of, whole_of, Way, led, older, newer, edits_of, entries}
+use Rattle.edit_doc.specs.History.Way.{Back, Forth}
+use Rattle.edit_doc.specs.Sound.{RefIn, EachHeldIn, IsSide, AreFresh, IsOff, AreNeeded, AreAlone, IsSnapshot, IsRunning, OpenSound, UndoSound, RedoSound, detached_of, next_first, IsSoundDoc, Lies, FitsWay, turned, bound_of, next_bound}
 use Rattle.edit_doc.specs.Trail.{Trail}
 use Rattle.edit_doc.proofs.Laid.{redo_later}
-use Rattle.edit_doc.proofs.Downs.{back_forest, forth_forest}
+use Rattle.edit_doc.proofs.Downs.{back_forest, led_forest, at_older, at_newer, ends_of}
 use Rattle.edit_doc.proofs.HiddenTrees.{model_forest, true_lt}
 use Rattle.edit_doc.proofs.Inner.{seen, Ok, open_of}
 use Rattle.edit_doc.proofs.Off.{entries_moved}
@@ -236,78 +237,75 @@ module _ (l : ℕ) (c : Content) where
         let d = forth_down (nat_le l) xs (with_leaf f l c) prunes up.0 up.1 in
         sym d.turns ∙ ap (λ t. inverses_forth applied inverse xs t) m.without
 
+    -- an entry leads the same way beside the leaf
+    record LedBeside (w : Way) (e : List Step) (f : Forest Content) : Type 0 where
+      fits : FitsWay w e (with_leaf f l c)
+      same : led w e (with_leaf f l c) ≡ with_leaf (led w e f) l c
+      below : IsBelow (led w e f) l
+      turns : turned w e (with_leaf f l c) ≡ turned w e f
+      edits : edits_of w e (with_leaf f l c) ≡ edits_of w e f
+
+    led_beside : (w : Way) (e : List Step) (f : Forest Content) → IsForest f → IsBelow f l → FitsWay w e f → LedBeside w e f
+    led_beside Back e f is low h =
+        let bb : BackBeside l (c ∷ []) (changes_of e) f = back_beside l (c ∷ []) (changes_of e) f low (ok, tt) h in
+        let turns = back_inverse (changes_of e) f is low h in
+        record { fits = bb.fits; same = bb.same; below = bb.below; turns = turns; edits = turns }
+    led_beside Forth e f is low h =
+        let bb : ForthBeside l (c ∷ []) (changes_of e) f = forth_beside l (c ∷ []) (changes_of e) f low (ok, tt) h in
+        record { fits = bb.fits; same = bb.same; below = bb.below; turns = forth_inverse (changes_of e) f is low h; edits = refl }
+
+    used_beside : (w : Way) (first : ℕ) (e : List Step) (f : Forest Content) → LedBeside w e f → has_label (named_in (edits_of w e f)) l ≡ false →
+        used (edits_of w e (with_leaf f l c)) (roots_from first (older w (with_leaf f l c) (led w e (with_leaf f l c)))) ≡ used (edits_of w e f) (roots_from first (older w f (led w e f)))
+    used_beside Back first e f bb off = (λ i. used (bb.edits i) (roots_from first (bb.same i))) ∙ used-leaf (edits_before e f) first l c (forest_before e f) off
+    used_beside Forth first e f bb off = used-leaf (changes_of e) first l c f off
+
+    edits_old : (w : Way) (names : List (List ℕ)) (before after : Forest Content) (e : List Step) (f : Forest Content) (b : EntrySnapshot) (ds : List NodeRef) (high start : ℕ) →
+        IsSnapshot names before after e (turned w e f) b ds high start → Each (λ j. j < high) (named_in (edits_of w e f))
+    edits_old Back names before after e f b ds high start h = h.turns_old
+    edits_old Forth names before after e f b ds high start h = h.names_old
+
     -- ---- the history
 
     module _ (old new : List (Option ℕ)) (keeps : (q : NodeRef) → RefIn old q → RefIn new q) (names : List (List ℕ)) (d : Command) (le : d.start ≤ l) where
       held_more : (xs : List Step) → EachHeldIn old xs → EachHeldIn new xs
       held_more xs h = each_of (RefIn old) (RefIn new) (nodes_in xs) keeps h
 
-      pub undo_leaf : (r : Bool) (high : ℕ) (f : Forest Content) (es : List (List Step)) (bs : List EntrySnapshot) → IsForest f → IsBelow f l → UndoSound old names r d high f es bs → UndoSound new names r d high (with_leaf f l c) es bs
-      undo_leaf r high f [] [] is low h = tt
-      undo_leaf r high f [] (b ∷ bs) is low h = absurd h
-      undo_leaf r high f (e ∷ es) [] is low h = absurd h
-      undo_leaf r high f (e ∷ es) (b ∷ bs) is low h =
-          let w = with_leaf f l c in
-          let g = forest_before e f in
-          let bb : BackBeside l (c ∷ []) (changes_of e) f = back_beside l (c ∷ []) (changes_of e) f low (ok, tt) h.0.0 in
-          let is' = back_forest (changes_of e) f h.0.0 is in
-          let own = snapshot_leaf names g f e (inverses_back applied inverse (changes_of e) f) b (detached_of r d b) high d.start le is' bb.below is low h.1.0 in
-          let rest = undo_leaf false b.sides.first_label g es bs is' bb.below h.1.1 in (
+      pub lies_leaf : (w : Way) (r : Bool) (high : ℕ) (f : Forest Content) (es : List (List Step)) (bs : List EntrySnapshot) → IsForest f → IsBelow f l → Lies w old names r d high f es bs → Lies w new names r d high (with_leaf f l c) es bs
+      lies_leaf w r high f [] [] is low h = tt
+      lies_leaf w r high f [] (b ∷ bs) is low h = absurd h
+      lies_leaf w r high f (e ∷ es) [] is low h = absurd h
+      lies_leaf w r high f (e ∷ es) (b ∷ bs) is low h =
+          let x = with_leaf f l c in
+          let g = led w e f in
+          let bb = led_beside w e f is low h.0.0 in
+          let is' = led_forest w e f h.0.0 is in
+          let snap : Forest Content → Forest Content → List Change → Type 0 = λ t u ts. IsSnapshot names t u e ts b (detached_of r d b) (bound_of w high d.start bs) d.start in
+          let own : snap (with_leaf (older w f g) l c) (with_leaf (newer w f g) l c) (turned w e f) = snapshot_leaf names (older w f g) (newer w f g) e (turned w e f) b (detached_of r d b) (bound_of w high d.start bs) d.start le
+          (at_older (λ t _. IsForest t) w f g f g is is') (at_older (λ t _. IsBelow t l) w f g f g low bb.below) (at_newer (λ t _. IsForest t) w f g f g is is') (at_newer (λ t _. IsBelow t l) w f g f g low bb.below) h.1.0 in
+          let ends = ends_of (λ t. with_leaf t l c) (λ t u. snap t u (turned w e f)) w f g own in
+          let rest = lies_leaf w false (next_bound w high b) g es bs is' bb.below h.1.1 in (
             (bb.fits, held_more e h.0.1),
             (
-              subst (λ t. IsSnapshot names t w e (inverses_back applied inverse (changes_of e) w) b (detached_of r d b) high d.start) (sym bb.same)
-                  (subst (λ ts. IsSnapshot names (with_leaf g l c) w e ts b (detached_of r d b) high d.start) (sym (back_inverse (changes_of e) f is low h.0.0)) own),
-              subst (λ t. UndoSound new names false d b.sides.first_label t es bs) (sym bb.same) rest,
+              subst (λ t. snap (older w x t) (newer w x t) (turned w e x)) (sym bb.same) (subst (snap (older w x (with_leaf g l c)) (newer w x (with_leaf g l c))) (sym bb.turns) ends),
+              subst (λ t. Lies w new names false d (next_bound w high b) t es bs) (sym bb.same) rest,
             ),
           )
 
-      pub redo_leaf : (f : Forest Content) (es : List (List Step)) (bs : List EntrySnapshot) → IsForest f → IsBelow f l → RedoSound old names d f es bs → RedoSound new names d (with_leaf f l c) es bs
-      redo_leaf f [] [] is low h = tt
-      redo_leaf f [] (b ∷ bs) is low h = absurd h
-      redo_leaf f (e ∷ es) [] is low h = absurd h
-      redo_leaf f (e ∷ es) (b ∷ bs) is low h =
-          let w = with_leaf f l c in
-          let g = forest_after e f in
-          let bb : ForthBeside l (c ∷ []) (changes_of e) f = forth_beside l (c ∷ []) (changes_of e) f low (ok, tt) h.0.0 in
-          let is' = forth_forest (changes_of e) f h.0.0 is in
-          let own = snapshot_leaf names f g e (inverses_forth applied inverse (changes_of e) f) b b.detached.items (next_first d.start bs) d.start le is low is' bb.below h.1.0 in
-          let rest = redo_leaf g es bs is' bb.below h.1.1 in (
-            (bb.fits, held_more e h.0.1),
-            (
-              subst (λ t. IsSnapshot names w t e (inverses_forth applied inverse (changes_of e) w) b b.detached.items (next_first d.start bs) d.start) (sym bb.same)
-                  (subst (λ ts. IsSnapshot names w (with_leaf g l c) e ts b b.detached.items (next_first d.start bs) d.start) (sym (forth_inverse (changes_of e) f is low h.0.0)) own),
-              subst (λ t. RedoSound new names d t es bs) (sym bb.same) rest,
-            ),
-          )
-
-      pub undo_entries_leaf : (r : Bool) (high : ℕ) (f : Forest Content) (es : List (List Step)) (bs : List EntrySnapshot) → IsForest f → IsBelow f l → UndoSound old names r d high f es bs → undo_entries names (with_leaf f l c) es bs ≡ undo_entries names f es bs
-      undo_entries_leaf r high f [] bs is low h = refl
-      undo_entries_leaf r high f (e ∷ es) [] is low h = refl
-      undo_entries_leaf r high f (e ∷ es) (b ∷ bs) is low h =
-          let g = forest_before e f in
-          let bb : BackBeside l (c ∷ []) (changes_of e) f = back_beside l (c ∷ []) (changes_of e) f low (ok, tt) h.0.0 in
-          let is' = back_forest (changes_of e) f h.0.0 is in
-          let was = ap (λ t. view_at names t b.sides.before) bb.same ∙ view_leaf g is' bb.below names b.sides.before in
-          let now = view_leaf f is low names b.sides.after in
-          let rest = ap (λ t. undo_entries names t es bs) bb.same ∙ undo_entries_leaf false b.sides.first_label g es bs is' bb.below h.1.1 in
-          let bt = back_inverse (changes_of e) f is low h.0.0 in
-          let off = not_named high l (named_in (edits_before e f)) h.1.0.turns_old (let u = h.1.0.known in omega (arith, u, le)) in
-          let used_is = (λ i. used (bt i) (roots_from b.sides.first_label (bb.same i))) ∙ used-leaf (edits_before e f) b.sides.first_label l c g off in
-          λ i. record { before = was i; after = now i; edits = bt i; made = used_is i } ∷ rest i
-
-      pub redo_entries_leaf : (f : Forest Content) (es : List (List Step)) (bs : List EntrySnapshot) → IsForest f → IsBelow f l → RedoSound old names d f es bs → redo_entries names (with_leaf f l c) es bs ≡ redo_entries names f es bs
-      redo_entries_leaf f [] bs is low h = refl
-      redo_entries_leaf f (e ∷ es) [] is low h = refl
-      redo_entries_leaf f (e ∷ es) (b ∷ bs) is low h =
-          let g = forest_after e f in
-          let bb : ForthBeside l (c ∷ []) (changes_of e) f = forth_beside l (c ∷ []) (changes_of e) f low (ok, tt) h.0.0 in
-          let is' = forth_forest (changes_of e) f h.0.0 is in
-          let now = ap (λ t. view_at names t b.sides.after) bb.same ∙ view_leaf g is' bb.below names b.sides.after in
-          let was = view_leaf f is low names b.sides.before in
-          let rest = ap (λ t. redo_entries names t es bs) bb.same ∙ redo_entries_leaf g es bs is' bb.below h.1.1 in
-          let off = not_named (next_first d.start bs) l (named_in (changes_of e)) h.1.0.names_old (let u = h.1.0.known in omega (arith, u, le)) in
-          let used_is = used-leaf (changes_of e) b.sides.first_label l c f off in
-          λ i. record { before = was i; after = now i; edits = changes_of e; made = used_is i } ∷ rest i
+      pub entries_leaf : (w : Way) (r : Bool) (high : ℕ) (f : Forest Content) (es : List (List Step)) (bs : List EntrySnapshot) → IsForest f → IsBelow f l → Lies w old names r d high f es bs → entries w names (with_leaf f l c) es bs ≡ entries w names f es bs
+      entries_leaf w r high f [] bs is low h = refl
+      entries_leaf w r high f (e ∷ es) [] is low h = refl
+      entries_leaf w r high f (e ∷ es) (b ∷ bs) is low h =
+          let x = with_leaf f l c in
+          let g = led w e f in
+          let bb = led_beside w e f is low h.0.0 in
+          let is' = led_forest w e f h.0.0 is in
+          let there : (p : Places) → view_at names (led w e x) p ≡ view_at names g p = λ p. ap (λ t. view_at names t p) bb.same ∙ view_leaf g is' bb.below names p in
+          let was = at_older (λ t u. view_at names t b.sides.before ≡ view_at names u b.sides.before) w x (led w e x) f g (view_leaf f is low names b.sides.before) (there b.sides.before) in
+          let now = at_newer (λ t u. view_at names t b.sides.after ≡ view_at names u b.sides.after) w x (led w e x) f g (view_leaf f is low names b.sides.after) (there b.sides.after) in
+          let rest = ap (λ t. entries w names t es bs) bb.same ∙ entries_leaf w false (next_bound w high b) g es bs is' bb.below h.1.1 in
+          let off = not_named (bound_of w high d.start bs) l (named_in (edits_of w e f)) (edits_old w names (older w f g) (newer w f g) e f b (detached_of r d b) (bound_of w high d.start bs) d.start h.1.0) (let u = h.1.0.known in omega (arith, u, le)) in
+          let used_is = used_beside w b.sides.first_label e f bb off in
+          λ i. record { before = was i; after = now i; edits = bb.edits i; made = used_is i } ∷ rest i
 
 -- ---- the fields of a command
 
@@ -561,9 +559,9 @@ module _ (a : Arena) (points : LivePoints) (overrides : List Setting) (flags : F
       resumed = ok.resumed;
       host = subst (λ t. IfSome d.host (λ h. RefIn held h × (0 < count_of t h.label))) (sym seen_is) (host_still d.host ok.host);
       undo = subst (λ t. UndoSound held points.names d.resumed d (next_first d.start trail.future) t trail.log.undo trail.past) (sym begun_is)
-          (undo_leaf l x made_of some a.held held keeps points.names d started d.resumed (next_first d.start trail.future) g trail.log.undo trail.past begun_is_forest bb.below undo_now);
+          (lies_leaf l x made_of some a.held held keeps points.names d started Back d.resumed (next_first d.start trail.future) g trail.log.undo trail.past begun_is_forest bb.below undo_now);
       redo = subst (λ t. RedoSound held points.names d t trail.log.redo trail.future) (sym begun_is)
-          (redo_leaf l x made_of some a.held held keeps points.names d started g trail.log.redo trail.future begun_is_forest bb.below redo_now);
+          (lies_leaf l x made_of some a.held held keeps points.names d started Forth false 0 g trail.log.redo trail.future begun_is_forest bb.below redo_now);
       needed = subst (λ t. AreNeeded d.start t trail.log.undo trail.log.redo) (sym begun_is) (λ j inner old top u r. (
           let lt : j < l = (let s = started in omega (arith, old, s)) in
           let t = times-with_leaf l x g j in
@@ -575,8 +573,8 @@ module _ (a : Arena) (points : LivePoints) (overrides : List Setting) (flags : F
 
     history_is : history_of points.names (begun_forest trail.log (with_leaf f l x)) trail ≡ history_of points.names g trail
     history_is = ap (λ t. history_of points.names t trail) begun_is ∙ (λ i. record {
-      undo = undo_entries_leaf l x made_of some a.held held keeps points.names d started d.resumed (next_first d.start trail.future) g trail.log.undo trail.past begun_is_forest bb.below undo_now i;
-      redo = redo_entries_leaf l x made_of some a.held held keeps points.names d started g trail.log.redo trail.future begun_is_forest bb.below redo_now i;
+      undo = entries_leaf l x made_of some a.held held keeps points.names d started Back d.resumed (next_first d.start trail.future) g trail.log.undo trail.past begun_is_forest bb.below undo_now i;
+      redo = entries_leaf l x made_of some a.held held keeps points.names d started Forth false 0 g trail.log.redo trail.future begun_is_forest bb.below redo_now i;
       depth = trail.log.depth;
       dropped = trail.log.dropped;
     })

@@ -18,7 +18,7 @@ use Rattle.edit_doc.specs.declared.Doc.TheInside.{Inside}
 use Rattle.edit_doc.specs.Whole.{Whole}
 use Rattle.edit_doc.specs.Held.{Holds}
 use Rattle.edit_doc.specs.Fields.{has_newly_detached}
-use Rattle.edit_doc.specs.History.{begun_forest}
+use Rattle.edit_doc.specs.History.{begun_forest, other}
 use Rattle.edit_doc.specs.Sound.{OpenSound}
 use Rattle.edit_doc.proofs.Begins.{document_tops}
 use Rattle.edit_doc.proofs.Found.{tree_detached, root_stays, root_detached, root_is_top}

@@ -40,12 +40,12 @@ use Rattle.edit_doc.specs.declared.command.Command.{Command}
 use Rattle.edit_doc.specs.Fields.{IsEnded, ForgetsIn, Forgets}
 use Rattle.edit_doc.specs.Whole.{Whole, state_rolled_back, rolled_to}
 use Rattle.edit_doc.specs.Held.{KeepsThere}
-use Rattle.edit_doc.specs.History.{edits_before, roots_from, forest_before, is_hidden, view_at, begun_forest, state_of, begun_state, began_with, history_of, undo_entries, redo_entries, whole_of, Way, led, older, newer}
+use Rattle.edit_doc.specs.History.{edits_before, roots_from, forest_before, is_hidden, view_at, begun_forest, state_of, begun_state, began_with, history_of, undo_entries, redo_entries, whole_of, Way, led, older}
 use Rattle.edit_doc.specs.History.Way.{Back, Forth}
 use Rattle.edit_doc.specs.Sound.{RefIn, AreFresh, AreAlone, IsSide, IsSnapshot, IsRunning, OpenSound, UndoSound, RedoSound, EntriesOff, AreNeeded, next_first, IsSoundDoc, Lies, turned, bound_of, next_bound, detached_of}
 use Rattle.edit_doc.specs.Trail.{trail_of, IsTrail}
 use Rattle.edit_doc.proofs.HiddenTrees.{tops_detached, le_false, true_le, false_le, document-pruned, model_forest}
-use Rattle.edit_doc.proofs.Downs.{back_forest, back_bounded, back_labels, Bounded, KeepsLeft, EntriesLeft, side-pruned, lies-pruned, entries-pruned, led_labels}
+use Rattle.edit_doc.proofs.Downs.{back_forest, back_bounded, back_labels, Bounded, KeepsLeft, EntriesLeft, side-pruned, lies-pruned, entries-pruned, led_labels, names_here}
 use Rattle.edit_doc.proofs.Inner.{seen, Ok}
 use Rattle.edit_doc.proofs.Laid.{undo_later, redo_later, next_first_low}
 use Rattle.edit_doc.proofs.Off.{tree_pruned, entries_moved as entries_off}
@@ -118,18 +118,13 @@ module _ (k : ℕ → Bool) (f0 : Forest Content) (held : List (Option ℕ)) (na
   here_detached f same j high known (l ∷ ls) a b =
       (stays l (let lt = b.0 in omega (arith, lt, known)) (let s = same l in let here = a.0 in let le = count_of-pruned j f l in omega (arith, s, here, le)), here_detached f same j high known ls a.1 b.1)
 
-  names_here : (w : Way) (names' : List (List ℕ)) (f g : Forest Content) (e : List Step) (ts : List Change) (b : EntrySnapshot) (ds : List NodeRef) (high start : ℕ) →
-      IsSnapshot names' (older w f g) (newer w f g) e ts b ds high start → Each (IsLeft (is_hidden (older w f g) b.sides.first_label) f) (named_in (changes_of e))
-  names_here Back names' f g e ts b ds high start h = h.names_there
-  names_here Forth names' f g e ts b ds high start h = h.names_seen
-
   pub lies_detached : (w : Way) (r : Bool) (high : ℕ) (f : Forest Content) (es : List (List Step)) (bs : List EntrySnapshot) → ((l : ℕ) → count_of f l ≡ count_of f0 l) → Lies w held names r c high f es bs → EntriesLeft k f0 es
   lies_detached w r high f [] bs same h = tt
   lies_detached w r high f (e ∷ es) [] same h = absurd h
   lies_detached w r high f (e ∷ es) (b ∷ bs) same h =
       let g = led w e f in (
         here_detached f same (is_hidden (older w f g) b.sides.first_label) (bound_of w high c.start bs) h.1.0.known (named_in (changes_of e))
-        (names_here w names f g e (turned w e f) b (detached_of r c b) (bound_of w high c.start bs) c.start h.1.0) h.1.0.names_old,
+            (names_here w names f g e (turned w e f) b (detached_of r c b) (bound_of w high c.start bs) c.start h.1.0) h.1.0.names_old,
         lies_detached w false (next_bound w high b) g es bs (λ l. led_labels w e f l h.0.0 ∙ same l) h.1.1,
       )
 

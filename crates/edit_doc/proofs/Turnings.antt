@@ -8,14 +8,14 @@ use Rattle.dom_model.specs.Forest.{Forest, tops, times, count_of, tree_of}
 use Rattle.dom_model.specs.ArenaState.{ArenaState as Arena, IsValid as IsArena, IsSlotted}
 use Rattle.live_range.specs.declared.places.Places.{Places}
 use Rattle.live_range.specs.LivePoints.{LivePoints}
-use Rattle.live_range.specs.Names.{shown, IsOver}
+use Rattle.live_range.specs.Names.{shown}
 use Rattle.undo_log.specs.Turning.{back, forth, inverses_back, inverses_forth, FitsBack, FitsForth, TurnsBack, TurnsForth}
 use Rattle.undo_log.specs.Log.{noted, FitsUndo, FitsRedo, undone_state, redone_state, undone_with, redone_with}
 use Rattle.undo_log.specs.Log.Open.{Closed}
-use Rattle.forest_changes.specs.Change.{IsForest, Fits, applied, inverse}
+use Rattle.forest_changes.specs.Change.{Change, IsForest, Fits, applied, inverse}
 use Rattle.forest_changes.specs.Named.{Each, named_in}
-use Rattle.forest_changes.specs.Down.{Prunes, IsLeft, GoBackDown, GoForthDown}
-use Rattle.forest_changes.proofs.ChangeLists.{each_of, back_down, forth_down}
+use Rattle.forest_changes.specs.Down.{Prunes, IsLeft}
+use Rattle.forest_changes.proofs.ChangeLists.{each_of}
 use Rattle.forest_changes.proofs.DownChange.{prunes_roots}
 use Rattle.forest_changes.proofs.Twice.{forest_of, back_turns, forth_turns}
 use Rattle.edit_steps.specs.declared.step.Step.{Step}
@@ -30,13 +30,15 @@ use Rattle.edit_doc.specs.declared.command.EntrySnapshot.{EntrySnapshot}
 use Rattle.edit_doc.specs.declared.command.Sides.{Sides}
 use Rattle.edit_doc.specs.Trail.{Trail, IsTrail, trail_of, trail_undone, trail_redone}
 use Rattle.edit_doc.specs.Whole.{Whole}
-use Rattle.edit_doc.specs.History.{edits_before, roots_from, forest_before, forest_after, is_hidden, undo_entries, redo_entries, history_of, whole_of, view_at}
-use Rattle.edit_doc.specs.Sound.{CanGoBack, CanGoForth, IsOff, EntriesOff, AreNeeded, IsSide, IsSnapshot, UndoSound, RedoSound, next_first, IsSoundDoc}
+use Rattle.edit_doc.specs.History.{roots_from, forest_before, forest_after, is_hidden, undo_entries, redo_entries, history_of, whole_of, view_at, Way, led, older, newer, other}
+use Rattle.edit_doc.specs.History.Way.{Back, Forth}
+use Rattle.edit_doc.specs.Sound.{IsOff, EntriesOff, AreNeeded, IsSide, IsSnapshot, UndoSound, RedoSound, next_first, IsSoundDoc, CanGo, turned}
 use Rattle.edit_doc.proofs.HiddenTrees.{hidden_is, top_loose}
 use Rattle.edit_doc.proofs.Inner.{seen, Ok}
 use Rattle.edit_doc.proofs.Laid.{undo_count, redo_count}
 use Rattle.edit_doc.proofs.Off.{Passes, passes_back, passes_forth, off_moved, entries_moved, each_here}
 use Rattle.edit_doc.proofs.Rests.{AtRest, rest_of, rest_sound, rest_whole, none_noted, rested_state}
+use Rattle.edit_doc.proofs.Downs.{at_older, at_newer, led_down, names_here, turned_ends}
 
 -- ---- what an entry becomes, over the forest
 
@@ -47,28 +49,66 @@ prunes_before before first is = prunes_roots (is_hidden before first) before is 
 pub prunes_after : (before after : Forest Content) (first : ℕ) → IsForest after → ((l : ℕ) → is_hidden before first l ≡ true → 0 < times (tops after) l) → Prunes (is_hidden before first) after
 prunes_after before after first is roots = prunes_roots (is_hidden before first) after is refl (λ l h. top_loose after l is.distinct (roots l h))
 
+abbrev step_led : Way → List Step → Arena → Arena
+step_led Back e a = back step_applied e a
+step_led Forth e a = forth step_applied e a
+
+abbrev step_turned : Way → List Step → Arena → List Step
+step_turned Back e a = inverses_back step_applied step_inverse e a
+step_turned Forth e a = inverses_forth step_applied step_inverse e a
+
+-- the steps of an entry, and what they turn into
+record Turns (w : Way) (e t : List Step) (a : Arena) : Type 0 where
+  arena : step_led w e a ≡ record a { trees = led w e a.trees }
+  can : CanGo (other w) a.held t (led w e a.trees)
+  again : led (other w) t (led w e a.trees) ≡ a.trees
+  steps : turned (other w) t (led w e a.trees) ≡ changes_of e
+  own : changes_of t ≡ turned w e a.trees
+
+turns_of : (w : Way) (e : List Step) (a : Arena) → IsSlotted a → CanGo w a.held e a.trees → Turns w e (step_turned w e a) a
+turns_of Back e a slotted can =
+    let g = forest_before e a.trees in
+    let gb : GoBack e a = go_back e a (back_fits e a slotted can.1 can.0) in
+    let tb : TurnsBack applied inverse Fits (changes_of e) a.trees = back_turns (changes_of e) a.trees can.0 in
+    record {
+      arena = gb.state;
+      can = (subst (λ xs. FitsForth applied Fits xs g) (sym gb.turns) tb.fit, gb.held);
+      again = ap (λ xs. forth applied xs g) gb.turns ∙ tb.state;
+      steps = ap (λ xs. inverses_forth applied inverse xs g) gb.turns ∙ tb.steps;
+      own = gb.turns;
+    }
+turns_of Forth e a slotted can =
+    let g = forest_after e a.trees in
+    let gb : GoForth e a = go_forth e a (forth_fits e a slotted can.1 can.0) in
+    let tb : TurnsForth applied inverse Fits (changes_of e) a.trees = forth_turns (changes_of e) a.trees can.0 in
+    record {
+      arena = gb.state;
+      can = (subst (λ xs. FitsBack applied Fits xs g) (sym gb.turns) tb.fit, gb.held);
+      again = ap (λ xs. back applied xs g) gb.turns ∙ tb.state;
+      steps = ap (λ xs. inverses_back applied inverse xs g) gb.turns ∙ tb.steps;
+      own = gb.turns;
+    }
+
 module _ (a : Arena) (is : IsForest a.trees) (slotted : IsSlotted a) (names : List (List ℕ)) (e : List Step) (b : EntrySnapshot) (detached : List NodeRef) (high start : ℕ) where
-  pub record TakenBack (t : List Step) : Type 0 where
-    pub arena : back step_applied e a ≡ record a { trees = forest_before e a.trees }
-    pub can : CanGoForth a.held t (forest_before e a.trees)
-    pub again : forest_after t (forest_before e a.trees) ≡ a.trees
-    pub snapshot : IsSnapshot names (forest_before e a.trees) (forest_after t (forest_before e a.trees)) t (inverses_forth applied inverse (changes_of t) (forest_before e a.trees)) b detached high start
-    pub steps : inverses_forth applied inverse (changes_of t) (forest_before e a.trees) ≡ changes_of e
-    pub own : changes_of t ≡ edits_before e a.trees
+  prunes_here : (w : Way) (ts : List Change) → IsSnapshot names (older w a.trees (led w e a.trees)) (newer w a.trees (led w e a.trees)) e ts b detached high start → Prunes (is_hidden (older w a.trees (led w e a.trees)) b.sides.first_label) a.trees
+  prunes_here Back ts h = prunes_after (forest_before e a.trees) a.trees b.sides.first_label is h.hidden
+  prunes_here Forth ts h = prunes_before a.trees b.sides.first_label is
 
-  pub taken_back : CanGoBack a.held e a.trees → IsSnapshot names (forest_before e a.trees) a.trees e (inverses_back applied inverse (changes_of e) a.trees) b detached high start → TakenBack (inverses_back step_applied step_inverse e a)
-  taken_back can h =
+  -- an entry that is taken one way can be taken the other
+  taken : (w : Way) → CanGo w a.held e a.trees → IsSnapshot names (older w a.trees (led w e a.trees)) (newer w a.trees (led w e a.trees)) e (turned w e a.trees) b detached high start →
+      let t = step_turned w e a in
+      let g = led w e a.trees in
+      Turns w e t a × IsSnapshot names (older (other w) g (led (other w) t g)) (newer (other w) g (led (other w) t g)) t (turned (other w) t g) b detached high start
+  taken w can h =
       let f = a.trees in
-      let g = forest_before e f in
-      let ch = changes_of e in
-      let t = inverses_back step_applied step_inverse e a in
-      let k = is_hidden g b.sides.first_label in
-      let gb : GoBack e a = go_back e a (back_fits e a slotted can.1 can.0) in
-      let tb : TurnsBack applied inverse Fits ch f = back_turns ch f can.0 in
-      let d : GoBackDown k ch f = back_down k ch f (prunes_after g f b.sides.first_label is h.hidden) can.0 h.names_there in
-      let again : forest_after t g ≡ f = ap (λ xs. forth applied xs g) gb.turns ∙ tb.state in
-      let seen = each_of (IsLeft k f) (IsLeft k g) (named_in (inverses_back applied inverse ch f)) (λ l s. (let u = d.stays l in omega arith)) d.names in
-      let own : IsSnapshot names g f t ch b detached high start = record {
+      let g = led w e f in
+      let t = step_turned w e a in
+      let ts = turns_of w e a slotted can in
+      let k = is_hidden (older w f g) b.sides.first_label in
+      let d = led_down k w e f (prunes_here w (turned w e f) h) can.0 (names_here w names f g e (turned w e f) b detached high start h) in
+      let here : Each (IsLeft k f) (named_in (changes_of t)) = subst (λ xs. Each (IsLeft k f) (named_in xs)) (sym ts.own) d.names in
+      let there : Each (IsLeft k g) (named_in (changes_of t)) = each_of (IsLeft k f) (IsLeft k g) (named_in (changes_of t)) (λ l s. (let u = d.stays l in omega arith)) here in
+      let own : IsSnapshot names (older w f g) (newer w f g) t (changes_of e) b detached high start = record {
         was = h.was;
         is = h.is;
         some_label = h.some_label;
@@ -76,65 +116,18 @@ module _ (a : Arena) (is : IsForest a.trees) (slotted : IsSlotted a) (names : Li
         drawn = h.drawn;
         known = h.known;
         hidden = h.hidden;
-        names_seen = subst (λ xs. Each (IsLeft k g) (named_in xs)) (sym gb.turns) seen;
-        names_there = subst (λ xs. Each (IsLeft k f) (named_in xs)) (sym gb.turns) d.names;
-        names_old = subst (λ xs. Each (λ l. l < high) (named_in xs)) (sym gb.turns) h.turns_old;
+        names_seen = at_older (λ x _. Each (IsLeft k x) (named_in (changes_of t))) w f g f g here there;
+        names_there = at_newer (λ x _. Each (IsLeft k x) (named_in (changes_of t))) w f g f g here there;
+        names_old = subst (λ xs. Each (λ l. l < high) (named_in xs)) (sym ts.own) h.turns_old;
         turns_old = h.names_old;
         detached_loose = h.detached_loose;
-        detached_all = λ l inner top out. h.detached_all l inner top (λ a b. out (subst (λ xs. Each (IsOff f l) (named_in xs)) (sym gb.turns) b) a);
+        detached_all = λ l inner top out. h.detached_all l inner top (λ x y. out (subst (λ xs. Each (IsOff (newer w f g) l) (named_in xs)) (sym ts.own) y) x);
       } in
-      let turns : inverses_forth applied inverse (changes_of t) g ≡ ch = ap (λ xs. inverses_forth applied inverse xs g) gb.turns ∙ tb.steps in
-      record {
-        arena = gb.state;
-        can = (subst (λ xs. FitsForth applied Fits xs g) (sym gb.turns) tb.fit, gb.held);
-        again = again;
-        snapshot = subst (λ x. IsSnapshot names g x t (inverses_forth applied inverse (changes_of t) g) b detached high start) (sym again) (subst (λ ts. IsSnapshot names g f t ts b detached high start) (sym turns) own);
-        steps = turns;
-        own = gb.turns;
-      }
-
-  pub record TakenForth (t : List Step) : Type 0 where
-    pub arena : forth step_applied e a ≡ record a { trees = forest_after e a.trees }
-    pub can : CanGoBack a.held t (forest_after e a.trees)
-    pub again : forest_before t (forest_after e a.trees) ≡ a.trees
-    pub snapshot : IsSnapshot names (forest_before t (forest_after e a.trees)) (forest_after e a.trees) t (inverses_back applied inverse (changes_of t) (forest_after e a.trees)) b detached high start
-    pub steps : inverses_back applied inverse (changes_of t) (forest_after e a.trees) ≡ changes_of e
-
-  pub taken_forth : CanGoForth a.held e a.trees → IsSnapshot names a.trees (forest_after e a.trees) e (inverses_forth applied inverse (changes_of e) a.trees) b detached high start → TakenForth (inverses_forth step_applied step_inverse e a)
-  taken_forth can h =
-      let f = a.trees in
-      let g = forest_after e f in
-      let ch = changes_of e in
-      let t = inverses_forth step_applied step_inverse e a in
-      let k = is_hidden f b.sides.first_label in
-      let gb : GoForth e a = go_forth e a (forth_fits e a slotted can.1 can.0) in
-      let tb : TurnsForth applied inverse Fits ch f = forth_turns ch f can.0 in
-      let d : GoForthDown k ch f = forth_down k ch f (prunes_before f b.sides.first_label is) can.0 h.names_seen in
-      let again : forest_before t g ≡ f = ap (λ xs. back applied xs g) gb.turns ∙ tb.state in
-      let there = each_of (IsLeft k f) (IsLeft k g) (named_in (inverses_forth applied inverse ch f)) (λ l s. (let u = d.stays l in omega arith)) d.names in
-      let own : IsSnapshot names f g t ch b detached high start = record {
-        was = h.was;
-        is = h.is;
-        some_label = h.some_label;
-        fresh = h.fresh;
-        drawn = h.drawn;
-        known = h.known;
-        hidden = h.hidden;
-        names_seen = subst (λ xs. Each (IsLeft k f) (named_in xs)) (sym gb.turns) d.names;
-        names_there = subst (λ xs. Each (IsLeft k g) (named_in xs)) (sym gb.turns) there;
-        names_old = subst (λ xs. Each (λ l. l < high) (named_in xs)) (sym gb.turns) h.turns_old;
-        turns_old = h.names_old;
-        detached_loose = h.detached_loose;
-        detached_all = λ l inner top out. h.detached_all l inner top (λ a b. out (subst (λ xs. Each (IsOff g l) (named_in xs)) (sym gb.turns) b) a);
-      } in
-      let turns : inverses_back applied inverse (changes_of t) g ≡ ch = ap (λ xs. inverses_back applied inverse xs g) gb.turns ∙ tb.steps in
-      record {
-        arena = gb.state;
-        can = (subst (λ xs. FitsBack applied Fits xs g) (sym gb.turns) tb.fit, gb.held);
-        again = again;
-        snapshot = subst (λ x. IsSnapshot names x g t (inverses_back applied inverse (changes_of t) g) b detached high start) (sym again) (subst (λ ts. IsSnapshot names f g t ts b detached high start) (sym turns) own);
-        steps = turns;
-      }
+      let turn = turned_ends (λ x y. IsSnapshot names x y t (changes_of e) b detached high start) w f g own in (
+        ts,
+        subst (λ x. IsSnapshot names (older (other w) g x) (newer (other w) g x) t (turned (other w) t g) b detached high start) (sym ts.again)
+            (subst (λ xs. IsSnapshot names (older (other w) g f) (newer (other w) g f) t xs b detached high start) (sym ts.steps) turn),
+      )
 
 -- ---- lists
 
@@ -274,12 +267,13 @@ module _ (d : Inside) (v : Whole) (sees : seen d ≡ v) (law : IsArena d.arena) 
       let h : UndoSound d.arena.held d.points.names false d.command high f (e ∷ es) (b ∷ bs) =
       subst (λ xs. UndoSound d.arena.held d.points.names false d.command high f xs (b ∷ bs)) eu (subst (λ xs. UndoSound d.arena.held d.points.names false d.command high f d.history.log.undo xs) su at_rest.undo) in
       let t = inverses_back step_applied step_inverse e d.arena in
-      let tb = taken_back d.arena (forest_of d.arena law) slotted d.points.names e b b.detached.items high d.command.start h.0 h.1.0 in
+      let taking = taken d.arena (forest_of d.arena law) slotted d.points.names e b b.detached.items high d.command.start Back h.0 h.1.0 in
+      let tb = taking.0 in
       let a' : Arena = record d.arena { trees = g } in
       let trail' : Trail = trail_of (record d.history.log { undo = es; redo = t ∷ d.history.log.redo }) bs (b ∷ d.history.future) in
       let needed : AreNeeded d.command.start g es (t ∷ d.history.log.redo) = λ l inner old top off_undo off_redo. (
       let ch = changes_of t in
-      let ps : Passes l g (forest_after t g) (inverses_forth applied inverse ch g) = passes_forth l ch g (forest_of a' law') inner top tb.can.0 (each_here (is_hidden g b.sides.first_label) g (named_in ch) tb.snapshot.names_seen) off_redo.0 in
+      let ps : Passes l g (forest_after t g) (inverses_forth applied inverse ch g) = passes_forth l ch g (forest_of a' law') inner top tb.can.0 (each_here (is_hidden g b.sides.first_label) g (named_in ch) taking.1.names_seen) off_redo.0 in
       let top' : 0 < times (tops f) l = subst (λ h. 0 < times (tops h) l) tb.again ps.top in
       let same : (m : ℕ) → count_of (tree_of f l) m ≡ count_of (tree_of g l) m = λ m. subst (λ h. count_of (tree_of h l) m ≡ count_of (tree_of g l) m) tb.again (ps.same m) in
       let own : Each (IsOff f l) (named_in (changes_of e)) = off_moved l g f same (named_in (changes_of e)) (subst (λ xs. Each (IsOff g l) (named_in xs)) tb.steps ps.turns) in
@@ -299,7 +293,7 @@ module _ (d : Inside) (v : Whole) (sees : seen d ≡ v) (law : IsArena d.arena) 
       } in
       subst (Turned a' (shown d.points.names b.sides.before) counts trail') (ap undo_whole (sym (resting_is ∙ was)))
       (stands g law' b.sides.before b.sides.nodes_before b.sides.chars_before b.sides.depth_before h.1.0.was counts nodes chars depth trail' closed h.1.1
-      (tb.can, (tb.snapshot, subst (λ x. RedoSound d.arena.held d.points.names d.command x d.history.log.redo d.history.future) (sym tb.again) at_rest.redo)) needed
+      (tb.can, (taking.1, subst (λ x. RedoSound d.arena.held d.points.names d.command x d.history.log.redo d.history.future) (sym tb.again) at_rest.redo)) needed
       (undone_history w.history) history)
 
   -- ---- redo
@@ -322,12 +316,13 @@ module _ (d : Inside) (v : Whole) (sees : seen d ≡ v) (law : IsArena d.arena) 
       let under : UndoSound d.arena.held d.points.names false d.command b.sides.first_label f d.history.log.undo d.history.past =
       subst (λ xs. UndoSound d.arena.held d.points.names false d.command (next_first d.command.start xs) f d.history.log.undo d.history.past) su at_rest.undo in
       let t = inverses_forth step_applied step_inverse e d.arena in
-      let tb = taken_forth d.arena (forest_of d.arena law) slotted d.points.names e b b.detached.items high d.command.start h.0 h.1.0 in
+      let taking = taken d.arena (forest_of d.arena law) slotted d.points.names e b b.detached.items high d.command.start Forth h.0 h.1.0 in
+      let tb = taking.0 in
       let a' : Arena = record d.arena { trees = g } in
       let trail' : Trail = trail_of (record d.history.log { undo = t ∷ d.history.log.undo; redo = es }) (b ∷ d.history.past) bs in
       let needed : AreNeeded d.command.start g (t ∷ d.history.log.undo) es = λ l inner old top off_undo off_redo. (
       let ch = changes_of t in
-      let ps : Passes l g (forest_before t g) (inverses_back applied inverse ch g) = passes_back l ch g (forest_of a' law') inner top tb.can.0 (each_here (is_hidden (forest_before t g) b.sides.first_label) g (named_in ch) tb.snapshot.names_there) off_undo.0 in
+      let ps : Passes l g (forest_before t g) (inverses_back applied inverse ch g) = passes_back l ch g (forest_of a' law') inner top tb.can.0 (each_here (is_hidden (forest_before t g) b.sides.first_label) g (named_in ch) taking.1.names_there) off_undo.0 in
       let top' : 0 < times (tops f) l = subst (λ h. 0 < times (tops h) l) tb.again ps.top in
       let same : (m : ℕ) → count_of (tree_of f l) m ≡ count_of (tree_of g l) m = λ m. subst (λ h. count_of (tree_of h l) m ≡ count_of (tree_of g l) m) tb.again (ps.same m) in
       let own : Each (IsOff f l) (named_in (changes_of e)) = off_moved l g f same (named_in (changes_of e)) (subst (λ xs. Each (IsOff g l) (named_in xs)) tb.steps ps.turns) in
@@ -347,26 +342,10 @@ module _ (d : Inside) (v : Whole) (sees : seen d ≡ v) (law : IsArena d.arena) 
       } in
       subst (Turned a' (shown d.points.names b.sides.after) counts trail') (ap redo_whole (sym (resting_is ∙ was)))
       (stands g law' b.sides.after b.sides.nodes_after b.sides.chars_after b.sides.depth_after h.1.0.is counts nodes chars depth trail' closed
-      (tb.can, (tb.snapshot, subst (λ x. UndoSound d.arena.held d.points.names false d.command b.sides.first_label x d.history.log.undo d.history.past) (sym tb.again) under)) h.1.1 needed
+      (tb.can, (taking.1, subst (λ x. UndoSound d.arena.held d.points.names false d.command b.sides.first_label x d.history.log.undo d.history.past) (sym tb.again) under)) h.1.1 needed
       (redone_history w.history) history)
 
   -- ---- what the calls give
-
-  pub undo_placed : (s : Sides) → Some s ≡ first_sides d.history.past → IsOver d.points.names s.before
-  undo_placed s same = by_first (next_first d.command.start d.history.future) d.history.log.undo d.history.past at_rest.undo same
-    where
-      by_first : (high : ℕ) (es : List (List Step)) (bs : List EntrySnapshot) → UndoSound d.arena.held d.points.names false d.command high d.arena.trees es bs → Some s ≡ first_sides bs → IsOver d.points.names s.before
-      by_first high es [] h e = absurd (let e' : Some s ≡ None = e in cc)
-      by_first high [] (c ∷ bs) h e = absurd h
-      by_first high (x ∷ es) (c ∷ bs) h e = subst (λ (o : Sides). IsOver d.points.names o.before) (sym (some_eq s c.sides e)) h.1.0.was.over
-
-  pub redo_placed : (s : Sides) → Some s ≡ first_sides d.history.future → IsOver d.points.names s.after
-  redo_placed s same = by_first d.history.log.redo d.history.future at_rest.redo same
-    where
-      by_first : (es : List (List Step)) (bs : List EntrySnapshot) → RedoSound d.arena.held d.points.names d.command d.arena.trees es bs → Some s ≡ first_sides bs → IsOver d.points.names s.after
-      by_first es [] h e = absurd (let e' : Some s ≡ None = e in cc)
-      by_first [] (c ∷ bs) h e = absurd h
-      by_first (x ∷ es) (c ∷ bs) h e = subst (λ (o : Sides). IsOver d.points.names o.after) (sym (some_eq s c.sides e)) h.1.0.is.over
 
   some_entries : (s : Sides) (bs : List EntrySnapshot) → Some s ≡ first_sides bs → 0 < length bs
   some_entries s [] e = absurd (let e' : Some s ≡ None = e in cc)

@@ -107,6 +107,10 @@ pub data Way : Type 0 where
   Back : Way
   Forth : Way
 
+abbrev pub other : Way → Way
+other Back = Forth
+other Forth = Back
+
 -- the forest to which the steps of an entry lead
 abbrev pub led : Way → List Step → Forest Content → Forest Content
 led Back e f = forest_before e f
