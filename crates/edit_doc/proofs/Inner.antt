@@ -1,6 +1,7 @@
 -- The fields of a document under edits, and whether a command is open.
 use Rattle.std.proofs.Common.{◌≡◌, None, refl, sym, ap, subst, ◌∙◌}
 use Rattle.std.specs.Prelude.{IsTrue, IsSome}
+use Rattle.dom_model.specs.ArenaState.{IsValid as IsArena}
 use Rattle.undo_log.specs.Log.{Open, is_open}
 use Rattle.undo_log.specs.Log.Open.{Closed, Begun, Resumed}
 use Rattle.edit_steps.specs.declared.step.Step.{Step}
@@ -32,3 +33,12 @@ closed_of d v is h = closed_in _ d.history.log.open_entry (ap (λ (w : Whole). w
 
 pub open_of : (d : Inside) (v : Whole) → seen d ≡ v → IsOpen v → IsTrue (is_open d.history.log.open_entry)
 open_of d v is h = open_in _ d.history.log.open_entry (subst (λ (w : Whole). IsSome w.began) (sym is) h)
+
+-- the fields while a command is open
+pub record Opened (d : Inside) : Type 0 where
+  pub law : IsArena d.arena
+  pub ok : Ok d
+  pub opened : IsTrue (is_open d.history.log.open_entry)
+
+pub opened_of : (d : Inside) (v : Whole) → seen d ≡ v → IsArena d.arena → Ok d → IsOpen v → Opened d
+opened_of d v is law ok h = record { law = law; ok = ok; opened = open_of d v is h }

@@ -34,7 +34,7 @@ use Rattle.edit_doc.proofs.Downs.{EntriesLeft, each_both, entries_moved, back_fo
 use Rattle.edit_doc.proofs.Found.{root_is_top}
 use Rattle.edit_doc.proofs.GivingUp.{pruned-pruned, gives_join}
 use Rattle.edit_doc.proofs.HiddenTrees.{is_hidden_from, pruned-none, both_detached, top_loose, loose_detached}
-use Rattle.edit_doc.proofs.Inner.{Ok}
+use Rattle.edit_doc.proofs.Inner.{Ok, Opened}
 use Rattle.edit_doc.proofs.NewlyDetached.{listed_has, or_true}
 use Rattle.edit_doc.proofs.Records.{committed_made, with_first, entering}
 use Rattle.edit_doc.proofs.Rolls.{xs}
@@ -115,7 +115,7 @@ module _ (held : List (Option ℕ)) (names : List (List ℕ)) (c : Command) wher
       by_count f l some zero e = absent_loose f l e
       by_count f l some (suc i) e = some (omega (arith, e))
 
-module _ (d : Inside) (law : IsArena d.arena) (ok : Ok d) (opened : IsTrue (is_open d.history.log.open_entry)) (p : Places) (resting : AreResting d.points p) (some : 0 < length (noted d.history.log.open_entry)) (us : List EntrySnapshot) (out : Option EntrySnapshot) (enters : Enters d.command (loose_roots d.arena.trees d.command.detached.items) p d.counts d.history.log.depth d.history.past us out) where
+module _ (d : Inside) (during : Opened d) (p : Places) (resting : AreResting d.points p) (some : 0 < length (noted d.history.log.open_entry)) (us : List EntrySnapshot) (out : Option EntrySnapshot) (enters : Enters d.command (loose_roots d.arena.trees d.command.detached.items) p d.counts d.history.log.depth d.history.past us out) where
   abbrev f : Forest Content
   f = d.arena.trees
 
@@ -125,7 +125,7 @@ module _ (d : Inside) (law : IsArena d.arena) (ok : Ok d) (opened : IsTrue (is_o
     detached : EntriesLeft (has_detached o) f (committed d.history.log).undo
 
   none_out : GoesOut None
-  none_out = record { inner = λ l t. absurd (cc); loose = λ l t. absurd (cc); detached = entries_none (unnamed d law ok opened) f (committed d.history.log).undo (kept_detached d law ok opened some) }
+  none_out = record { inner = λ l t. absurd (cc); loose = λ l t. absurd (cc); detached = entries_none (unnamed d during) f (committed d.history.log).undo (kept_detached d during some) }
 
   joined_out : (s : Sides) (detached : List NodeRef) (room : ℕ) (bs new : List EntrySnapshot) (o : Option EntrySnapshot) → EntersIn true s detached p d.counts room bs new o → o ≡ None
   joined_out s detached room [] new o h = absurd h
@@ -134,17 +134,17 @@ module _ (d : Inside) (law : IsArena d.arena) (ok : Ok d) (opened : IsTrue (is_o
 
   goes_out : GoesOut out
   goes_out = elim (true_or_false (is_resumed d.history.log.open_entry)) [
-    | inl r ↦ subst GoesOut (sym (joined_out (made_sides d.command p d.counts) (loose_roots f d.command.detached.items) d.history.log.depth d.history.past us out (subst (λ b. EntersIn b (made_sides d.command p d.counts) (loose_roots f d.command.detached.items) p d.counts d.history.log.depth d.history.past us out) (ok.resumed ∙ r) enters))) none_out
+    | inl r ↦ subst GoesOut (sym (joined_out (made_sides d.command p d.counts) (loose_roots f d.command.detached.items) d.history.log.depth d.history.past us out (subst (λ b. EntersIn b (made_sides d.command p d.counts) (loose_roots f d.command.detached.items) p d.counts d.history.log.depth d.history.past us out) (during.ok.resumed ∙ r) enters))) none_out
     | inr r ↦ (
         let c : Command = record d.command { start = d.arena.next } in
-        let h = entering d law ok opened p resting r c refl us out enters in
+        let h = entering d during p resting r c refl us out enters in
         let bs : List EntrySnapshot = h.0 ∷ d.history.past in
-        let es : List (List Step) = xs d law ok opened ∷ d.history.log.undo in
-        let o = outgone d.arena.held d.points.names c d.history.log.depth d.arena.next f es bs (forest_of d.arena law) (with_first d law ok opened p resting r c refl us out h.0 h.1 h.2) in
+        let es : List (List Step) = xs d during ∷ d.history.log.undo in
+        let o = outgone d.arena.held d.points.names c d.history.log.depth d.arena.next f es bs (forest_of d.arena during.law) (with_first d during p resting r c refl us out h.0 h.1 h.2) in
         let own : GoesOut (slice_get bs d.history.log.depth) = record {
           inner = λ l t. (o.loose l t).0;
           loose = λ l t. (o.loose l t).1.1;
-          detached = subst (λ (g : Log Step). EntriesLeft (has_detached (slice_get bs d.history.log.depth)) f g.undo) (sym (committed_made d.history.log d.history.log.open_entry opened r some)) o.detached;
+          detached = subst (λ (g : Log Step). EntriesLeft (has_detached (slice_get bs d.history.log.depth)) f g.undo) (sym (committed_made d.history.log d.history.log.open_entry during.opened r some)) o.detached;
         } in
         subst GoesOut (sym h.4) own)
   ]
@@ -152,28 +152,28 @@ module _ (d : Inside) (law : IsArena d.arena) (ok : Ok d) (opened : IsTrue (is_o
   -- ---- with what is left unnamed
 
   abbrev pub unkept : ℕ → Bool
-  unkept l = unnamed d law ok opened l || has_detached out l
+  unkept l = unnamed d during l || has_detached out l
 
   pub detached_inner : (l : ℕ) → has_detached out l ≡ true → 0 < l
   detached_inner = goes_out.inner
 
-  pub detached_still_loose : (a : Arena) → GivesUp (unnamed d law ok opened) d.arena a → (l : ℕ) → has_detached out l ≡ true → parent_of a.trees l ≡ None
-  detached_still_loose a gives l t = ap (λ g. parent_of g l) gives.trees ∙ loose_detached (unnamed d law ok opened) f l law.distinct (goes_out.loose l t)
+  pub detached_still_loose : (a : Arena) → GivesUp (unnamed d during) d.arena a → (l : ℕ) → has_detached out l ≡ true → parent_of a.trees l ≡ None
+  detached_still_loose a gives l t = ap (λ g. parent_of g l) gives.trees ∙ loose_detached (unnamed d during) f l during.law.distinct (goes_out.loose l t)
 
-  pub gives_both : (a b : Arena) → GivesUp (unnamed d law ok opened) d.arena a → GivesUp (has_detached out) a b → GivesUp unkept d.arena b
-  gives_both a b x y = gives_join (unnamed d law ok opened) (has_detached out) d.arena a b x y
+  pub gives_both : (a b : Arena) → GivesUp (unnamed d during) d.arena a → GivesUp (has_detached out) a b → GivesUp unkept d.arena b
+  gives_both a b x y = gives_join (unnamed d during) (has_detached out) d.arena a b x y
 
   pub prunes_both : Prunes unkept f
-  prunes_both = prunes_roots unkept f (forest_of d.arena law) zero_out (λ l t. elim (or_true (unnamed d law ok opened l) (has_detached out l) t) [ inl u ↦ unnamed_loose d law ok opened l u | inr u ↦ goes_out.loose l u ])
+  prunes_both = prunes_roots unkept f (forest_of d.arena during.law) zero_out (λ l t. elim (or_true (unnamed d during l) (has_detached out l) t) [ inl u ↦ unnamed_loose d during l u | inr u ↦ goes_out.loose l u ])
     where
       zero_out : unkept 0 ≡ false
       zero_out = elim (true_or_false (unkept 0)) [
-        | inl t ↦ absurd (elim (or_true (unnamed d law ok opened 0) (has_detached out 0) t) [
-          | inl u ↦ true≢false (sym u ∙ (prunes_now d law ok opened (unnamed d law ok opened) (λ l t. t)).document)
+        | inl t ↦ absurd (elim (or_true (unnamed d during 0) (has_detached out 0) t) [
+          | inl u ↦ true≢false (sym u ∙ (prunes_now d during (unnamed d during) (λ l t. t)).document)
           | inr u ↦ (let x = goes_out.inner 0 u in omega (arith, x))
         ])
         | inr t ↦ t
       ]
 
   pub kept_both : (log : Log Step) → log ≡ committed d.history.log → EntriesLeft unkept f log.undo
-  kept_both log is = subst (λ (g : Log Step). EntriesLeft unkept f g.undo) (sym is) (entries_both (unnamed d law ok opened) (has_detached out) f (committed d.history.log).undo law.distinct (kept_detached d law ok opened some) goes_out.detached)
+  kept_both log is = subst (λ (g : Log Step). EntriesLeft unkept f g.undo) (sym is) (entries_both (unnamed d during) (has_detached out) f (committed d.history.log).undo during.law.distinct (kept_detached d during some) goes_out.detached)

@@ -46,7 +46,7 @@ use Rattle.edit_doc.specs.Sound.{RefIn, AreFresh, AreAlone, IsSide, IsSnapshot, 
 use Rattle.edit_doc.specs.Trail.{trail_of, IsTrail}
 use Rattle.edit_doc.proofs.HiddenTrees.{tops_detached, le_false, true_le, false_le, document-pruned, model_forest}
 use Rattle.edit_doc.proofs.Downs.{back_forest, back_bounded, back_labels, Bounded, KeepsLeft, EntriesLeft, side-pruned, lies-pruned, entries-pruned, led_labels, names_here}
-use Rattle.edit_doc.proofs.Inner.{seen, Ok}
+use Rattle.edit_doc.proofs.Inner.{seen, Ok, Opened}
 use Rattle.edit_doc.proofs.Laid.{undo_later, redo_later, next_first_low}
 use Rattle.edit_doc.proofs.Off.{tree_pruned, entries_moved as entries_off}
 use Rattle.edit_doc.proofs.Rests.{AtRest, rest_sound, rest_state, none_noted}
@@ -160,9 +160,9 @@ whole_alone g first next once below alone = whole_those (nat_le first) g once (�
 
 -- The arena at the forest as the command began, or at one where it noted nothing, without what was made since. The labels
 -- may be drawn again from the start on, or stay spent.
-module _ (d : Inside) (law : IsArena d.arena) (ok : Ok d) (opened : IsTrue (is_open d.history.log.open_entry)) where
+module _ (d : Inside) (during : Opened d) where
   pub run : IsRunning d.arena d.points.names d.command (noted d.history.log.open_entry) (begun_forest d.history.log d.arena.trees)
-  run = run_of d.arena d.points d.command (begun_forest d.history.log d.arena.trees) d.history.log.open_entry opened ok.running
+  run = run_of d.arena d.points d.command (begun_forest d.history.log d.arena.trees) d.history.log.open_entry during.opened during.ok.running
 
   abbrev pub g : Forest Content
   g = begun_forest d.history.log d.arena.trees
@@ -177,28 +177,28 @@ module _ (d : Inside) (law : IsArena d.arena) (ok : Ok d) (opened : IsTrue (is_o
   fits_of slotted = back_fits xs d.arena slotted run.can.1 run.can.0
 
   pub forest_g : IsForest g
-  forest_g = back_forest (changes_of xs) d.arena.trees run.can.0 (forest_of d.arena law)
+  forest_g = back_forest (changes_of xs) d.arena.trees run.can.0 (forest_of d.arena during.law)
 
   pub bound_g : Bounded g
-  bound_g = back_bounded xs d.arena.trees run.can.0 (record { next = d.arena.next; below = law.below })
+  bound_g = back_bounded xs d.arena.trees run.can.0 (record { next = d.arena.next; below = during.law.below })
 
   pub below_g : (l : ℕ) → 0 < count_of g l → l < d.arena.next
-  below_g l here = law.below l (let s = back_labels (changes_of xs) d.arena.trees l run.can.0 in omega arith)
+  below_g l here = during.law.below l (let s = back_labels (changes_of xs) d.arena.trees l run.can.0 in omega arith)
 
   pub whole_g : IsWhole k g
   whole_g = whole_alone g d.command.start d.arena.next forest_g.distinct below_g run.made
 
   pub prunes_g : Prunes k g
-  prunes_g = prunes_whole k g forest_g (le_false d.command.start 0 ok.some_label) whole_g
+  prunes_g = prunes_whole k g forest_g (le_false d.command.start 0 during.ok.some_label) whole_g
 
   stays_g : (l : ℕ) → l < d.command.start → 0 < count_of g l → IsLeft k g l
   stays_g l low here = (let s = whole_stays k g forest_g.distinct whole_g l (le_false d.command.start l low) in omega (arith, s, here))
 
   pub undo_detached_g : EntriesLeft k g d.history.log.undo
-  undo_detached_g = lies_detached k g d.arena.held d.points.names d.command stays_g Back d.command.resumed (next_first d.command.start d.history.future) g d.history.log.undo d.history.past (λ l. refl) ok.undo
+  undo_detached_g = lies_detached k g d.arena.held d.points.names d.command stays_g Back d.command.resumed (next_first d.command.start d.history.future) g d.history.log.undo d.history.past (λ l. refl) during.ok.undo
 
   pub redo_detached_g : EntriesLeft k g d.history.log.redo
-  redo_detached_g = lies_detached k g d.arena.held d.points.names d.command stays_g Forth false 0 g d.history.log.redo d.history.future (λ l. refl) ok.redo
+  redo_detached_g = lies_detached k g d.arena.held d.points.names d.command stays_g Forth false 0 g d.history.log.redo d.history.future (λ l. refl) during.ok.redo
 
   -- the arena without them
   pub record Without (a : Arena) : Type 0 where
@@ -223,12 +223,12 @@ module _ (d : Inside) (law : IsArena d.arena) (ok : Ok d) (opened : IsTrue (is_o
     undo_sound =
         subst (λ t. UndoSound a.held d.points.names false d.command high t d.history.log.undo us) (sym w.trees)
         (undo_forgets a.held d.points.names d.command d.command.resumed high (pruned k g) d.history.log.undo d.history.past us forgets
-        (lies-pruned k d.arena.held a.held d.points.names d.command Back d.command.resumed high g d.history.log.undo d.history.past prunes_g forest_g bound_g keeps undo_detached_g ok.undo))
+        (lies-pruned k d.arena.held a.held d.points.names d.command Back d.command.resumed high g d.history.log.undo d.history.past prunes_g forest_g bound_g keeps undo_detached_g during.ok.undo))
 
     redo_sound : RedoSound a.held d.points.names d.command a.trees d.history.log.redo d.history.future
     redo_sound =
         subst (λ t. RedoSound a.held d.points.names d.command t d.history.log.redo d.history.future) (sym w.trees)
-        (lies-pruned k d.arena.held a.held d.points.names d.command Forth false 0 g d.history.log.redo d.history.future prunes_g forest_g bound_g keeps redo_detached_g ok.redo)
+        (lies-pruned k d.arena.held a.held d.points.names d.command Forth false 0 g d.history.log.redo d.history.future prunes_g forest_g bound_g keeps redo_detached_g during.ok.redo)
 
     high_le : high ≤ next_first c.start d.history.future
     high_le = by_case d.history.future
@@ -274,7 +274,7 @@ module _ (d : Inside) (law : IsArena d.arena) (ok : Ok d) (opened : IsTrue (is_o
         let top' : 0 < times (tops (pruned k g)) l = subst (λ t. 0 < times (tops t) l) w.trees top in
         let was = tops_detached k g l top' in
         let same : (m : ℕ) → count_of (tree_of g l) m ≡ count_of (tree_of a.trees l) m = λ m. sym (ap (λ t. count_of (tree_of t l) m) w.trees ∙ tree_pruned l k g forest_g.distinct top' m) in
-        ok.needed l inner (false_le d.command.start l was.1) was.0
+        during.ok.needed l inner (false_le d.command.start l was.1) was.0
         (subst (EntriesOff l g) undo_is (entries_off l a.trees g same log.undo off_undo)) (subst (EntriesOff l g) redo_is (entries_off l a.trees g same log.redo off_redo))
 
     pub without_history : (names : List (List ℕ)) → names ≡ d.points.names → history_of names a.trees (trail_of log us d.history.future) ≡ history_of d.points.names g d.history
@@ -287,8 +287,8 @@ module _ (d : Inside) (law : IsArena d.arena) (ok : Ok d) (opened : IsTrue (is_o
         })
         ∙ (λ i. record {
           undo = (entries_forget a.held d.points.names d.command d.command.resumed (pruned k g) d.history.log.undo d.history.past us forgets
-              ∙ entries-pruned k d.arena.held a.held d.points.names d.command Back d.command.resumed high g d.history.log.undo d.history.past prunes_g forest_g bound_g undo_detached_g ok.undo) i;
-          redo = entries-pruned k d.arena.held a.held d.points.names d.command Forth false 0 g d.history.log.redo d.history.future prunes_g forest_g bound_g redo_detached_g ok.redo i;
+              ∙ entries-pruned k d.arena.held a.held d.points.names d.command Back d.command.resumed high g d.history.log.undo d.history.past prunes_g forest_g bound_g undo_detached_g during.ok.undo) i;
+          redo = entries-pruned k d.arena.held a.held d.points.names d.command Forth false 0 g d.history.log.redo d.history.future prunes_g forest_g bound_g redo_detached_g during.ok.redo i;
           depth = d.history.log.depth;
           dropped = d.history.log.dropped;
         })
@@ -298,7 +298,7 @@ module _ (d : Inside) (law : IsArena d.arena) (ok : Ok d) (opened : IsTrue (is_o
   pub resumed_some : IsTrail d.history → d.command.resumed ≡ true → 0 < length d.history.past
   resumed_some beside e =
       let n = beside.past in
-      let more = (beside.log.resumes_last (true_is (is_resumed d.history.log.open_entry) (sym ok.resumed ∙ e))).0 in
+      let more = (beside.log.resumes_last (true_is (is_resumed d.history.log.open_entry) (sym during.ok.resumed ∙ e))).0 in
       omega (arith, n, more)
     where
       true_is : (b : Bool) → b ≡ true → IsTrue b
@@ -307,7 +307,7 @@ module _ (d : Inside) (law : IsArena d.arena) (ok : Ok d) (opened : IsTrue (is_o
 
   module _ (slotted : IsSlotted d.arena) (a1 : Arena) (abandons : a1 ≡ start step_applied d.history.log d.arena) where
     pub back_is : a1 ≡ record d.arena { trees = g }
-    back_is = abandons ∙ (started_at d.history.log.open_entry d.arena opened ∙ (go_back xs d.arena (fits_of slotted)).state)
+    back_is = abandons ∙ (started_at d.history.log.open_entry d.arena during.opened ∙ (go_back xs d.arena (fits_of slotted)).state)
 
     pub drop_whole : IsWhole k a1.trees
     drop_whole = subst (λ (b : Arena). IsWhole k b.trees) (sym back_is) whole_g
@@ -372,7 +372,7 @@ module _ (d : Inside) (law : IsArena d.arena) (ok : Ok d) (opened : IsTrue (is_o
               edits = [];
               made = [];
             })
-            ∙ (begun_is d.history.log.open_entry (seen d).state (begun_state d.arena d.points.names d.command d.history.log) opened ∙ ap state_rolled_back sees))
+            ∙ (begun_is d.history.log.open_entry (seen d).state (begun_state d.arena d.points.names d.command d.history.log) during.opened ∙ ap state_rolled_back sees))
 
         pub rolled_history : (v : Whole) → seen d ≡ v → history_of d.points.names (begun_forest log' a3.trees) (trail_of log' us d.history.future) ≡ v.history
         rolled_history v sees =

@@ -23,7 +23,7 @@ use Rattle.edit_doc.specs.Whole.{Whole, history_committed}
 use Rattle.edit_doc.specs.Trail.{trail_of}
 use Rattle.edit_doc.proofs.Downs.{EntriesLeft}
 use Rattle.edit_doc.proofs.Freed.{freed, freed_state, freed_history}
-use Rattle.edit_doc.proofs.Inner.{seen, Ok}
+use Rattle.edit_doc.proofs.Inner.{seen, Ok, Opened}
 use Rattle.edit_doc.proofs.Needs.{needed_after}
 use Rattle.edit_doc.proofs.Outgone.{unkept, prunes_both, kept_both}
 use Rattle.edit_doc.proofs.Joins.{entry_redo, entry_rests, entry_state, entry_history}
@@ -36,28 +36,28 @@ pub record Spares (d : Inside) (p : Places) (v : Whole) (c : Command) (a : Arena
   pub history : history_of d.points.names (begun_forest log a.trees) (trail_of log us []) ≡ history_committed v
   pub keeps : KeepsThere v (whole_of a (shown d.points.names p) d.overrides.items d.flags c (trail_of log us []))
 
-module _ (d : Inside) (law : IsArena d.arena) (ok : Ok d) (opened : IsTrue (is_open d.history.log.open_entry)) (p : Places) (resting : AreResting d.points p) (logged : IsLog d.history.log) (some : 0 < length (noted d.history.log.open_entry)) (c : Command) (ended : IsEnded d.arena.next c) (us : List EntrySnapshot) (out : Option EntrySnapshot) (enters : Enters d.command (loose_roots d.arena.trees d.command.detached.items) p d.counts d.history.log.depth d.history.past us out) (log : Log Step) (is : log ≡ committed d.history.log)
-    (a : Arena) (gives : GivesUp (unkept d law ok opened p resting some us out enters) d.arena a) (law' : IsArena a) where
+module _ (d : Inside) (during : Opened d) (p : Places) (resting : AreResting d.points p) (logged : IsLog d.history.log) (some : 0 < length (noted d.history.log.open_entry)) (c : Command) (ended : IsEnded d.arena.next c) (us : List EntrySnapshot) (out : Option EntrySnapshot) (enters : Enters d.command (loose_roots d.arena.trees d.command.detached.items) p d.counts d.history.log.depth d.history.past us out) (log : Log Step) (is : log ≡ committed d.history.log)
+    (a : Arena) (gives : GivesUp (unkept d during p resting some us out enters) d.arena a) (law' : IsArena a) where
   abbrev k : ℕ → Bool
-  k = unkept d law ok opened p resting some us out enters
+  k = unkept d during p resting some us out enters
 
   prunes : Prunes k d.arena.trees
-  prunes = prunes_both d law ok opened p resting some us out enters
+  prunes = prunes_both d during p resting some us out enters
 
   undo_detached : EntriesLeft k d.arena.trees log.undo
-  undo_detached = kept_both d law ok opened p resting some us out enters log is
+  undo_detached = kept_both d during p resting some us out enters log is
 
   needed : AreNeeded c.start a.trees log.undo log.redo
-  needed = needed_after d law ok opened p resting logged some us out enters log is a gives c.start
+  needed = needed_after d during p resting logged some us out enters log is a gives c.start
 
   abbrev points : LivePoints
   points = shown d.points.names p
 
   rests : AtRest d.arena points d.overrides.items d.flags d.counts c (trail_of log us [])
-  rests = entry_rests d law ok opened p resting logged some c ended us out enters log is
+  rests = entry_rests d during p resting logged some c ended us out enters log is
 
   redo_detached : EntriesLeft k d.arena.trees log.redo
-  redo_detached = subst (EntriesLeft k d.arena.trees) (sym (entry_redo d law ok opened p resting logged some c ended us out enters log is)) tt
+  redo_detached = subst (EntriesLeft k d.arena.trees) (sym (entry_redo d during p resting logged some c ended us out enters log is)) tt
 
   spared_ok : IsSoundDoc a points d.overrides.items d.flags d.counts c (trail_of log us [])
   spared_ok =
@@ -67,7 +67,7 @@ module _ (d : Inside) (law : IsArena d.arena) (ok : Ok d) (opened : IsTrue (is_o
   spared_state : (v : Whole) → seen d ≡ v → state_of a points d.overrides.items d.flags c log ≡ rested v.state
   spared_state v sees =
       freed_state d.arena a k gives prunes law' points d.overrides.items d.flags d.counts c (trail_of log us []) rests undo_detached redo_detached
-      ∙ entry_state d law ok opened p resting logged some c ended us out enters log is v sees
+      ∙ entry_state d during p resting logged some c ended us out enters log is v sees
 
   spared_history : (v : Whole) → seen d ≡ v → history_of d.points.names (begun_forest log a.trees) (trail_of log us []) ≡ history_committed v
   spared_history v sees =
@@ -75,7 +75,7 @@ module _ (d : Inside) (law : IsArena d.arena) (ok : Ok d) (opened : IsTrue (is_o
       ap (λ t. history_of d.points.names t (trail_of log us [])) (none_noted log a.trees none)
       ∙ (freed_history d.arena a k gives prunes law' points d.overrides.items d.flags d.counts c (trail_of log us []) rests undo_detached redo_detached
       ∙ (ap (λ t. history_of d.points.names t (trail_of log us [])) (sym (none_noted log d.arena.trees none))
-      ∙ entry_history d law ok opened p resting logged some c ended us out enters log is v sees))
+      ∙ entry_history d during p resting logged some c ended us out enters log is v sees))
 
   abbrev spared_whole : Whole
   spared_whole = whole_of a points d.overrides.items d.flags c (trail_of log us [])

@@ -29,7 +29,7 @@ use Rattle.edit_doc.specs.Sound.{AreFresh, RedoSound, UndoSound, next_first}
 use Rattle.edit_doc.proofs.Downs.{EntriesLeft, back_labels}
 use Rattle.edit_doc.proofs.Found.{root_is_top}
 use Rattle.edit_doc.proofs.HiddenTrees.{is_hidden_from, and_true, true_le, le_true, false_le, top_loose}
-use Rattle.edit_doc.proofs.Inner.{Ok}
+use Rattle.edit_doc.proofs.Inner.{Ok, Opened}
 use Rattle.edit_doc.proofs.Joins.{each_named, committed_joined}
 use Rattle.edit_doc.proofs.Laid.{next_first_low}
 use Rattle.edit_doc.proofs.Off.{pruned_root}
@@ -50,15 +50,15 @@ entries_joined k f (e ∷ es) ys h t = (each_named (IsLeft k f) e ys h.0 t, h.1)
 marked_named : (c : Command) (m : ℕ) → c.start ≤ m → IsMarked c m → has_named c m ≡ true
 marked_named c m from marked = (let t = le_true c.start m from in let n = marked from in rw (t, n) refl)
 
-module _ (d : Inside) (law : IsArena d.arena) (ok : Ok d) (opened : IsTrue (is_open d.history.log.open_entry)) where
+module _ (d : Inside) (during : Opened d) where
   abbrev f : Forest Content
   f = d.arena.trees
 
   abbrev begun : Forest Content
-  begun = g d law ok opened
+  begun = g d during
 
   abbrev steps : List Step
-  steps = xs d law ok opened
+  steps = xs d during
 
   abbrev turns : List Change
   turns = inverses_back applied inverse (changes_of steps) f
@@ -73,30 +73,30 @@ module _ (d : Inside) (law : IsArena d.arena) (ok : Ok d) (opened : IsTrue (is_o
   unnamed = is_unnamed low d.command
 
   low_le : low ≤ d.command.start
-  low_le = next_first_low d.arena.held d.points.names d.command begun d.history.log.redo d.history.future ok.redo
+  low_le = next_first_low d.arena.held d.points.names d.command begun d.history.log.redo d.history.future during.ok.redo
 
   pub some_low : 0 < low
-  some_low = by_case d.history.log.redo d.history.future ok.redo
+  some_low = by_case d.history.log.redo d.history.future during.ok.redo
     where
       by_case : (es : List (List Step)) (bs : List EntrySnapshot) → RedoSound d.arena.held d.points.names d.command begun es bs → 0 < next_first d.command.start bs
-      by_case es [] h = ok.some_label
+      by_case es [] h = during.ok.some_label
       by_case [] (b ∷ bs) h = absurd h
       by_case (e ∷ es) (b ∷ bs) h = h.1.0.some_label
 
   -- each node with a label that redo, or the command, drew was alone as the command began
   fresh : AreFresh begun low
-  fresh = by_case d.history.log.redo d.history.future ok.redo
+  fresh = by_case d.history.log.redo d.history.future during.ok.redo
     where
       by_case : (es : List (List Step)) (bs : List EntrySnapshot) → RedoSound d.arena.held d.points.names d.command begun es bs → AreFresh begun (next_first d.command.start bs)
-      by_case es [] h = (let r = run d law ok opened in record {
-        loose = λ l from here. r.made.loose l from (below_g d law ok opened l here) here;
-        leaf = λ l from here. r.made.leaf l from (below_g d law ok opened l here) here;
+      by_case es [] h = (let r = run d during in record {
+        loose = λ l from here. r.made.loose l from (below_g d during l here) here;
+        leaf = λ l from here. r.made.leaf l from (below_g d during l here) here;
       })
       by_case [] (b ∷ bs) h = absurd h
       by_case (e ∷ es) (b ∷ bs) h = h.1.0.fresh
 
   same_labels : (l : ℕ) → count_of begun l ≡ count_of f l
-  same_labels l = back_labels (changes_of steps) f l (run d law ok opened).can.0
+  same_labels l = back_labels (changes_of steps) f l (run d during).can.0
 
   from_low : (l : ℕ) → unnamed l ≡ true → low ≤ l
   from_low l e = true_le low l (and_true (nat_le low l) (not (has_named d.command l)) e).0
@@ -105,7 +105,7 @@ module _ (d : Inside) (law : IsArena d.arena) (ok : Ok d) (opened : IsTrue (is_o
   not_named l e named = (let t = (and_true (nat_le low l) (not (has_named d.command l)) e).1 in absurd (let t' : not true ≡ true = subst (λ b. not b ≡ true) named t in cc))
 
   prunes_hidden : Prunes hides f
-  prunes_hidden = prunes_after begun f d.command.start (forest_of d.arena law) ok.hidden
+  prunes_hidden = prunes_after begun f d.command.start (forest_of d.arena during.law) during.ok.hidden
 
   -- what the command sees and marks is kept
   kept : (m : ℕ) → IsLeft hides f m → IsMarked d.command m → unnamed m ≡ false
@@ -116,7 +116,7 @@ module _ (d : Inside) (law : IsArena d.arena) (ok : Ok d) (opened : IsTrue (is_o
       | inr old ↦ (
           let here : 0 < count_of begun m = (let le = count_of-pruned hides f m in let s = same_labels m in omega (arith, le, s, detached)) in
           let loose = fresh.loose m (from_low m t) here in
-          let top = root_is_top begun m (forest_g d law ok opened).distinct here loose in
+          let top = root_is_top begun m (forest_g d during).distinct here loose in
           let inner : 0 < m = (let some = some_low in let le = from_low m t in omega (arith, some, le)) in
           let hid = is_hidden_from begun d.command.start m (record { inner = inner; old = false_le d.command.start m old; root = top }) in
           true≢false (sym hid ∙ prunes_hidden.out m detached))
@@ -131,13 +131,13 @@ module _ (d : Inside) (law : IsArena d.arena) (ok : Ok d) (opened : IsTrue (is_o
   each_kept (m ∷ ms) a b = ((kept m a.0 b.0, (let le = count_of-pruned hides f m in let s = same_labels m in let detached = a.0 in omega (arith, le, s, detached))), each_kept ms a.1 b.1)
 
   down : GoBackDown hides (changes_of steps) f
-  down = (let r = run d law ok opened in back_down hides (changes_of steps) f prunes_hidden r.can.0 r.names_there)
+  down = (let r = run d during in back_down hides (changes_of steps) f prunes_hidden r.can.0 r.names_there)
 
   turns_kept : Each IsKept (named_in turns)
-  turns_kept = each_kept (named_in turns) down.names (run d law ok opened).marked_inverse
+  turns_kept = each_kept (named_in turns) down.names (run d during).marked_inverse
 
   steps_kept : Each IsKept (named_in (changes_of steps))
-  steps_kept = (let r = run d law ok opened in each_kept (named_in (changes_of steps)) r.names_there r.marked)
+  steps_kept = (let r = run d during in each_kept (named_in (changes_of steps)) r.names_there r.marked)
 
   -- labels that aren't kept can be pruned, before the command and after it
   module _ (k : ℕ → Bool) (some : (l : ℕ) → k l ≡ true → unnamed l ≡ true) where
@@ -148,20 +148,20 @@ module _ (d : Inside) (law : IsArena d.arena) (ok : Ok d) (opened : IsTrue (is_o
     ]
 
     whole : IsWhole k begun
-    whole = whole_those k begun (forest_g d law ok opened).distinct (λ l t here. (fresh.loose l (from_low l (some l t)) here, fresh.leaf l (from_low l (some l t)) here))
+    whole = whole_those k begun (forest_g d during).distinct (λ l t here. (fresh.loose l (from_low l (some l t)) here, fresh.leaf l (from_low l (some l t)) here))
 
     detached_before : (m : ℕ) → IsKept m → IsLeft k begun m
     detached_before m h =
         let out : k m ≡ false = elim (true_or_false (k m)) [ inl t ↦ absurd (true≢false (sym (some m t) ∙ h.0)) | inr t ↦ t ] in
-        let s = whole_stays k begun (forest_g d law ok opened).distinct whole m out in
+        let s = whole_stays k begun (forest_g d during).distinct whole m out in
         let here = h.1 in
         omega (arith, s, here)
 
     back : TurnsBack applied inverse Fits (changes_of steps) f
-    back = back_turns (changes_of steps) f (run d law ok opened).can.0
+    back = back_turns (changes_of steps) f (run d during).can.0
 
     again : GoForthDown k turns begun
-    again = forth_down k turns begun (prunes_whole k begun (forest_g d law ok opened) keeps_document whole) back.fit (each_of IsKept (IsLeft k begun) (named_in turns) detached_before turns_kept)
+    again = forth_down k turns begun (prunes_whole k begun (forest_g d during) keeps_document whole) back.fit (each_of IsKept (IsLeft k begun) (named_in turns) detached_before turns_kept)
 
     pub prunes_now : Prunes k f
     prunes_now = subst (Prunes k) back.state again.prunes
@@ -181,7 +181,7 @@ module _ (d : Inside) (law : IsArena d.arena) (ok : Ok d) (opened : IsTrue (is_o
       by_count (suc n) here =
           let own : (m : ℕ) → (m == l) ≡ true → unnamed m ≡ true = λ m t. elim (eqb_tells m l) [ inl (_, is) ↦ ap unnamed is ∙ e | inr (u, _) ↦ absurd (true≢false (sym t ∙ u)) ] in
           let out : 0 < count_of (pruned (λ m. m == l) f) l → ⊥ = λ detached. (let t = (prunes_now (λ m. m == l) own).out l detached in true≢false (sym (same l) ∙ t)) in
-          top_loose f l law.distinct (pruned_root f l (omega (arith, here)) (none_of (count_of (pruned (λ m. m == l) f) l) out))
+          top_loose f l during.law.distinct (pruned_root f l (omega (arith, here)) (none_of (count_of (pruned (λ m. m == l) f) l) out))
         where
           same : (m : ℕ) → (m == m) ≡ true
           same m = grind (arith, nat_tests)
@@ -212,9 +212,9 @@ module _ (d : Inside) (law : IsArena d.arena) (ok : Ok d) (opened : IsTrue (is_o
 
   pub kept_detached : 0 < length (noted d.history.log.open_entry) → EntriesLeft unnamed f (committed d.history.log).undo
   kept_detached some =
-      let older : EntriesLeft unnamed f d.history.log.undo = entries_below d.command.resumed low begun d.history.log.undo d.history.past (omega arith) (λ l. refl) ok.undo in
+      let older : EntriesLeft unnamed f d.history.log.undo = entries_below d.command.resumed low begun d.history.log.undo d.history.past (omega arith) (λ l. refl) during.ok.undo in
       let own : Each (IsLeft unnamed f) (named_in (changes_of steps)) = each_of IsKept (IsLeft unnamed f) (named_in (changes_of steps)) (detached_now unnamed (λ l t. t)) steps_kept in
       elim (true_or_false (is_resumed d.history.log.open_entry)) [
         | inl r ↦ subst (λ (l : Log Step). EntriesLeft unnamed f l.undo) (sym (committed_joined d.history.log d.history.log.open_entry r)) (entries_joined unnamed f d.history.log.undo steps older own)
-        | inr r ↦ subst (λ (l : Log Step). EntriesLeft unnamed f l.undo) (sym (committed_made d.history.log d.history.log.open_entry opened r some)) (entries_take unnamed f d.history.log.depth (steps ∷ d.history.log.undo) (own, older))
+        | inr r ↦ subst (λ (l : Log Step). EntriesLeft unnamed f l.undo) (sym (committed_made d.history.log d.history.log.open_entry during.opened r some)) (entries_take unnamed f d.history.log.depth (steps ∷ d.history.log.undo) (own, older))
       ]
