@@ -8,7 +8,6 @@ use Rattle.dom_model.specs.Pruned.{pruned, IsWhole}
 use Rattle.dom_model.specs.ArenaState.{ArenaState as Arena, IsValid as IsArena}
 use Rattle.dom_model.proofs.Pruning.{count_of-pruned}
 use Rattle.node_arena.specs.Held.{DropsMade}
-use Rattle.live_range.specs.declared.places.Places.{Places}
 use Rattle.live_range.specs.LivePoints.{LivePoints}
 use Rattle.live_range.specs.Names.{shown}
 use Rattle.undo_log.specs.Log.{Log, Open, noted, is_open, joined, committed_with}
@@ -21,14 +20,14 @@ use Rattle.edit_model.specs.History.{document_of, rested, recorded}
 use Rattle.edit_doc.specs.declared.Doc.TheInside.{Inside}
 use Rattle.edit_doc.specs.declared.command.EntrySnapshot.{EntrySnapshot}
 use Rattle.edit_doc.specs.declared.command.Command.{Command}
-use Rattle.edit_doc.specs.Fields.{IsEnded, Forgets, AreResting}
+use Rattle.edit_doc.specs.Fields.{IsEnded, Forgets}
 use Rattle.edit_doc.specs.Whole.{Whole, history_committed, committed_history}
 use Rattle.edit_doc.specs.Held.{KeepsThere}
 use Rattle.edit_doc.specs.History.{edits_before, begun_forest, is_hidden, seen_trees, state_of, begun_state, began_with, history_of, whole_of}
 use Rattle.edit_doc.specs.Sound.{IsSoundDoc}
 use Rattle.edit_doc.specs.Trail.{trail_of}
 use Rattle.edit_doc.proofs.HiddenTrees.{false_le, document-pruned, placed-pruned, placed-whole, node_count-pruned, char_count-pruned, page_depth-pruned}
-use Rattle.edit_doc.proofs.Inner.{seen, Ok, Opened}
+use Rattle.edit_doc.proofs.Inner.{seen, Ending}
 use Rattle.edit_doc.proofs.Rests.{AtRest, rest_sound, rest_state, none_noted, arena_forest}
 use Rattle.edit_doc.proofs.Rolls.{whole_g, prunes_g, Without, without_rest, without_needed, without_history}
 use Rattle.edit_doc.proofs.MadeNodes.{no_edits, count_edits}
@@ -61,19 +60,19 @@ edits_count d v sees = sym (count_edits (noted d.history.log.open_entry) d.arena
 
 -- ---- where no step was noted
 
-module _ (d : Inside) (during : Opened d) (p : Places) (resting : AreResting d.points p) where
+module _ (d : Inside) (ending : Ending d) where
   abbrev rested_points : LivePoints
-  rested_points = shown d.points.names p
+  rested_points = shown d.points.names ending.places
 
   -- the points stand in the document, without the scratch pair too
   pub placed_now : IsPlaced d.arena.trees rested_points
   placed_now =
-      let h = placed-whole d.arena.trees d.arena.next (arena_forest d.arena during.law) (is_hidden (begun_forest d.history.log d.arena.trees) d.command.start) refl d.points during.ok.valid.placed in
+      let h = placed-whole d.arena.trees d.arena.next (arena_forest d.arena ending.during.law) (is_hidden (begun_forest d.history.log d.arena.trees) d.command.start) refl d.points ending.during.ok.valid.placed in
       let own : IsPlaced d.arena.trees (record d.points { scratch = None }) = record { selection = h.selection; scratch = tt; marks = h.marks } in
-      subst (IsPlaced d.arena.trees) (sym resting.shown) own
+      subst (IsPlaced d.arena.trees) (sym ending.resting.shown) own
 
   pub document_now : document_of (seen_trees d.history.log d.command.start d.arena.trees) ≡ document_of d.arena.trees
-  document_now = document-pruned d.arena.trees d.arena.next (arena_forest d.arena during.law) (is_hidden (begun_forest d.history.log d.arena.trees) d.command.start) refl
+  document_now = document-pruned d.arena.trees d.arena.next (arena_forest d.arena ending.during.law) (is_hidden (begun_forest d.history.log d.arena.trees) d.command.start) refl
 
   module _ (nothing : noted d.history.log.open_entry ≡ []) where
     same_forest : begun_forest d.history.log d.arena.trees ≡ d.arena.trees
@@ -83,14 +82,14 @@ module _ (d : Inside) (during : Opened d) (p : Places) (resting : AreResting d.p
     k l = nat_le d.command.start l
 
     pub nothing_whole : IsWhole k d.arena.trees
-    nothing_whole = subst (IsWhole k) same_forest (whole_g d during)
+    nothing_whole = subst (IsWhole k) same_forest (whole_g d ending.during)
 
     module _ (a : Arena) (drops : DropsMade d.arena a d.command.start) (valid : IsArena a) (us : List EntrySnapshot) (forgets : Forgets d.history.past us d.command) (c : Command) (ended : IsEnded a.next c) where
-      detached_out : Without d during a
+      detached_out : Without d ending.during a
       detached_out = record {
         valid = valid;
         trees = drops.trees ∙ ap (pruned k) (sym same_forest);
-        next = (let n = drops.next in let s = during.ok.valid.started in omega (arith, n, s));
+        next = (let n = drops.next in let s = ending.during.ok.valid.started in omega (arith, n, s));
         cap = drops.cap;
         held = λ q h low. (drops.held q).1 (h, low);
       }
@@ -99,25 +98,25 @@ module _ (d : Inside) (during : Opened d) (p : Places) (resting : AreResting d.p
       log' = record d.history.log { open_entry = Closed }
 
       prunes : k 0 ≡ false
-      prunes = (prunes_g d during).document
+      prunes = (prunes_g d ending.during).document
 
       ends : AtRest a rested_points d.overrides.items d.flags d.counts c (trail_of log' us d.history.future)
       ends =
-          let f = arena_forest d.arena during.law in
-          without_rest d during a detached_out us forgets c ended log' refl refl refl refl refl rested_points d.overrides.items d.flags d.counts
-          refl resting.resting
+          let f = arena_forest d.arena ending.during.law in
+          without_rest d ending.during a detached_out us forgets c ended log' refl refl refl refl refl rested_points d.overrides.items d.flags d.counts
+          refl ending.resting.resting
           (subst (λ t. IsPlaced t rested_points) (sym drops.trees) (placed-pruned d.arena.trees d.arena.next f k prunes rested_points placed_now))
-          during.ok.valid.settings
-          (during.ok.nodes ∙ (sym (node_count-pruned d.arena.trees d.arena.next f k prunes) ∙ ap node_count (sym drops.trees)))
-          (during.ok.chars ∙ (sym (char_count-pruned d.arena.trees d.arena.next f k prunes) ∙ ap char_count (sym drops.trees)))
-          (subst (λ n. n ≤ d.counts.depth) (sym (page_depth-pruned d.arena.trees d.arena.next f k prunes) ∙ ap page_depth (sym drops.trees)) during.ok.depth)
+          ending.during.ok.valid.settings
+          (ending.during.ok.nodes ∙ (sym (node_count-pruned d.arena.trees d.arena.next f k prunes) ∙ ap node_count (sym drops.trees)))
+          (ending.during.ok.chars ∙ (sym (char_count-pruned d.arena.trees d.arena.next f k prunes) ∙ ap char_count (sym drops.trees)))
+          (subst (λ n. n ≤ d.counts.depth) (sym (page_depth-pruned d.arena.trees d.arena.next f k prunes) ∙ ap page_depth (sym drops.trees)) ending.during.ok.depth)
 
       pub nothing_ok : IsSoundDoc a rested_points d.overrides.items d.flags d.counts c (trail_of log' us d.history.future)
       nothing_ok = rest_sound a rested_points d.overrides.items d.flags d.counts c (trail_of log' us d.history.future) ends
-          (without_needed d during a detached_out us forgets c ended log' refl refl refl refl refl)
+          (without_needed d ending.during a detached_out us forgets c ended log' refl refl refl refl refl)
 
       document_is : document_of a.trees ≡ document_of (seen_trees d.history.log d.command.start d.arena.trees)
-      document_is = ap document_of drops.trees ∙ (document-pruned d.arena.trees d.arena.next (arena_forest d.arena during.law) k prunes ∙ sym document_now)
+      document_is = ap document_of drops.trees ∙ (document-pruned d.arena.trees d.arena.next (arena_forest d.arena ending.during.law) k prunes ∙ sym document_now)
 
       pub nothing_state : (v : Whole) → seen d ≡ v → state_of a rested_points d.overrides.items d.flags c log' ≡ rested v.state
       unfolding rested
@@ -125,7 +124,7 @@ module _ (d : Inside) (during : Opened d) (p : Places) (resting : AreResting d.p
           rest_state a rested_points d.overrides.items d.flags d.counts c (trail_of log' us d.history.future) ends
           ∙ ((λ i. record {
             trees = document_is i;
-            points = resting.shown i;
+            points = ending.resting.shown i;
             overrides = d.overrides.items;
             flags = d.flags;
             next = drops.next i;
@@ -142,14 +141,14 @@ module _ (d : Inside) (during : Opened d) (p : Places) (resting : AreResting d.p
       unfolding history_committed
       nothing_history v sees =
           ap (λ f. history_of d.points.names f (trail_of log' us d.history.future)) (none_noted log' a.trees refl)
-          ∙ (without_history d during a detached_out us forgets c ended log' refl refl refl refl refl d.points.names refl
+          ∙ (without_history d ending.during a detached_out us forgets c ended log' refl refl refl refl refl d.points.names refl
           ∙ (nothing_recorded (begun_state d.arena d.points.names d.command d.history.log) d.history.log.open_entry (seen d) (ap (λ ys. edits_before ys d.arena.trees) nothing ∙ no_edits d.arena.trees) ∙ ap history_committed sees))
 
       abbrev nothing_doc : Whole
       nothing_doc = whole_of a rested_points d.overrides.items d.flags c (trail_of log' us d.history.future)
 
       by_detached : (l : ℕ) → 0 < count_of a.trees l → l < d.command.start
-      by_detached l here = false_le d.command.start l ((prunes_g d during).out l (subst (λ t. 0 < count_of t l) detached_out.trees here))
+      by_detached l here = false_le d.command.start l ((prunes_g d ending.during).out l (subst (λ t. 0 < count_of t l) detached_out.trees here))
 
       pub nothing_keeps : (v : Whole) → seen d ≡ v → KeepsThere v nothing_doc
       nothing_keeps v sees =

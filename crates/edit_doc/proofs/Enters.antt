@@ -1,13 +1,9 @@
 -- A command that made edits leaves an entry.
 use Rattle.std.proofs.Common.{◌≡◌, ℕ, zero, suc, ◌<◌, false, Option, List, [], ◌∷◌, take, refl, sym, ap, subst, arith, inl, inr}
-use Rattle.std.specs.Prelude.{IsTrue}
 use Rattle.dom_model.specs.declared.Content.{Content}
 use Rattle.dom_model.specs.Forest.{Forest}
-use Rattle.dom_model.specs.ArenaState.{IsValid as IsArena}
 use Rattle.dom_model.proofs.Pruning.{count_of-pruned}
-use Rattle.live_range.specs.declared.places.Places.{Places}
 use Rattle.undo_log.specs.Turning.{inverses_back}
-use Rattle.undo_log.specs.Log.{is_open}
 use Rattle.forest_changes.specs.Change.{applied, inverse}
 use Rattle.forest_changes.specs.Named.{Each, named_in}
 use Rattle.forest_changes.specs.Down.{IsLeft, GoBackDown}
@@ -19,7 +15,7 @@ use Rattle.node_arena.specs.declared.NodeRef.{NodeRef}
 use Rattle.edit_doc.specs.declared.Doc.TheInside.{Inside}
 use Rattle.edit_doc.specs.declared.command.EntrySnapshot.{EntrySnapshot}
 use Rattle.edit_doc.specs.declared.command.Command.{Command}
-use Rattle.edit_doc.specs.Fields.{AreResting, made_sides}
+use Rattle.edit_doc.specs.Fields.{made_sides}
 use Rattle.edit_doc.specs.GivingUp.{loose_roots}
 use Rattle.edit_model.specs.History.{used}
 use Rattle.edit_doc.specs.History.{edits_before, roots_from, forest_before, is_hidden, view_at, undo_entries}
@@ -28,7 +24,7 @@ use Rattle.edit_doc.proofs.GivingUp.{filtered_loose, loose_is, listed_loose, lis
 use Rattle.edit_doc.proofs.HiddenTrees.{tops_stay}
 use Rattle.edit_doc.proofs.Off.{each_off}
 use Rattle.dom_model.proofs.Stands.{true_or_false}
-use Rattle.edit_doc.proofs.Inner.{Ok, Opened}
+use Rattle.edit_doc.proofs.Inner.{Ending}
 use Rattle.edit_doc.proofs.Turnings.{prunes_after}
 use Rattle.edit_doc.proofs.Rolls.{run, g, xs, below_g, snapshot_of}
 use Rattle.edit_doc.proofs.Commits.{placed_now}
@@ -47,52 +43,52 @@ undo_entries-take names (suc n) f [] bs = refl
 undo_entries-take names (suc n) f (e ∷ es) [] = refl
 undo_entries-take names (suc n) f (e ∷ es) (b ∷ bs) = ap (λ r. record { before = view_at names (forest_before e f) b.sides.before; after = view_at names f b.sides.after; edits = edits_before e f; made = used (edits_before e f) (roots_from b.sides.first_label (forest_before e f)) } ∷ r) (undo_entries-take names n (forest_before e f) es bs)
 
-module _ (d : Inside) (during : Opened d) (p : Places) (resting : AreResting d.points p) where
+module _ (d : Inside) (ending : Ending d) where
   abbrev steps : List Step
-  steps = xs d during
+  steps = xs d ending.during
 
   abbrev before : Forest Content
-  before = g d during
+  before = g d ending.during
 
   below_next : (ls : List ℕ) → Each (IsLeft (is_hidden before d.command.start) d.arena.trees) ls → Each (λ l. l < d.arena.next) ls
-  below_next ls h = each_of (IsLeft (is_hidden before d.command.start) d.arena.trees) (λ l. l < d.arena.next) ls (λ l t. during.law.below l (let le = count_of-pruned (is_hidden before d.command.start) d.arena.trees l in omega (arith, le, t))) h
+  below_next ls h = each_of (IsLeft (is_hidden before d.command.start) d.arena.trees) (λ l. l < d.arena.next) ls (λ l t. ending.during.law.below l (let le = count_of-pruned (is_hidden before d.command.start) d.arena.trees l in omega (arith, le, t))) h
 
   -- an entry that the command began
-  pub made_snapshot : (b : EntrySnapshot) (detached : List NodeRef) → detached ≡ loose_roots d.arena.trees d.command.detached.items → b.sides ≡ made_sides d.command p d.counts →
+  pub made_snapshot : (b : EntrySnapshot) (detached : List NodeRef) → detached ≡ loose_roots d.arena.trees d.command.detached.items → b.sides ≡ made_sides d.command ending.places d.counts →
       IsSnapshot d.points.names before d.arena.trees steps (inverses_back applied inverse (changes_of steps) d.arena.trees) b detached d.arena.next d.arena.next
   made_snapshot b detached none same =
       let f = d.arena.trees in
-      let r = run d during in
+      let r = run d ending.during in
       let k = is_hidden before d.command.start in
       let ts = inverses_back applied inverse (changes_of steps) f in
-      let gd : GoBackDown k (changes_of steps) f = back_down k (changes_of steps) f (prunes_after before f d.command.start (forest_of d.arena during.law) during.ok.hidden) r.can.0 r.names_there in
-      let b1 : EntrySnapshot = record b { sides = made_sides d.command p d.counts } in
+      let gd : GoBackDown k (changes_of steps) f = back_down k (changes_of steps) f (prunes_after before f d.command.start (forest_of d.arena ending.during.law) ending.during.ok.hidden) r.can.0 r.names_there in
+      let b1 : EntrySnapshot = record b { sides = made_sides d.command ending.places d.counts } in
       let roots = loose_roots f d.command.detached.items in
       let own : IsSnapshot d.points.names before f steps ts b1 roots d.arena.next d.arena.next = record {
         was = r.kept;
         is = record {
-          over = resting.over;
-          placed = placed_now d during p resting;
-          resting = resting.resting;
-          nodes_are = during.ok.nodes;
-          chars_are = during.ok.chars;
-          no_deeper = during.ok.depth;
+          over = ending.resting.over;
+          placed = placed_now d ending;
+          resting = ending.resting.resting;
+          nodes_are = ending.during.ok.nodes;
+          chars_are = ending.during.ok.chars;
+          no_deeper = ending.during.ok.depth;
         };
-        some_label = during.ok.some_label;
+        some_label = ending.during.ok.some_label;
         fresh = record {
-          loose = λ l from there. r.made.loose l from (below_g d during l there) there;
-          leaf = λ l from there. r.made.leaf l from (below_g d during l there) there;
+          loose = λ l from there. r.made.loose l from (below_g d ending.during l there) there;
+          leaf = λ l from there. r.made.leaf l from (below_g d ending.during l there) there;
         };
-        drawn = during.ok.valid.started;
+        drawn = ending.during.ok.valid.started;
         known = omega arith;
-        hidden = during.ok.hidden;
+        hidden = ending.during.ok.hidden;
         names_seen = each_of (IsLeft k f) (IsLeft k before) (named_in (changes_of steps)) (λ l t. (let s = gd.stays l in omega arith)) r.names_there;
         names_there = r.names_there;
         names_old = below_next (named_in (changes_of steps)) r.names_there;
         turns_old = below_next (named_in ts) gd.names;
-        detached_loose = filtered_loose f d.arena.next during.law.distinct during.law.below d.command.detached.items;
+        detached_loose = filtered_loose f d.arena.next ending.during.law.distinct ending.during.law.below d.command.detached.items;
         detached_all = λ l inner top out. elim (true_or_false (k l)) [
-          | inl t ↦ absurd (out (each_off k f l during.law.distinct top t (named_in (changes_of steps)) r.names_there) (each_off k f l during.law.distinct top t (named_in ts) gd.names))
+          | inl t ↦ absurd (out (each_off k f l ending.during.law.distinct top t (named_in (changes_of steps)) r.names_there) (each_off k f l ending.during.law.distinct top t (named_in ts) gd.names))
           | inr t ↦ (let seen = r.newly_detached l inner (subst (λ n. 0 < n) (sym (tops_stay k f l t)) top) in listed_loose f d.command.detached.items l (loose_is f l inner top) (listed_after d.command.detached_before d.command.detached.items l seen))
         ];
       } in

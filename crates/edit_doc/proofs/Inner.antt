@@ -1,14 +1,18 @@
 -- The fields of a document under edits, and whether a command is open.
-use Rattle.std.proofs.Common.{◌≡◌, None, refl, sym, ap, subst, ◌∙◌}
+use Rattle.std.proofs.Common.{◌≡◌, ◌<◌, List, length, Option, None, refl, sym, ap, subst, ◌∙◌}
 use Rattle.std.specs.Prelude.{IsTrue, IsSome}
 use Rattle.dom_model.specs.ArenaState.{IsValid as IsArena}
-use Rattle.undo_log.specs.Log.{Open, is_open}
+use Rattle.undo_log.specs.Log.{Open, noted, is_open}
 use Rattle.undo_log.specs.Log.Open.{Closed, Begun, Resumed}
 use Rattle.edit_steps.specs.declared.step.Step.{Step}
 use Rattle.edit_model.specs.State.{State}
 use Rattle.edit_doc.specs.declared.Doc.TheInside.{Inside}
 use Rattle.edit_doc.specs.Whole.{Whole, IsOpen, IsClosed}
 use Rattle.edit_doc.specs.History.{whole_of, began_with}
+use Rattle.live_range.specs.declared.places.Places.{Places}
+use Rattle.edit_doc.specs.declared.command.EntrySnapshot.{EntrySnapshot}
+use Rattle.edit_doc.specs.Fields.{AreResting, Enters}
+use Rattle.edit_doc.specs.GivingUp.{loose_roots}
 use Rattle.edit_doc.specs.Sound.{IsSoundDoc}
 
 abbrev pub seen : Inside → Whole
@@ -40,5 +44,22 @@ pub record Opened (d : Inside) : Type 0 where
   pub ok : Ok d
   pub opened : IsTrue (is_open d.history.log.open_entry)
 
-pub opened_of : (d : Inside) (v : Whole) → seen d ≡ v → IsArena d.arena → Ok d → IsOpen v → Opened d
+abbrev pub opened_of : (d : Inside) (v : Whole) → seen d ≡ v → IsArena d.arena → Ok d → IsOpen v → Opened d
 opened_of d v is law ok h = record { law = law; ok = ok; opened = open_of d v is h }
+
+-- as it ends, with the places where the points rest
+pub record Ending (d : Inside) : Type 0 where
+  pub during : Opened d
+  pub places : Places
+  pub resting : AreResting d.points places
+
+abbrev pub ending_of : (d : Inside) (v : Whole) → seen d ≡ v → IsArena d.arena → Ok d → IsOpen v → (p : Places) → AreResting d.points p → Ending d
+ending_of d v is law ok h p resting = record { during = opened_of d v is law ok h; places = p; resting = resting }
+
+-- with an edit: the snapshots beside the entries that undo would take then, and the one that goes out
+pub record Entering (d : Inside) : Type 0 where
+  pub ending : Ending d
+  pub some : 0 < length (noted d.history.log.open_entry)
+  pub past : List EntrySnapshot
+  pub out : Option EntrySnapshot
+  pub entered : Enters d.command (loose_roots d.arena.trees d.command.detached.items) ending.places d.counts d.history.log.depth d.history.past past out

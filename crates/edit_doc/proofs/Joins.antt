@@ -4,12 +4,10 @@ use Rattle.std.specs.Prelude.{IsTrue}
 use Rattle.std.proofs.lemmas.List.{map-append}
 use Rattle.dom_model.specs.declared.Content.{Content}
 use Rattle.dom_model.specs.Forest.{Forest, tops, times}
-use Rattle.dom_model.specs.ArenaState.{IsValid as IsArena}
 use Rattle.dom_model.proofs.Pruning.{count_of-pruned}
-use Rattle.live_range.specs.declared.places.Places.{Places}
 use Rattle.live_range.specs.Names.{shown}
 use Rattle.undo_log.specs.Turning.{back, inverses_back, FitsBack, TurnsBack}
-use Rattle.undo_log.specs.Log.{Log, IsLog, Open, noted, is_open, is_resumed, joined, committed, committed_with}
+use Rattle.undo_log.specs.Log.{Log, IsLog, Open, noted, is_resumed, joined, committed, committed_with}
 use Rattle.undo_log.specs.Log.Open.{Closed, Begun, Resumed}
 use Rattle.undo_log.proofs.Turns.{back-join, FitsBack-join}
 use Rattle.forest_changes.specs.Change.{Change, Fits, applied, inverse}
@@ -26,7 +24,7 @@ use Rattle.edit_doc.specs.declared.Doc.TheInside.{Inside}
 use Rattle.edit_doc.specs.declared.command.EntrySnapshot.{EntrySnapshot}
 use Rattle.edit_doc.specs.declared.command.Sides.{Sides}
 use Rattle.edit_doc.specs.declared.command.Command.{Command}
-use Rattle.edit_doc.specs.Fields.{IsEnded, AreResting, EntersIn, Enters, made_sides, joined_sides}
+use Rattle.edit_doc.specs.Fields.{IsEnded, EntersIn, Enters, made_sides, joined_sides}
 use Rattle.edit_doc.specs.GivingUp.{loose_roots}
 use Rattle.edit_doc.specs.Whole.{Whole, history_committed, committed_history}
 use Rattle.edit_doc.specs.History.{forest_before, edits_before, roots_from, is_hidden, begun_forest, state_of, began_with, history_of, undo_entries, redo_entries, view_at}
@@ -36,7 +34,7 @@ use Rattle.edit_doc.proofs.GivingUp.{filtered_loose, loose_is, listed_loose, lis
 use Rattle.edit_doc.proofs.Off.{Passes, passes_back, off_moved, each_here, each_off}
 use Rattle.live_range.specs.PointsEdit.{has_label}
 use Rattle.edit_model.specs.Gives.{labels_of}
-use Rattle.edit_doc.proofs.Inner.{seen, Ok, Opened}
+use Rattle.edit_doc.proofs.Inner.{seen, Ending, Entering}
 use Rattle.edit_doc.proofs.HiddenTrees.{hidden_is, is_hidden_from, pruned_more, tops_stay}
 use Rattle.edit_doc.proofs.Laid.{undo_later}
 use Rattle.dom_model.proofs.Stands.{true_or_false}
@@ -87,12 +85,12 @@ joined_recorded s0 Closed w r some = absurd (cc)
 joined_recorded s0 (Begun ys) w r some = absurd (cc)
 joined_recorded s0 (Resumed ys) w r some = rw (some_edits (length w.state.edits) some) refl
 
-module _ (d : Inside) (during : Opened d) (p : Places) (resting : AreResting d.points p) (c : Command) (ended : IsEnded d.arena.next c) where
+module _ (d : Inside) (ending : Ending d) (c : Command) (ended : IsEnded d.arena.next c) where
   abbrev steps : List Step
-  steps = xs d during
+  steps = xs d ending.during
 
   abbrev begun : Forest Content
-  begun = g d during
+  begun = g d ending.during
 
   abbrev now : Forest Content
   now = d.arena.trees
@@ -103,7 +101,7 @@ module _ (d : Inside) (during : Opened d) (p : Places) (resting : AreResting d.p
   -- the entry that the command resumed, with its steps
   module _ (e : List Step) (b b' : EntrySnapshot) (detached : List NodeRef) (up : ℕ) (le : up ≤ d.command.start) (can : CanGoBack d.arena.held e begun)
       (was : IsSnapshot d.points.names (forest_before e begun) begun e (inverses_back applied inverse (changes_of e) begun) b detached up d.command.start)
-      (same : b'.sides ≡ joined_sides b.sides p d.counts) (detached_is : b'.detached.items ≡ detached_now) (taken : detached ≡ take d.command.detached_before d.command.detached.items) where
+      (same : b'.sides ≡ joined_sides b.sides ending.places d.counts) (detached_is : b'.detached.items ≡ detached_now) (taken : detached ≡ take d.command.detached_before d.command.detached.items) where
     abbrev both : List Step
     both = e ++ steps
 
@@ -111,7 +109,7 @@ module _ (d : Inside) (during : Opened d) (p : Places) (resting : AreResting d.p
     first = forest_before e begun
 
     pub can_both : CanGoBack d.arena.held both now
-    can_both = can_join d.arena.held e steps now (run d during).can can
+    can_both = can_join d.arena.held e steps now (run d ending.during).can can
 
     abbrev k : ℕ → Bool
     k = is_hidden first b.sides.first_label
@@ -129,59 +127,59 @@ module _ (d : Inside) (during : Opened d) (p : Places) (resting : AreResting d.p
         is_hidden_from begun d.command.start l (record { inner = h.inner; old = (let o = h.old in let low = first_low in omega (arith, o, low)); root = was.hidden l t })
 
     roots : (l : ℕ) → k l ≡ true → 0 < times (tops now) l
-    roots l t = during.ok.hidden l (hidden_more l t)
+    roots l t = ending.during.ok.hidden l (hidden_more l t)
 
     last_there : Each (IsLeft k now) (named_in (changes_of steps))
-    last_there = each_of (IsLeft (is_hidden begun d.command.start) now) (IsLeft k now) (named_in (changes_of steps)) (λ l t. (let m = pruned_more (is_hidden begun d.command.start) k now l hidden_more in omega (arith, m, t))) (run d during).names_there
+    last_there = each_of (IsLeft (is_hidden begun d.command.start) now) (IsLeft k now) (named_in (changes_of steps)) (λ l t. (let m = pruned_more (is_hidden begun d.command.start) k now l hidden_more in omega (arith, m, t))) (run d ending.during).names_there
 
     last_down : GoBackDown k (changes_of steps) now
-    last_down = back_down k (changes_of steps) now (prunes_after first now b.sides.first_label (forest_of d.arena during.law) roots) (run d during).can.0 last_there
+    last_down = back_down k (changes_of steps) now (prunes_after first now b.sides.first_label (forest_of d.arena ending.during.law) roots) (run d ending.during).can.0 last_there
 
     there : Each (IsLeft k now) (named_in (changes_of both))
     there = each_named (IsLeft k now) e steps (each_of (IsLeft k begun) (IsLeft k now) (named_in (changes_of e)) (λ l t. (let s = last_down.stays l in omega (arith, s, t))) was.names_there) last_there
 
     down : GoBackDown k (changes_of both) now
-    down = back_down k (changes_of both) now (prunes_after first now b.sides.first_label (forest_of d.arena during.law) roots) can_both.0 there
+    down = back_down k (changes_of both) now (prunes_after first now b.sides.first_label (forest_of d.arena ending.during.law) roots) can_both.0 there
 
     below : (ls : List ℕ) → Each (IsLeft k now) ls → Each (λ l. l < d.arena.next) ls
-    below ls h = each_of (IsLeft k now) (λ l. l < d.arena.next) ls (λ l t. during.law.below l (let m = count_of-pruned k now l in omega (arith, m, t))) h
+    below ls h = each_of (IsLeft k now) (λ l. l < d.arena.next) ls (λ l t. ending.during.law.below l (let m = count_of-pruned k now l in omega (arith, m, t))) h
 
     abbrev turns : List Change
     turns = inverses_back applied inverse (changes_of both) now
 
-    own : IsSnapshot d.points.names first now both turns (record b { sides = joined_sides b.sides p d.counts }) detached_now d.arena.next d.arena.next
+    own : IsSnapshot d.points.names first now both turns (record b { sides = joined_sides b.sides ending.places d.counts }) detached_now d.arena.next d.arena.next
     own = record {
       was = was.was;
       is = record {
-        over = resting.over;
-        placed = placed_now d during p resting;
-        resting = resting.resting;
-        nodes_are = during.ok.nodes;
-        chars_are = during.ok.chars;
-        no_deeper = during.ok.depth;
+        over = ending.resting.over;
+        placed = placed_now d ending;
+        resting = ending.resting.resting;
+        nodes_are = ending.during.ok.nodes;
+        chars_are = ending.during.ok.chars;
+        no_deeper = ending.during.ok.depth;
       };
       some_label = was.some_label;
       fresh = was.fresh;
-      drawn = (let t = during.ok.valid.started in let low = first_low in omega (arith, t, low));
+      drawn = (let t = ending.during.ok.valid.started in let low = first_low in omega (arith, t, low));
       known = omega arith;
       hidden = roots;
       names_seen = each_of (IsLeft k now) (IsLeft k first) (named_in (changes_of both)) (λ l t. subst (λ h. IsLeft k h l) (before_join e steps now) (let s = down.stays l in omega (arith, s, t))) there;
       names_there = there;
       names_old = below (named_in (changes_of both)) there;
       turns_old = below (named_in turns) down.names;
-      detached_loose = filtered_loose now d.arena.next during.law.distinct during.law.below d.command.detached.items;
+      detached_loose = filtered_loose now d.arena.next ending.during.law.distinct ending.during.law.below d.command.detached.items;
       detached_all = λ l inner top out. listed_loose now d.command.detached.items l (loose_is now l inner top) (elim (true_or_false (hid l)) [
         | inl t ↦ (
-            let last_off : Each (IsOff now l) (named_in (changes_of steps)) = each_off hid now l during.law.distinct top t (named_in (changes_of steps)) (run d during).names_there in
+            let last_off : Each (IsOff now l) (named_in (changes_of steps)) = each_off hid now l ending.during.law.distinct top t (named_in (changes_of steps)) (run d ending.during).names_there in
             let ps : Passes l now begun (inverses_back applied inverse (changes_of steps) now) =
-            passes_back l (changes_of steps) now (forest_of d.arena during.law) inner top (run d during).can.0 (each_here hid now (named_in (changes_of steps)) (run d during).names_there) last_off in
+            passes_back l (changes_of steps) now (forest_of d.arena ending.during.law) inner top (run d ending.during).can.0 (each_here hid now (named_in (changes_of steps)) (run d ending.during).names_there) last_off in
             let listed = was.detached_all l inner ps.top (λ a x. (
             let first_off = off_moved l begun now (λ m. sym (ps.same m)) (named_in (changes_of e)) a in
             let both_off = each_named (IsOff now l) e steps first_off last_off in
-            let pb : Passes l now (forest_before both now) turns = passes_back l (changes_of both) now (forest_of d.arena during.law) inner top can_both.0 (each_here k now (named_in (changes_of both)) there) both_off in
+            let pb : Passes l now (forest_before both now) turns = passes_back l (changes_of both) now (forest_of d.arena ending.during.law) inner top can_both.0 (each_here k now (named_in (changes_of both)) there) both_off in
             out both_off pb.turns)) in
             listed_before d.command.detached_before d.command.detached.items l (subst (λ ls. has_label (labels_of ls) l ≡ true) taken listed))
-        | inr t ↦ listed_after d.command.detached_before d.command.detached.items l ((run d during).newly_detached l inner (subst (λ n. 0 < n) (sym (tops_stay hid now l t)) top))
+        | inr t ↦ listed_after d.command.detached_before d.command.detached.items l ((run d ending.during).newly_detached l inner (subst (λ n. 0 < n) (sym (tops_stay hid now l t)) top))
       ]);
     }
 
@@ -190,12 +188,12 @@ module _ (d : Inside) (during : Opened d) (p : Places) (resting : AreResting d.p
         subst (λ n. IsSnapshot d.points.names (forest_before both now) now both turns b' b'.detached.items d.arena.next n) (sym ended.start)
         (subst (λ h. IsSnapshot d.points.names h now both turns b' b'.detached.items d.arena.next d.arena.next) (sym (before_join e steps now))
         (subst (λ ls. IsSnapshot d.points.names first now both turns b' ls d.arena.next d.arena.next) (sym detached_is)
-        (snapshot_of d.points.names first now both turns (record b { sides = joined_sides b.sides p d.counts }) b' detached_now d.arena.next d.arena.next (sym same) own)))
+        (snapshot_of d.points.names first now both turns (record b { sides = joined_sides b.sides ending.places d.counts }) b' detached_now d.arena.next d.arena.next (sym same) own)))
 
   start_le : d.command.start ≤ c.start
-  start_le = (let s = ended.start in let t = during.ok.valid.started in omega (arith, s, t))
+  start_le = (let s = ended.start in let t = ending.during.ok.valid.started in omega (arith, s, t))
 
-  joined_undo : (up room : ℕ) (s : Sides) (es : List (List Step)) (bs new : List EntrySnapshot) (out : Option EntrySnapshot) → up ≤ d.command.start → EntersIn true s detached_now p d.counts room bs new out →
+  joined_undo : (up room : ℕ) (s : Sides) (es : List (List Step)) (bs new : List EntrySnapshot) (out : Option EntrySnapshot) → up ≤ d.command.start → EntersIn true s detached_now ending.places d.counts room bs new out →
       UndoSound d.arena.held d.points.names true d.command up begun es bs → UndoSound d.arena.held d.points.names false c d.arena.next now (joined es steps) new
   joined_undo up room s es [] new out le enters h = absurd enters
   joined_undo up room s es (b ∷ bs) [] out le enters h = absurd enters
@@ -243,9 +241,9 @@ module _ (d : Inside) (during : Opened d) (p : Places) (resting : AreResting d.p
     -- what the last command names, it saw
     seen_last : (l : ℕ) → has_label (named_in ys) l ≡ true → is_hidden begun d.command.start l ≡ false
     seen_last l t =
-        let r = run d during in
+        let r = run d ending.during in
         let k = is_hidden begun d.command.start in
-        let prunes = prunes_after begun now d.command.start (forest_of d.arena during.law) during.ok.hidden in
+        let prunes = prunes_after begun now d.command.start (forest_of d.arena ending.during.law) ending.during.ok.hidden in
         let gd : GoBackDown k (changes_of steps) now = back_down k (changes_of steps) now prunes r.can.0 r.names_there in
         prunes.out l (listed_has (IsLeft k now) (named_in ys) l gd.names t)
 
@@ -262,12 +260,12 @@ module _ (d : Inside) (during : Opened d) (p : Places) (resting : AreResting d.p
     joined_nodes =
         let first : b.sides.first_label ≤ d.command.start = (let t = was.drawn in omega (arith, t, le)) in
         (λ i. used (edits-join e steps now i) (roots_from b.sides.first_label (before_join e steps now i)))
-        ∙ (used-join ts ys b.sides.first_label d.command.start first old_edits 0 G (back_forest (changes_of e) begun can.0 (forest_g d during)).rising named_before
+        ∙ (used-join ts ys b.sides.first_label d.command.start first old_edits 0 G (back_forest (changes_of e) begun can.0 (forest_g d ending.during)).rising named_before
         ∙ ap (λ r. used ts (roots_from b.sides.first_label G) ++ used ys r) (roots-back d.command.start (changes_of e) begun old_steps))
 
-  joined_entries : (up room : ℕ) (s : Sides) (es : List (List Step)) (bs new : List EntrySnapshot) (out : Option EntrySnapshot) → up ≤ d.command.start → EntersIn true s detached_now p d.counts room bs new out →
+  joined_entries : (up room : ℕ) (s : Sides) (es : List (List Step)) (bs new : List EntrySnapshot) (out : Option EntrySnapshot) → up ≤ d.command.start → EntersIn true s detached_now ending.places d.counts room bs new out →
       UndoSound d.arena.held d.points.names true d.command up begun es bs →
-      undo_entries d.points.names now (joined es steps) new ≡ joined_in (state_now d during p resting) (undo_entries d.points.names begun es bs)
+      undo_entries d.points.names now (joined es steps) new ≡ joined_in (state_now d ending) (undo_entries d.points.names begun es bs)
   joined_entries up room s es [] new out le enters h = absurd enters
   joined_entries up room s es (b ∷ bs) [] out le enters h = absurd enters
   joined_entries up room s [] (b ∷ bs) (b' ∷ bs') out le enters h = refl
@@ -275,7 +273,7 @@ module _ (d : Inside) (during : Opened d) (p : Places) (resting : AreResting d.p
       let first_is : b'.sides.first_label ≡ b.sides.first_label = ap (λ (t : Sides). t.first_label) enters.1.0 in
       let nodes = ap (λ n. used (edits_before (e ++ steps) now) (roots_from n (forest_before (e ++ steps) now))) first_is ∙ joined_nodes e b (take d.command.detached_before d.command.detached.items) up le h.0 h.1.0 in
       let join = before_join e steps now in
-      let after = ap (λ (t : Sides). view_at d.points.names now t.after) enters.1.0 ∙ view_now d during p resting in
+      let after = ap (λ (t : Sides). view_at d.points.names now t.after) enters.1.0 ∙ view_now d ending in
       λ i. record {
         before = view_at d.points.names (join i) (enters.1.0 i).before;
         after = after i;
@@ -283,28 +281,28 @@ module _ (d : Inside) (during : Opened d) (p : Places) (resting : AreResting d.p
         made = nodes i;
       } ∷ undo_entries d.points.names (join i) es (enters.0 i)
 
-  module _ (resumed : is_resumed d.history.log.open_entry ≡ true) (us : List EntrySnapshot) (out : Option EntrySnapshot) (enters : Enters d.command (loose_roots d.arena.trees d.command.detached.items) p d.counts d.history.log.depth d.history.past us out) where
-    pub entering : EntersIn true (made_sides d.command p d.counts) detached_now p d.counts d.history.log.depth d.history.past us out
-    entering = subst (λ r. EntersIn r (made_sides d.command p d.counts) detached_now p d.counts d.history.log.depth d.history.past us out) (during.ok.resumed ∙ resumed) enters
+  module _ (resumed : is_resumed d.history.log.open_entry ≡ true) (us : List EntrySnapshot) (out : Option EntrySnapshot) (enters : Enters d.command (loose_roots d.arena.trees d.command.detached.items) ending.places d.counts d.history.log.depth d.history.past us out) where
+    pub entering : EntersIn true (made_sides d.command ending.places d.counts) detached_now ending.places d.counts d.history.log.depth d.history.past us out
+    entering = subst (λ r. EntersIn r (made_sides d.command ending.places d.counts) detached_now ending.places d.counts d.history.log.depth d.history.past us out) (ending.during.ok.resumed ∙ resumed) enters
 
     pub joined_sound : UndoSound d.arena.held d.points.names false c d.arena.next now (joined d.history.log.undo steps) us
     joined_sound =
-        let up = high d during p resting in
-        joined_undo up d.history.log.depth (made_sides d.command p d.counts) d.history.log.undo d.history.past us out (high_le d during p resting) entering
-        (subst (λ r. UndoSound d.arena.held d.points.names r d.command up begun d.history.log.undo d.history.past) (during.ok.resumed ∙ resumed) during.ok.undo)
+        let up = high d ending in
+        joined_undo up d.history.log.depth (made_sides d.command ending.places d.counts) d.history.log.undo d.history.past us out (high_le d ending) entering
+        (subst (λ r. UndoSound d.arena.held d.points.names r d.command up begun d.history.log.undo d.history.past) (ending.during.ok.resumed ∙ resumed) ending.during.ok.undo)
 
     pub joined_history_is : d.history.log.redo ≡ [] → 0 < length steps → (v : Whole) → seen d ≡ v →
         history_of d.points.names now (trail_of (record d.history.log { undo = joined d.history.log.undo steps; open_entry = Closed }) us []) ≡ history_committed v
     unfolding history_committed
     joined_history_is nothing some v sees =
         (λ i. record {
-          undo = joined_entries (high d during p resting) d.history.log.depth (made_sides d.command p d.counts) d.history.log.undo d.history.past us out (high_le d during p resting) entering
-              (subst (λ r. UndoSound d.arena.held d.points.names r d.command (high d during p resting) begun d.history.log.undo d.history.past) (during.ok.resumed ∙ resumed) during.ok.undo) i;
+          undo = joined_entries (high d ending) d.history.log.depth (made_sides d.command ending.places d.counts) d.history.log.undo d.history.past us out (high_le d ending) entering
+              (subst (λ r. UndoSound d.arena.held d.points.names r d.command (high d ending) begun d.history.log.undo d.history.past) (ending.during.ok.resumed ∙ resumed) ending.during.ok.undo) i;
           redo = (ap (λ es. redo_entries d.points.names now es []) nothing ∙ sym (ap (λ es. redo_entries d.points.names begun es d.history.future) nothing)) i;
           depth = d.history.log.depth;
           dropped = d.history.log.dropped;
         })
-        ∙ (sym (joined_recorded (state_before d during p resting) d.history.log.open_entry (seen d) resumed (subst (λ n. 0 < n) (sym (count_edits steps d.arena.trees)) some)) ∙ ap history_committed sees)
+        ∙ (sym (joined_recorded (state_before d ending) d.history.log.open_entry (seen d) resumed (subst (λ n. 0 < n) (sym (count_edits steps d.arena.trees)) some)) ∙ ap history_committed sees)
 
 -- ---- either way
 
@@ -312,13 +310,13 @@ pub true_is : (b : Bool) → b ≡ true → IsTrue b
 true_is true e = refl
 true_is false e = absurd (cc)
 
-module _ (d : Inside) (during : Opened d) (p : Places) (resting : AreResting d.points p) (logged : IsLog d.history.log) (some : 0 < length (noted d.history.log.open_entry)) (c : Command) (ended : IsEnded d.arena.next c) (us : List EntrySnapshot) (out : Option EntrySnapshot) (enters : Enters d.command (loose_roots d.arena.trees d.command.detached.items) p d.counts d.history.log.depth d.history.past us out) where
+module _ (d : Inside) (enters : Entering d) (logged : IsLog d.history.log) (c : Command) (ended : IsEnded d.arena.next c) where
   record Recorded (log : Log Step) : Type 0 where
     closed : log.open_entry ≡ Closed
     redo : log.redo ≡ []
     depth : log.depth ≡ d.history.log.depth
-    undo : UndoSound d.arena.held d.points.names false c d.arena.next d.arena.trees log.undo us
-    history : (v : Whole) → seen d ≡ v → history_of d.points.names d.arena.trees (trail_of log us []) ≡ history_committed v
+    undo : UndoSound d.arena.held d.points.names false c d.arena.next d.arena.trees log.undo enters.past
+    history : (v : Whole) → seen d ≡ v → history_of d.points.names d.arena.trees (trail_of log enters.past []) ≡ history_committed v
 
   recorded_is : Recorded (committed d.history.log)
   recorded_is = elim (true_or_false (is_resumed d.history.log.open_entry)) [
@@ -327,15 +325,15 @@ module _ (d : Inside) (during : Opened d) (p : Places) (resting : AreResting d.p
           closed = refl;
           redo = nothing;
           depth = refl;
-          undo = joined_sound d during p resting c ended r us out enters;
-          history = λ v sees. joined_history_is d during p resting c ended r us out enters nothing some v sees;
+          undo = joined_sound d enters.ending c ended r enters.past enters.out enters.entered;
+          history = λ v sees. joined_history_is d enters.ending c ended r enters.past enters.out enters.entered nothing enters.some v sees;
         }))
-    | inr r ↦ subst Recorded (sym (committed_made d.history.log d.history.log.open_entry during.opened r some)) (record {
+    | inr r ↦ subst Recorded (sym (committed_made d.history.log d.history.log.open_entry enters.ending.during.opened r enters.some)) (record {
       closed = refl;
       redo = refl;
       depth = refl;
-      undo = begun_sound d during p resting r c ended.start us out enters;
-      history = λ v sees. begun_history d during p resting r c ended.start us out enters some v sees;
+      undo = begun_sound d enters.ending r c ended.start enters.past enters.out enters.entered;
+      history = λ v sees. begun_history d enters.ending r c ended.start enters.past enters.out enters.entered enters.some v sees;
     })
   ]
 
@@ -346,11 +344,11 @@ module _ (d : Inside) (during : Opened d) (p : Places) (resting : AreResting d.p
     pub entry_redo : log.redo ≡ []
     entry_redo = here.redo
 
-    pub entry_rests : AtRest d.arena (shown d.points.names p) d.overrides.items d.flags d.counts c (trail_of log us [])
-    entry_rests = ends d during p resting log here.closed here.redo here.depth us c ended here.undo
+    pub entry_rests : AtRest d.arena (shown d.points.names enters.ending.places) d.overrides.items d.flags d.counts c (trail_of log enters.past [])
+    entry_rests = ends d enters.ending log here.closed here.redo here.depth enters.past c ended here.undo
 
-    pub entry_state : (v : Whole) → seen d ≡ v → state_of d.arena (shown d.points.names p) d.overrides.items d.flags c log ≡ rested v.state
-    entry_state v sees = recorded_state d during p resting log here.closed here.redo here.depth us c ended here.undo v sees
+    pub entry_state : (v : Whole) → seen d ≡ v → state_of d.arena (shown d.points.names enters.ending.places) d.overrides.items d.flags c log ≡ rested v.state
+    entry_state v sees = recorded_state d enters.ending log here.closed here.redo here.depth enters.past c ended here.undo v sees
 
-    pub entry_history : (v : Whole) → seen d ≡ v → history_of d.points.names (begun_forest log d.arena.trees) (trail_of log us []) ≡ history_committed v
-    entry_history v sees = ap (λ f. history_of d.points.names f (trail_of log us [])) (none_noted log d.arena.trees (ap noted here.closed)) ∙ here.history v sees
+    pub entry_history : (v : Whole) → seen d ≡ v → history_of d.points.names (begun_forest log d.arena.trees) (trail_of log enters.past []) ≡ history_committed v
+    entry_history v sees = ap (λ f. history_of d.points.names f (trail_of log enters.past [])) (none_noted log d.arena.trees (ap noted here.closed)) ∙ here.history v sees

@@ -1,15 +1,14 @@
 -- After a commit each loose tree has a node that a kept entry names.
 use Rattle.std.proofs.Common.{◌≡◌, ℕ, zero, suc, ◌+◌, ◌<◌, ◌≤◌, Bool, true, false, true≢false, List, [], ◌∷◌, ◌++◌, length, take, Option, refl, sym, ap, subst, ◌∙◌, inl, inr, arith}
-use Rattle.std.specs.Prelude.{IsTrue, nat_le, slice_get}
+use Rattle.std.specs.Prelude.{nat_le, slice_get}
 use Rattle.dom_model.specs.declared.Content.{Content}
 use Rattle.dom_model.specs.Forest.{Forest, tops, times, count_of, tree_of}
 use Rattle.dom_model.specs.Pruned.{pruned}
-use Rattle.dom_model.specs.ArenaState.{ArenaState as Arena, IsValid as IsArena}
+use Rattle.dom_model.specs.ArenaState.{ArenaState as Arena}
 use Rattle.dom_model.proofs.Stands.{true_or_false}
-use Rattle.live_range.specs.declared.places.Places.{Places}
 use Rattle.live_range.specs.PointsEdit.{has_label}
 use Rattle.undo_log.specs.Turning.{inverses_back, inverses_forth}
-use Rattle.undo_log.specs.Log.{Log, IsLog, noted, is_open, is_resumed, joined, committed}
+use Rattle.undo_log.specs.Log.{Log, IsLog, is_resumed, joined, committed}
 use Rattle.forest_changes.specs.Change.{IsForest, applied, inverse}
 use Rattle.forest_changes.specs.Named.{Each, named, named_in}
 use Rattle.forest_changes.proofs.ChangeLists.{each_first, each_rest, each_join}
@@ -19,15 +18,14 @@ use Rattle.edit_steps.specs.Step.{change_of, changes_of}
 use Rattle.edit_doc.specs.declared.Doc.TheInside.{Inside}
 use Rattle.edit_doc.specs.declared.command.EntrySnapshot.{EntrySnapshot}
 use Rattle.edit_doc.specs.declared.command.Command.{Command}
-use Rattle.edit_doc.specs.Fields.{AreResting, Enters}
-use Rattle.edit_doc.specs.GivingUp.{GivesUp, loose_roots, has_detached}
+use Rattle.edit_doc.specs.GivingUp.{GivesUp, has_detached}
 use Rattle.edit_doc.specs.History.{forest_before, forest_after, is_hidden}
 use Rattle.edit_doc.specs.Marks.{has_named}
 use Rattle.edit_doc.specs.Sound.{IsOff, EntriesOff, AreNeeded, UndoSound, RedoSound, next_first}
 use Rattle.edit_doc.proofs.Downs.{back_forest, forth_forest}
 use Rattle.edit_doc.proofs.GivingUp.{unnamed_in}
 use Rattle.edit_doc.proofs.HiddenTrees.{is_hidden_from, tops_detached, true_le, false_le}
-use Rattle.edit_doc.proofs.Inner.{Ok, Opened}
+use Rattle.edit_doc.proofs.Inner.{Entering}
 use Rattle.edit_doc.proofs.Joins.{committed_joined, true_is}
 use Rattle.edit_doc.proofs.Laid.{next_first_low}
 use Rattle.edit_doc.proofs.NewlyDetached.{listed_has, or_false}
@@ -84,47 +82,47 @@ module _ (held : List (Option ℕ)) (names : List (List ℕ)) (c : Command) wher
       let drawn = s.1.0.drawn in
       (own, entries_moved l h f (λ m. sym (ps.same m)) es (redo_off h es bs (forth_forest ch f s.0.0 is) s.1.1 l inner (omega (arith, old, drawn)) ps.top))
 
-module _ (d : Inside) (during : Opened d) (p : Places) (resting : AreResting d.points p) (logged : IsLog d.history.log) (some : 0 < length (noted d.history.log.open_entry)) (us : List EntrySnapshot) (out : Option EntrySnapshot) (enters : Enters d.command (loose_roots d.arena.trees d.command.detached.items) p d.counts d.history.log.depth d.history.past us out) where
+module _ (d : Inside) (enters : Entering d) (logged : IsLog d.history.log) where
   abbrev f : Forest Content
   f = d.arena.trees
 
   abbrev begun : Forest Content
-  begun = g d during
+  begun = g d enters.ending.during
 
   abbrev steps : List Step
-  steps = xs d during
+  steps = xs d enters.ending.during
 
   abbrev k : ℕ → Bool
-  k = unkept d during p resting some us out enters
+  k = unkept d enters
 
-  none_named : (l : ℕ) → 0 < l → 0 < times (tops f) l → unnamed d during l ≡ false → Each (IsOff f l) (named_in (changes_of steps)) → EntriesOff l f d.history.log.undo → ⊥
+  none_named : (l : ℕ) → 0 < l → 0 < times (tops f) l → unnamed d enters.ending.during l ≡ false → Each (IsOff f l) (named_in (changes_of steps)) → EntriesOff l f d.history.log.undo → ⊥
   none_named l inner top named off off_undo =
-      let r = run d during in
+      let r = run d enters.ending.during in
       let ch = changes_of steps in
       let turns = inverses_back applied inverse ch f in
-      let ps : Passes l f begun turns = passes_back l ch f (forest_of d.arena during.law) inner top r.can.0 (each_here (is_hidden begun d.command.start) f (named_in ch) r.names_there) off in
+      let ps : Passes l f begun turns = passes_back l ch f (forest_of d.arena enters.ending.during.law) inner top r.can.0 (each_here (is_hidden begun d.command.start) f (named_in ch) r.names_there) off in
       let own = own_tree f l top in
       let unlisted : (ls : List ℕ) → Each (IsOff f l) ls → has_label ls l ≡ true → ⊥ = λ ls e t. (let none = listed_has (IsOff f l) ls l e t in omega (arith, own, none)) in
-      let early : has_named d.command l ≡ false → l < low d during = λ e. elim (true_or_false (nat_le (low d during) l)) [
-        | inl t ↦ absurd (true≢false (sym (unnamed_in (low d during) d.command l (true_le (low d during) l t) e) ∙ named))
-        | inr t ↦ false_le (low d during) l t
+      let early : has_named d.command l ≡ false → l < low d enters.ending.during = λ e. elim (true_or_false (nat_le (low d enters.ending.during) l)) [
+        | inl t ↦ absurd (true≢false (sym (unnamed_in (low d enters.ending.during) d.command l (true_le (low d enters.ending.during) l t) e) ∙ named))
+        | inr t ↦ false_le (low d enters.ending.during) l t
       ] in
       elim (true_or_false (has_named d.command l)) [
         | inl t ↦ elim (r.named_all l t) [ inl x ↦ unlisted (named_in ch) off x | inr x ↦ unlisted (named_in turns) ps.turns x ]
         | inr t ↦ (
             let old = early t in
-            let low_le = next_first_low d.arena.held d.points.names d.command begun d.history.log.redo d.history.future during.ok.redo in
-            during.ok.needed l inner (omega (arith, old, low_le)) ps.top (entries_moved l f begun ps.same d.history.log.undo off_undo)
-            (redo_off d.arena.held d.points.names d.command begun d.history.log.redo d.history.future (forest_g d during) during.ok.redo l inner old ps.top))
+            let low_le = next_first_low d.arena.held d.points.names d.command begun d.history.log.redo d.history.future enters.ending.during.ok.redo in
+            enters.ending.during.ok.needed l inner (omega (arith, old, low_le)) ps.top (entries_moved l f begun ps.same d.history.log.undo off_undo)
+            (redo_off d.arena.held d.points.names d.command begun d.history.log.redo d.history.future (forest_g d enters.ending.during) enters.ending.during.ok.redo l inner old ps.top))
       ]
 
   pub needed_after : (log : Log Step) → log ≡ committed d.history.log → (a : Arena) → GivesUp k d.arena a → (start : ℕ) → AreNeeded start a.trees log.undo log.redo
   needed_after log is a gives start l inner old top off_undo off_redo =
       let top' : 0 < times (tops (pruned k f)) l = subst (λ t. 0 < times (tops t) l) gives.trees top in
       let was = tops_detached k f l top' in
-      let same : (m : ℕ) → count_of (tree_of f l) m ≡ count_of (tree_of a.trees l) m = λ m. sym (ap (λ t. count_of (tree_of t l) m) gives.trees ∙ tree_pruned l k f during.law.distinct top' m) in
+      let same : (m : ℕ) → count_of (tree_of f l) m ≡ count_of (tree_of a.trees l) m = λ m. sym (ap (λ t. count_of (tree_of t l) m) gives.trees ∙ tree_pruned l k f enters.ending.during.law.distinct top' m) in
       let off : EntriesOff l f (committed d.history.log).undo = subst (λ (x : Log Step). EntriesOff l f x.undo) is (entries_moved l a.trees f same log.undo off_undo) in
-      let kept = or_false (unnamed d during l) (has_detached out l) was.1 in
+      let kept = or_false (unnamed d enters.ending.during l) (has_detached enters.out l) was.1 in
       elim (true_or_false (is_resumed d.history.log.open_entry)) [
         | inl r ↦ (
             let off' : EntriesOff l f (joined d.history.log.undo steps) = subst (λ (x : Log Step). EntriesOff l f x.undo) (committed_joined d.history.log d.history.log.open_entry r) off in
@@ -132,13 +130,13 @@ module _ (d : Inside) (during : Opened d) (p : Places) (resting : AreResting d.p
             none_named l inner was.0 kept.0 (joined_last l f d.history.log.undo steps last off') (joined_first l f d.history.log.undo steps off'))
         | inr r ↦ (
             let c : Command = record d.command { start = d.arena.next } in
-            let h = entering d during p resting r c refl us out enters in
+            let h = entering d enters.ending r c refl enters.past enters.out enters.entered in
             let bs : List EntrySnapshot = h.0 ∷ d.history.past in
             let es : List (List Step) = steps ∷ d.history.log.undo in
-            let off' : EntriesOff l f (take d.history.log.depth es) = subst (λ (x : Log Step). EntriesOff l f x.undo) (committed_made d.history.log d.history.log.open_entry during.opened r some) off in
+            let off' : EntriesOff l f (take d.history.log.depth es) = subst (λ (x : Log Step). EntriesOff l f x.undo) (committed_made d.history.log d.history.log.open_entry enters.ending.during.opened r enters.some) off in
             let unlisted : has_detached (slice_get bs d.history.log.depth) l ≡ false = subst (λ o. has_detached o l ≡ false) h.4 kept.1 in
             let within = logged.within in
             let few : length es ≤ d.history.log.depth + 1 = omega (arith, within) in
-            nearly d.arena.held d.points.names c d.history.log.depth d.arena.next f es bs (forest_of d.arena during.law) (with_first d during p resting r c refl us out h.0 h.1 h.2) few l inner was.0 unlisted off'
+            nearly d.arena.held d.points.names c d.history.log.depth d.arena.next f es bs (forest_of d.arena enters.ending.during.law) (with_first d enters.ending r c refl enters.past enters.out h.0 h.1 h.2) few l inner was.0 unlisted off'
             (λ x. none_named l inner was.0 kept.0 x.0 x.1))
       ]

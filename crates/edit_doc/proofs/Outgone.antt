@@ -1,17 +1,16 @@
 -- The trees that the oldest entry left, when it goes out: no kept entry saw them.
-use Rattle.std.proofs.Common.{◌≡◌, ℕ, zero, suc, ◌+◌, ◌<◌, ◌≤◌, Bool, true, false, true≢false, cond, eqb, List, [], ◌∷◌, length, take, Option, None, refl, sym, ap, subst, ◌∙◌, inl, inr, arith}
-use Rattle.std.specs.Prelude.{IsTrue, ◌||◌, slice_get}
+use Rattle.std.proofs.Common.{◌≡◌, ℕ, zero, suc, ◌+◌, ◌<◌, ◌≤◌, Bool, true, false, true≢false, cond, eqb, List, [], ◌∷◌, take, Option, None, refl, sym, ap, subst, ◌∙◌, inl, inr, arith}
+use Rattle.std.specs.Prelude.{◌||◌, slice_get}
 use Rattle.std.specs.Option.{option_and_then}
 use Rattle.std.proofs.lemmas.Bool.Decides.{nat_tests}
 use Rattle.dom_model.specs.declared.Content.{Content}
 use Rattle.dom_model.specs.Forest.{Forest, Seen, tops, times, count_of, parent_of, IsDistinct}
 use Rattle.dom_model.specs.Forest.Forest.{Nil, Tree}
 use Rattle.dom_model.specs.Pruned.{pruned}
-use Rattle.dom_model.specs.ArenaState.{ArenaState as Arena, IsValid as IsArena}
+use Rattle.dom_model.specs.ArenaState.{ArenaState as Arena}
 use Rattle.dom_model.proofs.Pruning.{count_of-pruned}
 use Rattle.dom_model.proofs.Stands.{true_or_false, seek_absent, times-tops}
-use Rattle.live_range.specs.declared.places.Places.{Places}
-use Rattle.undo_log.specs.Log.{Log, noted, is_open, is_resumed, committed}
+use Rattle.undo_log.specs.Log.{Log, is_resumed, committed}
 use Rattle.forest_changes.specs.Change.{IsForest}
 use Rattle.forest_changes.specs.Named.{Each, named_in}
 use Rattle.forest_changes.specs.Down.{Prunes, IsLeft, GoBackDown}
@@ -26,7 +25,7 @@ use Rattle.edit_doc.specs.declared.command.EntrySnapshot.{EntrySnapshot}
 use Rattle.edit_doc.specs.declared.command.Sides.{Sides}
 use Rattle.edit_doc.specs.declared.command.Command.{Command}
 use Rattle.node_arena.specs.declared.NodeRef.{NodeRef}
-use Rattle.edit_doc.specs.Fields.{AreResting, EntersIn, Enters, made_sides}
+use Rattle.edit_doc.specs.Fields.{EntersIn, made_sides}
 use Rattle.edit_doc.specs.GivingUp.{GivesUp, loose_roots, has_detached}
 use Rattle.edit_doc.specs.History.{forest_before, is_hidden}
 use Rattle.edit_doc.specs.Sound.{UndoSound}
@@ -34,7 +33,7 @@ use Rattle.edit_doc.proofs.Downs.{EntriesLeft, each_both, entries_moved, back_fo
 use Rattle.edit_doc.proofs.Found.{root_is_top}
 use Rattle.edit_doc.proofs.GivingUp.{pruned-pruned, gives_join}
 use Rattle.edit_doc.proofs.HiddenTrees.{is_hidden_from, pruned-none, both_detached, top_loose, loose_detached}
-use Rattle.edit_doc.proofs.Inner.{Ok, Opened}
+use Rattle.edit_doc.proofs.Inner.{Entering}
 use Rattle.edit_doc.proofs.NewlyDetached.{listed_has, or_true}
 use Rattle.edit_doc.proofs.Records.{committed_made, with_first, entering}
 use Rattle.edit_doc.proofs.Rolls.{xs}
@@ -115,7 +114,7 @@ module _ (held : List (Option ℕ)) (names : List (List ℕ)) (c : Command) wher
       by_count f l some zero e = absent_loose f l e
       by_count f l some (suc i) e = some (omega (arith, e))
 
-module _ (d : Inside) (during : Opened d) (p : Places) (resting : AreResting d.points p) (some : 0 < length (noted d.history.log.open_entry)) (us : List EntrySnapshot) (out : Option EntrySnapshot) (enters : Enters d.command (loose_roots d.arena.trees d.command.detached.items) p d.counts d.history.log.depth d.history.past us out) where
+module _ (d : Inside) (enters : Entering d) where
   abbrev f : Forest Content
   f = d.arena.trees
 
@@ -125,26 +124,26 @@ module _ (d : Inside) (during : Opened d) (p : Places) (resting : AreResting d.p
     detached : EntriesLeft (has_detached o) f (committed d.history.log).undo
 
   none_out : GoesOut None
-  none_out = record { inner = λ l t. absurd (cc); loose = λ l t. absurd (cc); detached = entries_none (unnamed d during) f (committed d.history.log).undo (kept_detached d during some) }
+  none_out = record { inner = λ l t. absurd (cc); loose = λ l t. absurd (cc); detached = entries_none (unnamed d enters.ending.during) f (committed d.history.log).undo (kept_detached d enters.ending.during enters.some) }
 
-  joined_out : (s : Sides) (detached : List NodeRef) (room : ℕ) (bs new : List EntrySnapshot) (o : Option EntrySnapshot) → EntersIn true s detached p d.counts room bs new o → o ≡ None
+  joined_out : (s : Sides) (detached : List NodeRef) (room : ℕ) (bs new : List EntrySnapshot) (o : Option EntrySnapshot) → EntersIn true s detached enters.ending.places d.counts room bs new o → o ≡ None
   joined_out s detached room [] new o h = absurd h
   joined_out s detached room (b ∷ bs) [] o h = absurd h
   joined_out s detached room (b ∷ bs) (b' ∷ bs') o h = h.1.1.1
 
-  goes_out : GoesOut out
+  goes_out : GoesOut enters.out
   goes_out = elim (true_or_false (is_resumed d.history.log.open_entry)) [
-    | inl r ↦ subst GoesOut (sym (joined_out (made_sides d.command p d.counts) (loose_roots f d.command.detached.items) d.history.log.depth d.history.past us out (subst (λ b. EntersIn b (made_sides d.command p d.counts) (loose_roots f d.command.detached.items) p d.counts d.history.log.depth d.history.past us out) (during.ok.resumed ∙ r) enters))) none_out
+    | inl r ↦ subst GoesOut (sym (joined_out (made_sides d.command enters.ending.places d.counts) (loose_roots f d.command.detached.items) d.history.log.depth d.history.past enters.past enters.out (subst (λ b. EntersIn b (made_sides d.command enters.ending.places d.counts) (loose_roots f d.command.detached.items) enters.ending.places d.counts d.history.log.depth d.history.past enters.past enters.out) (enters.ending.during.ok.resumed ∙ r) enters.entered))) none_out
     | inr r ↦ (
         let c : Command = record d.command { start = d.arena.next } in
-        let h = entering d during p resting r c refl us out enters in
+        let h = entering d enters.ending r c refl enters.past enters.out enters.entered in
         let bs : List EntrySnapshot = h.0 ∷ d.history.past in
-        let es : List (List Step) = xs d during ∷ d.history.log.undo in
-        let o = outgone d.arena.held d.points.names c d.history.log.depth d.arena.next f es bs (forest_of d.arena during.law) (with_first d during p resting r c refl us out h.0 h.1 h.2) in
+        let es : List (List Step) = xs d enters.ending.during ∷ d.history.log.undo in
+        let o = outgone d.arena.held d.points.names c d.history.log.depth d.arena.next f es bs (forest_of d.arena enters.ending.during.law) (with_first d enters.ending r c refl enters.past enters.out h.0 h.1 h.2) in
         let own : GoesOut (slice_get bs d.history.log.depth) = record {
           inner = λ l t. (o.loose l t).0;
           loose = λ l t. (o.loose l t).1.1;
-          detached = subst (λ (g : Log Step). EntriesLeft (has_detached (slice_get bs d.history.log.depth)) f g.undo) (sym (committed_made d.history.log d.history.log.open_entry during.opened r some)) o.detached;
+          detached = subst (λ (g : Log Step). EntriesLeft (has_detached (slice_get bs d.history.log.depth)) f g.undo) (sym (committed_made d.history.log d.history.log.open_entry enters.ending.during.opened r enters.some)) o.detached;
         } in
         subst GoesOut (sym h.4) own)
   ]
@@ -152,28 +151,28 @@ module _ (d : Inside) (during : Opened d) (p : Places) (resting : AreResting d.p
   -- ---- with what is left unnamed
 
   abbrev pub unkept : ℕ → Bool
-  unkept l = unnamed d during l || has_detached out l
+  unkept l = unnamed d enters.ending.during l || has_detached enters.out l
 
-  pub detached_inner : (l : ℕ) → has_detached out l ≡ true → 0 < l
+  pub detached_inner : (l : ℕ) → has_detached enters.out l ≡ true → 0 < l
   detached_inner = goes_out.inner
 
-  pub detached_still_loose : (a : Arena) → GivesUp (unnamed d during) d.arena a → (l : ℕ) → has_detached out l ≡ true → parent_of a.trees l ≡ None
-  detached_still_loose a gives l t = ap (λ g. parent_of g l) gives.trees ∙ loose_detached (unnamed d during) f l during.law.distinct (goes_out.loose l t)
+  pub detached_still_loose : (a : Arena) → GivesUp (unnamed d enters.ending.during) d.arena a → (l : ℕ) → has_detached enters.out l ≡ true → parent_of a.trees l ≡ None
+  detached_still_loose a gives l t = ap (λ g. parent_of g l) gives.trees ∙ loose_detached (unnamed d enters.ending.during) f l enters.ending.during.law.distinct (goes_out.loose l t)
 
-  pub gives_both : (a b : Arena) → GivesUp (unnamed d during) d.arena a → GivesUp (has_detached out) a b → GivesUp unkept d.arena b
-  gives_both a b x y = gives_join (unnamed d during) (has_detached out) d.arena a b x y
+  pub gives_both : (a b : Arena) → GivesUp (unnamed d enters.ending.during) d.arena a → GivesUp (has_detached enters.out) a b → GivesUp unkept d.arena b
+  gives_both a b x y = gives_join (unnamed d enters.ending.during) (has_detached enters.out) d.arena a b x y
 
   pub prunes_both : Prunes unkept f
-  prunes_both = prunes_roots unkept f (forest_of d.arena during.law) zero_out (λ l t. elim (or_true (unnamed d during l) (has_detached out l) t) [ inl u ↦ unnamed_loose d during l u | inr u ↦ goes_out.loose l u ])
+  prunes_both = prunes_roots unkept f (forest_of d.arena enters.ending.during.law) zero_out (λ l t. elim (or_true (unnamed d enters.ending.during l) (has_detached enters.out l) t) [ inl u ↦ unnamed_loose d enters.ending.during l u | inr u ↦ goes_out.loose l u ])
     where
       zero_out : unkept 0 ≡ false
       zero_out = elim (true_or_false (unkept 0)) [
-        | inl t ↦ absurd (elim (or_true (unnamed d during 0) (has_detached out 0) t) [
-          | inl u ↦ true≢false (sym u ∙ (prunes_now d during (unnamed d during) (λ l t. t)).document)
+        | inl t ↦ absurd (elim (or_true (unnamed d enters.ending.during 0) (has_detached enters.out 0) t) [
+          | inl u ↦ true≢false (sym u ∙ (prunes_now d enters.ending.during (unnamed d enters.ending.during) (λ l t. t)).document)
           | inr u ↦ (let x = goes_out.inner 0 u in omega (arith, x))
         ])
         | inr t ↦ t
       ]
 
   pub kept_both : (log : Log Step) → log ≡ committed d.history.log → EntriesLeft unkept f log.undo
-  kept_both log is = subst (λ (g : Log Step). EntriesLeft unkept f g.undo) (sym is) (entries_both (unnamed d during) (has_detached out) f (committed d.history.log).undo during.law.distinct (kept_detached d during some) goes_out.detached)
+  kept_both log is = subst (λ (g : Log Step). EntriesLeft unkept f g.undo) (sym is) (entries_both (unnamed d enters.ending.during) (has_detached enters.out) f (committed d.history.log).undo enters.ending.during.law.distinct (kept_detached d enters.ending.during enters.some) goes_out.detached)

@@ -4,8 +4,6 @@ use Rattle.std.specs.Prelude.{IsTrue, ◌==◌, ◌||◌, nat_le}
 use Rattle.std.proofs.lemmas.Bool.Decides.{nat_tests}
 use Rattle.dom_model.specs.declared.Content.{Content}
 use Rattle.dom_model.specs.Forest.{Forest}
-use Rattle.dom_model.specs.ArenaState.{IsValid as IsArena}
-use Rattle.live_range.specs.declared.places.Places.{Places}
 use Rattle.live_range.specs.LivePoints.{LivePoints}
 use Rattle.live_range.specs.Names.{shown}
 use Rattle.undo_log.specs.Turning.{inverses_back}
@@ -22,14 +20,14 @@ use Rattle.edit_doc.specs.declared.Doc.TheInside.{Inside}
 use Rattle.edit_doc.specs.declared.command.EntrySnapshot.{EntrySnapshot}
 use Rattle.edit_doc.specs.declared.command.Sides.{Sides}
 use Rattle.edit_doc.specs.declared.command.Command.{Command}
-use Rattle.edit_doc.specs.Fields.{IsEnded, AreResting, EntersIn, Enters, made_sides}
+use Rattle.edit_doc.specs.Fields.{IsEnded, EntersIn, Enters, made_sides}
 use Rattle.edit_doc.specs.GivingUp.{loose_roots}
 use Rattle.node_arena.specs.declared.NodeRef.{NodeRef}
 use Rattle.edit_doc.specs.Whole.{Whole, history_committed, committed_history}
 use Rattle.edit_doc.specs.History.{edits_before, roots_from, state_of, begun_state, began_with, history_of, undo_entries, view_at}
 use Rattle.edit_doc.specs.Sound.{IsSnapshot, UndoSound, RedoSound, next_first}
 use Rattle.edit_doc.specs.Trail.{trail_of}
-use Rattle.edit_doc.proofs.Inner.{seen, Ok, Opened}
+use Rattle.edit_doc.proofs.Inner.{seen, Ending}
 use Rattle.edit_doc.proofs.Laid.{undo_count, undo_later, next_first_low}
 use Rattle.edit_doc.proofs.HiddenTrees.{model_forest}
 use Rattle.edit_doc.proofs.Rests.{AtRest, rest_state}
@@ -63,21 +61,21 @@ made_recorded s0 (Resumed ys) w t r some = absurd (cc)
 pub document_twice : (f : Forest Content) (next : ℕ) → IsForest f next → document_of (document_of f) ≡ document_of f
 document_twice f next is = let d = document_shape f next is in subst (λ h. document_of (document_of h) ≡ document_of h) (sym d.3) refl
 
-module _ (d : Inside) (during : Opened d) (p : Places) (resting : AreResting d.points p) where
+module _ (d : Inside) (ending : Ending d) where
   abbrev steps : List Step
-  steps = xs d during
+  steps = xs d ending.during
 
   abbrev before : Forest Content
-  before = g d during
+  before = g d ending.during
 
   abbrev rested_points : LivePoints
-  rested_points = shown d.points.names p
+  rested_points = shown d.points.names ending.places
 
   abbrev pub high : ℕ
   high = next_first d.command.start d.history.future
 
   pub high_le : high ≤ d.command.start
-  high_le = next_first_low d.arena.held d.points.names d.command before d.history.log.redo d.history.future during.ok.redo
+  high_le = next_first_low d.arena.held d.points.names d.command before d.history.log.redo d.history.future ending.during.ok.redo
 
   -- ---- a document whose history has the entry
 
@@ -85,7 +83,7 @@ module _ (d : Inside) (during : Opened d) (p : Places) (resting : AreResting d.p
     module _ (undo : UndoSound d.arena.held d.points.names false c d.arena.next d.arena.trees log.undo us) where
       pub ends : AtRest d.arena rested_points d.overrides.items d.flags d.counts c (trail_of log us [])
       ends = record {
-        law = during.law;
+        law = ending.during.law;
         closed = closed;
         idle = record {
           start = ended.start;
@@ -94,14 +92,14 @@ module _ (d : Inside) (during : Opened d) (p : Places) (resting : AreResting d.p
           named = ended.named;
           detached = ended.detached;
           detached_before = ended.detached_before;
-          scratch = resting.resting;
+          scratch = ending.resting.resting;
         };
         resumed = ended.resumed;
-        placed = placed_now d during p resting;
-        settings = during.ok.valid.settings;
-        nodes = during.ok.nodes;
-        chars = during.ok.chars;
-        depth = during.ok.depth;
+        placed = placed_now d ending;
+        settings = ending.during.ok.valid.settings;
+        nodes = ending.during.ok.nodes;
+        chars = ending.during.ok.chars;
+        depth = ending.during.ok.depth;
         undo = subst (λ n. UndoSound d.arena.held d.points.names false c n d.arena.trees log.undo us) (sym ended.start) undo;
         redo = subst (λ es. RedoSound d.arena.held d.points.names c d.arena.trees es []) (sym redo) tt;
       }
@@ -111,8 +109,8 @@ module _ (d : Inside) (during : Opened d) (p : Places) (resting : AreResting d.p
       recorded_state v sees =
           rest_state d.arena rested_points d.overrides.items d.flags d.counts c (trail_of log us []) ends
           ∙ ((λ i. record {
-            trees = sym (document_now d during p resting) i;
-            points = resting.shown i;
+            trees = sym (document_now d ending) i;
+            points = ending.resting.shown i;
             overrides = d.overrides.items;
             flags = d.flags;
             next = d.arena.next;
@@ -136,17 +134,17 @@ module _ (d : Inside) (during : Opened d) (p : Places) (resting : AreResting d.p
   pub view_before : view_at d.points.names before d.command.kept.places ≡ view_of state_before
   unfolding view_of
   view_before = λ i. record {
-    document = sym (document_twice before (bound_g d during).next (model_forest before (forest_g d during) (bound_g d during).next (bound_g d during).below)) i;
+    document = sym (document_twice before (bound_g d ending.during).next (model_forest before (forest_g d ending.during) (bound_g d ending.during).next (bound_g d ending.during).below)) i;
     selection = d.command.kept.places.selection;
     marks = (shown d.points.names d.command.kept.places).marks;
   }
 
-  pub view_now : view_at d.points.names d.arena.trees p ≡ view_of state_now
+  pub view_now : view_at d.points.names d.arena.trees ending.places ≡ view_of state_now
   unfolding view_of
   view_now = λ i. record {
-    document = sym (document_now d during p resting) i;
-    selection = (resting.shown i).selection;
-    marks = (resting.shown i).marks;
+    document = sym (document_now d ending) i;
+    selection = (ending.resting.shown i).selection;
+    marks = (ending.resting.shown i).marks;
   }
 
   -- ---- an entry that the command began
@@ -156,28 +154,28 @@ module _ (d : Inside) (during : Opened d) (p : Places) (resting : AreResting d.p
     roots = loose_roots d.arena.trees d.command.detached.items
 
     begun_undo : UndoSound d.arena.held d.points.names false d.command high before d.history.log.undo d.history.past
-    begun_undo = subst (λ r. UndoSound d.arena.held d.points.names r d.command high before d.history.log.undo d.history.past) (during.ok.resumed ∙ begun) during.ok.undo
+    begun_undo = subst (λ r. UndoSound d.arena.held d.points.names r d.command high before d.history.log.undo d.history.past) (ending.during.ok.resumed ∙ begun) ending.during.ok.undo
 
     start_le : d.command.start ≤ c.start
-    start_le = (let s = starts in let t = during.ok.valid.started in omega (arith, s, t))
+    start_le = (let s = starts in let t = ending.during.ok.valid.started in omega (arith, s, t))
 
-    pub with_first : (b : EntrySnapshot) → b.sides ≡ made_sides d.command p d.counts → b.detached.items ≡ roots →
+    pub with_first : (b : EntrySnapshot) → b.sides ≡ made_sides d.command ending.places d.counts → b.detached.items ≡ roots →
         UndoSound d.arena.held d.points.names false c d.arena.next d.arena.trees (steps ∷ d.history.log.undo) (b ∷ d.history.past)
     with_first b same none =
         let f = d.arena.trees in
         let ts = inverses_back applied inverse (changes_of steps) f in
         let rest = undo_later d.arena.held d.points.names d.command c start_le high d.command.start before d.history.log.undo d.history.past high_le start_le begun_undo in (
-          (run d during).can,
+          (run d ending.during).can,
           (
-            subst (λ n. IsSnapshot d.points.names before f steps ts b b.detached.items d.arena.next n) (sym starts) (made_snapshot d during p resting b b.detached.items none same),
+            subst (λ n. IsSnapshot d.points.names before f steps ts b b.detached.items d.arena.next n) (sym starts) (made_snapshot d ending b b.detached.items none same),
             subst (λ (s : Sides). UndoSound d.arena.held d.points.names false c s.first_label before d.history.log.undo d.history.past) (sym same) rest,
           ),
         )
 
-    pub entering : Enters d.command roots p d.counts d.history.log.depth d.history.past us out → EntersIn false (made_sides d.command p d.counts) roots p d.counts d.history.log.depth d.history.past us out
-    entering h = subst (λ r. EntersIn r (made_sides d.command p d.counts) roots p d.counts d.history.log.depth d.history.past us out) (during.ok.resumed ∙ begun) h
+    pub entering : Enters d.command roots ending.places d.counts d.history.log.depth d.history.past us out → EntersIn false (made_sides d.command ending.places d.counts) roots ending.places d.counts d.history.log.depth d.history.past us out
+    entering h = subst (λ r. EntersIn r (made_sides d.command ending.places d.counts) roots ending.places d.counts d.history.log.depth d.history.past us out) (ending.during.ok.resumed ∙ begun) h
 
-    module _ (enters : Enters d.command roots p d.counts d.history.log.depth d.history.past us out) where
+    module _ (enters : Enters d.command roots ending.places d.counts d.history.log.depth d.history.past us out) where
       pub begun_sound : UndoSound d.arena.held d.points.names false c d.arena.next d.arena.trees (take d.history.log.depth (steps ∷ d.history.log.undo)) us
       begun_sound =
           let h = entering enters in
@@ -199,5 +197,5 @@ module _ (d : Inside) (during : Opened d) (p : Places) (resting : AreResting d.p
           ap (undo_entries d.points.names f (take d.history.log.depth (steps ∷ d.history.log.undo))) is
           ∙ (undo_entries-take d.points.names d.history.log.depth f (steps ∷ d.history.log.undo) (h.0 ∷ d.history.past)
           ∙ (λ i. take d.history.log.depth (record { before = was i; after = now i; edits = edits_before steps f; made = made_is i } ∷ undo_entries d.points.names before d.history.log.undo d.history.past))) in
-          (λ i. record { undo = entries i; redo = []; depth = d.history.log.depth; dropped = d.history.log.dropped || nat_le d.history.log.depth (undo_count d (seen d) refl during.ok i) })
-          ∙ (sym (made_recorded state_before d.history.log.open_entry (seen d) during.opened begun (subst (λ n. 0 < n) (sym (count_edits steps d.arena.trees)) some)) ∙ ap history_committed sees)
+          (λ i. record { undo = entries i; redo = []; depth = d.history.log.depth; dropped = d.history.log.dropped || nat_le d.history.log.depth (undo_count d (seen d) refl ending.during.ok i) })
+          ∙ (sym (made_recorded state_before d.history.log.open_entry (seen d) ending.during.opened begun (subst (λ n. 0 < n) (sym (count_edits steps d.arena.trees)) some)) ∙ ap history_committed sees)

@@ -46,7 +46,7 @@ use Rattle.edit_doc.specs.Sound.{RefIn, AreFresh, AreAlone, IsSide, IsSnapshot, 
 use Rattle.edit_doc.specs.Trail.{trail_of, IsTrail}
 use Rattle.edit_doc.proofs.HiddenTrees.{tops_detached, le_false, true_le, false_le, document-pruned, model_forest}
 use Rattle.edit_doc.proofs.Downs.{back_forest, back_bounded, back_labels, Bounded, KeepsLeft, EntriesLeft, side-pruned, lies-pruned, entries-pruned, led_labels, names_here}
-use Rattle.edit_doc.proofs.Inner.{seen, Ok, Opened}
+use Rattle.edit_doc.proofs.Inner.{seen, Opened}
 use Rattle.edit_doc.proofs.Laid.{undo_later, redo_later, next_first_low}
 use Rattle.edit_doc.proofs.Off.{tree_pruned, entries_moved as entries_off}
 use Rattle.edit_doc.proofs.Rests.{AtRest, rest_sound, rest_state, none_noted}

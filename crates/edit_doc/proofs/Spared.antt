@@ -1,21 +1,20 @@
 -- A commit with an edit gives up what no kept entry names.
-use Rattle.std.proofs.Common.{◌≡◌, ℕ, ◌<◌, Bool, List, [], length, Option, sym, ap, subst, ◌∙◌, arith}
-use Rattle.std.specs.Prelude.{IsTrue}
+use Rattle.std.proofs.Common.{◌≡◌, ℕ, ◌<◌, Bool, List, [], sym, ap, subst, ◌∙◌, arith}
 use Rattle.dom_model.specs.Forest.{count_of}
 use Rattle.dom_model.specs.ArenaState.{ArenaState as Arena, IsValid as IsArena}
 use Rattle.dom_model.proofs.Pruning.{count_of-pruned}
 use Rattle.live_range.specs.declared.places.Places.{Places}
 use Rattle.live_range.specs.LivePoints.{LivePoints}
 use Rattle.live_range.specs.Names.{shown}
-use Rattle.undo_log.specs.Log.{Log, IsLog, noted, is_open, committed}
+use Rattle.undo_log.specs.Log.{Log, IsLog, noted, committed}
 use Rattle.forest_changes.specs.Down.{Prunes}
 use Rattle.edit_steps.specs.declared.step.Step.{Step}
 use Rattle.edit_model.specs.History.{rested}
 use Rattle.edit_doc.specs.declared.Doc.TheInside.{Inside}
 use Rattle.edit_doc.specs.declared.command.EntrySnapshot.{EntrySnapshot}
 use Rattle.edit_doc.specs.declared.command.Command.{Command}
-use Rattle.edit_doc.specs.Fields.{IsEnded, AreResting, Enters}
-use Rattle.edit_doc.specs.GivingUp.{GivesUp, loose_roots}
+use Rattle.edit_doc.specs.Fields.{IsEnded}
+use Rattle.edit_doc.specs.GivingUp.{GivesUp}
 use Rattle.edit_doc.specs.Held.{KeepsThere}
 use Rattle.edit_doc.specs.History.{begun_forest, is_hidden, state_of, history_of, whole_of}
 use Rattle.edit_doc.specs.Sound.{AreNeeded, IsSoundDoc}
@@ -23,7 +22,7 @@ use Rattle.edit_doc.specs.Whole.{Whole, history_committed}
 use Rattle.edit_doc.specs.Trail.{trail_of}
 use Rattle.edit_doc.proofs.Downs.{EntriesLeft}
 use Rattle.edit_doc.proofs.Freed.{freed, freed_state, freed_history}
-use Rattle.edit_doc.proofs.Inner.{seen, Ok, Opened}
+use Rattle.edit_doc.proofs.Inner.{seen, Entering}
 use Rattle.edit_doc.proofs.Needs.{needed_after}
 use Rattle.edit_doc.proofs.Outgone.{unkept, prunes_both, kept_both}
 use Rattle.edit_doc.proofs.Joins.{entry_redo, entry_rests, entry_state, entry_history}
@@ -36,49 +35,49 @@ pub record Spares (d : Inside) (p : Places) (v : Whole) (c : Command) (a : Arena
   pub history : history_of d.points.names (begun_forest log a.trees) (trail_of log us []) ≡ history_committed v
   pub keeps : KeepsThere v (whole_of a (shown d.points.names p) d.overrides.items d.flags c (trail_of log us []))
 
-module _ (d : Inside) (during : Opened d) (p : Places) (resting : AreResting d.points p) (logged : IsLog d.history.log) (some : 0 < length (noted d.history.log.open_entry)) (c : Command) (ended : IsEnded d.arena.next c) (us : List EntrySnapshot) (out : Option EntrySnapshot) (enters : Enters d.command (loose_roots d.arena.trees d.command.detached.items) p d.counts d.history.log.depth d.history.past us out) (log : Log Step) (is : log ≡ committed d.history.log)
-    (a : Arena) (gives : GivesUp (unkept d during p resting some us out enters) d.arena a) (law' : IsArena a) where
+module _ (d : Inside) (enters : Entering d) (logged : IsLog d.history.log) (c : Command) (ended : IsEnded d.arena.next c) (log : Log Step) (is : log ≡ committed d.history.log)
+    (a : Arena) (gives : GivesUp (unkept d enters) d.arena a) (law' : IsArena a) where
   abbrev k : ℕ → Bool
-  k = unkept d during p resting some us out enters
+  k = unkept d enters
 
   prunes : Prunes k d.arena.trees
-  prunes = prunes_both d during p resting some us out enters
+  prunes = prunes_both d enters
 
   undo_detached : EntriesLeft k d.arena.trees log.undo
-  undo_detached = kept_both d during p resting some us out enters log is
+  undo_detached = kept_both d enters log is
 
   needed : AreNeeded c.start a.trees log.undo log.redo
-  needed = needed_after d during p resting logged some us out enters log is a gives c.start
+  needed = needed_after d enters logged log is a gives c.start
 
   abbrev points : LivePoints
-  points = shown d.points.names p
+  points = shown d.points.names enters.ending.places
 
-  rests : AtRest d.arena points d.overrides.items d.flags d.counts c (trail_of log us [])
-  rests = entry_rests d during p resting logged some c ended us out enters log is
+  rests : AtRest d.arena points d.overrides.items d.flags d.counts c (trail_of log enters.past [])
+  rests = entry_rests d enters logged c ended log is
 
   redo_detached : EntriesLeft k d.arena.trees log.redo
-  redo_detached = subst (EntriesLeft k d.arena.trees) (sym (entry_redo d during p resting logged some c ended us out enters log is)) tt
+  redo_detached = subst (EntriesLeft k d.arena.trees) (sym (entry_redo d enters logged c ended log is)) tt
 
-  spared_ok : IsSoundDoc a points d.overrides.items d.flags d.counts c (trail_of log us [])
+  spared_ok : IsSoundDoc a points d.overrides.items d.flags d.counts c (trail_of log enters.past [])
   spared_ok =
-      rest_sound a points d.overrides.items d.flags d.counts c (trail_of log us [])
-      (freed d.arena a k gives prunes law' points d.overrides.items d.flags d.counts c (trail_of log us []) rests undo_detached redo_detached) needed
+      rest_sound a points d.overrides.items d.flags d.counts c (trail_of log enters.past [])
+      (freed d.arena a k gives prunes law' points d.overrides.items d.flags d.counts c (trail_of log enters.past []) rests undo_detached redo_detached) needed
 
   spared_state : (v : Whole) → seen d ≡ v → state_of a points d.overrides.items d.flags c log ≡ rested v.state
   spared_state v sees =
-      freed_state d.arena a k gives prunes law' points d.overrides.items d.flags d.counts c (trail_of log us []) rests undo_detached redo_detached
-      ∙ entry_state d during p resting logged some c ended us out enters log is v sees
+      freed_state d.arena a k gives prunes law' points d.overrides.items d.flags d.counts c (trail_of log enters.past []) rests undo_detached redo_detached
+      ∙ entry_state d enters logged c ended log is v sees
 
-  spared_history : (v : Whole) → seen d ≡ v → history_of d.points.names (begun_forest log a.trees) (trail_of log us []) ≡ history_committed v
+  spared_history : (v : Whole) → seen d ≡ v → history_of d.points.names (begun_forest log a.trees) (trail_of log enters.past []) ≡ history_committed v
   spared_history v sees =
       let none = ap noted rests.closed in
-      ap (λ t. history_of d.points.names t (trail_of log us [])) (none_noted log a.trees none)
-      ∙ (freed_history d.arena a k gives prunes law' points d.overrides.items d.flags d.counts c (trail_of log us []) rests undo_detached redo_detached
-      ∙ (ap (λ t. history_of d.points.names t (trail_of log us [])) (sym (none_noted log d.arena.trees none))
-      ∙ entry_history d during p resting logged some c ended us out enters log is v sees))
+      ap (λ t. history_of d.points.names t (trail_of log enters.past [])) (none_noted log a.trees none)
+      ∙ (freed_history d.arena a k gives prunes law' points d.overrides.items d.flags d.counts c (trail_of log enters.past []) rests undo_detached redo_detached
+      ∙ (ap (λ t. history_of d.points.names t (trail_of log enters.past [])) (sym (none_noted log d.arena.trees none))
+      ∙ entry_history d enters logged c ended log is v sees))
 
   abbrev spared_whole : Whole
-  spared_whole = whole_of a points d.overrides.items d.flags c (trail_of log us [])
+  spared_whole = whole_of a points d.overrides.items d.flags c (trail_of log enters.past [])
 
   spared_keeps : (v : Whole) → seen d ≡ v → KeepsThere v spared_whole
   spared_keeps v sees =
@@ -88,5 +87,5 @@ module _ (d : Inside) (during : Opened d) (p : Places) (resting : AreResting d.p
       }) in
       subst (λ (w : Whole). KeepsThere w spared_whole) sees own
 
-  pub spared : (v : Whole) → seen d ≡ v → Spares d p v c a log us
+  pub spared : (v : Whole) → seen d ≡ v → Spares d enters.ending.places v c a log enters.past
   spared v sees = record { invariant = spared_ok; state = spared_state v sees; history = spared_history v sees; keeps = spared_keeps v sees }

@@ -1,16 +1,15 @@
 -- What no edit of the running command names, nor one of the entries before it, is alone in a loose tree.
 use Rattle.std.proofs.Common.{◌≡◌, ℕ, zero, suc, ◌<◌, ◌≤◌, Bool, true, false, true≢false, List, [], ◌∷◌, length, take, Option, None, refl, sym, ap, subst, ◌∙◌, inl, inr, arith}
-use Rattle.std.specs.Prelude.{IsTrue, ◌==◌, not, nat_le}
+use Rattle.std.specs.Prelude.{◌==◌, not, nat_le}
 use Rattle.std.specs.Option.{option_and_then}
 use Rattle.std.proofs.lemmas.Bool.Decides.{eqb_tells, nat_tests}
 use Rattle.dom_model.specs.declared.Content.{Content}
 use Rattle.dom_model.specs.Forest.{Forest, Seen, count_of, parent_of}
 use Rattle.dom_model.specs.Pruned.{pruned, IsWhole}
-use Rattle.dom_model.specs.ArenaState.{IsValid as IsArena}
 use Rattle.dom_model.proofs.Pruning.{count_of-pruned, whole_stays}
 use Rattle.dom_model.proofs.Stands.{true_or_false, seek_absent}
 use Rattle.undo_log.specs.Turning.{inverses_back, TurnsBack}
-use Rattle.undo_log.specs.Log.{Log, noted, is_open, is_resumed, joined, committed}
+use Rattle.undo_log.specs.Log.{Log, noted, is_resumed, joined, committed}
 use Rattle.forest_changes.specs.Change.{Change, Fits, applied, inverse}
 use Rattle.forest_changes.specs.Named.{Each, named_in}
 use Rattle.forest_changes.specs.Down.{Prunes, IsLeft, GoBackDown, GoForthDown}
@@ -29,7 +28,7 @@ use Rattle.edit_doc.specs.Sound.{AreFresh, RedoSound, UndoSound, next_first}
 use Rattle.edit_doc.proofs.Downs.{EntriesLeft, back_labels}
 use Rattle.edit_doc.proofs.Found.{root_is_top}
 use Rattle.edit_doc.proofs.HiddenTrees.{is_hidden_from, and_true, true_le, le_true, false_le, top_loose}
-use Rattle.edit_doc.proofs.Inner.{Ok, Opened}
+use Rattle.edit_doc.proofs.Inner.{Opened}
 use Rattle.edit_doc.proofs.Joins.{each_named, committed_joined}
 use Rattle.edit_doc.proofs.Laid.{next_first_low}
 use Rattle.edit_doc.proofs.Off.{pruned_root}

@@ -11,7 +11,7 @@ use Rattle.edit_doc.specs.GivingUp.{GivesUp, is_unnamed}
 use Rattle.edit_doc.specs.Sound.{next_first}
 use Rattle.edit_doc.specs.Trail.{Trail, trail_of}
 use Rattle.edit_doc.proofs.Commits.{edits_count, committed_none, nothing_whole, nothing_ok, nothing_state, nothing_history, nothing_keeps}
-use Rattle.edit_doc.proofs.Inner.{opened_of, open_of}
+use Rattle.edit_doc.proofs.Inner.{Entering, opened_of, open_of, ending_of}
 use Rattle.edit_doc.proofs.Outgone.{detached_inner, detached_still_loose, unkept, gives_both}
 use Rattle.edit_doc.proofs.Spared.{Spares, spared}
 use Rattle.edit_doc.proofs.Unnamed.{unnamed, some_low, unnamed_loose}
@@ -23,7 +23,7 @@ pub drop_made-requires-clause-whole : goal.drop_made-requires-clause-whole
 drop_made-requires-clause-whole c =
     let n = c.in-Nothing.ensures.closes in
     subst (λ (m : Command). IsWhole (λ l. nat_le m.start l) c.self.inside.arena.trees) (sym n.command)
-    (nothing_whole c.self.inside (opened_of c.self.inside _ c.self.view_is c.valid-2.ensures c.self.invariant c.requires.«open») c.resting_places-places.result c.resting_places-places.ensures n.none)
+    (nothing_whole c.self.inside (ending_of c.self.inside _ c.self.view_is c.valid-2.ensures c.self.invariant c.requires.«open» c.resting_places-places.result c.resting_places-places.ensures) n.none)
 
 drops : (c : goal.After-end) → DropsMade c.self.inside.arena c.drop_made.new.self c.self.inside.command.start
 drops c = subst (λ (m : Command). DropsMade c.self.inside.arena c.drop_made.new.self m.start) c.in-Nothing.ensures.closes.command c.drop_made.ensures.drops
@@ -48,7 +48,7 @@ ended c = subst (λ (n : ℕ). IsEnded n c.end.new.self) c.next_label.ensures c.
 pub invariant_of-self : goal.invariant_of-self
 invariant_of-self c =
     rw (c.set_places.ensures, trail c)
-    (nothing_ok c.self.inside (opened_of c.self.inside _ c.self.view_is c.valid-2.ensures c.self.invariant c.requires.«open») c.resting_places-places.result c.resting_places-places.ensures c.in-Nothing.ensures.closes.none
+    (nothing_ok c.self.inside (ending_of c.self.inside _ c.self.view_is c.valid-2.ensures c.self.invariant c.requires.«open» c.resting_places-places.result c.resting_places-places.ensures) c.in-Nothing.ensures.closes.none
     _ (drops c) c.valid-in-Nothing.ensures _ (forgets c) _ (ended c))
 
 pub returns-in-Nothing-clause-answer : goal.returns-in-Nothing-clause-answer
@@ -60,19 +60,19 @@ returns-in-Nothing-clause-answer c =
 pub returns-in-Nothing-clause-state : goal.returns-in-Nothing-clause-state
 returns-in-Nothing-clause-state c =
     rw (c.set_places.ensures, trail c)
-    (nothing_state c.self.inside (opened_of c.self.inside _ c.self.view_is c.valid-2.ensures c.self.invariant c.requires.«open») c.resting_places-places.result c.resting_places-places.ensures c.in-Nothing.ensures.closes.none
+    (nothing_state c.self.inside (ending_of c.self.inside _ c.self.view_is c.valid-2.ensures c.self.invariant c.requires.«open» c.resting_places-places.result c.resting_places-places.ensures) c.in-Nothing.ensures.closes.none
     _ (drops c) c.valid-in-Nothing.ensures _ (forgets c) _ (ended c) _ c.self.view_is)
 
 pub returns-in-Nothing-clause-history : goal.returns-in-Nothing-clause-history
 returns-in-Nothing-clause-history c =
     rw (c.set_places.ensures, trail c)
-    (nothing_history c.self.inside (opened_of c.self.inside _ c.self.view_is c.valid-2.ensures c.self.invariant c.requires.«open») c.resting_places-places.result c.resting_places-places.ensures c.in-Nothing.ensures.closes.none
+    (nothing_history c.self.inside (ending_of c.self.inside _ c.self.view_is c.valid-2.ensures c.self.invariant c.requires.«open» c.resting_places-places.result c.resting_places-places.ensures) c.in-Nothing.ensures.closes.none
     _ (drops c) c.valid-in-Nothing.ensures _ (forgets c) _ (ended c) _ c.self.view_is)
 
 pub returns-in-Nothing-clause-keeps : goal.returns-in-Nothing-clause-keeps
 returns-in-Nothing-clause-keeps c =
     rw (c.set_places.ensures, trail c)
-    (nothing_keeps c.self.inside (opened_of c.self.inside _ c.self.view_is c.valid-2.ensures c.self.invariant c.requires.«open») c.resting_places-places.result c.resting_places-places.ensures c.in-Nothing.ensures.closes.none
+    (nothing_keeps c.self.inside (ending_of c.self.inside _ c.self.view_is c.valid-2.ensures c.self.invariant c.requires.«open» c.resting_places-places.result c.resting_places-places.ensures) c.in-Nothing.ensures.closes.none
     _ (drops c) c.valid-in-Nothing.ensures _ (forgets c) _ (ended c) _ c.self.view_is)
 
 -- ---- with an edit
@@ -86,6 +86,9 @@ give_up_unnamed-requires-clause-loose c =
     (subst (λ (n : ℕ). (l : ℕ) → is_unnamed n c.self.inside.command l ≡ true → parent_of c.self.inside.arena.trees l ≡ None) (sym c.first_undone-low.ensures)
     (unnamed_loose c.self.inside (opened_of c.self.inside _ c.self.view_is c.valid-2.ensures c.self.invariant c.requires.«open»)))
 
+abbrev enters : (c : goal.After-give_up_detached-arg-1) → Entering c.self.inside
+enters c = let m = c.in-Entry.ensures.closes in record { ending = ending_of c.self.inside _ c.self.view_is c.valid-2.ensures c.self.invariant c.requires.«open» c.resting_places-places.result c.resting_places-places.ensures; some = m.some; past = c.commit.new.self.past; out = c.in-Entry.oldest; entered = m.entered }
+
 gives : (c : goal.After-give_up_detached-arg-1) → GivesUp (unnamed c.self.inside (opened_of c.self.inside _ c.self.view_is c.valid-2.ensures c.self.invariant c.requires.«open»)) c.self.inside.arena c.give_up_unnamed.new.arena
 gives c =
     subst (λ (m : Command). GivesUp (is_unnamed (next_first c.self.inside.command.start c.self.inside.history.future) m) c.self.inside.arena c.give_up_unnamed.new.arena) c.in-Entry.ensures.closes.command
@@ -93,21 +96,22 @@ gives c =
 
 pub give_up_detached-requires-clause-inner : goal.give_up_detached-requires-clause-inner
 give_up_detached-requires-clause-inner c =
-    let m = c.in-Entry.ensures.closes in
-    detached_inner c.self.inside (opened_of c.self.inside _ c.self.view_is c.valid-2.ensures c.self.invariant c.requires.«open») c.resting_places-places.result c.resting_places-places.ensures m.some _ _ m.entered
+    detached_inner c.self.inside (enters c)
 
 pub give_up_detached-requires-clause-loose : goal.give_up_detached-requires-clause-loose
 give_up_detached-requires-clause-loose c =
-    let m = c.in-Entry.ensures.closes in
-    detached_still_loose c.self.inside (opened_of c.self.inside _ c.self.view_is c.valid-2.ensures c.self.invariant c.requires.«open») c.resting_places-places.result c.resting_places-places.ensures m.some _ _ m.entered _ (gives c)
+    detached_still_loose c.self.inside (enters c) _ (gives c)
 
-gives_all : (c : goal.After-end-in-Entry) → GivesUp (unkept c.self.inside (opened_of c.self.inside _ c.self.view_is c.valid-2.ensures c.self.invariant c.requires.«open») c.resting_places-places.result c.resting_places-places.ensures c.in-Entry.ensures.closes.some _ _ c.in-Entry.ensures.closes.entered) c.self.inside.arena c.give_up_detached.new.arena
+abbrev enters_all : (c : goal.After-end-in-Entry) → Entering c.self.inside
+enters_all c = let m = c.in-Entry.ensures.closes in record { ending = ending_of c.self.inside _ c.self.view_is c.valid-2.ensures c.self.invariant c.requires.«open» c.resting_places-places.result c.resting_places-places.ensures; some = m.some; past = c.commit.new.self.past; out = c.in-Entry.oldest; entered = m.entered }
+
+gives_all : (c : goal.After-end-in-Entry) → GivesUp (unkept c.self.inside (enters_all c)) c.self.inside.arena c.give_up_detached.new.arena
 gives_all c =
     let m = c.in-Entry.ensures.closes in
     let first : GivesUp (unnamed c.self.inside (opened_of c.self.inside _ c.self.view_is c.valid-2.ensures c.self.invariant c.requires.«open»)) c.self.inside.arena c.give_up_unnamed.new.arena =
     subst (λ (n : Command). GivesUp (is_unnamed (next_first c.self.inside.command.start c.self.inside.history.future) n) c.self.inside.arena c.give_up_unnamed.new.arena) m.command
     (subst (λ (n : ℕ). GivesUp (is_unnamed n c.commit.new.command) c.self.inside.arena c.give_up_unnamed.new.arena) c.first_undone-low.ensures c.give_up_unnamed.ensures) in
-    gives_both c.self.inside (opened_of c.self.inside _ c.self.view_is c.valid-2.ensures c.self.invariant c.requires.«open») c.resting_places-places.result c.resting_places-places.ensures m.some _ _ m.entered _ _ first c.give_up_detached.ensures
+    gives_both c.self.inside (enters_all c) _ _ first c.give_up_detached.ensures
 
 entry_ended : (c : goal.After-end-in-Entry) → IsEnded c.self.inside.arena.next c.end-in-Entry.new.self
 entry_ended c = subst (λ (n : ℕ). IsEnded n c.end-in-Entry.new.self) (c.next_label-in-Entry.ensures ∙ (c.give_up_detached.ensures.next ∙ c.give_up_unnamed.ensures.next)) c.end-in-Entry.ensures
@@ -115,8 +119,8 @@ entry_ended c = subst (λ (n : ℕ). IsEnded n c.end-in-Entry.new.self) (c.next_
 spares : (c : goal.After-end-in-Entry) → Spares c.self.inside c.resting_places-places.result c.args.self.now c.end-in-Entry.new.self c.give_up_detached.new.arena c.commit.new.self.log c.commit.new.self.past
 spares c =
     let m = c.in-Entry.ensures.closes in
-    spared c.self.inside (opened_of c.self.inside _ c.self.view_is c.valid-2.ensures c.self.invariant c.requires.«open») c.resting_places-places.result c.resting_places-places.ensures c.valid.ensures.log m.some
-    _ (entry_ended c) _ _ m.entered _ m.log _ (gives_all c) c.valid-in-Entry.ensures _ c.self.view_is
+    spared c.self.inside (enters_all c) c.valid.ensures.log
+    _ (entry_ended c) _ m.log _ (gives_all c) c.valid-in-Entry.ensures _ c.self.view_is
 
 entry_trail : (c : goal.After-end-in-Entry) → c.commit.new.self ≡ trail_of c.commit.new.self.log c.commit.new.self.past []
 entry_trail c = ap (trail_of c.commit.new.self.log c.commit.new.self.past) c.in-Entry.ensures.closes.future
