@@ -1,5 +1,5 @@
 -- Other points, overrides or flags of a document under edits.
-use Rattle.std.proofs.Common.{◌≡◌, ℕ, zero, suc, ◌<◌, Bool, true, false, if◌then◌else◌, get_or, arith, List, [], ◌∷◌, length, Option, None, refl, sym, ap, subst, ◌∙◌}
+use Rattle.std.proofs.Common.{◌≡◌, ℕ, zero, suc, ◌<◌, Bool, true, false, if◌then◌else◌, get_or, arith, List, [], ◌∷◌, length, Option, None, refl, sym, subst, ◌∙◌}
 use Rattle.dom_model.specs.declared.Content.{Content}
 use Rattle.dom_model.specs.Forest.{Forest, count_of}
 use Rattle.dom_model.specs.ArenaState.{ArenaState as Arena}
@@ -21,9 +21,9 @@ use Rattle.edit_doc.specs.declared.Doc.TheInside.{Inside}
 use Rattle.edit_doc.specs.declared.command.Command.{Command}
 use Rattle.edit_doc.specs.Whole.{Whole, with_state}
 use Rattle.edit_doc.specs.Held.{Keeps}
-use Rattle.edit_doc.specs.History.{begun_forest, seen_trees, whole_of}
+use Rattle.edit_doc.specs.History.{begun_forest, seen_trees}
 use Rattle.edit_doc.specs.Sound.{IsIdle, OpenSound, IsSoundDoc}
-use Rattle.edit_doc.proofs.Inner.{seen, Ok}
+use Rattle.edit_doc.proofs.Inner.{Ok}
 
 -- points with the same names
 abbrev pub moved_to : LivePoints → Option Pair → Option Pair → List (List ℕ × Pair) → LivePoints
@@ -66,12 +66,6 @@ module _ (d : Inside) (ok : Ok d) (selection scratch : Option Pair) (marks : Lis
     redo = ok.redo;
     needed = ok.needed;
   }
-
-  -- the rest of the value stays
-  pub other_is : (v : Whole) → seen d ≡ v →
-      whole_of d.arena points overrides flags d.command d.history
-      ≡ with_state v (record v.state { points = record v.state.points { selection = selection; scratch = scratch; marks = marks }; overrides = overrides; flags = flags })
-  other_is v is = ap (λ (w : Whole). with_state w (record w.state { points = record w.state.points { selection = selection; scratch = scratch; marks = marks }; overrides = overrides; flags = flags })) is
 
 -- outside commands no scratch pair is kept
 pub scratch_at_rest : (d : Inside) → Ok d → d.history.log.open_entry ≡ Closed → d.points.scratch ≡ None

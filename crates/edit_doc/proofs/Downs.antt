@@ -58,12 +58,6 @@ pub record Bounded (f : Forest Content) : Type 0 where
 pub back_bounded : (e : List Step) (f : Forest Content) → FitsBack applied Fits (changes_of e) f → Bounded f → Bounded (forest_before e f)
 back_bounded e f h b = record { next = b.next; below = λ l here. b.below l (let s = back_labels (changes_of e) f l h in omega arith) }
 
-pub forth_bounded : (e : List Step) (f : Forest Content) → FitsForth applied Fits (changes_of e) f → Bounded f → Bounded (forest_after e f)
-forth_bounded e f h b = record { next = b.next; below = λ l here. b.below l (let s = forth_labels (changes_of e) f l h in omega arith) }
-
-pub back_bounded_from : (e : List Step) (f : Forest Content) → FitsBack applied Fits (changes_of e) f → Bounded (forest_before e f) → Bounded f
-back_bounded_from e f h b = record { next = b.next; below = λ l here. b.below l (let s = back_labels (changes_of e) f l h in omega arith) }
-
 -- ---- either way
 
 pub led_forest : (w : Way) (e : List Step) (f : Forest Content) → FitsWay w e f → IsForest f → IsForest (led w e f)

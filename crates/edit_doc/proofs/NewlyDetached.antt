@@ -41,9 +41,6 @@ drop_none zero xs e = e
 drop_none (suc n) [] e = refl
 drop_none (suc n) (x ∷ xs) e = absurd (cc)
 
-start_false : (a b : ℕ) → nat_le a b ≡ false → b < a
-start_false a b e = grind (arith, nat_tests)
-
 start_true : (a b : ℕ) → nat_le a b ≡ true → a ≤ b
 start_true a b e = grind (arith, nat_tests)
 
@@ -109,9 +106,6 @@ module _ (d : Inside) (law : IsArena d.arena) (ok : Ok d) where
         inner : (n : ℕ) → n ≢ 0 → 0 < n
         inner zero h = absurd (h refl)
         inner (suc n) h = omega arith
-
-    pub some_seen : Holds v node → 0 < count_of v.state.trees node.label
-    some_seen h = h.here
 
   pub absent_seen : (v : Whole) → seen d ≡ v → (l : ℕ) → count_of d.arena.trees l ≡ 0 → count_of v.state.trees l ≡ 0
   absent_seen v is l none = subst (λ (w : Whole). count_of w.state.trees l ≡ 0) is (omega (arith, none, count_of-pruned (out_of d) d.arena.trees l))

@@ -12,7 +12,7 @@ use Rattle.live_range.specs.declared.places.Point.{Point}
 use Rattle.node_arena.specs.declared.NodeRef.{NodeRef}
 use Rattle.node_arena.specs.declared.Kind.{Kind}
 use Rattle.node_arena.specs.declared.Kind.TheVariants as kind
-use Rattle.node_arena.specs.Kinds.{is_parent_kind, is_element_kind}
+use Rattle.node_arena.specs.Kinds.{is_parent_kind}
 use Rattle.point_order.specs.PointOrder.{is_within, is_in_document, is_placed}
 use Rattle.edit_model.specs.Confined.{is_place, is_own, is_open, may_grow, may_select, may_send}
 use Rattle.edit_model.specs.Gives.{label_of}
@@ -37,12 +37,6 @@ leaf_kind kind.Document d e = absurd (d refl)
 leaf_kind kind.Element d e = absurd (e refl)
 leaf_kind kind.Words d e = refl
 leaf_kind kind.Remark d e = refl
-
-pub other_kind : (k : Kind) → (k ≡ kind.Element → ⊥) → is_element_kind k ≡ false
-other_kind kind.Document e = refl
-other_kind kind.Element e = absurd (e refl)
-other_kind kind.Words e = refl
-other_kind kind.Remark e = refl
 
 -- ---- places among children
 

@@ -32,9 +32,6 @@ IsSeen d l = 0 < count_of (pruned (out_of d) d.arena.trees) l
 pub held_seen : (d : Inside) (v : Whole) → seen d ≡ v → (r : NodeRef) → Holds v r → Holds (seen d) r
 held_seen d v is r h = subst (λ w. Holds w r) (sym is) h
 
-pub seen_held : (d : Inside) (v : Whole) → seen d ≡ v → (r : NodeRef) → Holds (seen d) r → Holds v r
-seen_held d v is r h = subst (λ w. Holds w r) is h
-
 -- a node that an answer of the arena names, and that is seen
 named_node : (d : Inside) (o : Option NodeRef) (here there : Option ℕ) → here ≡ there → IfSome here (λ l. IsSeen d l) → Names d.arena o there → Finds (seen d) o here
 named_node d o here there same detached names = at o (names.is ∙ sym same) names.held
