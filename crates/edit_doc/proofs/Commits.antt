@@ -29,7 +29,7 @@ use Rattle.edit_doc.specs.Trail.{trail_of}
 use Rattle.edit_doc.proofs.HiddenTrees.{false_le, document-pruned, placed-pruned, placed-whole, node_count-pruned, char_count-pruned, page_depth-pruned}
 use Rattle.edit_doc.proofs.Inner.{seen, Ending}
 use Rattle.edit_doc.proofs.Rests.{AtRest, rest_sound, rest_state, none_noted, arena_forest}
-use Rattle.edit_doc.proofs.Rolls.{whole_g, prunes_g, Without, without_rest, without_needed, without_history}
+use Rattle.edit_doc.proofs.Rolls.{Leaves, whole_g, prunes_g, Without, without_rest, without_needed, without_history}
 use Rattle.edit_doc.proofs.MadeNodes.{no_edits, count_edits}
 
 -- ---- whether a step was noted
@@ -111,14 +111,14 @@ module _ (d : Inside) (ending : Ending d) where
           (ending.during.ok.chars ∙ (sym (char_count-pruned d.arena.trees d.arena.next f k prunes) ∙ ap char_count (sym drops.trees)))
           (subst (λ n. n ≤ d.counts.depth) (sym (page_depth-pruned d.arena.trees d.arena.next f k prunes) ∙ ap page_depth (sym drops.trees)) ending.during.ok.depth)
 
-      pub nothing_ok : IsSoundDoc a rested_points d.overrides.items d.flags d.counts c (trail_of log' us d.history.future)
+      nothing_ok : IsSoundDoc a rested_points d.overrides.items d.flags d.counts c (trail_of log' us d.history.future)
       nothing_ok = rest_sound a rested_points d.overrides.items d.flags d.counts c (trail_of log' us d.history.future) ends
           (without_needed d ending.during a detached_out us forgets c ended log' refl refl refl refl refl)
 
       document_is : document_of a.trees ≡ document_of (seen_trees d.history.log d.command.start d.arena.trees)
       document_is = ap document_of drops.trees ∙ (document-pruned d.arena.trees d.arena.next (arena_forest d.arena ending.during.law) k prunes ∙ sym document_now)
 
-      pub nothing_state : (v : Whole) → seen d ≡ v → state_of a rested_points d.overrides.items d.flags c log' ≡ rested v.state
+      nothing_state : (v : Whole) → seen d ≡ v → state_of a rested_points d.overrides.items d.flags c log' ≡ rested v.state
       unfolding rested
       nothing_state v sees =
           rest_state a rested_points d.overrides.items d.flags d.counts c (trail_of log' us d.history.future) ends
@@ -137,7 +137,7 @@ module _ (d : Inside) (ending : Ending d) where
           })
           ∙ ap (λ (w : Whole). rested w.state) sees)
 
-      pub nothing_history : (v : Whole) → seen d ≡ v → history_of d.points.names (begun_forest log' a.trees) (trail_of log' us d.history.future) ≡ history_committed v
+      nothing_history : (v : Whole) → seen d ≡ v → history_of d.points.names (begun_forest log' a.trees) (trail_of log' us d.history.future) ≡ history_committed v
       unfolding history_committed
       nothing_history v sees =
           ap (λ f. history_of d.points.names f (trail_of log' us d.history.future)) (none_noted log' a.trees refl)
@@ -150,10 +150,13 @@ module _ (d : Inside) (ending : Ending d) where
       by_detached : (l : ℕ) → 0 < count_of a.trees l → l < d.command.start
       by_detached l here = false_le d.command.start l ((prunes_g d ending.during).out l (subst (λ t. 0 < count_of t l) detached_out.trees here))
 
-      pub nothing_keeps : (v : Whole) → seen d ≡ v → KeepsThere v nothing_doc
+      nothing_keeps : (v : Whole) → seen d ≡ v → KeepsThere v nothing_doc
       nothing_keeps v sees =
           let own : KeepsThere (seen d) nothing_doc = (λ r h there. record {
             slot = detached_out.held r h.slot (by_detached r.label (let le = count_of-pruned (is_hidden (begun_forest log' a.trees) c.start) a.trees r.label in omega (arith, le, there)));
             here = there;
           }) in
           subst (λ (w : Whole). KeepsThere w nothing_doc) sees own
+
+      pub makes_nothing : (v : Whole) → seen d ≡ v → Leaves a rested_points d.overrides.items d.flags d.counts c (trail_of log' us d.history.future) v (rested v.state) (history_committed v)
+      makes_nothing v sees = record { invariant = nothing_ok; state = nothing_state v sees; history = nothing_history v sees; keeps = nothing_keeps v sees }

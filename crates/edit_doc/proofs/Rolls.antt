@@ -31,7 +31,7 @@ use Rattle.edit_model.specs.declared.settings.Setting.{Setting}
 use Rattle.edit_model.specs.declared.settings.Flags.{Flags}
 use Rattle.edit_model.specs.State.{State}
 use Rattle.edit_model.specs.Valid.{IsPlaced}
-use Rattle.edit_model.specs.History.{used, document_of}
+use Rattle.edit_model.specs.History.{History, used, document_of}
 use Rattle.edit_parts.specs.declared.Counts.{Counts}
 use Rattle.edit_doc.specs.declared.Doc.TheInside.{Inside}
 use Rattle.edit_doc.specs.declared.command.EntrySnapshot.{EntrySnapshot}
@@ -43,7 +43,7 @@ use Rattle.edit_doc.specs.Held.{KeepsThere}
 use Rattle.edit_doc.specs.History.{edits_before, roots_from, forest_before, is_hidden, view_at, begun_forest, state_of, begun_state, began_with, history_of, undo_entries, redo_entries, whole_of, Way, led, older}
 use Rattle.edit_doc.specs.History.Way.{Back, Forth}
 use Rattle.edit_doc.specs.Sound.{RefIn, AreFresh, AreAlone, IsSide, IsSnapshot, IsRunning, OpenSound, UndoSound, RedoSound, EntriesOff, AreNeeded, next_first, IsSoundDoc, Lies, turned, bound_of, next_bound, detached_of}
-use Rattle.edit_doc.specs.Trail.{trail_of, IsTrail}
+use Rattle.edit_doc.specs.Trail.{trail_of, IsTrail, Trail}
 use Rattle.edit_doc.proofs.HiddenTrees.{tops_detached, le_false, true_le, false_le, document-pruned, model_forest}
 use Rattle.edit_doc.proofs.Downs.{back_forest, back_bounded, back_labels, Bounded, KeepsLeft, EntriesLeft, side-pruned, lies-pruned, entries-pruned, led_labels, names_here}
 use Rattle.edit_doc.proofs.Inner.{seen, Opened}
@@ -155,6 +155,14 @@ whole_those k g once alone = record { same = same }
 
 whole_alone : (g : Forest Content) (first next : ℕ) → IsDistinct g → ((l : ℕ) → 0 < count_of g l → l < next) → AreAlone g first next → IsWhole (nat_le first) g
 whole_alone g first next once below alone = whole_those (nat_le first) g once (λ l t here. (let from = true_le first l t in (alone.loose l from (below l here) here, alone.leaf l from (below l here) here)))
+
+-- ---- what a call that ends a command leaves
+
+pub record Leaves (a : Arena) (points : LivePoints) (overrides : List Setting) (flags : Flags) (counts : Counts) (c : Command) (trail : Trail) (v : Whole) (s : State) (h : History) : Type 0 where
+  pub invariant : IsSoundDoc a points overrides flags counts c trail
+  pub state : state_of a points overrides flags c trail.log ≡ s
+  pub history : history_of points.names (begun_forest trail.log a.trees) trail ≡ h
+  pub keeps : KeepsThere v (whole_of a points overrides flags c trail)
 
 -- ---- what goes with the nodes that were made since
 
@@ -340,7 +348,7 @@ module _ (d : Inside) (during : Opened d) where
             (side.chars_are ∙ ap char_count (sym rolled.trees))
             (subst (λ t. page_depth t ≤ d.command.kept.counts.depth) (sym rolled.trees) side.no_deeper)
 
-        pub rolled_ok : IsSoundDoc a3 kept_points d.command.kept.overrides.items d.command.kept.flags d.command.kept.counts c (trail_of log' us d.history.future)
+        rolled_ok : IsSoundDoc a3 kept_points d.command.kept.overrides.items d.command.kept.flags d.command.kept.counts c (trail_of log' us d.history.future)
         rolled_ok = rest_sound a3 kept_points d.command.kept.overrides.items d.command.kept.flags d.command.kept.counts c (trail_of log' us d.history.future) resting
             (without_needed a3 rolled us forgets c ended log' refl refl refl refl refl)
 
@@ -355,7 +363,7 @@ module _ (d : Inside) (during : Opened d) where
         next_is : a3.next ≡ d.command.start
         next_is = ap (λ (b : Arena). b.next) rewinds
 
-        pub rolled_state : (v : Whole) → seen d ≡ v → state_of a3 kept_points d.command.kept.overrides.items d.command.kept.flags c log' ≡ state_rolled_back v
+        rolled_state : (v : Whole) → seen d ≡ v → state_of a3 kept_points d.command.kept.overrides.items d.command.kept.flags c log' ≡ state_rolled_back v
         unfolding state_rolled_back
         rolled_state v sees =
             rest_state a3 kept_points d.command.kept.overrides.items d.command.kept.flags d.command.kept.counts c (trail_of log' us d.history.future) resting
@@ -374,7 +382,7 @@ module _ (d : Inside) (during : Opened d) where
             })
             ∙ (begun_is d.history.log.open_entry (seen d).state (begun_state d.arena d.points.names d.command d.history.log) during.opened ∙ ap state_rolled_back sees))
 
-        pub rolled_history : (v : Whole) → seen d ≡ v → history_of d.points.names (begun_forest log' a3.trees) (trail_of log' us d.history.future) ≡ v.history
+        rolled_history : (v : Whole) → seen d ≡ v → history_of d.points.names (begun_forest log' a3.trees) (trail_of log' us d.history.future) ≡ v.history
         rolled_history v sees =
             ap (λ f. history_of d.points.names f (trail_of log' us d.history.future)) (none_noted log' a3.trees refl)
             ∙ (without_history a3 rolled us forgets c ended log' refl refl refl refl refl d.points.names refl ∙ ap (λ (w : Whole). w.history) sees)
@@ -385,10 +393,13 @@ module _ (d : Inside) (during : Opened d) where
         abbrev rolled_whole : Whole
         rolled_whole = whole_of a3 kept_points d.command.kept.overrides.items d.command.kept.flags c (trail_of log' us d.history.future)
 
-        pub rolled_keeps : (v : Whole) → seen d ≡ v → KeepsThere v rolled_whole
+        rolled_keeps : (v : Whole) → seen d ≡ v → KeepsThere v rolled_whole
         rolled_keeps v sees =
             let own : KeepsThere (seen d) rolled_whole = (λ r h there. record {
               slot = rolled.held r h.slot (by_detached r.label (let le = count_of-pruned (is_hidden (begun_forest log' a3.trees) c.start) a3.trees r.label in omega (arith, le, there)));
               here = there;
             }) in
             subst (λ (w : Whole). KeepsThere w rolled_whole) sees own
+
+        pub rolls : (v : Whole) → seen d ≡ v → Leaves a3 kept_points d.command.kept.overrides.items d.command.kept.flags d.command.kept.counts c (trail_of log' us d.history.future) v (state_rolled_back v) v.history
+        rolls v sees = record { invariant = rolled_ok; state = rolled_state v sees; history = rolled_history v sees; keeps = rolled_keeps v sees }

@@ -1,9 +1,8 @@
 -- A commit with an edit gives up what no kept entry names.
-use Rattle.std.proofs.Common.{◌≡◌, ℕ, ◌<◌, Bool, List, [], sym, ap, subst, ◌∙◌, arith}
+use Rattle.std.proofs.Common.{◌≡◌, ℕ, ◌<◌, Bool, [], sym, ap, subst, ◌∙◌, arith}
 use Rattle.dom_model.specs.Forest.{count_of}
 use Rattle.dom_model.specs.ArenaState.{ArenaState as Arena, IsValid as IsArena}
 use Rattle.dom_model.proofs.Pruning.{count_of-pruned}
-use Rattle.live_range.specs.declared.places.Places.{Places}
 use Rattle.live_range.specs.LivePoints.{LivePoints}
 use Rattle.live_range.specs.Names.{shown}
 use Rattle.undo_log.specs.Log.{Log, IsLog, noted, committed}
@@ -11,7 +10,6 @@ use Rattle.forest_changes.specs.Down.{Prunes}
 use Rattle.edit_steps.specs.declared.step.Step.{Step}
 use Rattle.edit_model.specs.History.{rested}
 use Rattle.edit_doc.specs.declared.Doc.TheInside.{Inside}
-use Rattle.edit_doc.specs.declared.command.EntrySnapshot.{EntrySnapshot}
 use Rattle.edit_doc.specs.declared.command.Command.{Command}
 use Rattle.edit_doc.specs.Fields.{IsEnded}
 use Rattle.edit_doc.specs.GivingUp.{GivesUp}
@@ -26,14 +24,8 @@ use Rattle.edit_doc.proofs.Inner.{seen, Entering}
 use Rattle.edit_doc.proofs.Needs.{needed_after}
 use Rattle.edit_doc.proofs.Outgone.{unkept, prunes_both, kept_both}
 use Rattle.edit_doc.proofs.Joins.{entry_redo, entry_rests, entry_state, entry_history}
+use Rattle.edit_doc.proofs.Rolls.{Leaves}
 use Rattle.edit_doc.proofs.Rests.{AtRest, rest_sound, none_noted}
-
--- what a commit with an edit owes
-pub record Spares (d : Inside) (p : Places) (v : Whole) (c : Command) (a : Arena) (log : Log Step) (us : List EntrySnapshot) : Type 0 where
-  pub invariant : IsSoundDoc a (shown d.points.names p) d.overrides.items d.flags d.counts c (trail_of log us [])
-  pub state : state_of a (shown d.points.names p) d.overrides.items d.flags c log ≡ rested v.state
-  pub history : history_of d.points.names (begun_forest log a.trees) (trail_of log us []) ≡ history_committed v
-  pub keeps : KeepsThere v (whole_of a (shown d.points.names p) d.overrides.items d.flags c (trail_of log us []))
 
 module _ (d : Inside) (enters : Entering d) (logged : IsLog d.history.log) (c : Command) (ended : IsEnded d.arena.next c) (log : Log Step) (is : log ≡ committed d.history.log)
     (a : Arena) (gives : GivesUp (unkept d enters) d.arena a) (law' : IsArena a) where
@@ -87,5 +79,5 @@ module _ (d : Inside) (enters : Entering d) (logged : IsLog d.history.log) (c : 
       }) in
       subst (λ (w : Whole). KeepsThere w spared_whole) sees own
 
-  pub spared : (v : Whole) → seen d ≡ v → Spares d enters.ending.places v c a log enters.past
+  pub spared : (v : Whole) → seen d ≡ v → Leaves a points d.overrides.items d.flags d.counts c (trail_of log enters.past []) v (rested v.state) (history_committed v)
   spared v sees = record { invariant = spared_ok; state = spared_state v sees; history = spared_history v sees; keeps = spared_keeps v sees }

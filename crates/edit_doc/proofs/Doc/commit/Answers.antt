@@ -5,15 +5,19 @@ use Rattle.dom_model.specs.Forest.{parent_of}
 use Rattle.dom_model.specs.Pruned.{IsWhole}
 use Rattle.node_arena.specs.Held.{DropsMade}
 use Rattle.undo_log.specs.Log.Open.{Closed}
+use Rattle.live_range.specs.Names.{shown}
+use Rattle.edit_model.specs.History.{rested}
+use Rattle.edit_doc.specs.Whole.{history_committed}
 use Rattle.edit_doc.specs.declared.command.Command.{Command}
 use Rattle.edit_doc.specs.Fields.{IsEnded, Forgets}
 use Rattle.edit_doc.specs.GivingUp.{GivesUp, is_unnamed}
 use Rattle.edit_doc.specs.Sound.{next_first}
 use Rattle.edit_doc.specs.Trail.{Trail, trail_of}
-use Rattle.edit_doc.proofs.Commits.{edits_count, committed_none, nothing_whole, nothing_ok, nothing_state, nothing_history, nothing_keeps}
+use Rattle.edit_doc.proofs.Commits.{edits_count, committed_none, nothing_whole, makes_nothing}
 use Rattle.edit_doc.proofs.Inner.{Entering, opened_of, open_of, ending_of}
 use Rattle.edit_doc.proofs.Outgone.{detached_inner, detached_still_loose, unkept, gives_both}
-use Rattle.edit_doc.proofs.Spared.{Spares, spared}
+use Rattle.edit_doc.proofs.Spared.{spared}
+use Rattle.edit_doc.proofs.Rolls.{Leaves}
 use Rattle.edit_doc.proofs.Unnamed.{unnamed, some_low, unnamed_loose}
 use Rattle.edit_doc.proofs.Doc.commit.Goals as goal
 
@@ -45,11 +49,14 @@ trail c =
 ended : (c : goal.After-end) → IsEnded c.drop_made.new.self.next c.end.new.self
 ended c = subst (λ (n : ℕ). IsEnded n c.end.new.self) c.next_label.ensures c.end.ensures
 
+nothing : (c : goal.After-end) → Leaves c.drop_made.new.self (shown c.self.inside.points.names c.resting_places-places.result) c.self.inside.overrides.items c.self.inside.flags c.self.inside.counts c.end.new.self
+    (trail_of (record c.self.inside.history.log { open_entry = Closed }) c.forget_detached.new.self.past c.self.inside.history.future) c.args.self.now (rested c.args.self.now.state) (history_committed c.args.self.now)
+nothing c =
+    makes_nothing c.self.inside (ending_of c.self.inside _ c.self.view_is c.valid-2.ensures c.self.invariant c.requires.«open» c.resting_places-places.result c.resting_places-places.ensures) c.in-Nothing.ensures.closes.none
+    _ (drops c) c.valid-in-Nothing.ensures _ (forgets c) _ (ended c) _ c.self.view_is
+
 pub invariant_of-self : goal.invariant_of-self
-invariant_of-self c =
-    rw (c.set_places.ensures, trail c)
-    (nothing_ok c.self.inside (ending_of c.self.inside _ c.self.view_is c.valid-2.ensures c.self.invariant c.requires.«open» c.resting_places-places.result c.resting_places-places.ensures) c.in-Nothing.ensures.closes.none
-    _ (drops c) c.valid-in-Nothing.ensures _ (forgets c) _ (ended c))
+invariant_of-self c = rw (c.set_places.ensures, trail c) (nothing c).invariant
 
 pub returns-in-Nothing-clause-answer : goal.returns-in-Nothing-clause-answer
 returns-in-Nothing-clause-answer c =
@@ -58,22 +65,13 @@ returns-in-Nothing-clause-answer c =
     (λ e. absurd (cc), λ h. absurd (omega (arith, n, none, h)))
 
 pub returns-in-Nothing-clause-state : goal.returns-in-Nothing-clause-state
-returns-in-Nothing-clause-state c =
-    rw (c.set_places.ensures, trail c)
-    (nothing_state c.self.inside (ending_of c.self.inside _ c.self.view_is c.valid-2.ensures c.self.invariant c.requires.«open» c.resting_places-places.result c.resting_places-places.ensures) c.in-Nothing.ensures.closes.none
-    _ (drops c) c.valid-in-Nothing.ensures _ (forgets c) _ (ended c) _ c.self.view_is)
+returns-in-Nothing-clause-state c = rw (c.set_places.ensures, trail c) (nothing c).state
 
 pub returns-in-Nothing-clause-history : goal.returns-in-Nothing-clause-history
-returns-in-Nothing-clause-history c =
-    rw (c.set_places.ensures, trail c)
-    (nothing_history c.self.inside (ending_of c.self.inside _ c.self.view_is c.valid-2.ensures c.self.invariant c.requires.«open» c.resting_places-places.result c.resting_places-places.ensures) c.in-Nothing.ensures.closes.none
-    _ (drops c) c.valid-in-Nothing.ensures _ (forgets c) _ (ended c) _ c.self.view_is)
+returns-in-Nothing-clause-history c = rw (c.set_places.ensures, trail c) (nothing c).history
 
 pub returns-in-Nothing-clause-keeps : goal.returns-in-Nothing-clause-keeps
-returns-in-Nothing-clause-keeps c =
-    rw (c.set_places.ensures, trail c)
-    (nothing_keeps c.self.inside (ending_of c.self.inside _ c.self.view_is c.valid-2.ensures c.self.invariant c.requires.«open» c.resting_places-places.result c.resting_places-places.ensures) c.in-Nothing.ensures.closes.none
-    _ (drops c) c.valid-in-Nothing.ensures _ (forgets c) _ (ended c) _ c.self.view_is)
+returns-in-Nothing-clause-keeps c = rw (c.set_places.ensures, trail c) (nothing c).keeps
 
 -- ---- with an edit
 
@@ -116,7 +114,8 @@ gives_all c =
 entry_ended : (c : goal.After-end-in-Entry) → IsEnded c.self.inside.arena.next c.end-in-Entry.new.self
 entry_ended c = subst (λ (n : ℕ). IsEnded n c.end-in-Entry.new.self) (c.next_label-in-Entry.ensures ∙ (c.give_up_detached.ensures.next ∙ c.give_up_unnamed.ensures.next)) c.end-in-Entry.ensures
 
-spares : (c : goal.After-end-in-Entry) → Spares c.self.inside c.resting_places-places.result c.args.self.now c.end-in-Entry.new.self c.give_up_detached.new.arena c.commit.new.self.log c.commit.new.self.past
+spares : (c : goal.After-end-in-Entry) → Leaves c.give_up_detached.new.arena (shown c.self.inside.points.names c.resting_places-places.result) c.self.inside.overrides.items c.self.inside.flags c.self.inside.counts c.end-in-Entry.new.self
+    (trail_of c.commit.new.self.log c.commit.new.self.past []) c.args.self.now (rested c.args.self.now.state) (history_committed c.args.self.now)
 spares c =
     let m = c.in-Entry.ensures.closes in
     spared c.self.inside (enters_all c) c.valid.ensures.log

@@ -1,10 +1,12 @@
 -- What taking a command back owes.
 use Rattle.std.proofs.Common.{◌≡◌, ℕ, ◌<◌, ◌≤◌, true, length, ap, sym, subst, ◌∙◌, arith}
 use Rattle.dom_model.specs.ArenaState.{ArenaState as Arena}
+use Rattle.live_range.specs.Names.{shown}
 use Rattle.undo_log.specs.Log.{abandoned}
+use Rattle.edit_doc.specs.Whole.{state_rolled_back}
 use Rattle.edit_doc.specs.Fields.{IsEnded, Forgets}
 use Rattle.edit_doc.specs.Trail.{Trail, trail_of}
-use Rattle.edit_doc.proofs.Rolls.{fits_of, drop_whole, back_is, resumed_some, rolled_ok, rolled_state, rolled_history, rolled_keeps}
+use Rattle.edit_doc.proofs.Rolls.{Leaves, fits_of, drop_whole, back_is, resumed_some, rolls}
 use Rattle.edit_doc.proofs.Inner.{opened_of}
 use Rattle.edit_doc.proofs.Doc.roll_back.Goals as goal
 
@@ -33,26 +35,20 @@ forgets c = subst (λ (t : Trail). Forgets t.past c.forget_detached.new.self.pas
 trail : (c : goal.After-end) → c.forget_detached.new.self ≡ trail_of (abandoned c.self.inside.history.log) c.forget_detached.new.self.past c.self.inside.history.future
 trail c = c.forget_detached.ensures.rest ∙ ap (λ (t : Trail). record t { past = c.forget_detached.new.self.past }) c.abandon.ensures.history
 
+rolled : (c : goal.After-end) → Leaves c.rewind.new.self (shown c.self.inside.points.names c.self.inside.command.kept.places) c.self.inside.command.kept.overrides.items c.self.inside.command.kept.flags c.self.inside.command.kept.counts c.end.new.self
+    (trail_of (abandoned c.self.inside.history.log) c.forget_detached.new.self.past c.self.inside.history.future) c.args.self.now (state_rolled_back c.args.self.now) c.args.self.now.history
+rolled c =
+    rolls c.self.inside (opened_of c.self.inside _ c.self.view_is c.valid-2.ensures c.self.invariant c.requires.«open») c.slotted.ensures _ c.abandon.ensures.arena
+    _ _ c.drop_made.ensures.drops c.rewind.ensures c.valid-4.ensures _ (forgets c) _ (ended c) _ c.self.view_is
+
 pub invariant_of-self : goal.invariant_of-self
-invariant_of-self c =
-    rw (c.set_places.ensures, c.swap.ensures.x_after, trail c)
-    (rolled_ok c.self.inside (opened_of c.self.inside _ c.self.view_is c.valid-2.ensures c.self.invariant c.requires.«open») c.slotted.ensures _ c.abandon.ensures.arena
-    _ _ c.drop_made.ensures.drops c.rewind.ensures c.valid-4.ensures _ (forgets c) _ (ended c))
+invariant_of-self c = rw (c.set_places.ensures, c.swap.ensures.x_after, trail c) (rolled c).invariant
 
 pub returns-clause-state : goal.returns-clause-state
-returns-clause-state c =
-    rw (c.set_places.ensures, c.swap.ensures.x_after, trail c)
-    (rolled_state c.self.inside (opened_of c.self.inside _ c.self.view_is c.valid-2.ensures c.self.invariant c.requires.«open») c.slotted.ensures _ c.abandon.ensures.arena
-    _ _ c.drop_made.ensures.drops c.rewind.ensures c.valid-4.ensures _ (forgets c) _ (ended c) _ c.self.view_is)
+returns-clause-state c = rw (c.set_places.ensures, c.swap.ensures.x_after, trail c) (rolled c).state
 
 pub returns-clause-history : goal.returns-clause-history
-returns-clause-history c =
-    rw (c.set_places.ensures, trail c)
-    (rolled_history c.self.inside (opened_of c.self.inside _ c.self.view_is c.valid-2.ensures c.self.invariant c.requires.«open») c.slotted.ensures _ c.abandon.ensures.arena
-    _ _ c.drop_made.ensures.drops c.rewind.ensures c.valid-4.ensures _ (forgets c) _ (ended c) _ c.self.view_is)
+returns-clause-history c = rw (c.set_places.ensures, trail c) (rolled c).history
 
 pub returns-clause-keeps : goal.returns-clause-keeps
-returns-clause-keeps c =
-    rw (c.set_places.ensures, c.swap.ensures.x_after, trail c)
-    (rolled_keeps c.self.inside (opened_of c.self.inside _ c.self.view_is c.valid-2.ensures c.self.invariant c.requires.«open») c.slotted.ensures _ c.abandon.ensures.arena
-    _ _ c.drop_made.ensures.drops c.rewind.ensures c.valid-4.ensures _ (forgets c) _ (ended c) _ c.self.view_is)
+returns-clause-keeps c = rw (c.set_places.ensures, c.swap.ensures.x_after, trail c) (rolled c).keeps
