@@ -53,4 +53,4 @@ pub fit_perform : (a : Action) → IsQuiet a → LeavesStates a → Fit (perform
 fit_perform a quiet leaves = fit (order_preserving_perform a quiet) (stateless_perform a leaves)
 
 -- with these a run whose moves are fit is fit by its parts
-pub ruleset fits = (fit_answer, fit_bind, fit_look, fit_if, fit_given, fit_each, fit_while, fit_remove, fit_set, fit_unset)
+pub ruleset fits = (fit_answer, fit_bind, fit_look, fit_if, fit_given, fit_each, fit_while, fit_remove, fit_set, fit_unset, fit_perform)
