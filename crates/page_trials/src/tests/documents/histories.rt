@@ -234,7 +234,7 @@ fn turn_uncounted<L: Ledger>(doc: &mut Doc, turn: Turn, blank: Blank) -> bool
     }
 }
 
-fn turn(doc: &mut Doc, turn: Turn) -> bool
+fn take_turn(doc: &mut Doc, turn: Turn) -> bool
     requires { IsClosed doc.old }
     ensures { IsClosed doc.new }
 {
@@ -260,9 +260,9 @@ fn turns(alloc: Global, doc: &mut Doc, before: &str, after: &str) -> Result<bool
     requires { IsClosed doc.old }
     ensures { IsClosed doc.new }
 {
-    let undone = turn(doc, Turn::Undo);
+    let undone = take_turn(doc, Turn::Undo);
     let is_before = is_as(alloc, doc, before)?;
-    let redone = turn(doc, Turn::Redo);
+    let redone = take_turn(doc, Turn::Redo);
     let is_after = is_as(alloc, doc, after)?;
     Ok(undone && is_before && redone && is_after)
 }

@@ -1,4 +1,4 @@
-use Rattle.page_trials.proofs.tests.documents.histories.turn.Given as goal
+use Rattle.page_trials.proofs.tests.documents.histories.take_turn.Given as goal
 
 abbrev pub ghosts-turn_uncounted : goal.ghosts-turn_uncounted
 ghosts-turn_uncounted a = record { name = a.blank.name; parts = a.blank.parts }
