@@ -1,5 +1,5 @@
 -- Inserting line breaks, rules and images leaves the states of contenteditable: what is put there has none.
-use Rattle.std.proofs.Common.{ℕ, Bool, List, [], ◌∷◌, refl}
+use Rattle.std.proofs.Common.{ℕ, List, [], ◌∷◌, refl}
 use Rattle.std.specs.Prelude.{codes}
 use Rattle.dom_model.specs.declared.attributes.Attribute.{Attribute}
 use Rattle.live_range.specs.declared.places.Point.{Point}
