@@ -30,7 +30,7 @@ use Rattle.edit_doc.specs.History.{edits_before, roots_from, begun_forest, is_hi
 use Rattle.edit_doc.specs.Marks.{has_named}
 use Rattle.edit_doc.specs.Sound.{RefIn, IsRunning, OpenSound, UndoSound, RedoSound, AreNeeded, next_first, IsSoundDoc}
 use Rattle.edit_doc.specs.Trail.{trail_of, with_log}
-use Rattle.edit_doc.proofs.Inner.{seen, Ok}
+use Rattle.edit_doc.proofs.Inner.{live, seen, Ok}
 use Rattle.edit_doc.proofs.Laid.{undo_later, redo_later, next_first_low}
 use Rattle.edit_doc.proofs.Rests.{rest_state, AtRest, rest_of, trees_are, none_noted, arena_forest}
 use Rattle.edit_doc.proofs.HiddenTrees.{seen_at_rest, hidden_is}
@@ -74,14 +74,14 @@ pub record Opens (d : Inside) (c : Command) (log : Log Step) : Type 0 where
   pub depth : log.depth ≡ d.history.log.depth
 
 module _ (d : Inside) (law : IsArena d.arena) (closed : d.history.log.open_entry ≡ Closed) (ok : Ok d) where
-  pub rest : AtRest d.arena d.points d.overrides.items d.flags d.counts d.command d.history
-  rest = rest_of d.arena d.points d.overrides.items d.flags d.counts d.command d.history law closed ok
+  pub rest : AtRest (live d) d.counts d.command d.history
+  rest = rest_of (live d) d.counts d.command d.history law closed ok
 
   was : begun_forest d.history.log d.arena.trees ≡ d.arena.trees
   was = none_noted d.history.log d.arena.trees (ap noted closed)
 
   whole_document : seen_trees d.history.log d.command.start d.arena.trees ≡ document_of d.arena.trees
-  whole_document = trees_are d.arena d.points d.overrides.items d.flags d.counts d.command d.history law closed rest.idle.start
+  whole_document = trees_are (live d) d.counts d.command d.history law closed rest.idle.start
 
   module _ (c : Command) (log : Log Step) (o : Opens d c log) where
     now : begun_forest log d.arena.trees ≡ d.arena.trees
@@ -138,7 +138,7 @@ module _ (d : Inside) (law : IsArena d.arena) (closed : d.history.log.open_entry
         UndoSound d.arena.held d.points.names c.resumed c (next_first c.start d.history.future) d.arena.trees log.undo us →
         RedoSound d.arena.held d.points.names c d.arena.trees log.redo d.history.future →
         AreNeeded d.command.start d.arena.trees log.undo log.redo →
-        IsSoundDoc d.arena d.points d.overrides.items d.flags d.counts c (trail_of log us d.history.future)
+        IsSoundDoc (live d) d.counts c (trail_of log us d.history.future)
     opened_ok us running resumed host undo redo needed = record {
       valid = record {
         forest = subst (λ t. IsForest t d.arena.next) (sym same_trees) ok.valid.forest;
@@ -159,7 +159,7 @@ module _ (d : Inside) (law : IsArena d.arena) (closed : d.history.log.open_entry
       needed = subst (λ g. AreNeeded c.start g log.undo log.redo) (sym now) (subst (λ n. AreNeeded n d.arena.trees log.undo log.redo) (sym o.start) needed);
     }
 
-    kept_state : begun_state d.arena d.points.names c log ≡ state_of d.arena d.points d.overrides.items d.flags d.command d.history.log
+    kept_state : begun_state d.arena d.points.names c log ≡ state_of (live d) d.command d.history.log
     kept_state = λ i. record {
       trees = (ap document_of now ∙ sym whole_document) i;
       points = o.kept.shown i;
@@ -171,13 +171,13 @@ module _ (d : Inside) (law : IsArena d.arena) (closed : d.history.log.open_entry
       host = label_of (sym rest.idle.host i);
       keeping = sym rest.idle.keeping i;
       edits = sym (ap (λ o. edits_before (noted o) d.arena.trees) closed ∙ no_edits d.arena.trees) i;
-      made = sym (ap (λ (s : State). s.made) (rest_state d.arena d.points d.overrides.items d.flags d.counts d.command d.history rest)) i;
+      made = sym (ap (λ (s : State). s.made) (rest_state (live d) d.counts d.command d.history rest)) i;
     }
 
     pub opened_is : (us : List EntrySnapshot) (resumed : Bool) →
         ((s : State) → began_with s log.open_entry ≡ Some (record { state = s; resumed = resumed })) →
         history_of d.points.names d.arena.trees (trail_of log us d.history.future) ≡ history_of d.points.names d.arena.trees d.history →
-        whole_of d.arena d.points d.overrides.items d.flags c (trail_of log us d.history.future) ≡ opened (label_of c.host) c.keeping resumed (seen d)
+        whole_of (live d) c (trail_of log us d.history.future) ≡ opened (label_of c.host) c.keeping resumed (seen d)
     unfolding opened begun
     opened_is us resumed began history = λ i. record {
       state = record {
@@ -224,7 +224,7 @@ module _ (d : Inside) (law : IsArena d.arena) (closed : d.history.log.open_entry
       depth = refl;
     }
 
-    pub begin_ok : IfHeld (seen d) host → IsSoundDoc d.arena d.points d.overrides.items d.flags d.counts begun_command (with_log d.history (begun_log d.history.log))
+    pub begin_ok : IfHeld (seen d) host → IsSoundDoc (live d) d.counts begun_command (with_log d.history (begun_log d.history.log))
     begin_ok held =
         let c = begun_command in
         let first = next_first_low d.arena.held d.points.names d.command d.arena.trees d.history.log.redo d.history.future rest.redo in
@@ -234,5 +234,5 @@ module _ (d : Inside) (law : IsArena d.arena) (closed : d.history.log.open_entry
         (redo_later d.arena.held d.points.names d.command c (omega arith) d.arena.trees d.history.log.redo d.history.future rest.redo)
         needed_now
 
-    pub begin_is : whole_of d.arena d.points d.overrides.items d.flags begun_command (with_log d.history (begun_log d.history.log)) ≡ opened (label_of host) keeping false (seen d)
+    pub begin_is : whole_of (live d) begun_command (with_log d.history (begun_log d.history.log)) ≡ opened (label_of host) keeping false (seen d)
     begin_is = opened_is begun_command (begun_log d.history.log) begun_opens d.history.past false (λ s. refl) refl

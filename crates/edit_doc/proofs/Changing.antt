@@ -28,7 +28,6 @@ use Rattle.edit_steps.specs.declared.step.Step.{Step}
 use Rattle.edit_steps.specs.Step.{change_of, changes_of, nodes_of, nodes_in, step_inverse, StepFits}
 use Rattle.edit_steps.specs.StepLaws.{change_of-inverse, held-inverse}
 use Rattle.edit_model.specs.declared.settings.Setting.{Setting}
-use Rattle.edit_model.specs.declared.settings.Flags.{Flags}
 use Rattle.edit_model.specs.State.{State}
 use Rattle.edit_model.specs.Valid.{IsValid}
 use Rattle.edit_model.specs.History.{document_of}
@@ -42,6 +41,7 @@ use Rattle.edit_doc.specs.Marks.{IsMarked, has_named}
 use Rattle.edit_doc.specs.History.{edits_before, roots_from, forest_before, begun_forest, is_hidden, seen_trees, state_of, begun_state, began_with, history_of, whole_of}
 use Rattle.edit_doc.specs.Sound.{RefIn, EachHeldIn, CanGoBack, IsSide, AreAlone, IsSnapshot, IsRunning, OpenSound, UndoSound, RedoSound, detached_of, next_first, IsSoundDoc, AreNeeded}
 use Rattle.edit_doc.specs.Trail.{Trail, with_note}
+use Rattle.edit_doc.specs.Live.{Live}
 use Rattle.edit_doc.proofs.Laid.{redo_later}
 use Rattle.edit_doc.proofs.HiddenTrees.{top_loose}
 use Rattle.edit_doc.proofs.Places.{node_of, loosed, named_node, each_loosed, root_stays, root_was}
@@ -150,77 +150,77 @@ pub record Follows (c d : Command) (x y : Change) : Type 0 where
   pub detached : d.detached.items ≡ c.detached.items ++ more
   pub loosed_is : labels_of more ≡ loosed x
 
-module _ (a : Arena) (points : LivePoints) (overrides : List Setting) (flags : Flags) (counts : Counts) (c : Command) (trail : Trail)
-    (law : IsArena a) (open_now : IsTrue (is_open trail.log.open_entry))
-    (ok : IsSoundDoc a points overrides flags counts c trail) where
+module _ (tree : Live) (counts : Counts) (c : Command) (trail : Trail)
+    (law : IsArena tree.arena) (open_now : IsTrue (is_open trail.log.open_entry))
+    (ok : IsSoundDoc tree counts c trail) where
   abbrev g : Forest Content
-  g = begun_forest trail.log a.trees
+  g = begun_forest trail.log tree.arena.trees
 
   abbrev pub hides : ℕ → Bool
-  hides = is_hidden (begun_forest trail.log a.trees) c.start
+  hides = is_hidden (begun_forest trail.log tree.arena.trees) c.start
 
   abbrev xs : List Step
   xs = noted trail.log.open_entry
 
-  pub seen_prunes : Prunes hides a.trees
-  seen_prunes = prunes_roots hides a.trees (forest_of a law) refl (λ l h. top_loose a.trees l law.distinct (ok.hidden l h))
+  pub seen_prunes : Prunes hides tree.arena.trees
+  seen_prunes = prunes_roots hides tree.arena.trees (forest_of tree.arena law) refl (λ l h. top_loose tree.arena.trees l law.distinct (ok.hidden l h))
 
-  pub run : IsRunning a points.names c xs g
-  run = running_of a points c g trail.log.open_entry open_now ok.running
+  pub run : IsRunning tree.arena tree.points.names c xs g
+  run = running_of tree.arena tree.points c g trail.log.open_entry open_now ok.running
 
-  module _ (x : Step) (fits : StepFits x a) (seen : Each (IsLeft hides a.trees) (named (change_of x))) where
+  module _ (x : Step) (fits : StepFits x tree.arena) (seen : Each (IsLeft hides tree.arena.trees) (named (change_of x))) where
     abbrev y : Step
-    y = step_inverse x a
+    y = step_inverse x tree.arena
 
     abbrev f : Forest Content
-    f = applied (change_of x) a.trees
+    f = applied (change_of x) tree.arena.trees
 
-    T : Turns (change_of x) a.trees
-    T = turns (change_of x) a.trees fits.fits
+    T : Turns (change_of x) tree.arena.trees
+    T = turns (change_of x) tree.arena.trees fits.fits
 
-    pub goes : GoesDown hides (change_of x) a.trees
-    goes = down hides (change_of x) a.trees seen_prunes fits.fits seen
+    pub goes : GoesDown hides (change_of x) tree.arena.trees
+    goes = down hides (change_of x) tree.arena.trees seen_prunes fits.fits seen
 
-    y_is : change_of y ≡ inverse (change_of x) a.trees
-    y_is = change_of-inverse x a
+    y_is : change_of y ≡ inverse (change_of x) tree.arena.trees
+    y_is = change_of-inverse x tree.arena
 
-    ys_are : changes_of (noted (with_noted trail.log.open_entry y)) ≡ changes_of xs ++ inverse (change_of x) a.trees ∷ []
+    ys_are : changes_of (noted (with_noted trail.log.open_entry y)) ≡ changes_of xs ++ inverse (change_of x) tree.arena.trees ∷ []
     ys_are = ap changes_of (noted_more trail.log.open_entry y open_now) ∙ (changes_more xs y ∙ ap (λ z. changes_of xs ++ z ∷ []) y_is)
 
     -- the forest at the begin is the same
     pub begun_same : begun_forest (with_step trail.log y) f ≡ g
-    begun_same = ap (λ ls. back applied ls f) ys_are ∙ (back-append applied (changes_of xs) (inverse (change_of x) a.trees) f ∙ ap (back applied (changes_of xs)) T.back)
+    begun_same = ap (λ ls. back applied ls f) ys_are ∙ (back-append applied (changes_of xs) (inverse (change_of x) tree.arena.trees) f ∙ ap (back applied (changes_of xs)) T.back)
 
-    inverse_same : inverses_back applied inverse (changes_of xs ++ inverse (change_of x) a.trees ∷ []) f ≡ inverses_back applied inverse (changes_of xs) a.trees ++ change_of x ∷ []
+    inverse_same : inverses_back applied inverse (changes_of xs ++ inverse (change_of x) tree.arena.trees ∷ []) f ≡ inverses_back applied inverse (changes_of xs) tree.arena.trees ++ change_of x ∷ []
     inverse_same =
-        inverses_back-append applied inverse (changes_of xs) (inverse (change_of x) a.trees) f
+        inverses_back-append applied inverse (changes_of xs) (inverse (change_of x) tree.arena.trees) f
         ∙ (λ i. inverses_back applied inverse (changes_of xs) (T.back i) ++ T.same i ∷ [])
 
-    steps_are : changes_of (xs ++ y ∷ []) ≡ changes_of xs ++ inverse (change_of x) a.trees ∷ []
+    steps_are : changes_of (xs ++ y ∷ []) ≡ changes_of xs ++ inverse (change_of x) tree.arena.trees ∷ []
     steps_are = changes_more xs y ∙ ap (λ z. changes_of xs ++ z ∷ []) y_is
 
-    can_back : CanGoBack a.held (xs ++ y ∷ []) f
+    can_back : CanGoBack tree.arena.held (xs ++ y ∷ []) f
     can_back = (
-      subst (λ ls. FitsBack applied Fits ls f) (sym steps_are) (FitsBack-more applied Fits (changes_of xs) (inverse (change_of x) a.trees) f T.fits (subst (λ (t : Forest Content). FitsBack applied Fits (changes_of xs) t) (sym T.back) run.can.0)),
-      each_held a.held xs y run.can.1 (held-inverse x a fits),
+      subst (λ ls. FitsBack applied Fits ls f) (sym steps_are) (FitsBack-more applied Fits (changes_of xs) (inverse (change_of x) tree.arena.trees) f T.fits (subst (λ (t : Forest Content). FitsBack applied Fits (changes_of xs) t) (sym T.back) run.can.0)),
+      each_held tree.arena.held xs y run.can.1 (held-inverse x tree.arena fits),
     )
 
     -- what was seen is seen
-    pub still : (l : ℕ) → IsLeft hides a.trees l → IsLeft hides f l
+    pub still : (l : ℕ) → IsLeft hides tree.arena.trees l → IsLeft hides f l
     still l h = let s = goes.stays l in omega (arith, h, s)
 
     names_now : Each (IsLeft hides f) (named_in (changes_of (xs ++ y ∷ [])))
     names_now = subst (λ ls. Each (IsLeft hides f) (named_in ls)) (sym steps_are)
-        (each_named (IsLeft hides f) (changes_of xs) (inverse (change_of x) a.trees)
-        (each_of (IsLeft hides a.trees) (IsLeft hides f) (named_in (changes_of xs)) still run.names_there)
-        (each_of (IsLeft hides a.trees) (IsLeft hides f) (named (inverse (change_of x) a.trees)) still goes.names))
+        (each_named (IsLeft hides f) (changes_of xs) (inverse (change_of x) tree.arena.trees)
+        (each_of (IsLeft hides tree.arena.trees) (IsLeft hides f) (named_in (changes_of xs)) still run.names_there)
+        (each_of (IsLeft hides tree.arena.trees) (IsLeft hides f) (named (inverse (change_of x) tree.arena.trees)) still goes.names))
 
     off_hidden : (l : ℕ) → hides l ≡ true → node_of (change_of x) ≢ l
     off_hidden l h same =
-        let out = seen_prunes.out (node_of (change_of x)) (named_node (IsLeft hides a.trees) (change_of x) seen) in
+        let out = seen_prunes.out (node_of (change_of x)) (named_node (IsLeft hides tree.arena.trees) (change_of x) seen) in
         true≢false (sym h ∙ (ap hides (sym same) ∙ out))
 
-    module _ (d : Command) (now : Follows c d (change_of x) (inverse (change_of x) a.trees)) where
+    module _ (d : Command) (now : Follows c d (change_of x) (inverse (change_of x) tree.arena.trees)) where
       hides_same : is_hidden (begun_forest (with_step trail.log y) f) d.start ≡ hides
       hides_same = λ i. is_hidden (begun_same i) (now.start i)
 
@@ -233,22 +233,22 @@ module _ (a : Arena) (points : LivePoints) (overrides : List Setting) (flags : F
           ∙ (ap labels_of (drop-append-le c.detached_before c.detached.items now.more run.detached_before)
           ∙ (labels_of-append (drop c.detached_before c.detached.items) now.more ∙ ap (λ ls. labels_of (drop c.detached_before c.detached.items) ++ ls) now.loosed_is))
 
-      runs : IsRunning (record a { trees = f }) points.names d (xs ++ y ∷ []) g
+      runs : IsRunning (record tree.arena { trees = f }) tree.points.names d (xs ++ y ∷ []) g
       runs = record {
-        kept = subst (λ k. IsSide points.names g k.places k.counts.nodes k.counts.chars k.counts.depth) (sym now.kept) run.kept;
+        kept = subst (λ k. IsSide tree.points.names g k.places k.counts.nodes k.counts.chars k.counts.depth) (sym now.kept) run.kept;
         settings = ap (λ k. length k.overrides.items) now.kept ∙ run.settings;
-        made = subst (λ n. AreAlone g n a.next) (sym now.start) run.made;
+        made = subst (λ n. AreAlone g n tree.arena.next) (sym now.start) run.made;
         can = can_back;
         names_there = subst (λ n. Each (IsLeft (is_hidden g n) f) (named_in (changes_of (xs ++ y ∷ [])))) (sym now.start) names_now;
         marks = (let m = run.marks in let n = now.count in let s = now.start in omega (arith, m, n, s));
-        marked = subst (λ ls. Each (IsMarked d) (named_in ls)) (sym steps_are) (each_named (IsMarked d) (changes_of xs) (inverse (change_of x) a.trees) (marked_still (changes_of xs) run.marked) now.marked_inverse);
+        marked = subst (λ ls. Each (IsMarked d) (named_in ls)) (sym steps_are) (each_named (IsMarked d) (changes_of xs) (inverse (change_of x) tree.arena.trees) (marked_still (changes_of xs) run.marked) now.marked_inverse);
         marked_inverse = subst (λ ls. Each (IsMarked d) (named_in (inverses_back applied inverse ls f))) (sym steps_are)
-            (subst (λ ls. Each (IsMarked d) (named_in ls)) (sym inverse_same) (each_named (IsMarked d) (inverses_back applied inverse (changes_of xs) a.trees) (change_of x) (marked_still (inverses_back applied inverse (changes_of xs) a.trees) run.marked_inverse) now.marked));
+            (subst (λ ls. Each (IsMarked d) (named_in ls)) (sym inverse_same) (each_named (IsMarked d) (inverses_back applied inverse (changes_of xs) tree.arena.trees) (change_of x) (marked_still (inverses_back applied inverse (changes_of xs) tree.arena.trees) run.marked_inverse) now.marked));
         named_all = λ l h. (
             let R : List Change → List Change → Type 0 = λ bs ts. (has_label (named_in bs) l ≡ true) ⊎ (has_label (named_in ts) l ≡ true) in
             let steps = changes_of xs in
-            let turns = inverses_back applied inverse steps a.trees in
-            let z = inverse (change_of x) a.trees in
+            let turns = inverses_back applied inverse steps tree.arena.trees in
+            let z = inverse (change_of x) tree.arena.trees in
             let own : R (steps ++ z ∷ []) (turns ++ change_of x ∷ []) = elim (now.only l h) [
               | inl was ↦ elim (run.named_all l was) [ inl t ↦ inl (named_first steps (z ∷ []) l t) | inr t ↦ inr (named_first turns (change_of x ∷ []) l t) ]
               | inr more ↦ elim more [ inl t ↦ inr (named_last turns (change_of x) l t) | inr t ↦ inl (named_last steps z l t) ]
@@ -258,17 +258,17 @@ module _ (a : Arena) (points : LivePoints) (overrides : List Setting) (flags : F
         detached_seen = subst (λ n. Each (λ l. 0 < count_of (pruned (is_hidden g n) f) l) (labels_of (drop d.detached_before d.detached.items))) (sym now.start)
             (subst (Each (IsLeft hides f)) (sym detached_labels)
             (each_join (IsLeft hides f) (labels_of (drop c.detached_before c.detached.items)) (loosed (change_of x))
-            (each_of (IsLeft hides a.trees) (IsLeft hides f) (labels_of (drop c.detached_before c.detached.items)) still run.detached_seen)
-            (each_loosed (IsLeft hides f) (change_of x) (still (node_of (change_of x)) (named_node (IsLeft hides a.trees) (change_of x) seen)))));
+            (each_of (IsLeft hides tree.arena.trees) (IsLeft hides f) (labels_of (drop c.detached_before c.detached.items)) still run.detached_seen)
+            (each_loosed (IsLeft hides f) (change_of x) (still (node_of (change_of x)) (named_node (IsLeft hides tree.arena.trees) (change_of x) seen)))));
         newly_detached = λ l inner top. (
-            let top' : 0 < times (tops (applied (change_of x) (pruned hides a.trees))) l = subst (λ t. 0 < times (tops t) l) goes.same (subst (λ n. 0 < times (tops (pruned (is_hidden g n) f)) l) now.start top) in
-            subst (λ ls. has_label ls l ≡ true) (sym detached_labels) (elim (root_was (change_of x) (pruned hides a.trees) l goes.fits top') [
+            let top' : 0 < times (tops (applied (change_of x) (pruned hides tree.arena.trees))) l = subst (λ t. 0 < times (tops t) l) goes.same (subst (λ n. 0 < times (tops (pruned (is_hidden g n) f)) l) now.start top) in
+            subst (λ ls. has_label ls l ≡ true) (sym detached_labels) (elim (root_was (change_of x) (pruned hides tree.arena.trees) l goes.fits top') [
               | inl was ↦ has_first (labels_of (drop c.detached_before c.detached.items)) (loosed (change_of x)) l (run.newly_detached l inner was)
               | inr loose ↦ subst (λ ms. has_label (labels_of (drop c.detached_before c.detached.items) ++ ms) l ≡ true) (sym loose) (has_last (labels_of (drop c.detached_before c.detached.items)) l)
             ]));
       }
 
-      host_still : (o : Option NodeRef) → IfSome o (λ h. RefIn a.held h × (0 < count_of (seen_trees trail.log c.start a.trees) h.label)) → IfSome o (λ h. RefIn a.held h × (0 < count_of (pruned hides f) h.label))
+      host_still : (o : Option NodeRef) → IfSome o (λ h. RefIn tree.arena.held h × (0 < count_of (seen_trees trail.log c.start tree.arena.trees) h.label)) → IfSome o (λ h. RefIn tree.arena.held h × (0 < count_of (pruned hides f) h.label))
       host_still None h = tt
       host_still (Some r) h = (h.0, still r.label h.1)
 
@@ -278,22 +278,22 @@ module _ (a : Arena) (points : LivePoints) (overrides : List Setting) (flags : F
 
       -- what is seen afterwards
       abbrev pub seen_next : LivePoints → List Setting → State
-      seen_next points' overrides' = record (state_of a points overrides flags c trail.log) {
-        trees = applied (change_of x) (pruned hides a.trees);
+      seen_next points' overrides' = record (state_of tree c trail.log) {
+        trees = applied (change_of x) (pruned hides tree.arena.trees);
         points = points';
         overrides = overrides';
-        edits = edits_before xs a.trees ++ change_of x ∷ [];
+        edits = edits_before xs tree.arena.trees ++ change_of x ∷ [];
       }
 
-      module _ (points' : LivePoints) (overrides' : List Setting) (names : points'.names ≡ points.names) where
-        pub state_next : state_of (record a { trees = f }) points' overrides' flags d (with_step trail.log y) ≡ seen_next points' overrides'
+      module _ (points' : LivePoints) (overrides' : List Setting) (names : points'.names ≡ tree.points.names) where
+        pub state_next : state_of (record tree { arena = record tree.arena { trees = f }; points = points'; overrides = overrides' }) d (with_step trail.log y) ≡ seen_next points' overrides'
         state_next = λ i. record {
           trees = (ap (λ k. pruned k f) hides_same ∙ goes.same) i;
           points = points';
           overrides = overrides';
-          flags = flags;
-          next = a.next;
-          cap = a.cap;
+          flags = tree.flags;
+          next = tree.arena.next;
+          cap = tree.arena.cap;
           start = now.start i;
           host = label_of (now.host i);
           keeping = now.keeping i;
@@ -301,22 +301,22 @@ module _ (a : Arena) (points : LivePoints) (overrides : List Setting) (flags : F
           made = roots_from (now.start i) (begun_same i);
         }
 
-        pub whole_next : whole_of (record a { trees = f }) points' overrides' flags d (with_note trail y) ≡ with_state (whole_of a points overrides flags c trail) (seen_next points' overrides')
+        pub whole_next : whole_of (record tree { arena = record tree.arena { trees = f }; points = points'; overrides = overrides' }) d (with_note trail y) ≡ with_state (whole_of tree c trail) (seen_next points' overrides')
         whole_next = λ i. record {
           state = state_next i;
           history = history_of (names i) (begun_same i) (with_note trail y);
-          began = (ap (λ (s : State). began_with s (with_noted trail.log.open_entry y)) begun_is ∙ began_more (begun_state a points.names c trail.log) trail.log.open_entry y) i;
-          held = a.held;
+          began = (ap (λ (s : State). began_with s (with_noted trail.log.open_entry y)) begun_is ∙ began_more (begun_state tree.arena tree.points.names c trail.log) trail.log.open_entry y) i;
+          held = tree.arena.held;
         }
           where
-            begun_is : begun_state (record a { trees = f }) points'.names d (with_step trail.log y) ≡ begun_state a points.names c trail.log
+            begun_is : begun_state (record tree.arena { trees = f }) points'.names d (with_step trail.log y) ≡ begun_state tree.arena tree.points.names c trail.log
             begun_is = λ i. record {
               trees = document_of (begun_same i);
               points = shown (names i) (now.kept i).places;
               overrides = (now.kept i).overrides.items;
               flags = (now.kept i).flags;
               next = now.start i;
-              cap = a.cap;
+              cap = tree.arena.cap;
               start = now.start i;
               host = None;
               keeping = false;
@@ -325,27 +325,27 @@ module _ (a : Arena) (points : LivePoints) (overrides : List Setting) (flags : F
             }
 
         pub sound_next : (counts' : Counts) → IsValid (seen_next points' overrides') → counts'.nodes ≡ node_count f → counts'.chars ≡ char_count f → page_depth f ≤ counts'.depth →
-            IsSoundDoc (record a { trees = f }) points' overrides' flags counts' d (with_note trail y)
+            IsSoundDoc (record tree { arena = record tree.arena { trees = f }; points = points'; overrides = overrides' }) counts' d (with_note trail y)
         sound_next counts' valid nodes chars depth =
             let start : c.start ≡ d.start = sym now.start in
-            let undo : UndoSound a.held points.names c.resumed d (next_first c.start trail.future) g trail.log.undo trail.past = undo_carried a.held points.names c d start c.resumed (next_first c.start trail.future) g trail.log.undo trail.past (detached_same c.resumed) ok.undo in
+            let undo : UndoSound tree.arena.held tree.points.names c.resumed d (next_first c.start trail.future) g trail.log.undo trail.past = undo_carried tree.arena.held tree.points.names c d start c.resumed (next_first c.start trail.future) g trail.log.undo trail.past (detached_same c.resumed) ok.undo in
             let le : c.start ≤ d.start = omega (arith, start) in
-            let redo : RedoSound a.held points.names d g trail.log.redo trail.future = redo_later a.held points.names c d le g trail.log.redo trail.future ok.redo in
+            let redo : RedoSound tree.arena.held tree.points.names d g trail.log.redo trail.future = redo_later tree.arena.held tree.points.names c d le g trail.log.redo trail.future ok.redo in
             record {
               valid = subst IsValid (sym state_next) valid;
               some_label = subst (λ n. 0 < n) start ok.some_label;
               nodes = nodes;
               chars = chars;
               depth = depth;
-              hidden = λ l h. (let h' : hides l ≡ true = subst (λ k. k l ≡ true) hides_same h in root_stays (change_of x) a.trees l fits.fits (off_hidden l h') (ok.hidden l h'));
-              running = of_running (record a { trees = f }) points' d (begun_forest (with_step trail.log y) f) trail.log.open_entry y open_now
-                  (subst (λ t. IsRunning (record a { trees = f }) points'.names d (xs ++ y ∷ []) t) (sym begun_same) (subst (λ ns. IsRunning (record a { trees = f }) ns d (xs ++ y ∷ []) g) (sym names) runs));
+              hidden = λ l h. (let h' : hides l ≡ true = subst (λ k. k l ≡ true) hides_same h in root_stays (change_of x) tree.arena.trees l fits.fits (off_hidden l h') (ok.hidden l h'));
+              running = of_running (record tree.arena { trees = f }) points' d (begun_forest (with_step trail.log y) f) trail.log.open_entry y open_now
+                  (subst (λ t. IsRunning (record tree.arena { trees = f }) points'.names d (xs ++ y ∷ []) t) (sym begun_same) (subst (λ ns. IsRunning (record tree.arena { trees = f }) ns d (xs ++ y ∷ []) g) (sym names) runs));
               resumed = now.resumed ∙ (ok.resumed ∙ sym (resumed_more trail.log.open_entry y));
-              host = subst (λ k. IfSome d.host (λ h. RefIn a.held h × (0 < count_of (pruned k f) h.label))) (sym hides_same) (subst (λ o. IfSome o (λ h. RefIn a.held h × (0 < count_of (pruned hides f) h.label))) (sym now.host) (host_still c.host ok.host));
-              undo = subst (λ t. UndoSound a.held points'.names d.resumed d (next_first d.start trail.future) t trail.log.undo trail.past) (sym begun_same)
-                  (subst (λ ns. UndoSound a.held ns d.resumed d (next_first d.start trail.future) g trail.log.undo trail.past) (sym names)
-                  (subst (λ r. UndoSound a.held points.names r d (next_first d.start trail.future) g trail.log.undo trail.past) (sym now.resumed)
-                  (subst (λ n. UndoSound a.held points.names c.resumed d (next_first n trail.future) g trail.log.undo trail.past) start undo)));
-              redo = subst (λ t. RedoSound a.held points'.names d t trail.log.redo trail.future) (sym begun_same) (subst (λ ns. RedoSound a.held ns d g trail.log.redo trail.future) (sym names) redo);
+              host = subst (λ k. IfSome d.host (λ h. RefIn tree.arena.held h × (0 < count_of (pruned k f) h.label))) (sym hides_same) (subst (λ o. IfSome o (λ h. RefIn tree.arena.held h × (0 < count_of (pruned hides f) h.label))) (sym now.host) (host_still c.host ok.host));
+              undo = subst (λ t. UndoSound tree.arena.held points'.names d.resumed d (next_first d.start trail.future) t trail.log.undo trail.past) (sym begun_same)
+                  (subst (λ ns. UndoSound tree.arena.held ns d.resumed d (next_first d.start trail.future) g trail.log.undo trail.past) (sym names)
+                  (subst (λ r. UndoSound tree.arena.held tree.points.names r d (next_first d.start trail.future) g trail.log.undo trail.past) (sym now.resumed)
+                  (subst (λ n. UndoSound tree.arena.held tree.points.names c.resumed d (next_first n trail.future) g trail.log.undo trail.past) start undo)));
+              redo = subst (λ t. RedoSound tree.arena.held points'.names d t trail.log.redo trail.future) (sym begun_same) (subst (λ ns. RedoSound tree.arena.held ns d g trail.log.redo trail.future) (sym names) redo);
               needed = subst (λ n. AreNeeded n (begun_forest (with_step trail.log y) f) trail.log.undo trail.log.redo) start (subst (λ t. AreNeeded c.start t trail.log.undo trail.log.redo) (sym begun_same) ok.needed);
             }

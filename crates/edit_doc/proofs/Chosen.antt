@@ -23,6 +23,7 @@ use Rattle.edit_doc.specs.Whole.{Whole, with_state}
 use Rattle.edit_doc.specs.Held.{Keeps}
 use Rattle.edit_doc.specs.History.{begun_forest, seen_trees}
 use Rattle.edit_doc.specs.Sound.{IsIdle, OpenSound, IsSoundDoc}
+use Rattle.edit_doc.specs.Live.{live_of}
 use Rattle.edit_doc.proofs.Inner.{Ok}
 
 -- points with the same names
@@ -51,7 +52,7 @@ module _ (d : Inside) (ok : Ok d) (selection scratch : Option Pair) (marks : Lis
       IsPlaced (seen_trees d.history.log d.command.start d.arena.trees) points →
       length overrides ≡ 32 →
       (d.history.log.open_entry ≡ Closed → scratch ≡ None) →
-      IsSoundDoc d.arena points overrides flags d.counts d.command d.history
+      IsSoundDoc (live_of d.arena points overrides flags) d.counts d.command d.history
   other_ok placed settings none = record {
     valid = record { forest = ok.valid.forest; placed = placed; started = ok.valid.started; settings = settings };
     some_label = ok.some_label;

@@ -27,7 +27,7 @@ use Rattle.edit_doc.specs.History.{edits_before, begun_forest, is_hidden, seen_t
 use Rattle.edit_doc.specs.Sound.{IsSoundDoc}
 use Rattle.edit_doc.specs.Trail.{trail_of}
 use Rattle.edit_doc.proofs.HiddenTrees.{false_le, document-pruned, placed-pruned, placed-whole, node_count-pruned, char_count-pruned, page_depth-pruned}
-use Rattle.edit_doc.proofs.Inner.{seen, Ending}
+use Rattle.edit_doc.proofs.Inner.{live, seen, Ending}
 use Rattle.edit_doc.proofs.Rests.{AtRest, rest_sound, rest_state, none_noted, arena_forest}
 use Rattle.edit_doc.proofs.Rolls.{Leaves, whole_g, prunes_g, Without, without_rest, without_needed, without_history}
 use Rattle.edit_doc.proofs.MadeNodes.{no_edits, count_edits}
@@ -100,7 +100,7 @@ module _ (d : Inside) (ending : Ending d) where
       prunes : k 0 ≡ false
       prunes = (prunes_g d ending.during).document
 
-      ends : AtRest a rested_points d.overrides.items d.flags d.counts c (trail_of log' us d.history.future)
+      ends : AtRest (record (live d) { arena = a; points = rested_points }) d.counts c (trail_of log' us d.history.future)
       ends =
           let f = arena_forest d.arena ending.during.law in
           without_rest d ending.during a detached_out us forgets c ended log' refl refl refl refl refl rested_points d.overrides.items d.flags d.counts
@@ -111,17 +111,17 @@ module _ (d : Inside) (ending : Ending d) where
           (ending.during.ok.chars ∙ (sym (char_count-pruned d.arena.trees d.arena.next f k prunes) ∙ ap char_count (sym drops.trees)))
           (subst (λ n. n ≤ d.counts.depth) (sym (page_depth-pruned d.arena.trees d.arena.next f k prunes) ∙ ap page_depth (sym drops.trees)) ending.during.ok.depth)
 
-      nothing_ok : IsSoundDoc a rested_points d.overrides.items d.flags d.counts c (trail_of log' us d.history.future)
-      nothing_ok = rest_sound a rested_points d.overrides.items d.flags d.counts c (trail_of log' us d.history.future) ends
+      nothing_ok : IsSoundDoc (record (live d) { arena = a; points = rested_points }) d.counts c (trail_of log' us d.history.future)
+      nothing_ok = rest_sound (record (live d) { arena = a; points = rested_points }) d.counts c (trail_of log' us d.history.future) ends
           (without_needed d ending.during a detached_out us forgets c ended log' refl refl refl refl refl)
 
       document_is : document_of a.trees ≡ document_of (seen_trees d.history.log d.command.start d.arena.trees)
       document_is = ap document_of drops.trees ∙ (document-pruned d.arena.trees d.arena.next (arena_forest d.arena ending.during.law) k prunes ∙ sym document_now)
 
-      nothing_state : (v : Whole) → seen d ≡ v → state_of a rested_points d.overrides.items d.flags c log' ≡ rested v.state
+      nothing_state : (v : Whole) → seen d ≡ v → state_of (record (live d) { arena = a; points = rested_points }) c log' ≡ rested v.state
       unfolding rested
       nothing_state v sees =
-          rest_state a rested_points d.overrides.items d.flags d.counts c (trail_of log' us d.history.future) ends
+          rest_state (record (live d) { arena = a; points = rested_points }) d.counts c (trail_of log' us d.history.future) ends
           ∙ ((λ i. record {
             trees = document_is i;
             points = ending.resting.shown i;
@@ -145,7 +145,7 @@ module _ (d : Inside) (ending : Ending d) where
           ∙ (nothing_recorded (begun_state d.arena d.points.names d.command d.history.log) d.history.log.open_entry (seen d) (ap (λ ys. edits_before ys d.arena.trees) nothing ∙ no_edits d.arena.trees) ∙ ap history_committed sees))
 
       abbrev nothing_doc : Whole
-      nothing_doc = whole_of a rested_points d.overrides.items d.flags c (trail_of log' us d.history.future)
+      nothing_doc = whole_of (record (live d) { arena = a; points = rested_points }) c (trail_of log' us d.history.future)
 
       by_detached : (l : ℕ) → 0 < count_of a.trees l → l < d.command.start
       by_detached l here = false_le d.command.start l ((prunes_g d ending.during).out l (subst (λ t. 0 < count_of t l) detached_out.trees here))
@@ -158,5 +158,5 @@ module _ (d : Inside) (ending : Ending d) where
           }) in
           subst (λ (w : Whole). KeepsThere w nothing_doc) sees own
 
-      pub makes_nothing : (v : Whole) → seen d ≡ v → Leaves a rested_points d.overrides.items d.flags d.counts c (trail_of log' us d.history.future) v (rested v.state) (history_committed v)
+      pub makes_nothing : (v : Whole) → seen d ≡ v → Leaves (record (live d) { arena = a; points = rested_points }) d.counts c (trail_of log' us d.history.future) v (rested v.state) (history_committed v)
       makes_nothing v sees = record { invariant = nothing_ok; state = nothing_state v sees; history = nothing_history v sees; keeps = nothing_keeps v sees }

@@ -31,23 +31,28 @@ use Rattle.edit_doc.specs.Whole.{Whole, IsOpen, with_state}
 use Rattle.edit_doc.specs.Held.{Keeps}
 use Rattle.edit_doc.specs.History.{edits_before, state_of, whole_of}
 use Rattle.edit_doc.specs.Sound.{IsSoundDoc}
+use Rattle.edit_doc.specs.Live.{Live}
 use Rattle.edit_doc.specs.Trail.{Trail, with_note}
-use Rattle.edit_doc.proofs.Inner.{seen, seen as seen_of, Ok as OkInside, open_of}
+use Rattle.edit_doc.proofs.Inner.{live, seen, seen as seen_of, Ok as OkInside, open_of}
 use Rattle.edit_doc.proofs.SeenNodes.{out_of}
 use Rattle.edit_doc.proofs.Freely.{freed_edit}
 use Rattle.edit_doc.proofs.Changing.{Follows, goes, seen_next, state_next, whole_next, sound_next}
 
+-- the tree after an edit
+abbrev edited : Inside → Arena → LivePoints → List Setting → Live
+edited d arena points overrides = record (live d) { arena = arena; points = points; overrides = overrides }
+
 -- what a call that makes an edit without its test owes after it
 pub record Applied (d : Inside) (v : Whole) (e : Edit) (arena : Arena) (points : LivePoints) (overrides : List Setting) (counts : Counts) (c : Command) (trail : Trail) : Type 0 where
-  pub invariant : IsSoundDoc arena points overrides d.flags counts c trail
-  pub state : state_of arena points overrides d.flags c trail.log ≡ edit_applied e v.state
-  pub keeps : Keeps v (whole_of arena points overrides d.flags c trail)
+  pub invariant : IsSoundDoc (edited d arena points overrides) counts c trail
+  pub state : state_of (edited d arena points overrides) c trail.log ≡ edit_applied e v.state
+  pub keeps : Keeps v (whole_of (edited d arena points overrides) c trail)
 
 -- and what a call that makes its test first owes
 pub record Done (d : Inside) (v : Whole) (e : Edit) (arena : Arena) (points : LivePoints) (overrides : List Setting) (counts : Counts) (c : Command) (trail : Trail) : Type 0 where
-  pub invariant : IsSoundDoc arena points overrides d.flags counts c trail
-  pub gives : Gives (Ok true) v.state (state_of arena points overrides d.flags c trail.log) (edit e)
-  pub keeps : Keeps v (whole_of arena points overrides d.flags c trail)
+  pub invariant : IsSoundDoc (edited d arena points overrides) counts c trail
+  pub gives : Gives (Ok true) v.state (state_of (edited d arena points overrides) c trail.log) (edit e)
+  pub keeps : Keeps v (whole_of (edited d arena points overrides) c trail)
 
 -- the edit in the terms of the arena: the step that is made, and what the other fields become
 pub record Makes (d : Inside) (e : Edit) (x : Step) (points : LivePoints) (overrides : List Setting) (counts : Counts) (c : Command) : Type 0 where
@@ -77,7 +82,7 @@ module _ (d : Inside) (v : Whole) (is : seen d ≡ v) (law : IsArena d.arena) (n
     f = applied (change_of x) d.arena.trees
 
     abbrev next : State
-    next = seen_next d.arena d.points d.overrides.items d.flags d.counts d.command d.history law opened ok x m.fits m.seen c m.follows points overrides
+    next = seen_next (live d) d.counts d.command d.history law opened ok x m.fits m.seen c m.follows points overrides
 
     may_seen : is_made_edit e (freed (seen d).state) ≡ true
     may_seen = subst (λ (w : Whole). is_made_edit e (freed w.state) ≡ true) (sym is) may
@@ -94,17 +99,17 @@ module _ (d : Inside) (v : Whole) (is : seen d ≡ v) (law : IsArena d.arena) (n
     valid_next : IsValid next
     valid_next = subst IsValid (sym (next_is)) (valid_applied e (seen d).state ok.valid may_seen)
 
-    state_is : state_of (record d.arena { trees = f }) points overrides d.flags c (with_step d.history.log (step_inverse x d.arena)) ≡ next
-    state_is = state_next d.arena d.points d.overrides.items d.flags d.counts d.command d.history law opened ok x m.fits m.seen c m.follows points overrides m.names
+    state_is : state_of (edited d (record d.arena { trees = f }) points overrides) c (with_step d.history.log (step_inverse x d.arena)) ≡ next
+    state_is = state_next (live d) d.counts d.command d.history law opened ok x m.fits m.seen c m.follows points overrides m.names
 
-    whole_is : whole_of (record d.arena { trees = f }) points overrides d.flags c (with_note d.history (step_inverse x d.arena)) ≡ with_state (seen d) next
-    whole_is = whole_next d.arena d.points d.overrides.items d.flags d.counts d.command d.history law opened ok x m.fits m.seen c m.follows points overrides m.names
+    whole_is : whole_of (edited d (record d.arena { trees = f }) points overrides) c (with_note d.history (step_inverse x d.arena)) ≡ with_state (seen d) next
+    whole_is = whole_next (live d) d.counts d.command d.history law opened ok x m.fits m.seen c m.follows points overrides m.names
 
     keeps_seen : Keeps (seen d) (with_state (seen d) next)
     keeps_seen = record {
       held = λ r h. record {
         slot = h.slot;
-        here = (let down = goes d.arena d.points d.overrides.items d.flags d.counts d.command d.history law opened ok x m.fits m.seen in
+        here = (let down = goes (live d) d.counts d.command d.history law opened ok x m.fits m.seen in
             let same = count_of-applied (change_of x) (pruned (out_of d) d.arena.trees) down.fits r.label in let here = h.here in omega (arith, same, here));
       };
       history = refl;
@@ -115,9 +120,9 @@ module _ (d : Inside) (v : Whole) (is : seen d ≡ v) (law : IsArena d.arena) (n
 
     applied_here : Applied d v e (record d.arena { trees = f }) points overrides counts c (with_note d.history (step_inverse x d.arena))
     applied_here = record {
-      invariant = sound_next d.arena d.points d.overrides.items d.flags d.counts d.command d.history law opened ok x m.fits m.seen c m.follows points overrides m.names counts valid_next m.nodes m.chars m.depth;
+      invariant = sound_next (live d) d.counts d.command d.history law opened ok x m.fits m.seen c m.follows points overrides m.names counts valid_next m.nodes m.chars m.depth;
       state = state_is ∙ (next_is ∙ ap (λ (w : Whole). edit_applied e w.state) is);
-      keeps = subst (λ w. Keeps w (whole_of (record d.arena { trees = f }) points overrides d.flags c (with_note d.history (step_inverse x d.arena)))) is (subst (Keeps (seen d)) (sym whole_is) keeps_seen);
+      keeps = subst (λ w. Keeps w (whole_of (edited d (record d.arena { trees = f }) points overrides) c (with_note d.history (step_inverse x d.arena)))) is (subst (Keeps (seen d)) (sym whole_is) keeps_seen);
     }
 
     -- the same of what the calls that make it leave
@@ -131,7 +136,7 @@ module _ (d : Inside) (v : Whole) (is : seen d ≡ v) (law : IsArena d.arena) (n
     pub edit_called : (arena : Arena) (trail : Trail) → arena ≡ step_applied x d.arena → trail ≡ with_note d.history (step_inverse x d.arena) → Done d v e arena points overrides counts c trail
     edit_called arena trail arena_is trail_is =
         let a = edit_linked e x points overrides counts c (freed_edit e v.state may) m arena trail arena_is trail_is in
-        record { invariant = a.invariant; gives = gives_applied e v.state (state_of arena points overrides d.flags c trail.log) may a.state; keeps = a.keeps }
+        record { invariant = a.invariant; gives = gives_applied e v.state (state_of (edited d arena points overrides) c trail.log) may a.state; keeps = a.keeps }
 
 pub keeps_same : (v : Whole) → Keeps v v
 keeps_same v = record { held = λ r h. h; history = refl; began = refl; start = refl; cap = refl }

@@ -14,12 +14,17 @@ use Rattle.edit_doc.specs.declared.command.EntrySnapshot.{EntrySnapshot}
 use Rattle.edit_doc.specs.Fields.{AreResting, Enters}
 use Rattle.edit_doc.specs.GivingUp.{loose_roots}
 use Rattle.edit_doc.specs.Sound.{IsSoundDoc}
+use Rattle.edit_doc.specs.Live.{Live, live_of}
+
+-- the tree under edits, of the fields
+abbrev pub live : Inside → Live
+live d = live_of d.arena d.points d.overrides.items d.flags
 
 abbrev pub seen : Inside → Whole
-seen d = whole_of d.arena d.points d.overrides.items d.flags d.command d.history
+seen d = whole_of (live d) d.command d.history
 
 abbrev pub Ok : Inside → Type 0
-Ok d = IsSoundDoc d.arena d.points d.overrides.items d.flags d.counts d.command d.history
+Ok d = IsSoundDoc (live d) d.counts d.command d.history
 
 closed_in : (s : State) (o : Open Step) → began_with s o ≡ None → o ≡ Closed
 closed_in s Closed e = refl

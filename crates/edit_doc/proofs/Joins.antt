@@ -34,7 +34,7 @@ use Rattle.edit_doc.proofs.GivingUp.{filtered_loose, loose_is, listed_loose, lis
 use Rattle.edit_doc.proofs.Off.{Passes, passes_back, off_moved, each_here, each_off}
 use Rattle.live_range.specs.PointsEdit.{has_label}
 use Rattle.edit_model.specs.Gives.{labels_of}
-use Rattle.edit_doc.proofs.Inner.{seen, Ending, Entering}
+use Rattle.edit_doc.proofs.Inner.{live, seen, Ending, Entering}
 use Rattle.edit_doc.proofs.HiddenTrees.{hidden_is, is_hidden_from, pruned_more, tops_stay}
 use Rattle.edit_doc.proofs.Laid.{undo_later}
 use Rattle.dom_model.proofs.Stands.{true_or_false}
@@ -344,10 +344,10 @@ module _ (d : Inside) (enters : Entering d) (logged : IsLog d.history.log) (c : 
     pub entry_redo : log.redo ≡ []
     entry_redo = here.redo
 
-    pub entry_rests : AtRest d.arena (shown d.points.names enters.ending.places) d.overrides.items d.flags d.counts c (trail_of log enters.past [])
+    pub entry_rests : AtRest (record (live d) { points = shown d.points.names enters.ending.places }) d.counts c (trail_of log enters.past [])
     entry_rests = ends d enters.ending log here.closed here.redo here.depth enters.past c ended here.undo
 
-    pub entry_state : (v : Whole) → seen d ≡ v → state_of d.arena (shown d.points.names enters.ending.places) d.overrides.items d.flags c log ≡ rested v.state
+    pub entry_state : (v : Whole) → seen d ≡ v → state_of (record (live d) { points = shown d.points.names enters.ending.places }) c log ≡ rested v.state
     entry_state v sees = recorded_state d enters.ending log here.closed here.redo here.depth enters.past c ended here.undo v sees
 
     pub entry_history : (v : Whole) → seen d ≡ v → history_of d.points.names (begun_forest log d.arena.trees) (trail_of log enters.past []) ≡ history_committed v

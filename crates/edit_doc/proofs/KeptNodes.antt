@@ -25,7 +25,7 @@ use Rattle.edit_doc.specs.Sound.{IsOff, EntriesOff, UndoSound, RedoSound, next_f
 use Rattle.edit_doc.specs.Whole.{Whole}
 use Rattle.edit_doc.proofs.Found.{count_of-join}
 use Rattle.edit_doc.proofs.HiddenTrees.{top_loose}
-use Rattle.edit_doc.proofs.Inner.{seen, Ok}
+use Rattle.edit_doc.proofs.Inner.{live, seen, Ok}
 use Rattle.edit_doc.proofs.Rests.{AtRest, rest_of, trees_are, none_noted}
 
 abbrev Over : Forest Content → ℕ → Type 0
@@ -95,8 +95,8 @@ module _ (d : Inside) (law : IsArena d.arena) (slotted : IsSlotted d.arena) (clo
   is : f ≡ d.arena.trees
   is = none_noted d.history.log d.arena.trees (ap noted closed)
 
-  rests : AtRest d.arena d.points d.overrides.items d.flags d.counts d.command d.history
-  rests = rest_of d.arena d.points d.overrides.items d.flags d.counts d.command d.history law closed ok
+  rests : AtRest (live d) d.counts d.command d.history
+  rests = rest_of (live d) d.counts d.command d.history law closed ok
 
   once : IsDistinct f
   once = subst (λ t. IsDistinct t) (sym is) law.distinct
@@ -129,7 +129,7 @@ module _ (d : Inside) (law : IsArena d.arena) (slotted : IsSlotted d.arena) (clo
     redone,
     record {
       forest = subst (λ t. IsForest t) (sym is) (forest_of d.arena law);
-      document = ap document_of is ∙ sym (trees_are d.arena d.points d.overrides.items d.flags d.counts d.command d.history law closed rests.idle.start);
+      document = ap document_of is ∙ sym (trees_are (live d) d.counts d.command d.history law closed rests.idle.start);
       held = λ slot l h. subst (λ t. 0 < count_of t l) (sym is) (law.here slot l h);
       slotted = λ l here. slotted.kept l (subst (λ t. 0 < count_of t l) is here);
       undo = lead_back d.arena.held d.points.names d.command d.command.resumed (next_first d.command.start d.history.future) f d.history.log.undo d.history.past ok.undo;

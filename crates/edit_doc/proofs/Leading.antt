@@ -32,7 +32,7 @@ use Rattle.edit_doc.specs.Sound.{IsSnapshot, UndoSound, RedoSound, detached_of, 
 use Rattle.edit_doc.specs.Whole.{Whole}
 use Rattle.edit_doc.proofs.Downs.{Bounded, back_forest, back_bounded}
 use Rattle.edit_doc.proofs.HiddenTrees.{model_forest}
-use Rattle.edit_doc.proofs.Inner.{seen, Ok}
+use Rattle.edit_doc.proofs.Inner.{live, seen, Ok}
 use Rattle.edit_doc.proofs.MadeApart.{each_used, each_named, roots_rise, is_unnamed, document_old, made_nodes, begins, unnamed_zero, prunes_unnamed, names_detached}
 use Rattle.edit_doc.proofs.MadeNodes.{listed_has}
 use Rattle.edit_doc.proofs.Onwards.{past_low, lead_longer, lead_more}
@@ -164,8 +164,8 @@ module _ (d : Inside) (law : IsArena d.arena) (closed : d.history.log.open_entry
   is : f ≡ d.arena.trees
   is = none_noted d.history.log d.arena.trees (ap noted closed)
 
-  rests : AtRest d.arena d.points d.overrides.items d.flags d.counts d.command d.history
-  rests = rest_of d.arena d.points d.overrides.items d.flags d.counts d.command d.history law closed ok
+  rests : AtRest (live d) d.counts d.command d.history
+  rests = rest_of (live d) d.counts d.command d.history law closed ok
 
   pub has_led : (v : Whole) → seen d ≡ v → HasLedOnward v
   has_led v sees =
@@ -177,7 +177,7 @@ module _ (d : Inside) (law : IsArena d.arena) (closed : d.history.log.open_entry
       let led = undo_leads d.points.names d.arena.held c c.resumed (next_first c.start d.history.future) f d.history.log.undo d.history.past ok.undo forest (record { next = c.start; below = low.below }) old.below in
       let lead = led.2 in
       let known = old.known in
-      let here = ap document_of is ∙ sym (trees_are d.arena d.points d.overrides.items d.flags d.counts d.command d.history law closed start) in
+      let here = ap document_of is ∙ sym (trees_are (live d) d.counts d.command d.history law closed start) in
       let es = undo_entries d.points.names f d.history.log.undo d.history.past in
       subst (λ (w : Whole). HasLedOnward w) sees (
         led.0,

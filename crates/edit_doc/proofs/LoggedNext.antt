@@ -19,7 +19,7 @@ use Rattle.edit_doc.specs.History.{roots_from, redo_entries}
 use Rattle.edit_doc.specs.Logged.{Logged, made_node, logged_with, logged_entry}
 use Rattle.edit_doc.specs.Sound.{AreFresh, RedoSound, next_first}
 use Rattle.edit_doc.specs.Whole.{Whole}
-use Rattle.edit_doc.proofs.Inner.{seen, Ok}
+use Rattle.edit_doc.proofs.Inner.{live, seen, Ok}
 use Rattle.edit_doc.proofs.LoggedNodes.{contents_seen, edits_same}
 use Rattle.edit_doc.proofs.Rests.{AtRest, rest_of, none_noted}
 
@@ -27,8 +27,8 @@ module _ (d : Inside) (v : Whole) (sees : seen d ≡ v) (law : IsArena d.arena) 
   abbrev f : Forest Content
   f = d.arena.trees
 
-  rests : AtRest d.arena d.points d.overrides.items d.flags d.counts d.command d.history
-  rests = rest_of d.arena d.points d.overrides.items d.flags d.counts d.command d.history law closed ok
+  rests : AtRest (live d) d.counts d.command d.history
+  rests = rest_of (live d) d.counts d.command d.history law closed ok
 
   entries_are : v.history.redo ≡ redo_entries d.points.names f d.history.log.redo d.history.future
   entries_are =

@@ -27,7 +27,7 @@ use Rattle.edit_doc.specs.Whole.{Whole, with_state}
 use Rattle.edit_doc.specs.History.{roots_from, begun_forest, begun_state, began_with, seen_trees, state_of, view_at, history_of, whole_of, Way, led, older, newer, edits_of, entries}
 use Rattle.edit_doc.specs.History.Way.{Back, Forth}
 use Rattle.edit_doc.specs.Sound.{IsSide, IsSnapshot, detached_of, next_first, OpenSound, IsSoundDoc, Lies, turned, bound_of, next_bound}
-use Rattle.edit_doc.proofs.Inner.{seen, Ok}
+use Rattle.edit_doc.proofs.Inner.{live, seen, Ok}
 
 -- each name keeps its place
 pub record AreLonger (old new : List (List ℕ)) : Type 0 where
@@ -162,7 +162,7 @@ module _ (d : Inside) (ok : Ok d) (closed : d.history.log.open_entry ≡ Closed)
   longer = longer_by name pair d.points
 
   pub marked_ok : IsPlacedPair (seen_trees d.history.log d.command.start d.arena.trees) pair →
-      IsSoundDoc d.arena points d.overrides.items d.flags d.counts d.command d.history
+      IsSoundDoc (record (live d) { points = points }) d.counts d.command d.history
   marked_ok placed = record {
     valid = record {
       forest = ok.valid.forest;
@@ -194,10 +194,10 @@ module _ (d : Inside) (ok : Ok d) (closed : d.history.log.open_entry ≡ Closed)
       λ i. record { undo = u i; redo = r i; depth = d.history.log.depth; dropped = d.history.log.dropped }
 
   pub marked_is : (v : Whole) → seen d ≡ v →
-      whole_of d.arena points d.overrides.items d.flags d.command d.history
+      whole_of (record (live d) { points = points }) d.command d.history
       ≡ with_state v (record v.state { points = with_mark name pair v.state.points })
   marked_is v is =
       let began = none_begun (begun_state d.arena points.names d.command d.history.log) (begun_state d.arena d.points.names d.command d.history.log) d.history.log.open_entry closed in
-      let here : whole_of d.arena points d.overrides.items d.flags d.command d.history ≡ with_state (seen d) (record (seen d).state { points = points }) =
-      (λ i. record { state = state_of d.arena points d.overrides.items d.flags d.command d.history.log; history = history_same i; began = began i; held = d.arena.held }) in
+      let here : whole_of (record (live d) { points = points }) d.command d.history ≡ with_state (seen d) (record (seen d).state { points = points }) =
+      (λ i. record { state = state_of (record (live d) { points = points }) d.command d.history.log; history = history_same i; began = began i; held = d.arena.held }) in
       here ∙ ap (λ (w : Whole). with_state w (record w.state { points = with_mark name pair w.state.points })) is

@@ -51,7 +51,7 @@ use Rattle.edit_doc.specs.Whole.{Whole, IsOpen}
 use Rattle.edit_doc.specs.Held.{Holds, IfHeld}
 use Rattle.edit_doc.specs.Marks.{Marks, IsMarked, AreMarkable, place_labels}
 use Rattle.edit_doc.specs.Trail.{Trail, with_note}
-use Rattle.edit_doc.proofs.Inner.{seen, Ok, open_of}
+use Rattle.edit_doc.proofs.Inner.{live, seen, Ok, open_of}
 use Rattle.edit_doc.proofs.SeenNodes.{out_of, held_seen, parent_seen, index_seen, tree_seen}
 use Rattle.edit_doc.proofs.Rests.{arena_forest}
 use Rattle.edit_doc.proofs.HiddenTrees.{lt_true}
@@ -233,7 +233,7 @@ module _ (d : Inside) (v : Whole) (is : seen d ≡ v) (law : IsArena d.arena) (s
   }
 
   fits_here : ChangeFits (change.Move n p b) f
-  fits_here = (goes_up (out_of d) (change.Move n p b) f (seen_prunes d.arena d.points d.overrides.items d.flags d.counts d.command d.history law (open_of d v is now_open) ok) (forest_of d.arena law) fits_seen).0
+  fits_here = (goes_up (out_of d) (change.Move n p b) f (seen_prunes (live d) d.counts d.command d.history law (open_of d v is now_open) ok) (forest_of d.arena law) fits_seen).0
 
   can : CanPut (unlink f n) p b n
   can = fits_here.here.1.place
@@ -256,7 +256,7 @@ module _ (d : Inside) (v : Whole) (is : seen d ≡ v) (law : IsArena d.arena) (s
   markable r h =
       let k = held_seen d v is r h in
       let low = law.below r.label (law.here r.slot r.label k.slot) in
-      let marks = (run d.arena d.points d.overrides.items d.flags d.counts d.command d.history law (open_of d v is now_open) ok).marks in
+      let marks = (run (live d) d.counts d.command d.history law (open_of d v is now_open) ok).marks in
       omega (arith, low, marks)
 
   pub place_markable : (a c : NodeRef) (o : Option NodeRef) → Holds v a → Holds v c → IfHeld v o → AreMarkable d.command (place_labels a c o)

@@ -39,8 +39,6 @@ use Rattle.forest_changes.proofs.DownChange.{prunes_whole}
 use Rattle.forest_changes.proofs.Twice.{forest_of}
 use Rattle.edit_steps.specs.declared.step.Step.{Step}
 use Rattle.edit_steps.specs.Step.{changes_of, nodes_in}
-use Rattle.edit_model.specs.declared.settings.Setting.{Setting}
-use Rattle.edit_model.specs.declared.settings.Flags.{Flags}
 use Rattle.edit_model.specs.declared.settings.EditFault.{EditFault}
 use Rattle.edit_model.specs.declared.settings.EditFault.TheVariants.{Full, Memory}
 use Rattle.edit_model.specs.State.{State}
@@ -63,10 +61,11 @@ use Rattle.edit_doc.specs.History.{edits_before, roots_from, forest_before, begu
 use Rattle.edit_doc.specs.History.Way.{Back, Forth}
 use Rattle.edit_doc.specs.Sound.{RefIn, EachHeldIn, IsSide, AreFresh, IsOff, AreNeeded, AreAlone, IsSnapshot, IsRunning, OpenSound, UndoSound, RedoSound, detached_of, next_first, IsSoundDoc, Lies, FitsWay, turned, bound_of, next_bound}
 use Rattle.edit_doc.specs.Trail.{Trail}
+use Rattle.edit_doc.specs.Live.{Live}
 use Rattle.edit_doc.proofs.Laid.{redo_later}
 use Rattle.edit_doc.proofs.Downs.{back_forest, led_forest, at_older, at_newer, ends_of}
 use Rattle.edit_doc.proofs.HiddenTrees.{model_forest, true_lt}
-use Rattle.edit_doc.proofs.Inner.{seen, Ok, open_of}
+use Rattle.edit_doc.proofs.Inner.{live, seen, Ok, open_of}
 use Rattle.edit_doc.proofs.Off.{entries_moved}
 use Rattle.edit_doc.proofs.Changing.{undo_carried}
 use Rattle.edit_doc.proofs.MadeNodes.{roots-leaf, used-leaf, not_named}
@@ -338,28 +337,28 @@ of_running a points c g Closed h r = absurd (let h' = h in cc)
 of_running a points c g (Begun xs) h r = r
 of_running a points c g (Resumed xs) h r = r
 
-module _ (a : Arena) (points : LivePoints) (overrides : List Setting) (flags : Flags) (counts : Counts) (c d : Command) (trail : Trail)
-    (open_now : IsTrue (is_open trail.log.open_entry)) (law : IsArena a)
-    (ok : IsSoundDoc a points overrides flags counts (record d { named = c.named; detached = c.detached }) trail) where
+module _ (tree : Live) (counts : Counts) (c d : Command) (trail : Trail)
+    (open_now : IsTrue (is_open trail.log.open_entry)) (law : IsArena tree.arena)
+    (ok : IsSoundDoc tree counts (record d { named = c.named; detached = c.detached }) trail) where
   -- the command with the marks and the left trees of before
   abbrev e : Command
   e = record d { named = c.named; detached = c.detached }
 
   abbrev f : Forest Content
-  f = a.trees
+  f = tree.arena.trees
 
   abbrev g : Forest Content
-  g = begun_forest trail.log a.trees
+  g = begun_forest trail.log tree.arena.trees
 
   abbrev xs : List Step
   xs = noted trail.log.open_entry
 
-  run : IsRunning a points.names e xs g
-  run = running_of a points e g trail.log.open_entry open_now ok.running
+  run : IsRunning tree.arena tree.points.names e xs g
+  run = running_of tree.arena tree.points e g trail.log.open_entry open_now ok.running
 
   -- ---- room for more
 
-  pub sound_carried : d.named.items ≡ c.named.items → d.detached.items ≡ c.detached.items → IsSoundDoc a points overrides flags counts d trail
+  pub sound_carried : d.named.items ≡ c.named.items → d.detached.items ≡ c.detached.items → IsSoundDoc tree counts d trail
   sound_carried named detached = record {
     valid = ok.valid;
     some_label = ok.some_label;
@@ -367,7 +366,7 @@ module _ (a : Arena) (points : LivePoints) (overrides : List Setting) (flags : F
     chars = ok.chars;
     depth = ok.depth;
     hidden = ok.hidden;
-    running = of_running a points d g trail.log.open_entry open_now (record {
+    running = of_running tree.arena tree.points d g trail.log.open_entry open_now (record {
       kept = run.kept;
       settings = run.settings;
       made = run.made;
@@ -375,16 +374,16 @@ module _ (a : Arena) (points : LivePoints) (overrides : List Setting) (flags : F
       names_there = run.names_there;
       marks = ap (λ ms. length ms + d.start) named ∙ run.marks;
       marked = each_of (IsMarked e) (IsMarked d) (named_in (changes_of xs)) mark run.marked;
-      marked_inverse = each_of (IsMarked e) (IsMarked d) (named_in (inverses_back applied inverse (changes_of xs) a.trees)) mark run.marked_inverse;
+      marked_inverse = each_of (IsMarked e) (IsMarked d) (named_in (inverses_back applied inverse (changes_of xs) tree.arena.trees)) mark run.marked_inverse;
       named_all = λ l h. run.named_all l (subst (λ ms. (nat_le d.start l && slice_index_or ms (l - d.start) false) ≡ true) named h);
       detached_before = subst (λ ls. d.detached_before ≤ length ls) (sym detached) run.detached_before;
-      detached_seen = subst (λ ls. Each (λ l. 0 < count_of (pruned (is_hidden g d.start) a.trees) l) (labels_of (drop d.detached_before ls))) (sym detached) run.detached_seen;
+      detached_seen = subst (λ ls. Each (λ l. 0 < count_of (pruned (is_hidden g d.start) tree.arena.trees) l) (labels_of (drop d.detached_before ls))) (sym detached) run.detached_seen;
       newly_detached = λ l inner top. subst (λ ls. has_label (labels_of (drop d.detached_before ls)) l ≡ true) (sym detached) (run.newly_detached l inner top);
     });
     resumed = ok.resumed;
     host = ok.host;
-    undo = undo_carried a.held points.names e d refl d.resumed (next_first d.start trail.future) g trail.log.undo trail.past (detached_same d.resumed) ok.undo;
-    redo = redo_later a.held points.names e d (omega arith) g trail.log.redo trail.future ok.redo;
+    undo = undo_carried tree.arena.held tree.points.names e d refl d.resumed (next_first d.start trail.future) g trail.log.undo trail.past (detached_same d.resumed) ok.undo;
+    redo = redo_later tree.arena.held tree.points.names e d (omega arith) g trail.log.redo trail.future ok.redo;
     needed = ok.needed;
   }
     where
@@ -397,16 +396,16 @@ module _ (a : Arena) (points : LivePoints) (overrides : List Setting) (flags : F
 
   -- ---- one more node
 
-  module _ (held : List (Option ℕ)) (node : NodeRef) (x : Content) (made_of : IsMade x) (keeps : (q : NodeRef) → RefIn a.held q → RefIn held q) (own : RefIn held node) (label : node.label ≡ a.next)
+  module _ (held : List (Option ℕ)) (node : NodeRef) (x : Content) (made_of : IsMade x) (keeps : (q : NodeRef) → RefIn tree.arena.held q → RefIn held q) (own : RefIn held node) (label : node.label ≡ tree.arena.next)
       (named : d.named.items ≡ c.named.items ++ false ∷ []) (detached : d.detached.items ≡ c.detached.items ++ node ∷ []) where
     abbrev l : ℕ
-    l = a.next
+    l = tree.arena.next
 
     abbrev pub arena_made : Arena
-    arena_made = record { trees = with_leaf a.trees a.next x; next = a.next + 1; cap = a.cap; held = held }
+    arena_made = record { trees = with_leaf tree.arena.trees tree.arena.next x; next = tree.arena.next + 1; cap = tree.arena.cap; held = held }
 
     is : IsForest f
-    is = forest_of a law
+    is = forest_of tree.arena law
 
     low : IsBelow f l
     low = record { below = law.below }
@@ -439,17 +438,17 @@ module _ (a : Arena) (points : LivePoints) (overrides : List Setting) (flags : F
     seen_is = ap (λ k. pruned k (with_leaf f l x)) hides_is ∙ pruned-with_leaf hides l x off f
 
     abbrev s : State
-    s = state_of a points overrides flags e trail.log
+    s = state_of tree e trail.log
 
-    state_is : state_of arena_made points overrides flags d trail.log ≡ made x s
+    state_is : state_of (record tree { arena = arena_made }) d trail.log ≡ made x s
     unfolding made
     state_is = λ i. record {
       trees = seen_is i;
-      points = points;
-      overrides = overrides;
-      flags = flags;
-      next = a.next + 1;
-      cap = a.cap;
+      points = tree.points;
+      overrides = tree.overrides;
+      flags = tree.flags;
+      next = tree.arena.next + 1;
+      cap = tree.arena.cap;
       start = d.start;
       host = label_of d.host;
       keeping = d.keeping;
@@ -461,7 +460,7 @@ module _ (a : Arena) (points : LivePoints) (overrides : List Setting) (flags : F
     unfolding made
     valid_made = record {
       forest = forest-with_leaf s.trees s.next ok.valid.forest x made_of.plain made_of.short;
-      placed = points_left s.trees (with_leaf s.trees s.next x) (leaves-with_leaf s.trees s.next ok.valid.forest x) points ok.valid.placed;
+      placed = points_left s.trees (with_leaf s.trees s.next x) (leaves-with_leaf s.trees s.next ok.valid.forest x) tree.points ok.valid.placed;
       started = (let h = started in omega (arith, h));
       settings = ok.valid.settings;
     }
@@ -487,7 +486,7 @@ module _ (a : Arena) (points : LivePoints) (overrides : List Setting) (flags : F
     absent_children : (j : ℕ) → count_of g j ≡ 0 → first_of g j ≡ None
     absent_children j e = ap (λ (o : Option (Seen Content)). first_in (option_map_or (λ s. s.children) o [])) (seek_absent None g j e)
 
-    alone : AreAlone (with_leaf g l x) d.start (a.next + 1)
+    alone : AreAlone (with_leaf g l x) d.start (tree.arena.next + 1)
     alone = record {
       loose = λ j from to here. parent_of-with_leaf g l x (fresh l x g bb.below) j ∙ loose j from (count_of g j) refl;
       leaf = λ j from to here. ap first_in (children_of-with_leaf g l x (fresh l x g bb.below) j) ∙ leaf j from (count_of g j) refl;
@@ -501,12 +500,12 @@ module _ (a : Arena) (points : LivePoints) (overrides : List Setting) (flags : F
         leaf j from zero e = absent_children j e
         leaf j from (suc n) e = (let here : 0 < count_of g j = omega (arith, e) in run.made.leaf j from (bb.below.below j here) here)
 
-    runs : IsRunning arena_made points.names d xs (with_leaf g l x)
+    runs : IsRunning arena_made tree.points.names d xs (with_leaf g l x)
     runs = record {
-      kept = side_leaf l x g begun_is_forest bb.below points.names d.kept.places d.kept.counts.nodes d.kept.counts.chars d.kept.counts.depth run.kept;
+      kept = side_leaf l x g begun_is_forest bb.below tree.points.names d.kept.places d.kept.counts.nodes d.kept.counts.chars d.kept.counts.depth run.kept;
       settings = run.settings;
       made = alone;
-      can = (bb.fits, each_of (RefIn a.held) (RefIn held) (nodes_in xs) keeps run.can.1);
+      can = (bb.fits, each_of (RefIn tree.arena.held) (RefIn held) (nodes_in xs) keeps run.can.1);
       names_there = each_detached l x g f d.start (named_in (changes_of xs)) started run.names_there;
       marks = (let m = run.marks in let n = ap length named in let k = length-append c.named.items (false ∷ []) in omega (arith, m, n, k));
       marked = each_of (IsMarked e) (IsMarked d) (named_in (changes_of xs)) mark run.marked;
@@ -537,17 +536,17 @@ module _ (a : Arena) (points : LivePoints) (overrides : List Setting) (flags : F
     detached_same false b = refl
     detached_same true b = sym (ap (take d.detached_before) detached ∙ take-append-le d.detached_before c.detached.items (node ∷ []) run.detached_before)
 
-    host_still : (o : Option NodeRef) → IfSome o (λ h. RefIn a.held h × (0 < count_of (pruned hides f) h.label)) → IfSome o (λ h. RefIn held h × (0 < count_of (with_leaf (pruned hides f) l x) h.label))
+    host_still : (o : Option NodeRef) → IfSome o (λ h. RefIn tree.arena.held h × (0 < count_of (pruned hides f) h.label)) → IfSome o (λ h. RefIn held h × (0 < count_of (with_leaf (pruned hides f) l x) h.label))
     host_still None h = tt
     host_still (Some r) h = (keeps r h.0, seen_more r.label h.1)
 
-    undo_now : UndoSound a.held points.names d.resumed d (next_first d.start trail.future) g trail.log.undo trail.past
-    undo_now = undo_carried a.held points.names e d refl d.resumed (next_first d.start trail.future) g trail.log.undo trail.past (detached_same d.resumed) ok.undo
+    undo_now : UndoSound tree.arena.held tree.points.names d.resumed d (next_first d.start trail.future) g trail.log.undo trail.past
+    undo_now = undo_carried tree.arena.held tree.points.names e d refl d.resumed (next_first d.start trail.future) g trail.log.undo trail.past (detached_same d.resumed) ok.undo
 
-    redo_now : RedoSound a.held points.names d g trail.log.redo trail.future
-    redo_now = redo_later a.held points.names e d (omega arith) g trail.log.redo trail.future ok.redo
+    redo_now : RedoSound tree.arena.held tree.points.names d g trail.log.redo trail.future
+    redo_now = redo_later tree.arena.held tree.points.names e d (omega arith) g trail.log.redo trail.future ok.redo
 
-    pub sound_made : IsSoundDoc arena_made points overrides flags counts d trail
+    pub sound_made : IsSoundDoc (record tree { arena = arena_made }) counts d trail
     sound_made = record {
       valid = subst IsValid (sym state_is) valid_made;
       some_label = ok.some_label;
@@ -555,13 +554,13 @@ module _ (a : Arena) (points : LivePoints) (overrides : List Setting) (flags : F
       chars = ok.chars ∙ sym (chars_leaf l x f is low);
       depth = subst (λ n. n ≤ counts.depth) (sym (depth_leaf l x f is low)) ok.depth;
       hidden = λ j h. (let h' : hides j ≡ true = subst (λ k. k j ≡ true) hides_is h in let top = ok.hidden j h' in omega (arith, top, times-with_leaf l x f j));
-      running = of_running arena_made points d (begun_forest trail.log (with_leaf f l x)) trail.log.open_entry open_now (subst (λ t. IsRunning arena_made points.names d xs t) (sym begun_is) runs);
+      running = of_running arena_made tree.points d (begun_forest trail.log (with_leaf f l x)) trail.log.open_entry open_now (subst (λ t. IsRunning arena_made tree.points.names d xs t) (sym begun_is) runs);
       resumed = ok.resumed;
       host = subst (λ t. IfSome d.host (λ h. RefIn held h × (0 < count_of t h.label))) (sym seen_is) (host_still d.host ok.host);
-      undo = subst (λ t. UndoSound held points.names d.resumed d (next_first d.start trail.future) t trail.log.undo trail.past) (sym begun_is)
-          (lies_leaf l x made_of some a.held held keeps points.names d started Back d.resumed (next_first d.start trail.future) g trail.log.undo trail.past begun_is_forest bb.below undo_now);
-      redo = subst (λ t. RedoSound held points.names d t trail.log.redo trail.future) (sym begun_is)
-          (lies_leaf l x made_of some a.held held keeps points.names d started Forth false 0 g trail.log.redo trail.future begun_is_forest bb.below redo_now);
+      undo = subst (λ t. UndoSound held tree.points.names d.resumed d (next_first d.start trail.future) t trail.log.undo trail.past) (sym begun_is)
+          (lies_leaf l x made_of some tree.arena.held held keeps tree.points.names d started Back d.resumed (next_first d.start trail.future) g trail.log.undo trail.past begun_is_forest bb.below undo_now);
+      redo = subst (λ t. RedoSound held tree.points.names d t trail.log.redo trail.future) (sym begun_is)
+          (lies_leaf l x made_of some tree.arena.held held keeps tree.points.names d started Forth false 0 g trail.log.redo trail.future begun_is_forest bb.below redo_now);
       needed = subst (λ t. AreNeeded d.start t trail.log.undo trail.log.redo) (sym begun_is) (λ j inner old top u r. (
           let lt : j < l = (let s = started in omega (arith, old, s)) in
           let t = times-with_leaf l x g j in
@@ -571,22 +570,22 @@ module _ (a : Arena) (points : LivePoints) (overrides : List Setting) (flags : F
           ok.needed j inner old (omega (arith, t', top)) (entries_moved j (with_leaf g l x) g same trail.log.undo u) (entries_moved j (with_leaf g l x) g same trail.log.redo r)));
     }
 
-    history_is : history_of points.names (begun_forest trail.log (with_leaf f l x)) trail ≡ history_of points.names g trail
-    history_is = ap (λ t. history_of points.names t trail) begun_is ∙ (λ i. record {
-      undo = entries_leaf l x made_of some a.held held keeps points.names d started Back d.resumed (next_first d.start trail.future) g trail.log.undo trail.past begun_is_forest bb.below undo_now i;
-      redo = entries_leaf l x made_of some a.held held keeps points.names d started Forth false 0 g trail.log.redo trail.future begun_is_forest bb.below redo_now i;
+    history_is : history_of tree.points.names (begun_forest trail.log (with_leaf f l x)) trail ≡ history_of tree.points.names g trail
+    history_is = ap (λ t. history_of tree.points.names t trail) begun_is ∙ (λ i. record {
+      undo = entries_leaf l x made_of some tree.arena.held held keeps tree.points.names d started Back d.resumed (next_first d.start trail.future) g trail.log.undo trail.past begun_is_forest bb.below undo_now i;
+      redo = entries_leaf l x made_of some tree.arena.held held keeps tree.points.names d started Forth false 0 g trail.log.redo trail.future begun_is_forest bb.below redo_now i;
       depth = trail.log.depth;
       dropped = trail.log.dropped;
     })
 
-    begun_state_is : begun_state arena_made points.names d trail.log ≡ begun_state a points.names e trail.log
+    begun_state_is : begun_state arena_made tree.points.names d trail.log ≡ begun_state tree.arena tree.points.names e trail.log
     begun_state_is = λ i. record {
       trees = (ap document_of begun_is ∙ document_leaf l x g begun_is_forest bb.below) i;
-      points = shown points.names d.kept.places;
+      points = shown tree.points.names d.kept.places;
       overrides = d.kept.overrides.items;
       flags = d.kept.flags;
       next = d.start;
-      cap = a.cap;
+      cap = tree.arena.cap;
       start = d.start;
       host = None;
       keeping = false;
@@ -594,7 +593,7 @@ module _ (a : Arena) (points : LivePoints) (overrides : List Setting) (flags : F
       made = [];
     }
 
-    pub whole_made : whole_of arena_made points overrides flags d trail ≡ record (whole_of a points overrides flags e trail) { state = made x s; held = held }
+    pub whole_made : whole_of (record tree { arena = arena_made }) d trail ≡ record (whole_of tree e trail) { state = made x s; held = held }
     whole_made = λ i. record {
       state = state_is i;
       history = history_is i;
@@ -602,7 +601,7 @@ module _ (a : Arena) (points : LivePoints) (overrides : List Setting) (flags : F
       held = held;
     }
 
-    pub keeps_made : Keeps (whole_of a points overrides flags e trail) (record (whole_of a points overrides flags e trail) { state = made x s; held = held })
+    pub keeps_made : Keeps (whole_of tree e trail) (record (whole_of tree e trail) { state = made x s; held = held })
     unfolding made
     keeps_made = record {
       held = λ r h. record { slot = keeps r h.slot; here = seen_more r.label h.here };
@@ -612,17 +611,17 @@ module _ (a : Arena) (points : LivePoints) (overrides : List Setting) (flags : F
       cap = refl;
     }
 
-    pub held_made : Holds (record (whole_of a points overrides flags e trail) { state = made x s; held = held }) node
+    pub held_made : Holds (record (whole_of tree e trail) { state = made x s; held = held }) node
     unfolding made
     held_made = record { slot = own; here = subst (λ j. 0 < count_of (with_leaf (pruned hides f) l x) j) (sym label) (count-own l x (pruned hides f)) }
 
 -- ---- what the calls owe
 
 pub record Given (d : Inside) (v : Whole) (x : Content) (node : NodeRef) (a : Arena) (c : Command) : Type 0 where
-  pub invariant : IsSoundDoc a d.points d.overrides.items d.flags d.counts c d.history
-  pub state : state_of a d.points d.overrides.items d.flags c d.history.log ≡ made x v.state
-  pub held : Holds (whole_of a d.points d.overrides.items d.flags c d.history) node
-  pub keeps : Keeps v (whole_of a d.points d.overrides.items d.flags c d.history)
+  pub invariant : IsSoundDoc (record (live d) { arena = a }) d.counts c d.history
+  pub state : state_of (record (live d) { arena = a }) c d.history.log ≡ made x v.state
+  pub held : Holds (whole_of (record (live d) { arena = a }) c d.history) node
+  pub keeps : Keeps v (whole_of (record (live d) { arena = a }) c d.history)
 
 module _ (d : Inside) (v : Whole) (sees : seen d ≡ v) (law : IsArena d.arena) (now_open : IsOpen v) (ok : Ok d) where
   opened : IsTrue (is_open d.history.log.open_entry)
@@ -630,28 +629,28 @@ module _ (d : Inside) (v : Whole) (sees : seen d ≡ v) (law : IsArena d.arena) 
 
   -- only room was made
   pub room_made : (c : Command) → record c { named = d.command.named; detached = d.command.detached } ≡ d.command → c.named.items ≡ d.command.named.items → c.detached.items ≡ d.command.detached.items →
-      IsSoundDoc d.arena d.points d.overrides.items d.flags d.counts c d.history
+      IsSoundDoc (live d) d.counts c d.history
   room_made c rest named detached =
-      sound_carried d.arena d.points d.overrides.items d.flags d.counts d.command c d.history opened law
-      (subst (λ z. IsSoundDoc d.arena d.points d.overrides.items d.flags d.counts z d.history) (sym rest) ok) named detached
+      sound_carried (live d) d.counts d.command c d.history opened law
+      (subst (λ z. IsSoundDoc (live d) d.counts z d.history) (sym rest) ok) named detached
 
   pub node_made : (x : Content) → IsMade x → (a : Arena) (node : NodeRef) → Makes d.arena a node x → (b c : Command) → record b { named = d.command.named; detached = d.command.detached } ≡ d.command →
       b.named.items ≡ d.command.named.items → b.detached.items ≡ d.command.detached.items → NotesMade node b c → Given d v x node a c
   node_made x made_of a node m b c base named detached notes =
       let rest : record c { named = d.command.named; detached = d.command.detached } ≡ d.command = ap (λ (z : Command). record z { named = d.command.named; detached = d.command.detached }) notes.rest ∙ base in
-      let ok' = subst (λ z. IsSoundDoc d.arena d.points d.overrides.items d.flags d.counts z d.history) (sym rest) ok in
+      let ok' = subst (λ z. IsSoundDoc (live d) d.counts z d.history) (sym rest) ok in
       let named' : c.named.items ≡ d.command.named.items ++ false ∷ [] = notes.named ∙ ap (λ ms. ms ++ false ∷ []) named in
       let left' : c.detached.items ≡ d.command.detached.items ++ node ∷ [] = notes.detached ∙ ap (λ ls. ls ++ node ∷ []) detached in
       let arena_is : record { trees = with_leaf d.arena.trees d.arena.next x; next = d.arena.next + 1; cap = d.arena.cap; held = a.held } ≡ a = (λ i. record { trees = sym m.trees i; next = sym m.next i; cap = sym m.cap i; held = a.held }) in
-      let whole_is = whole_made d.arena d.points d.overrides.items d.flags d.counts d.command c d.history opened law ok' a.held node x made_of m.keeps m.held m.label named' left' in
-      let same : whole_of d.arena d.points d.overrides.items d.flags (record c { named = d.command.named; detached = d.command.detached }) d.history ≡ v =
-      ap (λ z. whole_of d.arena d.points d.overrides.items d.flags z d.history) rest ∙ sees in
+      let whole_is = whole_made (live d) d.counts d.command c d.history opened law ok' a.held node x made_of m.keeps m.held m.label named' left' in
+      let same : whole_of (live d) (record c { named = d.command.named; detached = d.command.detached }) d.history ≡ v =
+      ap (λ z. whole_of (live d) z d.history) rest ∙ sees in
       subst (λ t. Given d v x node t c) arena_is (record {
-        invariant = sound_made d.arena d.points d.overrides.items d.flags d.counts d.command c d.history opened law ok' a.held node x made_of m.keeps m.held m.label named' left';
+        invariant = sound_made (live d) d.counts d.command c d.history opened law ok' a.held node x made_of m.keeps m.held m.label named' left';
         state = ap (λ (w : Whole). w.state) whole_is ∙ ap (λ (w : Whole). made x w.state) same;
-        held = subst (λ w. Holds w node) (sym whole_is) (held_made d.arena d.points d.overrides.items d.flags d.counts d.command c d.history opened law ok' a.held node x made_of m.keeps m.held m.label named' left');
-        keeps = subst (Keeps v) (sym whole_is) (subst (λ w. Keeps w (record (whole_of d.arena d.points d.overrides.items d.flags (record c { named = d.command.named; detached = d.command.detached }) d.history) { state = made x (state_of d.arena d.points d.overrides.items d.flags (record c { named = d.command.named; detached = d.command.detached }) d.history.log); held = a.held })) same
-            (keeps_made d.arena d.points d.overrides.items d.flags d.counts d.command c d.history opened law ok' a.held node x made_of m.keeps m.held m.label named' left'));
+        held = subst (λ w. Holds w node) (sym whole_is) (held_made (live d) d.counts d.command c d.history opened law ok' a.held node x made_of m.keeps m.held m.label named' left');
+        keeps = subst (Keeps v) (sym whole_is) (subst (λ w. Keeps w (record (whole_of (live d) (record c { named = d.command.named; detached = d.command.detached }) d.history) { state = made x (state_of (live d) (record c { named = d.command.named; detached = d.command.detached }) d.history.log); held = a.held })) same
+            (keeps_made (live d) d.counts d.command c d.history opened law ok' a.held node x made_of m.keeps m.held m.label named' left'));
       })
 
   -- no node was made

@@ -24,7 +24,7 @@ use Rattle.edit_doc.proofs.Begins.{document_tops}
 use Rattle.edit_doc.proofs.Found.{tree_detached, root_stays, root_detached, root_is_top}
 use Rattle.edit_doc.proofs.HiddenTrees.{hidden_is, inside_detached}
 pub use Rattle.edit_doc.proofs.MadeNodes.{listed_has}
-use Rattle.edit_doc.proofs.Inner.{seen, Ok}
+use Rattle.edit_doc.proofs.Inner.{live, seen, Ok}
 use Rattle.edit_doc.proofs.Rests.{arena_forest, trees_are}
 use Rattle.edit_doc.proofs.SeenNodes.{out_of, IsSeen}
 
@@ -76,7 +76,7 @@ module _ (d : Inside) (law : IsArena d.arena) (ok : Ok d) where
 
       at : (o : Open Step) → d.history.log.open_entry ≡ o → OpenSound d.arena d.points d.command (begun_forest d.history.log d.arena.trees) o → ⊥
       at Closed is idle = document_tops d.arena.trees d.arena.next r (arena_forest d.arena law) inner
-          (subst (λ g. 0 < times (tops g) r) (trees_are d.arena d.points d.overrides.items d.flags d.counts d.command d.history law is idle.start) top)
+          (subst (λ g. 0 < times (tops g) r) (trees_are (live d) d.counts d.command d.history law is idle.start) top)
       at (Begun xs) is run = true≢false (sym (run.newly_detached r inner top) ∙ out)
       at (Resumed xs) is run = true≢false (sym (run.newly_detached r inner top) ∙ out)
 

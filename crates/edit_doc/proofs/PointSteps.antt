@@ -27,7 +27,7 @@ use Rattle.edit_doc.proofs.Before.{before_detached}
 use Rattle.edit_doc.proofs.Chosen.{moved_to, other_ok}
 use Rattle.edit_doc.proofs.Found.{tree_of-fewer}
 use Rattle.edit_doc.proofs.HiddenTrees.{placed-whole}
-use Rattle.edit_doc.proofs.Inner.{seen, Ok}
+use Rattle.edit_doc.proofs.Inner.{live, seen, Ok}
 use Rattle.edit_doc.proofs.Rests.{arena_forest}
 use Rattle.edit_doc.proofs.SeenNodes.{out_of}
 
@@ -90,7 +90,7 @@ module _ (d : Inside) (law : IsArena d.arena) (ok : Ok d) where
     pub length_settled : length overrides ≡ 32
     length_settled = settled_length (range_changed (is_before d.arena.trees) (is_before d.arena.trees) d.points.selection selection) d.overrides.items ok.valid.settings
 
-    pub step_ok : (d.history.log.open_entry ≡ Closed → scratch ≡ None) → IsSoundDoc d.arena points overrides d.flags d.counts d.command d.history
+    pub step_ok : (d.history.log.open_entry ≡ Closed → scratch ≡ None) → IsSoundDoc (record (live d) { points = points; overrides = overrides }) d.counts d.command d.history
     step_ok none = other_ok d ok selection scratch marks overrides d.flags placed (settled_length (range_changed (is_before d.arena.trees) (is_before d.arena.trees) d.points.selection selection) d.overrides.items ok.valid.settings) none
 
     settled_so : overrides ≡ overrides_after (seen d).state (seen d).state.trees points
@@ -98,9 +98,9 @@ module _ (d : Inside) (law : IsArena d.arena) (ok : Ok d) where
     settled_so = ap (λ b. if b then no_overrides else d.overrides.items) (sym (range_detached (out_of d) d.arena.trees law.distinct d.points.selection selection ok.valid.placed.selection placed.selection))
 
     pub step_is : (v : Whole) → seen d ≡ v →
-        whole_of d.arena points overrides d.flags d.command d.history
+        whole_of (record (live d) { points = points; overrides = overrides }) d.command d.history
         ≡ with_state v (changed v.state v.state.trees (moved_to v.state.points selection scratch marks))
     unfolding changed
     step_is v is =
-        ap (λ o. whole_of d.arena points o d.flags d.command d.history) settled_so
+        ap (λ o. whole_of (record (live d) { points = points; overrides = o }) d.command d.history) settled_so
         ∙ ap (λ (w : Whole). with_state w (record w.state { points = moved_to w.state.points selection scratch marks; overrides = overrides_after w.state w.state.trees (moved_to w.state.points selection scratch marks) })) is

@@ -27,7 +27,7 @@ use Rattle.edit_doc.specs.Whole.{Whole, history_committed, committed_history}
 use Rattle.edit_doc.specs.History.{edits_before, roots_from, state_of, begun_state, began_with, history_of, undo_entries, view_at}
 use Rattle.edit_doc.specs.Sound.{IsSnapshot, UndoSound, RedoSound, next_first}
 use Rattle.edit_doc.specs.Trail.{trail_of}
-use Rattle.edit_doc.proofs.Inner.{seen, Ending}
+use Rattle.edit_doc.proofs.Inner.{live, seen, Ending}
 use Rattle.edit_doc.proofs.Laid.{undo_count, undo_later, next_first_low}
 use Rattle.edit_doc.proofs.HiddenTrees.{model_forest}
 use Rattle.edit_doc.proofs.Rests.{AtRest, rest_state}
@@ -81,7 +81,7 @@ module _ (d : Inside) (ending : Ending d) where
 
   module _ (log : Log Step) (closed : log.open_entry ≡ Closed) (redo : log.redo ≡ []) (depth : log.depth ≡ d.history.log.depth) (us : List EntrySnapshot) (c : Command) (ended : IsEnded d.arena.next c) where
     module _ (undo : UndoSound d.arena.held d.points.names false c d.arena.next d.arena.trees log.undo us) where
-      pub ends : AtRest d.arena rested_points d.overrides.items d.flags d.counts c (trail_of log us [])
+      pub ends : AtRest (record (live d) { points = rested_points }) d.counts c (trail_of log us [])
       ends = record {
         law = ending.during.law;
         closed = closed;
@@ -104,10 +104,10 @@ module _ (d : Inside) (ending : Ending d) where
         redo = subst (λ es. RedoSound d.arena.held d.points.names c d.arena.trees es []) (sym redo) tt;
       }
 
-      pub recorded_state : (v : Whole) → seen d ≡ v → state_of d.arena rested_points d.overrides.items d.flags c log ≡ rested v.state
+      pub recorded_state : (v : Whole) → seen d ≡ v → state_of (record (live d) { points = rested_points }) c log ≡ rested v.state
       unfolding rested
       recorded_state v sees =
-          rest_state d.arena rested_points d.overrides.items d.flags d.counts c (trail_of log us []) ends
+          rest_state (record (live d) { points = rested_points }) d.counts c (trail_of log us []) ends
           ∙ ((λ i. record {
             trees = sym (document_now d ending) i;
             points = ending.resting.shown i;
@@ -129,7 +129,7 @@ module _ (d : Inside) (ending : Ending d) where
   state_before = begun_state d.arena d.points.names d.command d.history.log
 
   abbrev pub state_now : State
-  state_now = state_of d.arena d.points d.overrides.items d.flags d.command d.history.log
+  state_now = state_of (live d) d.command d.history.log
 
   pub view_before : view_at d.points.names before d.command.kept.places ≡ view_of state_before
   unfolding view_of

@@ -34,7 +34,7 @@ use Rattle.edit_doc.specs.Marks.{Marks, IsMarked, AreMarkable, place_labels, has
 use Rattle.edit_doc.specs.Trail.{Trail, with_note}
 use Rattle.edit_doc.proofs.Changing.{Follows, run}
 use Rattle.edit_doc.proofs.Edited.{Makes, Applied, edit_linked}
-use Rattle.edit_doc.proofs.Inner.{seen, Ok, open_of}
+use Rattle.edit_doc.proofs.Inner.{live, seen, Ok, open_of}
 use Rattle.edit_doc.proofs.SeenLookUps.{index_detached}
 use Rattle.edit_doc.proofs.Rests.{arena_forest}
 use Rattle.edit_doc.proofs.Raised.{unlinked_depth}
@@ -70,7 +70,7 @@ module _ (d : Inside) (law : IsArena d.arena) (v : Whole) (is : seen d ≡ v) (n
   markable r h =
       let here = (held_seen d v is r h).here in
       let below = law.below r.label (omega (arith, here, count_of-pruned (out_of d) d.arena.trees r.label)) in
-      let marks = (run d.arena d.points d.overrides.items d.flags d.counts d.command d.history law (open_of d v is now_open) ok).marks in
+      let marks = (run (live d) d.counts d.command d.history law (open_of d v is now_open) ok).marks in
       omega (arith, below, marks)
 
   pub place_markable : (node parent : NodeRef) (o : Option NodeRef) → Holds v node → Holds v parent → IfHeld v o → AreMarkable d.command (place_labels node parent o)

@@ -1,19 +1,16 @@
 -- A document outside commands.
-use Rattle.std.proofs.Common.{◌≡◌, ◌<◌, ◌≤◌, false, List, [], length, Option, Some, None, IfSome, refl, sym, ap, subst, ◌∙◌, arith}
+use Rattle.std.proofs.Common.{◌≡◌, ◌<◌, ◌≤◌, false, [], length, Option, Some, None, IfSome, refl, sym, ap, subst, ◌∙◌, arith}
 use Rattle.dom_model.specs.declared.Content.{Content}
 use Rattle.dom_model.specs.Document.{node_count, char_count, page_depth}
 use Rattle.dom_model.specs.Forest.{Forest, tops, times, count_of}
 use Rattle.dom_model.specs.Pruned.{pruned}
 use Rattle.dom_model.specs.ArenaState.{ArenaState as Arena, IsValid as IsArena}
-use Rattle.live_range.specs.LivePoints.{LivePoints}
 use Rattle.undo_log.specs.Log.{Log, noted, is_resumed}
 use Rattle.undo_log.specs.Log.Open.{Closed}
 use Rattle.undo_log.proofs.Turns.{back-nil}
 use Rattle.forest_changes.specs.Change.{applied}
 use Rattle.forest_changes.proofs.Twice.{forest_of}
 use Rattle.edit_steps.specs.declared.step.Step.{Step}
-use Rattle.edit_model.specs.declared.settings.Setting.{Setting}
-use Rattle.edit_model.specs.declared.settings.Flags.{Flags}
 use Rattle.edit_model.specs.Gives.{label_of}
 use Rattle.edit_model.specs.Valid.{IsValid, IsForest, IsPlaced}
 use Rattle.edit_model.specs.State.{State}
@@ -26,6 +23,7 @@ use Rattle.edit_doc.specs.History.{edits_before, roots_from, begun_forest, fores
 use Rattle.node_arena.specs.declared.NodeRef.{NodeRef}
 use Rattle.edit_doc.specs.Sound.{RefIn, IsIdle, OpenSound, UndoSound, RedoSound, AreNeeded, next_first, IsSoundDoc}
 use Rattle.edit_doc.specs.Trail.{Trail}
+use Rattle.edit_doc.specs.Live.{Live}
 use Rattle.edit_doc.proofs.HiddenTrees.{hidden_is, seen_at_rest, model_forest, placed-whole}
 use Rattle.edit_doc.proofs.MadeNodes.{no_edits, roots-none}
 
@@ -40,83 +38,83 @@ no_host : (o : Option NodeRef) (P : NodeRef → Type 0) → o ≡ None → IfSom
 no_host None P e = tt
 no_host (Some r) P e = absurd (cc)
 
-abbrev pub rested_state : Arena → LivePoints → List Setting → Flags → State
-rested_state a points overrides flags = record {
-  trees = document_of a.trees;
-  points = points;
-  overrides = overrides;
-  flags = flags;
-  next = a.next;
-  cap = a.cap;
-  start = a.next;
+abbrev pub rested_state : Live → State
+rested_state tree = record {
+  trees = document_of tree.arena.trees;
+  points = tree.points;
+  overrides = tree.overrides;
+  flags = tree.flags;
+  next = tree.arena.next;
+  cap = tree.arena.cap;
+  start = tree.arena.next;
   host = None;
   keeping = false;
   edits = [];
   made = [];
 }
 
-module _ (a : Arena) (points : LivePoints) (overrides : List Setting) (flags : Flags) (counts : Counts) (c : Command) (trail : Trail) where
+module _ (tree : Live) (counts : Counts) (c : Command) (trail : Trail) where
   -- what has to hold of the fields outside commands
   pub record AtRest : Type 0 where
-    pub law : IsArena a
+    pub law : IsArena tree.arena
     pub closed : trail.log.open_entry ≡ Closed
-    pub idle : IsIdle c points a.next
+    pub idle : IsIdle c tree.points tree.arena.next
     pub resumed : c.resumed ≡ false
-    pub placed : IsPlaced a.trees points
-    pub settings : length overrides ≡ 32
-    pub nodes : counts.nodes ≡ node_count a.trees
-    pub chars : counts.chars ≡ char_count a.trees
-    pub depth : page_depth a.trees ≤ counts.depth
-    pub undo : UndoSound a.held points.names false c (next_first c.start trail.future) a.trees trail.log.undo trail.past
-    pub redo : RedoSound a.held points.names c a.trees trail.log.redo trail.future
+    pub placed : IsPlaced tree.arena.trees tree.points
+    pub settings : length tree.overrides ≡ 32
+    pub nodes : counts.nodes ≡ node_count tree.arena.trees
+    pub chars : counts.chars ≡ char_count tree.arena.trees
+    pub depth : page_depth tree.arena.trees ≤ counts.depth
+    pub undo : UndoSound tree.arena.held tree.points.names false c (next_first c.start trail.future) tree.arena.trees trail.log.undo trail.past
+    pub redo : RedoSound tree.arena.held tree.points.names c tree.arena.trees trail.log.redo trail.future
 
-  forest_is : trail.log.open_entry ≡ Closed → begun_forest trail.log a.trees ≡ a.trees
-  forest_is closed = none_noted trail.log a.trees (ap noted closed)
+  forest_is : trail.log.open_entry ≡ Closed → begun_forest trail.log tree.arena.trees ≡ tree.arena.trees
+  forest_is closed = none_noted trail.log tree.arena.trees (ap noted closed)
 
-  pub trees_are : IsArena a → trail.log.open_entry ≡ Closed → c.start ≡ a.next → seen_trees trail.log c.start a.trees ≡ document_of a.trees
+  pub trees_are : IsArena tree.arena → trail.log.open_entry ≡ Closed → c.start ≡ tree.arena.next → seen_trees trail.log c.start tree.arena.trees ≡ document_of tree.arena.trees
   trees_are law closed start =
-      ap (λ g. pruned (is_hidden g c.start) a.trees) (forest_is closed)
-      ∙ (ap (λ n. pruned (is_hidden a.trees n) a.trees) start ∙ seen_at_rest a.trees a.next (arena_forest a law))
+      ap (λ g. pruned (is_hidden g c.start) tree.arena.trees) (forest_is closed)
+      ∙ (ap (λ n. pruned (is_hidden tree.arena.trees n) tree.arena.trees) start ∙ seen_at_rest tree.arena.trees tree.arena.next (arena_forest tree.arena law))
 
-  pub rest_state : AtRest → state_of a points overrides flags c trail.log ≡ rested_state a points overrides flags
+  pub rest_state : AtRest → state_of tree c trail.log ≡ rested_state tree
   rest_state r = λ i. record {
     trees = trees_are r.law r.closed r.idle.start i;
-    points = points;
-    overrides = overrides;
-    flags = flags;
-    next = a.next;
-    cap = a.cap;
+    points = tree.points;
+    overrides = tree.overrides;
+    flags = tree.flags;
+    next = tree.arena.next;
+    cap = tree.arena.cap;
     start = r.idle.start i;
     host = label_of (r.idle.host i);
     keeping = r.idle.keeping i;
-    edits = (ap (λ o. edits_before (noted o) a.trees) r.closed ∙ no_edits a.trees) i;
-    made = (ap (λ n. roots_from n (begun_forest trail.log a.trees)) r.idle.start ∙ (ap (roots_from a.next) (forest_is r.closed) ∙ roots-none a.next a.trees r.law.below)) i;
+    edits = (ap (λ o. edits_before (noted o) tree.arena.trees) r.closed ∙ no_edits tree.arena.trees) i;
+    made = (ap (λ n. roots_from n (begun_forest trail.log tree.arena.trees)) r.idle.start ∙ (ap (roots_from tree.arena.next) (forest_is r.closed) ∙ roots-none tree.arena.next tree.arena.trees r.law.below)) i;
   }
 
-  pub rest_whole : AtRest → whole_of a points overrides flags c trail ≡ record {
-    state = rested_state a points overrides flags;
-    history = history_of points.names a.trees trail;
+  pub rest_whole : AtRest → whole_of tree c trail ≡ record {
+    state = rested_state tree;
+    history = history_of tree.points.names tree.arena.trees trail;
     began = None;
-    held = a.held;
+    held = tree.arena.held;
   }
   rest_whole r = λ i. record {
     state = rest_state r i;
-    history = history_of points.names (forest_is r.closed i) trail;
-    began = began_with (begun_state a points.names c trail.log) (r.closed i);
-    held = a.held;
+    history = history_of tree.points.names (forest_is r.closed i) trail;
+    began = began_with (begun_state tree.arena tree.points.names c trail.log) (r.closed i);
+    held = tree.arena.held;
   }
 
-  valid_rest : AtRest → IsValid (rested_state a points overrides flags)
+  valid_rest : AtRest → IsValid (rested_state tree)
   valid_rest r =
-      let f = arena_forest a r.law in
+      let f = arena_forest tree.arena r.law in
       record {
-        forest = forest-document a.trees a.next f;
-        placed = points_left a.trees (document_of a.trees) (leaves-document a.trees a.next f) points r.placed;
+        forest = forest-document tree.arena.trees tree.arena.next f;
+        placed = points_left tree.arena.trees (document_of tree.arena.trees) (leaves-document tree.arena.trees tree.arena.next f) tree.points r.placed;
         started = omega arith;
         settings = r.settings;
       }
 
-  pub rest_sound : AtRest → AreNeeded c.start a.trees trail.log.undo trail.log.redo → IsSoundDoc a points overrides flags counts c trail
+  pub rest_sound : AtRest → AreNeeded c.start tree.arena.trees trail.log.undo trail.log.redo → IsSoundDoc tree counts c trail
   rest_sound r needed =
       let e = forest_is r.closed in
       record {
@@ -125,31 +123,31 @@ module _ (a : Arena) (points : LivePoints) (overrides : List Setting) (flags : F
         nodes = r.nodes;
         chars = r.chars;
         depth = r.depth;
-        hidden = λ l h. subst (λ g. 0 < times (tops g) l) e (hidden_is (begun_forest trail.log a.trees) c.start l h).root;
-        running = subst (λ o. OpenSound a points c (begun_forest trail.log a.trees) o) (sym r.closed) r.idle;
+        hidden = λ l h. subst (λ g. 0 < times (tops g) l) e (hidden_is (begun_forest trail.log tree.arena.trees) c.start l h).root;
+        running = subst (λ o. OpenSound tree.arena tree.points c (begun_forest trail.log tree.arena.trees) o) (sym r.closed) r.idle;
         resumed = r.resumed ∙ ap is_resumed (sym r.closed);
-        host = no_host c.host (λ h. RefIn a.held h × (0 < count_of (seen_trees trail.log c.start a.trees) h.label)) r.idle.host;
-        undo = subst (λ b. UndoSound a.held points.names b c (next_first c.start trail.future) (begun_forest trail.log a.trees) trail.log.undo trail.past) (sym r.resumed) (subst (λ g. UndoSound a.held points.names false c (next_first c.start trail.future) g trail.log.undo trail.past) (sym e) r.undo);
-        redo = subst (λ g. RedoSound a.held points.names c g trail.log.redo trail.future) (sym e) r.redo;
+        host = no_host c.host (λ h. RefIn tree.arena.held h × (0 < count_of (seen_trees trail.log c.start tree.arena.trees) h.label)) r.idle.host;
+        undo = subst (λ b. UndoSound tree.arena.held tree.points.names b c (next_first c.start trail.future) (begun_forest trail.log tree.arena.trees) trail.log.undo trail.past) (sym r.resumed) (subst (λ g. UndoSound tree.arena.held tree.points.names false c (next_first c.start trail.future) g trail.log.undo trail.past) (sym e) r.undo);
+        redo = subst (λ g. RedoSound tree.arena.held tree.points.names c g trail.log.redo trail.future) (sym e) r.redo;
         needed = subst (λ g. AreNeeded c.start g trail.log.undo trail.log.redo) (sym e) needed;
       }
 
-  pub rest_of : IsArena a → trail.log.open_entry ≡ Closed → IsSoundDoc a points overrides flags counts c trail → AtRest
+  pub rest_of : IsArena tree.arena → trail.log.open_entry ≡ Closed → IsSoundDoc tree counts c trail → AtRest
   rest_of law closed ok =
       let e = forest_is closed in
-      let idle : IsIdle c points a.next = subst (λ o. OpenSound a points c (begun_forest trail.log a.trees) o) closed ok.running in
+      let idle : IsIdle c tree.points tree.arena.next = subst (λ o. OpenSound tree.arena tree.points c (begun_forest trail.log tree.arena.trees) o) closed ok.running in
       let resumed : c.resumed ≡ false = ok.resumed ∙ ap is_resumed closed in
-      let f = arena_forest a law in
+      let f = arena_forest tree.arena law in
       record {
         law = law;
         closed = closed;
         idle = idle;
         resumed = resumed;
-        placed = placed-whole a.trees a.next f (is_hidden (begun_forest trail.log a.trees) c.start) refl points ok.valid.placed;
+        placed = placed-whole tree.arena.trees tree.arena.next f (is_hidden (begun_forest trail.log tree.arena.trees) c.start) refl tree.points ok.valid.placed;
         settings = ok.valid.settings;
         nodes = ok.nodes;
         chars = ok.chars;
         depth = ok.depth;
-        undo = subst (λ g. UndoSound a.held points.names false c (next_first c.start trail.future) g trail.log.undo trail.past) e (subst (λ b. UndoSound a.held points.names b c (next_first c.start trail.future) (begun_forest trail.log a.trees) trail.log.undo trail.past) resumed ok.undo);
-        redo = subst (λ g. RedoSound a.held points.names c g trail.log.redo trail.future) e ok.redo;
+        undo = subst (λ g. UndoSound tree.arena.held tree.points.names false c (next_first c.start trail.future) g trail.log.undo trail.past) e (subst (λ b. UndoSound tree.arena.held tree.points.names b c (next_first c.start trail.future) (begun_forest trail.log tree.arena.trees) trail.log.undo trail.past) resumed ok.undo);
+        redo = subst (λ g. RedoSound tree.arena.held tree.points.names c g trail.log.redo trail.future) e ok.redo;
       }

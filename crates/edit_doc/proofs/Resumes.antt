@@ -22,7 +22,7 @@ use Rattle.edit_doc.specs.History.{forest_before, undo_entries, redo_entries, wh
 use Rattle.edit_doc.specs.History.Way.{Back}
 use Rattle.edit_doc.specs.Sound.{IsSnapshot, UndoSound, next_first, IsSoundDoc}
 use Rattle.edit_doc.specs.Trail.{trail_of}
-use Rattle.edit_doc.proofs.Inner.{seen, Ok}
+use Rattle.edit_doc.proofs.Inner.{live, seen, Ok}
 use Rattle.edit_doc.proofs.Laid.{snapshot_later, undo_later, redo_later, next_first_low, sides_length}
 use Rattle.edit_doc.proofs.Rolls.{snapshot_of}
 use Rattle.edit_doc.proofs.Begins.{Opens, rest, take_all, held_host, needed_now, opened_ok, opened_is}
@@ -87,7 +87,7 @@ module _ (d : Inside) (law : IsArena d.arena) (closed : d.history.log.open_entry
     start_le : d.command.start ≤ command.start
     start_le = (let e = opens.start in omega (arith, e))
 
-    pub resume_ok : IfHeld (seen d) host → IsSoundDoc d.arena d.points d.overrides.items d.flags d.counts command (trail_of (resumed_log d.history.log) us d.history.future)
+    pub resume_ok : IfHeld (seen d) host → IsSoundDoc (live d) d.counts command (trail_of (resumed_log d.history.log) us d.history.future)
     resume_ok held =
         let r = rest d law closed ok in
         let high = next_first d.command.start d.history.future in
@@ -98,7 +98,7 @@ module _ (d : Inside) (law : IsArena d.arena) (closed : d.history.log.open_entry
         (redo_later d.arena.held d.points.names d.command command start_le d.arena.trees d.history.log.redo d.history.future r.redo)
         (needed_now d law closed ok)
 
-    pub resume_is : whole_of d.arena d.points d.overrides.items d.flags command (trail_of (resumed_log d.history.log) us d.history.future) ≡ opened (label_of host) false true (seen d)
+    pub resume_is : whole_of (live d) command (trail_of (resumed_log d.history.log) us d.history.future) ≡ opened (label_of host) false true (seen d)
     resume_is =
         let r = rest d law closed ok in
         let s = swapped d.history.past us d.command m swaps in

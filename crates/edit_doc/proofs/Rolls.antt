@@ -44,6 +44,7 @@ use Rattle.edit_doc.specs.History.{edits_before, roots_from, forest_before, is_h
 use Rattle.edit_doc.specs.History.Way.{Back, Forth}
 use Rattle.edit_doc.specs.Sound.{RefIn, AreFresh, AreAlone, IsSide, IsSnapshot, IsRunning, OpenSound, UndoSound, RedoSound, EntriesOff, AreNeeded, next_first, IsSoundDoc, Lies, turned, bound_of, next_bound, detached_of}
 use Rattle.edit_doc.specs.Trail.{trail_of, IsTrail, Trail}
+use Rattle.edit_doc.specs.Live.{Live, live_of}
 use Rattle.edit_doc.proofs.HiddenTrees.{tops_detached, le_false, true_le, false_le, document-pruned, model_forest}
 use Rattle.edit_doc.proofs.Downs.{back_forest, back_bounded, back_labels, Bounded, KeepsLeft, EntriesLeft, side-pruned, lies-pruned, entries-pruned, led_labels, names_here}
 use Rattle.edit_doc.proofs.Inner.{seen, Opened}
@@ -158,11 +159,11 @@ whole_alone g first next once below alone = whole_those (nat_le first) g once (�
 
 -- ---- what a call that ends a command leaves
 
-pub record Leaves (a : Arena) (points : LivePoints) (overrides : List Setting) (flags : Flags) (counts : Counts) (c : Command) (trail : Trail) (v : Whole) (s : State) (h : History) : Type 0 where
-  pub invariant : IsSoundDoc a points overrides flags counts c trail
-  pub state : state_of a points overrides flags c trail.log ≡ s
-  pub history : history_of points.names (begun_forest trail.log a.trees) trail ≡ h
-  pub keeps : KeepsThere v (whole_of a points overrides flags c trail)
+pub record Leaves (tree : Live) (counts : Counts) (c : Command) (trail : Trail) (v : Whole) (s : State) (h : History) : Type 0 where
+  pub invariant : IsSoundDoc tree counts c trail
+  pub state : state_of tree c trail.log ≡ s
+  pub history : history_of tree.points.names (begun_forest trail.log tree.arena.trees) trail ≡ h
+  pub keeps : KeepsThere v (whole_of tree c trail)
 
 -- ---- what goes with the nodes that were made since
 
@@ -250,7 +251,7 @@ module _ (d : Inside) (during : Opened d) where
 
     pub without_rest : (points : LivePoints) (overrides : List Setting) (flags : Flags) (counts : Counts) →
         points.names ≡ d.points.names → points.scratch ≡ None → IsPlaced a.trees points → length overrides ≡ 32 → counts.nodes ≡ node_count a.trees → counts.chars ≡ char_count a.trees → page_depth a.trees ≤ counts.depth →
-        AtRest a points overrides flags counts c (trail_of log us d.history.future)
+        AtRest (live_of a points overrides flags) counts c (trail_of log us d.history.future)
     without_rest points overrides flags counts names scratch placed settings nodes chars deep = record {
       law = w.valid;
       closed = closed;
@@ -337,7 +338,7 @@ module _ (d : Inside) (during : Opened d) where
         abbrev log' : Log Step
         log' = abandoned d.history.log
 
-        resting : AtRest a3 kept_points d.command.kept.overrides.items d.command.kept.flags d.command.kept.counts c (trail_of log' us d.history.future)
+        resting : AtRest (live_of a3 kept_points d.command.kept.overrides.items d.command.kept.flags) d.command.kept.counts c (trail_of log' us d.history.future)
         resting =
             let side = side-pruned k prunes_g.document d.points.names g d.command.kept.places d.command.kept.counts.nodes d.command.kept.counts.chars d.command.kept.counts.depth forest_g bound_g run.kept in
             without_rest a3 rolled us forgets c ended log' refl refl refl refl refl kept_points d.command.kept.overrides.items d.command.kept.flags d.command.kept.counts
@@ -348,8 +349,8 @@ module _ (d : Inside) (during : Opened d) where
             (side.chars_are ∙ ap char_count (sym rolled.trees))
             (subst (λ t. page_depth t ≤ d.command.kept.counts.depth) (sym rolled.trees) side.no_deeper)
 
-        rolled_ok : IsSoundDoc a3 kept_points d.command.kept.overrides.items d.command.kept.flags d.command.kept.counts c (trail_of log' us d.history.future)
-        rolled_ok = rest_sound a3 kept_points d.command.kept.overrides.items d.command.kept.flags d.command.kept.counts c (trail_of log' us d.history.future) resting
+        rolled_ok : IsSoundDoc (live_of a3 kept_points d.command.kept.overrides.items d.command.kept.flags) d.command.kept.counts c (trail_of log' us d.history.future)
+        rolled_ok = rest_sound (live_of a3 kept_points d.command.kept.overrides.items d.command.kept.flags) d.command.kept.counts c (trail_of log' us d.history.future) resting
             (without_needed a3 rolled us forgets c ended log' refl refl refl refl refl)
 
         begun_is : (o : Open Step) (s t : State) → IsTrue (is_open o) → t ≡ rolled_to s (began_with t o)
@@ -363,10 +364,10 @@ module _ (d : Inside) (during : Opened d) where
         next_is : a3.next ≡ d.command.start
         next_is = ap (λ (b : Arena). b.next) rewinds
 
-        rolled_state : (v : Whole) → seen d ≡ v → state_of a3 kept_points d.command.kept.overrides.items d.command.kept.flags c log' ≡ state_rolled_back v
+        rolled_state : (v : Whole) → seen d ≡ v → state_of (live_of a3 kept_points d.command.kept.overrides.items d.command.kept.flags) c log' ≡ state_rolled_back v
         unfolding state_rolled_back
         rolled_state v sees =
-            rest_state a3 kept_points d.command.kept.overrides.items d.command.kept.flags d.command.kept.counts c (trail_of log' us d.history.future) resting
+            rest_state (live_of a3 kept_points d.command.kept.overrides.items d.command.kept.flags) d.command.kept.counts c (trail_of log' us d.history.future) resting
             ∙ ((λ i. record {
               trees = document_is i;
               points = kept_points;
@@ -391,7 +392,7 @@ module _ (d : Inside) (during : Opened d) where
         by_detached l here = false_le d.command.start l (prunes_g.out l (subst (λ t. 0 < count_of t l) rolled.trees here))
 
         abbrev rolled_whole : Whole
-        rolled_whole = whole_of a3 kept_points d.command.kept.overrides.items d.command.kept.flags c (trail_of log' us d.history.future)
+        rolled_whole = whole_of (live_of a3 kept_points d.command.kept.overrides.items d.command.kept.flags) c (trail_of log' us d.history.future)
 
         rolled_keeps : (v : Whole) → seen d ≡ v → KeepsThere v rolled_whole
         rolled_keeps v sees =
@@ -401,5 +402,5 @@ module _ (d : Inside) (during : Opened d) where
             }) in
             subst (λ (w : Whole). KeepsThere w rolled_whole) sees own
 
-        pub rolls : (v : Whole) → seen d ≡ v → Leaves a3 kept_points d.command.kept.overrides.items d.command.kept.flags d.command.kept.counts c (trail_of log' us d.history.future) v (state_rolled_back v) v.history
+        pub rolls : (v : Whole) → seen d ≡ v → Leaves (live_of a3 kept_points d.command.kept.overrides.items d.command.kept.flags) d.command.kept.counts c (trail_of log' us d.history.future) v (state_rolled_back v) v.history
         rolls v sees = record { invariant = rolled_ok; state = rolled_state v sees; history = rolled_history v sees; keeps = rolled_keeps v sees }

@@ -10,8 +10,6 @@ use Rattle.undo_log.specs.Log.{Open, noted}
 use Rattle.undo_log.specs.Log.Open.{Closed, Begun, Resumed}
 use Rattle.forest_changes.specs.Named.{Each}
 use Rattle.edit_steps.specs.declared.step.Step.{Step}
-use Rattle.edit_model.specs.declared.settings.Setting.{Setting}
-use Rattle.edit_model.specs.declared.settings.Flags.{Flags}
 use Rattle.edit_model.specs.Gives.{labels_of}
 use Rattle.edit_parts.specs.declared.Counts.{Counts}
 use Rattle.edit_doc.specs.declared.command.EntrySnapshot.{EntrySnapshot}
@@ -19,6 +17,7 @@ use Rattle.edit_doc.specs.declared.command.Command.{Command}
 use Rattle.edit_doc.specs.History.{begun_forest, is_hidden}
 use Rattle.edit_doc.specs.Sound.{IsRunning, OpenSound, IsSoundDoc, detached_of, next_first}
 use Rattle.edit_doc.specs.Trail.{Trail}
+use Rattle.edit_doc.specs.Live.{Live}
 use Rattle.edit_doc.proofs.Changing.{undo_carried}
 use Rattle.edit_doc.proofs.Laid.{redo_later}
 
@@ -51,19 +50,19 @@ module _ (c : Command) (l : _) (e : (record c { detached = l }).detached.items �
   opens a points g (Begun xs) h = runs a points.names (noted (Begun xs)) g h
   opens a points g (Resumed xs) h = runs a points.names (noted (Resumed xs)) g h
 
-  pub room_made : (a : Arena) (points : LivePoints) (overrides : List Setting) (flags : Flags) (counts : Counts) (trail : Trail) →
-      IsSoundDoc a points overrides flags counts c trail → IsSoundDoc a points overrides flags counts d trail
-  room_made a points overrides flags counts trail ok = record {
+  pub room_made : (tree : Live) (counts : Counts) (trail : Trail) →
+      IsSoundDoc tree counts c trail → IsSoundDoc tree counts d trail
+  room_made tree counts trail ok = record {
     valid = ok.valid;
     some_label = ok.some_label;
     nodes = ok.nodes;
     chars = ok.chars;
     depth = ok.depth;
     hidden = ok.hidden;
-    running = opens a points (begun_forest trail.log a.trees) trail.log.open_entry ok.running;
+    running = opens tree.arena tree.points (begun_forest trail.log tree.arena.trees) trail.log.open_entry ok.running;
     resumed = ok.resumed;
     host = ok.host;
-    undo = undo_carried a.held points.names c d refl c.resumed (next_first c.start trail.future) (begun_forest trail.log a.trees) trail.log.undo trail.past (detached_same c.resumed) ok.undo;
-    redo = redo_later a.held points.names c d (omega arith) (begun_forest trail.log a.trees) trail.log.redo trail.future ok.redo;
+    undo = undo_carried tree.arena.held tree.points.names c d refl c.resumed (next_first c.start trail.future) (begun_forest trail.log tree.arena.trees) trail.log.undo trail.past (detached_same c.resumed) ok.undo;
+    redo = redo_later tree.arena.held tree.points.names c d (omega arith) (begun_forest trail.log tree.arena.trees) trail.log.redo trail.future ok.redo;
     needed = ok.needed;
   }

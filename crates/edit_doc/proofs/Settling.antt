@@ -25,7 +25,7 @@ use Rattle.edit_parts.specs.declared.overrides.Watch.{Watch}
 use Rattle.edit_parts.specs.Following.{Watches, settled}
 use Rattle.edit_doc.specs.declared.Doc.TheInside.{Inside}
 use Rattle.edit_doc.specs.Whole.{Whole, IsOpen}
-use Rattle.edit_doc.proofs.Inner.{seen, seen as seen_of, Ok, open_of}
+use Rattle.edit_doc.proofs.Inner.{live, seen, seen as seen_of, Ok, open_of}
 use Rattle.edit_doc.proofs.SeenNodes.{out_of}
 use Rattle.edit_doc.proofs.Changing.{goes}
 use Rattle.edit_doc.proofs.HiddenTrees.{model_forest, placed-whole}
@@ -57,7 +57,7 @@ module _ (d : Inside) (v : Whole) (is : seen d ≡ v) (law : IsArena d.arena) (n
   after = points_after e (pruned (out_of d) d.arena.trees) d.points
 
   down : GoesDown (out_of d) (change_of x) d.arena.trees
-  down = goes d.arena d.points d.overrides.items d.flags d.counts d.command d.history law (open_of d v is now_open) ok x fits detached
+  down = goes (live d) d.counts d.command d.history law (open_of d v is now_open) ok x fits detached
 
   pruned_is : pruned (out_of d) g ≡ trees_after e (pruned (out_of d) f)
   pruned_is = down.same ∙ trees

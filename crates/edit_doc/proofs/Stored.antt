@@ -16,7 +16,7 @@ use Rattle.edit_doc.specs.Whole.{Whole, IsClosed, IsDoc}
 use Rattle.edit_doc.specs.Held.{Holds, Finds, IfHeld, IsPart}
 use Rattle.edit_doc.specs.Sound.{RefIn}
 use Rattle.edit_doc.proofs.HiddenTrees.{node_count-pruned, char_count-pruned, page_depth-pruned, document_here}
-use Rattle.edit_doc.proofs.Inner.{seen, Ok, closed_of}
+use Rattle.edit_doc.proofs.Inner.{live, seen, Ok, closed_of}
 use Rattle.edit_doc.proofs.Laid.{undo_count}
 use Rattle.edit_doc.proofs.Rests.{arena_forest, rested_state, rest_state, rest_of}
 use Rattle.edit_doc.proofs.SeenNodes.{out_of, IsSeen}
@@ -32,9 +32,9 @@ module _ (d : Inside) (law : IsArena d.arena) (ok : Ok d) where
   at_rest : IsClosed (seen d) → rested (seen d).state ≡ (seen d).state
   unfolding rested rested_state
   at_rest closed =
-      let rest = rest_of d.arena d.points d.overrides.items d.flags d.counts d.command d.history law (closed_of d (seen d) refl closed) ok in
-      let e = rest_state d.arena d.points d.overrides.items d.flags d.counts d.command d.history rest in
-      ap rested e ∙ ((λ i. record (rested_state d.arena d.points d.overrides.items d.flags) {
+      let rest = rest_of (live d) d.counts d.command d.history law (closed_of d (seen d) refl closed) ok in
+      let e = rest_state (live d) d.counts d.command d.history rest in
+      ap rested e ∙ ((λ i. record (rested_state (live d)) {
         trees = document_twice d.arena.trees d.arena.next (arena_forest d.arena law) i;
         points = no_scratch d.points rest.idle.scratch i;
       }) ∙ sym e)

@@ -19,7 +19,7 @@ use Rattle.edit_model.proofs.ValidParts.{valid_freed}
 use Rattle.edit_parts.specs.Following.{settled}
 use Rattle.edit_doc.specs.declared.Doc.TheInside.{Inside}
 use Rattle.edit_doc.specs.Whole.{Whole, IsOpen}
-use Rattle.edit_doc.proofs.Inner.{seen, Ok, open_of}
+use Rattle.edit_doc.proofs.Inner.{live, seen, Ok, open_of}
 use Rattle.edit_doc.proofs.SeenNodes.{out_of}
 use Rattle.edit_doc.proofs.HiddenTrees.{model_forest, placed-whole}
 use Rattle.edit_doc.proofs.Settled.{settled_seen}
@@ -38,7 +38,7 @@ module _ (d : Inside) (v : Whole) (is : seen d ≡ v) (law : IsArena d.arena) (n
   may_seen = subst (λ (w : Whole). is_made_edit e (freed w.state) ≡ true) (sym is) may
 
   goes_down : GoesDown (out_of d) (change_of x) d.arena.trees
-  goes_down = down (out_of d) (change_of x) d.arena.trees (seen_prunes d.arena d.points d.overrides.items d.flags d.counts d.command d.history law (open_of d v is now_open) ok) fits.fits detached
+  goes_down = down (out_of d) (change_of x) d.arena.trees (seen_prunes (live d) d.counts d.command d.history law (open_of d v is now_open) ok) fits.fits detached
 
   same_after : pruned (out_of d) f' ≡ trees_after e g
   same_after = goes_down.same ∙ trees

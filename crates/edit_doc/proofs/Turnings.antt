@@ -33,8 +33,9 @@ use Rattle.edit_doc.specs.Whole.{Whole}
 use Rattle.edit_doc.specs.History.{roots_from, forest_before, forest_after, is_hidden, undo_entries, redo_entries, history_of, whole_of, view_at, Way, led, older, newer, other}
 use Rattle.edit_doc.specs.History.Way.{Back, Forth}
 use Rattle.edit_doc.specs.Sound.{IsOff, EntriesOff, AreNeeded, IsSide, IsSnapshot, UndoSound, RedoSound, next_first, IsSoundDoc, CanGo, turned}
+use Rattle.edit_doc.specs.Live.{live_of}
 use Rattle.edit_doc.proofs.HiddenTrees.{hidden_is, top_loose}
-use Rattle.edit_doc.proofs.Inner.{seen, Ok}
+use Rattle.edit_doc.proofs.Inner.{live, seen, Ok}
 use Rattle.edit_doc.proofs.Laid.{undo_count, redo_count}
 use Rattle.edit_doc.proofs.Off.{Passes, passes_back, passes_forth, off_moved, entries_moved, each_here}
 use Rattle.edit_doc.proofs.Rests.{AtRest, rest_of, rest_sound, rest_whole, none_noted, rested_state}
@@ -157,8 +158,8 @@ none_long (x ∷ xs) e = absurd (omega (arith, e))
 -- ---- for the value that a contract sees
 
 module _ (d : Inside) (v : Whole) (sees : seen d ≡ v) (law : IsArena d.arena) (slotted : IsSlotted d.arena) (beside : IsTrail d.history) (closed : d.history.log.open_entry ≡ Closed) (ok : Ok d) where
-  at_rest : AtRest d.arena d.points d.overrides.items d.flags d.counts d.command d.history
-  at_rest = rest_of d.arena d.points d.overrides.items d.flags d.counts d.command d.history law closed ok
+  at_rest : AtRest (live d) d.counts d.command d.history
+  at_rest = rest_of (live d) d.counts d.command d.history law closed ok
 
   undo_fit_of : (high : ℕ) (es : List (List Step)) (bs : List EntrySnapshot) → UndoSound d.arena.held d.points.names false d.command high d.arena.trees es bs → FitsUndo step_applied StepFits es d.arena
   undo_fit_of high [] bs h = tt
@@ -180,20 +181,20 @@ module _ (d : Inside) (v : Whole) (sees : seen d ≡ v) (law : IsArena d.arena) 
   needed_now = subst (λ g. AreNeeded d.command.start g d.history.log.undo d.history.log.redo) (none_noted d.history.log d.arena.trees (ap noted closed)) ok.needed
 
   pub record Turned (a : Arena) (points : LivePoints) (counts : Counts) (trail : Trail) (new : Whole) : Type 0 where
-    pub invariant : IsSoundDoc a points no_overrides d.flags counts d.command trail
-    pub value : whole_of a points no_overrides d.flags d.command trail ≡ new
+    pub invariant : IsSoundDoc (live_of a points no_overrides d.flags) counts d.command trail
+    pub value : whole_of (live_of a points no_overrides d.flags) d.command trail ≡ new
 
   -- the value, where the history is this one
   abbrev resting_with : Trail → Whole
   resting_with trail = record {
-    state = rested_state d.arena d.points d.overrides.items d.flags;
+    state = rested_state (live d);
     history = history_of d.points.names d.arena.trees trail;
     began = None;
     held = d.arena.held;
   }
 
   resting_is : seen d ≡ resting_with d.history
-  resting_is = rest_whole d.arena d.points d.overrides.items d.flags d.counts d.command d.history at_rest
+  resting_is = rest_whole (live d) d.counts d.command d.history at_rest
 
   -- ---- the document at a side of an entry
 
@@ -205,7 +206,7 @@ module _ (d : Inside) (v : Whole) (sees : seen d ≡ v) (law : IsArena d.arena) 
     abbrev there : Arena
     there = record d.arena { trees = g }
 
-    rests_there : AtRest there (shown d.points.names p) no_overrides d.flags counts d.command trail
+    rests_there : AtRest (live_of there (shown d.points.names p) no_overrides d.flags) counts d.command trail
     rests_there = record {
       law = law';
       closed = closed';
@@ -231,7 +232,7 @@ module _ (d : Inside) (v : Whole) (sees : seen d ≡ v) (law : IsArena d.arena) 
     -- as undo and redo say it
     abbrev standing : History → Whole
     standing h = record {
-      state = record (rested_state there (shown d.points.names p) no_overrides d.flags) { points = record (shown d.points.names p) { scratch = None } };
+      state = record (rested_state (live_of there (shown d.points.names p) no_overrides d.flags)) { points = record (shown d.points.names p) { scratch = None } };
       history = h;
       began = None;
       held = d.arena.held;
@@ -239,10 +240,10 @@ module _ (d : Inside) (v : Whole) (sees : seen d ≡ v) (law : IsArena d.arena) 
 
     stands : AreNeeded d.command.start g trail.log.undo trail.log.redo → (h : History) → history_of d.points.names g trail ≡ h → Turned there (shown d.points.names p) counts trail (standing h)
     stands needed h is = record {
-      invariant = rest_sound there (shown d.points.names p) no_overrides d.flags counts d.command trail rests_there needed;
-      value = rest_whole there (shown d.points.names p) no_overrides d.flags counts d.command trail rests_there
+      invariant = rest_sound (live_of there (shown d.points.names p) no_overrides d.flags) counts d.command trail rests_there needed;
+      value = rest_whole (live_of there (shown d.points.names p) no_overrides d.flags) counts d.command trail rests_there
           ∙ (λ i. record {
-            state = record (rested_state there (shown d.points.names p) no_overrides d.flags) { points = record (shown d.points.names p) { scratch = side.resting i } };
+            state = record (rested_state (live_of there (shown d.points.names p) no_overrides d.flags)) { points = record (shown d.points.names p) { scratch = side.resting i } };
             history = is i;
             began = None;
             held = d.arena.held;
@@ -395,21 +396,21 @@ module _ (d : Inside) (v : Whole) (sees : seen d ≡ v) (law : IsArena d.arena) 
   redo_same w e = λ i. record w { state = redone_state_by (sym e i) w.state; history = redone_history_by (sym e i) w.history }
 
   pub undo_none : (a : Arena) (trail : Trail) → None ≡ first_sides d.history.past → a ≡ undone_state step_applied d.history.log.undo d.arena → trail ≡ trail_undone d.history d.arena →
-      whole_of a d.points d.overrides.items d.flags d.command trail ≡ undo_whole v
+      whole_of (record (live d) { arena = a }) d.command trail ≡ undo_whole v
   undo_none a trail none ea et =
       let past = no_first d.history.past none in
       let nil = none_long d.history.log.undo (sym beside.past ∙ ap length past) in
       let ea' : a ≡ d.arena = ea ∙ ap (λ xs. undone_state step_applied xs d.arena) nil in
       let et' : trail ≡ d.history =
       et ∙ ((λ i. trail_of (undone_with step_applied step_inverse d.history.log (nil i) d.arena) (drop 1 (past i)) (take 1 (past i) ++ d.history.future)) ∙ (λ i. trail_of d.history.log (sym past i) d.history.future)) in
-      (λ i. whole_of (ea' i) d.points d.overrides.items d.flags d.command (et' i)) ∙ (sees ∙ undo_same v (none_long v.history.undo (sym (undo_count d v sees ok) ∙ ap length nil)))
+      (λ i. whole_of (record (live d) { arena = ea' i }) d.command (et' i)) ∙ (sees ∙ undo_same v (none_long v.history.undo (sym (undo_count d v sees ok) ∙ ap length nil)))
 
   pub redo_none : (a : Arena) (trail : Trail) → None ≡ first_sides d.history.future → a ≡ redone_state step_applied d.history.log.redo d.arena → trail ≡ trail_redone d.history d.arena →
-      whole_of a d.points d.overrides.items d.flags d.command trail ≡ redo_whole v
+      whole_of (record (live d) { arena = a }) d.command trail ≡ redo_whole v
   redo_none a trail none ea et =
       let future = no_first d.history.future none in
       let nil = none_long d.history.log.redo (sym beside.future ∙ ap length future) in
       let ea' : a ≡ d.arena = ea ∙ ap (λ xs. redone_state step_applied xs d.arena) nil in
       let et' : trail ≡ d.history =
       et ∙ ((λ i. trail_of (redone_with step_applied step_inverse d.history.log (nil i) d.arena) (take 1 (future i) ++ d.history.past) (drop 1 (future i))) ∙ (λ i. trail_of d.history.log d.history.past (sym future i))) in
-      (λ i. whole_of (ea' i) d.points d.overrides.items d.flags d.command (et' i)) ∙ (sees ∙ redo_same v (none_long v.history.redo (sym (redo_count d v sees ok) ∙ ap length nil)))
+      (λ i. whole_of (record (live d) { arena = ea' i }) d.command (et' i)) ∙ (sees ∙ redo_same v (none_long v.history.redo (sym (redo_count d v sees ok) ∙ ap length nil)))

@@ -10,7 +10,6 @@ use Rattle.dom_model.specs.Forest.Forest.{Nil, Tree}
 use Rattle.dom_model.specs.Pruned.{pruned}
 use Rattle.dom_model.specs.ArenaState.{ArenaState as Arena}
 use Rattle.live_range.specs.declared.places.Places.{Places}
-use Rattle.live_range.specs.LivePoints.{LivePoints}
 use Rattle.live_range.specs.Names.{shown, named, marks_of}
 use Rattle.undo_log.specs.Turning.{back, forth, inverses_back}
 use Rattle.undo_log.specs.Log.{Log, Open, noted}
@@ -18,13 +17,12 @@ use Rattle.undo_log.specs.Log.Open.{Closed, Begun, Resumed}
 use Rattle.forest_changes.specs.Change.{applied, inverse}
 use Rattle.edit_steps.specs.declared.step.Step.{Step}
 use Rattle.edit_steps.specs.Step.{changes_of}
-use Rattle.edit_model.specs.declared.settings.Setting.{Setting}
-use Rattle.edit_model.specs.declared.settings.Flags.{Flags}
 use Rattle.edit_model.specs.State.{State}
 use Rattle.edit_model.specs.Gives.{label_of}
 use Rattle.edit_model.specs.History.{View, Entry, History, document_of, used}
 use Rattle.edit_doc.specs.declared.command.EntrySnapshot.{EntrySnapshot}
 use Rattle.edit_doc.specs.declared.command.Command.{Command}
+use Rattle.edit_doc.specs.Live.{Live}
 use Rattle.edit_doc.specs.Trail.{Trail}
 use Rattle.edit_doc.specs.Whole.{Began, Whole}
 
@@ -59,19 +57,19 @@ seen_trees log start f = pruned (is_hidden (begun_forest log f) start) f
 
 -- ---- the state
 
-abbrev pub state_of : Arena → LivePoints → List Setting → Flags → Command → Log Step → State
-state_of a points overrides flags c log = record {
-  trees = seen_trees log c.start a.trees;
-  points = points;
-  overrides = overrides;
-  flags = flags;
-  next = a.next;
-  cap = a.cap;
+abbrev pub state_of : Live → Command → Log Step → State
+state_of t c log = record {
+  trees = seen_trees log c.start t.arena.trees;
+  points = t.points;
+  overrides = t.overrides;
+  flags = t.flags;
+  next = t.arena.next;
+  cap = t.arena.cap;
   start = c.start;
   host = label_of c.host;
   keeping = c.keeping;
-  edits = edits_before (noted log.open_entry) a.trees;
-  made = roots_from c.start (begun_forest log a.trees);
+  edits = edits_before (noted log.open_entry) t.arena.trees;
+  made = roots_from c.start (begun_forest log t.arena.trees);
 }
 
 -- the state as the running command began
@@ -158,10 +156,10 @@ history_of names f t = record {
 
 -- ---- the document
 
-abbrev pub whole_of : Arena → LivePoints → List Setting → Flags → Command → Trail → Whole
-whole_of a points overrides flags c t = record {
-  state = state_of a points overrides flags c t.log;
-  history = history_of points.names (begun_forest t.log a.trees) t;
-  began = began_with (begun_state a points.names c t.log) t.log.open_entry;
-  held = a.held;
+abbrev pub whole_of : Live → Command → Trail → Whole
+whole_of t c h = record {
+  state = state_of t c h.log;
+  history = history_of t.points.names (begun_forest h.log t.arena.trees) h;
+  began = began_with (begun_state t.arena t.points.names c h.log) h.log.open_entry;
+  held = t.arena.held;
 }

@@ -18,13 +18,12 @@ use Rattle.forest_changes.specs.Named.{Each, named_in}
 use Rattle.forest_changes.specs.Down.{IsLeft}
 use Rattle.edit_steps.specs.declared.step.Step.{Step}
 use Rattle.edit_steps.specs.Step.{changes_of, nodes_in}
-use Rattle.edit_model.specs.declared.settings.Setting.{Setting}
-use Rattle.edit_model.specs.declared.settings.Flags.{Flags}
 use Rattle.edit_model.specs.Gives.{labels_of}
 use Rattle.edit_model.specs.Valid.{IsValid, IsPlaced}
 use Rattle.edit_parts.specs.declared.Counts.{Counts}
 use Rattle.edit_doc.specs.declared.command.EntrySnapshot.{EntrySnapshot}
 use Rattle.edit_doc.specs.declared.command.Command.{Command}
+use Rattle.edit_doc.specs.Live.{Live}
 use Rattle.edit_doc.specs.Trail.{Trail}
 use Rattle.edit_doc.specs.Marks.{IsMarked, has_named}
 use Rattle.edit_doc.specs.History.{Way, led, older, newer, begun_forest, is_hidden, seen_trees, state_of}
@@ -184,16 +183,16 @@ OpenSound a points c g o = IsRunning a points.names c (noted o) g
 
 -- ---- all of it
 
-pub record IsSoundDoc (a : Arena) (points : LivePoints) (overrides : List Setting) (flags : Flags) (counts : Counts) (c : Command) (t : Trail) : Type 0 where
-  pub valid : IsValid (state_of a points overrides flags c t.log)
+pub record IsSoundDoc (t : Live) (counts : Counts) (c : Command) (h : Trail) : Type 0 where
+  pub valid : IsValid (state_of t c h.log)
   pub some_label : 0 < c.start
-  pub nodes : counts.nodes ≡ node_count a.trees
-  pub chars : counts.chars ≡ char_count a.trees
-  pub depth : page_depth a.trees ≤ counts.depth
-  pub hidden : (l : ℕ) → is_hidden (begun_forest t.log a.trees) c.start l ≡ true → 0 < times (tops a.trees) l
-  pub running : OpenSound a points c (begun_forest t.log a.trees) t.log.open_entry
-  pub resumed : c.resumed ≡ is_resumed t.log.open_entry
-  pub host : IfSome c.host (λ h. RefIn a.held h × (0 < count_of (seen_trees t.log c.start a.trees) h.label))
-  pub undo : UndoSound a.held points.names c.resumed c (next_first c.start t.future) (begun_forest t.log a.trees) t.log.undo t.past
-  pub redo : RedoSound a.held points.names c (begun_forest t.log a.trees) t.log.redo t.future
-  pub needed : AreNeeded c.start (begun_forest t.log a.trees) t.log.undo t.log.redo
+  pub nodes : counts.nodes ≡ node_count t.arena.trees
+  pub chars : counts.chars ≡ char_count t.arena.trees
+  pub depth : page_depth t.arena.trees ≤ counts.depth
+  pub hidden : (l : ℕ) → is_hidden (begun_forest h.log t.arena.trees) c.start l ≡ true → 0 < times (tops t.arena.trees) l
+  pub running : OpenSound t.arena t.points c (begun_forest h.log t.arena.trees) h.log.open_entry
+  pub resumed : c.resumed ≡ is_resumed h.log.open_entry
+  pub host : IfSome c.host (λ r. RefIn t.arena.held r × (0 < count_of (seen_trees h.log c.start t.arena.trees) r.label))
+  pub undo : UndoSound t.arena.held t.points.names c.resumed c (next_first c.start h.future) (begun_forest h.log t.arena.trees) h.log.undo h.past
+  pub redo : RedoSound t.arena.held t.points.names c (begun_forest h.log t.arena.trees) h.log.redo h.future
+  pub needed : AreNeeded c.start (begun_forest h.log t.arena.trees) h.log.undo h.log.redo

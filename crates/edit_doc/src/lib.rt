@@ -63,12 +63,13 @@ impl Model for Doc {
 
     ghost coded = { whole_code };
 
+    ghost use Rattle.edit_doc.specs.Live.{live_of};
     ghost use Rattle.edit_doc.specs.History.{whole_of};
     ghost use Rattle.edit_doc.specs.Sound.{IsSoundDoc};
 
-    ghost view = { λ d. whole_of d.arena d.points d.overrides.items d.flags d.command d.history };
+    ghost view = { λ d. whole_of (live_of d.arena d.points d.overrides.items d.flags) d.command d.history };
 
-    ghost invariant = { λ d. IsSoundDoc d.arena d.points d.overrides.items d.flags d.counts d.command d.history };
+    ghost invariant = { λ d. IsSoundDoc (live_of d.arena d.points d.overrides.items d.flags) d.counts d.command d.history };
 }
 
 impl Doc {

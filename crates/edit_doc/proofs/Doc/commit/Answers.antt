@@ -14,7 +14,7 @@ use Rattle.edit_doc.specs.GivingUp.{GivesUp, is_unnamed}
 use Rattle.edit_doc.specs.Sound.{next_first}
 use Rattle.edit_doc.specs.Trail.{Trail, trail_of}
 use Rattle.edit_doc.proofs.Commits.{edits_count, committed_none, nothing_whole, makes_nothing}
-use Rattle.edit_doc.proofs.Inner.{Entering, opened_of, open_of, ending_of}
+use Rattle.edit_doc.proofs.Inner.{live, Entering, opened_of, open_of, ending_of}
 use Rattle.edit_doc.proofs.Outgone.{detached_inner, detached_still_loose, unkept, gives_both}
 use Rattle.edit_doc.proofs.Spared.{spared}
 use Rattle.edit_doc.proofs.Rolls.{Leaves}
@@ -49,7 +49,7 @@ trail c =
 ended : (c : goal.After-end) → IsEnded c.drop_made.new.self.next c.end.new.self
 ended c = subst (λ (n : ℕ). IsEnded n c.end.new.self) c.next_label.ensures c.end.ensures
 
-nothing : (c : goal.After-end) → Leaves c.drop_made.new.self (shown c.self.inside.points.names c.resting_places-places.result) c.self.inside.overrides.items c.self.inside.flags c.self.inside.counts c.end.new.self
+nothing : (c : goal.After-end) → Leaves (record (live c.self.inside) { arena = c.drop_made.new.self; points = shown c.self.inside.points.names c.resting_places-places.result }) c.self.inside.counts c.end.new.self
     (trail_of (record c.self.inside.history.log { open_entry = Closed }) c.forget_detached.new.self.past c.self.inside.history.future) c.args.self.now (rested c.args.self.now.state) (history_committed c.args.self.now)
 nothing c =
     makes_nothing c.self.inside (ending_of c.self.inside _ c.self.view_is c.valid-2.ensures c.self.invariant c.requires.«open» c.resting_places-places.result c.resting_places-places.ensures) c.in-Nothing.ensures.closes.none
@@ -114,7 +114,7 @@ gives_all c =
 entry_ended : (c : goal.After-end-in-Entry) → IsEnded c.self.inside.arena.next c.end-in-Entry.new.self
 entry_ended c = subst (λ (n : ℕ). IsEnded n c.end-in-Entry.new.self) (c.next_label-in-Entry.ensures ∙ (c.give_up_detached.ensures.next ∙ c.give_up_unnamed.ensures.next)) c.end-in-Entry.ensures
 
-spares : (c : goal.After-end-in-Entry) → Leaves c.give_up_detached.new.arena (shown c.self.inside.points.names c.resting_places-places.result) c.self.inside.overrides.items c.self.inside.flags c.self.inside.counts c.end-in-Entry.new.self
+spares : (c : goal.After-end-in-Entry) → Leaves (record (live c.self.inside) { arena = c.give_up_detached.new.arena; points = shown c.self.inside.points.names c.resting_places-places.result }) c.self.inside.counts c.end-in-Entry.new.self
     (trail_of c.commit.new.self.log c.commit.new.self.past []) c.args.self.now (rested c.args.self.now.state) (history_committed c.args.self.now)
 spares c =
     let m = c.in-Entry.ensures.closes in

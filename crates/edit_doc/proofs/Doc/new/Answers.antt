@@ -1,6 +1,7 @@
 use Rattle.std.proofs.Common.{ℕ, false, subst, ◌∙◌}
 use Rattle.edit_doc.specs.Fields.{IsEnded}
 use Rattle.edit_doc.specs.History.{whole_of}
+use Rattle.edit_doc.specs.Live.{live_of}
 use Rattle.edit_doc.proofs.Starts.{new_ok, new_is}
 use Rattle.edit_doc.proofs.Doc.new.Goals as goal
 
@@ -14,5 +15,5 @@ invariant_of-result-2 c =
 
 pub returns : goal.returns
 returns c =
-    (λ i. whole_of (c.arena.view_is i) (c.in_ok-points.ensures i) (c.in_ok-no_overrides.ensures i) (record { css_styling = false; paragraphs = false }) c.none.result (c.in_ok-new.ensures i))
+    (λ i. whole_of (live_of (c.arena.view_is i) (c.in_ok-points.ensures i) (c.in_ok-no_overrides.ensures i) (record { css_styling = false; paragraphs = false })) c.none.result (c.in_ok-new.ensures i))
     ∙ new_is c.args.arena c.valid.ensures c.requires.loose c.args.undo_depth (record { nodes = c.node_count.result; chars = c.char_count.result; depth = c.page_depth.result }) c.node_count.ensures c.char_count.ensures c.page_depth.ensures c.none.result (ended c)

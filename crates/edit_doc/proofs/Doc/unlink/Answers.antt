@@ -4,6 +4,7 @@ use Rattle.std.specs.Vec.{with_items}
 use Rattle.std.proofs.lemmas.List.{with_items_is}
 use Rattle.edit_steps.specs.declared.step.Step.TheVariants.{Unlink}
 use Rattle.edit_model.specs.Edit.{Remove}
+use Rattle.edit_doc.proofs.Inner.{live}
 use Rattle.edit_doc.proofs.Edited.{Applied}
 use Rattle.edit_doc.proofs.Removed.{place_markable, up, fits, detached, trees, points_are, unlink_done}
 use Rattle.edit_doc.proofs.Roomier.{room_made}
@@ -14,7 +15,7 @@ use Rattle.edit_doc.proofs.Doc.unlink.Goals as goal
 pub invariant_of-self : goal.invariant_of-self
 invariant_of-self c =
     let d = c.self.inside in
-    room_made d.command c.reserve.new.self c.reserve.ensures.items d.arena d.points d.overrides.items d.flags d.counts d.history c.self.invariant
+    room_made d.command c.reserve.new.self c.reserve.ensures.items (live d) d.counts d.history c.self.invariant
 
 pub watch_range-watch-requires-clause-placed : goal.watch_range-watch-requires-clause-placed
 watch_range-watch-requires-clause-placed c = (points_now c.self.inside c.valid.ensures c.self.invariant).selection
@@ -23,7 +24,7 @@ pub invariant_of-self-in_err-make_change : goal.invariant_of-self-in_err-make_ch
 invariant_of-self-in_err-make_change c =
     let d = c.self.inside in
     let same = c.in_err-make_change.ensures.err in
-    rw (same.0, same.1) (room_made d.command c.reserve.new.self c.reserve.ensures.items d.arena d.points d.overrides.items d.flags d.counts d.history c.self.invariant)
+    rw (same.0, same.1) (room_made d.command c.reserve.new.self c.reserve.ensures.items (live d) d.counts d.history c.self.invariant)
 
 pub name_place-requires : goal.name_place-requires
 name_place-requires c =
