@@ -41,7 +41,7 @@ use Rattle.edit_doc.specs.Sound.{RefIn}
 use Rattle.edit_doc.specs.Trail.{Trail, with_note}
 use Rattle.edit_doc.specs.History.{other}
 use Rattle.edit_doc.proofs.Inner.{seen, Ok}
-use Rattle.edit_doc.proofs.SeenNodes.{out_of, IsSeen, held_seen, attributes_seen}
+use Rattle.edit_doc.proofs.SeenNodes.{shows_of, out_of, IsSeen, held_seen, attributes_seen}
 use Rattle.edit_doc.proofs.Changing.{Follows}
 use Rattle.edit_doc.proofs.Edited.{Makes, Done, edit_called}
 use Rattle.edit_doc.proofs.Raised.{revised_depth}
@@ -195,7 +195,7 @@ module _ (d : Inside) (v : Whole) (is : seen d ≡ v) (law : IsArena d.arena) (s
   held_here = held_seen d v is node holds
 
   own_seen : attributes_of v.state.trees node.label ≡ Some own
-  own_seen = attributes_seen d law v is node holds ∙ ap (option_and_then attributes_in) content
+  own_seen = attributes_seen (shows_of d law v is) node holds ∙ ap (option_and_then attributes_in) content
 
   pub may_unset_here : (name : List ℕ) → is_own v.state node.label ≡ true → option_map_or (λ _. true) (value_of own name) false ≡ true → is_made_edit (Unset node.label name) v.state ≡ true
   unfolding is_made_edit may_unset

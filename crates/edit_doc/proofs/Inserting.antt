@@ -41,7 +41,7 @@ use Rattle.edit_doc.specs.Held.{Holds, IfHeld}
 use Rattle.edit_doc.specs.Marks.{Marks, place_labels}
 use Rattle.edit_doc.specs.Trail.{Trail, with_note}
 use Rattle.edit_doc.proofs.Inner.{seen, Ok}
-use Rattle.edit_doc.proofs.SeenNodes.{out_of, held_seen, is_parent_seen}
+use Rattle.edit_doc.proofs.SeenNodes.{shows_of, out_of, held_seen, is_parent_seen}
 use Rattle.edit_doc.proofs.Rests.{arena_forest}
 use Rattle.edit_doc.proofs.Linked.{labels_same, inserts_follow, place_seen, link_fits}
 use Rattle.edit_doc.proofs.Inserted.{index-link, more_linked, linked_low, chars_bound, nodes_bound}
@@ -93,7 +93,7 @@ module _ (d : Inside) (v : Whole) (is : seen d ≡ v) (law : IsArena d.arena) (s
   told = inserts (freed (seen d).state) p b n may_seen
 
   bears : is_parent_at f p ≡ true
-  bears = sym (is_parent_seen d law (seen d) refl parent (held_seen d v is parent parent_held)) ∙ told.parent
+  bears = sym (is_parent_seen (shows_of d law (seen d) refl) parent (held_seen d v is parent parent_held)) ∙ told.parent
 
   can : CanPut f p b n
   can = CanPut-pruned (out_of d) f p b n (forest_of d.arena law) told.can

@@ -52,7 +52,7 @@ use Rattle.edit_doc.specs.Held.{Holds, IfHeld}
 use Rattle.edit_doc.specs.Marks.{Marks, IsMarked, AreMarkable, place_labels}
 use Rattle.edit_doc.specs.Trail.{Trail, with_note}
 use Rattle.edit_doc.proofs.Inner.{live, seen, Ok, open_of}
-use Rattle.edit_doc.proofs.SeenNodes.{out_of, held_seen, parent_seen, index_seen, tree_seen}
+use Rattle.edit_doc.proofs.SeenNodes.{shows_of, out_of, held_seen, parent_seen, index_seen, tree_seen}
 use Rattle.edit_doc.proofs.Rests.{arena_forest}
 use Rattle.edit_doc.proofs.HiddenTrees.{lt_true}
 use Rattle.edit_doc.proofs.Placing.{document_seen}
@@ -202,7 +202,7 @@ module _ (d : Inside) (v : Whole) (is : seen d ≡ v) (law : IsArena d.arena) (s
 
   may_here : may_move v.state n p b ≡ true
   unfolding may_move
-  may_here = ap (λ q. may_go v.state n q p b) (parent_seen d law v is node node_held ∙ up) ∙ subst (λ o. may_go v.state n (Some from.label) p o ≡ true) (sym (labels_same before)) may
+  may_here = ap (λ q. may_go v.state n q p b) (parent_seen (shows_of d law v is) node node_held ∙ up) ∙ subst (λ o. may_go v.state n (Some from.label) p o ≡ true) (sym (labels_same before)) may
 
   may_seen : may_move (seen d).state n p b ≡ true
   may_seen = subst (λ (w : Whole). may_move w.state n p b ≡ true) (sym is) may_here
@@ -218,7 +218,7 @@ module _ (d : Inside) (v : Whole) (is : seen d ≡ v) (law : IsArena d.arena) (s
   node_here = held_seen d v is node node_held
 
   up_seen : parent_of g n ≡ Some from.label
-  up_seen = parent_seen d law (seen d) refl node node_here ∙ up
+  up_seen = parent_seen (shows_of d law (seen d) refl) node node_here ∙ up
 
   fits_seen : ChangeFits (change.Move n p b) g
   fits_seen = record {
@@ -239,10 +239,10 @@ module _ (d : Inside) (v : Whole) (is : seen d ≡ v) (law : IsArena d.arena) (s
   can = fits_here.here.1.place
 
   apart : count_of (tree_of f n) p ≡ 0
-  apart = ap (λ t. count_of t p) (sym (tree_seen d law (seen d) refl node node_here)) ∙ told.apart
+  apart = ap (λ t. count_of t p) (sym (tree_seen (shows_of d law (seen d) refl) node node_here)) ∙ told.apart
 
   inside : is_in_document f n ≡ true → is_in_document f p ≡ true
-  inside h = sym (document_seen d law (seen d) refl p) ∙ told.inside (document_seen d law (seen d) refl n ∙ h)
+  inside h = sym (document_seen (shows_of d law (seen d) refl) p) ∙ told.inside (document_seen (shows_of d law (seen d) refl) n ∙ h)
 
   pub fits : StepFits (Place node parent before) d.arena
   fits = record { fits = fits_here; slotted = slotted; held = place_held d v is law slotted node parent before node_held parent_held before_held }
@@ -319,7 +319,7 @@ module _ (d : Inside) (v : Whole) (is : seen d ≡ v) (law : IsArena d.arena) (s
   start_label = sym (parent_is g from.label n up_seen)
 
   start_index : index_of f n ≡ index_of g n
-  start_index = sym (index_seen d law (seen d) refl node node_here)
+  start_index = sym (index_seen (shows_of d law (seen d) refl) node node_here)
 
   module _ (arena : Arena) (arena_is : arena ≡ step_applied (Place node parent before) d.arena) where
     trees_here : arena.trees ≡ link (unlink f n) p b n

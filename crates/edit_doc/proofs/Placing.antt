@@ -5,8 +5,7 @@ use Rattle.std.proofs.lemmas.Bool.Decides.{nat_tests}
 use Rattle.dom_model.specs.declared.Content.{Content}
 use Rattle.dom_model.specs.Contents.{length_of}
 use Rattle.dom_model.specs.Forest.{Forest, is_label, count_of, parent_of, IsWithin}
-use Rattle.dom_model.specs.Pruned.{pruned}
-use Rattle.dom_model.specs.ArenaState.{IsValid as IsArena}
+use Rattle.dom_model.specs.ArenaState.{ArenaState as Arena}
 use Rattle.dom_model.proofs.Stands.{true_or_false}
 use Rattle.live_range.specs.declared.places.Point.{Point}
 use Rattle.node_arena.specs.declared.NodeRef.{NodeRef}
@@ -16,16 +15,15 @@ use Rattle.node_arena.specs.Kinds.{is_parent_kind}
 use Rattle.point_order.specs.PointOrder.{is_within, is_in_document, is_placed}
 use Rattle.edit_model.specs.Confined.{is_place, is_own, is_open, may_grow, may_select, may_send}
 use Rattle.edit_model.specs.Gives.{label_of}
-use Rattle.edit_doc.specs.declared.Doc.TheInside.{Inside}
 use Rattle.edit_doc.specs.Whole.{Whole}
+use Rattle.edit_doc.specs.Shows.{Shows}
 use Rattle.edit_doc.specs.Held.{Holds}
 use Rattle.node_arena.specs.Held.{Holds as HoldsNode}
 use Rattle.edit_doc.proofs.Asking.{second_false}
 use Rattle.edit_doc.proofs.Found.{tree_of-fewer}
 use Rattle.edit_doc.proofs.HiddenTrees.{lt_true, document-pruned, inside_detached, length_of-pruned}
-use Rattle.edit_doc.proofs.Inner.{seen}
 use Rattle.edit_doc.proofs.Rests.{arena_forest}
-use Rattle.edit_doc.proofs.SeenNodes.{out_of}
+use Rattle.edit_doc.proofs.SeenNodes.{holds_shown}
 
 -- ---- kinds and names
 
@@ -65,48 +63,40 @@ takes_so parent false place r a b e = ap not e ∙ (sym b ∙ sym (ap (λ x. x &
 
 -- ---- places of points
 
-module _ (d : Inside) (law : IsArena d.arena) where
-  pub in_document_seen : (l : ℕ) → is_in_document (pruned (out_of d) d.arena.trees) l ≡ is_in_document d.arena.trees l
-  in_document_seen l = ap (λ t. nat_lt 0 (count_of t l)) (document-pruned d.arena.trees d.arena.next (arena_forest d.arena law) (out_of d) refl)
+module _ {v : Whole} {a : Arena} (s : Shows v a) where
+  abbrev out : ℕ → Bool
+  out = s.part.detached_out
 
-  placed_same : (p : Point) → is_placed (pruned (out_of d) d.arena.trees) p ≡ is_placed d.arena.trees p
-  unfolding is_placed
-  placed_same p = elim (true_or_false (is_in_document d.arena.trees p.label)) [
+  pub document_seen : (l : ℕ) → is_in_document v.state.trees l ≡ is_in_document a.trees l
+  document_seen l = ap (λ t. is_in_document t l) s.part.is ∙ ap (λ t. nat_lt 0 (count_of t l)) (document-pruned a.trees a.next (arena_forest a s.law) out s.part.not_document)
+
+  pub select_is : (p : Point) → may_select v.state p ≡ is_placed a.trees p
+  unfolding may_select is_placed
+  select_is p = elim (true_or_false (is_in_document a.trees p.label)) [
     | inl t ↦ (
-        let len = length_of-pruned d.arena.trees d.arena.next (arena_forest d.arena law) (out_of d) refl p.label (lt_true 0 (count_of _ p.label) t) in
-        λ i. in_document_seen p.label i && nat_le p.offset (len i))
-    | inr u ↦ ap (λ b. b && nat_le p.offset (length_of (pruned (out_of d) d.arena.trees) p.label)) (in_document_seen p.label ∙ u) ∙ sym (ap (λ b. b && nat_le p.offset (length_of d.arena.trees p.label)) u)
+        let len = ap (λ f. length_of f p.label) s.part.is ∙ length_of-pruned a.trees a.next (arena_forest a s.law) out s.part.not_document p.label (lt_true 0 (count_of _ p.label) t) in
+        λ i. document_seen p.label i && nat_le p.offset (len i))
+    | inr u ↦ ap (λ b. b && nat_le p.offset (length_of v.state.trees p.label)) (document_seen p.label ∙ u) ∙ sym (ap (λ b. b && nat_le p.offset (length_of a.trees p.label)) u)
   ]
-
-  pub select_is : (v : Whole) → seen d ≡ v → (p : Point) → may_select v.state p ≡ is_placed d.arena.trees p
-  unfolding may_select
-  select_is v is p = subst (λ (w : Whole). is_placed w.state.trees p ≡ is_placed d.arena.trees p) is (placed_same p)
 
   -- ---- the points of a text
 
-  pub send_is : (v : Whole) → seen d ≡ v → (n at tail : ℕ) → may_send v.state n at tail ≡ (is_own v.state n && (is_in_document d.arena.trees tail && (not (eqb n tail) && nat_le (length_of v.state.trees n) (at + length_of v.state.trees tail))))
+  pub send_is : (n at tail : ℕ) → may_send v.state n at tail ≡ (is_own v.state n && (is_in_document a.trees tail && (not (eqb n tail) && nat_le (length_of v.state.trees n) (at + length_of v.state.trees tail))))
   unfolding may_send
-  send_is v is n at tail =
-      ap (λ x. is_own v.state n && (x && (not (eqb n tail) && nat_le (length_of v.state.trees n) (at + length_of v.state.trees tail))))
-      (subst (λ (w : Whole). is_in_document w.state.trees tail ≡ is_in_document d.arena.trees tail) is (in_document_seen tail))
-
-  pub document_seen : (v : Whole) → seen d ≡ v → (l : ℕ) → is_in_document v.state.trees l ≡ is_in_document d.arena.trees l
-  document_seen v is l = subst (λ (w : Whole). is_in_document w.state.trees l ≡ is_in_document d.arena.trees l) is (in_document_seen l)
+  send_is n at tail = ap (λ x. is_own v.state n && (x && (not (eqb n tail) && nat_le (length_of v.state.trees n) (at + length_of v.state.trees tail)))) (document_seen tail)
 
   -- ---- points that may grow
 
-  pub inside_held : (v : Whole) → seen d ≡ v → (node : NodeRef) → HoldsNode d.arena node → is_in_document d.arena.trees node.label ≡ true → Holds v node
-  inside_held v is node held e = subst (λ w. Holds w node) is (record {
-    slot = held;
-    here = inside_detached d.arena.trees d.arena.next (arena_forest d.arena law) (out_of d) refl node.label (lt_true 0 (count_of _ node.label) e);
-  })
+  pub inside_held : (node : NodeRef) → HoldsNode a node → is_in_document a.trees node.label ≡ true → Holds v node
+  inside_held node held e = holds_shown s node held (subst (λ t. 0 < count_of t node.label) (sym s.part.is)
+      (inside_detached a.trees a.next (arena_forest a s.law) out s.part.not_document node.label (lt_true 0 (count_of _ node.label) e)))
 
-  pub grow_is : (v : Whole) → seen d ≡ v → (p : Point) → may_grow v.state p ≡ (is_open v.state p.label && (is_in_document d.arena.trees p.label && nat_lt p.offset (length_of v.state.trees p.label)))
+  pub grow_is : (p : Point) → may_grow v.state p ≡ (is_open v.state p.label && (is_in_document a.trees p.label && nat_lt p.offset (length_of v.state.trees p.label)))
   unfolding may_grow
-  grow_is v is p = ap (λ x. is_open v.state p.label && (x && nat_lt p.offset (length_of v.state.trees p.label))) (document_seen v is p.label)
+  grow_is p = ap (λ x. is_open v.state p.label && (x && nat_lt p.offset (length_of v.state.trees p.label))) (document_seen p.label)
 
-  pub grow_absent : (v : Whole) → seen d ≡ v → (p : Point) → count_of d.arena.trees p.label ≡ 0 → may_grow v.state p ≡ false
-  grow_absent v is p none = grow_is v is p ∙ second_false (is_open v.state p.label) (is_in_document d.arena.trees p.label) (nat_lt p.offset (length_of v.state.trees p.label)) (elim (true_or_false (is_in_document d.arena.trees p.label)) [
-    | inl t ↦ absurd (let w = lt_true 0 (count_of _ p.label) t in omega (arith, w, none, tree_of-fewer d.arena.trees 0 p.label))
+  pub grow_absent : (p : Point) → count_of a.trees p.label ≡ 0 → may_grow v.state p ≡ false
+  grow_absent p none = grow_is p ∙ second_false (is_open v.state p.label) (is_in_document a.trees p.label) (nat_lt p.offset (length_of v.state.trees p.label)) (elim (true_or_false (is_in_document a.trees p.label)) [
+    | inl t ↦ absurd (let w = lt_true 0 (count_of _ p.label) t in omega (arith, w, none, tree_of-fewer a.trees 0 p.label))
     | inr u ↦ u
   ])

@@ -38,7 +38,7 @@ use Rattle.edit_doc.proofs.Inner.{live, seen, Ok, open_of}
 use Rattle.edit_doc.proofs.SeenLookUps.{index_detached}
 use Rattle.edit_doc.proofs.Rests.{arena_forest}
 use Rattle.edit_doc.proofs.Raised.{unlinked_depth}
-use Rattle.edit_doc.proofs.SeenNodes.{out_of, held_seen, parent_seen}
+use Rattle.edit_doc.proofs.SeenNodes.{shows_of, out_of, held_seen, parent_seen}
 use Rattle.edit_doc.proofs.Settling.{overrides_next, overrides_are}
 
 -- the tree of n was left loose, which stood under p before o
@@ -92,7 +92,7 @@ may_remove_here s n p up may = ap (may_leave s n) up ∙ may
 module _ (d : Inside) (law : IsArena d.arena) (v : Whole) (is : seen d ≡ v) (node : NodeRef) (holds : Holds v node) where
   module _ (parent : NodeRef) (child : parent_of v.state.trees node.label ≡ Some parent.label) where
     pub up : parent_of d.arena.trees node.label ≡ Some parent.label
-    up = sym (parent_seen d law v is node holds) ∙ child
+    up = sym (parent_seen (shows_of d law v is) node holds) ∙ child
 
     module _ (slotted : IsSlotted d.arena) (now_open : IsOpen v) (ok : Ok d) (may : is_made_edit (Remove node.label) (freed v.state) ≡ true) where
       abbrev f : Forest Content

@@ -45,7 +45,7 @@ use Rattle.edit_doc.proofs.Edited.{Makes, Done, edit_called}
 use Rattle.edit_doc.proofs.Inner.{seen, Ok}
 use Rattle.edit_doc.proofs.Lessened.{Changes, changes}
 use Rattle.edit_doc.proofs.Ordered.{tree_of-revised}
-use Rattle.edit_doc.proofs.SeenNodes.{out_of, held_seen, content_seen}
+use Rattle.edit_doc.proofs.SeenNodes.{shows_of, out_of, held_seen, content_seen}
 use Rattle.edit_doc.proofs.Settling.{overrides_next, overrides_are}
 
 and_false : (a : Bool) → (a && false) ≡ false
@@ -73,7 +73,7 @@ follows c d n words f m = record {
 
 module _ (d : Inside) (law : IsArena d.arena) (v : Whole) (is : seen d ≡ v) (node : NodeRef) (holds : Holds v node) (at count : ℕ) (put : List ℕ) (con : Content) (content : content_of d.arena.trees node.label ≡ Some con) where
   content_here : content_of v.state.trees node.label ≡ Some con
-  content_here = content_seen d law v is node holds ∙ content
+  content_here = content_seen (shows_of d law v is) node holds ∙ content
 
   pub may_replace_here : is_own v.state node.label ≡ true → may_change (Some con) at count put ≡ true → is_made_edit (Replace node.label at count put) v.state ≡ true
   unfolding is_made_edit may_replace

@@ -1,6 +1,6 @@
 -- What a document under edits shows is what can be read of its nodes.
 use Rattle.std.proofs.Common.{◌≡◌, ℕ, ◌^◌, ◌<◌, ◌≤◌, ◌↔◌, Bool, false, List, [], ◌∷◌, Option, Some, None, IfSome, ◌⊎◌, inl, inr, sym, ap, subst, ◌∙◌, arith, nat_lt}
-use Rattle.std.specs.Prelude.{◌&&◌, IsTrue, slice_index_or}
+use Rattle.std.specs.Prelude.{◌&&◌, IsTrue}
 use Rattle.std.specs.Option.{option_map_or}
 use Rattle.std.proofs.lemmas.Bool.Decides.{eqb_tells}
 use Rattle.dom_model.specs.declared.Content.{Content}
@@ -9,16 +9,15 @@ use Rattle.dom_model.specs.Forest.{Forest, IsWithin, total, count_of, preorder}
 use Rattle.dom_model.specs.Forest.Forest.{Nil, Tree}
 use Rattle.dom_model.specs.Places.{first_among, first_of_two}
 use Rattle.dom_model.specs.Pruned.{pruned}
-use Rattle.dom_model.specs.ArenaState.{IsValid as IsArena}
+use Rattle.dom_model.specs.ArenaState.{ArenaState as Arena}
 use Rattle.dom_model.proofs.Stands.{true_or_false}
 use Rattle.node_arena.specs.declared.NodeRef.{NodeRef}
 use Rattle.node_arena.specs.Held.{Holds as HoldsNode, Names as NamesNode, label}
 use Rattle.node_arena.specs.Reads.{IsValid, Names}
-use Rattle.edit_doc.specs.declared.Doc.TheInside.{Inside}
 use Rattle.edit_doc.specs.Whole.{Whole, IsDoc}
 use Rattle.edit_doc.specs.Held.{Holds, Finds}
-use Rattle.edit_doc.proofs.Inner.{seen}
-use Rattle.edit_doc.proofs.SeenNodes.{out_of, tree_seen, content_seen}
+use Rattle.edit_doc.specs.Shows.{Shows}
+use Rattle.edit_doc.proofs.SeenNodes.{here_shown, holds_shown, tree_seen, content_seen}
 use Rattle.edit_doc.proofs.SeenLookUps.{first_of_two-pruned}
 
 -- what a read finds is what it names
@@ -54,7 +53,7 @@ first_of_two_is (Tree l c ks rest) a b m e =
       | inr t ↦ (let e' = rw t at e in first_of_two_is rest a b m e')
     ]
 
-module _ (d : Inside) (law : IsArena d.arena) (v : Whole) (is : seen d ≡ v) where
+module _ {v : Whole} {a : Arena} (s : Shows v a) where
   pub shown_valid : IsDoc v → IsValid (λ r. Holds v r) v.state.trees v.state.next
   shown_valid doc =
       let forest = doc.valid.forest in
@@ -62,37 +61,32 @@ module _ (d : Inside) (law : IsArena d.arena) (v : Whole) (is : seen d ≡ v) wh
         distinct = forest.distinct;
         rising = forest.rising;
         below = forest.below;
-        few = subst (λ (w : Whole). total (λ _ _. 1) w.state.trees ≤ w.state.next) is (omega (arith, total_pruned (λ _ _. 1) (out_of d) d.arena.trees, law.few));
-        small = subst (λ (w : Whole). w.state.next < 2 ^ 32) is (omega (arith, law.capped, law.small));
+        few = (let few = subst (λ t. total (λ _ _. 1) t ≤ a.next) (sym s.part.is) (omega (arith, total_pruned (λ _ _. 1) s.part.detached_out a.trees, s.law.few)) in subst (λ n. total (λ _ _. 1) v.state.trees ≤ n) (sym s.next) few);
+        small = subst (λ n. n < 2 ^ 32) (sym s.next) (omega (arith, s.law.capped, s.law.small));
         here = λ r h. h.here;
         document = forest.document;
         root = forest.root;
         nodes = forest.nodes;
       }
 
-  pub within_shown : (top : NodeRef) → Holds v top → (b : Bool) (l : ℕ) → IsTrue b ↔ IsWithin d.arena.trees top.label l → IsTrue b ↔ IsWithin v.state.trees top.label l
-  within_shown top held b l both = subst (λ t. IsTrue b ↔ (0 < count_of t l)) (sym (tree_seen d law v is top held)) both
+  pub within_shown : (top : NodeRef) → Holds v top → (b : Bool) (l : ℕ) → IsTrue b ↔ IsWithin a.trees top.label l → IsTrue b ↔ IsWithin v.state.trees top.label l
+  within_shown top held b l both = subst (λ t. IsTrue b ↔ (0 < count_of t l)) (sym (tree_seen s top held)) both
 
-  pub host_shown : (node : NodeRef) → Holds v node → is_host v.state.trees node.label ≡ is_host d.arena.trees node.label
-  host_shown node held = ap (λ o. option_map_or is_true_state o false) (content_seen d law v is node held)
+  pub host_shown : (node : NodeRef) → Holds v node → is_host v.state.trees node.label ≡ is_host a.trees node.label
+  host_shown node held = ap (λ o. option_map_or is_true_state o false) (content_seen s node held)
 
-  pub before_shown : (a b : NodeRef) → Holds v a → Holds v b → (o : Option NodeRef) → NamesNode d.arena o (first_of_two d.arena.trees a.label b.label) → Names (λ r. Holds v r) o (first_of_two v.state.trees a.label b.label)
-  before_shown a b ha hb o names = at o (names.is ∙ sym same) names.held
+  pub before_shown : (m n : NodeRef) → Holds v m → Holds v n → (o : Option NodeRef) → NamesNode a o (first_of_two a.trees m.label n.label) → Names (λ r. Holds v r) o (first_of_two v.state.trees m.label n.label)
+  before_shown m n hm hn o names = at o (names.is ∙ sym same) names.held
     where
-      same : first_of_two v.state.trees a.label b.label ≡ first_of_two d.arena.trees a.label b.label
-      same =
-          let ha' = subst (λ (w : Whole). Holds w a) (sym is) ha in
-          subst (λ (w : Whole). first_of_two w.state.trees a.label b.label ≡ first_of_two d.arena.trees a.label b.label) is (first_of_two-pruned (out_of d) d.arena.trees a.label b.label law.distinct ha'.here)
+      same : first_of_two v.state.trees m.label n.label ≡ first_of_two a.trees m.label n.label
+      same = ap (λ t. first_of_two t m.label n.label) s.part.is ∙ first_of_two-pruned s.part.detached_out a.trees m.label n.label s.law.distinct (here_shown s m.label hm.here)
 
-      shown : (r : NodeRef) → HoldsNode d.arena r → 0 < count_of v.state.trees r.label → Holds v r
-      shown r h here = record { slot = subst (λ (w : Whole). slice_index_or w.held r.slot None ≡ Some r.label) is h; here = here }
-
-      at : (p : Option NodeRef) → label p ≡ first_of_two v.state.trees a.label b.label → IfSome p (λ r. HoldsNode d.arena r) → Names (λ r. Holds v r) p (first_of_two v.state.trees a.label b.label)
+      at : (p : Option NodeRef) → label p ≡ first_of_two v.state.trees m.label n.label → IfSome p (λ r. HoldsNode a r) → Names (λ r. Holds v r) p (first_of_two v.state.trees m.label n.label)
       at None e h = record { is = e; held = tt }
       at (Some r) e h = record {
         is = e;
-        held = shown r h (elim (first_of_two_is v.state.trees a.label b.label r.label (sym e)) [
-          | inl m ↦ subst (λ n. 0 < count_of v.state.trees n) (sym m) ha.here
-          | inr m ↦ subst (λ n. 0 < count_of v.state.trees n) (sym m) hb.here
+        held = holds_shown s r h (elim (first_of_two_is v.state.trees m.label n.label r.label (sym e)) [
+          | inl e ↦ subst (λ l. 0 < count_of v.state.trees l) (sym e) hm.here
+          | inr e ↦ subst (λ l. 0 < count_of v.state.trees l) (sym e) hn.here
         ]);
       }

@@ -1,9 +1,9 @@
 -- What the fields of a document tell of it as a whole.
-use Rattle.std.proofs.Common.{◌≡◌, ◌≤◌, ℕ, Option, Some, None, IfSome, refl, sym, ap, subst, ◌∙◌, arith}
+use Rattle.std.proofs.Common.{◌≡◌, ◌<◌, ◌≤◌, ℕ, Option, Some, None, IfSome, refl, sym, ap, subst, ◌∙◌, arith}
 use Rattle.dom_model.specs.declared.Content.{Content}
 use Rattle.dom_model.specs.Document.{node_count, char_count, page_depth}
-use Rattle.dom_model.specs.Forest.{Forest, tree_of}
-use Rattle.dom_model.specs.ArenaState.{IsValid as IsArena}
+use Rattle.dom_model.specs.Forest.{Forest, count_of, tree_of}
+use Rattle.dom_model.specs.ArenaState.{ArenaState as Arena, IsValid as IsArena}
 use Rattle.live_range.specs.LivePoints.{LivePoints}
 use Rattle.undo_log.specs.Log.{IsLog}
 use Rattle.node_arena.specs.declared.NodeRef.{NodeRef}
@@ -13,13 +13,14 @@ use Rattle.edit_model.specs.History.{document_of, rested}
 use Rattle.edit_model.proofs.Documents.{document_shape}
 use Rattle.edit_doc.specs.declared.Doc.TheInside.{Inside}
 use Rattle.edit_doc.specs.Whole.{Whole, IsClosed, IsDoc}
-use Rattle.edit_doc.specs.Held.{Holds, Finds, IfHeld, IsPart}
+use Rattle.edit_doc.specs.Held.{Holds, Finds, IfHeld}
+use Rattle.edit_doc.specs.Shows.{Shows}
 use Rattle.edit_doc.specs.Sound.{RefIn}
 use Rattle.edit_doc.proofs.HiddenTrees.{node_count-pruned, char_count-pruned, page_depth-pruned, document_here}
 use Rattle.edit_doc.proofs.Inner.{live, seen, Ok, closed_of}
 use Rattle.edit_doc.proofs.Laid.{undo_count}
 use Rattle.edit_doc.proofs.Rests.{arena_forest, rested_state, rest_state, rest_of}
-use Rattle.edit_doc.proofs.SeenNodes.{out_of, IsSeen}
+use Rattle.edit_doc.proofs.SeenNodes.{out_of, IsSeen, holds_shown}
 
 -- the document of a document
 document_twice : (f : Forest Content) (next : ℕ) → IsForest f next → document_of (document_of f) ≡ document_of f
@@ -30,7 +31,7 @@ no_scratch p e = λ i. record p { scratch = sym e i }
 
 module _ (d : Inside) (law : IsArena d.arena) (ok : Ok d) where
   at_rest : IsClosed (seen d) → rested (seen d).state ≡ (seen d).state
-  unfolding rested rested_state
+  unfolding rested
   at_rest closed =
       let rest = rest_of (live d) d.counts d.command d.history law (closed_of d (seen d) refl closed) ok in
       let e = rest_state (live d) d.counts d.command d.history rest in
@@ -48,9 +49,6 @@ module _ (d : Inside) (law : IsArena d.arena) (ok : Ok d) where
     within = (let n = undo_count d (seen d) refl ok in let w = log.within in omega (arith, n, w));
   })
 
-  pub part_is : (v : Whole) → seen d ≡ v → IsPart v.state.trees d.arena.trees
-  part_is v is = subst (λ (w : Whole). IsPart w.state.trees d.arena.trees) is (record { detached_out = out_of d; not_document = refl; is = refl })
-
   pub nodes_are : (v : Whole) → seen d ≡ v → d.counts.nodes ≡ node_count v.state.trees
   nodes_are v is = subst (λ (w : Whole). d.counts.nodes ≡ node_count w.state.trees) is (ok.nodes ∙ sym (node_count-pruned d.arena.trees d.arena.next (arena_forest d.arena law) (out_of d) refl))
 
@@ -60,12 +58,10 @@ module _ (d : Inside) (law : IsArena d.arena) (ok : Ok d) where
   pub depth_is : (v : Whole) → seen d ≡ v → page_depth v.state.trees ≤ d.counts.depth
   depth_is v is = subst (λ (w : Whole). page_depth w.state.trees ≤ d.counts.depth) is (subst (λ n. n ≤ d.counts.depth) (sym (page_depth-pruned d.arena.trees d.arena.next (arena_forest d.arena law) (out_of d) refl)) ok.depth)
 
-  pub document_held : (v : Whole) → seen d ≡ v → (r : NodeRef) → r.label ≡ 0 → HoldsNode d.arena r → Holds v r
-  document_held v is r e held = subst (λ w. Holds w r) is (record {
-    slot = held;
-    here = subst (IsSeen d) (sym e) (document_here d.arena.trees d.arena.next (arena_forest d.arena law) (out_of d) refl);
-  })
+pub document_held : {v : Whole} {a : Arena} → Shows v a → (r : NodeRef) → r.label ≡ 0 → HoldsNode a r → Holds v r
+document_held {v} {a} s r e held = holds_shown s r held (subst (λ l. 0 < count_of v.state.trees l) (sym e) (subst (λ t. 0 < count_of t 0) (sym s.part.is) (document_here a.trees a.next (arena_forest a s.law) s.part.detached_out s.part.not_document)))
 
+module _ (d : Inside) (ok : Ok d) where
   host_held : (o : Option NodeRef) → IfSome o (λ h. RefIn d.arena.held h × IsSeen d h.label) → IfHeld (seen d) o
   host_held None h = tt
   host_held (Some r) h = record { slot = h.0; here = h.1 }

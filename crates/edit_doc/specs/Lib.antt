@@ -4,6 +4,7 @@ pub mod WholeCode
 pub mod History
 pub mod Sound
 pub mod Live
+pub mod Shows
 pub mod Trail
 pub mod Closing
 pub mod GivingUp

@@ -64,8 +64,7 @@ impl Doc {
         ensures count { IfOk result (λ r. r.1 ≡ length (characters_of self.now.state.trees node.label) - at) }
         ensures short { IfOk result (λ r. length r.0 < 2 ^ 32) }
     {
-        self.arena.valid();
-        tail_of(self.alloc, self.arena.content(node), at)
+        tail_of(self.alloc, self.nodes().content(node), at)
     }
 
     // The place in its parent just after a node.
@@ -73,8 +72,7 @@ impl Doc {
         requires { Holds self.now node }
         ensures { result ≡ index_of self.now.state.trees node.label + 1 }
     {
-        self.arena.valid();
-        self.arena.index(node) + 1
+        self.nodes().index(node) + 1
     }
 
     // Split a text, step 3: the points of a text past an offset go to another text, and those of its parent just

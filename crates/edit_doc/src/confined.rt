@@ -18,9 +18,8 @@ impl Doc {
         requires { Holds self.now node }
         ensures { result ≡ is_editable_for self.now.state node.label }
     {
-        self.arena.valid();
-        match self.command.host {
-            Some(host) => self.arena.is_editable(host, node),
+        match self.host() {
+            Some(host) => self.nodes().is_editable(host, node),
             None => false,
         }
     }
@@ -30,7 +29,7 @@ impl Doc {
         requires { Holds self.now node }
         ensures { result ≡ is_inside self.now.state node.label }
     {
-        match self.command.host {
+        match self.host() {
             Some(host) if host.label == node.label => true,
             _ => self.is_editable_for(node),
         }
@@ -61,8 +60,7 @@ impl Doc {
         requires { Holds self.now node }
         ensures { result ≡ is_parent_at self.now.state.trees node.label }
     {
-        self.arena.valid();
-        matches!(self.arena.kind(node), Kind::Document | Kind::Element)
+        matches!(self.nodes().kind(node), Kind::Document | Kind::Element)
     }
 
     // Whether `before`, if there is one, is a child of the parent other than the node.
@@ -70,10 +68,9 @@ impl Doc {
         requires { IfHeld self.now before }
         ensures { result ≡ is_place self.now.state.trees parent.label (label_of before) node.label }
     {
-        self.arena.valid();
         match before {
             None => true,
-            Some(before) => match self.arena.parent(before) {
+            Some(before) => match self.parent(before) {
                 Some(its) => its.label == parent.label && before.label != node.label,
                 None => false,
             },
@@ -87,10 +84,9 @@ impl Doc {
         requires node_held { Holds self.now node }
         ensures { result ≡ (is_parent_at self.now.state.trees parent.label && (not (is_within self.now.state.trees node.label parent.label) && is_place self.now.state.trees parent.label (label_of before) node.label)) }
     {
-        self.arena.valid();
         self.is_parent(parent)
             && self.is_place(parent, before, node)
-            && !self.arena.is_within(node, parent)
+            && !self.nodes().is_within(node, parent)
     }
 
     pub(crate) fn may_insert(&self, parent: NodeRef, before: Option<NodeRef>, node: NodeRef) -> bool
@@ -99,11 +95,10 @@ impl Doc {
         requires node_held { Holds self.now node }
         ensures { result ≡ may_insert self.now.state parent.label (label_of before) node.label }
     {
-        self.arena.valid();
         if node.label == 0 {
             return false;
         }
-        match self.arena.parent(node) {
+        match self.parent(node) {
             Some(_) => false,
             None => self.takes(parent, before, node) && self.is_open(parent),
         }
@@ -115,10 +110,9 @@ impl Doc {
         requires parent_held { Holds self.now parent }
         ensures { result ≡ may_leave self.now.state node.label (Some parent.label) }
     {
-        self.arena.valid();
         self.is_open(parent)
             && (self.is_own(node) || is_break(self, node))
-            && (!self.command.keeping || bears_nothing(&self.arena, node))
+            && (!self.command.keeping || bears_nothing(self.nodes(), node))
     }
 
     // Whether the node, a child of `from`, stands before `before` in the parent already.
@@ -132,9 +126,8 @@ impl Doc {
         requires { Holds self.now node }
         ensures { result ≡ stands_so self.now.state.trees node.label from.label parent.label (label_of before) }
     {
-        self.arena.valid();
         from.label == parent.label
-            && match (self.arena.next(node), before) {
+            && match (self.next(node), before) {
                 (None, None) => true,
                 (Some(next), Some(before)) => next.label == before.label,
                 _ => false,
@@ -155,7 +148,6 @@ impl Doc {
         requires before_held { IfHeld self.now before }
         ensures { result ≡ may_go self.now.state node.label (Some from.label) parent.label (label_of before) }
     {
-        self.arena.valid();
         if !self.is_open(from) {
             return false;
         }
@@ -165,7 +157,8 @@ impl Doc {
         if !self.takes(parent, before, node) {
             return false;
         }
-        if is_in_document(&self.arena, node) && !is_in_document(&self.arena, parent) {
+        let arena = self.nodes();
+        if is_in_document(arena, node) && !is_in_document(arena, parent) {
             return false;
         }
         !self.stands_so(node, from, parent, before)
@@ -175,21 +168,20 @@ impl Doc {
     pub(crate) fn may_select(&self, at: Point) -> bool
         ensures { result ≡ may_select self.now.state at }
     {
-        self.arena.valid();
-        point_order::is_placed(&self.arena, at)
+        point_order::is_placed(self.nodes(), at)
     }
 
     // Whether points at a place may grow: something stands after it.
     pub(crate) fn may_grow(&self, at: Point) -> bool
         ensures { result ≡ may_grow self.now.state at }
     {
-        self.arena.valid();
-        match self.arena.find(at.label) {
+        let arena = self.nodes();
+        match arena.find(at.label) {
             Some(node) => {
-                if !is_in_document(&self.arena, node) {
+                if !is_in_document(arena, node) {
                     return false;
                 }
-                self.is_open(node) && at.offset < self.arena.length(node)
+                self.is_open(node) && at.offset < self.length(node)
             }
             None => false,
         }
@@ -201,13 +193,13 @@ impl Doc {
         requires tail_held { Holds self.now tail }
         ensures { result ≡ may_send self.now.state node.label at tail.label }
     {
-        self.arena.valid();
-        let length = self.arena.length(node) as u64;
-        let reach = at as u64 + self.arena.length(tail) as u64;
+        let arena = self.nodes();
+        let length = self.length(node) as u64;
+        let reach = at as u64 + self.length(tail) as u64;
         if !self.is_own(node) {
             return false;
         }
-        if !is_in_document(&self.arena, tail) {
+        if !is_in_document(arena, tail) {
             return false;
         }
         if node.label == tail.label {

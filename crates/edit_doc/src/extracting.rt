@@ -84,7 +84,6 @@ impl Doc {
         requires target_held { Holds self.now target }
         ensures { result ≡ may_extract self.now.state from end.label target.label }
     {
-        self.arena.valid();
         if self.command.keeping {
             return false;
         }

@@ -15,12 +15,12 @@ impl Nodes for Doc {
     ghost next_label = { λ d. d.state.next };
 
     fn valid(&self) {
-        self.arena.valid();
+        self.nodes().valid();
         Doc::valid(self)
     }
 
     fn next_label(&self) -> u32 {
-        self.arena.next_label()
+        self.nodes().next_label()
     }
 
     fn document(&self) -> NodeRef {
@@ -73,24 +73,20 @@ impl Nodes for Doc {
     }
 
     fn is_within(&self, top: NodeRef, node: NodeRef) -> bool {
-        self.arena.valid();
-        self.arena.is_within(top, node)
+        self.nodes().is_within(top, node)
     }
 
     fn before(&self, a: NodeRef, b: NodeRef) -> Option<NodeRef> {
-        self.arena.valid();
-        let first = self.arena.before(a, b);
+        let first = self.nodes().before(a, b);
         first
     }
 
     fn is_host(&self, node: NodeRef) -> bool {
-        self.arena.valid();
-        self.arena.is_host(node)
+        self.nodes().is_host(node)
     }
 
     fn is_editable(&self, host: NodeRef, node: NodeRef) -> bool {
-        self.arena.valid();
-        self.arena.is_editable(host, node)
+        self.nodes().is_editable(host, node)
     }
 
     fn node_count(&self) -> u32 {

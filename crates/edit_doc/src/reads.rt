@@ -7,6 +7,7 @@ ghost use Rattle.dom_model.specs.Forest.{content_of, count_of, tree_of, parent_o
 ghost use Rattle.dom_model.specs.Places.{index_of};
 ghost use Rattle.edit_model.specs.Gives.{label_of};
 ghost use Rattle.edit_doc.specs.Whole.{IsDoc, IsClosed};
+ghost use Rattle.edit_doc.specs.Shows.{Shows};
 ghost use Rattle.edit_doc.specs.Kept.{HoldsOnlyNeeded};
 ghost use Rattle.edit_doc.specs.Onward.{HasLedOnward};
 ghost use Rattle.edit_doc.specs.Held.{Holds, Finds, IfHeld, IsPart};
@@ -46,6 +47,14 @@ impl Doc {
         self.arena.valid();
     }
 
+    // The nodes, with loose trees of kept entries beside those of the state.
+    pub(crate) fn nodes(&self) -> &Arena
+        ensures { Shows self.now result.now }
+    {
+        self.arena.valid();
+        &self.arena
+    }
+
     /// The nodes: those of the state, and loose trees of kept entries beside them, which no definition sees.
     pub fn arena(&self) -> &Arena
         ensures trees { IsPart self.now.state.trees result.now.trees }
@@ -54,15 +63,13 @@ impl Doc {
         ensures next { result.now.next ≡ self.now.state.next }
         ensures cap { result.now.cap ≡ self.now.state.cap }
     {
-        self.arena.valid();
-        &self.arena
+        self.nodes()
     }
 
     /// The affected editing host of the running command.
     pub fn host(&self) -> Option<NodeRef>
         ensures { Finds self.now result self.now.state.host }
     {
-        self.arena.valid();
         self.command.host
     }
 
@@ -80,8 +87,7 @@ impl Doc {
     pub fn page_depth(&self) -> u32
         ensures { result ≡ page_depth self.now.state.trees }
     {
-        self.arena.valid();
-        self.arena.page_depth()
+        self.nodes().page_depth()
     }
 
     /// Whether the deepest node of the document is deeper than this. It walks the document only where the kept bound on
@@ -89,8 +95,7 @@ impl Doc {
     pub fn is_deeper_than(&self, limit: u32) -> bool
         ensures { result ≡ nat_lt limit (page_depth self.now.state.trees) }
     {
-        self.arena.valid();
-        self.counts.depth > limit && self.arena.page_depth() > limit
+        self.counts().depth > limit && self.page_depth() > limit
     }
 
     /// Whether a point of the document comes before another one.
@@ -99,8 +104,7 @@ impl Doc {
         requires second { is_placed self.now.state.trees second ≡ true }
         ensures { result ≡ is_before self.now.state.trees first second }
     {
-        self.arena.valid();
-        comes_before(&self.arena, first, second)
+        comes_before(self.nodes(), first, second)
     }
 
     /// The root of the document.
@@ -108,8 +112,7 @@ impl Doc {
         ensures label { result.label ≡ 0 }
         ensures held { Holds self.now result }
     {
-        self.arena.valid();
-        self.arena.document()
+        self.nodes().document()
     }
 
     /// The node of a label, in the document or in a loose tree of the running command.
@@ -132,8 +135,7 @@ impl Doc {
         requires { Holds self.now node }
         ensures { Finds self.now result (parent_of self.now.state.trees node.label) }
     {
-        self.arena.valid();
-        self.arena.parent(node)
+        self.nodes().parent(node)
     }
 
     /// The first child of a node.
@@ -141,8 +143,7 @@ impl Doc {
         requires { Holds self.now node }
         ensures { Finds self.now result (first_of self.now.state.trees node.label) }
     {
-        self.arena.valid();
-        self.arena.first_child(node)
+        self.nodes().first_child(node)
     }
 
     /// The last child of a node.
@@ -150,8 +151,7 @@ impl Doc {
         requires { Holds self.now node }
         ensures { Finds self.now result (last_of self.now.state.trees node.label) }
     {
-        self.arena.valid();
-        self.arena.last_child(node)
+        self.nodes().last_child(node)
     }
 
     /// The sibling just before a node.
@@ -159,8 +159,7 @@ impl Doc {
         requires { Holds self.now node }
         ensures { Finds self.now result (prev_of self.now.state.trees node.label) }
     {
-        self.arena.valid();
-        self.arena.prev(node)
+        self.nodes().prev(node)
     }
 
     /// The sibling just after a node.
@@ -168,8 +167,7 @@ impl Doc {
         requires { Holds self.now node }
         ensures { Finds self.now result (next_of self.now.state.trees node.label) }
     {
-        self.arena.valid();
-        self.arena.next(node)
+        self.nodes().next(node)
     }
 
     /// How many siblings stand before a node.
@@ -177,8 +175,7 @@ impl Doc {
         requires { Holds self.now node }
         ensures { result ≡ index_of self.now.state.trees node.label }
     {
-        self.arena.valid();
-        self.arena.index(node)
+        self.nodes().index(node)
     }
 
     /// The length of a node: the count of its characters for a text or a comment, else that of its children.
@@ -186,8 +183,7 @@ impl Doc {
         requires { Holds self.now node }
         ensures { result ≡ length_of self.now.state.trees node.label }
     {
-        self.arena.valid();
-        self.arena.length(node)
+        self.nodes().length(node)
     }
 
     /// What a node is.
@@ -195,8 +191,7 @@ impl Doc {
         requires { Holds self.now node }
         ensures { kind_of self.now.state.trees node.label ≡ Some result }
     {
-        self.arena.valid();
-        self.arena.kind(node)
+        self.nodes().kind(node)
     }
 
     /// What a node is, with its name and attributes, or its characters.
@@ -204,8 +199,7 @@ impl Doc {
         requires { Holds self.now node }
         ensures { content_of self.now.state.trees node.label ≡ Some result.now }
     {
-        self.arena.valid();
-        self.arena.content(node)
+        self.nodes().content(node)
     }
 
     /// The name of an element.
@@ -214,8 +208,7 @@ impl Doc {
         requires element { is_element_at self.now.state.trees node.label ≡ true }
         ensures { name_of self.now.state.trees node.label ≡ Some result.now }
     {
-        self.arena.valid();
-        self.arena.name(node)
+        self.nodes().name(node)
     }
 
     /// The attributes of an element.
@@ -224,8 +217,7 @@ impl Doc {
         requires element { is_element_at self.now.state.trees node.label ≡ true }
         ensures { attributes_of self.now.state.trees node.label ≡ Some result.now }
     {
-        self.arena.valid();
-        self.arena.attributes(node)
+        self.nodes().attributes(node)
     }
 
     /// The characters of a text or a comment.
@@ -234,7 +226,6 @@ impl Doc {
         requires chars { has_chars_at self.now.state.trees node.label ≡ true }
         ensures { chars_of self.now.state.trees node.label ≡ Some result.now }
     {
-        self.arena.valid();
-        self.arena.words(node)
+        self.nodes().words(node)
     }
 }

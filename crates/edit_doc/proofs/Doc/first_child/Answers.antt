@@ -2,4 +2,4 @@ use Rattle.edit_doc.proofs.SeenNodes.{finds_first}
 use Rattle.edit_doc.proofs.Doc.first_child.Goals as goal
 
 pub returns : goal.returns
-returns c = finds_first c.self.inside c.valid.ensures _ c.self.view_is c.args.node c.requires c.first_child.result c.first_child.ensures
+returns c = finds_first c.nodes.ensures c.args.node c.requires c.first_child.result c.first_child.ensures

@@ -3,4 +3,4 @@ use Rattle.edit_doc.proofs.SeenNodes.{index_seen}
 use Rattle.edit_doc.proofs.Doc.index.Goals as goal
 
 pub returns : goal.returns
-returns c = c.index.ensures ∙ sym (index_seen c.self.inside c.valid.ensures _ c.self.view_is c.args.node c.requires)
+returns c = c.index.ensures ∙ sym (index_seen c.nodes.ensures c.args.node c.requires)

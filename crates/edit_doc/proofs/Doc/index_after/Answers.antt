@@ -6,8 +6,8 @@ use Rattle.edit_doc.proofs.Doc.index_after.Goals as goal
 
 pub overflow_add-result : goal.overflow_add-result
 overflow_add-result c =
-    let law = c.valid.ensures in
-    let f = c.self.inside.arena.trees in
+    let law = c.nodes.ensures.law in
+    let f = c.nodes.result.now.trees in
     let low = index_of_low f law.distinct c.args.node.label (some_nodes f 0 law.document) in
     let is = c.index.ensures in
     let few = law.few in
@@ -16,4 +16,4 @@ overflow_add-result c =
     omega (arith, low, is, few, capped, small)
 
 pub returns : goal.returns
-returns c = ap (λ n. n + 1) (c.index.ensures ∙ sym (index_seen c.self.inside c.valid.ensures _ c.self.view_is c.args.node c.requires))
+returns c = ap (λ n. n + 1) (c.index.ensures ∙ sym (index_seen c.nodes.ensures c.args.node c.requires))

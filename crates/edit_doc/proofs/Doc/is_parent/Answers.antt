@@ -4,7 +4,7 @@ use Rattle.edit_doc.proofs.SeenNodes.{is_parent_seen}
 use Rattle.edit_doc.proofs.Doc.is_parent.Goals as goal
 
 pub returns-in-Document : goal.returns-in-Document
-returns-in-Document c = sym (is_parent_seen c.self.inside c.valid.ensures _ c.self.view_is c.args.node c.requires ∙ (c.kind.ensures.parent ∙ parent_kind c.kind.result c.in-Document.is))
+returns-in-Document c = sym (is_parent_seen c.nodes.ensures c.args.node c.requires ∙ (c.kind.ensures.parent ∙ parent_kind c.kind.result c.in-Document.is))
 
 pub returns-in_default : goal.returns-in_default
-returns-in_default c = sym (is_parent_seen c.self.inside c.valid.ensures _ c.self.view_is c.args.node c.requires ∙ (c.kind.ensures.parent ∙ leaf_kind c.kind.result c.in_default.not-Document c.in_default.not-Element))
+returns-in_default c = sym (is_parent_seen c.nodes.ensures c.args.node c.requires ∙ (c.kind.ensures.parent ∙ leaf_kind c.kind.result c.in_default.not-Document c.in_default.not-Element))

@@ -4,21 +4,18 @@ use Rattle.edit_model.specs.Confined.{is_own}
 use Rattle.edit_doc.proofs.Asking.{first_false, second_false, third_false, three_true}
 use Rattle.edit_doc.proofs.Confining.{same_label, other_label}
 use Rattle.edit_doc.proofs.Placing.{send_is}
-use Rattle.edit_doc.proofs.SeenNodes.{length_seen}
 use Rattle.edit_doc.proofs.Doc.may_send.Goals as goal
 
 pub returns-then-not-is_own : goal.returns-then-not-is_own
-returns-then-not-is_own c = sym (send_is c.self.inside c.valid.ensures _ c.self.view_is c.args.node.label c.args.at c.args.tail.label ∙ first_false (is_own c.args.self.now.state c.args.node.label) _ (sym c.is_own.ensures ∙ c.if-not-is_own.true))
+returns-then-not-is_own c = sym (send_is c.nodes-arena.ensures c.args.node.label c.args.at c.args.tail.label ∙ first_false (is_own c.args.self.now.state c.args.node.label) _ (sym c.is_own.ensures ∙ c.if-not-is_own.true))
 
 pub returns-then-not-is_in_document : goal.returns-then-not-is_in_document
-returns-then-not-is_in_document c = sym (send_is c.self.inside c.valid.ensures _ c.self.view_is c.args.node.label c.args.at c.args.tail.label ∙ second_false (is_own c.args.self.now.state c.args.node.label) _ _ (sym c.is_in_document.ensures ∙ c.if-not-is_in_document.true))
+returns-then-not-is_in_document c = sym (send_is c.nodes-arena.ensures c.args.node.label c.args.at c.args.tail.label ∙ second_false (is_own c.args.self.now.state c.args.node.label) _ _ (sym c.is_in_document.ensures ∙ c.if-not-is_in_document.true))
 
 pub returns-then-node-tail : goal.returns-then-node-tail
-returns-then-node-tail c = sym (send_is c.self.inside c.valid.ensures _ c.self.view_is c.args.node.label c.args.at c.args.tail.label ∙ third_false (is_own c.args.self.now.state c.args.node.label) _ _ _ (ap not (same_label c.args.node.label c.args.tail.label c.if-node-tail.true)))
+returns-then-node-tail c = sym (send_is c.nodes-arena.ensures c.args.node.label c.args.at c.args.tail.label ∙ third_false (is_own c.args.self.now.state c.args.node.label) _ _ _ (ap not (same_label c.args.node.label c.args.tail.label c.if-node-tail.true)))
 
 pub returns : goal.returns
 returns c =
-    let own = length_seen c.self.inside c.valid.ensures _ c.self.view_is c.args.node c.requires.node_held in
-    let other = length_seen c.self.inside c.valid.ensures _ c.self.view_is c.args.tail c.requires.tail_held in
-    (λ i. nat_le ((c.length-length.ensures ∙ sym own) i) (c.args.at + (c.length.ensures ∙ sym other) i))
-    ∙ sym (send_is c.self.inside c.valid.ensures _ c.self.view_is c.args.node.label c.args.at c.args.tail.label ∙ three_true _ _ _ _ (sym c.is_own.ensures ∙ c.if-not-is_own.false) (sym c.is_in_document.ensures ∙ c.if-not-is_in_document.false) (ap not (other_label c.args.node.label c.args.tail.label c.if-node-tail.false)))
+    (λ i. nat_le (c.length-length.ensures i) (c.args.at + c.length.ensures i))
+    ∙ sym (send_is c.nodes-arena.ensures c.args.node.label c.args.at c.args.tail.label ∙ three_true _ _ _ _ (sym c.is_own.ensures ∙ c.if-not-is_own.false) (sym c.is_in_document.ensures ∙ c.if-not-is_in_document.false) (ap not (other_label c.args.node.label c.args.tail.label c.if-node-tail.false)))

@@ -17,7 +17,7 @@ use Rattle.edit_doc.proofs.Edited.{Done}
 use Rattle.edit_doc.proofs.Moving.{not_moved, fits, place_markable, markable_after, nodes_fit, chars_fit, held_here, points_fit, placed, stands, move_done}
 use Rattle.edit_doc.proofs.HiddenTrees.{placed-whole}
 use Rattle.edit_doc.proofs.Rests.{arena_forest}
-use Rattle.edit_doc.proofs.SeenNodes.{out_of, held_seen, parent_seen, finds_parent, finds_next}
+use Rattle.edit_doc.proofs.SeenNodes.{shows_of, out_of, held_seen, parent_seen, finds_parent, finds_next}
 use Rattle.edit_doc.proofs.Doc.move_keeping.Goals as goal
 
 up : (d : Inside) (node from : NodeRef) (o : Option NodeRef) → Names d.arena o (parent_of d.arena.trees node.label) → o ≡ Some from → parent_of d.arena.trees node.label ≡ Some from.label
@@ -27,7 +27,7 @@ pub returns-in_default-clause-gives : goal.returns-in_default-clause-gives
 returns-in_default-clause-gives c =
     let a = c.args in
     let none : parent_of c.self.inside.arena.trees a.node.label ≡ None = sym c.parent.ensures.is ∙ by_option c.parent.result c.in_default.not-Some in
-    gives_left (Move a.node.label a.parent.label (label_of a.before)) a.self.now.state a.self.now.state (not_moved a.self.now.state a.node.label a.parent.label (label_of a.before) None (parent_seen c.self.inside c.valid.ensures a.self.now c.self.view_is a.node c.requires.node_held ∙ none) refl) refl
+    gives_left (Move a.node.label a.parent.label (label_of a.before)) a.self.now.state a.self.now.state (not_moved a.self.now.state a.node.label a.parent.label (label_of a.before) None (parent_seen (shows_of c.self.inside c.valid.ensures a.self.now c.self.view_is) a.node c.requires.node_held ∙ none) refl) refl
   where
     by_option : (o : Option NodeRef) → ((r : NodeRef) → o ≡ Some r → ⊥) → label o ≡ None
     by_option None h = refl
@@ -39,13 +39,13 @@ from_held d v o r h e = subst (IfHeld v) e h
 pub may_go-requires-clause-from_held : goal.may_go-requires-clause-from_held
 may_go-requires-clause-from_held c =
     let a = c.args in
-    from_held c.self.inside a.self.now c.parent.result c.in-Some.from (finds_parent c.self.inside c.valid.ensures a.self.now c.self.view_is a.node c.requires.node_held c.parent.result c.parent.ensures).held c.in-Some.is
+    from_held c.self.inside a.self.now c.parent.result c.in-Some.from (finds_parent (shows_of c.self.inside c.valid.ensures a.self.now c.self.view_is) a.node c.requires.node_held c.parent.result c.parent.ensures).held c.in-Some.is
 
 pub returns-then-not-may_go-clause-gives : goal.returns-then-not-may_go-clause-gives
 returns-then-not-may_go-clause-gives c =
     let a = c.args in
     gives_left (Move a.node.label a.parent.label (label_of a.before)) a.self.now.state a.self.now.state
-    (not_moved a.self.now.state a.node.label a.parent.label (label_of a.before) (Some c.in-Some.from.label) (parent_seen c.self.inside c.valid.ensures a.self.now c.self.view_is a.node c.requires.node_held ∙ up c.self.inside a.node c.in-Some.from c.parent.result c.parent.ensures c.in-Some.is) (sym c.may_go.ensures ∙ c.if-not-may_go.true)) refl
+    (not_moved a.self.now.state a.node.label a.parent.label (label_of a.before) (Some c.in-Some.from.label) (parent_seen (shows_of c.self.inside c.valid.ensures a.self.now c.self.view_is) a.node c.requires.node_held ∙ up c.self.inside a.node c.in-Some.from c.parent.result c.parent.ensures c.in-Some.is) (sym c.may_go.ensures ∙ c.if-not-may_go.true)) refl
 
 pub watch_range-watch-requires-clause-placed : goal.watch_range-watch-requires-clause-placed
 watch_range-watch-requires-clause-placed c =
@@ -69,8 +69,8 @@ name_place-requires c =
     let a = c.args in
     let d = c.self.inside in
     place_markable c.self.inside a.self.now c.self.view_is c.valid.ensures c.slotted.ensures c.requires.open c.self.invariant a.node c.in-Some.from a.parent a.before c.requires.node_held c.requires.parent_held c.requires.before_held (up c.self.inside a.node c.in-Some.from c.parent.result c.parent.ensures c.in-Some.is) (sym c.may_go.ensures ∙ c.if-not-may_go.false) a.node c.in-Some.from c.next-next.result c.requires.node_held
-    (from_held d a.self.now c.parent.result c.in-Some.from (finds_parent d c.valid.ensures a.self.now c.self.view_is a.node c.requires.node_held c.parent.result c.parent.ensures).held c.in-Some.is)
-    (finds_next d c.valid.ensures a.self.now c.self.view_is a.node c.requires.node_held c.next-next.result c.next-next.ensures).held
+    (from_held d a.self.now c.parent.result c.in-Some.from (finds_parent (shows_of d c.valid.ensures a.self.now c.self.view_is) a.node c.requires.node_held c.parent.result c.parent.ensures).held c.in-Some.is)
+    (finds_next (shows_of d c.valid.ensures a.self.now c.self.view_is) a.node c.requires.node_held c.next-next.result c.next-next.ensures).held
 
 pub name_place-requires-2 : goal.name_place-requires-2
 name_place-requires-2 c =

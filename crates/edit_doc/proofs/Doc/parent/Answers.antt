@@ -2,4 +2,4 @@ use Rattle.edit_doc.proofs.SeenNodes.{finds_parent}
 use Rattle.edit_doc.proofs.Doc.parent.Goals as goal
 
 pub returns : goal.returns
-returns c = finds_parent c.self.inside c.valid.ensures _ c.self.view_is c.args.node c.requires c.parent.result c.parent.ensures
+returns c = finds_parent c.nodes.ensures c.args.node c.requires c.parent.result c.parent.ensures

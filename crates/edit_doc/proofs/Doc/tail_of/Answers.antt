@@ -27,14 +27,14 @@ short_content a law l c is = by_seen (seek None a.trees l) refl
         subst (λ x. char_length x < 2 ^ 32) same (law.nodes l s e).short
 
 pub tail_of-requires : goal.tail_of-requires
-tail_of-requires c = chars_length c.content.result.now (short_content c.self.inside.arena c.valid.ensures c.args.node.label c.content.result.now c.content.ensures)
+tail_of-requires c = chars_length c.content.result.now (short_content c.nodes.result.now c.nodes.ensures.law c.args.node.label c.content.result.now c.content.ensures)
 
 pub returns-clause-tail : goal.returns-clause-tail
 returns-clause-tail c =
-    let e : characters_of c.args.self.now.state.trees c.args.node.label ≡ unwrap_or (chars_in c.content.result.now) [] = ap (λ (o : Option (List ℕ)). unwrap_or o []) (chars_seen c.self.inside c.valid.ensures _ c.self.view_is c.args.node c.requires ∙ ap (option_and_then chars_in) c.content.ensures) in
+    let e : characters_of c.args.self.now.state.trees c.args.node.label ≡ unwrap_or (chars_in c.content.result.now) [] = ap (λ (o : Option (List ℕ)). unwrap_or o []) (chars_seen c.nodes.ensures c.args.node c.requires ∙ ap (option_and_then chars_in) c.content.ensures) in
     rw e c.tail_of.ensures.tail
 
 pub returns-clause-count : goal.returns-clause-count
 returns-clause-count c =
-    let e : characters_of c.args.self.now.state.trees c.args.node.label ≡ unwrap_or (chars_in c.content.result.now) [] = ap (λ (o : Option (List ℕ)). unwrap_or o []) (chars_seen c.self.inside c.valid.ensures _ c.self.view_is c.args.node c.requires ∙ ap (option_and_then chars_in) c.content.ensures) in
+    let e : characters_of c.args.self.now.state.trees c.args.node.label ≡ unwrap_or (chars_in c.content.result.now) [] = ap (λ (o : Option (List ℕ)). unwrap_or o []) (chars_seen c.nodes.ensures c.args.node c.requires ∙ ap (option_and_then chars_in) c.content.ensures) in
     rw e c.tail_of.ensures.count

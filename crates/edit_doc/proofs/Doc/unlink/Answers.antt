@@ -8,7 +8,7 @@ use Rattle.edit_doc.proofs.Inner.{live}
 use Rattle.edit_doc.proofs.Edited.{Applied}
 use Rattle.edit_doc.proofs.Removed.{place_markable, up, fits, detached, trees, points_are, unlink_done}
 use Rattle.edit_doc.proofs.Roomier.{room_made}
-use Rattle.edit_doc.proofs.SeenNodes.{finds_next}
+use Rattle.edit_doc.proofs.SeenNodes.{shows_of, finds_next}
 use Rattle.edit_doc.proofs.Settling.{points_now, placed_called, overrides_length, settled_items}
 use Rattle.edit_doc.proofs.Doc.unlink.Goals as goal
 
@@ -30,7 +30,7 @@ pub name_place-requires : goal.name_place-requires
 name_place-requires c =
     let a = c.args in
     let d = c.self.inside in
-    let next = finds_next d c.valid.ensures a.self.now c.self.view_is a.node c.requires.node_held c.next-next.result c.next-next.ensures in
+    let next = finds_next (shows_of d c.valid.ensures a.self.now c.self.view_is) a.node c.requires.node_held c.next-next.result c.next-next.ensures in
     place_markable d c.valid.ensures a.self.now c.self.view_is c.requires.open c.self.invariant a.node a.parent c.next-next.result c.requires.node_held c.requires.parent_held next.held
 
 pub unset_overrides_if_range_changed-requires-clause-placed : goal.unset_overrides_if_range_changed-requires-clause-placed

@@ -9,7 +9,7 @@ use Rattle.edit_model.proofs.Giving.{gives_left}
 use Rattle.edit_model.specs.Edit.{Unset}
 use Rattle.edit_doc.proofs.Attributed.{not_own_unset, no_list_unset, not_unset_here, may_unset_here, unset_done, no_list, copied_some}
 use Rattle.edit_doc.proofs.Edited.{Done, keeps_same}
-use Rattle.edit_doc.proofs.SeenNodes.{attributes_seen}
+use Rattle.edit_doc.proofs.SeenNodes.{shows_of, attributes_seen}
 use Rattle.edit_doc.proofs.Doc.unset_attribute.Goals as goal
 
 pub returns-then-not-is_own-clause-gives : goal.returns-then-not-is_own-clause-gives
@@ -20,7 +20,7 @@ returns-then-not-is_own-clause-gives c =
 pub returns-in_default : goal.returns-in_default
 returns-in_default c =
     let a = c.args in
-    let none = attributes_seen c.self.inside c.valid.ensures a.self.now c.self.view_is a.node c.requires.node_held ∙ (ap (option_and_then attributes_in) c.content.ensures ∙ no_list c.content.result.now c.in_default.not-Element) in
+    let none = attributes_seen (shows_of c.self.inside c.valid.ensures a.self.now c.self.view_is) a.node c.requires.node_held ∙ (ap (option_and_then attributes_in) c.content.ensures ∙ no_list c.content.result.now c.in_default.not-Element) in
     record {
       gives = gives_left (Unset a.node.label a.name.now) a.self.now.state a.self.now.state (no_list_unset a.self.now.state a.node.label a.name.now none) refl;
       keeps = keeps_same a.self.now;

@@ -3,4 +3,4 @@ use Rattle.edit_doc.proofs.Shown.{host_shown}
 use Rattle.edit_doc.proofs.nodes.DocNodes.is_host.Goals as goal
 
 pub returns : goal.returns
-returns c = c.is_host.ensures ∙ sym (host_shown c.self.inside c.valid.ensures c.args.self.now c.self.view_is c.args.node c.requires)
+returns c = c.is_host.ensures ∙ sym (host_shown c.nodes.ensures c.args.node c.requires)
