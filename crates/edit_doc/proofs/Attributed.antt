@@ -162,8 +162,8 @@ module _ (d : Inside) (law : IsArena d.arena) (slotted : IsSlotted d.arena) (ok 
         change_of (Attributes node list) ≡ edit_change e g →
         revised g node.label (with_attributes list) ≡ trees_after e g →
         d.points ≡ points_after e g d.points →
-        d.overrides.items ≡ overrides_after (seen d).state (trees_after e g) (points_after e g d.points) →
-        Makes d e (Attributes node list) d.points d.overrides.items d.counts c
+        d.overrides ≡ overrides_after (seen d).state (trees_after e g) (points_after e g d.points) →
+        Makes d e (Attributes node list) d.points d.overrides d.counts c
     unfolding applied
     redresses e h change trees points overrides = record {
       fits = redress_fits;
@@ -179,11 +179,11 @@ module _ (d : Inside) (law : IsArena d.arena) (slotted : IsSlotted d.arena) (ok 
       depth = (let low = ok.depth in omega (arith, revised_depth d.arena.trees d.arena.next (arena_forest d.arena law) node.label (with_attributes list), low));
     }
 
-    pub sets : (name value : List ℕ) → list ≡ set_in own name value → Makes d (Set node.label name value) (Attributes node list) d.points d.overrides.items d.counts c
+    pub sets : (name value : List ℕ) → list ≡ set_in own name value → Makes d (Set node.label name value) (Attributes node list) d.points d.overrides d.counts c
     unfolding trees_after points_after edit_change
     sets name value is = redresses (Set node.label name value) (with_set name value) (ap (SetAttributes node.label) (is ∙ ap (λ o. set_in (unwrap_or o []) name value) own_here)) (trees_same (with_set name value) (ap (Element tag) is)) refl (sym (overrides-revised (seen d).state node.label (with_set name value)))
 
-    pub unsets : (name : List ℕ) → list ≡ unset_in own name → Makes d (Unset node.label name) (Attributes node list) d.points d.overrides.items d.counts c
+    pub unsets : (name : List ℕ) → list ≡ unset_in own name → Makes d (Unset node.label name) (Attributes node list) d.points d.overrides d.counts c
     unfolding trees_after points_after edit_change
     unsets name is = redresses (Unset node.label name) (with_unset name) (ap (SetAttributes node.label) (is ∙ ap (λ o. unset_in (unwrap_or o []) name) own_here)) (trees_same (with_unset name) (ap (Element tag) is)) refl (sym (overrides-revised (seen d).state node.label (with_unset name)))
 
@@ -214,14 +214,14 @@ module _ (d : Inside) (v : Whole) (is : seen d ≡ v) (law : IsArena d.arena) (s
   not_set_here name value same = rw (own_seen, same) (and_false (is_own v.state node.label))
 
   module _ (list : List Attribute) (c : Command) (m : Marks (node.label ∷ []) d.command c) (arena : Arena) (trail : Trail) (arena_is : arena ≡ step_applied (Attributes node list) d.arena) (trail_is : trail ≡ with_note d.history (step_inverse (Attributes node list) d.arena)) where
-    pub unset_done : (name : List ℕ) → list ≡ unset_in own name → is_made_edit (Unset node.label name) v.state ≡ true → Done d v (Unset node.label name) arena d.points d.overrides.items d.counts c trail
+    pub unset_done : (name : List ℕ) → list ≡ unset_in own name → is_made_edit (Unset node.label name) v.state ≡ true → Done d v (Unset node.label name) arena d.points d.overrides d.counts c trail
     unset_done name same may =
-        edit_called d v is law now_open ok (Unset node.label name) (Attributes node list) d.points d.overrides.items d.counts c may
+        edit_called d v is law now_open ok (Unset node.label name) (Attributes node list) d.points d.overrides d.counts c may
         (unsets d law slotted ok node held_here.slot held_here.here tag own list content c m name same) arena trail arena_is trail_is
 
-    pub set_done : (name value : List ℕ) → list ≡ set_in own name value → is_made_edit (Set node.label name value) v.state ≡ true → Done d v (Set node.label name value) arena d.points d.overrides.items d.counts c trail
+    pub set_done : (name value : List ℕ) → list ≡ set_in own name value → is_made_edit (Set node.label name value) v.state ≡ true → Done d v (Set node.label name value) arena d.points d.overrides d.counts c trail
     set_done name value same may =
-        edit_called d v is law now_open ok (Set node.label name value) (Attributes node list) d.points d.overrides.items d.counts c may
+        edit_called d v is law now_open ok (Set node.label name value) (Attributes node list) d.points d.overrides d.counts c may
         (sets d law slotted ok node held_here.slot held_here.here tag own list content c m name value same) arena trail arena_is trail_is
 
 -- where the node isn't the command's own, or no element, nothing is done

@@ -68,7 +68,7 @@ document_tops f next l is inner top =
 pub record Opens (d : Inside) (c : Command) (log : Log Step) : Type 0 where
   pub start : c.start ≡ d.command.start
   pub named : c.named.items ≡ []
-  pub kept : IsKept d.points d.overrides.items d.flags d.counts c.kept
+  pub kept : IsKept d.points d.overrides d.flags d.counts c.kept
   pub detached_before : c.detached_before ≡ length c.detached.items
   pub none : noted log.open_entry ≡ []
   pub depth : log.depth ≡ d.history.log.depth
@@ -183,7 +183,7 @@ module _ (d : Inside) (law : IsArena d.arena) (closed : d.history.log.open_entry
       state = record {
         trees = same_trees i;
         points = d.points;
-        overrides = d.overrides.items;
+        overrides = d.overrides;
         flags = d.flags;
         next = d.arena.next;
         cap = d.arena.cap;
@@ -210,7 +210,7 @@ module _ (d : Inside) (law : IsArena d.arena) (closed : d.history.log.open_entry
   held_host None h = tt
   held_host (Some r) h = (h.slot, h.here)
 
-  module _ (k : Kept) (host : Option NodeRef) (keeping : Bool) (keeps : IsKept d.points d.overrides.items d.flags d.counts k) where
+  module _ (k : Kept) (host : Option NodeRef) (keeping : Bool) (keeps : IsKept d.points d.overrides d.flags d.counts k) where
     abbrev begun_command : Command
     begun_command = record d.command { host = host; keeping = keeping; kept = k }
 

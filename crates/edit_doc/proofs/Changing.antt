@@ -236,7 +236,7 @@ module _ (tree : Live) (counts : Counts) (c : Command) (trail : Trail)
       runs : IsRunning (record tree.arena { trees = f }) tree.points.names d (xs ++ y ∷ []) g
       runs = record {
         kept = subst (λ k. IsSide tree.points.names g k.places k.counts.nodes k.counts.chars k.counts.depth) (sym now.kept) run.kept;
-        settings = ap (λ k. length k.overrides.items) now.kept ∙ run.settings;
+        settings = ap (λ k. length k.overrides) now.kept ∙ run.settings;
         made = subst (λ n. AreAlone g n tree.arena.next) (sym now.start) run.made;
         can = can_back;
         names_there = subst (λ n. Each (IsLeft (is_hidden g n) f) (named_in (changes_of (xs ++ y ∷ [])))) (sym now.start) names_now;
@@ -313,7 +313,7 @@ module _ (tree : Live) (counts : Counts) (c : Command) (trail : Trail)
             begun_is = λ i. record {
               trees = document_of (begun_same i);
               points = shown (names i) (now.kept i).places;
-              overrides = (now.kept i).overrides.items;
+              overrides = (now.kept i).overrides;
               flags = (now.kept i).flags;
               next = now.start i;
               cap = tree.arena.cap;

@@ -103,7 +103,7 @@ module _ (d : Inside) (ending : Ending d) where
       ends : AtRest (record (live d) { arena = a; points = rested_points }) d.counts c (trail_of log' us d.history.future)
       ends =
           let f = arena_forest d.arena ending.during.law in
-          without_rest d ending.during a detached_out us forgets c ended log' refl refl refl refl refl rested_points d.overrides.items d.flags d.counts
+          without_rest d ending.during a detached_out us forgets c ended log' refl refl refl refl refl rested_points d.overrides d.flags d.counts
           refl ending.resting.resting
           (subst (λ t. IsPlaced t rested_points) (sym drops.trees) (placed-pruned d.arena.trees d.arena.next f k prunes rested_points placed_now))
           ending.during.ok.valid.settings
@@ -125,7 +125,7 @@ module _ (d : Inside) (ending : Ending d) where
           ∙ ((λ i. record {
             trees = document_is i;
             points = ending.resting.shown i;
-            overrides = d.overrides.items;
+            overrides = d.overrides;
             flags = d.flags;
             next = drops.next i;
             cap = drops.cap i;

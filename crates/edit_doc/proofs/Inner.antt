@@ -18,7 +18,7 @@ use Rattle.edit_doc.specs.Live.{Live, live_of}
 
 -- the tree under edits, of the fields
 abbrev pub live : Inside → Live
-live d = live_of d.arena d.points d.overrides.items d.flags
+live d = live_of d.arena d.points d.overrides d.flags
 
 abbrev pub seen : Inside → Whole
 seen d = whole_of (live d) d.command d.history

@@ -359,7 +359,7 @@ module _ (d : Inside) (v : Whole) (is : seen d ≡ v) (law : IsArena d.arena) (s
       unfolding applied
       placed = subst (λ t. IsPlaced t points) (sym trees_here) (subst (IsPlaced (link (unlink f n) p b n)) (sym points_here) (placed_after d v is law now_open ok (Move n p b) x (freed_edit (Move n p b) v.state made) fits seen_place trees_is))
 
-      module _ (overrides : List Setting) (overrides_are : overrides ≡ settled f d.points arena.trees points d.overrides.items) (enters : Bool) (enters_is : enters ≡ (not (is_in_document f n) && is_in_document f p)) (counts : Counts)
+      module _ (overrides : List Setting) (overrides_are : overrides ≡ settled f d.points arena.trees points d.overrides) (enters : Bool) (enters_is : enters ≡ (not (is_in_document f n) && is_in_document f p)) (counts : Counts)
           (nodes_are : counts.nodes ≡ with_more enters d.counts.nodes (total (λ _ _. 1) (tree_of f n))) (chars_are : counts.chars ≡ with_more enters d.counts.chars (total (λ _ c. words_length c) (tree_of f n)))
           (raised : IsRaised f p n (is_in_document f p) d.counts.depth counts.depth)
           (next : Option NodeRef) (next_is : label next ≡ next_of f n) (mid c : Command) (m : Marks (place_labels node from next) d.command mid) (k : Marks (place_labels node parent before) mid c) (trail : Trail) (trail_is : trail ≡ with_note d.history (step_inverse x d.arena)) where
@@ -373,7 +373,7 @@ module _ (d : Inside) (v : Whole) (is : seen d ≡ v) (law : IsArena d.arena) (s
           change = refl;
           trees = trees_is;
           points_are = points_here;
-          overrides_are = overrides_are ∙ ((λ i. settled f d.points (trees_here i) (points_here i) d.overrides.items) ∙ settled_after d v is law now_open ok (Move n p b) x (freed_edit (Move n p b) v.state made) fits seen_place trees_is);
+          overrides_are = overrides_are ∙ ((λ i. settled f d.points (trees_here i) (points_here i) d.overrides) ∙ settled_after d v is law now_open ok (Move n p b) x (freed_edit (Move n p b) v.state made) fits seen_place trees_is);
           nodes = nodes_are ∙ nodes_is enters enters_is;
           chars = chars_are ∙ chars_is enters enters_is;
           depth = depth_is counts.depth raised;

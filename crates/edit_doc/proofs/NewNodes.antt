@@ -582,7 +582,7 @@ module _ (tree : Live) (counts : Counts) (c d : Command) (trail : Trail)
     begun_state_is = λ i. record {
       trees = (ap document_of begun_is ∙ document_leaf l x g begun_is_forest bb.below) i;
       points = shown tree.points.names d.kept.places;
-      overrides = d.kept.overrides.items;
+      overrides = d.kept.overrides;
       flags = d.kept.flags;
       next = d.start;
       cap = tree.arena.cap;

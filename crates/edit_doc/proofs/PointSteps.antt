@@ -1,5 +1,5 @@
 -- A step that only moves points of a document under edits.
-use Rattle.std.proofs.Common.{◌≡◌, ℕ, ◌<◌, Bool, true, false, not, ◌&&◌, if◌then◌else◌, List, length, Option, Some, None, IfSome, refl, sym, ap, subst, ◌∙◌, arith}
+use Rattle.std.proofs.Common.{◌≡◌, ℕ, ◌<◌, Bool, true, false, not, ◌&&◌, if◌then◌else◌, List, length, Option, Some, None, IfSome, refl, sym, ap, ◌∙◌, arith}
 use Rattle.std.specs.Prelude.{nat_le}
 use Rattle.std.proofs.lemmas.Bool.{and_parts, ltb-true}
 use Rattle.dom_model.specs.declared.Content.{Content}
@@ -74,28 +74,22 @@ module _ (d : Inside) (law : IsArena d.arena) (ok : Ok d) where
     points = moved_to d.points selection scratch marks
 
     abbrev overrides : List Setting
-    overrides = settled d.arena.trees d.points d.arena.trees points d.overrides.items
+    overrides = settled d.arena.trees d.points d.arena.trees points d.overrides
 
     pub placed_then : IsPlaced d.arena.trees points
     placed_then = placed-whole d.arena.trees d.arena.next (arena_forest d.arena law) (out_of d) refl points placed
 
     -- what settling writes
-    pub settled_items : (new before after : List Setting) (n : LivePoints) (w : Option Watch) → n ≡ points → before ≡ d.overrides.items → after ≡ d.overrides.items →
-        Watches d.arena.trees d.points before w →
-        ((g : Forest Content) (b : LivePoints) → Watches g b after w → new ≡ settled g b d.arena.trees n after) → new ≡ overrides
-    settled_items new before after n w en eb ea watches settles =
-        settles d.arena.trees d.points (subst (λ xs. Watches d.arena.trees d.points xs w) (eb ∙ sym ea) watches)
-        ∙ (ap (λ q. settled d.arena.trees d.points d.arena.trees q after) en ∙ ap (λ xs. settled d.arena.trees d.points d.arena.trees points xs) ea)
-
-    pub length_settled : length overrides ≡ 32
-    length_settled = settled_length (range_changed (is_before d.arena.trees) (is_before d.arena.trees) d.points.selection selection) d.overrides.items ok.valid.settings
+    pub settled_items : (new : List Setting) (n : LivePoints) (w : Option Watch) → n ≡ points → Watches d.arena.trees d.points d.overrides w →
+        ((g : Forest Content) (b : LivePoints) → Watches g b d.overrides w → new ≡ settled g b d.arena.trees n d.overrides) → new ≡ overrides
+    settled_items new n w en watches settles = settles d.arena.trees d.points watches ∙ ap (λ q. settled d.arena.trees d.points d.arena.trees q d.overrides) en
 
     pub step_ok : (d.history.log.open_entry ≡ Closed → scratch ≡ None) → IsSoundDoc (record (live d) { points = points; overrides = overrides }) d.counts d.command d.history
-    step_ok none = other_ok d ok selection scratch marks overrides d.flags placed (settled_length (range_changed (is_before d.arena.trees) (is_before d.arena.trees) d.points.selection selection) d.overrides.items ok.valid.settings) none
+    step_ok none = other_ok d ok selection scratch marks overrides d.flags placed (settled_length (range_changed (is_before d.arena.trees) (is_before d.arena.trees) d.points.selection selection) d.overrides ok.valid.settings) none
 
     settled_so : overrides ≡ overrides_after (seen d).state (seen d).state.trees points
     unfolding overrides_after
-    settled_so = ap (λ b. if b then no_overrides else d.overrides.items) (sym (range_detached (out_of d) d.arena.trees law.distinct d.points.selection selection ok.valid.placed.selection placed.selection))
+    settled_so = ap (λ b. if b then no_overrides else d.overrides) (sym (range_detached (out_of d) d.arena.trees law.distinct d.points.selection selection ok.valid.placed.selection placed.selection))
 
     pub step_is : (v : Whole) → seen d ≡ v →
         whole_of (record (live d) { points = points; overrides = overrides }) d.command d.history

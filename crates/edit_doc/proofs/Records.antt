@@ -111,7 +111,7 @@ module _ (d : Inside) (ending : Ending d) where
           ∙ ((λ i. record {
             trees = sym (document_now d ending) i;
             points = ending.resting.shown i;
-            overrides = d.overrides.items;
+            overrides = d.overrides;
             flags = d.flags;
             next = d.arena.next;
             cap = d.arena.cap;

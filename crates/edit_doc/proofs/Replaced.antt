@@ -1,5 +1,4 @@
 -- An edit that replaces characters of a text.
-use Rattle.live_range.specs.PointsEdit.{has_label}
 use Rattle.std.proofs.Common.{◌≡◌, ℕ, ◌<◌, ◌^◌, Bool, true, false, List, [], ◌∷◌, length, Some, unwrap_or, refl, sym, ap, subst, ◌∙◌, arith, inl, inr}
 use Rattle.std.specs.Prelude.{◌&&◌}
 use Rattle.std.specs.Option.{option_map_or, option_and_then}

@@ -67,7 +67,7 @@ module _ (d : Inside) (law : IsArena d.arena) (closed : d.history.log.open_entry
       let n = sides_length d.arena.held d.points.names d.command Back false (next_first d.command.start d.history.future) d.arena.trees d.history.log.undo d.history.past r.undo in
       omega (arith, n, h)
 
-  module _ (k : Kept) (host : Option NodeRef) (keeps : IsKept d.points d.overrides.items d.flags d.counts k) (us : List EntrySnapshot) (m : Command) (swaps : SwapsLeft d.history.past us d.command m) (n : ℕ) (all : n ≡ length m.detached.items) where
+  module _ (k : Kept) (host : Option NodeRef) (keeps : IsKept d.points d.overrides d.flags d.counts k) (us : List EntrySnapshot) (m : Command) (swaps : SwapsLeft d.history.past us d.command m) (n : ℕ) (all : n ≡ length m.detached.items) where
     abbrev command : Command
     command = record m { host = host; resumed = true; detached_before = n; kept = k }
 

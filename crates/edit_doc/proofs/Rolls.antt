@@ -338,10 +338,10 @@ module _ (d : Inside) (during : Opened d) where
         abbrev log' : Log Step
         log' = abandoned d.history.log
 
-        resting : AtRest (live_of a3 kept_points d.command.kept.overrides.items d.command.kept.flags) d.command.kept.counts c (trail_of log' us d.history.future)
+        resting : AtRest (live_of a3 kept_points d.command.kept.overrides d.command.kept.flags) d.command.kept.counts c (trail_of log' us d.history.future)
         resting =
             let side = side-pruned k prunes_g.document d.points.names g d.command.kept.places d.command.kept.counts.nodes d.command.kept.counts.chars d.command.kept.counts.depth forest_g bound_g run.kept in
-            without_rest a3 rolled us forgets c ended log' refl refl refl refl refl kept_points d.command.kept.overrides.items d.command.kept.flags d.command.kept.counts
+            without_rest a3 rolled us forgets c ended log' refl refl refl refl refl kept_points d.command.kept.overrides d.command.kept.flags d.command.kept.counts
             refl side.resting
             (subst (λ t. IsPlaced t kept_points) (sym rolled.trees) side.placed)
             run.settings
@@ -349,8 +349,8 @@ module _ (d : Inside) (during : Opened d) where
             (side.chars_are ∙ ap char_count (sym rolled.trees))
             (subst (λ t. page_depth t ≤ d.command.kept.counts.depth) (sym rolled.trees) side.no_deeper)
 
-        rolled_ok : IsSoundDoc (live_of a3 kept_points d.command.kept.overrides.items d.command.kept.flags) d.command.kept.counts c (trail_of log' us d.history.future)
-        rolled_ok = rest_sound (live_of a3 kept_points d.command.kept.overrides.items d.command.kept.flags) d.command.kept.counts c (trail_of log' us d.history.future) resting
+        rolled_ok : IsSoundDoc (live_of a3 kept_points d.command.kept.overrides d.command.kept.flags) d.command.kept.counts c (trail_of log' us d.history.future)
+        rolled_ok = rest_sound (live_of a3 kept_points d.command.kept.overrides d.command.kept.flags) d.command.kept.counts c (trail_of log' us d.history.future) resting
             (without_needed a3 rolled us forgets c ended log' refl refl refl refl refl)
 
         begun_is : (o : Open Step) (s t : State) → IsTrue (is_open o) → t ≡ rolled_to s (began_with t o)
@@ -364,14 +364,14 @@ module _ (d : Inside) (during : Opened d) where
         next_is : a3.next ≡ d.command.start
         next_is = ap (λ (b : Arena). b.next) rewinds
 
-        rolled_state : (v : Whole) → seen d ≡ v → state_of (live_of a3 kept_points d.command.kept.overrides.items d.command.kept.flags) c log' ≡ state_rolled_back v
+        rolled_state : (v : Whole) → seen d ≡ v → state_of (live_of a3 kept_points d.command.kept.overrides d.command.kept.flags) c log' ≡ state_rolled_back v
         unfolding state_rolled_back
         rolled_state v sees =
-            rest_state (live_of a3 kept_points d.command.kept.overrides.items d.command.kept.flags) d.command.kept.counts c (trail_of log' us d.history.future) resting
+            rest_state (live_of a3 kept_points d.command.kept.overrides d.command.kept.flags) d.command.kept.counts c (trail_of log' us d.history.future) resting
             ∙ ((λ i. record {
               trees = document_is i;
               points = kept_points;
-              overrides = d.command.kept.overrides.items;
+              overrides = d.command.kept.overrides;
               flags = d.command.kept.flags;
               next = next_is i;
               cap = rolled.cap i;
@@ -392,7 +392,7 @@ module _ (d : Inside) (during : Opened d) where
         by_detached l here = false_le d.command.start l (prunes_g.out l (subst (λ t. 0 < count_of t l) rolled.trees here))
 
         abbrev rolled_whole : Whole
-        rolled_whole = whole_of (live_of a3 kept_points d.command.kept.overrides.items d.command.kept.flags) c (trail_of log' us d.history.future)
+        rolled_whole = whole_of (live_of a3 kept_points d.command.kept.overrides d.command.kept.flags) c (trail_of log' us d.history.future)
 
         rolled_keeps : (v : Whole) → seen d ≡ v → KeepsThere v rolled_whole
         rolled_keeps v sees =
@@ -402,5 +402,5 @@ module _ (d : Inside) (during : Opened d) where
             }) in
             subst (λ (w : Whole). KeepsThere w rolled_whole) sees own
 
-        pub rolls : (v : Whole) → seen d ≡ v → Leaves (live_of a3 kept_points d.command.kept.overrides.items d.command.kept.flags) d.command.kept.counts c (trail_of log' us d.history.future) v (state_rolled_back v) v.history
+        pub rolls : (v : Whole) → seen d ≡ v → Leaves (live_of a3 kept_points d.command.kept.overrides d.command.kept.flags) d.command.kept.counts c (trail_of log' us d.history.future) v (state_rolled_back v) v.history
         rolls v sees = record { invariant = rolled_ok; state = rolled_state v sees; history = rolled_history v sees; keeps = rolled_keeps v sees }

@@ -6,8 +6,6 @@ use Rattle.dom_model.specs.Forest.{Forest}
 use Rattle.dom_model.specs.Pruned.{pruned}
 use Rattle.dom_model.specs.ArenaState.{ArenaState as Arena, IsValid as IsArena}
 use Rattle.live_range.specs.LivePoints.{LivePoints}
-use Rattle.live_range.specs.ActiveRange.{range_changed}
-use Rattle.point_order.specs.PointOrder.{is_before}
 use Rattle.forest_changes.specs.Change.{applied}
 use Rattle.forest_changes.specs.Named.{Each, named}
 use Rattle.forest_changes.specs.Down.{IsLeft, GoesDown}
@@ -75,23 +73,18 @@ module _ (d : Inside) (v : Whole) (is : seen d ≡ v) (law : IsArena d.arena) (n
   points_next = placed-whole g d.arena.next forest_next (out_of d) refl after placed_seen
 
   abbrev pub overrides_next : List Setting
-  overrides_next = settled d.arena.trees d.points (applied (change_of x) d.arena.trees) (points_after e (pruned (out_of d) d.arena.trees) d.points) d.overrides.items
+  overrides_next = settled d.arena.trees d.points (applied (change_of x) d.arena.trees) (points_after e (pruned (out_of d) d.arena.trees) d.points) d.overrides
 
   pub overrides_are : overrides_next ≡ overrides_after (seen_of d).state (trees_after e (pruned (out_of d) f)) after
   overrides_are =
       settled_seen (out_of d) f g (seen_of d).state after law.distinct forest_next.distinct refl ok.valid.placed placed_seen
       ∙ ap (λ t. overrides_after (seen_of d).state t after) pruned_is
 
-  pub overrides_length : length overrides_next ≡ 32
-  overrides_length = settled_length (range_changed (is_before f) (is_before g) d.points.selection after.selection) d.overrides.items ok.valid.settings
-
   -- what settling writes
-  pub settled_items : (new before old : List Setting) (n : LivePoints) (a : Arena) (w : Option Watch) → n ≡ after → a ≡ step_applied x d.arena → before ≡ d.overrides.items → old ≡ d.overrides.items →
-      Watches d.arena.trees d.points before w → ((h : Forest Content) (b : LivePoints) → Watches h b old w → new ≡ settled h b a.trees n old) → new ≡ overrides_next
+  pub settled_items : (new : List Setting) (n : LivePoints) (a : Arena) (w : Option Watch) → n ≡ after → a ≡ step_applied x d.arena →
+      Watches d.arena.trees d.points d.overrides w → ((h : Forest Content) (b : LivePoints) → Watches h b d.overrides w → new ≡ settled h b a.trees n d.overrides) → new ≡ overrides_next
   unfolding step_applied
-  settled_items new before old n a w en ea eb eo watches settles =
-      settles f d.points (subst (λ xs. Watches f d.points xs w) (eb ∙ sym eo) watches)
-      ∙ (λ i. settled f d.points (ea i).trees (en i) (eo i))
+  settled_items new n a w en ea watches settles = settles f d.points watches ∙ (λ i. settled f d.points (ea i).trees (en i) d.overrides)
 
   pub placed_called : (n : LivePoints) (a : Arena) → n ≡ after → a ≡ step_applied x d.arena → IsPlaced a.trees n
   unfolding step_applied

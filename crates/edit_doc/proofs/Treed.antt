@@ -52,7 +52,7 @@ module _ (d : Inside) (v : Whole) (is : seen d ≡ v) (law : IsArena d.arena) (n
   pub placed_after : IsPlaced f' (points_after e g d.points)
   placed_after = placed-whole f' d.arena.next forest_after (out_of d) refl (points_after e g d.points) placed_seen
 
-  pub settled_after : settled d.arena.trees d.points f' (points_after e g d.points) d.overrides.items ≡ overrides_after (seen d).state (trees_after e g) (points_after e g d.points)
+  pub settled_after : settled d.arena.trees d.points f' (points_after e g d.points) d.overrides ≡ overrides_after (seen d).state (trees_after e g) (points_after e g d.points)
   settled_after =
       settled_seen (out_of d) d.arena.trees f' (seen d).state (points_after e g d.points) law.distinct forest_after.distinct refl ok.valid.placed placed_seen
       ∙ ap (λ t. overrides_after (seen d).state t (points_after e g d.points)) same_after

@@ -22,7 +22,7 @@ use Rattle.edit_doc.specs.declared.command.Command.{Command}
 pub record IsKept (points : LivePoints) (overrides : List Setting) (flags : Flags) (counts : Counts) (k : Kept) : Type 0 where
   pub shown : shown points.names k.places ≡ points
   pub over : IsOver points.names k.places
-  pub overrides_are : k.overrides.items ≡ overrides
+  pub overrides_are : k.overrides ≡ overrides
   pub flags_are : k.flags ≡ flags
   pub counts_are : k.counts ≡ counts
 

@@ -77,7 +77,7 @@ abbrev pub begun_state : Arena → List (List ℕ) → Command → Log Step → 
 begun_state a names c log = record {
   trees = document_of (begun_forest log a.trees);
   points = shown names c.kept.places;
-  overrides = c.kept.overrides.items;
+  overrides = c.kept.overrides;
   flags = c.kept.flags;
   next = c.start;
   cap = a.cap;

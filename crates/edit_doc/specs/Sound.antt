@@ -165,7 +165,7 @@ pub record IsIdle (c : Command) (points : LivePoints) (next : ℕ) : Type 0 wher
 -- what a command keeps of its begin is as it was, and what it changes is seen
 pub record IsRunning (a : Arena) (names : List (List ℕ)) (c : Command) (xs : List Step) (g : Forest Content) : Type 0 where
   pub kept : IsSide names g c.kept.places c.kept.counts.nodes c.kept.counts.chars c.kept.counts.depth
-  pub settings : length c.kept.overrides.items ≡ 32
+  pub settings : length c.kept.overrides ≡ 32
   pub made : AreAlone g c.start a.next
   pub can : CanGoBack a.held xs a.trees
   pub names_there : Each (IsLeft (is_hidden g c.start) a.trees) (named_in (changes_of xs))

@@ -5,8 +5,8 @@ ghost use Rattle.edit_doc.specs.Fields.{IsKept, IsEnded, AreResting, has_newly_d
 ghost use Rattle.edit_doc.specs.Marks.{Marks, AreMarkable, NotesMade, place_labels};
 
 use crate::Counts;
-use edit_model::{Flags, Setting};
-use edit_parts::copy_overrides;
+use crate::overrides::Overrides;
+use edit_model::Flags;
 use live_range::{Places, Points};
 use node_arena::NodeRef;
 use std::alloc::{AllocError, Global};
@@ -64,7 +64,7 @@ pub(crate) struct EntrySnapshot {
 #[derive(Drop)]
 pub(crate) struct Kept {
     pub(crate) places: Places,
-    pub(crate) overrides: Vec<Setting>,
+    pub(crate) overrides: Overrides,
     pub(crate) flags: Flags,
     pub(crate) counts: Counts,
 }
@@ -90,7 +90,7 @@ impl Kept {
     pub(crate) fn of(
         alloc: Global,
         points: &Points,
-        overrides: &[Setting],
+        overrides: &Overrides,
         flags: Flags,
         counts: Counts,
     ) -> Result<Kept, AllocError>
@@ -98,7 +98,7 @@ impl Kept {
     {
         Ok(Kept {
             places: points.places(),
-            overrides: copy_overrides(alloc, overrides)?,
+            overrides: overrides.copy(alloc)?,
             flags,
             counts,
         })

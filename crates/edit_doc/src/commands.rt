@@ -10,7 +10,6 @@ use crate::command::{Kept, resting_places};
 use crate::giving_up::{give_up_detached, give_up_unnamed};
 use crate::history::Closing;
 use crate::{Committed, Doc, NodeRef};
-use edit_parts::unset_overrides;
 use std::alloc::{AllocError, Global};
 use std::mem::swap;
 use std::sync::ledger::Ledger;
@@ -145,7 +144,7 @@ impl Doc {
         self.arena.valid();
         self.points.set_places(&sides.before);
         self.counts = sides.counts_before();
-        unset_overrides(&mut self.overrides);
+        self.overrides.unset();
         true
     }
 
@@ -165,7 +164,7 @@ impl Doc {
         self.arena.valid();
         self.points.set_places(&sides.after);
         self.counts = sides.counts_after();
-        unset_overrides(&mut self.overrides);
+        self.overrides.unset();
         true
     }
 

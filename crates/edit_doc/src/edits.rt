@@ -15,7 +15,6 @@ use crate::numbers::{chars_replaced, counts_moved, counts_with, counts_without};
 use crate::{Chars, Doc, EditFault, Name, NodeRef};
 use edit_parts::{
     adjust_inserted, adjust_moved, has_value, is_in_document, moving_from, removal_of, replaced,
-    unset_overrides_if_range_changed, watch_range,
 };
 use edit_steps::Step;
 use node_arena::Content;
@@ -62,7 +61,7 @@ impl Doc {
     {
         self.arena.valid();
         self.arena.slotted();
-        let watch = watch_range(&self.arena, &self.points, &self.overrides);
+        let watch = self.overrides.watch(&self.arena, &self.points);
         let enters = is_in_document(&self.arena, parent);
         let counts = counts_with(&self.arena, self.counts, node, parent, enters);
         let link = Step::Link {
@@ -74,7 +73,7 @@ impl Doc {
         self.counts = counts;
         self.command.name_place(node, parent, before);
         adjust_inserted(&self.arena, &mut self.points, parent, node);
-        unset_overrides_if_range_changed(&self.arena, &self.points, &mut self.overrides, watch);
+        self.overrides.settle(&self.arena, &self.points, watch);
         Ok(())
     }
 
@@ -111,7 +110,7 @@ impl Doc {
         self.arena.valid();
         self.arena.slotted();
         self.command.detached.reserve(1)?;
-        let watch = watch_range(&self.arena, &self.points, &self.overrides);
+        let watch = self.overrides.watch(&self.arena, &self.points);
         let removal = removal_of(&self.arena, &self.points, node, parent);
         let counts = counts_without(&self.arena, self.counts, node, parent);
         let next = self.arena.next(node);
@@ -120,7 +119,7 @@ impl Doc {
         let _ = self.command.detached.push(node);
         self.command.name_place(node, parent, next);
         removal.adjust(&mut self.points);
-        unset_overrides_if_range_changed(&self.arena, &self.points, &mut self.overrides, watch);
+        self.overrides.settle(&self.arena, &self.points, watch);
         Ok(())
     }
 
@@ -148,7 +147,7 @@ impl Doc {
         if !self.may_go(node, from, parent, before) {
             return Ok(false);
         }
-        let watch = watch_range(&self.arena, &self.points, &self.overrides);
+        let watch = self.overrides.watch(&self.arena, &self.points);
         let place = moving_from(&self.arena, &self.points, node, from, parent);
         let counts = counts_moved(&self.arena, self.counts, node, parent);
         let next = self.arena.next(node);
@@ -162,7 +161,7 @@ impl Doc {
         self.command.name_place(node, from, next);
         self.command.name_place(node, parent, before);
         adjust_moved(&self.arena, &mut self.points, place, parent, node);
-        unset_overrides_if_range_changed(&self.arena, &self.points, &mut self.overrides, watch);
+        self.overrides.settle(&self.arena, &self.points, watch);
         Ok(true)
     }
 
@@ -189,7 +188,7 @@ impl Doc {
         let Some(words) = replaced(self.alloc, content, at, count, put)? else {
             return Ok(false);
         };
-        let watch = watch_range(&self.arena, &self.points, &self.overrides);
+        let watch = self.overrides.watch(&self.arena, &self.points);
         let chars = chars_replaced(&self.arena, self.counts.chars, node, at, count, put);
         let step = Step::Words { node, words };
         make_change(&mut self.arena, &mut self.history, step)?;
@@ -197,7 +196,7 @@ impl Doc {
         self.command.name(node);
         self.points
             .replaced(node.label, at, count, put.len() as u32);
-        unset_overrides_if_range_changed(&self.arena, &self.points, &mut self.overrides, watch);
+        self.overrides.settle(&self.arena, &self.points, watch);
         Ok(true)
     }
 

@@ -22,6 +22,7 @@ mod logged;
 mod making;
 mod nodes;
 mod numbers;
+mod overrides;
 mod reads;
 mod selecting;
 
@@ -30,11 +31,11 @@ use command::{Command, Kept};
 pub use dom_model::{Attributes, Chars, Name};
 pub use edit_model::{EditFault, Flags, Setting};
 pub use edit_parts::Counts;
-use edit_parts::no_overrides;
 use history::History;
 pub use live_range::{MarkFault, Pair, Point, Points};
 pub use logged::{LoggedEdit, LoggedEntry, MadeNode};
 pub use node_arena::{Arena, Kind, NodeList, NodeRef};
+use overrides::Overrides;
 use std::alloc::{AllocError, Global};
 use std::marker::Model;
 pub use undo_log::Committed;
@@ -46,8 +47,7 @@ pub struct Doc {
     // with the trees that only entries of the log name
     arena: Arena,
     points: Points,
-    // of each command, in their order
-    overrides: Vec<Setting>,
+    overrides: Overrides,
     flags: Flags,
     counts: Counts,
     history: History,
@@ -67,9 +67,9 @@ impl Model for Doc {
     ghost use Rattle.edit_doc.specs.History.{whole_of};
     ghost use Rattle.edit_doc.specs.Sound.{IsSoundDoc};
 
-    ghost view = { λ d. whole_of (live_of d.arena d.points d.overrides.items d.flags) d.command d.history };
+    ghost view = { λ d. whole_of (live_of d.arena d.points d.overrides d.flags) d.command d.history };
 
-    ghost invariant = { λ d. IsSoundDoc (live_of d.arena d.points d.overrides.items d.flags) d.counts d.command d.history };
+    ghost invariant = { λ d. IsSoundDoc (live_of d.arena d.points d.overrides d.flags) d.counts d.command d.history };
 }
 
 impl Doc {
@@ -92,7 +92,7 @@ impl Doc {
         let points = Points::new(alloc)?;
         let kept = Kept {
             places: points.places(),
-            overrides: Vec::new(alloc),
+            overrides: Overrides::none(alloc)?,
             flags,
             counts,
         };
@@ -101,7 +101,7 @@ impl Doc {
             alloc,
             arena,
             points,
-            overrides: no_overrides(alloc)?,
+            overrides: Overrides::none(alloc)?,
             flags,
             counts,
             history: History::new(alloc, undo_depth)?,

@@ -220,8 +220,8 @@ impl Doc {
         requires over { IsOver self.old.state.points.names kept.places }
         requires placed { IsPlaced self.old.state.trees (shown self.old.state.points.names kept.places) }
         requires resting { kept.places.scratch ≡ None }
-        requires settings { length kept.overrides.items ≡ 32 }
-        ensures { self.new ≡ with_state self.old (record self.old.state { points = shown self.old.state.points.names kept.places; overrides = kept.overrides.items; flags = kept.flags }) }
+        requires settings { length kept.overrides ≡ 32 }
+        ensures { self.new ≡ with_state self.old (record self.old.state { points = shown self.old.state.points.names kept.places; overrides = kept.overrides; flags = kept.flags }) }
     {
         let mut kept = kept;
         self.points.set_places(&kept.places);

@@ -13,7 +13,7 @@ ghost use Rattle.edit_doc.specs.Whole.{IsOpen, IsClosed, with_state};
 ghost use Rattle.edit_doc.specs.Held.{Holds, Keeps};
 
 use crate::{Doc, Flags, MarkFault, NodeRef, Pair, Point, Points, Setting};
-use edit_parts::{place_of, stands_at, unset_overrides_if_range_changed, watch_range};
+use edit_parts::stands_at;
 use html_names::Command;
 
 impl Doc {
@@ -69,9 +69,9 @@ impl Doc {
     {
         self.arena.valid();
         if self.may_grow(at) {
-            let watch = watch_range(&self.arena, &self.points, &self.overrides);
+            let watch = self.overrides.watch(&self.arena, &self.points);
             self.points.grown(at);
-            unset_overrides_if_range_changed(&self.arena, &self.points, &mut self.overrides, watch);
+            self.overrides.settle(&self.arena, &self.points, watch);
         }
     }
 
@@ -128,14 +128,14 @@ impl Doc {
     pub fn setting(&self, command: Command) -> &Setting
         ensures { result.now ≡ setting_of self.now.state.overrides command }
     {
-        &self.overrides[place_of(command)]
+        self.overrides.get(command)
     }
 
     /// Sets the override of a command.
     pub fn set_setting(&mut self, command: Command, setting: Setting)
         ensures { self.new ≡ with_state self.old (acted (Override command setting) self.old.state) }
     {
-        self.overrides[place_of(command)] = setting;
+        self.overrides.set(command, setting);
     }
 
     /// The CSS styling flag, and the default single-line container name.
@@ -165,9 +165,9 @@ impl Doc {
         ensures { self.new ≡ with_state self.old (with_selection pair self.old.state) }
     {
         self.arena.valid();
-        let watch = watch_range(&self.arena, &self.points, &self.overrides);
+        let watch = self.overrides.watch(&self.arena, &self.points);
         self.points.set_selection(pair);
-        unset_overrides_if_range_changed(&self.arena, &self.points, &mut self.overrides, watch);
+        self.overrides.settle(&self.arena, &self.points, watch);
     }
 
     // The points of a text past an offset go to another text.
@@ -178,10 +178,10 @@ impl Doc {
     {
         self.arena.valid();
         if self.may_send(node, at, tail) {
-            let watch = watch_range(&self.arena, &self.points, &self.overrides);
+            let watch = self.overrides.watch(&self.arena, &self.points);
             // The points of the parent are moved by the insertion of the tail.
             self.points.split(node.label, at, tail.label, node.label, 0);
-            unset_overrides_if_range_changed(&self.arena, &self.points, &mut self.overrides, watch);
+            self.overrides.settle(&self.arena, &self.points, watch);
         }
     }
 }

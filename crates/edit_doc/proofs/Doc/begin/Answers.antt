@@ -1,5 +1,4 @@
 use Rattle.std.proofs.Common.{◌∙◌, ap, subst, sym}
-use Rattle.edit_doc.specs.Fields.{IsKept}
 use Rattle.edit_doc.specs.Whole.{Whole, opened}
 use Rattle.edit_doc.specs.Held.{IfHeld}
 use Rattle.edit_model.specs.Gives.{label_of}
@@ -7,15 +6,12 @@ use Rattle.edit_doc.proofs.Inner.{closed_of}
 use Rattle.edit_doc.proofs.Begins.{begin_ok, begin_is}
 use Rattle.edit_doc.proofs.Doc.begin.Goals as goal
 
-keeps : (c : goal.After-self-1) → IsKept c.self.inside.points c.self.inside.overrides.items c.self.inside.flags c.self.inside.counts c.in_ok-kept.kept
-keeps c = subst (λ xs. IsKept c.self.inside.points xs c.self.inside.flags c.self.inside.counts c.in_ok-kept.kept) c.deref.ensures.value c.in_ok-kept.ensures
-
 pub invariant_of-self : goal.invariant_of-self
 invariant_of-self c =
     let closed = closed_of c.self.inside _ c.self.view_is c.requires.closed in
-    rw c.begin.ensures (begin_ok c.self.inside c.valid.ensures closed c.self.invariant c.in_ok-kept.kept c.args.host c.args.keeping (keeps c) (subst (λ (w : Whole). IfHeld w c.args.host) (sym c.self.view_is) c.requires.host_held))
+    rw c.begin.ensures (begin_ok c.self.inside c.valid.ensures closed c.self.invariant c.in_ok-kept.kept c.args.host c.args.keeping c.in_ok-kept.ensures (subst (λ (w : Whole). IfHeld w c.args.host) (sym c.self.view_is) c.requires.host_held))
 
 pub returns-clause-begun : goal.returns-clause-begun
 returns-clause-begun c =
     let closed = closed_of c.self.inside _ c.self.view_is c.requires.closed in
-    rw c.begin.ensures (begin_is c.self.inside c.valid.ensures closed c.self.invariant c.in_ok-kept.kept c.args.host c.args.keeping (keeps c) ∙ ap (opened (label_of c.args.host) c.args.keeping _) c.self.view_is)
+    rw c.begin.ensures (begin_is c.self.inside c.valid.ensures closed c.self.invariant c.in_ok-kept.kept c.args.host c.args.keeping c.in_ok-kept.ensures ∙ ap (opened (label_of c.args.host) c.args.keeping _) c.self.view_is)

@@ -32,4 +32,4 @@ returns-clause-stays g c =
     ap (λ ns. shown ns c.in_ok-kept.kept.places) (ap (λ (w : Whole). w.state.points.names) r.moved.rest ∙ sym (ap (λ (w : Whole). w.state.points.names) c.self.view_is))
     ∙ (kept.shown ∙ ap (λ (w : Whole). w.state.points) c.self.view_is) in
     c.put_back.ensures
-    ∙ all_back old new _ _ _ r.moved r.trees points (kept.overrides_are ∙ (c.deref.ensures.value ∙ ap (λ (w : Whole). w.state.overrides) c.self.view_is)) (kept.flags_are ∙ ap (λ (w : Whole). w.state.flags) c.self.view_is)
+    ∙ all_back old new _ _ _ r.moved r.trees points (kept.overrides_are ∙ ap (λ (w : Whole). w.state.overrides) c.self.view_is) (kept.flags_are ∙ ap (λ (w : Whole). w.state.flags) c.self.view_is)

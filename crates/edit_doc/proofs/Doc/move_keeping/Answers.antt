@@ -1,14 +1,12 @@
-use Rattle.std.proofs.Common.{◌≡◌, length, Option, Some, None, refl, sym, ap, subst, ◌∙◌, arith}
+use Rattle.std.proofs.Common.{◌≡◌, Option, Some, None, refl, sym, ap, subst, ◌∙◌}
 use Rattle.std.specs.Prelude.{slice_index_or}
-use Rattle.std.specs.Vec.{with_items}
-use Rattle.std.proofs.lemmas.List.{with_items_is}
 use Rattle.dom_model.specs.Forest.{parent_of}
 use Rattle.node_arena.specs.declared.NodeRef.{NodeRef}
 use Rattle.node_arena.specs.Held.{label, Names}
 use Rattle.edit_model.specs.Edit.{Move}
 use Rattle.edit_model.specs.Gives.{label_of}
 use Rattle.edit_model.proofs.Giving.{gives_left}
-use Rattle.edit_parts.specs.Following.{settled, Watches}
+use Rattle.edit_parts.specs.Following.{settled}
 use Rattle.edit_doc.specs.declared.Doc.TheInside.{Inside}
 use Rattle.edit_doc.specs.Fields.{comes_in}
 use Rattle.edit_doc.specs.Held.{Holds, IfHeld}
@@ -47,8 +45,8 @@ returns-then-not-may_go-clause-gives c =
     gives_left (Move a.node.label a.parent.label (label_of a.before)) a.self.now.state a.self.now.state
     (not_moved a.self.now.state a.node.label a.parent.label (label_of a.before) (Some c.in-Some.from.label) (parent_seen (shows_of c.self.inside c.valid.ensures a.self.now c.self.view_is) a.node c.requires.node_held ∙ up c.self.inside a.node c.in-Some.from c.parent.result c.parent.ensures c.in-Some.is) (sym c.may_go.ensures ∙ c.if-not-may_go.true)) refl
 
-pub watch_range-watch-requires-clause-placed : goal.watch_range-watch-requires-clause-placed
-watch_range-watch-requires-clause-placed c =
+pub watch-watch-requires : goal.watch-watch-requires
+watch-watch-requires c =
     let d = c.self.inside in
     (placed-whole d.arena.trees d.arena.next (arena_forest d.arena c.valid.ensures) (out_of d) refl d.points c.self.invariant.valid.placed).selection
 
@@ -87,29 +85,19 @@ adjust_moved-requires-clause-held c =
 pub adjust_moved-requires-clause-fits : goal.adjust_moved-requires-clause-fits
 adjust_moved-requires-clause-fits c = let a = c.args in points_fit c.self.inside a.self.now c.self.view_is c.valid.ensures c.slotted.ensures c.requires.open c.self.invariant a.node c.in-Some.from a.parent a.before c.requires.node_held c.requires.parent_held c.requires.before_held (up c.self.inside a.node c.in-Some.from c.parent.result c.parent.ensures c.in-Some.is) (sym c.may_go.ensures ∙ c.if-not-may_go.false) c.make_change.new.arena c.in_ok-make_change.ensures.arena c.moving_from-place.result c.moving_from-place.ensures
 
-pub unset_overrides_if_range_changed-requires-clause-placed : goal.unset_overrides_if_range_changed-requires-clause-placed
-unset_overrides_if_range_changed-requires-clause-placed c =
+pub settle-requires : goal.settle-requires
+settle-requires c =
     let a = c.args in
     (placed c.self.inside a.self.now c.self.view_is c.valid.ensures c.slotted.ensures c.requires.open c.self.invariant a.node c.in-Some.from a.parent a.before c.requires.node_held c.requires.parent_held c.requires.before_held (up c.self.inside a.node c.in-Some.from c.parent.result c.parent.ensures c.in-Some.is) (sym c.may_go.ensures ∙ c.if-not-may_go.false) c.make_change.new.arena c.in_ok-make_change.ensures.arena c.adjust_moved.new.points c.moving_from-place.result c.moving_from-place.ensures c.adjust_moved.ensures.moved c.adjust_moved.ensures.none).selection
 
-overrides_are : (c : goal.After-self-1) → (with_items c.self.inside.overrides c.unset_overrides_if_range_changed.new.overrides).items ≡ settled c.self.inside.arena.trees c.self.inside.points c.make_change.new.arena.trees c.adjust_moved.new.points c.self.inside.overrides.items
-overrides_are c =
-    let d = c.self.inside in
-    let watches = subst (λ xs. Watches d.arena.trees d.points xs c.watch_range-watch.result) c.deref.ensures.value c.watch_range-watch.ensures in
-    let watches' = subst (λ xs. Watches d.arena.trees d.points xs c.watch_range-watch.result) (sym c.deref_mut.ensures.value) watches in
-    let e = c.unset_overrides_if_range_changed.ensures d.arena.trees d.points watches' in
-    let e' = e ∙ ap (settled d.arena.trees d.points c.make_change.new.arena.trees c.adjust_moved.new.points) c.deref_mut.ensures.value in
-    let s : length d.overrides.items ≡ 32 = c.self.invariant.valid.settings in
-    let a = c.unset_overrides_if_range_changed.auto.overrides in
-    let l = c.deref_mut.ensures.len in
-    let w = ap length c.deref_mut.ensures.value in
-    with_items_is d.overrides c.unset_overrides_if_range_changed.new.overrides (omega (arith, a, s, l, w)) ∙ e'
+overrides_are : (c : goal.After-settle) → c.settle.new.self ≡ settled c.self.inside.arena.trees c.self.inside.points c.make_change.new.arena.trees c.adjust_moved.new.points c.self.inside.overrides
+overrides_are c = c.settle.ensures c.self.inside.arena.trees c.self.inside.points c.watch-watch.ensures
 
-done : (c : goal.After-self-1) → Done c.self.inside c.args.self.now (Move c.args.node.label c.args.parent.label (label_of c.args.before)) c.make_change.new.arena c.adjust_moved.new.points (with_items c.self.inside.overrides c.unset_overrides_if_range_changed.new.overrides).items c.counts_moved-counts.result c.name_place-2.new.self c.make_change.new.history
+done : (c : goal.After-settle) → Done c.self.inside c.args.self.now (Move c.args.node.label c.args.parent.label (label_of c.args.before)) c.make_change.new.arena c.adjust_moved.new.points c.settle.new.self c.counts_moved-counts.result c.name_place-2.new.self c.make_change.new.history
 done c =
     let a = c.args in
     move_done c.self.inside a.self.now c.self.view_is c.valid.ensures c.slotted.ensures c.requires.open c.self.invariant a.node c.in-Some.from a.parent a.before c.requires.node_held c.requires.parent_held c.requires.before_held (up c.self.inside a.node c.in-Some.from c.parent.result c.parent.ensures c.in-Some.is) (sym c.may_go.ensures ∙ c.if-not-may_go.false)
-    c.make_change.new.arena c.in_ok-make_change.ensures.arena c.adjust_moved.new.points c.moving_from-place.result c.moving_from-place.ensures c.adjust_moved.ensures.moved c.adjust_moved.ensures.none (with_items c.self.inside.overrides c.unset_overrides_if_range_changed.new.overrides).items (overrides_are c)
+    c.make_change.new.arena c.in_ok-make_change.ensures.arena c.adjust_moved.new.points c.moving_from-place.result c.moving_from-place.ensures c.adjust_moved.ensures.moved c.adjust_moved.ensures.none c.settle.new.self (overrides_are c)
     (comes_in c.self.inside.arena.trees a.node.label a.parent.label) refl c.counts_moved-counts.result c.counts_moved-counts.ensures.nodes c.counts_moved-counts.ensures.chars c.counts_moved-counts.ensures.depth c.next-next.result c.next-next.ensures.is c.name_place.new.self c.name_place-2.new.self c.name_place.ensures c.name_place-2.ensures c.make_change.new.history c.in_ok-make_change.ensures.history
 
 pub invariant_of-self-2 : goal.invariant_of-self-2

@@ -5,15 +5,15 @@ use Rattle.edit_doc.specs.Live.{live_of}
 use Rattle.edit_doc.proofs.Starts.{new_ok, new_is}
 use Rattle.edit_doc.proofs.Doc.new.Goals as goal
 
-ended : (c : goal.After-none) → IsEnded c.args.arena.next c.none.result
-ended c = subst (λ (n : ℕ). IsEnded n c.none.result) c.next_label-next.ensures c.none.ensures
+ended : (c : goal.After-none-3) → IsEnded c.args.arena.next c.none-3.result
+ended c = subst (λ (n : ℕ). IsEnded n c.none-3.result) c.next_label-next.ensures c.none-3.ensures
 
-pub invariant_of-result-2 : goal.invariant_of-result-2
-invariant_of-result-2 c =
-    rw (c.arena.view_is, c.in_ok-points.ensures, c.in_ok-no_overrides.ensures, c.in_ok-new.ensures)
-    (new_ok c.args.arena c.valid.ensures c.requires.loose c.args.undo_depth (record { nodes = c.node_count.result; chars = c.char_count.result; depth = c.page_depth.result }) c.node_count.ensures c.char_count.ensures c.page_depth.ensures c.none.result (ended c))
+pub invariant_of-result-3 : goal.invariant_of-result-3
+invariant_of-result-3 c =
+    rw (c.arena.view_is, c.points.view_is ∙ c.in_ok-points.ensures, c.in_ok-none-2.ensures, c.in_ok-new.ensures)
+    (new_ok c.args.arena c.valid.ensures c.requires.loose c.args.undo_depth (record { nodes = c.node_count.result; chars = c.char_count.result; depth = c.page_depth.result }) c.node_count.ensures c.char_count.ensures c.page_depth.ensures c.none-3.result (ended c))
 
 pub returns : goal.returns
 returns c =
-    (λ i. whole_of (live_of (c.arena.view_is i) (c.in_ok-points.ensures i) (c.in_ok-no_overrides.ensures i) (record { css_styling = false; paragraphs = false })) c.none.result (c.in_ok-new.ensures i))
-    ∙ new_is c.args.arena c.valid.ensures c.requires.loose c.args.undo_depth (record { nodes = c.node_count.result; chars = c.char_count.result; depth = c.page_depth.result }) c.node_count.ensures c.char_count.ensures c.page_depth.ensures c.none.result (ended c)
+    (λ i. whole_of (live_of (c.arena.view_is i) ((c.points.view_is ∙ c.in_ok-points.ensures) i) (c.in_ok-none-2.ensures i) (record { css_styling = false; paragraphs = false })) c.none-3.result (c.in_ok-new.ensures i))
+    ∙ new_is c.args.arena c.valid.ensures c.requires.loose c.args.undo_depth (record { nodes = c.node_count.result; chars = c.char_count.result; depth = c.page_depth.result }) c.node_count.ensures c.char_count.ensures c.page_depth.ensures c.none-3.result (ended c)

@@ -1,7 +1,5 @@
 use Rattle.std.proofs.Common.{◌≡◌, ℕ, ◌<◌, ◌^◌, true, false, List, length, Some, refl, sym, ap, subst, ◌∙◌, arith}
 use Rattle.std.specs.Option.{is_some}
-use Rattle.std.specs.Vec.{with_items}
-use Rattle.std.proofs.lemmas.List.{with_items_is}
 use Rattle.std.specs.Prelude.{IfSome}
 use Rattle.dom_model.specs.declared.Content.TheVariants.{Words}
 use Rattle.edit_steps.specs.declared.step.Step.TheVariants.{Words as Rewords}
@@ -12,7 +10,7 @@ use Rattle.edit_doc.proofs.Edited.{Done}
 use Rattle.edit_doc.proofs.Freely.{freed_edit}
 use Rattle.edit_doc.proofs.Lessened.{changes}
 use Rattle.edit_doc.proofs.Replaced.{not_own_replace, not_replace_here, may_replace_here, points_fit, fits, detached, trees, points_are, replace_done}
-use Rattle.edit_doc.proofs.Settling.{points_now, placed_called, overrides_length, settled_items}
+use Rattle.edit_doc.proofs.Settling.{points_now, placed_called, settled_items}
 use Rattle.edit_doc.proofs.Doc.replace_words.Goals as goal
 
 pub returns-then-not-is_own-clause-gives : goal.returns-then-not-is_own-clause-gives
@@ -27,8 +25,8 @@ returns-in_default-clause-gives c =
     gives_left (Replace a.node.label a.at a.count a.put.now) a.self.now.state a.self.now.state
     (not_replace_here c.self.inside c.valid.ensures a.self.now c.self.view_is a.node c.requires.node_held a.at a.count a.put.now c.content-content.result.now c.content-content.ensures off) refl
 
-pub watch_range-watch-requires-clause-placed : goal.watch_range-watch-requires-clause-placed
-watch_range-watch-requires-clause-placed c = (points_now c.self.inside c.valid.ensures c.self.invariant).selection
+pub watch-watch-requires : goal.watch-watch-requires
+watch-watch-requires c = (points_now c.self.inside c.valid.ensures c.self.invariant).selection
 
 pub overflow_cast-put : goal.overflow_cast-put
 overflow_cast-put c =
@@ -45,8 +43,8 @@ replaced-requires-2 c =
     let change : may_change (Some c.content-content.result.now) a.at a.count a.put.now ≡ true = sym c.in_ok-words.ensures.changes ∙ ap is_some c.in-Some.is in
     points_fit c.self.inside c.valid.ensures a.self.now c.self.view_is a.node c.requires.node_held a.at a.count a.put.now c.content-content.result.now c.content-content.ensures c.self.invariant (sym c.is_own.ensures ∙ c.if-not-is_own.false) change
 
-pub unset_overrides_if_range_changed-requires-clause-placed : goal.unset_overrides_if_range_changed-requires-clause-placed
-unset_overrides_if_range_changed-requires-clause-placed c =
+pub settle-requires : goal.settle-requires
+settle-requires c =
     let a = c.args in
     let d = c.self.inside in
     let v = a.self.now in
@@ -63,7 +61,7 @@ unset_overrides_if_range_changed-requires-clause-placed c =
     let may = freed_edit (Replace a.node.label a.at a.count a.put.now) v.state (may_replace_here d c.valid.ensures v c.self.view_is a.node c.requires.node_held a.at a.count a.put.now con c.content-content.ensures own change) in
     (placed_called d v c.self.view_is c.valid.ensures c.requires.open c.self.invariant (Replace a.node.label a.at a.count a.put.now) (Rewords a.node words) x l may t c.replaced-2.new.self c.make_change.new.arena (c.replaced-2.ensures ∙ p) c.in_ok-make_change.ensures.arena).selection
 
-done : (c : goal.After-self-2-1) → Done c.self.inside c.args.self.now (Replace c.args.node.label c.args.at c.args.count c.args.put.now) c.make_change.new.arena c.replaced-2.new.self (with_items c.self.inside.overrides c.unset_overrides_if_range_changed.new.overrides).items (record c.self.inside.counts { chars = c.chars_replaced-chars.result }) c.name.new.self c.make_change.new.history
+done : (c : goal.After-settle) → Done c.self.inside c.args.self.now (Replace c.args.node.label c.args.at c.args.count c.args.put.now) c.make_change.new.arena c.replaced-2.new.self c.settle.new.self (record c.self.inside.counts { chars = c.chars_replaced-chars.result }) c.name.new.self c.make_change.new.history
 done c =
     let a = c.args in
     let d = c.self.inside in
@@ -79,16 +77,11 @@ done c =
     let t = trees d c.valid.ensures v c.self.view_is a.node c.requires.node_held a.at a.count a.put.now con c.content-content.ensures c.slotted.ensures c.requires.open c.self.invariant own change words words_are short in
     let p = points_are d c.valid.ensures v c.self.view_is a.node c.requires.node_held a.at a.count a.put.now con c.content-content.ensures c.slotted.ensures c.requires.open c.self.invariant own change words words_are short in
     let may = freed_edit (Replace a.node.label a.at a.count a.put.now) v.state (may_replace_here d c.valid.ensures v c.self.view_is a.node c.requires.node_held a.at a.count a.put.now con c.content-content.ensures own change) in
-    let n = overrides_length d v c.self.view_is c.valid.ensures c.requires.open c.self.invariant (Replace a.node.label a.at a.count a.put.now) (Rewords a.node words) x l may t in
     let e = settled_items d v c.self.view_is c.valid.ensures c.requires.open c.self.invariant (Replace a.node.label a.at a.count a.put.now) (Rewords a.node words) x l may t
-    c.unset_overrides_if_range_changed.new.overrides c.deref.result.now c.deref_mut.result.now c.replaced-2.new.self c.make_change.new.arena c.watch_range-watch.result (c.replaced-2.ensures ∙ p) c.in_ok-make_change.ensures.arena c.deref.ensures.value c.deref_mut.ensures.value c.watch_range-watch.ensures c.unset_overrides_if_range_changed.ensures in
-    let k = ap length e in
-    let s : length d.overrides.items ≡ 32 = c.self.invariant.valid.settings in
-    let q = c.deref_mut.ensures.len in
-    let w = ap length c.deref_mut.ensures.value in
+    c.settle.new.self c.replaced-2.new.self c.make_change.new.arena c.watch-watch.result (c.replaced-2.ensures ∙ p) c.in_ok-make_change.ensures.arena c.watch-watch.ensures c.settle.ensures in
     replace_done d c.valid.ensures v c.self.view_is a.node c.requires.node_held a.at a.count a.put.now con c.content-content.ensures c.slotted.ensures c.requires.open c.self.invariant own change words words_are short
-    c.replaced-2.new.self (with_items d.overrides c.unset_overrides_if_range_changed.new.overrides).items (record d.counts { chars = c.chars_replaced-chars.result }) c.name.new.self c.name.ensures c.replaced-2.ensures
-    (with_items_is d.overrides c.unset_overrides_if_range_changed.new.overrides (omega (arith, n, k, s, q, w)) ∙ e) refl refl c.chars_replaced-chars.ensures c.make_change.new.arena c.make_change.new.history c.in_ok-make_change.ensures.arena c.in_ok-make_change.ensures.history
+    c.replaced-2.new.self c.settle.new.self (record d.counts { chars = c.chars_replaced-chars.result }) c.name.new.self c.name.ensures c.replaced-2.ensures
+    e refl refl c.chars_replaced-chars.ensures c.make_change.new.arena c.make_change.new.history c.in_ok-make_change.ensures.arena c.in_ok-make_change.ensures.history
 
 pub invariant_of-self-2 : goal.invariant_of-self-2
 invariant_of-self-2 c = (done c).invariant

@@ -1,7 +1,7 @@
 -- What resuming the last entry owes.
 use Rattle.std.proofs.Common.{◌≡◌, ◌<◌, false, true, ◌∙◌, ap, subst, sym, refl, length, arith}
 use Rattle.undo_log.specs.Log.{resumed}
-use Rattle.edit_doc.specs.Fields.{IsKept, SwapsLeft}
+use Rattle.edit_doc.specs.Fields.{SwapsLeft}
 use Rattle.edit_doc.specs.Trail.{Trail, trail_of}
 use Rattle.edit_doc.specs.Whole.{Whole, opened}
 use Rattle.edit_doc.specs.Held.{IfHeld}
@@ -22,9 +22,6 @@ returns-then-not-resume-clause-answer c = resume_answer c.self.inside _ c.self.v
 pub returns-clause-answer : goal.returns-clause-answer
 returns-clause-answer c = resume_answer c.self.inside _ c.self.view_is c.self.invariant true c.if-not-resume.ensures.answer
 
-keeps : (c : goal.After-self-2-1) → IsKept c.self.inside.points c.self.inside.overrides.items c.self.inside.flags c.self.inside.counts c.in_ok-kept.kept
-keeps c = subst (λ xs. IsKept c.self.inside.points xs c.self.inside.flags c.self.inside.counts c.in_ok-kept.kept) c.deref.ensures.value c.in_ok-kept.ensures
-
 all : (c : goal.After-self-2-1) → c.len-self-inside.result ≡ length c.swap_detached.new.command.detached.items
 all c = let o = c.swap_detached.new.command.detached.ok in let e = c.len-self-inside.ensures in omega (arith, o, e)
 
@@ -38,12 +35,12 @@ pub invariant_of-self-2 : goal.invariant_of-self-2
 invariant_of-self-2 c =
     let closed = closed_of c.self.inside _ c.self.view_is c.requires.closed in
     rw (trail c)
-    (resume_ok c.self.inside c.valid.ensures closed c.self.invariant c.in_ok-kept.kept c.args.host (keeps c) c.swap_detached.new.self.past c.swap_detached.new.command (swaps c) c.len-self-inside.result (all c)
+    (resume_ok c.self.inside c.valid.ensures closed c.self.invariant c.in_ok-kept.kept c.args.host c.in_ok-kept.ensures c.swap_detached.new.self.past c.swap_detached.new.command (swaps c) c.len-self-inside.result (all c)
     (subst (λ (w : Whole). IfHeld w c.args.host) (sym c.self.view_is) c.requires.host_held))
 
 pub returns-clause-begun : goal.returns-clause-begun
 returns-clause-begun c =
     let closed = closed_of c.self.inside _ c.self.view_is c.requires.closed in
     rw (trail c)
-    (resume_is c.self.inside c.valid.ensures closed c.self.invariant c.in_ok-kept.kept c.args.host (keeps c) c.swap_detached.new.self.past c.swap_detached.new.command (swaps c) c.len-self-inside.result (all c)
+    (resume_is c.self.inside c.valid.ensures closed c.self.invariant c.in_ok-kept.kept c.args.host c.in_ok-kept.ensures c.swap_detached.new.self.past c.swap_detached.new.command (swaps c) c.len-self-inside.result (all c)
     ∙ ap (opened (label_of c.args.host) false true) c.self.view_is)

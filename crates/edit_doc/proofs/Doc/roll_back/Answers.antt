@@ -36,7 +36,7 @@ forgets c = subst (λ (t : Trail). Forgets t.past c.forget_detached.new.self.pas
 trail : (c : goal.After-end) → c.forget_detached.new.self ≡ trail_of (abandoned c.self.inside.history.log) c.forget_detached.new.self.past c.self.inside.history.future
 trail c = c.forget_detached.ensures.rest ∙ ap (λ (t : Trail). record t { past = c.forget_detached.new.self.past }) c.abandon.ensures.history
 
-rolled : (c : goal.After-end) → Leaves (live_of c.rewind.new.self (shown c.self.inside.points.names c.self.inside.command.kept.places) c.self.inside.command.kept.overrides.items c.self.inside.command.kept.flags) c.self.inside.command.kept.counts c.end.new.self
+rolled : (c : goal.After-end) → Leaves (live_of c.rewind.new.self (shown c.self.inside.points.names c.self.inside.command.kept.places) c.self.inside.command.kept.overrides c.self.inside.command.kept.flags) c.self.inside.command.kept.counts c.end.new.self
     (trail_of (abandoned c.self.inside.history.log) c.forget_detached.new.self.past c.self.inside.history.future) c.args.self.now (state_rolled_back c.args.self.now) c.args.self.now.history
 rolled c =
     rolls c.self.inside (opened_of c.self.inside _ c.self.view_is c.valid-2.ensures c.self.invariant c.requires.«open») c.slotted.ensures _ c.abandon.ensures.arena

@@ -1,8 +1,6 @@
-use Rattle.std.proofs.Common.{◌≡◌, length, ◌∙◌, refl, ap, sym, arith}
+use Rattle.std.proofs.Common.{◌≡◌, ◌∙◌, refl, ap, sym, arith}
 use Rattle.std.specs.Prelude.{map}
-use Rattle.std.specs.Vec.{with_items}
 use Rattle.std.specs.Option.{option_map}
-use Rattle.std.proofs.lemmas.List.{with_items_is}
 use Rattle.live_range.specs.PointsEdit as range
 use Rattle.live_range.specs.PointsEdit.{adjusted_pair}
 use Rattle.live_range.specs.LivePoints.{mapped, at_pair}
@@ -17,11 +15,11 @@ use Rattle.edit_doc.specs.Whole.{Whole, with_state}
 use Rattle.edit_doc.specs.History.{seen_trees}
 use Rattle.edit_doc.proofs.Inner.{seen}
 use Rattle.edit_doc.proofs.Chosen.{scratch_at_rest}
-use Rattle.edit_doc.proofs.PointSteps.{placed_now, placed_then, settled_items, length_settled, step_ok, step_is}
+use Rattle.edit_doc.proofs.PointSteps.{placed_now, placed_then, settled_items, step_ok, step_is}
 use Rattle.edit_doc.proofs.Doc.send.Goals as goal
 
-pub watch_range-watch-requires-clause-placed : goal.watch_range-watch-requires-clause-placed
-watch_range-watch-requires-clause-placed c = (placed_now c.self.inside c.valid.ensures c.self.invariant).selection
+pub watch-watch-requires : goal.watch-watch-requires
+watch-watch-requires c = (placed_now c.self.inside c.valid.ensures c.self.invariant).selection
 
 pub split-requires : goal.split-requires
 split-requires c =
@@ -30,27 +28,21 @@ split-requires c =
     let low = c.valid.ensures.small in
     fits-send (seen c.self.inside).state c.args.node.label c.args.at c.args.tail.label c.self.invariant.valid (omega (arith, capped, low)) may
 
-placed : (c : goal.After-self-1) → IsPlaced (seen_trees c.self.inside.history.log c.self.inside.command.start c.self.inside.arena.trees) (mapped (range.Split c.args.node.label c.args.at c.args.tail.label c.args.node.label 0) c.self.inside.points)
+placed : (c : goal.After-settle) → IsPlaced (seen_trees c.self.inside.history.log c.self.inside.command.start c.self.inside.arena.trees) (mapped (range.Split c.args.node.label c.args.at c.args.tail.label c.args.node.label 0) c.self.inside.points)
 placed c =
     let may = ap (λ (w : Whole). may_send w.state c.args.node.label c.args.at c.args.tail.label) c.self.view_is ∙ (sym c.may_send.ensures ∙ c.if-may_send.true) in
     mapped_placed (range.Split c.args.node.label c.args.at c.args.tail.label c.args.node.label 0) (seen c.self.inside).state.trees (seen c.self.inside).state.trees (places-send (seen c.self.inside).state c.args.node.label c.args.at c.args.tail.label c.self.invariant.valid may) c.self.inside.points c.self.invariant.valid.placed
 
-pub unset_overrides_if_range_changed-requires-clause-placed : goal.unset_overrides_if_range_changed-requires-clause-placed
-unset_overrides_if_range_changed-requires-clause-placed c =
+pub settle-requires : goal.settle-requires
+settle-requires c =
     let may = ap (λ (w : Whole). may_send w.state c.args.node.label c.args.at c.args.tail.label) c.self.view_is ∙ (sym c.may_send.ensures ∙ c.if-may_send.true) in
     let p = mapped_placed (range.Split c.args.node.label c.args.at c.args.tail.label c.args.node.label 0) (seen c.self.inside).state.trees (seen c.self.inside).state.trees (places-send (seen c.self.inside).state c.args.node.label c.args.at c.args.tail.label c.self.invariant.valid may) c.self.inside.points c.self.invariant.valid.placed in
     rw c.split.ensures (placed_then c.self.inside c.valid.ensures c.self.invariant (option_map (adjusted_pair (range.Split c.args.node.label c.args.at c.args.tail.label c.args.node.label 0)) c.self.inside.points.selection) (option_map (adjusted_pair (range.Split c.args.node.label c.args.at c.args.tail.label c.args.node.label 0)) c.self.inside.points.scratch) (map (at_pair (adjusted_pair (range.Split c.args.node.label c.args.at c.args.tail.label c.args.node.label 0))) c.self.inside.points.marks) p).selection
 
-written : (c : goal.After-self-1) → (with_items c.self.inside.overrides c.unset_overrides_if_range_changed.new.overrides).items ≡ settled c.self.inside.arena.trees c.self.inside.points c.self.inside.arena.trees (mapped (range.Split c.args.node.label c.args.at c.args.tail.label c.args.node.label 0) c.self.inside.points) c.self.inside.overrides.items
+written : (c : goal.After-settle) → c.settle.new.self ≡ settled c.self.inside.arena.trees c.self.inside.points c.self.inside.arena.trees (mapped (range.Split c.args.node.label c.args.at c.args.tail.label c.args.node.label 0) c.self.inside.points) c.self.inside.overrides
 written c =
     let d = c.self.inside in
-    let e = settled_items d c.valid.ensures c.self.invariant (option_map (adjusted_pair (range.Split c.args.node.label c.args.at c.args.tail.label c.args.node.label 0)) c.self.inside.points.selection) (option_map (adjusted_pair (range.Split c.args.node.label c.args.at c.args.tail.label c.args.node.label 0)) c.self.inside.points.scratch) (map (at_pair (adjusted_pair (range.Split c.args.node.label c.args.at c.args.tail.label c.args.node.label 0))) c.self.inside.points.marks) (placed c) c.unset_overrides_if_range_changed.new.overrides c.deref.result.now c.deref_mut.result.now c.split.new.self c.watch_range-watch.result c.split.ensures c.deref.ensures.value c.deref_mut.ensures.value c.watch_range-watch.ensures c.unset_overrides_if_range_changed.ensures in
-    let n = ap length e in
-    let m = length_settled d c.valid.ensures c.self.invariant (option_map (adjusted_pair (range.Split c.args.node.label c.args.at c.args.tail.label c.args.node.label 0)) c.self.inside.points.selection) (option_map (adjusted_pair (range.Split c.args.node.label c.args.at c.args.tail.label c.args.node.label 0)) c.self.inside.points.scratch) (map (at_pair (adjusted_pair (range.Split c.args.node.label c.args.at c.args.tail.label c.args.node.label 0))) c.self.inside.points.marks) (placed c) in
-    let s : length d.overrides.items ≡ 32 = c.self.invariant.valid.settings in
-    let l = c.deref_mut.ensures.len in
-    let w = ap length c.deref_mut.ensures.value in
-    with_items_is d.overrides c.unset_overrides_if_range_changed.new.overrides (omega (arith, n, m, s, l, w)) ∙ e
+    settled_items d c.valid.ensures c.self.invariant (option_map (adjusted_pair (range.Split c.args.node.label c.args.at c.args.tail.label c.args.node.label 0)) c.self.inside.points.selection) (option_map (adjusted_pair (range.Split c.args.node.label c.args.at c.args.tail.label c.args.node.label 0)) c.self.inside.points.scratch) (map (at_pair (adjusted_pair (range.Split c.args.node.label c.args.at c.args.tail.label c.args.node.label 0))) c.self.inside.points.marks) (placed c) c.settle.new.self c.split.new.self c.watch-watch.result c.split.ensures c.watch-watch.ensures c.settle.ensures
 
 pub invariant_of-self : goal.invariant_of-self
 invariant_of-self c =

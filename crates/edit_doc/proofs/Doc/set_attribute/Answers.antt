@@ -36,7 +36,7 @@ returns-then-has_value-clause-gives c =
     let same : has_value k.attributes a.name.now a.value.now ≡ true = sym c.has_value.ensures ∙ c.if-has_value.true in
     gives_left (Set a.node.label a.name.now a.value.now) a.self.now.state a.self.now.state (not_set_here c.self.inside a.self.now c.self.view_is c.valid.ensures c.slotted.ensures c.requires.open c.self.invariant a.node c.requires.node_held k.name k.attributes content a.name.now a.value.now same) refl
 
-done : (c : goal.After-name) → Done c.self.inside c.args.self.now (Set c.args.node.label c.args.name.now c.args.value.now) c.make_change.new.arena c.self.inside.points c.self.inside.overrides.items c.self.inside.counts c.name.new.self c.make_change.new.history
+done : (c : goal.After-name) → Done c.self.inside c.args.self.now (Set c.args.node.label c.args.name.now c.args.value.now) c.make_change.new.arena c.self.inside.points c.self.inside.overrides c.self.inside.counts c.name.new.self c.make_change.new.history
 done c =
     let a = c.args in
     let k = c.in-Element in

@@ -1,7 +1,5 @@
-use Rattle.std.proofs.Common.{◌≡◌, [], ◌∷◌, ◌++◌, length, refl, ap, ◌∙◌, arith}
+use Rattle.std.proofs.Common.{◌≡◌, [], ◌∷◌, ◌++◌, refl, ap, ◌∙◌, arith}
 use Rattle.std.specs.Prelude.{if◌then◌else◌}
-use Rattle.std.specs.Vec.{with_items}
-use Rattle.std.proofs.lemmas.List.{with_items_is}
 use Rattle.edit_steps.specs.declared.step.Step.TheVariants.{Unlink}
 use Rattle.edit_model.specs.Edit.{Remove}
 use Rattle.edit_doc.proofs.Inner.{live}
@@ -9,7 +7,7 @@ use Rattle.edit_doc.proofs.Edited.{Applied}
 use Rattle.edit_doc.proofs.Removed.{place_markable, up, fits, detached, trees, points_are, unlink_done}
 use Rattle.edit_doc.proofs.Roomier.{room_made}
 use Rattle.edit_doc.proofs.SeenNodes.{shows_of, finds_next}
-use Rattle.edit_doc.proofs.Settling.{points_now, placed_called, overrides_length, settled_items}
+use Rattle.edit_doc.proofs.Settling.{points_now, placed_called, settled_items}
 use Rattle.edit_doc.proofs.Doc.unlink.Goals as goal
 
 pub invariant_of-self : goal.invariant_of-self
@@ -17,8 +15,8 @@ invariant_of-self c =
     let d = c.self.inside in
     room_made d.command c.reserve.new.self c.reserve.ensures.items (live d) d.counts d.history c.self.invariant
 
-pub watch_range-watch-requires-clause-placed : goal.watch_range-watch-requires-clause-placed
-watch_range-watch-requires-clause-placed c = (points_now c.self.inside c.valid.ensures c.self.invariant).selection
+pub watch-watch-requires : goal.watch-watch-requires
+watch-watch-requires c = (points_now c.self.inside c.valid.ensures c.self.invariant).selection
 
 pub invariant_of-self-in_err-make_change : goal.invariant_of-self-in_err-make_change
 invariant_of-self-in_err-make_change c =
@@ -33,8 +31,8 @@ name_place-requires c =
     let next = finds_next (shows_of d c.valid.ensures a.self.now c.self.view_is) a.node c.requires.node_held c.next-next.result c.next-next.ensures in
     place_markable d c.valid.ensures a.self.now c.self.view_is c.requires.open c.self.invariant a.node a.parent c.next-next.result c.requires.node_held c.requires.parent_held next.held
 
-pub unset_overrides_if_range_changed-requires-clause-placed : goal.unset_overrides_if_range_changed-requires-clause-placed
-unset_overrides_if_range_changed-requires-clause-placed c =
+pub settle-requires : goal.settle-requires
+settle-requires c =
     let a = c.args in
     let d = c.self.inside in
     let v = a.self.now in
@@ -47,7 +45,7 @@ unset_overrides_if_range_changed-requires-clause-placed c =
     let moved = c.adjust.ensures d.arena.trees a.node.label a.parent.label c.removal_of-removal.ensures in
     (placed_called d v c.self.view_is c.valid.ensures c.requires.open c.self.invariant (Remove a.node.label) (Unlink a.node) x l may t c.adjust.new.points c.make_change.new.arena (moved ∙ p) c.in_ok-make_change.ensures.arena).selection
 
-done : (c : goal.After-self-1) → Applied c.self.inside c.args.self.now (Remove c.args.node.label) c.make_change.new.arena c.adjust.new.points (with_items c.self.inside.overrides c.unset_overrides_if_range_changed.new.overrides).items c.counts_without-counts.result c.name_place.new.self c.make_change.new.history
+done : (c : goal.After-settle) → Applied c.self.inside c.args.self.now (Remove c.args.node.label) c.make_change.new.arena c.adjust.new.points c.settle.new.self c.counts_without-counts.result c.name_place.new.self c.make_change.new.history
 done c =
     let a = c.args in
     let d = c.self.inside in
@@ -59,19 +57,14 @@ done c =
     let t = trees d c.valid.ensures v c.self.view_is a.node c.requires.node_held a.parent child c.slotted.ensures c.requires.open c.self.invariant may in
     let p = points_are d c.valid.ensures v c.self.view_is a.node c.requires.node_held a.parent child c.slotted.ensures c.requires.open c.self.invariant may in
     let moved = c.adjust.ensures d.arena.trees a.node.label a.parent.label c.removal_of-removal.ensures in
-    let n = overrides_length d v c.self.view_is c.valid.ensures c.requires.open c.self.invariant (Remove a.node.label) (Unlink a.node) x l may t in
     let e = settled_items d v c.self.view_is c.valid.ensures c.requires.open c.self.invariant (Remove a.node.label) (Unlink a.node) x l may t
-    c.unset_overrides_if_range_changed.new.overrides c.deref.result.now c.deref_mut.result.now c.adjust.new.points c.make_change.new.arena c.watch_range-watch.result (moved ∙ p) c.in_ok-make_change.ensures.arena c.deref.ensures.value c.deref_mut.ensures.value c.watch_range-watch.ensures c.unset_overrides_if_range_changed.ensures in
-    let k = ap length e in
-    let s : length d.overrides.items ≡ 32 = c.self.invariant.valid.settings in
-    let q = c.deref_mut.ensures.len in
-    let w = ap length c.deref_mut.ensures.value in
+    c.settle.new.self c.adjust.new.points c.make_change.new.arena c.watch-watch.result (moved ∙ p) c.in_ok-make_change.ensures.arena c.watch-watch.ensures c.settle.ensures in
     let room = c.in_ok-reserve.ensures.ok in
     let put = c.push.ensures.succeeds (omega (arith, room)) in
     let pushed : c.push.new.self.items ≡ d.command.detached.items ++ a.node ∷ [] = c.push.ensures.items ∙ (ap (λ b. if b then (c.reserve.new.self.items ++ a.node ∷ []) else c.reserve.new.self.items) put ∙ ap (λ xs. xs ++ a.node ∷ []) c.reserve.ensures.items) in
     unlink_done d c.valid.ensures v c.self.view_is a.node c.requires.node_held a.parent child c.slotted.ensures c.requires.open c.self.invariant may
-    c.adjust.new.points (with_items d.overrides c.unset_overrides_if_range_changed.new.overrides).items c.counts_without-counts.result (record d.command { detached = c.push.new.self }) c.name_place.new.self c.next-next.result c.next-next.ensures.is
-    refl pushed c.name_place.ensures moved (with_items_is d.overrides c.unset_overrides_if_range_changed.new.overrides (omega (arith, n, k, s, q, w)) ∙ e) c.counts_without-counts.ensures.nodes c.counts_without-counts.ensures.chars c.counts_without-counts.ensures.depth
+    c.adjust.new.points c.settle.new.self c.counts_without-counts.result (record d.command { detached = c.push.new.self }) c.name_place.new.self c.next-next.result c.next-next.ensures.is
+    refl pushed c.name_place.ensures moved e c.counts_without-counts.ensures.nodes c.counts_without-counts.ensures.chars c.counts_without-counts.ensures.depth
     c.make_change.new.arena c.make_change.new.history c.in_ok-make_change.ensures.arena c.in_ok-make_change.ensures.history
 
 pub invariant_of-self-2 : goal.invariant_of-self-2

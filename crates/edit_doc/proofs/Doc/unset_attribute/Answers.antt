@@ -35,7 +35,7 @@ returns-then-is_none-clause-gives c =
     let none : option_map_or (λ _. true) (value_of k.attributes a.name.now) false ≡ false = ap (λ o. option_map_or (λ _. true) o false) (ap (value_of k.attributes) (sym c.as_slice.ensures) ∙ sym c.get.ensures) ∙ (copied_some c.get.result ∙ (c.is_none.ensures ∙ ap not c.if-is_none.true)) in
     gives_left (Unset a.node.label a.name.now) a.self.now.state a.self.now.state (not_unset_here c.self.inside a.self.now c.self.view_is c.valid.ensures c.slotted.ensures c.requires.open c.self.invariant a.node c.requires.node_held k.name k.attributes content a.name.now none) refl
 
-done : (c : goal.After-name) → Done c.self.inside c.args.self.now (Unset c.args.node.label c.args.name.now) c.make_change.new.arena c.self.inside.points c.self.inside.overrides.items c.self.inside.counts c.name.new.self c.make_change.new.history
+done : (c : goal.After-name) → Done c.self.inside c.args.self.now (Unset c.args.node.label c.args.name.now) c.make_change.new.arena c.self.inside.points c.self.inside.overrides c.self.inside.counts c.name.new.self c.make_change.new.history
 done c =
     let a = c.args in
     let k = c.in-Element in
