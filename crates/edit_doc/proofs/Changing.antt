@@ -41,7 +41,7 @@ use Rattle.edit_doc.specs.Marks.{IsMarked, has_named}
 use Rattle.edit_doc.specs.History.{edits_before, roots_from, forest_before, begun_forest, is_hidden, seen_trees, state_of, begun_state, began_with, history_of, whole_of}
 use Rattle.edit_doc.specs.Sound.{RefIn, EachHeldIn, CanGoBack, IsSide, AreAlone, IsSnapshot, IsRunning, OpenSound, UndoSound, RedoSound, detached_of, next_first, IsSoundDoc, AreNeeded}
 use Rattle.edit_doc.specs.Trail.{Trail, with_note}
-use Rattle.edit_doc.specs.Live.{Live}
+use Rattle.edit_doc.specs.declared.tree.LiveTree.{LiveTree}
 use Rattle.edit_doc.proofs.Laid.{redo_later}
 use Rattle.edit_doc.proofs.HiddenTrees.{top_loose}
 use Rattle.edit_doc.proofs.Places.{node_of, loosed, named_node, each_loosed, root_stays, root_was}
@@ -150,9 +150,9 @@ pub record Follows (c d : Command) (x y : Change) : Type 0 where
   pub detached : d.detached.items ≡ c.detached.items ++ more
   pub loosed_is : labels_of more ≡ loosed x
 
-module _ (tree : Live) (counts : Counts) (c : Command) (trail : Trail)
+module _ (tree : LiveTree) (c : Command) (trail : Trail)
     (law : IsArena tree.arena) (open_now : IsTrue (is_open trail.log.open_entry))
-    (ok : IsSoundDoc tree counts c trail) where
+    (ok : IsSoundDoc tree c trail) where
   abbrev g : Forest Content
   g = begun_forest trail.log tree.arena.trees
 
@@ -325,7 +325,7 @@ module _ (tree : Live) (counts : Counts) (c : Command) (trail : Trail)
             }
 
         pub sound_next : (counts' : Counts) → IsValid (seen_next points' overrides') → counts'.nodes ≡ node_count f → counts'.chars ≡ char_count f → page_depth f ≤ counts'.depth →
-            IsSoundDoc (record tree { arena = record tree.arena { trees = f }; points = points'; overrides = overrides' }) counts' d (with_note trail y)
+            IsSoundDoc (record tree { arena = record tree.arena { trees = f }; points = points'; overrides = overrides'; counts = counts' }) d (with_note trail y)
         sound_next counts' valid nodes chars depth =
             let start : c.start ≡ d.start = sym now.start in
             let undo : UndoSound tree.arena.held tree.points.names c.resumed d (next_first c.start trail.future) g trail.log.undo trail.past = undo_carried tree.arena.held tree.points.names c d start c.resumed (next_first c.start trail.future) g trail.log.undo trail.past (detached_same c.resumed) ok.undo in

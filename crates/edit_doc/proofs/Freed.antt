@@ -7,27 +7,26 @@ use Rattle.forest_changes.specs.Down.{Prunes}
 use Rattle.forest_changes.proofs.Twice.{forest_of}
 use Rattle.edit_model.specs.Valid.{IsPlaced}
 use Rattle.edit_model.specs.History.{document_of}
-use Rattle.edit_parts.specs.declared.Counts.{Counts}
 use Rattle.edit_doc.specs.declared.command.Command.{Command}
 use Rattle.edit_doc.specs.GivingUp.{GivesUp}
 use Rattle.edit_doc.specs.History.{state_of, history_of}
 use Rattle.edit_doc.specs.History.Way.{Back, Forth}
 use Rattle.edit_doc.specs.Sound.{UndoSound, RedoSound, next_first}
 use Rattle.edit_doc.specs.Trail.{Trail}
-use Rattle.edit_doc.specs.Live.{Live}
+use Rattle.edit_doc.specs.declared.tree.LiveTree.{LiveTree}
 use Rattle.edit_doc.proofs.Downs.{Bounded, EntriesLeft, lies-pruned, entries-pruned}
 use Rattle.edit_doc.proofs.HiddenTrees.{document-pruned, placed-pruned, node_count-pruned, char_count-pruned, page_depth-pruned}
 use Rattle.edit_doc.proofs.Rests.{AtRest, rest_state, arena_forest}
 
-module _ (tree : Live) (b : Arena) (k : ℕ → Bool) (gives : GivesUp k tree.arena b) (prunes : Prunes k tree.arena.trees) (law : IsArena b) (counts : Counts) (c : Command) (trail : Trail)
-    (rests : AtRest tree counts c trail) (undo_detached : EntriesLeft k tree.arena.trees trail.log.undo) (redo_detached : EntriesLeft k tree.arena.trees trail.log.redo) where
+module _ (tree : LiveTree) (b : Arena) (k : ℕ → Bool) (gives : GivesUp k tree.arena b) (prunes : Prunes k tree.arena.trees) (law : IsArena b) (c : Command) (trail : Trail)
+    (rests : AtRest tree c trail) (undo_detached : EntriesLeft k tree.arena.trees trail.log.undo) (redo_detached : EntriesLeft k tree.arena.trees trail.log.redo) where
   is : IsForest tree.arena.trees
   is = forest_of tree.arena rests.law
 
   bound : Bounded tree.arena.trees
   bound = record { next = tree.arena.next; below = rests.law.below }
 
-  pub freed : AtRest (record tree { arena = b }) counts c trail
+  pub freed : AtRest (record tree { arena = b }) c trail
   freed =
       let f = arena_forest tree.arena rests.law in
       record {
@@ -47,7 +46,7 @@ module _ (tree : Live) (b : Arena) (k : ℕ → Bool) (gives : GivesUp k tree.ar
         settings = rests.settings;
         nodes = rests.nodes ∙ (sym (node_count-pruned tree.arena.trees tree.arena.next f k prunes.document) ∙ ap node_count (sym gives.trees));
         chars = rests.chars ∙ (sym (char_count-pruned tree.arena.trees tree.arena.next f k prunes.document) ∙ ap char_count (sym gives.trees));
-        depth = subst (λ n. n ≤ counts.depth) (sym (page_depth-pruned tree.arena.trees tree.arena.next f k prunes.document) ∙ ap page_depth (sym gives.trees)) rests.depth;
+        depth = subst (λ n. n ≤ tree.counts.depth) (sym (page_depth-pruned tree.arena.trees tree.arena.next f k prunes.document) ∙ ap page_depth (sym gives.trees)) rests.depth;
         undo = subst (λ t. UndoSound b.held tree.points.names false c (next_first c.start trail.future) t trail.log.undo trail.past) (sym gives.trees)
             (lies-pruned k tree.arena.held b.held tree.points.names c Back false (next_first c.start trail.future) tree.arena.trees trail.log.undo trail.past prunes is bound gives.keeps undo_detached rests.undo);
         redo = subst (λ t. RedoSound b.held tree.points.names c t trail.log.redo trail.future) (sym gives.trees)
@@ -59,7 +58,7 @@ module _ (tree : Live) (b : Arena) (k : ℕ → Bool) (gives : GivesUp k tree.ar
 
   pub freed_state : state_of (record tree { arena = b }) c trail.log ≡ state_of tree c trail.log
   freed_state =
-      rest_state (record tree { arena = b }) counts c trail freed
+      rest_state (record tree { arena = b }) c trail freed
       ∙ ((λ i. record {
         trees = document_is i;
         points = tree.points;
@@ -73,7 +72,7 @@ module _ (tree : Live) (b : Arena) (k : ℕ → Bool) (gives : GivesUp k tree.ar
         edits = [];
         made = [];
       })
-      ∙ sym (rest_state tree counts c trail rests))
+      ∙ sym (rest_state tree c trail rests))
 
   pub freed_history : history_of tree.points.names b.trees trail ≡ history_of tree.points.names tree.arena.trees trail
   freed_history =

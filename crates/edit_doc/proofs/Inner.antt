@@ -14,17 +14,12 @@ use Rattle.edit_doc.specs.declared.command.EntrySnapshot.{EntrySnapshot}
 use Rattle.edit_doc.specs.Fields.{AreResting, Enters}
 use Rattle.edit_doc.specs.GivingUp.{loose_roots}
 use Rattle.edit_doc.specs.Sound.{IsSoundDoc}
-use Rattle.edit_doc.specs.Live.{Live, live_of}
-
--- the tree under edits, of the fields
-abbrev pub live : Inside → Live
-live d = live_of d.arena d.points d.overrides d.flags
 
 abbrev pub seen : Inside → Whole
-seen d = whole_of (live d) d.command d.history
+seen d = whole_of d.tree d.command d.history
 
 abbrev pub Ok : Inside → Type 0
-Ok d = IsSoundDoc (live d) d.counts d.command d.history
+Ok d = IsSoundDoc d.tree d.command d.history
 
 closed_in : (s : State) (o : Open Step) → began_with s o ≡ None → o ≡ Closed
 closed_in s Closed e = refl
@@ -45,20 +40,20 @@ open_of d v is h = open_in _ d.history.log.open_entry (subst (λ (w : Whole). Is
 
 -- the fields while a command is open
 pub record Opened (d : Inside) : Type 0 where
-  pub law : IsArena d.arena
+  pub law : IsArena d.tree.arena
   pub ok : Ok d
   pub opened : IsTrue (is_open d.history.log.open_entry)
 
-abbrev pub opened_of : (d : Inside) (v : Whole) → seen d ≡ v → IsArena d.arena → Ok d → IsOpen v → Opened d
+abbrev pub opened_of : (d : Inside) (v : Whole) → seen d ≡ v → IsArena d.tree.arena → Ok d → IsOpen v → Opened d
 opened_of d v is law ok h = record { law = law; ok = ok; opened = open_of d v is h }
 
 -- as it ends, with the places where the points rest
 pub record Ending (d : Inside) : Type 0 where
   pub during : Opened d
   pub places : Places
-  pub resting : AreResting d.points places
+  pub resting : AreResting d.tree.points places
 
-abbrev pub ending_of : (d : Inside) (v : Whole) → seen d ≡ v → IsArena d.arena → Ok d → IsOpen v → (p : Places) → AreResting d.points p → Ending d
+abbrev pub ending_of : (d : Inside) (v : Whole) → seen d ≡ v → IsArena d.tree.arena → Ok d → IsOpen v → (p : Places) → AreResting d.tree.points p → Ending d
 ending_of d v is law ok h p resting = record { during = opened_of d v is law ok h; places = p; resting = resting }
 
 -- with an edit: the snapshots beside the entries that undo would take then, and the one that goes out
@@ -67,4 +62,4 @@ pub record Entering (d : Inside) : Type 0 where
   pub some : 0 < length (noted d.history.log.open_entry)
   pub past : List EntrySnapshot
   pub out : Option EntrySnapshot
-  pub entered : Enters d.command (loose_roots d.arena.trees d.command.detached.items) ending.places d.counts d.history.log.depth d.history.past past out
+  pub entered : Enters d.command (loose_roots d.tree.arena.trees d.command.detached.items) ending.places d.tree.counts d.history.log.depth d.history.past past out

@@ -51,7 +51,7 @@ use Rattle.edit_doc.specs.Whole.{Whole, IsOpen}
 use Rattle.edit_doc.specs.Held.{Holds, IfHeld}
 use Rattle.edit_doc.specs.Marks.{Marks, IsMarked, AreMarkable, place_labels}
 use Rattle.edit_doc.specs.Trail.{Trail, with_note}
-use Rattle.edit_doc.proofs.Inner.{live, seen, Ok, open_of}
+use Rattle.edit_doc.proofs.Inner.{seen, Ok, open_of}
 use Rattle.edit_doc.proofs.SeenNodes.{shows_of, out_of, held_seen, parent_seen, index_seen, tree_seen}
 use Rattle.edit_doc.proofs.Rests.{arena_forest}
 use Rattle.edit_doc.proofs.HiddenTrees.{lt_true}
@@ -180,13 +180,13 @@ moves_follow c c' d node parent from before next f up after m k = record {
 
 -- ---- the move
 
-module _ (d : Inside) (v : Whole) (is : seen d ≡ v) (law : IsArena d.arena) (slotted : IsSlotted d.arena) (now_open : IsOpen v) (ok : Ok d) (node from parent : NodeRef) (before : Option NodeRef)
-    (node_held : Holds v node) (parent_held : Holds v parent) (before_held : IfHeld v before) (up : parent_of d.arena.trees node.label ≡ Some from.label) (may : may_go v.state node.label (Some from.label) parent.label (label_of before) ≡ true) where
+module _ (d : Inside) (v : Whole) (is : seen d ≡ v) (law : IsArena d.tree.arena) (slotted : IsSlotted d.tree.arena) (now_open : IsOpen v) (ok : Ok d) (node from parent : NodeRef) (before : Option NodeRef)
+    (node_held : Holds v node) (parent_held : Holds v parent) (before_held : IfHeld v before) (up : parent_of d.tree.arena.trees node.label ≡ Some from.label) (may : may_go v.state node.label (Some from.label) parent.label (label_of before) ≡ true) where
   abbrev f : Forest Content
-  f = d.arena.trees
+  f = d.tree.arena.trees
 
   abbrev g : Forest Content
-  g = pruned (out_of d) d.arena.trees
+  g = pruned (out_of d) d.tree.arena.trees
 
   abbrev p : ℕ
   p = parent.label
@@ -222,18 +222,18 @@ module _ (d : Inside) (v : Whole) (is : seen d ≡ v) (law : IsArena d.arena) (s
 
   fits_seen : ChangeFits (change.Move n p b) g
   fits_seen = record {
-    forest = IsForest-pruned (out_of d) f refl (forest_of d.arena law);
+    forest = IsForest-pruned (out_of d) f refl (forest_of d.tree.arena law);
     here = (
       subst IsSome (sym up_seen) refl,
       record {
-        place = can_go g d.arena.next ok.valid.forest from.label n p b up_seen told.apart told.parent (parent_there g p told.parent) told.before;
-        parent = parent_at-unlink g d.arena.next ok.valid.forest from.label n p up_seen told.parent;
+        place = can_go g d.tree.arena.next ok.valid.forest from.label n p b up_seen told.apart told.parent (parent_there g p told.parent) told.before;
+        parent = parent_at-unlink g d.tree.arena.next ok.valid.forest from.label n p up_seen told.parent;
       },
     );
   }
 
   fits_here : ChangeFits (change.Move n p b) f
-  fits_here = (goes_up (out_of d) (change.Move n p b) f (seen_prunes (live d) d.counts d.command d.history law (open_of d v is now_open) ok) (forest_of d.arena law) fits_seen).0
+  fits_here = (goes_up (out_of d) (change.Move n p b) f (seen_prunes d.tree d.command d.history law (open_of d v is now_open) ok) (forest_of d.tree.arena law) fits_seen).0
 
   can : CanPut (unlink f n) p b n
   can = fits_here.here.1.place
@@ -244,10 +244,10 @@ module _ (d : Inside) (v : Whole) (is : seen d ≡ v) (law : IsArena d.arena) (s
   inside : is_in_document f n ≡ true → is_in_document f p ≡ true
   inside h = sym (document_seen (shows_of d law (seen d) refl) p) ∙ told.inside (document_seen (shows_of d law (seen d) refl) n ∙ h)
 
-  pub fits : StepFits (Place node parent before) d.arena
+  pub fits : StepFits (Place node parent before) d.tree.arena
   fits = record { fits = fits_here; slotted = slotted; held = place_held d v is law slotted node parent before node_held parent_held before_held }
 
-  seen_place : Each (IsLeft (out_of d) d.arena.trees) (named (change_of x))
+  seen_place : Each (IsLeft (out_of d) d.tree.arena.trees) (named (change_of x))
   seen_place = place_seen d v is law slotted node parent before node_held parent_held before_held
 
   -- ---- the marks
@@ -256,7 +256,7 @@ module _ (d : Inside) (v : Whole) (is : seen d ≡ v) (law : IsArena d.arena) (s
   markable r h =
       let k = held_seen d v is r h in
       let low = law.below r.label (law.here r.slot r.label k.slot) in
-      let marks = (run (live d) d.counts d.command d.history law (open_of d v is now_open) ok).marks in
+      let marks = (run d.tree d.command d.history law (open_of d v is now_open) ok).marks in
       omega (arith, low, marks)
 
   pub place_markable : (a c : NodeRef) (o : Option NodeRef) → Holds v a → Holds v c → IfHeld v o → AreMarkable d.command (place_labels a c o)
@@ -271,27 +271,27 @@ module _ (d : Inside) (v : Whole) (is : seen d ≡ v) (law : IsArena d.arena) (s
   -- ---- the numbers
 
   module _ (enters : Bool) (enters_is : enters ≡ (not (is_in_document f n) && is_in_document f p)) where
-    nodes_is : with_more enters d.counts.nodes (total (λ _ _. 1) (tree_of f n)) ≡ node_count (link (unlink f n) p b n)
-    nodes_is = (λ i. with_more (enters_is i) (ok.nodes i) (total (λ _ _. 1) (tree_of f n))) ∙ more_moved f d.arena.next (arena_forest d.arena law) (λ _ _. 1) from.label n p b up can inside apart
+    nodes_is : with_more enters d.tree.counts.nodes (total (λ _ _. 1) (tree_of f n)) ≡ node_count (link (unlink f n) p b n)
+    nodes_is = (λ i. with_more (enters_is i) (ok.nodes i) (total (λ _ _. 1) (tree_of f n))) ∙ more_moved f d.tree.arena.next (arena_forest d.tree.arena law) (λ _ _. 1) from.label n p b up can inside apart
 
-    chars_is : with_more enters d.counts.chars (total (λ _ c. words_length c) (tree_of f n)) ≡ char_count (link (unlink f n) p b n)
-    chars_is = (λ i. with_more (enters_is i) (ok.chars i) (total (λ _ c. words_length c) (tree_of f n))) ∙ more_moved f d.arena.next (arena_forest d.arena law) (λ _ c. words_length c) from.label n p b up can inside apart
+    chars_is : with_more enters d.tree.counts.chars (total (λ _ c. words_length c) (tree_of f n)) ≡ char_count (link (unlink f n) p b n)
+    chars_is = (λ i. with_more (enters_is i) (ok.chars i) (total (λ _ c. words_length c) (tree_of f n))) ∙ more_moved f d.tree.arena.next (arena_forest d.tree.arena law) (λ _ c. words_length c) from.label n p b up can inside apart
 
-    pub nodes_fit : with_more enters d.counts.nodes (total (λ _ _. 1) (tree_of f n)) < 2 ^ 32
-    nodes_fit = omega (arith, nodes_is, moved_low f d.arena.next (arena_forest d.arena law) (λ _ _. 1) from.label n p b up can inside apart, nodes_bound d.arena law)
+    pub nodes_fit : with_more enters d.tree.counts.nodes (total (λ _ _. 1) (tree_of f n)) < 2 ^ 32
+    nodes_fit = omega (arith, nodes_is, moved_low f d.tree.arena.next (arena_forest d.tree.arena law) (λ _ _. 1) from.label n p b up can inside apart, nodes_bound d.tree.arena law)
 
-    pub chars_fit : with_more enters d.counts.chars (total (λ _ c. words_length c) (tree_of f n)) < 2 ^ 64
-    chars_fit = omega (arith, chars_is, moved_low f d.arena.next (arena_forest d.arena law) (λ _ c. words_length c) from.label n p b up can inside apart, chars_bound d.arena law)
+    pub chars_fit : with_more enters d.tree.counts.chars (total (λ _ c. words_length c) (tree_of f n)) < 2 ^ 64
+    chars_fit = omega (arith, chars_is, moved_low f d.tree.arena.next (arena_forest d.tree.arena law) (λ _ c. words_length c) from.label n p b up can inside apart, chars_bound d.tree.arena law)
 
   -- how deep the tree is where it stands in the document
-  pub stands : is_in_document f n ≡ true → levels (tree_of f n) + depth_of f n ≤ d.counts.depth + 1
-  stands t = omega (arith, stands_low f d.arena.next (arena_forest d.arena law) n t, ok.depth)
+  pub stands : is_in_document f n ≡ true → levels (tree_of f n) + depth_of f n ≤ d.tree.counts.depth + 1
+  stands t = omega (arith, stands_low f d.tree.arena.next (arena_forest d.tree.arena law) n t, ok.depth)
 
-  depth_is : (new : ℕ) → IsRaised f p n (is_in_document f p) d.counts.depth new → page_depth (link (unlink f n) p b n) ≤ new
+  depth_is : (new : ℕ) → IsRaised f p n (is_in_document f p) d.tree.counts.depth new → page_depth (link (unlink f n) p b n) ≤ new
   depth_is new raised =
-      let few = moved_low f d.arena.next (arena_forest d.arena law) (λ _ _. 1) from.label n p b up can inside apart in
-      moved_depth f d.arena.next (arena_forest d.arena law) from.label n p b up can (in_same f d.arena.next (arena_forest d.arena law) (λ _ _. 1) from.label n p b up can inside apart)
-      d.counts.depth new ok.depth raised (omega (arith, few, nodes_bound d.arena law))
+      let few = moved_low f d.tree.arena.next (arena_forest d.tree.arena law) (λ _ _. 1) from.label n p b up can inside apart in
+      moved_depth f d.tree.arena.next (arena_forest d.tree.arena law) from.label n p b up can (in_same f d.tree.arena.next (arena_forest d.tree.arena law) (λ _ _. 1) from.label n p b up can inside apart)
+      d.tree.counts.depth new ok.depth raised (omega (arith, few, nodes_bound d.tree.arena law))
 
   -- ---- the points
 
@@ -305,15 +305,15 @@ module _ (d : Inside) (v : Whole) (is : seen d ≡ v) (law : IsArena d.arena) (s
   abbrev end_at : Point
   end_at = record { label = p; offset = index_before (unlink g n) p b }
 
-  points_is : mapped (range.Move start_at end_at) d.points ≡ points_after (Move n p b) g d.points
+  points_is : mapped (range.Move start_at end_at) d.tree.points ≡ points_after (Move n p b) g d.tree.points
   unfolding points_after
   points_is = refl
 
-  fit_here : Fits (range.Move start_at end_at) d.points
+  fit_here : Fits (range.Move start_at end_at) d.tree.points
   fit_here = fits-move (seen d).state n p b ok.valid (omega (arith, law.capped, law.small)) may_seen
 
   index_is : index_of (link (unlink f n) p b n) n ≡ index_before (unlink g n) p b
-  index_is = index-link (unlink f n) p b n (forest-unlink f d.arena.next (arena_forest d.arena law) from.label n up).distinct can ∙ sym (index_detached (out_of d) f from.label n p b law.distinct up up_seen (held_seen d v is parent parent_held).here)
+  index_is = index-link (unlink f n) p b n (forest-unlink f d.tree.arena.next (arena_forest d.tree.arena law) from.label n up).distinct can ∙ sym (index_detached (out_of d) f from.label n p b law.distinct up up_seen (held_seen d v is parent parent_held).here)
 
   start_label : from.label ≡ parent_or_0 g n
   start_label = sym (parent_is g from.label n up_seen)
@@ -321,7 +321,7 @@ module _ (d : Inside) (v : Whole) (is : seen d ≡ v) (law : IsArena d.arena) (s
   start_index : index_of f n ≡ index_of g n
   start_index = sym (index_seen (shows_of d law (seen d) refl) node node_here)
 
-  module _ (arena : Arena) (arena_is : arena ≡ step_applied (Place node parent before) d.arena) where
+  module _ (arena : Arena) (arena_is : arena ≡ step_applied (Place node parent before) d.tree.arena) where
     trees_here : arena.trees ≡ link (unlink f n) p b n
     unfolding step_applied applied
     trees_here = ap (λ (a : Arena). a.trees) arena_is
@@ -329,7 +329,7 @@ module _ (d : Inside) (v : Whole) (is : seen d ≡ v) (law : IsArena d.arena) (s
     index_here : index_of arena.trees n ≡ index_before (unlink g n) p b
     index_here = ap (λ t. index_of t n) trees_here ∙ index_is
 
-    pub held_here : d.arena.held ≡ arena.held
+    pub held_here : d.tree.arena.held ≡ arena.held
     unfolding step_applied
     held_here = sym (ap (λ (a : Arena). a.held) arena_is)
 
@@ -339,30 +339,30 @@ module _ (d : Inside) (v : Whole) (is : seen d ≡ v) (law : IsArena d.arena) (s
     same_move : (at : Point) → at.label ≡ from.label → at.offset ≡ index_of f n → range.Move at to ≡ range.Move start_at end_at
     same_move at e k = λ i. range.Move (record { label = (e ∙ start_label) i; offset = (k ∙ start_index) i }) (record { label = p; offset = index_here i })
 
-    pub points_fit : (place : Option Point) → IsFrom f d.points n from.label p place → IfSome place (λ at. Fits (range.Move at (record { label = p; offset = index_of arena.trees n })) d.points)
+    pub points_fit : (place : Option Point) → IsFrom f d.tree.points n from.label p place → IfSome place (λ at. Fits (range.Move at (record { label = p; offset = index_of arena.trees n })) d.tree.points)
     points_fit None h = tt
-    points_fit (Some at) h = subst (λ m. Fits m d.points) (sym (same_move at h.0 h.1)) fit_here
+    points_fit (Some at) h = subst (λ m. Fits m d.tree.points) (sym (same_move at h.0 h.1)) fit_here
 
-    module _ (points : LivePoints) (place : Option Point) (place_is : IsFrom f d.points n from.label p place)
-        (moved : IfSome place (λ at. points ≡ mapped (range.Move at (record { label = p; offset = index_of arena.trees n })) d.points)) (none : IsNone place → points ≡ d.points) where
-      points_moved : points ≡ mapped (range.Move start_at end_at) d.points
+    module _ (points : LivePoints) (place : Option Point) (place_is : IsFrom f d.tree.points n from.label p place)
+        (moved : IfSome place (λ at. points ≡ mapped (range.Move at (record { label = p; offset = index_of arena.trees n })) d.tree.points)) (none : IsNone place → points ≡ d.tree.points) where
+      points_moved : points ≡ mapped (range.Move start_at end_at) d.tree.points
       points_moved = by_place place place_is moved none
         where
-          by_place : (o : Option Point) → IsFrom f d.points n from.label p o → IfSome o (λ at. points ≡ mapped (range.Move at to) d.points) → (IsNone o → points ≡ d.points) → points ≡ mapped (range.Move start_at end_at) d.points
-          by_place None h m k = k refl ∙ moved_same d.points start_at end_at (ap (has_label (labels_of d.points)) (sym start_label) ∙ h.0) h.1
-          by_place (Some at) h m k = m ∙ ap (λ e. mapped e d.points) (same_move at h.0 h.1)
+          by_place : (o : Option Point) → IsFrom f d.tree.points n from.label p o → IfSome o (λ at. points ≡ mapped (range.Move at to) d.tree.points) → (IsNone o → points ≡ d.tree.points) → points ≡ mapped (range.Move start_at end_at) d.tree.points
+          by_place None h m k = k refl ∙ moved_same d.tree.points start_at end_at (ap (has_label (labels_of d.tree.points)) (sym start_label) ∙ h.0) h.1
+          by_place (Some at) h m k = m ∙ ap (λ e. mapped e d.tree.points) (same_move at h.0 h.1)
 
-      points_here : points ≡ points_after (Move n p b) g d.points
+      points_here : points ≡ points_after (Move n p b) g d.tree.points
       points_here = points_moved ∙ points_is
 
       pub placed : IsPlaced arena.trees points
       unfolding applied
       placed = subst (λ t. IsPlaced t points) (sym trees_here) (subst (IsPlaced (link (unlink f n) p b n)) (sym points_here) (placed_after d v is law now_open ok (Move n p b) x (freed_edit (Move n p b) v.state made) fits seen_place trees_is))
 
-      module _ (overrides : List Setting) (overrides_are : overrides ≡ settled f d.points arena.trees points d.overrides) (enters : Bool) (enters_is : enters ≡ (not (is_in_document f n) && is_in_document f p)) (counts : Counts)
-          (nodes_are : counts.nodes ≡ with_more enters d.counts.nodes (total (λ _ _. 1) (tree_of f n))) (chars_are : counts.chars ≡ with_more enters d.counts.chars (total (λ _ c. words_length c) (tree_of f n)))
-          (raised : IsRaised f p n (is_in_document f p) d.counts.depth counts.depth)
-          (next : Option NodeRef) (next_is : label next ≡ next_of f n) (mid c : Command) (m : Marks (place_labels node from next) d.command mid) (k : Marks (place_labels node parent before) mid c) (trail : Trail) (trail_is : trail ≡ with_note d.history (step_inverse x d.arena)) where
+      module _ (overrides : List Setting) (overrides_are : overrides ≡ settled f d.tree.points arena.trees points d.tree.overrides) (enters : Bool) (enters_is : enters ≡ (not (is_in_document f n) && is_in_document f p)) (counts : Counts)
+          (nodes_are : counts.nodes ≡ with_more enters d.tree.counts.nodes (total (λ _ _. 1) (tree_of f n))) (chars_are : counts.chars ≡ with_more enters d.tree.counts.chars (total (λ _ c. words_length c) (tree_of f n)))
+          (raised : IsRaised f p n (is_in_document f p) d.tree.counts.depth counts.depth)
+          (next : Option NodeRef) (next_is : label next ≡ next_of f n) (mid c : Command) (m : Marks (place_labels node from next) d.command mid) (k : Marks (place_labels node parent before) mid c) (trail : Trail) (trail_is : trail ≡ with_note d.history (step_inverse x d.tree.arena)) where
         makes : Makes d (Move n p b) x points overrides counts c
         unfolding applied edit_change
         makes = record {
@@ -373,7 +373,7 @@ module _ (d : Inside) (v : Whole) (is : seen d ≡ v) (law : IsArena d.arena) (s
           change = refl;
           trees = trees_is;
           points_are = points_here;
-          overrides_are = overrides_are ∙ ((λ i. settled f d.points (trees_here i) (points_here i) d.overrides) ∙ settled_after d v is law now_open ok (Move n p b) x (freed_edit (Move n p b) v.state made) fits seen_place trees_is);
+          overrides_are = overrides_are ∙ ((λ i. settled f d.tree.points (trees_here i) (points_here i) d.tree.overrides) ∙ settled_after d v is law now_open ok (Move n p b) x (freed_edit (Move n p b) v.state made) fits seen_place trees_is);
           nodes = nodes_are ∙ nodes_is enters enters_is;
           chars = chars_are ∙ chars_is enters enters_is;
           depth = depth_is counts.depth raised;

@@ -27,7 +27,7 @@ use Rattle.edit_doc.proofs.Before.{before_detached}
 use Rattle.edit_doc.proofs.Chosen.{moved_to, other_ok}
 use Rattle.edit_doc.proofs.Found.{tree_of-fewer}
 use Rattle.edit_doc.proofs.HiddenTrees.{placed-whole}
-use Rattle.edit_doc.proofs.Inner.{live, seen, Ok}
+use Rattle.edit_doc.proofs.Inner.{seen, Ok}
 use Rattle.edit_doc.proofs.Rests.{arena_forest}
 use Rattle.edit_doc.proofs.SeenNodes.{out_of}
 
@@ -65,36 +65,36 @@ pub settled_length : (b : Bool) (list : List Setting) → length list ≡ 32 →
 settled_length true list h = none_set
 settled_length false list h = h
 
-module _ (d : Inside) (law : IsArena d.arena) (ok : Ok d) where
-  pub placed_now : IsPlaced d.arena.trees d.points
-  placed_now = placed-whole d.arena.trees d.arena.next (arena_forest d.arena law) (out_of d) refl d.points ok.valid.placed
+module _ (d : Inside) (law : IsArena d.tree.arena) (ok : Ok d) where
+  pub placed_now : IsPlaced d.tree.arena.trees d.tree.points
+  placed_now = placed-whole d.tree.arena.trees d.tree.arena.next (arena_forest d.tree.arena law) (out_of d) refl d.tree.points ok.valid.placed
 
-  module _ (selection scratch : Option Pair) (marks : List (List ℕ × Pair)) (placed : IsPlaced (seen_trees d.history.log d.command.start d.arena.trees) (moved_to d.points selection scratch marks)) where
+  module _ (selection scratch : Option Pair) (marks : List (List ℕ × Pair)) (placed : IsPlaced (seen_trees d.history.log d.command.start d.tree.arena.trees) (moved_to d.tree.points selection scratch marks)) where
     abbrev points : LivePoints
-    points = moved_to d.points selection scratch marks
+    points = moved_to d.tree.points selection scratch marks
 
     abbrev overrides : List Setting
-    overrides = settled d.arena.trees d.points d.arena.trees points d.overrides
+    overrides = settled d.tree.arena.trees d.tree.points d.tree.arena.trees points d.tree.overrides
 
-    pub placed_then : IsPlaced d.arena.trees points
-    placed_then = placed-whole d.arena.trees d.arena.next (arena_forest d.arena law) (out_of d) refl points placed
+    pub placed_then : IsPlaced d.tree.arena.trees points
+    placed_then = placed-whole d.tree.arena.trees d.tree.arena.next (arena_forest d.tree.arena law) (out_of d) refl points placed
 
     -- what settling writes
-    pub settled_items : (new : List Setting) (n : LivePoints) (w : Option Watch) → n ≡ points → Watches d.arena.trees d.points d.overrides w →
-        ((g : Forest Content) (b : LivePoints) → Watches g b d.overrides w → new ≡ settled g b d.arena.trees n d.overrides) → new ≡ overrides
-    settled_items new n w en watches settles = settles d.arena.trees d.points watches ∙ ap (λ q. settled d.arena.trees d.points d.arena.trees q d.overrides) en
+    pub settled_items : (new : List Setting) (n : LivePoints) (w : Option Watch) → n ≡ points → Watches d.tree.arena.trees d.tree.points d.tree.overrides w →
+        ((g : Forest Content) (b : LivePoints) → Watches g b d.tree.overrides w → new ≡ settled g b d.tree.arena.trees n d.tree.overrides) → new ≡ overrides
+    settled_items new n w en watches settles = settles d.tree.arena.trees d.tree.points watches ∙ ap (λ q. settled d.tree.arena.trees d.tree.points d.tree.arena.trees q d.tree.overrides) en
 
-    pub step_ok : (d.history.log.open_entry ≡ Closed → scratch ≡ None) → IsSoundDoc (record (live d) { points = points; overrides = overrides }) d.counts d.command d.history
-    step_ok none = other_ok d ok selection scratch marks overrides d.flags placed (settled_length (range_changed (is_before d.arena.trees) (is_before d.arena.trees) d.points.selection selection) d.overrides ok.valid.settings) none
+    pub step_ok : (d.history.log.open_entry ≡ Closed → scratch ≡ None) → IsSoundDoc (record d.tree { points = points; overrides = overrides }) d.command d.history
+    step_ok none = other_ok d ok selection scratch marks overrides d.tree.flags placed (settled_length (range_changed (is_before d.tree.arena.trees) (is_before d.tree.arena.trees) d.tree.points.selection selection) d.tree.overrides ok.valid.settings) none
 
     settled_so : overrides ≡ overrides_after (seen d).state (seen d).state.trees points
     unfolding overrides_after
-    settled_so = ap (λ b. if b then no_overrides else d.overrides) (sym (range_detached (out_of d) d.arena.trees law.distinct d.points.selection selection ok.valid.placed.selection placed.selection))
+    settled_so = ap (λ b. if b then no_overrides else d.tree.overrides) (sym (range_detached (out_of d) d.tree.arena.trees law.distinct d.tree.points.selection selection ok.valid.placed.selection placed.selection))
 
     pub step_is : (v : Whole) → seen d ≡ v →
-        whole_of (record (live d) { points = points; overrides = overrides }) d.command d.history
+        whole_of (record d.tree { points = points; overrides = overrides }) d.command d.history
         ≡ with_state v (changed v.state v.state.trees (moved_to v.state.points selection scratch marks))
     unfolding changed
     step_is v is =
-        ap (λ o. whole_of (record (live d) { points = points; overrides = o }) d.command d.history) settled_so
+        ap (λ o. whole_of (record d.tree { points = points; overrides = o }) d.command d.history) settled_so
         ∙ ap (λ (w : Whole). with_state w (record w.state { points = moved_to w.state.points selection scratch marks; overrides = overrides_after w.state w.state.trees (moved_to w.state.points selection scratch marks) })) is

@@ -34,7 +34,7 @@ use Rattle.edit_doc.specs.Marks.{Marks, IsMarked, AreMarkable, place_labels, has
 use Rattle.edit_doc.specs.Trail.{Trail, with_note}
 use Rattle.edit_doc.proofs.Changing.{Follows, run}
 use Rattle.edit_doc.proofs.Edited.{Makes, Applied, edit_linked}
-use Rattle.edit_doc.proofs.Inner.{live, seen, Ok, open_of}
+use Rattle.edit_doc.proofs.Inner.{seen, Ok, open_of}
 use Rattle.edit_doc.proofs.SeenLookUps.{index_detached}
 use Rattle.edit_doc.proofs.Rests.{arena_forest}
 use Rattle.edit_doc.proofs.Raised.{unlinked_depth}
@@ -65,12 +65,12 @@ follows c b d node parent o f same detached up next m = record {
   loosed_is = refl;
 }
 
-module _ (d : Inside) (law : IsArena d.arena) (v : Whole) (is : seen d ≡ v) (now_open : IsOpen v) (ok : Ok d) where
+module _ (d : Inside) (law : IsArena d.tree.arena) (v : Whole) (is : seen d ≡ v) (now_open : IsOpen v) (ok : Ok d) where
   markable : (r : NodeRef) → Holds v r → r.label < d.command.start + length d.command.named.items
   markable r h =
       let here = (held_seen d v is r h).here in
-      let below = law.below r.label (omega (arith, here, count_of-pruned (out_of d) d.arena.trees r.label)) in
-      let marks = (run (live d) d.counts d.command d.history law (open_of d v is now_open) ok).marks in
+      let below = law.below r.label (omega (arith, here, count_of-pruned (out_of d) d.tree.arena.trees r.label)) in
+      let marks = (run d.tree d.command d.history law (open_of d v is now_open) ok).marks in
       omega (arith, below, marks)
 
   pub place_markable : (node parent : NodeRef) (o : Option NodeRef) → Holds v node → Holds v parent → IfHeld v o → AreMarkable d.command (place_labels node parent o)
@@ -89,48 +89,48 @@ pub may_remove_here : (s : State) (n p : ℕ) → parent_of s.trees n ≡ Some p
 unfolding is_made_edit may_remove
 may_remove_here s n p up may = ap (may_leave s n) up ∙ may
 
-module _ (d : Inside) (law : IsArena d.arena) (v : Whole) (is : seen d ≡ v) (node : NodeRef) (holds : Holds v node) where
+module _ (d : Inside) (law : IsArena d.tree.arena) (v : Whole) (is : seen d ≡ v) (node : NodeRef) (holds : Holds v node) where
   module _ (parent : NodeRef) (child : parent_of v.state.trees node.label ≡ Some parent.label) where
-    pub up : parent_of d.arena.trees node.label ≡ Some parent.label
+    pub up : parent_of d.tree.arena.trees node.label ≡ Some parent.label
     up = sym (parent_seen (shows_of d law v is) node holds) ∙ child
 
-    module _ (slotted : IsSlotted d.arena) (now_open : IsOpen v) (ok : Ok d) (may : is_made_edit (Remove node.label) (freed v.state) ≡ true) where
+    module _ (slotted : IsSlotted d.tree.arena) (now_open : IsOpen v) (ok : Ok d) (may : is_made_edit (Remove node.label) (freed v.state) ≡ true) where
       abbrev f : Forest Content
-      f = d.arena.trees
+      f = d.tree.arena.trees
 
       abbrev g : Forest Content
-      g = pruned (out_of d) d.arena.trees
+      g = pruned (out_of d) d.tree.arena.trees
 
-      pub fits : StepFits (Unlink node) d.arena
+      pub fits : StepFits (Unlink node) d.tree.arena
       fits = record {
-        fits = record { forest = forest_of d.arena law; here = subst IsSome (sym up) refl };
+        fits = record { forest = forest_of d.tree.arena law; here = subst IsSome (sym up) refl };
         slotted = slotted;
         held = ((held_seen d v is node holds).slot, tt);
       }
 
-      pub detached : Each (IsLeft (out_of d) d.arena.trees) (named (change_of (Unlink node)))
+      pub detached : Each (IsLeft (out_of d) d.tree.arena.trees) (named (change_of (Unlink node)))
       detached = ((held_seen d v is node holds).here, tt)
 
       pub trees : applied (change_of (Unlink node)) g ≡ trees_after (Remove node.label) g
       unfolding applied trees_after
       trees = refl
 
-      pub points_are : mapped (range.Remove (preorder (tree_of f node.label)) parent.label (index_of f node.label)) d.points ≡ points_after (Remove node.label) g d.points
+      pub points_are : mapped (range.Remove (preorder (tree_of f node.label)) parent.label (index_of f node.label)) d.tree.points ≡ points_after (Remove node.label) g d.tree.points
       unfolding points_after
       points_are =
           let here = (held_seen d v is node holds).here in
           let t : tree_of f node.label ≡ tree_of g node.label = sym (tree_of-pruned (out_of d) f node.label law.distinct here) in
           let p : Some parent.label ≡ parent_of g node.label = sym (parent_of-pruned (out_of d) f node.label law.distinct here ∙ up) in
           let x : index_of f node.label ≡ index_of g node.label = sym (index_detached (out_of d) f law.distinct node.label here) in
-          λ i. mapped (range.Remove (preorder (t i)) (unwrap_or (p i) 0) (x i)) d.points
+          λ i. mapped (range.Remove (preorder (t i)) (unwrap_or (p i) 0) (x i)) d.tree.points
 
       unlinked : unlink f node.label ≡ applied (change.Remove node.label) f
       unfolding applied
       unlinked = refl
 
-      depth_is : (new : ℕ) → new ≡ d.counts.depth → page_depth (applied (change.Remove node.label) f) ≤ new
+      depth_is : (new : ℕ) → new ≡ d.tree.counts.depth → page_depth (applied (change.Remove node.label) f) ≤ new
       depth_is new same =
-          let low = unlinked_depth f d.arena.next (arena_forest d.arena law) node.label (inner_child node.label up) in
+          let low = unlinked_depth f d.tree.arena.next (arena_forest d.tree.arena law) node.label (inner_child node.label up) in
           subst (λ t. page_depth t ≤ new) unlinked (omega (arith, low, ok.depth, same))
         where
           -- a node with a parent isn't the document
@@ -138,11 +138,11 @@ module _ (d : Inside) (law : IsArena d.arena) (v : Whole) (is : seen d ≡ v) (n
           inner_child zero child = absurd (let t : None ≡ Some parent.label = sym law.root ∙ child in cc)
           inner_child (suc l) child = omega arith
 
-      module _ (points : LivePoints) (overrides : List Setting) (counts : Counts) (b c : Command) (o : Option NodeRef) (next : label_of o ≡ next_of d.arena.trees node.label)
+      module _ (points : LivePoints) (overrides : List Setting) (counts : Counts) (b c : Command) (o : Option NodeRef) (next : label_of o ≡ next_of d.tree.arena.trees node.label)
           (same : record b { detached = d.command.detached } ≡ d.command) (pushed : b.detached.items ≡ d.command.detached.items ++ node ∷ []) (m : Marks (place_labels node parent o) b c)
-          (points_is : points ≡ mapped (range.Remove (preorder (tree_of d.arena.trees node.label)) parent.label (index_of d.arena.trees node.label)) d.points)
+          (points_is : points ≡ mapped (range.Remove (preorder (tree_of d.tree.arena.trees node.label)) parent.label (index_of d.tree.arena.trees node.label)) d.tree.points)
           (overrides_is : overrides ≡ overrides_next d v is law now_open ok (Remove node.label) (Unlink node) fits detached may trees)
-          (nodes : counts.nodes ≡ node_count (unlink d.arena.trees node.label)) (chars : counts.chars ≡ char_count (unlink d.arena.trees node.label)) (depth : counts.depth ≡ d.counts.depth) where
+          (nodes : counts.nodes ≡ node_count (unlink d.tree.arena.trees node.label)) (chars : counts.chars ≡ char_count (unlink d.tree.arena.trees node.label)) (depth : counts.depth ≡ d.tree.counts.depth) where
         removes : Makes d (Remove node.label) (Unlink node) points overrides counts c
         unfolding edit_change
         removes = record {
@@ -159,6 +159,6 @@ module _ (d : Inside) (law : IsArena d.arena) (v : Whole) (is : seen d ≡ v) (n
           depth = depth_is counts.depth depth;
         }
 
-        pub unlink_done : (arena : Arena) (trail : Trail) → arena ≡ step_applied (Unlink node) d.arena → trail ≡ with_note d.history (step_inverse (Unlink node) d.arena) → Applied d v (Remove node.label) arena points overrides counts c trail
+        pub unlink_done : (arena : Arena) (trail : Trail) → arena ≡ step_applied (Unlink node) d.tree.arena → trail ≡ with_note d.history (step_inverse (Unlink node) d.tree.arena) → Applied d v (Remove node.label) arena points overrides counts c trail
         unlink_done arena trail arena_is trail_is =
             edit_linked d v is law now_open ok (Remove node.label) (Unlink node) points overrides counts c may removes arena trail arena_is trail_is

@@ -70,7 +70,7 @@ follows c d n words f m = record {
   loosed_is = refl;
 }
 
-module _ (d : Inside) (law : IsArena d.arena) (v : Whole) (is : seen d ≡ v) (node : NodeRef) (holds : Holds v node) (at count : ℕ) (put : List ℕ) (con : Content) (content : content_of d.arena.trees node.label ≡ Some con) where
+module _ (d : Inside) (law : IsArena d.tree.arena) (v : Whole) (is : seen d ≡ v) (node : NodeRef) (holds : Holds v node) (at count : ℕ) (put : List ℕ) (con : Content) (content : content_of d.tree.arena.trees node.label ≡ Some con) where
   content_here : content_of v.state.trees node.label ≡ Some con
   content_here = content_seen (shows_of d law v is) node holds ∙ content
 
@@ -82,7 +82,7 @@ module _ (d : Inside) (law : IsArena d.arena) (v : Whole) (is : seen d ≡ v) (n
   unfolding is_made_edit may_replace
   not_replace_here off = rw (content_here, off) (and_false (is_own v.state node.label))
 
-  pub points_fit : Ok d → is_own v.state node.label ≡ true → may_change (Some con) at count put ≡ true → Fits (range.Replace node.label at count (length put)) d.points
+  pub points_fit : Ok d → is_own v.state node.label ≡ true → may_change (Some con) at count put ≡ true → Fits (range.Replace node.label at count (length put)) d.tree.points
   unfolding is_made_edit
   points_fit ok own change =
       let may : is_made_edit (Replace node.label at count put) (seen d).state ≡ true = subst (λ (w : Whole). is_made_edit (Replace node.label at count put) w.state ≡ true) (sym is) (may_replace_here own change) in
@@ -90,10 +90,10 @@ module _ (d : Inside) (law : IsArena d.arena) (v : Whole) (is : seen d ≡ v) (n
       let low = law.small in
       fits-replace (seen d).state node.label at count put ok.valid (omega (arith, capped, low)) may
 
-  module _ (slotted : IsSlotted d.arena) (now_open : IsOpen v) (ok : Ok d) (own : is_own v.state node.label ≡ true) (change : may_change (Some con) at count put ≡ true)
+  module _ (slotted : IsSlotted d.tree.arena) (now_open : IsOpen v) (ok : Ok d) (own : is_own v.state node.label ≡ true) (change : may_change (Some con) at count put ≡ true)
       (words : List ℕ) (words_are : Words words ≡ with_replaced at count put con) (short : length words < 2 ^ 32) where
     abbrev g : Forest Content
-    g = pruned (out_of d) d.arena.trees
+    g = pruned (out_of d) d.tree.arena.trees
 
     t : Changes (Some con) at count put
     t = changes (Some con) at count put change
@@ -104,24 +104,24 @@ module _ (d : Inside) (law : IsArena d.arena) (v : Whole) (is : seen d ≡ v) (n
     same : with_chars words con ≡ with_replaced at count put con
     same = ap (with_chars words) con_is ∙ words_are
 
-    pub fits : StepFits (Rewords node words) d.arena
+    pub fits : StepFits (Rewords node words) d.tree.arena
     fits = record {
-      fits = record { forest = forest_of d.arena law; here = (ap (λ o. option_map_or has_chars o false) (content ∙ ap Some con_is), short) };
+      fits = record { forest = forest_of d.tree.arena law; here = (ap (λ o. option_map_or has_chars o false) (content ∙ ap Some con_is), short) };
       slotted = slotted;
       held = ((held_seen d v is node holds).slot, tt);
     }
 
-    pub detached : Each (IsLeft (out_of d) d.arena.trees) (named (change_of (Rewords node words)))
+    pub detached : Each (IsLeft (out_of d) d.tree.arena.trees) (named (change_of (Rewords node words)))
     detached = ((held_seen d v is node holds).here, tt)
 
     pub trees : applied (change_of (Rewords node words)) g ≡ trees_after (Replace node.label at count put) g
     unfolding applied trees_after
-    trees = revised_same g node.label (with_chars words) (with_replaced at count put) con (IsDistinct-pruned (out_of d) d.arena.trees law.distinct)
-        (content_of-pruned (out_of d) d.arena.trees node.label (forest_of d.arena law) (held_seen d v is node holds).here ∙ content) same
+    trees = revised_same g node.label (with_chars words) (with_replaced at count put) con (IsDistinct-pruned (out_of d) d.tree.arena.trees law.distinct)
+        (content_of-pruned (out_of d) d.tree.arena.trees node.label (forest_of d.tree.arena law) (held_seen d v is node holds).here ∙ content) same
 
     words_same : words ≡ spliced (unwrap_or (chars_of g node.label) []) at count put
     words_same =
-        let seen_here : content_of g node.label ≡ Some (Words t.chars) = content_of-pruned (out_of d) d.arena.trees node.label (forest_of d.arena law) (held_seen d v is node holds).here ∙ (content ∙ ap Some con_is) in
+        let seen_here : content_of g node.label ≡ Some (Words t.chars) = content_of-pruned (out_of d) d.tree.arena.trees node.label (forest_of d.tree.arena law) (held_seen d v is node holds).here ∙ (content ∙ ap Some con_is) in
         let both : Words words ≡ Words (spliced t.chars at count put) = words_are ∙ ap (with_replaced at count put) con_is in
         let own_is : words ≡ spliced t.chars at count put = cc in
         own_is ∙ sym (ap (λ o. spliced (unwrap_or (option_and_then chars_in o) []) at count put) seen_here)
@@ -130,31 +130,31 @@ module _ (d : Inside) (law : IsArena d.arena) (v : Whole) (is : seen d ≡ v) (n
     unfolding edit_change
     change_is = ap (SetText node.label) words_same
 
-    nodes_same : node_count (applied (SetText node.label words) d.arena.trees) ≡ node_count d.arena.trees
+    nodes_same : node_count (applied (SetText node.label words) d.tree.arena.trees) ≡ node_count d.tree.arena.trees
     unfolding applied
-    nodes_same = ap (total (λ _ _. 1)) (tree_of-revised node.label (with_chars words) d.arena.trees 0) ∙ total-revised node.label (with_chars words) (λ _. 1) (tree_of d.arena.trees 0)
+    nodes_same = ap (total (λ _ _. 1)) (tree_of-revised node.label (with_chars words) d.tree.arena.trees 0) ∙ total-revised node.label (with_chars words) (λ _. 1) (tree_of d.tree.arena.trees 0)
 
-    depth_same : page_depth (applied (SetText node.label words) d.arena.trees) ≡ page_depth d.arena.trees
+    depth_same : page_depth (applied (SetText node.label words) d.tree.arena.trees) ≡ page_depth d.tree.arena.trees
     unfolding applied
-    depth_same = revised_depth d.arena.trees d.arena.next (arena_forest d.arena law) node.label (with_chars words)
+    depth_same = revised_depth d.tree.arena.trees d.tree.arena.next (arena_forest d.tree.arena law) node.label (with_chars words)
 
-    chars_same : char_count (revised d.arena.trees node.label (with_replaced at count put)) ≡ char_count (applied (SetText node.label words) d.arena.trees)
+    chars_same : char_count (revised d.tree.arena.trees node.label (with_replaced at count put)) ≡ char_count (applied (SetText node.label words) d.tree.arena.trees)
     unfolding applied
-    chars_same = ap char_count (sym (revised_same d.arena.trees node.label (with_chars words) (with_replaced at count put) con law.distinct content same))
+    chars_same = ap char_count (sym (revised_same d.tree.arena.trees node.label (with_chars words) (with_replaced at count put) con law.distinct content same))
 
-    pub points_are : mapped (range.Replace node.label at count (length put)) d.points ≡ points_after (Replace node.label at count put) g d.points
+    pub points_are : mapped (range.Replace node.label at count (length put)) d.tree.points ≡ points_after (Replace node.label at count put) g d.tree.points
     unfolding points_after
     points_are = refl
 
     module _ (points : LivePoints) (overrides : List Setting) (counts : Counts) (c : Command) (m : Marks (node.label ∷ []) d.command c)
-        (points_is : points ≡ mapped (range.Replace node.label at count (length put)) d.points)
+        (points_is : points ≡ mapped (range.Replace node.label at count (length put)) d.tree.points)
         (overrides_is : overrides ≡ overrides_next d v is law now_open ok (Replace node.label at count put) (Rewords node words) fits detached (freed_edit (Replace node.label at count put) v.state (may_replace_here own change)) trees)
-        (nodes : counts.nodes ≡ d.counts.nodes) (depth : counts.depth ≡ d.counts.depth) (chars : counts.chars ≡ char_count (revised d.arena.trees node.label (with_replaced at count put))) where
+        (nodes : counts.nodes ≡ d.tree.counts.nodes) (depth : counts.depth ≡ d.tree.counts.depth) (chars : counts.chars ≡ char_count (revised d.tree.arena.trees node.label (with_replaced at count put))) where
       replaces : Makes d (Replace node.label at count put) (Rewords node words) points overrides counts c
       replaces = record {
         fits = fits;
         seen = detached;
-        follows = follows d.command c node.label words d.arena.trees m;
+        follows = follows d.command c node.label words d.tree.arena.trees m;
         names = ap (λ (p : LivePoints). p.names) points_is;
         change = change_is;
         trees = trees;
@@ -165,7 +165,7 @@ module _ (d : Inside) (law : IsArena d.arena) (v : Whole) (is : seen d ≡ v) (n
         depth = (let low = ok.depth in omega (arith, depth_same, low, depth));
       }
 
-      pub replace_done : (arena : Arena) (trail : Trail) → arena ≡ step_applied (Rewords node words) d.arena → trail ≡ with_note d.history (step_inverse (Rewords node words) d.arena) → Done d v (Replace node.label at count put) arena points overrides counts c trail
+      pub replace_done : (arena : Arena) (trail : Trail) → arena ≡ step_applied (Rewords node words) d.tree.arena → trail ≡ with_note d.history (step_inverse (Rewords node words) d.tree.arena) → Done d v (Replace node.label at count put) arena points overrides counts c trail
       replace_done arena trail arena_is trail_is =
           edit_called d v is law now_open ok (Replace node.label at count put) (Rewords node words) points overrides counts c (may_replace_here own change) replaces arena trail arena_is trail_is
 

@@ -17,13 +17,12 @@ use Rattle.edit_model.specs.State.{State}
 use Rattle.edit_model.specs.History.{document_of}
 use Rattle.edit_model.proofs.Resting.{forest-document, leaves-document}
 use Rattle.edit_model.proofs.Points.{points_left}
-use Rattle.edit_parts.specs.declared.Counts.{Counts}
 use Rattle.edit_doc.specs.declared.command.Command.{Command}
 use Rattle.edit_doc.specs.History.{edits_before, roots_from, begun_forest, forest_before, is_hidden, seen_trees, state_of, begun_state, began_with, history_of, whole_of}
 use Rattle.node_arena.specs.declared.NodeRef.{NodeRef}
 use Rattle.edit_doc.specs.Sound.{RefIn, IsIdle, OpenSound, UndoSound, RedoSound, AreNeeded, next_first, IsSoundDoc}
 use Rattle.edit_doc.specs.Trail.{Trail}
-use Rattle.edit_doc.specs.Live.{Live}
+use Rattle.edit_doc.specs.declared.tree.LiveTree.{LiveTree}
 use Rattle.edit_doc.proofs.HiddenTrees.{hidden_is, seen_at_rest, model_forest, placed-whole}
 use Rattle.edit_doc.proofs.MadeNodes.{no_edits, roots-none}
 
@@ -38,7 +37,7 @@ no_host : (o : Option NodeRef) (P : NodeRef → Type 0) → o ≡ None → IfSom
 no_host None P e = tt
 no_host (Some r) P e = absurd (cc)
 
-abbrev pub rested_state : Live → State
+abbrev pub rested_state : LiveTree → State
 rested_state tree = record {
   trees = document_of tree.arena.trees;
   points = tree.points;
@@ -53,7 +52,7 @@ rested_state tree = record {
   made = [];
 }
 
-module _ (tree : Live) (counts : Counts) (c : Command) (trail : Trail) where
+module _ (tree : LiveTree) (c : Command) (trail : Trail) where
   -- what has to hold of the fields outside commands
   pub record AtRest : Type 0 where
     pub law : IsArena tree.arena
@@ -62,9 +61,9 @@ module _ (tree : Live) (counts : Counts) (c : Command) (trail : Trail) where
     pub resumed : c.resumed ≡ false
     pub placed : IsPlaced tree.arena.trees tree.points
     pub settings : length tree.overrides ≡ 32
-    pub nodes : counts.nodes ≡ node_count tree.arena.trees
-    pub chars : counts.chars ≡ char_count tree.arena.trees
-    pub depth : page_depth tree.arena.trees ≤ counts.depth
+    pub nodes : tree.counts.nodes ≡ node_count tree.arena.trees
+    pub chars : tree.counts.chars ≡ char_count tree.arena.trees
+    pub depth : page_depth tree.arena.trees ≤ tree.counts.depth
     pub undo : UndoSound tree.arena.held tree.points.names false c (next_first c.start trail.future) tree.arena.trees trail.log.undo trail.past
     pub redo : RedoSound tree.arena.held tree.points.names c tree.arena.trees trail.log.redo trail.future
 
@@ -114,7 +113,7 @@ module _ (tree : Live) (counts : Counts) (c : Command) (trail : Trail) where
         settings = r.settings;
       }
 
-  pub rest_sound : AtRest → AreNeeded c.start tree.arena.trees trail.log.undo trail.log.redo → IsSoundDoc tree counts c trail
+  pub rest_sound : AtRest → AreNeeded c.start tree.arena.trees trail.log.undo trail.log.redo → IsSoundDoc tree c trail
   rest_sound r needed =
       let e = forest_is r.closed in
       record {
@@ -132,7 +131,7 @@ module _ (tree : Live) (counts : Counts) (c : Command) (trail : Trail) where
         needed = subst (λ g. AreNeeded c.start g trail.log.undo trail.log.redo) (sym e) needed;
       }
 
-  pub rest_of : IsArena tree.arena → trail.log.open_entry ≡ Closed → IsSoundDoc tree counts c trail → AtRest
+  pub rest_of : IsArena tree.arena → trail.log.open_entry ≡ Closed → IsSoundDoc tree c trail → AtRest
   rest_of law closed ok =
       let e = forest_is closed in
       let idle : IsIdle c tree.points tree.arena.next = subst (λ o. OpenSound tree.arena tree.points c (begun_forest trail.log tree.arena.trees) o) closed ok.running in

@@ -44,7 +44,8 @@ use Rattle.edit_doc.specs.History.{edits_before, roots_from, forest_before, is_h
 use Rattle.edit_doc.specs.History.Way.{Back, Forth}
 use Rattle.edit_doc.specs.Sound.{RefIn, AreFresh, AreAlone, IsSide, IsSnapshot, IsRunning, OpenSound, UndoSound, RedoSound, EntriesOff, AreNeeded, next_first, IsSoundDoc, Lies, turned, bound_of, next_bound, detached_of}
 use Rattle.edit_doc.specs.Trail.{trail_of, IsTrail, Trail}
-use Rattle.edit_doc.specs.Live.{Live, live_of}
+use Rattle.edit_doc.specs.Live.{live_of}
+use Rattle.edit_doc.specs.declared.tree.LiveTree.{LiveTree}
 use Rattle.edit_doc.proofs.HiddenTrees.{tops_detached, le_false, true_le, false_le, document-pruned, model_forest}
 use Rattle.edit_doc.proofs.Downs.{back_forest, back_bounded, back_labels, Bounded, KeepsLeft, EntriesLeft, side-pruned, lies-pruned, entries-pruned, led_labels, names_here}
 use Rattle.edit_doc.proofs.Inner.{seen, Opened}
@@ -159,8 +160,8 @@ whole_alone g first next once below alone = whole_those (nat_le first) g once (�
 
 -- ---- what a call that ends a command leaves
 
-pub record Leaves (tree : Live) (counts : Counts) (c : Command) (trail : Trail) (v : Whole) (s : State) (h : History) : Type 0 where
-  pub invariant : IsSoundDoc tree counts c trail
+pub record Leaves (tree : LiveTree) (c : Command) (trail : Trail) (v : Whole) (s : State) (h : History) : Type 0 where
+  pub invariant : IsSoundDoc tree c trail
   pub state : state_of tree c trail.log ≡ s
   pub history : history_of tree.points.names (begun_forest trail.log tree.arena.trees) trail ≡ h
   pub keeps : KeepsThere v (whole_of tree c trail)
@@ -170,11 +171,11 @@ pub record Leaves (tree : Live) (counts : Counts) (c : Command) (trail : Trail) 
 -- The arena at the forest as the command began, or at one where it noted nothing, without what was made since. The labels
 -- may be drawn again from the start on, or stay spent.
 module _ (d : Inside) (during : Opened d) where
-  pub run : IsRunning d.arena d.points.names d.command (noted d.history.log.open_entry) (begun_forest d.history.log d.arena.trees)
-  run = run_of d.arena d.points d.command (begun_forest d.history.log d.arena.trees) d.history.log.open_entry during.opened during.ok.running
+  pub run : IsRunning d.tree.arena d.tree.points.names d.command (noted d.history.log.open_entry) (begun_forest d.history.log d.tree.arena.trees)
+  run = run_of d.tree.arena d.tree.points d.command (begun_forest d.history.log d.tree.arena.trees) d.history.log.open_entry during.opened during.ok.running
 
   abbrev pub g : Forest Content
-  g = begun_forest d.history.log d.arena.trees
+  g = begun_forest d.history.log d.tree.arena.trees
 
   abbrev pub xs : List Step
   xs = noted d.history.log.open_entry
@@ -182,20 +183,20 @@ module _ (d : Inside) (during : Opened d) where
   abbrev pub k : ℕ → Bool
   k l = nat_le d.command.start l
 
-  pub fits_of : IsSlotted d.arena → FitsBack step_applied StepFits xs d.arena
-  fits_of slotted = back_fits xs d.arena slotted run.can.1 run.can.0
+  pub fits_of : IsSlotted d.tree.arena → FitsBack step_applied StepFits xs d.tree.arena
+  fits_of slotted = back_fits xs d.tree.arena slotted run.can.1 run.can.0
 
   pub forest_g : IsForest g
-  forest_g = back_forest (changes_of xs) d.arena.trees run.can.0 (forest_of d.arena during.law)
+  forest_g = back_forest (changes_of xs) d.tree.arena.trees run.can.0 (forest_of d.tree.arena during.law)
 
   pub bound_g : Bounded g
-  bound_g = back_bounded xs d.arena.trees run.can.0 (record { next = d.arena.next; below = during.law.below })
+  bound_g = back_bounded xs d.tree.arena.trees run.can.0 (record { next = d.tree.arena.next; below = during.law.below })
 
-  pub below_g : (l : ℕ) → 0 < count_of g l → l < d.arena.next
-  below_g l here = during.law.below l (let s = back_labels (changes_of xs) d.arena.trees l run.can.0 in omega arith)
+  pub below_g : (l : ℕ) → 0 < count_of g l → l < d.tree.arena.next
+  below_g l here = during.law.below l (let s = back_labels (changes_of xs) d.tree.arena.trees l run.can.0 in omega arith)
 
   pub whole_g : IsWhole k g
-  whole_g = whole_alone g d.command.start d.arena.next forest_g.distinct below_g run.made
+  whole_g = whole_alone g d.command.start d.tree.arena.next forest_g.distinct below_g run.made
 
   pub prunes_g : Prunes k g
   prunes_g = prunes_whole k g forest_g (le_false d.command.start 0 during.ok.some_label) whole_g
@@ -204,22 +205,22 @@ module _ (d : Inside) (during : Opened d) where
   stays_g l low here = (let s = whole_stays k g forest_g.distinct whole_g l (le_false d.command.start l low) in omega (arith, s, here))
 
   pub undo_detached_g : EntriesLeft k g d.history.log.undo
-  undo_detached_g = lies_detached k g d.arena.held d.points.names d.command stays_g Back d.command.resumed (next_first d.command.start d.history.future) g d.history.log.undo d.history.past (λ l. refl) during.ok.undo
+  undo_detached_g = lies_detached k g d.tree.arena.held d.tree.points.names d.command stays_g Back d.command.resumed (next_first d.command.start d.history.future) g d.history.log.undo d.history.past (λ l. refl) during.ok.undo
 
   pub redo_detached_g : EntriesLeft k g d.history.log.redo
-  redo_detached_g = lies_detached k g d.arena.held d.points.names d.command stays_g Forth false 0 g d.history.log.redo d.history.future (λ l. refl) during.ok.redo
+  redo_detached_g = lies_detached k g d.tree.arena.held d.tree.points.names d.command stays_g Forth false 0 g d.history.log.redo d.history.future (λ l. refl) during.ok.redo
 
   -- the arena without them
   pub record Without (a : Arena) : Type 0 where
     pub valid : IsArena a
     pub trees : a.trees ≡ pruned k g
     pub next : d.command.start ≤ a.next
-    pub cap : a.cap ≡ d.arena.cap
-    pub held : (q : NodeRef) → RefIn d.arena.held q → q.label < d.command.start → RefIn a.held q
+    pub cap : a.cap ≡ d.tree.arena.cap
+    pub held : (q : NodeRef) → RefIn d.tree.arena.held q → q.label < d.command.start → RefIn a.held q
 
   -- the fields afterwards
   module _ (a : Arena) (w : Without a) (us : List EntrySnapshot) (forgets : Forgets d.history.past us d.command) (c : Command) (ended : IsEnded a.next c) (log : Log Step) (closed : log.open_entry ≡ Closed) (depth : log.depth ≡ d.history.log.depth) (dropped : log.dropped ≡ d.history.log.dropped) (undo_is : log.undo ≡ d.history.log.undo) (redo_is : log.redo ≡ d.history.log.redo) where
-    keeps : KeepsLeft k g d.arena.held a.held
+    keeps : KeepsLeft k g d.tree.arena.held a.held
     keeps q h detached = w.held q h (false_le d.command.start q.label (prunes_g.out q.label detached))
 
     start_le : d.command.start ≤ c.start
@@ -228,16 +229,16 @@ module _ (d : Inside) (during : Opened d) where
     abbrev high : ℕ
     high = next_first d.command.start d.history.future
 
-    undo_sound : UndoSound a.held d.points.names false d.command high a.trees d.history.log.undo us
+    undo_sound : UndoSound a.held d.tree.points.names false d.command high a.trees d.history.log.undo us
     undo_sound =
-        subst (λ t. UndoSound a.held d.points.names false d.command high t d.history.log.undo us) (sym w.trees)
-        (undo_forgets a.held d.points.names d.command d.command.resumed high (pruned k g) d.history.log.undo d.history.past us forgets
-        (lies-pruned k d.arena.held a.held d.points.names d.command Back d.command.resumed high g d.history.log.undo d.history.past prunes_g forest_g bound_g keeps undo_detached_g during.ok.undo))
+        subst (λ t. UndoSound a.held d.tree.points.names false d.command high t d.history.log.undo us) (sym w.trees)
+        (undo_forgets a.held d.tree.points.names d.command d.command.resumed high (pruned k g) d.history.log.undo d.history.past us forgets
+        (lies-pruned k d.tree.arena.held a.held d.tree.points.names d.command Back d.command.resumed high g d.history.log.undo d.history.past prunes_g forest_g bound_g keeps undo_detached_g during.ok.undo))
 
-    redo_sound : RedoSound a.held d.points.names d.command a.trees d.history.log.redo d.history.future
+    redo_sound : RedoSound a.held d.tree.points.names d.command a.trees d.history.log.redo d.history.future
     redo_sound =
-        subst (λ t. RedoSound a.held d.points.names d.command t d.history.log.redo d.history.future) (sym w.trees)
-        (lies-pruned k d.arena.held a.held d.points.names d.command Forth false 0 g d.history.log.redo d.history.future prunes_g forest_g bound_g keeps redo_detached_g during.ok.redo)
+        subst (λ t. RedoSound a.held d.tree.points.names d.command t d.history.log.redo d.history.future) (sym w.trees)
+        (lies-pruned k d.tree.arena.held a.held d.tree.points.names d.command Forth false 0 g d.history.log.redo d.history.future prunes_g forest_g bound_g keeps redo_detached_g during.ok.redo)
 
     high_le : high ≤ next_first c.start d.history.future
     high_le = by_case d.history.future
@@ -247,11 +248,11 @@ module _ (d : Inside) (during : Opened d) where
         by_case (b ∷ bs) = omega arith
 
     high_known : next_first c.start d.history.future ≤ c.start
-    high_known = next_first_low a.held d.points.names c a.trees d.history.log.redo d.history.future (redo_later a.held d.points.names d.command c start_le a.trees d.history.log.redo d.history.future redo_sound)
+    high_known = next_first_low a.held d.tree.points.names c a.trees d.history.log.redo d.history.future (redo_later a.held d.tree.points.names d.command c start_le a.trees d.history.log.redo d.history.future redo_sound)
 
     pub without_rest : (points : LivePoints) (overrides : List Setting) (flags : Flags) (counts : Counts) →
-        points.names ≡ d.points.names → points.scratch ≡ None → IsPlaced a.trees points → length overrides ≡ 32 → counts.nodes ≡ node_count a.trees → counts.chars ≡ char_count a.trees → page_depth a.trees ≤ counts.depth →
-        AtRest (live_of a points overrides flags) counts c (trail_of log us d.history.future)
+        points.names ≡ d.tree.points.names → points.scratch ≡ None → IsPlaced a.trees points → length overrides ≡ 32 → counts.nodes ≡ node_count a.trees → counts.chars ≡ char_count a.trees → page_depth a.trees ≤ counts.depth →
+        AtRest (live_of a points overrides flags counts) c (trail_of log us d.history.future)
     without_rest points overrides flags counts names scratch placed settings nodes chars deep = record {
       law = w.valid;
       closed = closed;
@@ -272,10 +273,10 @@ module _ (d : Inside) (during : Opened d) where
       depth = deep;
       undo = subst (λ es. UndoSound a.held points.names false c (next_first c.start d.history.future) a.trees es us) (sym undo_is)
           (subst (λ ns. UndoSound a.held ns false c (next_first c.start d.history.future) a.trees d.history.log.undo us) (sym names)
-          (undo_later a.held d.points.names d.command c start_le high (next_first c.start d.history.future) a.trees d.history.log.undo us high_le high_known undo_sound));
+          (undo_later a.held d.tree.points.names d.command c start_le high (next_first c.start d.history.future) a.trees d.history.log.undo us high_le high_known undo_sound));
       redo = subst (λ es. RedoSound a.held points.names c a.trees es d.history.future) (sym redo_is)
           (subst (λ ns. RedoSound a.held ns c a.trees d.history.log.redo d.history.future) (sym names)
-          (redo_later a.held d.points.names d.command c start_le a.trees d.history.log.redo d.history.future redo_sound));
+          (redo_later a.held d.tree.points.names d.command c start_le a.trees d.history.log.redo d.history.future redo_sound));
     }
 
     pub without_needed : AreNeeded c.start a.trees log.undo log.redo
@@ -286,7 +287,7 @@ module _ (d : Inside) (during : Opened d) where
         during.ok.needed l inner (false_le d.command.start l was.1) was.0
         (subst (EntriesOff l g) undo_is (entries_off l a.trees g same log.undo off_undo)) (subst (EntriesOff l g) redo_is (entries_off l a.trees g same log.redo off_redo))
 
-    pub without_history : (names : List (List ℕ)) → names ≡ d.points.names → history_of names a.trees (trail_of log us d.history.future) ≡ history_of d.points.names g d.history
+    pub without_history : (names : List (List ℕ)) → names ≡ d.tree.points.names → history_of names a.trees (trail_of log us d.history.future) ≡ history_of d.tree.points.names g d.history
     without_history names same =
         (λ i. record {
           undo = undo_entries (same i) (w.trees i) (undo_is i) us;
@@ -295,9 +296,9 @@ module _ (d : Inside) (during : Opened d) where
           dropped = dropped i;
         })
         ∙ (λ i. record {
-          undo = (entries_forget a.held d.points.names d.command d.command.resumed (pruned k g) d.history.log.undo d.history.past us forgets
-              ∙ entries-pruned k d.arena.held a.held d.points.names d.command Back d.command.resumed high g d.history.log.undo d.history.past prunes_g forest_g bound_g undo_detached_g during.ok.undo) i;
-          redo = entries-pruned k d.arena.held a.held d.points.names d.command Forth false 0 g d.history.log.redo d.history.future prunes_g forest_g bound_g redo_detached_g during.ok.redo i;
+          undo = (entries_forget a.held d.tree.points.names d.command d.command.resumed (pruned k g) d.history.log.undo d.history.past us forgets
+              ∙ entries-pruned k d.tree.arena.held a.held d.tree.points.names d.command Back d.command.resumed high g d.history.log.undo d.history.past prunes_g forest_g bound_g undo_detached_g during.ok.undo) i;
+          redo = entries-pruned k d.tree.arena.held a.held d.tree.points.names d.command Forth false 0 g d.history.log.redo d.history.future prunes_g forest_g bound_g redo_detached_g during.ok.redo i;
           depth = d.history.log.depth;
           dropped = d.history.log.dropped;
         })
@@ -314,9 +315,9 @@ module _ (d : Inside) (during : Opened d) where
       true_is true e = refl
       true_is false e = absurd (cc)
 
-  module _ (slotted : IsSlotted d.arena) (a1 : Arena) (abandons : a1 ≡ start step_applied d.history.log d.arena) where
-    pub back_is : a1 ≡ record d.arena { trees = g }
-    back_is = abandons ∙ (started_at d.history.log.open_entry d.arena during.opened ∙ (go_back xs d.arena (fits_of slotted)).state)
+  module _ (slotted : IsSlotted d.tree.arena) (a1 : Arena) (abandons : a1 ≡ start step_applied d.history.log d.tree.arena) where
+    pub back_is : a1 ≡ record d.tree.arena { trees = g }
+    back_is = abandons ∙ (started_at d.history.log.open_entry d.tree.arena during.opened ∙ (go_back xs d.tree.arena (fits_of slotted)).state)
 
     pub drop_whole : IsWhole k a1.trees
     drop_whole = subst (λ (b : Arena). IsWhole k b.trees) (sym back_is) whole_g
@@ -333,14 +334,14 @@ module _ (d : Inside) (during : Opened d) where
 
       module _ (us : List EntrySnapshot) (forgets : Forgets d.history.past us d.command) (c : Command) (ended : IsEnded a3.next c) where
         abbrev kept_points : LivePoints
-        kept_points = shown d.points.names d.command.kept.places
+        kept_points = shown d.tree.points.names d.command.kept.places
 
         abbrev log' : Log Step
         log' = abandoned d.history.log
 
-        resting : AtRest (live_of a3 kept_points d.command.kept.overrides d.command.kept.flags) d.command.kept.counts c (trail_of log' us d.history.future)
+        resting : AtRest (live_of a3 kept_points d.command.kept.overrides d.command.kept.flags d.command.kept.counts) c (trail_of log' us d.history.future)
         resting =
-            let side = side-pruned k prunes_g.document d.points.names g d.command.kept.places d.command.kept.counts.nodes d.command.kept.counts.chars d.command.kept.counts.depth forest_g bound_g run.kept in
+            let side = side-pruned k prunes_g.document d.tree.points.names g d.command.kept.places d.command.kept.counts.nodes d.command.kept.counts.chars d.command.kept.counts.depth forest_g bound_g run.kept in
             without_rest a3 rolled us forgets c ended log' refl refl refl refl refl kept_points d.command.kept.overrides d.command.kept.flags d.command.kept.counts
             refl side.resting
             (subst (λ t. IsPlaced t kept_points) (sym rolled.trees) side.placed)
@@ -349,8 +350,8 @@ module _ (d : Inside) (during : Opened d) where
             (side.chars_are ∙ ap char_count (sym rolled.trees))
             (subst (λ t. page_depth t ≤ d.command.kept.counts.depth) (sym rolled.trees) side.no_deeper)
 
-        rolled_ok : IsSoundDoc (live_of a3 kept_points d.command.kept.overrides d.command.kept.flags) d.command.kept.counts c (trail_of log' us d.history.future)
-        rolled_ok = rest_sound (live_of a3 kept_points d.command.kept.overrides d.command.kept.flags) d.command.kept.counts c (trail_of log' us d.history.future) resting
+        rolled_ok : IsSoundDoc (live_of a3 kept_points d.command.kept.overrides d.command.kept.flags d.command.kept.counts) c (trail_of log' us d.history.future)
+        rolled_ok = rest_sound (live_of a3 kept_points d.command.kept.overrides d.command.kept.flags d.command.kept.counts) c (trail_of log' us d.history.future) resting
             (without_needed a3 rolled us forgets c ended log' refl refl refl refl refl)
 
         begun_is : (o : Open Step) (s t : State) → IsTrue (is_open o) → t ≡ rolled_to s (began_with t o)
@@ -364,10 +365,10 @@ module _ (d : Inside) (during : Opened d) where
         next_is : a3.next ≡ d.command.start
         next_is = ap (λ (b : Arena). b.next) rewinds
 
-        rolled_state : (v : Whole) → seen d ≡ v → state_of (live_of a3 kept_points d.command.kept.overrides d.command.kept.flags) c log' ≡ state_rolled_back v
+        rolled_state : (v : Whole) → seen d ≡ v → state_of (live_of a3 kept_points d.command.kept.overrides d.command.kept.flags d.command.kept.counts) c log' ≡ state_rolled_back v
         unfolding state_rolled_back
         rolled_state v sees =
-            rest_state (live_of a3 kept_points d.command.kept.overrides d.command.kept.flags) d.command.kept.counts c (trail_of log' us d.history.future) resting
+            rest_state (live_of a3 kept_points d.command.kept.overrides d.command.kept.flags d.command.kept.counts) c (trail_of log' us d.history.future) resting
             ∙ ((λ i. record {
               trees = document_is i;
               points = kept_points;
@@ -381,18 +382,18 @@ module _ (d : Inside) (during : Opened d) where
               edits = [];
               made = [];
             })
-            ∙ (begun_is d.history.log.open_entry (seen d).state (begun_state d.arena d.points.names d.command d.history.log) during.opened ∙ ap state_rolled_back sees))
+            ∙ (begun_is d.history.log.open_entry (seen d).state (begun_state d.tree.arena d.tree.points.names d.command d.history.log) during.opened ∙ ap state_rolled_back sees))
 
-        rolled_history : (v : Whole) → seen d ≡ v → history_of d.points.names (begun_forest log' a3.trees) (trail_of log' us d.history.future) ≡ v.history
+        rolled_history : (v : Whole) → seen d ≡ v → history_of d.tree.points.names (begun_forest log' a3.trees) (trail_of log' us d.history.future) ≡ v.history
         rolled_history v sees =
-            ap (λ f. history_of d.points.names f (trail_of log' us d.history.future)) (none_noted log' a3.trees refl)
-            ∙ (without_history a3 rolled us forgets c ended log' refl refl refl refl refl d.points.names refl ∙ ap (λ (w : Whole). w.history) sees)
+            ap (λ f. history_of d.tree.points.names f (trail_of log' us d.history.future)) (none_noted log' a3.trees refl)
+            ∙ (without_history a3 rolled us forgets c ended log' refl refl refl refl refl d.tree.points.names refl ∙ ap (λ (w : Whole). w.history) sees)
 
         by_detached : (l : ℕ) → 0 < count_of a3.trees l → l < d.command.start
         by_detached l here = false_le d.command.start l (prunes_g.out l (subst (λ t. 0 < count_of t l) rolled.trees here))
 
         abbrev rolled_whole : Whole
-        rolled_whole = whole_of (live_of a3 kept_points d.command.kept.overrides d.command.kept.flags) c (trail_of log' us d.history.future)
+        rolled_whole = whole_of (live_of a3 kept_points d.command.kept.overrides d.command.kept.flags d.command.kept.counts) c (trail_of log' us d.history.future)
 
         rolled_keeps : (v : Whole) → seen d ≡ v → KeepsThere v rolled_whole
         rolled_keeps v sees =
@@ -402,5 +403,5 @@ module _ (d : Inside) (during : Opened d) where
             }) in
             subst (λ (w : Whole). KeepsThere w rolled_whole) sees own
 
-        pub rolls : (v : Whole) → seen d ≡ v → Leaves (live_of a3 kept_points d.command.kept.overrides d.command.kept.flags) d.command.kept.counts c (trail_of log' us d.history.future) v (state_rolled_back v) v.history
+        pub rolls : (v : Whole) → seen d ≡ v → Leaves (live_of a3 kept_points d.command.kept.overrides d.command.kept.flags d.command.kept.counts) c (trail_of log' us d.history.future) v (state_rolled_back v) v.history
         rolls v sees = record { invariant = rolled_ok; state = rolled_state v sees; history = rolled_history v sees; keeps = rolled_keeps v sees }

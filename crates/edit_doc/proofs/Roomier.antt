@@ -11,13 +11,12 @@ use Rattle.undo_log.specs.Log.Open.{Closed, Begun, Resumed}
 use Rattle.forest_changes.specs.Named.{Each}
 use Rattle.edit_steps.specs.declared.step.Step.{Step}
 use Rattle.edit_model.specs.Gives.{labels_of}
-use Rattle.edit_parts.specs.declared.Counts.{Counts}
 use Rattle.edit_doc.specs.declared.command.EntrySnapshot.{EntrySnapshot}
 use Rattle.edit_doc.specs.declared.command.Command.{Command}
 use Rattle.edit_doc.specs.History.{begun_forest, is_hidden}
 use Rattle.edit_doc.specs.Sound.{IsRunning, OpenSound, IsSoundDoc, detached_of, next_first}
 use Rattle.edit_doc.specs.Trail.{Trail}
-use Rattle.edit_doc.specs.Live.{Live}
+use Rattle.edit_doc.specs.declared.tree.LiveTree.{LiveTree}
 use Rattle.edit_doc.proofs.Changing.{undo_carried}
 use Rattle.edit_doc.proofs.Laid.{redo_later}
 
@@ -50,9 +49,9 @@ module _ (c : Command) (l : _) (e : (record c { detached = l }).detached.items �
   opens a points g (Begun xs) h = runs a points.names (noted (Begun xs)) g h
   opens a points g (Resumed xs) h = runs a points.names (noted (Resumed xs)) g h
 
-  pub room_made : (tree : Live) (counts : Counts) (trail : Trail) →
-      IsSoundDoc tree counts c trail → IsSoundDoc tree counts d trail
-  room_made tree counts trail ok = record {
+  pub room_made : (tree : LiveTree) (trail : Trail) →
+      IsSoundDoc tree c trail → IsSoundDoc tree d trail
+  room_made tree trail ok = record {
     valid = ok.valid;
     some_label = ok.some_label;
     nodes = ok.nodes;

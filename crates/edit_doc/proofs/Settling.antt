@@ -23,7 +23,7 @@ use Rattle.edit_parts.specs.declared.overrides.Watch.{Watch}
 use Rattle.edit_parts.specs.Following.{Watches, settled}
 use Rattle.edit_doc.specs.declared.Doc.TheInside.{Inside}
 use Rattle.edit_doc.specs.Whole.{Whole, IsOpen}
-use Rattle.edit_doc.proofs.Inner.{live, seen, seen as seen_of, Ok, open_of}
+use Rattle.edit_doc.proofs.Inner.{seen, seen as seen_of, Ok, open_of}
 use Rattle.edit_doc.proofs.SeenNodes.{out_of}
 use Rattle.edit_doc.proofs.Changing.{goes}
 use Rattle.edit_doc.proofs.HiddenTrees.{model_forest, placed-whole}
@@ -38,24 +38,24 @@ settled_length : (b : Bool) (list : List Setting) → length list ≡ 32 → len
 settled_length true list h = none_set
 settled_length false list h = h
 
-module _ (d : Inside) (law : IsArena d.arena) (ok : Ok d) where
-  pub points_now : IsPlaced d.arena.trees d.points
-  points_now = placed-whole d.arena.trees d.arena.next (arena_forest d.arena law) (out_of d) refl d.points ok.valid.placed
+module _ (d : Inside) (law : IsArena d.tree.arena) (ok : Ok d) where
+  pub points_now : IsPlaced d.tree.arena.trees d.tree.points
+  points_now = placed-whole d.tree.arena.trees d.tree.arena.next (arena_forest d.tree.arena law) (out_of d) refl d.tree.points ok.valid.placed
 
-module _ (d : Inside) (v : Whole) (is : seen d ≡ v) (law : IsArena d.arena) (now_open : IsOpen v) (ok : Ok d)
-    (e : Edit) (x : Step) (fits : StepFits x d.arena) (detached : Each (IsLeft (out_of d) d.arena.trees) (named (change_of x))) (may : is_made_edit e (freed v.state) ≡ true)
-    (trees : applied (change_of x) (pruned (out_of d) d.arena.trees) ≡ trees_after e (pruned (out_of d) d.arena.trees)) where
+module _ (d : Inside) (v : Whole) (is : seen d ≡ v) (law : IsArena d.tree.arena) (now_open : IsOpen v) (ok : Ok d)
+    (e : Edit) (x : Step) (fits : StepFits x d.tree.arena) (detached : Each (IsLeft (out_of d) d.tree.arena.trees) (named (change_of x))) (may : is_made_edit e (freed v.state) ≡ true)
+    (trees : applied (change_of x) (pruned (out_of d) d.tree.arena.trees) ≡ trees_after e (pruned (out_of d) d.tree.arena.trees)) where
   abbrev f : Forest Content
-  f = d.arena.trees
+  f = d.tree.arena.trees
 
   abbrev g : Forest Content
-  g = applied (change_of x) d.arena.trees
+  g = applied (change_of x) d.tree.arena.trees
 
   abbrev after : LivePoints
-  after = points_after e (pruned (out_of d) d.arena.trees) d.points
+  after = points_after e (pruned (out_of d) d.tree.arena.trees) d.tree.points
 
-  down : GoesDown (out_of d) (change_of x) d.arena.trees
-  down = goes (live d) d.counts d.command d.history law (open_of d v is now_open) ok x fits detached
+  down : GoesDown (out_of d) (change_of x) d.tree.arena.trees
+  down = goes d.tree d.command d.history law (open_of d v is now_open) ok x fits detached
 
   pruned_is : pruned (out_of d) g ≡ trees_after e (pruned (out_of d) f)
   pruned_is = down.same ∙ trees
@@ -66,14 +66,14 @@ module _ (d : Inside) (v : Whole) (is : seen d ≡ v) (law : IsArena d.arena) (n
   placed_seen : IsPlaced (pruned (out_of d) g) after
   placed_seen = subst (λ t. IsPlaced t after) (sym pruned_is) (made_placed e (freed (seen_of d).state) (valid_freed (seen_of d).state ok.valid) may_seen)
 
-  forest_next : IsForest g d.arena.next
-  forest_next = model_forest g (IsForest-applied (change_of x) f fits.fits) d.arena.next (λ l h. law.below l (let same = count_of-applied (change_of x) f fits.fits l in omega (arith, h, same)))
+  forest_next : IsForest g d.tree.arena.next
+  forest_next = model_forest g (IsForest-applied (change_of x) f fits.fits) d.tree.arena.next (λ l h. law.below l (let same = count_of-applied (change_of x) f fits.fits l in omega (arith, h, same)))
 
   pub points_next : IsPlaced g after
-  points_next = placed-whole g d.arena.next forest_next (out_of d) refl after placed_seen
+  points_next = placed-whole g d.tree.arena.next forest_next (out_of d) refl after placed_seen
 
   abbrev pub overrides_next : List Setting
-  overrides_next = settled d.arena.trees d.points (applied (change_of x) d.arena.trees) (points_after e (pruned (out_of d) d.arena.trees) d.points) d.overrides
+  overrides_next = settled d.tree.arena.trees d.tree.points (applied (change_of x) d.tree.arena.trees) (points_after e (pruned (out_of d) d.tree.arena.trees) d.tree.points) d.tree.overrides
 
   pub overrides_are : overrides_next ≡ overrides_after (seen_of d).state (trees_after e (pruned (out_of d) f)) after
   overrides_are =
@@ -81,11 +81,11 @@ module _ (d : Inside) (v : Whole) (is : seen d ≡ v) (law : IsArena d.arena) (n
       ∙ ap (λ t. overrides_after (seen_of d).state t after) pruned_is
 
   -- what settling writes
-  pub settled_items : (new : List Setting) (n : LivePoints) (a : Arena) (w : Option Watch) → n ≡ after → a ≡ step_applied x d.arena →
-      Watches d.arena.trees d.points d.overrides w → ((h : Forest Content) (b : LivePoints) → Watches h b d.overrides w → new ≡ settled h b a.trees n d.overrides) → new ≡ overrides_next
+  pub settled_items : (new : List Setting) (n : LivePoints) (a : Arena) (w : Option Watch) → n ≡ after → a ≡ step_applied x d.tree.arena →
+      Watches d.tree.arena.trees d.tree.points d.tree.overrides w → ((h : Forest Content) (b : LivePoints) → Watches h b d.tree.overrides w → new ≡ settled h b a.trees n d.tree.overrides) → new ≡ overrides_next
   unfolding step_applied
-  settled_items new n a w en ea watches settles = settles f d.points watches ∙ (λ i. settled f d.points (ea i).trees (en i) d.overrides)
+  settled_items new n a w en ea watches settles = settles f d.tree.points watches ∙ (λ i. settled f d.tree.points (ea i).trees (en i) d.tree.overrides)
 
-  pub placed_called : (n : LivePoints) (a : Arena) → n ≡ after → a ≡ step_applied x d.arena → IsPlaced a.trees n
+  pub placed_called : (n : LivePoints) (a : Arena) → n ≡ after → a ≡ step_applied x d.tree.arena → IsPlaced a.trees n
   unfolding step_applied
   placed_called n a en ea = subst (λ (b : Arena). IsPlaced b.trees n) (sym ea) (subst (IsPlaced g) (sym en) points_next)

@@ -38,7 +38,7 @@ module _ (a : Arena) (law : IsArena a) (loose : HasNoLoose a) (depth : ℕ) (cou
   abbrev flags : Flags
   flags = record { css_styling = false; paragraphs = false }
 
-  fresh : AtRest (live_of a no_points no_overrides flags) counts c (first_trail depth)
+  fresh : AtRest (live_of a no_points no_overrides flags counts) c (first_trail depth)
   fresh = record {
     law = law;
     closed = refl;
@@ -68,12 +68,12 @@ module _ (a : Arena) (law : IsArena a) (loose : HasNoLoose a) (depth : ℕ) (cou
       alone zero h t = absurd (omega (arith, h))
       alone (suc n) h t = absurd (let e : eqb 0 (suc n) ≡ false = grind (arith, nat_tests) in let t' = rw e at t in omega (arith, t'))
 
-  pub new_ok : IsSoundDoc (live_of a no_points no_overrides flags) counts c (first_trail depth)
-  new_ok = rest_sound (live_of a no_points no_overrides flags) counts c (first_trail depth) fresh none_needed
+  pub new_ok : IsSoundDoc (live_of a no_points no_overrides flags counts) c (first_trail depth)
+  new_ok = rest_sound (live_of a no_points no_overrides flags counts) c (first_trail depth) fresh none_needed
 
-  pub new_is : whole_of (live_of a no_points no_overrides flags) c (first_trail depth) ≡ first_doc a depth
+  pub new_is : whole_of (live_of a no_points no_overrides flags counts) c (first_trail depth) ≡ first_doc a depth
   unfolding first_doc first_state
-  new_is = rest_whole (live_of a no_points no_overrides flags) counts c (first_trail depth) fresh
+  new_is = rest_whole (live_of a no_points no_overrides flags counts) c (first_trail depth) fresh
       ∙ (λ i. record {
         state = record {
           trees = alone_is a.trees a.next (arena_forest a law) loose i;

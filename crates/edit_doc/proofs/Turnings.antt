@@ -35,7 +35,7 @@ use Rattle.edit_doc.specs.History.Way.{Back, Forth}
 use Rattle.edit_doc.specs.Sound.{IsOff, EntriesOff, AreNeeded, IsSide, IsSnapshot, UndoSound, RedoSound, next_first, IsSoundDoc, CanGo, turned}
 use Rattle.edit_doc.specs.Live.{live_of}
 use Rattle.edit_doc.proofs.HiddenTrees.{hidden_is, top_loose}
-use Rattle.edit_doc.proofs.Inner.{live, seen, Ok}
+use Rattle.edit_doc.proofs.Inner.{seen, Ok}
 use Rattle.edit_doc.proofs.Laid.{undo_count, redo_count}
 use Rattle.edit_doc.proofs.Off.{Passes, passes_back, passes_forth, off_moved, entries_moved, each_here}
 use Rattle.edit_doc.proofs.Rests.{AtRest, rest_of, rest_sound, rest_whole, none_noted, rested_state}
@@ -157,56 +157,56 @@ none_long (x ∷ xs) e = absurd (omega (arith, e))
 
 -- ---- for the value that a contract sees
 
-module _ (d : Inside) (v : Whole) (sees : seen d ≡ v) (law : IsArena d.arena) (slotted : IsSlotted d.arena) (beside : IsTrail d.history) (closed : d.history.log.open_entry ≡ Closed) (ok : Ok d) where
-  at_rest : AtRest (live d) d.counts d.command d.history
-  at_rest = rest_of (live d) d.counts d.command d.history law closed ok
+module _ (d : Inside) (v : Whole) (sees : seen d ≡ v) (law : IsArena d.tree.arena) (slotted : IsSlotted d.tree.arena) (beside : IsTrail d.history) (closed : d.history.log.open_entry ≡ Closed) (ok : Ok d) where
+  at_rest : AtRest d.tree d.command d.history
+  at_rest = rest_of d.tree d.command d.history law closed ok
 
-  undo_fit_of : (high : ℕ) (es : List (List Step)) (bs : List EntrySnapshot) → UndoSound d.arena.held d.points.names false d.command high d.arena.trees es bs → FitsUndo step_applied StepFits es d.arena
+  undo_fit_of : (high : ℕ) (es : List (List Step)) (bs : List EntrySnapshot) → UndoSound d.tree.arena.held d.tree.points.names false d.command high d.tree.arena.trees es bs → FitsUndo step_applied StepFits es d.tree.arena
   undo_fit_of high [] bs h = tt
   undo_fit_of high (e ∷ es) [] h = absurd h
-  undo_fit_of high (e ∷ es) (b ∷ bs) h = back_fits e d.arena slotted h.0.1 h.0.0
+  undo_fit_of high (e ∷ es) (b ∷ bs) h = back_fits e d.tree.arena slotted h.0.1 h.0.0
 
-  pub undo_fits : FitsUndo step_applied StepFits d.history.log.undo d.arena
+  pub undo_fits : FitsUndo step_applied StepFits d.history.log.undo d.tree.arena
   undo_fits = undo_fit_of (next_first d.command.start d.history.future) d.history.log.undo d.history.past at_rest.undo
 
-  redo_fit_of : (es : List (List Step)) (bs : List EntrySnapshot) → RedoSound d.arena.held d.points.names d.command d.arena.trees es bs → FitsRedo step_applied StepFits es d.arena
+  redo_fit_of : (es : List (List Step)) (bs : List EntrySnapshot) → RedoSound d.tree.arena.held d.tree.points.names d.command d.tree.arena.trees es bs → FitsRedo step_applied StepFits es d.tree.arena
   redo_fit_of [] bs h = tt
   redo_fit_of (e ∷ es) [] h = absurd h
-  redo_fit_of (e ∷ es) (b ∷ bs) h = forth_fits e d.arena slotted h.0.1 h.0.0
+  redo_fit_of (e ∷ es) (b ∷ bs) h = forth_fits e d.tree.arena slotted h.0.1 h.0.0
 
-  pub redo_fits : FitsRedo step_applied StepFits d.history.log.redo d.arena
+  pub redo_fits : FitsRedo step_applied StepFits d.history.log.redo d.tree.arena
   redo_fits = redo_fit_of d.history.log.redo d.history.future at_rest.redo
 
-  needed_now : AreNeeded d.command.start d.arena.trees d.history.log.undo d.history.log.redo
-  needed_now = subst (λ g. AreNeeded d.command.start g d.history.log.undo d.history.log.redo) (none_noted d.history.log d.arena.trees (ap noted closed)) ok.needed
+  needed_now : AreNeeded d.command.start d.tree.arena.trees d.history.log.undo d.history.log.redo
+  needed_now = subst (λ g. AreNeeded d.command.start g d.history.log.undo d.history.log.redo) (none_noted d.history.log d.tree.arena.trees (ap noted closed)) ok.needed
 
   pub record Turned (a : Arena) (points : LivePoints) (counts : Counts) (trail : Trail) (new : Whole) : Type 0 where
-    pub invariant : IsSoundDoc (live_of a points no_overrides d.flags) counts d.command trail
-    pub value : whole_of (live_of a points no_overrides d.flags) d.command trail ≡ new
+    pub invariant : IsSoundDoc (live_of a points no_overrides d.tree.flags counts) d.command trail
+    pub value : whole_of (live_of a points no_overrides d.tree.flags counts) d.command trail ≡ new
 
   -- the value, where the history is this one
   abbrev resting_with : Trail → Whole
   resting_with trail = record {
-    state = rested_state (live d);
-    history = history_of d.points.names d.arena.trees trail;
+    state = rested_state d.tree;
+    history = history_of d.tree.points.names d.tree.arena.trees trail;
     began = None;
-    held = d.arena.held;
+    held = d.tree.arena.held;
   }
 
   resting_is : seen d ≡ resting_with d.history
-  resting_is = rest_whole (live d) d.counts d.command d.history at_rest
+  resting_is = rest_whole d.tree d.command d.history at_rest
 
   -- ---- the document at a side of an entry
 
-  module _ (g : Forest Content) (law' : IsArena (record d.arena { trees = g })) (p : Places) (nodes chars depth : ℕ) (side : IsSide d.points.names g p nodes chars depth)
+  module _ (g : Forest Content) (law' : IsArena (record d.tree.arena { trees = g })) (p : Places) (nodes chars depth : ℕ) (side : IsSide d.tree.points.names g p nodes chars depth)
       (counts : Counts) (nodes_are : counts.nodes ≡ nodes) (chars_are : counts.chars ≡ chars) (depth_is : counts.depth ≡ depth)
       (trail : Trail) (closed' : trail.log.open_entry ≡ Closed)
-      (undo : UndoSound d.arena.held d.points.names false d.command (next_first d.command.start trail.future) g trail.log.undo trail.past)
-      (redo : RedoSound d.arena.held d.points.names d.command g trail.log.redo trail.future) where
+      (undo : UndoSound d.tree.arena.held d.tree.points.names false d.command (next_first d.command.start trail.future) g trail.log.undo trail.past)
+      (redo : RedoSound d.tree.arena.held d.tree.points.names d.command g trail.log.redo trail.future) where
     abbrev there : Arena
-    there = record d.arena { trees = g }
+    there = record d.tree.arena { trees = g }
 
-    rests_there : AtRest (live_of there (shown d.points.names p) no_overrides d.flags) counts d.command trail
+    rests_there : AtRest (live_of there (shown d.tree.points.names p) no_overrides d.tree.flags counts) d.command trail
     rests_there = record {
       law = law';
       closed = closed';
@@ -232,21 +232,21 @@ module _ (d : Inside) (v : Whole) (sees : seen d ≡ v) (law : IsArena d.arena) 
     -- as undo and redo say it
     abbrev standing : History → Whole
     standing h = record {
-      state = record (rested_state (live_of there (shown d.points.names p) no_overrides d.flags)) { points = record (shown d.points.names p) { scratch = None } };
+      state = record (rested_state (live_of there (shown d.tree.points.names p) no_overrides d.tree.flags counts)) { points = record (shown d.tree.points.names p) { scratch = None } };
       history = h;
       began = None;
-      held = d.arena.held;
+      held = d.tree.arena.held;
     }
 
-    stands : AreNeeded d.command.start g trail.log.undo trail.log.redo → (h : History) → history_of d.points.names g trail ≡ h → Turned there (shown d.points.names p) counts trail (standing h)
+    stands : AreNeeded d.command.start g trail.log.undo trail.log.redo → (h : History) → history_of d.tree.points.names g trail ≡ h → Turned there (shown d.tree.points.names p) counts trail (standing h)
     stands needed h is = record {
-      invariant = rest_sound (live_of there (shown d.points.names p) no_overrides d.flags) counts d.command trail rests_there needed;
-      value = rest_whole (live_of there (shown d.points.names p) no_overrides d.flags) counts d.command trail rests_there
+      invariant = rest_sound (live_of there (shown d.tree.points.names p) no_overrides d.tree.flags counts) d.command trail rests_there needed;
+      value = rest_whole (live_of there (shown d.tree.points.names p) no_overrides d.tree.flags counts) d.command trail rests_there
           ∙ (λ i. record {
-            state = record (rested_state (live_of there (shown d.points.names p) no_overrides d.flags)) { points = record (shown d.points.names p) { scratch = side.resting i } };
+            state = record (rested_state (live_of there (shown d.tree.points.names p) no_overrides d.tree.flags counts)) { points = record (shown d.tree.points.names p) { scratch = side.resting i } };
             history = is i;
             began = None;
-            held = d.arena.held;
+            held = d.tree.arena.held;
           });
     }
 
@@ -256,21 +256,21 @@ module _ (d : Inside) (v : Whole) (sees : seen d ≡ v) (law : IsArena d.arena) 
   undo_whole w = record w { state = undone_doc w.history w.state; history = undone_history w.history }
 
   undo_go : (e : List Step) (es : List (List Step)) (b : EntrySnapshot) (bs : List EntrySnapshot) → d.history.log.undo ≡ e ∷ es → d.history.past ≡ b ∷ bs →
-      IsArena (record d.arena { trees = forest_before e d.arena.trees }) → (counts : Counts) → counts.nodes ≡ b.sides.nodes_before → counts.chars ≡ b.sides.chars_before → counts.depth ≡ b.sides.depth_before →
-      Turned (record d.arena { trees = forest_before e d.arena.trees }) (shown d.points.names b.sides.before) counts
-      (trail_of (record d.history.log { undo = es; redo = inverses_back step_applied step_inverse e d.arena ∷ d.history.log.redo }) bs (b ∷ d.history.future))
+      IsArena (record d.tree.arena { trees = forest_before e d.tree.arena.trees }) → (counts : Counts) → counts.nodes ≡ b.sides.nodes_before → counts.chars ≡ b.sides.chars_before → counts.depth ≡ b.sides.depth_before →
+      Turned (record d.tree.arena { trees = forest_before e d.tree.arena.trees }) (shown d.tree.points.names b.sides.before) counts
+      (trail_of (record d.history.log { undo = es; redo = inverses_back step_applied step_inverse e d.tree.arena ∷ d.history.log.redo }) bs (b ∷ d.history.future))
       (undo_whole (seen d))
   unfolding undone_doc undone_history at_view
   undo_go e es b bs eu su law' counts nodes chars depth =
-      let f = d.arena.trees in
+      let f = d.tree.arena.trees in
       let g = forest_before e f in
       let high = next_first d.command.start d.history.future in
-      let h : UndoSound d.arena.held d.points.names false d.command high f (e ∷ es) (b ∷ bs) =
-      subst (λ xs. UndoSound d.arena.held d.points.names false d.command high f xs (b ∷ bs)) eu (subst (λ xs. UndoSound d.arena.held d.points.names false d.command high f d.history.log.undo xs) su at_rest.undo) in
-      let t = inverses_back step_applied step_inverse e d.arena in
-      let taking = taken d.arena (forest_of d.arena law) slotted d.points.names e b b.detached.items high d.command.start Back h.0 h.1.0 in
+      let h : UndoSound d.tree.arena.held d.tree.points.names false d.command high f (e ∷ es) (b ∷ bs) =
+      subst (λ xs. UndoSound d.tree.arena.held d.tree.points.names false d.command high f xs (b ∷ bs)) eu (subst (λ xs. UndoSound d.tree.arena.held d.tree.points.names false d.command high f d.history.log.undo xs) su at_rest.undo) in
+      let t = inverses_back step_applied step_inverse e d.tree.arena in
+      let taking = taken d.tree.arena (forest_of d.tree.arena law) slotted d.tree.points.names e b b.detached.items high d.command.start Back h.0 h.1.0 in
       let tb = taking.0 in
-      let a' : Arena = record d.arena { trees = g } in
+      let a' : Arena = record d.tree.arena { trees = g } in
       let trail' : Trail = trail_of (record d.history.log { undo = es; redo = t ∷ d.history.log.redo }) bs (b ∷ d.history.future) in
       let needed : AreNeeded d.command.start g es (t ∷ d.history.log.redo) = λ l inner old top off_undo off_redo. (
       let ch = changes_of t in
@@ -281,20 +281,20 @@ module _ (d : Inside) (v : Whole) (sees : seen d ≡ v) (law : IsArena d.arena) 
       needed_now l inner old top' (subst (EntriesOff l f) (sym eu) (own, entries_moved l g f same es off_undo)) (entries_moved l g f same d.history.log.redo off_redo.1)) in
       let w : Whole = resting_with (trail_of (record d.history.log { undo = e ∷ es }) (b ∷ bs) d.history.future) in
       let was : resting_with d.history ≡ w = (λ i. resting_with (trail_of (record d.history.log { undo = eu i }) (su i) d.history.future)) in
-      let history : history_of d.points.names g trail' ≡ undone_history w.history = λ i. record {
-        undo = undo_entries d.points.names g es bs;
+      let history : history_of d.tree.points.names g trail' ≡ undone_history w.history = λ i. record {
+        undo = undo_entries d.tree.points.names g es bs;
         redo = record {
-          before = view_at d.points.names g b.sides.before;
-          after = view_at d.points.names (tb.again i) b.sides.after;
+          before = view_at d.tree.points.names g b.sides.before;
+          after = view_at d.tree.points.names (tb.again i) b.sides.after;
           edits = tb.own i;
           made = used (tb.own i) (roots_from b.sides.first_label g);
-        } ∷ redo_entries d.points.names (tb.again i) d.history.log.redo d.history.future;
+        } ∷ redo_entries d.tree.points.names (tb.again i) d.history.log.redo d.history.future;
         depth = d.history.log.depth;
         dropped = d.history.log.dropped;
       } in
-      subst (Turned a' (shown d.points.names b.sides.before) counts trail') (ap undo_whole (sym (resting_is ∙ was)))
+      subst (Turned a' (shown d.tree.points.names b.sides.before) counts trail') (ap undo_whole (sym (resting_is ∙ was)))
       (stands g law' b.sides.before b.sides.nodes_before b.sides.chars_before b.sides.depth_before h.1.0.was counts nodes chars depth trail' closed h.1.1
-      (tb.can, (taking.1, subst (λ x. RedoSound d.arena.held d.points.names d.command x d.history.log.redo d.history.future) (sym tb.again) at_rest.redo)) needed
+      (tb.can, (taking.1, subst (λ x. RedoSound d.tree.arena.held d.tree.points.names d.command x d.history.log.redo d.history.future) (sym tb.again) at_rest.redo)) needed
       (undone_history w.history) history)
 
   -- ---- redo
@@ -303,23 +303,23 @@ module _ (d : Inside) (v : Whole) (sees : seen d ≡ v) (law : IsArena d.arena) 
   redo_whole w = record w { state = redone_doc w.history w.state; history = redone_history w.history }
 
   redo_go : (e : List Step) (es : List (List Step)) (b : EntrySnapshot) (bs : List EntrySnapshot) → d.history.log.redo ≡ e ∷ es → d.history.future ≡ b ∷ bs →
-      IsArena (record d.arena { trees = forest_after e d.arena.trees }) → (counts : Counts) → counts.nodes ≡ b.sides.nodes_after → counts.chars ≡ b.sides.chars_after → counts.depth ≡ b.sides.depth_after →
-      Turned (record d.arena { trees = forest_after e d.arena.trees }) (shown d.points.names b.sides.after) counts
-      (trail_of (record d.history.log { undo = inverses_forth step_applied step_inverse e d.arena ∷ d.history.log.undo; redo = es }) (b ∷ d.history.past) bs)
+      IsArena (record d.tree.arena { trees = forest_after e d.tree.arena.trees }) → (counts : Counts) → counts.nodes ≡ b.sides.nodes_after → counts.chars ≡ b.sides.chars_after → counts.depth ≡ b.sides.depth_after →
+      Turned (record d.tree.arena { trees = forest_after e d.tree.arena.trees }) (shown d.tree.points.names b.sides.after) counts
+      (trail_of (record d.history.log { undo = inverses_forth step_applied step_inverse e d.tree.arena ∷ d.history.log.undo; redo = es }) (b ∷ d.history.past) bs)
       (redo_whole (seen d))
   unfolding redone_doc redone_history at_view
   redo_go e es b bs eu su law' counts nodes chars depth =
-      let f = d.arena.trees in
+      let f = d.tree.arena.trees in
       let g = forest_after e f in
       let high = next_first d.command.start bs in
-      let h : RedoSound d.arena.held d.points.names d.command f (e ∷ es) (b ∷ bs) =
-      subst (λ xs. RedoSound d.arena.held d.points.names d.command f xs (b ∷ bs)) eu (subst (λ xs. RedoSound d.arena.held d.points.names d.command f d.history.log.redo xs) su at_rest.redo) in
-      let under : UndoSound d.arena.held d.points.names false d.command b.sides.first_label f d.history.log.undo d.history.past =
-      subst (λ xs. UndoSound d.arena.held d.points.names false d.command (next_first d.command.start xs) f d.history.log.undo d.history.past) su at_rest.undo in
-      let t = inverses_forth step_applied step_inverse e d.arena in
-      let taking = taken d.arena (forest_of d.arena law) slotted d.points.names e b b.detached.items high d.command.start Forth h.0 h.1.0 in
+      let h : RedoSound d.tree.arena.held d.tree.points.names d.command f (e ∷ es) (b ∷ bs) =
+      subst (λ xs. RedoSound d.tree.arena.held d.tree.points.names d.command f xs (b ∷ bs)) eu (subst (λ xs. RedoSound d.tree.arena.held d.tree.points.names d.command f d.history.log.redo xs) su at_rest.redo) in
+      let under : UndoSound d.tree.arena.held d.tree.points.names false d.command b.sides.first_label f d.history.log.undo d.history.past =
+      subst (λ xs. UndoSound d.tree.arena.held d.tree.points.names false d.command (next_first d.command.start xs) f d.history.log.undo d.history.past) su at_rest.undo in
+      let t = inverses_forth step_applied step_inverse e d.tree.arena in
+      let taking = taken d.tree.arena (forest_of d.tree.arena law) slotted d.tree.points.names e b b.detached.items high d.command.start Forth h.0 h.1.0 in
       let tb = taking.0 in
-      let a' : Arena = record d.arena { trees = g } in
+      let a' : Arena = record d.tree.arena { trees = g } in
       let trail' : Trail = trail_of (record d.history.log { undo = t ∷ d.history.log.undo; redo = es }) (b ∷ d.history.past) bs in
       let needed : AreNeeded d.command.start g (t ∷ d.history.log.undo) es = λ l inner old top off_undo off_redo. (
       let ch = changes_of t in
@@ -330,20 +330,20 @@ module _ (d : Inside) (v : Whole) (sees : seen d ≡ v) (law : IsArena d.arena) 
       needed_now l inner old top' (entries_moved l g f same d.history.log.undo off_undo.1) (subst (EntriesOff l f) (sym eu) (own, entries_moved l g f same es off_redo))) in
       let w : Whole = resting_with (trail_of (record d.history.log { redo = e ∷ es }) d.history.past (b ∷ bs)) in
       let was : resting_with d.history ≡ w = (λ i. resting_with (trail_of (record d.history.log { redo = eu i }) d.history.past (su i))) in
-      let history : history_of d.points.names g trail' ≡ redone_history w.history = λ i. record {
+      let history : history_of d.tree.points.names g trail' ≡ redone_history w.history = λ i. record {
         undo = record {
-          before = view_at d.points.names (tb.again i) b.sides.before;
-          after = view_at d.points.names g b.sides.after;
+          before = view_at d.tree.points.names (tb.again i) b.sides.before;
+          after = view_at d.tree.points.names g b.sides.after;
           edits = tb.steps i;
           made = used (tb.steps i) (roots_from b.sides.first_label (tb.again i));
-        } ∷ undo_entries d.points.names (tb.again i) d.history.log.undo d.history.past;
-        redo = redo_entries d.points.names g es bs;
+        } ∷ undo_entries d.tree.points.names (tb.again i) d.history.log.undo d.history.past;
+        redo = redo_entries d.tree.points.names g es bs;
         depth = d.history.log.depth;
         dropped = d.history.log.dropped;
       } in
-      subst (Turned a' (shown d.points.names b.sides.after) counts trail') (ap redo_whole (sym (resting_is ∙ was)))
+      subst (Turned a' (shown d.tree.points.names b.sides.after) counts trail') (ap redo_whole (sym (resting_is ∙ was)))
       (stands g law' b.sides.after b.sides.nodes_after b.sides.chars_after b.sides.depth_after h.1.0.is counts nodes chars depth trail' closed
-      (tb.can, (taking.1, subst (λ x. UndoSound d.arena.held d.points.names false d.command b.sides.first_label x d.history.log.undo d.history.past) (sym tb.again) under)) h.1.1 needed
+      (tb.can, (taking.1, subst (λ x. UndoSound d.tree.arena.held d.tree.points.names false d.command b.sides.first_label x d.history.log.undo d.history.past) (sym tb.again) under)) h.1.1 needed
       (redone_history w.history) history)
 
   -- ---- what the calls give
@@ -353,7 +353,7 @@ module _ (d : Inside) (v : Whole) (sees : seen d ≡ v) (law : IsArena d.arena) 
   some_entries s (b ∷ bs) e = omega arith
 
   pub undo_done : (a : Arena) (points : LivePoints) (counts : Counts) (trail : Trail) (s : Sides) → Some s ≡ first_sides d.history.past → IsArena a →
-      a ≡ undone_state step_applied d.history.log.undo d.arena → trail ≡ trail_undone d.history d.arena → points ≡ shown d.points.names s.before →
+      a ≡ undone_state step_applied d.history.log.undo d.tree.arena → trail ≡ trail_undone d.history d.tree.arena → points ≡ shown d.tree.points.names s.before →
       counts.nodes ≡ s.nodes_before → counts.chars ≡ s.chars_before → counts.depth ≡ s.depth_before →
       Turned a points counts trail (undo_whole v)
   undo_done a points counts trail s first law' ea et ep nodes chars depth =
@@ -361,16 +361,16 @@ module _ (d : Inside) (v : Whole) (sees : seen d ≡ v) (law : IsArena d.arena) 
       let u = uncons d.history.log.undo (let n = beside.past in omega (arith, more, n)) in
       let w = uncons d.history.past more in
       let same : s ≡ w.0.sides = some_eq s w.0.sides (first ∙ ap first_sides w.2) in
-      let fits : FitsUndo step_applied StepFits (u.0 ∷ u.1) d.arena = subst (λ xs. FitsUndo step_applied StepFits xs d.arena) u.2 undo_fits in
-      let ea' : a ≡ record d.arena { trees = forest_before u.0 d.arena.trees } = ea ∙ (ap (λ xs. undone_state step_applied xs d.arena) u.2 ∙ (go_back u.0 d.arena fits).state) in
-      let et' : trail ≡ trail_of (record d.history.log { undo = u.1; redo = inverses_back step_applied step_inverse u.0 d.arena ∷ d.history.log.redo }) w.1 (w.0 ∷ d.history.future) =
-      et ∙ (λ i. trail_of (undone_with step_applied step_inverse d.history.log (u.2 i) d.arena) (drop 1 (w.2 i)) (take 1 (w.2 i) ++ d.history.future)) in
-      let ep' : points ≡ shown d.points.names w.0.sides.before = ep ∙ ap (λ (o : Sides). shown d.points.names o.before) same in
+      let fits : FitsUndo step_applied StepFits (u.0 ∷ u.1) d.tree.arena = subst (λ xs. FitsUndo step_applied StepFits xs d.tree.arena) u.2 undo_fits in
+      let ea' : a ≡ record d.tree.arena { trees = forest_before u.0 d.tree.arena.trees } = ea ∙ (ap (λ xs. undone_state step_applied xs d.tree.arena) u.2 ∙ (go_back u.0 d.tree.arena fits).state) in
+      let et' : trail ≡ trail_of (record d.history.log { undo = u.1; redo = inverses_back step_applied step_inverse u.0 d.tree.arena ∷ d.history.log.redo }) w.1 (w.0 ∷ d.history.future) =
+      et ∙ (λ i. trail_of (undone_with step_applied step_inverse d.history.log (u.2 i) d.tree.arena) (drop 1 (w.2 i)) (take 1 (w.2 i) ++ d.history.future)) in
+      let ep' : points ≡ shown d.tree.points.names w.0.sides.before = ep ∙ ap (λ (o : Sides). shown d.tree.points.names o.before) same in
       let r = undo_go u.0 u.1 w.0 w.1 u.2 w.2 (subst IsArena ea' law') counts (nodes ∙ ap (λ (o : Sides). o.nodes_before) same) (chars ∙ ap (λ (o : Sides). o.chars_before) same) (depth ∙ ap (λ (o : Sides). o.depth_before) same) in
       subst (λ (x : Whole). Turned a points counts trail (undo_whole x)) sees (rw (ea', et', ep') r)
 
   pub redo_done : (a : Arena) (points : LivePoints) (counts : Counts) (trail : Trail) (s : Sides) → Some s ≡ first_sides d.history.future → IsArena a →
-      a ≡ redone_state step_applied d.history.log.redo d.arena → trail ≡ trail_redone d.history d.arena → points ≡ shown d.points.names s.after →
+      a ≡ redone_state step_applied d.history.log.redo d.tree.arena → trail ≡ trail_redone d.history d.tree.arena → points ≡ shown d.tree.points.names s.after →
       counts.nodes ≡ s.nodes_after → counts.chars ≡ s.chars_after → counts.depth ≡ s.depth_after →
       Turned a points counts trail (redo_whole v)
   redo_done a points counts trail s first law' ea et ep nodes chars depth =
@@ -378,11 +378,11 @@ module _ (d : Inside) (v : Whole) (sees : seen d ≡ v) (law : IsArena d.arena) 
       let u = uncons d.history.log.redo (let n = beside.future in omega (arith, more, n)) in
       let w = uncons d.history.future more in
       let same : s ≡ w.0.sides = some_eq s w.0.sides (first ∙ ap first_sides w.2) in
-      let fits : FitsRedo step_applied StepFits (u.0 ∷ u.1) d.arena = subst (λ xs. FitsRedo step_applied StepFits xs d.arena) u.2 redo_fits in
-      let ea' : a ≡ record d.arena { trees = forest_after u.0 d.arena.trees } = ea ∙ (ap (λ xs. redone_state step_applied xs d.arena) u.2 ∙ (go_forth u.0 d.arena fits).state) in
-      let et' : trail ≡ trail_of (record d.history.log { undo = inverses_forth step_applied step_inverse u.0 d.arena ∷ d.history.log.undo; redo = u.1 }) (w.0 ∷ d.history.past) w.1 =
-      et ∙ (λ i. trail_of (redone_with step_applied step_inverse d.history.log (u.2 i) d.arena) (take 1 (w.2 i) ++ d.history.past) (drop 1 (w.2 i))) in
-      let ep' : points ≡ shown d.points.names w.0.sides.after = ep ∙ ap (λ (o : Sides). shown d.points.names o.after) same in
+      let fits : FitsRedo step_applied StepFits (u.0 ∷ u.1) d.tree.arena = subst (λ xs. FitsRedo step_applied StepFits xs d.tree.arena) u.2 redo_fits in
+      let ea' : a ≡ record d.tree.arena { trees = forest_after u.0 d.tree.arena.trees } = ea ∙ (ap (λ xs. redone_state step_applied xs d.tree.arena) u.2 ∙ (go_forth u.0 d.tree.arena fits).state) in
+      let et' : trail ≡ trail_of (record d.history.log { undo = inverses_forth step_applied step_inverse u.0 d.tree.arena ∷ d.history.log.undo; redo = u.1 }) (w.0 ∷ d.history.past) w.1 =
+      et ∙ (λ i. trail_of (redone_with step_applied step_inverse d.history.log (u.2 i) d.tree.arena) (take 1 (w.2 i) ++ d.history.past) (drop 1 (w.2 i))) in
+      let ep' : points ≡ shown d.tree.points.names w.0.sides.after = ep ∙ ap (λ (o : Sides). shown d.tree.points.names o.after) same in
       let r = redo_go u.0 u.1 w.0 w.1 u.2 w.2 (subst IsArena ea' law') counts (nodes ∙ ap (λ (o : Sides). o.nodes_after) same) (chars ∙ ap (λ (o : Sides). o.chars_after) same) (depth ∙ ap (λ (o : Sides). o.depth_after) same) in
       subst (λ (x : Whole). Turned a points counts trail (redo_whole x)) sees (rw (ea', et', ep') r)
 
@@ -395,22 +395,22 @@ module _ (d : Inside) (v : Whole) (sees : seen d ≡ v) (law : IsArena d.arena) 
   unfolding redone_doc redone_history
   redo_same w e = λ i. record w { state = redone_state_by (sym e i) w.state; history = redone_history_by (sym e i) w.history }
 
-  pub undo_none : (a : Arena) (trail : Trail) → None ≡ first_sides d.history.past → a ≡ undone_state step_applied d.history.log.undo d.arena → trail ≡ trail_undone d.history d.arena →
-      whole_of (record (live d) { arena = a }) d.command trail ≡ undo_whole v
+  pub undo_none : (a : Arena) (trail : Trail) → None ≡ first_sides d.history.past → a ≡ undone_state step_applied d.history.log.undo d.tree.arena → trail ≡ trail_undone d.history d.tree.arena →
+      whole_of (record d.tree { arena = a }) d.command trail ≡ undo_whole v
   undo_none a trail none ea et =
       let past = no_first d.history.past none in
       let nil = none_long d.history.log.undo (sym beside.past ∙ ap length past) in
-      let ea' : a ≡ d.arena = ea ∙ ap (λ xs. undone_state step_applied xs d.arena) nil in
+      let ea' : a ≡ d.tree.arena = ea ∙ ap (λ xs. undone_state step_applied xs d.tree.arena) nil in
       let et' : trail ≡ d.history =
-      et ∙ ((λ i. trail_of (undone_with step_applied step_inverse d.history.log (nil i) d.arena) (drop 1 (past i)) (take 1 (past i) ++ d.history.future)) ∙ (λ i. trail_of d.history.log (sym past i) d.history.future)) in
-      (λ i. whole_of (record (live d) { arena = ea' i }) d.command (et' i)) ∙ (sees ∙ undo_same v (none_long v.history.undo (sym (undo_count d v sees ok) ∙ ap length nil)))
+      et ∙ ((λ i. trail_of (undone_with step_applied step_inverse d.history.log (nil i) d.tree.arena) (drop 1 (past i)) (take 1 (past i) ++ d.history.future)) ∙ (λ i. trail_of d.history.log (sym past i) d.history.future)) in
+      (λ i. whole_of (record d.tree { arena = ea' i }) d.command (et' i)) ∙ (sees ∙ undo_same v (none_long v.history.undo (sym (undo_count d v sees ok) ∙ ap length nil)))
 
-  pub redo_none : (a : Arena) (trail : Trail) → None ≡ first_sides d.history.future → a ≡ redone_state step_applied d.history.log.redo d.arena → trail ≡ trail_redone d.history d.arena →
-      whole_of (record (live d) { arena = a }) d.command trail ≡ redo_whole v
+  pub redo_none : (a : Arena) (trail : Trail) → None ≡ first_sides d.history.future → a ≡ redone_state step_applied d.history.log.redo d.tree.arena → trail ≡ trail_redone d.history d.tree.arena →
+      whole_of (record d.tree { arena = a }) d.command trail ≡ redo_whole v
   redo_none a trail none ea et =
       let future = no_first d.history.future none in
       let nil = none_long d.history.log.redo (sym beside.future ∙ ap length future) in
-      let ea' : a ≡ d.arena = ea ∙ ap (λ xs. redone_state step_applied xs d.arena) nil in
+      let ea' : a ≡ d.tree.arena = ea ∙ ap (λ xs. redone_state step_applied xs d.tree.arena) nil in
       let et' : trail ≡ d.history =
-      et ∙ ((λ i. trail_of (redone_with step_applied step_inverse d.history.log (nil i) d.arena) (take 1 (future i) ++ d.history.past) (drop 1 (future i))) ∙ (λ i. trail_of d.history.log d.history.past (sym future i))) in
-      (λ i. whole_of (record (live d) { arena = ea' i }) d.command (et' i)) ∙ (sees ∙ redo_same v (none_long v.history.redo (sym (redo_count d v sees ok) ∙ ap length nil)))
+      et ∙ ((λ i. trail_of (redone_with step_applied step_inverse d.history.log (nil i) d.tree.arena) (take 1 (future i) ++ d.history.past) (drop 1 (future i))) ∙ (λ i. trail_of d.history.log d.history.past (sym future i))) in
+      (λ i. whole_of (record d.tree { arena = ea' i }) d.command (et' i)) ∙ (sees ∙ redo_same v (none_long v.history.redo (sym (redo_count d v sees ok) ∙ ap length nil)))

@@ -24,13 +24,13 @@ impl Doc {
         ensures begun { IfOk result (λ _. self.new ≡ opened (label_of host) keeping false self.old) }
         ensures err { OnErr result (self.new ≡ self.old) }
     {
-        self.arena.valid();
+        self.tree.arena.valid();
         let kept = Kept::of(
             self.alloc,
-            &self.points,
-            &self.overrides,
-            self.flags,
-            self.counts,
+            &self.tree.points,
+            &self.tree.overrides,
+            self.tree.flags,
+            self.tree.counts,
         )?;
         self.history.begin();
         self.command.kept = kept;
@@ -47,13 +47,13 @@ impl Doc {
         ensures begun { IfOk result (λ b. self.new ≡ (if b then opened (label_of host) false true self.old else self.old)) }
         ensures err { OnErr result (self.new ≡ self.old) }
     {
-        self.arena.valid();
+        self.tree.arena.valid();
         let kept = Kept::of(
             self.alloc,
-            &self.points,
-            &self.overrides,
-            self.flags,
-            self.counts,
+            &self.tree.points,
+            &self.tree.overrides,
+            self.tree.flags,
+            self.tree.counts,
         )?;
         if !self.history.resume() {
             return Ok(false);
@@ -76,29 +76,29 @@ impl Doc {
         ensures keeps { KeepsThere self.old self.new }
     {
         self.history.valid();
-        self.arena.valid();
-        let places = resting_places(&self.points);
-        self.points.set_places(&places);
+        self.tree.arena.valid();
+        let places = resting_places(&self.tree.points);
+        self.tree.points.set_places(&places);
         let low = self.history.first_undone(self.command.start);
         match self.history.commit(
             self.alloc,
-            &self.arena,
+            &self.tree.arena,
             &mut self.command,
             places,
-            self.counts,
+            self.tree.counts,
         ) {
             Closing::Nothing => {
-                self.arena.drop_made(self.command.start);
+                self.tree.arena.drop_made(self.command.start);
                 self.history.forget_detached(&mut self.command);
-                self.arena.valid();
-                self.command.end(self.arena.next_label());
+                self.tree.arena.valid();
+                self.command.end(self.tree.arena.next_label());
                 Committed::Nothing
             }
             Closing::Entry(oldest) => {
-                give_up_unnamed(&mut self.arena, low, &self.command);
-                give_up_detached(&mut self.arena, oldest);
-                self.arena.valid();
-                self.command.end(self.arena.next_label());
+                give_up_unnamed(&mut self.tree.arena, low, &self.command);
+                give_up_detached(&mut self.tree.arena, oldest);
+                self.tree.arena.valid();
+                self.command.end(self.tree.arena.next_label());
                 Committed::Entry
             }
         }
@@ -113,19 +113,19 @@ impl Doc {
         ensures keeps { KeepsThere self.old self.new }
     {
         self.history.valid();
-        self.arena.valid();
-        self.arena.slotted();
-        self.history.abandon(&mut self.arena);
-        self.arena.valid();
-        self.arena.drop_made(self.command.start);
-        self.arena.rewind(self.command.start);
-        self.arena.valid();
-        self.points.set_places(&self.command.kept.places);
-        swap(&mut self.overrides, &mut self.command.kept.overrides);
-        self.flags = self.command.kept.flags;
-        self.counts = self.command.kept.counts;
+        self.tree.arena.valid();
+        self.tree.arena.slotted();
+        self.history.abandon(&mut self.tree.arena);
+        self.tree.arena.valid();
+        self.tree.arena.drop_made(self.command.start);
+        self.tree.arena.rewind(self.command.start);
+        self.tree.arena.valid();
+        self.tree.points.set_places(&self.command.kept.places);
+        swap(&mut self.tree.overrides, &mut self.command.kept.overrides);
+        self.tree.flags = self.command.kept.flags;
+        self.tree.counts = self.command.kept.counts;
         self.history.forget_detached(&mut self.command);
-        self.command.end(self.arena.next_label());
+        self.command.end(self.tree.arena.next_label());
     }
 
     /// Takes the entry before the cursor back. False where there is none.
@@ -136,15 +136,15 @@ impl Doc {
         ensures count { steps.new ≡ steps.old + first_edits self.old.history.undo }
     {
         self.history.valid();
-        self.arena.valid();
-        self.arena.slotted();
-        let Some(sides) = self.history.undo(&mut self.arena, steps) else {
+        self.tree.arena.valid();
+        self.tree.arena.slotted();
+        let Some(sides) = self.history.undo(&mut self.tree.arena, steps) else {
             return false;
         };
-        self.arena.valid();
-        self.points.set_places(&sides.before);
-        self.counts = sides.counts_before();
-        self.overrides.unset();
+        self.tree.arena.valid();
+        self.tree.points.set_places(&sides.before);
+        self.tree.counts = sides.counts_before();
+        self.tree.overrides.unset();
         true
     }
 
@@ -156,15 +156,15 @@ impl Doc {
         ensures count { steps.new ≡ steps.old + first_edits self.old.history.redo }
     {
         self.history.valid();
-        self.arena.valid();
-        self.arena.slotted();
-        let Some(sides) = self.history.redo(&mut self.arena, steps) else {
+        self.tree.arena.valid();
+        self.tree.arena.slotted();
+        let Some(sides) = self.history.redo(&mut self.tree.arena, steps) else {
             return false;
         };
-        self.arena.valid();
-        self.points.set_places(&sides.after);
-        self.counts = sides.counts_after();
-        self.overrides.unset();
+        self.tree.arena.valid();
+        self.tree.points.set_places(&sides.after);
+        self.tree.counts = sides.counts_after();
+        self.tree.overrides.unset();
         true
     }
 

@@ -59,21 +59,26 @@ impl Doc {
         ensures keeps { Keeps self.old self.new }
         ensures err { OnErr result (self.new ≡ self.old) }
     {
-        self.arena.valid();
-        self.arena.slotted();
-        let watch = self.overrides.watch(&self.arena, &self.points);
-        let enters = is_in_document(&self.arena, parent);
-        let counts = counts_with(&self.arena, self.counts, node, parent, enters);
+        self.tree.arena.valid();
+        self.tree.arena.slotted();
+        let watch = self
+            .tree
+            .overrides
+            .watch(&self.tree.arena, &self.tree.points);
+        let enters = is_in_document(&self.tree.arena, parent);
+        let counts = counts_with(&self.tree.arena, self.tree.counts, node, parent, enters);
         let link = Step::Link {
             node,
             parent,
             before,
         };
-        make_change(&mut self.arena, &mut self.history, link)?;
-        self.counts = counts;
+        make_change(&mut self.tree.arena, &mut self.history, link)?;
+        self.tree.counts = counts;
         self.command.name_place(node, parent, before);
-        adjust_inserted(&self.arena, &mut self.points, parent, node);
-        self.overrides.settle(&self.arena, &self.points, watch);
+        adjust_inserted(&self.tree.arena, &mut self.tree.points, parent, node);
+        self.tree
+            .overrides
+            .settle(&self.tree.arena, &self.tree.points, watch);
         Ok(())
     }
 
@@ -107,19 +112,28 @@ impl Doc {
         ensures keeps { Keeps self.old self.new }
         ensures err { OnErr result (self.new ≡ self.old) }
     {
-        self.arena.valid();
-        self.arena.slotted();
+        self.tree.arena.valid();
+        self.tree.arena.slotted();
         self.command.detached.reserve(1)?;
-        let watch = self.overrides.watch(&self.arena, &self.points);
-        let removal = removal_of(&self.arena, &self.points, node, parent);
-        let counts = counts_without(&self.arena, self.counts, node, parent);
-        let next = self.arena.next(node);
-        make_change(&mut self.arena, &mut self.history, Step::Unlink { node })?;
-        self.counts = counts;
+        let watch = self
+            .tree
+            .overrides
+            .watch(&self.tree.arena, &self.tree.points);
+        let removal = removal_of(&self.tree.arena, &self.tree.points, node, parent);
+        let counts = counts_without(&self.tree.arena, self.tree.counts, node, parent);
+        let next = self.tree.arena.next(node);
+        make_change(
+            &mut self.tree.arena,
+            &mut self.history,
+            Step::Unlink { node },
+        )?;
+        self.tree.counts = counts;
         let _ = self.command.detached.push(node);
         self.command.name_place(node, parent, next);
-        removal.adjust(&mut self.points);
-        self.overrides.settle(&self.arena, &self.points, watch);
+        removal.adjust(&mut self.tree.points);
+        self.tree
+            .overrides
+            .settle(&self.tree.arena, &self.tree.points, watch);
         Ok(())
     }
 
@@ -139,29 +153,34 @@ impl Doc {
         ensures keeps { Keeps self.old self.new }
         ensures err { OnErr result (self.new ≡ self.old) }
     {
-        self.arena.valid();
-        self.arena.slotted();
-        let Some(from) = self.arena.parent(node) else {
+        self.tree.arena.valid();
+        self.tree.arena.slotted();
+        let Some(from) = self.tree.arena.parent(node) else {
             return Ok(false);
         };
         if !self.may_go(node, from, parent, before) {
             return Ok(false);
         }
-        let watch = self.overrides.watch(&self.arena, &self.points);
-        let place = moving_from(&self.arena, &self.points, node, from, parent);
-        let counts = counts_moved(&self.arena, self.counts, node, parent);
-        let next = self.arena.next(node);
+        let watch = self
+            .tree
+            .overrides
+            .watch(&self.tree.arena, &self.tree.points);
+        let place = moving_from(&self.tree.arena, &self.tree.points, node, from, parent);
+        let counts = counts_moved(&self.tree.arena, self.tree.counts, node, parent);
+        let next = self.tree.arena.next(node);
         let step = Step::Place {
             node,
             parent,
             before,
         };
-        make_change(&mut self.arena, &mut self.history, step)?;
-        self.counts = counts;
+        make_change(&mut self.tree.arena, &mut self.history, step)?;
+        self.tree.counts = counts;
         self.command.name_place(node, from, next);
         self.command.name_place(node, parent, before);
-        adjust_moved(&self.arena, &mut self.points, place, parent, node);
-        self.overrides.settle(&self.arena, &self.points, watch);
+        adjust_moved(&self.tree.arena, &mut self.tree.points, place, parent, node);
+        self.tree
+            .overrides
+            .settle(&self.tree.arena, &self.tree.points, watch);
         Ok(true)
     }
 
@@ -179,24 +198,37 @@ impl Doc {
         ensures keeps { Keeps self.old self.new }
         ensures err { OnErr result (self.new ≡ self.old) }
     {
-        self.arena.valid();
-        self.arena.slotted();
+        self.tree.arena.valid();
+        self.tree.arena.slotted();
         if !self.is_own(node) {
             return Ok(false);
         }
-        let content = self.arena.content(node);
+        let content = self.tree.arena.content(node);
         let Some(words) = replaced(self.alloc, content, at, count, put)? else {
             return Ok(false);
         };
-        let watch = self.overrides.watch(&self.arena, &self.points);
-        let chars = chars_replaced(&self.arena, self.counts.chars, node, at, count, put);
+        let watch = self
+            .tree
+            .overrides
+            .watch(&self.tree.arena, &self.tree.points);
+        let chars = chars_replaced(
+            &self.tree.arena,
+            self.tree.counts.chars,
+            node,
+            at,
+            count,
+            put,
+        );
         let step = Step::Words { node, words };
-        make_change(&mut self.arena, &mut self.history, step)?;
-        self.counts.chars = chars;
+        make_change(&mut self.tree.arena, &mut self.history, step)?;
+        self.tree.counts.chars = chars;
         self.command.name(node);
-        self.points
+        self.tree
+            .points
             .replaced(node.label, at, count, put.len() as u32);
-        self.overrides.settle(&self.arena, &self.points, watch);
+        self.tree
+            .overrides
+            .settle(&self.tree.arena, &self.tree.points, watch);
         Ok(true)
     }
 
@@ -214,12 +246,12 @@ impl Doc {
         ensures keeps { Keeps self.old self.new }
         ensures err { OnErr result (self.new ≡ self.old) }
     {
-        self.arena.valid();
-        self.arena.slotted();
+        self.tree.arena.valid();
+        self.tree.arena.slotted();
         if !self.is_own(node) {
             return Ok(false);
         }
-        let Content::Element { attributes, .. } = self.arena.content(node) else {
+        let Content::Element { attributes, .. } = self.tree.arena.content(node) else {
             return Ok(false);
         };
         if has_value(attributes, name, value) {
@@ -228,7 +260,7 @@ impl Doc {
         let mut list = attributes.copy()?;
         list.set(name, value)?;
         let step = Step::Attributes { node, list };
-        make_change(&mut self.arena, &mut self.history, step)?;
+        make_change(&mut self.tree.arena, &mut self.history, step)?;
         self.command.name(node);
         Ok(true)
     }
@@ -241,12 +273,12 @@ impl Doc {
         ensures keeps { Keeps self.old self.new }
         ensures err { OnErr result (self.new ≡ self.old) }
     {
-        self.arena.valid();
-        self.arena.slotted();
+        self.tree.arena.valid();
+        self.tree.arena.slotted();
         if !self.is_own(node) {
             return Ok(false);
         }
-        let Content::Element { attributes, .. } = self.arena.content(node) else {
+        let Content::Element { attributes, .. } = self.tree.arena.content(node) else {
             return Ok(false);
         };
         if attributes.get(name.as_slice()).is_none() {
@@ -255,7 +287,7 @@ impl Doc {
         let mut list = attributes.copy()?;
         list.unset(name.as_slice());
         let step = Step::Attributes { node, list };
-        make_change(&mut self.arena, &mut self.history, step)?;
+        make_change(&mut self.tree.arena, &mut self.history, step)?;
         self.command.name(node);
         Ok(true)
     }

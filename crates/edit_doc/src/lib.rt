@@ -25,6 +25,7 @@ mod numbers;
 mod overrides;
 mod reads;
 mod selecting;
+mod tree;
 
 pub use command::Sides;
 use command::{Command, Kept};
@@ -38,18 +39,14 @@ pub use node_arena::{Arena, Kind, NodeList, NodeRef};
 use overrides::Overrides;
 use std::alloc::{AllocError, Global};
 use std::marker::Model;
+use tree::LiveTree;
 pub use undo_log::Committed;
 
 /// A document under edits.
 #[derive(Drop)]
 pub struct Doc {
     alloc: Global,
-    // with the trees that only entries of the log name
-    arena: Arena,
-    points: Points,
-    overrides: Overrides,
-    flags: Flags,
-    counts: Counts,
+    tree: LiveTree,
     history: History,
     command: Command,
 }
@@ -63,13 +60,12 @@ impl Model for Doc {
 
     ghost coded = { whole_code };
 
-    ghost use Rattle.edit_doc.specs.Live.{live_of};
     ghost use Rattle.edit_doc.specs.History.{whole_of};
     ghost use Rattle.edit_doc.specs.Sound.{IsSoundDoc};
 
-    ghost view = { λ d. whole_of (live_of d.arena d.points d.overrides d.flags) d.command d.history };
+    ghost view = { λ d. whole_of d.tree d.command d.history };
 
-    ghost invariant = { λ d. IsSoundDoc (live_of d.arena d.points d.overrides d.flags) d.counts d.command d.history };
+    ghost invariant = { λ d. IsSoundDoc d.tree d.command d.history };
 }
 
 impl Doc {
@@ -99,11 +95,13 @@ impl Doc {
         let next = arena.next_label();
         Ok(Doc {
             alloc,
-            arena,
-            points,
-            overrides: Overrides::none(alloc)?,
-            flags,
-            counts,
+            tree: LiveTree {
+                arena,
+                points,
+                overrides: Overrides::none(alloc)?,
+                flags,
+                counts,
+            },
             history: History::new(alloc, undo_depth)?,
             command: Command::none(alloc, next, kept),
         })

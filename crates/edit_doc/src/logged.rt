@@ -136,10 +136,10 @@ impl Doc {
         self.kept_nodes();
         let kept = Kept::of(
             alloc,
-            &self.points,
-            &self.overrides,
-            self.flags,
-            self.counts,
+            &self.tree.points,
+            &self.tree.overrides,
+            self.tree.flags,
+            self.tree.counts,
         )?;
         let mut steps = Steps::<L>::open(blank);
         let count = self.undo_len();
@@ -206,12 +206,12 @@ impl Doc {
         requires more { 0 < length self.now.history.redo }
         ensures { IfOk result (λ entry. option_map logged_entry (slice_get self.now.history.redo 0) ≡ Some entry) }
     {
-        self.arena.valid();
-        self.arena.slotted();
+        self.tree.arena.valid();
+        self.tree.arena.slotted();
         let steps = self.history.next_entry().unwrap();
         let first = self.history.first_undone(self.command.start);
         let end = self.history.first_later(self.command.start);
-        read_entry(alloc, &self.arena, steps, first, end)
+        read_entry(alloc, &self.tree.arena, steps, first, end)
     }
 
     // Puts the points, the overrides and the flags as they were kept.
@@ -224,9 +224,9 @@ impl Doc {
         ensures { self.new ≡ with_state self.old (record self.old.state { points = shown self.old.state.points.names kept.places; overrides = kept.overrides; flags = kept.flags }) }
     {
         let mut kept = kept;
-        self.points.set_places(&kept.places);
-        swap(&mut self.overrides, &mut kept.overrides);
-        self.flags = kept.flags;
+        self.tree.points.set_places(&kept.places);
+        swap(&mut self.tree.overrides, &mut kept.overrides);
+        self.tree.flags = kept.flags;
     }
 }
 

@@ -21,7 +21,7 @@ impl Doc {
     pub fn points(&self) -> &Points
         ensures { result.now ≡ self.now.state.points }
     {
-        &self.points
+        &self.tree.points
     }
 
     /// Selects from the anchor to the focus, where both stand in the document.
@@ -45,7 +45,7 @@ impl Doc {
     pub fn extend(&mut self, to: Point)
         ensures { self.new ≡ with_state self.old (acted (Extend to) self.old.state) }
     {
-        let selection = self.points.selection();
+        let selection = self.tree.points.selection();
         if let Some(pair) = selection {
             if self.may_select(to) {
                 self.put_selection(Some(Pair {
@@ -67,11 +67,16 @@ impl Doc {
     pub fn grow(&mut self, at: Point)
         ensures { self.new ≡ with_state self.old (acted (Grow at) self.old.state) }
     {
-        self.arena.valid();
+        self.tree.arena.valid();
         if self.may_grow(at) {
-            let watch = self.overrides.watch(&self.arena, &self.points);
-            self.points.grown(at);
-            self.overrides.settle(&self.arena, &self.points, watch);
+            let watch = self
+                .tree
+                .overrides
+                .watch(&self.tree.arena, &self.tree.points);
+            self.tree.points.grown(at);
+            self.tree
+                .overrides
+                .settle(&self.tree.arena, &self.tree.points, watch);
         }
     }
 
@@ -86,7 +91,7 @@ impl Doc {
         let Some(parent) = self.parent(node) else {
             return;
         };
-        if stands_at(&self.points, parent) {
+        if stands_at(&self.tree.points, parent) {
             let offset = self.index(node);
             self.grow(Point {
                 label: parent.label,
@@ -101,7 +106,7 @@ impl Doc {
         ensures { self.new ≡ with_state self.old (acted (Scratch pair) self.old.state) }
     {
         if self.may_keep(pair) {
-            self.points.set_scratch(pair);
+            self.tree.points.set_scratch(pair);
         }
     }
 
@@ -113,7 +118,7 @@ impl Doc {
         ensures too_many { (result ≡ Err MarkFault.TooManyMarks) ↔ ((length self.old.state.points.marks ≡ 16) × (has_mark name.now self.old.state.points ≡ false)) }
         ensures err { OnErr result (self.new ≡ self.old) }
     {
-        self.points.set_mark(name, pair)
+        self.tree.points.set_mark(name, pair)
     }
 
     /// Takes the name's mark out, and answers whether there was one.
@@ -121,35 +126,35 @@ impl Doc {
         ensures answer { result ≡ has_mark name.now self.old.state.points }
         ensures unset { self.new ≡ with_state self.old (record self.old.state { points = without_mark name.now self.old.state.points }) }
     {
-        self.points.unset_mark(name)
+        self.tree.points.unset_mark(name)
     }
 
     /// The override of a command.
     pub fn setting(&self, command: Command) -> &Setting
         ensures { result.now ≡ setting_of self.now.state.overrides command }
     {
-        self.overrides.get(command)
+        self.tree.overrides.get(command)
     }
 
     /// Sets the override of a command.
     pub fn set_setting(&mut self, command: Command, setting: Setting)
         ensures { self.new ≡ with_state self.old (acted (Override command setting) self.old.state) }
     {
-        self.overrides.set(command, setting);
+        self.tree.overrides.set(command, setting);
     }
 
     /// The CSS styling flag, and the default single-line container name.
     pub fn flags(&self) -> Flags
         ensures { result ≡ self.now.state.flags }
     {
-        self.flags
+        self.tree.flags
     }
 
     /// Sets both.
     pub fn set_flags(&mut self, flags: Flags)
         ensures { self.new ≡ with_state self.old (acted (Flag flags) self.old.state) }
     {
-        self.flags = flags;
+        self.tree.flags = flags;
     }
 
     // Whether both points of a pair may be kept.
@@ -164,10 +169,15 @@ impl Doc {
         requires { IfSome pair (IsPlacedPair self.old.state.trees) }
         ensures { self.new ≡ with_state self.old (with_selection pair self.old.state) }
     {
-        self.arena.valid();
-        let watch = self.overrides.watch(&self.arena, &self.points);
-        self.points.set_selection(pair);
-        self.overrides.settle(&self.arena, &self.points, watch);
+        self.tree.arena.valid();
+        let watch = self
+            .tree
+            .overrides
+            .watch(&self.tree.arena, &self.tree.points);
+        self.tree.points.set_selection(pair);
+        self.tree
+            .overrides
+            .settle(&self.tree.arena, &self.tree.points, watch);
     }
 
     // The points of a text past an offset go to another text.
@@ -176,12 +186,19 @@ impl Doc {
         requires tail_held { Holds self.old tail }
         ensures { self.new ≡ with_state self.old (acted (Send node.label at tail.label) self.old.state) }
     {
-        self.arena.valid();
+        self.tree.arena.valid();
         if self.may_send(node, at, tail) {
-            let watch = self.overrides.watch(&self.arena, &self.points);
+            let watch = self
+                .tree
+                .overrides
+                .watch(&self.tree.arena, &self.tree.points);
             // The points of the parent are moved by the insertion of the tail.
-            self.points.split(node.label, at, tail.label, node.label, 0);
-            self.overrides.settle(&self.arena, &self.points, watch);
+            self.tree
+                .points
+                .split(node.label, at, tail.label, node.label, 0);
+            self.tree
+                .overrides
+                .settle(&self.tree.arena, &self.tree.points, watch);
         }
     }
 }

@@ -10,7 +10,7 @@ use Rattle.edit_doc.specs.Whole.{Whole, with_state}
 use Rattle.edit_doc.proofs.Inner.{seen, Ok}
 use Rattle.edit_doc.proofs.Doc.extend.Goals as goal
 
-chosen : (d : Inside) (v : Whole) (pair : Pair) → Ok d → seen d ≡ v → d.points.selection ≡ Some pair → IsPlacedPair v.state.trees pair
+chosen : (d : Inside) (v : Whole) (pair : Pair) → Ok d → seen d ≡ v → d.tree.points.selection ≡ Some pair → IsPlacedPair v.state.trees pair
 chosen d v pair ok is e =
     subst (λ (w : Whole). IsPlacedPair w.state.trees pair) is (subst (λ o. IfSome o (IsPlacedPair (seen d).state.trees)) e ok.valid.placed.selection)
 

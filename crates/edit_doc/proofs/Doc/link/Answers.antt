@@ -12,7 +12,7 @@ use Rattle.edit_doc.proofs.Doc.link.Goals as goal
 pub watch-watch-requires : goal.watch-watch-requires
 watch-watch-requires c =
     let d = c.self.inside in
-    (placed-whole d.arena.trees d.arena.next (arena_forest d.arena c.valid.ensures) (out_of d) refl d.points c.self.invariant.valid.placed).selection
+    (placed-whole d.tree.arena.trees d.tree.arena.next (arena_forest d.tree.arena c.valid.ensures) (out_of d) refl d.tree.points c.self.invariant.valid.placed).selection
 
 pub counts_with-counts-requires-clause-nodes : goal.counts_with-counts-requires-clause-nodes
 counts_with-counts-requires-clause-nodes c =
@@ -50,8 +50,8 @@ settle-requires c =
     (placed c.self.inside a.self.now c.self.view_is c.valid.ensures c.slotted.ensures c.requires.open c.self.invariant a.node a.parent a.before c.requires.node_held c.requires.parent_held c.requires.before_held c.requires.possible
     c.make_change.new.arena c.in_ok-make_change.ensures.arena c.adjust_inserted.new.points c.adjust_inserted.ensures).selection
 
-overrides_are : (c : goal.After-settle) → c.settle.new.self ≡ settled c.self.inside.arena.trees c.self.inside.points c.make_change.new.arena.trees c.adjust_inserted.new.points c.self.inside.overrides
-overrides_are c = c.settle.ensures c.self.inside.arena.trees c.self.inside.points c.watch-watch.ensures
+overrides_are : (c : goal.After-settle) → c.settle.new.self ≡ settled c.self.inside.tree.arena.trees c.self.inside.tree.points c.make_change.new.arena.trees c.adjust_inserted.new.points c.self.inside.tree.overrides
+overrides_are c = c.settle.ensures c.self.inside.tree.arena.trees c.self.inside.tree.points c.watch-watch.ensures
 
 done : (c : goal.After-settle) → Applied c.self.inside c.args.self.now (Insert c.args.parent.label (label_of c.args.before) c.args.node.label) c.make_change.new.arena c.adjust_inserted.new.points c.settle.new.self c.counts_with-counts.result c.name_place.new.self c.make_change.new.history
 done c =

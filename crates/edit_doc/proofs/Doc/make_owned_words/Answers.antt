@@ -6,7 +6,6 @@ use Rattle.edit_model.specs.Run.{make_words, final}
 use Rattle.edit_model.specs.Action.{made}
 use Rattle.edit_doc.specs.Sound.{IsSoundDoc}
 use Rattle.edit_doc.specs.Whole.{Whole}
-use Rattle.edit_doc.proofs.Inner.{live}
 use Rattle.edit_doc.proofs.NewNodes.{Given, room_made, node_made, none_made, words_made, words_content_is}
 use Rattle.edit_doc.proofs.Doc.make_owned_words.Goals as goal
 
@@ -27,7 +26,7 @@ invariant_of-self-in-Ok c = (given c).invariant
 pub invariant_of-self-in-Err : goal.invariant_of-self-in-Err
 invariant_of-self-in-Err c =
     let i = c.self.inside in
-    subst (λ a. IsSoundDoc (record (live i) { arena = a }) i.counts (record i.command { detached = c.reserve.new.self; named = c.reserve-2.new.self }) i.history) (sym c.in-Err.ensures.err)
+    subst (λ a. IsSoundDoc (record i.tree { arena = a }) (record i.command { detached = c.reserve.new.self; named = c.reserve-2.new.self }) i.history) (sym c.in-Err.ensures.err)
     (room_made i c.args.self.now c.self.view_is c.valid.ensures c.requires.open c.self.invariant (record i.command { detached = c.reserve.new.self; named = c.reserve-2.new.self }) refl c.reserve-2.ensures.items c.reserve.ensures.items)
 
 pub returns-in-Ok-clause-gives : goal.returns-in-Ok-clause-gives

@@ -61,7 +61,7 @@ settle-requires c =
     let may = freed_edit (Replace a.node.label a.at a.count a.put.now) v.state (may_replace_here d c.valid.ensures v c.self.view_is a.node c.requires.node_held a.at a.count a.put.now con c.content-content.ensures own change) in
     (placed_called d v c.self.view_is c.valid.ensures c.requires.open c.self.invariant (Replace a.node.label a.at a.count a.put.now) (Rewords a.node words) x l may t c.replaced-2.new.self c.make_change.new.arena (c.replaced-2.ensures ∙ p) c.in_ok-make_change.ensures.arena).selection
 
-done : (c : goal.After-settle) → Done c.self.inside c.args.self.now (Replace c.args.node.label c.args.at c.args.count c.args.put.now) c.make_change.new.arena c.replaced-2.new.self c.settle.new.self (record c.self.inside.counts { chars = c.chars_replaced-chars.result }) c.name.new.self c.make_change.new.history
+done : (c : goal.After-settle) → Done c.self.inside c.args.self.now (Replace c.args.node.label c.args.at c.args.count c.args.put.now) c.make_change.new.arena c.replaced-2.new.self c.settle.new.self (record c.self.inside.tree.counts { chars = c.chars_replaced-chars.result }) c.name.new.self c.make_change.new.history
 done c =
     let a = c.args in
     let d = c.self.inside in
@@ -80,7 +80,7 @@ done c =
     let e = settled_items d v c.self.view_is c.valid.ensures c.requires.open c.self.invariant (Replace a.node.label a.at a.count a.put.now) (Rewords a.node words) x l may t
     c.settle.new.self c.replaced-2.new.self c.make_change.new.arena c.watch-watch.result (c.replaced-2.ensures ∙ p) c.in_ok-make_change.ensures.arena c.watch-watch.ensures c.settle.ensures in
     replace_done d c.valid.ensures v c.self.view_is a.node c.requires.node_held a.at a.count a.put.now con c.content-content.ensures c.slotted.ensures c.requires.open c.self.invariant own change words words_are short
-    c.replaced-2.new.self c.settle.new.self (record d.counts { chars = c.chars_replaced-chars.result }) c.name.new.self c.name.ensures c.replaced-2.ensures
+    c.replaced-2.new.self c.settle.new.self (record d.tree.counts { chars = c.chars_replaced-chars.result }) c.name.new.self c.name.ensures c.replaced-2.ensures
     e refl refl c.chars_replaced-chars.ensures c.make_change.new.arena c.make_change.new.history c.in_ok-make_change.ensures.arena c.in_ok-make_change.ensures.history
 
 pub invariant_of-self-2 : goal.invariant_of-self-2

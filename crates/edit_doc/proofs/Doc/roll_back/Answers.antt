@@ -21,7 +21,7 @@ pub rewind-requires-clause-low : goal.rewind-requires-clause-low
 rewind-requires-clause-low c =
     let e = ap (λ (a : Arena). a.next) (back_is c.self.inside (opened_of c.self.inside _ c.self.view_is c.valid-2.ensures c.self.invariant c.requires.«open») c.slotted.ensures _ c.abandon.ensures.arena) in
     let n = c.drop_made.ensures.drops.next in
-    let s : c.self.inside.command.start ≤ c.self.inside.arena.next = c.self.invariant.valid.started in
+    let s : c.self.inside.command.start ≤ c.self.inside.tree.arena.next = c.self.invariant.valid.started in
     omega (arith, e, n, s)
 
 pub forget_detached-requires : goal.forget_detached-requires
@@ -36,7 +36,7 @@ forgets c = subst (λ (t : Trail). Forgets t.past c.forget_detached.new.self.pas
 trail : (c : goal.After-end) → c.forget_detached.new.self ≡ trail_of (abandoned c.self.inside.history.log) c.forget_detached.new.self.past c.self.inside.history.future
 trail c = c.forget_detached.ensures.rest ∙ ap (λ (t : Trail). record t { past = c.forget_detached.new.self.past }) c.abandon.ensures.history
 
-rolled : (c : goal.After-end) → Leaves (live_of c.rewind.new.self (shown c.self.inside.points.names c.self.inside.command.kept.places) c.self.inside.command.kept.overrides c.self.inside.command.kept.flags) c.self.inside.command.kept.counts c.end.new.self
+rolled : (c : goal.After-end) → Leaves (live_of c.rewind.new.self (shown c.self.inside.tree.points.names c.self.inside.command.kept.places) c.self.inside.command.kept.overrides c.self.inside.command.kept.flags c.self.inside.command.kept.counts) c.end.new.self
     (trail_of (abandoned c.self.inside.history.log) c.forget_detached.new.self.past c.self.inside.history.future) c.args.self.now (state_rolled_back c.args.self.now) c.args.self.now.history
 rolled c =
     rolls c.self.inside (opened_of c.self.inside _ c.self.view_is c.valid-2.ensures c.self.invariant c.requires.«open») c.slotted.ensures _ c.abandon.ensures.arena

@@ -32,15 +32,15 @@ pub returns-then-has_value-clause-gives : goal.returns-then-has_value-clause-giv
 returns-then-has_value-clause-gives c =
     let a = c.args in
     let k = c.in-Element in
-    let content : content_of c.self.inside.arena.trees a.node.label ≡ Some (Element k.name k.attributes) = c.content.ensures ∙ ap Some k.is in
+    let content : content_of c.self.inside.tree.arena.trees a.node.label ≡ Some (Element k.name k.attributes) = c.content.ensures ∙ ap Some k.is in
     let same : has_value k.attributes a.name.now a.value.now ≡ true = sym c.has_value.ensures ∙ c.if-has_value.true in
     gives_left (Set a.node.label a.name.now a.value.now) a.self.now.state a.self.now.state (not_set_here c.self.inside a.self.now c.self.view_is c.valid.ensures c.slotted.ensures c.requires.open c.self.invariant a.node c.requires.node_held k.name k.attributes content a.name.now a.value.now same) refl
 
-done : (c : goal.After-name) → Done c.self.inside c.args.self.now (Set c.args.node.label c.args.name.now c.args.value.now) c.make_change.new.arena c.self.inside.points c.self.inside.overrides c.self.inside.counts c.name.new.self c.make_change.new.history
+done : (c : goal.After-name) → Done c.self.inside c.args.self.now (Set c.args.node.label c.args.name.now c.args.value.now) c.make_change.new.arena c.self.inside.tree.points c.self.inside.tree.overrides c.self.inside.tree.counts c.name.new.self c.make_change.new.history
 done c =
     let a = c.args in
     let k = c.in-Element in
-    let content : content_of c.self.inside.arena.trees a.node.label ≡ Some (Element k.name k.attributes) = c.content.ensures ∙ ap Some k.is in
+    let content : content_of c.self.inside.tree.arena.trees a.node.label ≡ Some (Element k.name k.attributes) = c.content.ensures ∙ ap Some k.is in
     let same : c.set.new.self ≡ set_in k.attributes a.name.now a.value.now = c.in_ok-set.ensures.ok ∙ ap (λ xs. set_in xs a.name.now a.value.now) c.in_ok-list.ensures in
     let other : has_value k.attributes a.name.now a.value.now ≡ false = sym c.has_value.ensures ∙ c.if-has_value.false in
     let may = may_set_here c.self.inside a.self.now c.self.view_is c.valid.ensures c.slotted.ensures c.requires.open c.self.invariant a.node c.requires.node_held k.name k.attributes content a.name.now a.value.now (sym c.is_own.ensures ∙ c.if-not-is_own.false) other in

@@ -18,7 +18,7 @@ invariant_of-self c =
     let placed = ok.valid.placed in
     let both = and_parts (may_select c.args.self.now.state c.args.pair.anchor) (may_select c.args.self.now.state c.args.pair.focus) (sym c.may_keep.ensures ∙ c.if-may_keep.true) in
     let pair : IsPlacedPair c.args.self.now.state.trees c.args.pair = record { anchor = both.0; focus = both.1 } in
-    rw c.set_scratch.ensures (other_ok d ok d.points.selection (Some c.args.pair) d.points.marks d.overrides d.flags
+    rw c.set_scratch.ensures (other_ok d ok d.tree.points.selection (Some c.args.pair) d.tree.points.marks d.tree.overrides d.tree.flags
     (record { selection = placed.selection; scratch = subst (λ (w : Whole). IsPlacedPair w.state.trees c.args.pair) (sym c.self.view_is) pair; marks = placed.marks })
     ok.valid.settings
     (λ closed. absurd (let opened = open_of d _ c.self.view_is c.requires in let no : IsTrue false = subst (λ o. IsTrue (is_open o)) closed opened in cc)))

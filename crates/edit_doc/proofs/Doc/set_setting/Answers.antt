@@ -11,8 +11,8 @@ unfolding with_setting
 invariant_of-self c =
     let d = c.self.inside in
     let ok = c.self.invariant in
-    rw c.set.ensures (other_ok d ok d.points.selection d.points.scratch d.points.marks (with_setting d.overrides c.args.command c.args.setting) d.flags ok.valid.placed
-    (length-set d.overrides (place_of c.args.command) c.args.setting ∙ ok.valid.settings) (scratch_at_rest d ok))
+    rw c.set.ensures (other_ok d ok d.tree.points.selection d.tree.points.scratch d.tree.points.marks (with_setting d.tree.overrides c.args.command c.args.setting) d.tree.flags ok.valid.placed
+    (length-set d.tree.overrides (place_of c.args.command) c.args.setting ∙ ok.valid.settings) (scratch_at_rest d ok))
 
 pub returns : goal.returns
 unfolding acted

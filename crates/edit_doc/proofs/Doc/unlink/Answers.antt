@@ -2,7 +2,6 @@ use Rattle.std.proofs.Common.{◌≡◌, [], ◌∷◌, ◌++◌, refl, ap, ◌�
 use Rattle.std.specs.Prelude.{if◌then◌else◌}
 use Rattle.edit_steps.specs.declared.step.Step.TheVariants.{Unlink}
 use Rattle.edit_model.specs.Edit.{Remove}
-use Rattle.edit_doc.proofs.Inner.{live}
 use Rattle.edit_doc.proofs.Edited.{Applied}
 use Rattle.edit_doc.proofs.Removed.{place_markable, up, fits, detached, trees, points_are, unlink_done}
 use Rattle.edit_doc.proofs.Roomier.{room_made}
@@ -13,7 +12,7 @@ use Rattle.edit_doc.proofs.Doc.unlink.Goals as goal
 pub invariant_of-self : goal.invariant_of-self
 invariant_of-self c =
     let d = c.self.inside in
-    room_made d.command c.reserve.new.self c.reserve.ensures.items (live d) d.counts d.history c.self.invariant
+    room_made d.command c.reserve.new.self c.reserve.ensures.items d.tree d.history c.self.invariant
 
 pub watch-watch-requires : goal.watch-watch-requires
 watch-watch-requires c = (points_now c.self.inside c.valid.ensures c.self.invariant).selection
@@ -22,7 +21,7 @@ pub invariant_of-self-in_err-make_change : goal.invariant_of-self-in_err-make_ch
 invariant_of-self-in_err-make_change c =
     let d = c.self.inside in
     let same = c.in_err-make_change.ensures.err in
-    rw (same.0, same.1) (room_made d.command c.reserve.new.self c.reserve.ensures.items (live d) d.counts d.history c.self.invariant)
+    rw (same.0, same.1) (room_made d.command c.reserve.new.self c.reserve.ensures.items d.tree d.history c.self.invariant)
 
 pub name_place-requires : goal.name_place-requires
 name_place-requires c =
@@ -42,7 +41,7 @@ settle-requires c =
     let l = detached d c.valid.ensures v c.self.view_is a.node c.requires.node_held a.parent child c.slotted.ensures c.requires.open c.self.invariant may in
     let t = trees d c.valid.ensures v c.self.view_is a.node c.requires.node_held a.parent child c.slotted.ensures c.requires.open c.self.invariant may in
     let p = points_are d c.valid.ensures v c.self.view_is a.node c.requires.node_held a.parent child c.slotted.ensures c.requires.open c.self.invariant may in
-    let moved = c.adjust.ensures d.arena.trees a.node.label a.parent.label c.removal_of-removal.ensures in
+    let moved = c.adjust.ensures d.tree.arena.trees a.node.label a.parent.label c.removal_of-removal.ensures in
     (placed_called d v c.self.view_is c.valid.ensures c.requires.open c.self.invariant (Remove a.node.label) (Unlink a.node) x l may t c.adjust.new.points c.make_change.new.arena (moved ∙ p) c.in_ok-make_change.ensures.arena).selection
 
 done : (c : goal.After-settle) → Applied c.self.inside c.args.self.now (Remove c.args.node.label) c.make_change.new.arena c.adjust.new.points c.settle.new.self c.counts_without-counts.result c.name_place.new.self c.make_change.new.history
@@ -56,7 +55,7 @@ done c =
     let l = detached d c.valid.ensures v c.self.view_is a.node c.requires.node_held a.parent child c.slotted.ensures c.requires.open c.self.invariant may in
     let t = trees d c.valid.ensures v c.self.view_is a.node c.requires.node_held a.parent child c.slotted.ensures c.requires.open c.self.invariant may in
     let p = points_are d c.valid.ensures v c.self.view_is a.node c.requires.node_held a.parent child c.slotted.ensures c.requires.open c.self.invariant may in
-    let moved = c.adjust.ensures d.arena.trees a.node.label a.parent.label c.removal_of-removal.ensures in
+    let moved = c.adjust.ensures d.tree.arena.trees a.node.label a.parent.label c.removal_of-removal.ensures in
     let e = settled_items d v c.self.view_is c.valid.ensures c.requires.open c.self.invariant (Remove a.node.label) (Unlink a.node) x l may t
     c.settle.new.self c.adjust.new.points c.make_change.new.arena c.watch-watch.result (moved ∙ p) c.in_ok-make_change.ensures.arena c.watch-watch.ensures c.settle.ensures in
     let room = c.in_ok-reserve.ensures.ok in

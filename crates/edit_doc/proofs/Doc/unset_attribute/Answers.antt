@@ -31,15 +31,15 @@ pub returns-then-is_none-clause-gives : goal.returns-then-is_none-clause-gives
 returns-then-is_none-clause-gives c =
     let a = c.args in
     let k = c.in-Element in
-    let content : content_of c.self.inside.arena.trees a.node.label ≡ Some (Element k.name k.attributes) = c.content.ensures ∙ ap Some k.is in
+    let content : content_of c.self.inside.tree.arena.trees a.node.label ≡ Some (Element k.name k.attributes) = c.content.ensures ∙ ap Some k.is in
     let none : option_map_or (λ _. true) (value_of k.attributes a.name.now) false ≡ false = ap (λ o. option_map_or (λ _. true) o false) (ap (value_of k.attributes) (sym c.as_slice.ensures) ∙ sym c.get.ensures) ∙ (copied_some c.get.result ∙ (c.is_none.ensures ∙ ap not c.if-is_none.true)) in
     gives_left (Unset a.node.label a.name.now) a.self.now.state a.self.now.state (not_unset_here c.self.inside a.self.now c.self.view_is c.valid.ensures c.slotted.ensures c.requires.open c.self.invariant a.node c.requires.node_held k.name k.attributes content a.name.now none) refl
 
-done : (c : goal.After-name) → Done c.self.inside c.args.self.now (Unset c.args.node.label c.args.name.now) c.make_change.new.arena c.self.inside.points c.self.inside.overrides c.self.inside.counts c.name.new.self c.make_change.new.history
+done : (c : goal.After-name) → Done c.self.inside c.args.self.now (Unset c.args.node.label c.args.name.now) c.make_change.new.arena c.self.inside.tree.points c.self.inside.tree.overrides c.self.inside.tree.counts c.name.new.self c.make_change.new.history
 done c =
     let a = c.args in
     let k = c.in-Element in
-    let content : content_of c.self.inside.arena.trees a.node.label ≡ Some (Element k.name k.attributes) = c.content.ensures ∙ ap Some k.is in
+    let content : content_of c.self.inside.tree.arena.trees a.node.label ≡ Some (Element k.name k.attributes) = c.content.ensures ∙ ap Some k.is in
     let same : c.unset.new.self ≡ unset_in k.attributes a.name.now = c.unset.ensures.left ∙ (λ i. unset_in (c.in_ok-list.ensures i) (c.as_slice-2.ensures i)) in
     let some : option_map_or (λ _. true) (value_of k.attributes a.name.now) false ≡ true = ap (λ o. option_map_or (λ _. true) o false) (ap (value_of k.attributes) (sym c.as_slice.ensures) ∙ sym c.get.ensures) ∙ (copied_some c.get.result ∙ (c.is_none.ensures ∙ ap not c.if-is_none.false)) in
     let may = may_unset_here c.self.inside a.self.now c.self.view_is c.valid.ensures c.slotted.ensures c.requires.open c.self.invariant a.node c.requires.node_held k.name k.attributes content a.name.now (sym c.is_own.ensures ∙ c.if-not-is_own.false) some in
