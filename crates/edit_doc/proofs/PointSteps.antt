@@ -1,6 +1,7 @@
 -- A step that only moves points of a document under edits.
-use Rattle.std.proofs.Common.{◌≡◌, ℕ, ◌<◌, Bool, true, false, not, ◌&&◌, if◌then◌else◌, List, length, Option, Some, None, IfSome, refl, sym, ap, ◌∙◌, arith}
-use Rattle.std.specs.Prelude.{nat_le}
+use Rattle.std.proofs.Common.{◌≡◌, ℕ, ◌<◌, Bool, true, false, not, ◌&&◌, if◌then◌else◌, List, length, Option, Some, None, IfSome, refl, sym, ap, subst, ◌∙◌, arith}
+use Rattle.std.specs.Prelude.{nat_le, map}
+use Rattle.std.specs.Option.{option_map}
 use Rattle.std.proofs.lemmas.Bool.{and_parts, ltb-true}
 use Rattle.dom_model.specs.declared.Content.{Content}
 use Rattle.dom_model.specs.Contents.{length_of}
@@ -9,7 +10,8 @@ use Rattle.dom_model.specs.Pruned.{pruned}
 use Rattle.dom_model.specs.ArenaState.{IsValid as IsArena}
 use Rattle.live_range.specs.declared.places.Pair.{Pair}
 use Rattle.live_range.specs.declared.places.Point.{Point}
-use Rattle.live_range.specs.LivePoints.{LivePoints}
+use Rattle.live_range.specs.LivePoints.{LivePoints, mapped, at_pair}
+use Rattle.live_range.specs.PointsEdit.{PointsEdit, adjusted_pair}
 use Rattle.live_range.specs.ActiveRange.{range_changed, same_point}
 use Rattle.undo_log.specs.Log.Open.{Closed}
 use Rattle.point_order.specs.PointOrder.{is_in_document, is_placed, is_before}
@@ -17,14 +19,16 @@ use Rattle.edit_model.specs.declared.settings.Setting.{Setting}
 use Rattle.edit_model.specs.Edit.{changed, overrides_after}
 use Rattle.edit_model.specs.Valid.{IsPlacedPair, IsPlaced}
 use Rattle.edit_model.specs.Overrides.{no_overrides}
+use Rattle.edit_model.proofs.Points.{Places, mapped_placed}
 use Rattle.edit_doc.specs.declared.Doc.TheInside.{Inside}
+use Rattle.edit_doc.specs.declared.tree.LiveTree.{LiveTree}
 use Rattle.edit_parts.specs.declared.overrides.Watch.{Watch}
 use Rattle.edit_parts.specs.Following.{Watches, settled}
 use Rattle.edit_doc.specs.Whole.{Whole, with_state}
 use Rattle.edit_doc.specs.History.{seen_trees, whole_of}
 use Rattle.edit_doc.specs.Sound.{IsSoundDoc}
 use Rattle.edit_doc.proofs.Before.{before_detached}
-use Rattle.edit_doc.proofs.Chosen.{moved_to, other_ok}
+use Rattle.edit_doc.proofs.Chosen.{moved_to, other_ok, scratch_at_rest}
 use Rattle.edit_doc.proofs.Found.{tree_of-fewer}
 use Rattle.edit_doc.proofs.HiddenTrees.{placed-whole}
 use Rattle.edit_doc.proofs.Inner.{seen, Ok}
@@ -98,3 +102,35 @@ module _ (d : Inside) (law : IsArena d.tree.arena) (ok : Ok d) where
     step_is v is =
         ap (λ o. whole_of (record d.tree { points = points; overrides = o }) d.command d.history) settled_so
         ∙ ap (λ (w : Whole). with_state w (record w.state { points = moved_to w.state.points selection scratch marks; overrides = overrides_after w.state w.state.trees (moved_to w.state.points selection scratch marks) })) is
+
+  -- the points go along with a change of their places
+  module _ (e : PointsEdit) (places : Places e (seen d).state.trees (seen d).state.trees) where
+    abbrev chosen : Option Pair
+    chosen = option_map (adjusted_pair e) d.tree.points.selection
+
+    abbrev kept : Option Pair
+    kept = option_map (adjusted_pair e) d.tree.points.scratch
+
+    abbrev marks : List (List ℕ × Pair)
+    marks = map (at_pair (adjusted_pair e)) d.tree.points.marks
+
+    stand : IsPlaced (seen d).state.trees (mapped e d.tree.points)
+    stand = mapped_placed e (seen d).state.trees (seen d).state.trees places d.tree.points ok.valid.placed
+
+    pub mapped_then : IsPlaced d.tree.arena.trees (mapped e d.tree.points)
+    mapped_then = placed_then chosen kept marks stand
+
+    -- what settling leaves then
+    module _ (n : LivePoints) (n_is : n ≡ mapped e d.tree.points) (w : Option Watch) (new : List Setting) (watches : Watches d.tree.arena.trees d.tree.points d.tree.overrides w)
+        (settles : (g : Forest Content) (b : LivePoints) → Watches g b d.tree.overrides w → new ≡ settled g b d.tree.arena.trees n d.tree.overrides) where
+      abbrev after : LiveTree
+      after = record d.tree { points = n; overrides = new }
+
+      after_is : after ≡ record d.tree { points = mapped e d.tree.points; overrides = settled d.tree.arena.trees d.tree.points d.tree.arena.trees (mapped e d.tree.points) d.tree.overrides }
+      after_is = λ i. record d.tree { points = n_is i; overrides = settled_items chosen kept marks stand new n w n_is watches settles i }
+
+      pub mapped_ok : IsSoundDoc after d.command d.history
+      mapped_ok = subst (λ t. IsSoundDoc t d.command d.history) (sym after_is) (step_ok chosen kept marks stand (λ closed. ap (option_map (adjusted_pair e)) (scratch_at_rest d ok closed)))
+
+      pub mapped_is : (v : Whole) → seen d ≡ v → whole_of after d.command d.history ≡ with_state v (changed v.state v.state.trees (mapped e v.state.points))
+      mapped_is v is = ap (λ t. whole_of t d.command d.history) after_is ∙ (step_is chosen kept marks stand (seen d) refl ∙ ap (λ (w : Whole). with_state w (changed w.state w.state.trees (mapped e w.state.points))) is)

@@ -1,7 +1,7 @@
 //! What is kept of the running command, and beside each entry of the log.
 
-ghost use Rattle.std.specs.Prelude.{◌≡◌, ℕ, ◌<◌, [], ◌∷◌, length, IfOk, vec_len, vec_capacity};
-ghost use Rattle.edit_doc.specs.Fields.{IsKept, IsEnded, AreResting, has_newly_detached, made_sides, joined_sides};
+ghost use Rattle.std.specs.Prelude.{◌≡◌, ℕ, ◌<◌, [], ◌∷◌, vec_len, vec_capacity};
+ghost use Rattle.edit_doc.specs.Fields.{IsEnded, AreResting, has_newly_detached, made_sides, joined_sides};
 ghost use Rattle.edit_doc.specs.Marks.{Marks, AreMarkable, NotesMade, place_labels};
 
 use crate::Counts;
@@ -9,7 +9,7 @@ use crate::overrides::Overrides;
 use edit_model::Flags;
 use live_range::{Places, Points};
 use node_arena::NodeRef;
-use std::alloc::{AllocError, Global};
+use std::alloc::Global;
 
 /// Where the points stand just before and just after the commands of an entry, the next label as the first of them began,
 /// and the numbers of the document on both sides.
@@ -83,26 +83,6 @@ pub(crate) struct Command {
     pub(crate) detached: Vec<NodeRef>,
     pub(crate) detached_before: usize,
     pub(crate) kept: Kept,
-}
-
-impl Kept {
-    // What a command keeps as it begins.
-    pub(crate) fn of(
-        alloc: Global,
-        points: &Points,
-        overrides: &Overrides,
-        flags: Flags,
-        counts: Counts,
-    ) -> Result<Kept, AllocError>
-        ensures { IfOk result (IsKept points.now overrides.now flags counts) }
-    {
-        Ok(Kept {
-            places: points.places(),
-            overrides: overrides.copy(alloc)?,
-            flags,
-            counts,
-        })
-    }
 }
 
 impl Command {

@@ -6,11 +6,11 @@ ghost use Rattle.edit_model.specs.History.{rested, undone_state, undone_history,
 ghost use Rattle.edit_doc.specs.Whole.{IsOpen, IsClosed, opened, history_committed, state_rolled_back, first_edits};
 ghost use Rattle.edit_doc.specs.Held.{IfHeld, KeepsThere};
 
-use crate::command::{Kept, resting_places};
+use crate::command::resting_places;
 use crate::giving_up::{give_up_detached, give_up_unnamed};
 use crate::history::Closing;
 use crate::{Committed, Doc, NodeRef};
-use std::alloc::{AllocError, Global};
+use std::alloc::AllocError;
 use std::mem::swap;
 use std::sync::ledger::Ledger;
 use step_count::Steps;
@@ -25,13 +25,7 @@ impl Doc {
         ensures err { OnErr result (self.new ≡ self.old) }
     {
         self.tree.arena.valid();
-        let kept = Kept::of(
-            self.alloc,
-            &self.tree.points,
-            &self.tree.overrides,
-            self.tree.flags,
-            self.tree.counts,
-        )?;
+        let kept = self.tree.keep(self.alloc)?;
         self.history.begin();
         self.command.kept = kept;
         self.command.host = host;
@@ -48,13 +42,7 @@ impl Doc {
         ensures err { OnErr result (self.new ≡ self.old) }
     {
         self.tree.arena.valid();
-        let kept = Kept::of(
-            self.alloc,
-            &self.tree.points,
-            &self.tree.overrides,
-            self.tree.flags,
-            self.tree.counts,
-        )?;
+        let kept = self.tree.keep(self.alloc)?;
         if !self.history.resume() {
             return Ok(false);
         }

@@ -61,10 +61,7 @@ impl Doc {
     {
         self.tree.arena.valid();
         self.tree.arena.slotted();
-        let watch = self
-            .tree
-            .overrides
-            .watch(&self.tree.arena, &self.tree.points);
+        let watch = self.tree.watch();
         let enters = is_in_document(&self.tree.arena, parent);
         let counts = counts_with(&self.tree.arena, self.tree.counts, node, parent, enters);
         let link = Step::Link {
@@ -115,10 +112,7 @@ impl Doc {
         self.tree.arena.valid();
         self.tree.arena.slotted();
         self.command.detached.reserve(1)?;
-        let watch = self
-            .tree
-            .overrides
-            .watch(&self.tree.arena, &self.tree.points);
+        let watch = self.tree.watch();
         let removal = removal_of(&self.tree.arena, &self.tree.points, node, parent);
         let counts = counts_without(&self.tree.arena, self.tree.counts, node, parent);
         let next = self.tree.arena.next(node);
@@ -161,10 +155,7 @@ impl Doc {
         if !self.may_go(node, from, parent, before) {
             return Ok(false);
         }
-        let watch = self
-            .tree
-            .overrides
-            .watch(&self.tree.arena, &self.tree.points);
+        let watch = self.tree.watch();
         let place = moving_from(&self.tree.arena, &self.tree.points, node, from, parent);
         let counts = counts_moved(&self.tree.arena, self.tree.counts, node, parent);
         let next = self.tree.arena.next(node);
@@ -207,10 +198,7 @@ impl Doc {
         let Some(words) = replaced(self.alloc, content, at, count, put)? else {
             return Ok(false);
         };
-        let watch = self
-            .tree
-            .overrides
-            .watch(&self.tree.arena, &self.tree.points);
+        let watch = self.tree.watch();
         let chars = chars_replaced(
             &self.tree.arena,
             self.tree.counts.chars,

@@ -134,13 +134,7 @@ impl Doc {
     {
         self.valid();
         self.kept_nodes();
-        let kept = Kept::of(
-            alloc,
-            &self.tree.points,
-            &self.tree.overrides,
-            self.tree.flags,
-            self.tree.counts,
-        )?;
+        let kept = self.tree.keep(alloc)?;
         let mut steps = Steps::<L>::open(blank);
         let count = self.undo_len();
         self.undo_entries(count, &mut steps);

@@ -69,10 +69,7 @@ impl Doc {
     {
         self.tree.arena.valid();
         if self.may_grow(at) {
-            let watch = self
-                .tree
-                .overrides
-                .watch(&self.tree.arena, &self.tree.points);
+            let watch = self.tree.watch();
             self.tree.points.grown(at);
             self.tree
                 .overrides
@@ -170,10 +167,7 @@ impl Doc {
         ensures { self.new ≡ with_state self.old (with_selection pair self.old.state) }
     {
         self.tree.arena.valid();
-        let watch = self
-            .tree
-            .overrides
-            .watch(&self.tree.arena, &self.tree.points);
+        let watch = self.tree.watch();
         self.tree.points.set_selection(pair);
         self.tree
             .overrides
@@ -188,10 +182,7 @@ impl Doc {
     {
         self.tree.arena.valid();
         if self.may_send(node, at, tail) {
-            let watch = self
-                .tree
-                .overrides
-                .watch(&self.tree.arena, &self.tree.points);
+            let watch = self.tree.watch();
             // The points of the parent are moved by the insertion of the tail.
             self.tree
                 .points

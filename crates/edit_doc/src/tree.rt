@@ -1,7 +1,15 @@
 //! The tree under edits.
 
+ghost use Rattle.std.specs.Prelude.{IfOk, IfSome};
+ghost use Rattle.edit_model.specs.Valid.{IsPlacedPair};
+ghost use Rattle.edit_parts.specs.Following.{Watches};
+ghost use Rattle.edit_doc.specs.Fields.{IsKept};
+
+use crate::command::Kept;
 use crate::overrides::Overrides;
 use crate::{Arena, Counts, Flags, Points};
+use edit_parts::Watch;
+use std::alloc::{AllocError, Global};
 
 // The nodes, and what stands in them and is set beside them.
 #[derive(Drop)]
@@ -12,4 +20,26 @@ pub(crate) struct LiveTree {
     pub(crate) overrides: Overrides,
     pub(crate) flags: Flags,
     pub(crate) counts: Counts,
+}
+
+impl LiveTree {
+    // What a command keeps as it begins.
+    pub(crate) fn keep(&self, alloc: Global) -> Result<Kept, AllocError>
+        ensures { IfOk result (IsKept self.now.points self.now.overrides self.now.flags self.now.counts) }
+    {
+        Ok(Kept {
+            places: self.points.places(),
+            overrides: self.overrides.copy(alloc)?,
+            flags: self.flags,
+            counts: self.counts,
+        })
+    }
+
+    // What to watch until the points stand where a change takes them.
+    pub(crate) fn watch(&self) -> Option<Watch>
+        requires { IfSome self.now.points.selection (IsPlacedPair self.now.arena.trees) }
+        ensures { Watches self.now.arena.trees self.now.points self.now.overrides result }
+    {
+        self.overrides.watch(&self.arena, &self.points)
+    }
 }
