@@ -41,7 +41,6 @@ pub mod LongerNames
 pub mod NewNodes
 pub mod Inserted
 pub mod Raised
-pub mod Treed
 pub mod Inserting
 pub mod Moving
 pub mod Settling

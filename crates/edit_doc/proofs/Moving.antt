@@ -60,7 +60,7 @@ use Rattle.edit_doc.proofs.Linked.{labels_same, place_held, place_seen}
 use Rattle.edit_doc.proofs.Counted.{unlinked_inside, unlinked_outside}
 use Rattle.edit_doc.proofs.Inserted.{index-link, none_of, more_linked, linked_low, chars_bound, nodes_bound}
 use Rattle.edit_doc.proofs.Raised.{stands_low, moved_depth}
-use Rattle.edit_doc.proofs.Treed.{placed_after, settled_after}
+use Rattle.edit_doc.proofs.Settling.{points_next, overrides_are as settled_after}
 use Rattle.edit_doc.proofs.Changing.{Follows, run, seen_prunes}
 use Rattle.edit_doc.proofs.Freely.{freed_edit}
 use Rattle.edit_doc.proofs.Edited.{Makes, Done, edit_called}
@@ -357,7 +357,7 @@ module _ (d : Inside) (v : Whole) (is : seen d ≡ v) (law : IsArena d.tree.aren
 
       pub placed : IsPlaced arena.trees points
       unfolding applied
-      placed = subst (λ t. IsPlaced t points) (sym trees_here) (subst (IsPlaced (link (unlink f n) p b n)) (sym points_here) (placed_after d v is law now_open ok (Move n p b) x (freed_edit (Move n p b) v.state made) fits seen_place trees_is))
+      placed = subst (λ t. IsPlaced t points) (sym trees_here) (subst (IsPlaced (link (unlink f n) p b n)) (sym points_here) (points_next d v is law now_open ok (Move n p b) x fits seen_place (freed_edit (Move n p b) v.state made) trees_is))
 
       module _ (overrides : List Setting) (overrides_are : overrides ≡ settled f d.tree.points arena.trees points d.tree.overrides) (enters : Bool) (enters_is : enters ≡ (not (is_in_document f n) && is_in_document f p)) (counts : Counts)
           (nodes_are : counts.nodes ≡ with_more enters d.tree.counts.nodes (total (λ _ _. 1) (tree_of f n))) (chars_are : counts.chars ≡ with_more enters d.tree.counts.chars (total (λ _ c. words_length c) (tree_of f n)))
@@ -373,7 +373,7 @@ module _ (d : Inside) (v : Whole) (is : seen d ≡ v) (law : IsArena d.tree.aren
           change = refl;
           trees = trees_is;
           points_are = points_here;
-          overrides_are = overrides_are ∙ ((λ i. settled f d.tree.points (trees_here i) (points_here i) d.tree.overrides) ∙ settled_after d v is law now_open ok (Move n p b) x (freed_edit (Move n p b) v.state made) fits seen_place trees_is);
+          overrides_are = overrides_are ∙ ((λ i. settled f d.tree.points (trees_here i) (points_here i) d.tree.overrides) ∙ settled_after d v is law now_open ok (Move n p b) x fits seen_place (freed_edit (Move n p b) v.state made) trees_is);
           nodes = nodes_are ∙ nodes_is enters enters_is;
           chars = chars_are ∙ chars_is enters enters_is;
           depth = depth_is counts.depth raised;

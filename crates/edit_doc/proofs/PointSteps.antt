@@ -1,23 +1,19 @@
 -- A step that only moves points of a document under edits.
-use Rattle.std.proofs.Common.{◌≡◌, ℕ, ◌<◌, Bool, true, false, not, ◌&&◌, if◌then◌else◌, List, length, Option, Some, None, IfSome, refl, sym, ap, subst, ◌∙◌, arith}
-use Rattle.std.specs.Prelude.{nat_le, map}
+use Rattle.std.proofs.Common.{◌≡◌, ℕ, Bool, true, false, if◌then◌else◌, List, length, Option, None, refl, sym, ap, subst, ◌∙◌}
+use Rattle.std.specs.Prelude.{map}
 use Rattle.std.specs.Option.{option_map}
-use Rattle.std.proofs.lemmas.Bool.{and_parts, ltb-true}
 use Rattle.dom_model.specs.declared.Content.{Content}
-use Rattle.dom_model.specs.Contents.{length_of}
-use Rattle.dom_model.specs.Forest.{Forest, count_of, tree_of, IsDistinct}
-use Rattle.dom_model.specs.Pruned.{pruned}
+use Rattle.dom_model.specs.Forest.{Forest}
 use Rattle.dom_model.specs.ArenaState.{IsValid as IsArena}
 use Rattle.live_range.specs.declared.places.Pair.{Pair}
-use Rattle.live_range.specs.declared.places.Point.{Point}
 use Rattle.live_range.specs.LivePoints.{LivePoints, mapped, at_pair}
 use Rattle.live_range.specs.PointsEdit.{PointsEdit, adjusted_pair}
-use Rattle.live_range.specs.ActiveRange.{range_changed, same_point}
+use Rattle.live_range.specs.ActiveRange.{range_changed}
 use Rattle.undo_log.specs.Log.Open.{Closed}
-use Rattle.point_order.specs.PointOrder.{is_in_document, is_placed, is_before}
+use Rattle.point_order.specs.PointOrder.{is_before}
 use Rattle.edit_model.specs.declared.settings.Setting.{Setting}
 use Rattle.edit_model.specs.Edit.{changed, overrides_after}
-use Rattle.edit_model.specs.Valid.{IsPlacedPair, IsPlaced}
+use Rattle.edit_model.specs.Valid.{IsPlaced}
 use Rattle.edit_model.specs.Overrides.{no_overrides}
 use Rattle.edit_model.proofs.Points.{Places, mapped_placed}
 use Rattle.edit_doc.specs.declared.Doc.TheInside.{Inside}
@@ -27,39 +23,12 @@ use Rattle.edit_parts.specs.Following.{Watches, settled}
 use Rattle.edit_doc.specs.Whole.{Whole, with_state}
 use Rattle.edit_doc.specs.History.{seen_trees, whole_of}
 use Rattle.edit_doc.specs.Sound.{IsSoundDoc}
-use Rattle.edit_doc.proofs.Before.{before_detached}
 use Rattle.edit_doc.proofs.Chosen.{moved_to, other_ok, scratch_at_rest}
-use Rattle.edit_doc.proofs.Found.{tree_of-fewer}
 use Rattle.edit_doc.proofs.HiddenTrees.{placed-whole}
 use Rattle.edit_doc.proofs.Inner.{seen, Ok}
 use Rattle.edit_doc.proofs.Rests.{arena_forest}
 use Rattle.edit_doc.proofs.SeenNodes.{out_of}
-
--- ---- the active range
-
-placed_detached : (g : Forest Content) (p : Point) → is_placed g p ≡ true → 0 < count_of g p.label
-unfolding is_placed
-placed_detached g p e =
-    let inside : 0 < count_of (tree_of g 0) p.label = ltb-true 0 (count_of (tree_of g 0) p.label) (and_parts (is_in_document g p.label) (nat_le p.offset (length_of g p.label)) e).0 in
-    omega (arith, inside, tree_of-fewer g 0 p.label)
-
-module _ (k : ℕ → Bool) (f : Forest Content) (once : IsDistinct f) where
-  pair_detached : (p : Pair) → IsPlacedPair (pruned k f) p → is_before (pruned k f) p.focus p.anchor ≡ is_before f p.focus p.anchor
-  pair_detached p h = before_detached k f once p.focus p.anchor (placed_detached (pruned k f) p.focus h.focus) (placed_detached (pruned k f) p.anchor h.anchor)
-
-  ranged : Pair → Pair → Bool → Bool → Bool
-  ranged p q was is =
-      not (same_point (if was then p.focus else p.anchor) (if is then q.focus else q.anchor) && same_point (if was then p.anchor else p.focus) (if is then q.anchor else q.focus))
-
-  range_detached : (was is : Option Pair) → IfSome was (IsPlacedPair (pruned k f)) → IfSome is (IsPlacedPair (pruned k f)) →
-      range_changed (is_before (pruned k f)) (is_before (pruned k f)) was is ≡ range_changed (is_before f) (is_before f) was is
-  unfolding ranged
-  range_detached None None p q = refl
-  range_detached None (Some y) p q = refl
-  range_detached (Some x) None p q = refl
-  range_detached (Some x) (Some y) p q = λ i. ranged x y (pair_detached x p i) (pair_detached y q i)
-
--- ---- the step
+use Rattle.edit_doc.proofs.Settled.{settled_seen}
 
 none_set : length no_overrides ≡ 32
 unfolding no_overrides
@@ -70,9 +39,6 @@ settled_length true list h = none_set
 settled_length false list h = h
 
 module _ (d : Inside) (law : IsArena d.tree.arena) (ok : Ok d) where
-  pub placed_now : IsPlaced d.tree.arena.trees d.tree.points
-  placed_now = placed-whole d.tree.arena.trees d.tree.arena.next (arena_forest d.tree.arena law) (out_of d) refl d.tree.points ok.valid.placed
-
   module _ (selection scratch : Option Pair) (marks : List (List ℕ × Pair)) (placed : IsPlaced (seen_trees d.history.log d.command.start d.tree.arena.trees) (moved_to d.tree.points selection scratch marks)) where
     abbrev points : LivePoints
     points = moved_to d.tree.points selection scratch marks
@@ -92,8 +58,7 @@ module _ (d : Inside) (law : IsArena d.tree.arena) (ok : Ok d) where
     step_ok none = other_ok d ok selection scratch marks overrides d.tree.flags placed (settled_length (range_changed (is_before d.tree.arena.trees) (is_before d.tree.arena.trees) d.tree.points.selection selection) d.tree.overrides ok.valid.settings) none
 
     settled_so : overrides ≡ overrides_after (seen d).state (seen d).state.trees points
-    unfolding overrides_after
-    settled_so = ap (λ b. if b then no_overrides else d.tree.overrides) (sym (range_detached (out_of d) d.tree.arena.trees law.distinct d.tree.points.selection selection ok.valid.placed.selection placed.selection))
+    settled_so = settled_seen (out_of d) d.tree.arena.trees d.tree.arena.trees (seen d).state points law.distinct law.distinct refl ok.valid.placed placed
 
     pub step_is : (v : Whole) → seen d ≡ v →
         whole_of (record d.tree { points = points; overrides = overrides }) d.command d.history

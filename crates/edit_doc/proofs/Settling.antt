@@ -1,6 +1,5 @@
 -- Where the points stand after an edit that is made, and what settling the overrides writes.
-use Rattle.std.proofs.Common.{◌≡◌, Bool, true, false, List, length, Option, refl, sym, ap, subst, ◌∙◌, arith}
-use Rattle.std.specs.Prelude.{if◌then◌else◌}
+use Rattle.std.proofs.Common.{◌≡◌, true, List, Option, refl, sym, ap, subst, ◌∙◌, arith}
 use Rattle.dom_model.specs.declared.Content.{Content}
 use Rattle.dom_model.specs.Forest.{Forest}
 use Rattle.dom_model.specs.Pruned.{pruned}
@@ -13,7 +12,6 @@ use Rattle.forest_changes.proofs.Twice.{IsForest-applied, count_of-applied}
 use Rattle.edit_steps.specs.declared.step.Step.{Step}
 use Rattle.edit_steps.specs.Step.{change_of, step_applied, StepFits}
 use Rattle.edit_model.specs.declared.settings.Setting.{Setting}
-use Rattle.edit_model.specs.Overrides.{no_overrides}
 use Rattle.edit_model.specs.Edit.{Edit, is_made_edit, trees_after, points_after, overrides_after}
 use Rattle.edit_model.specs.Valid.{IsForest, IsPlaced}
 use Rattle.edit_model.specs.Possible.{freed}
@@ -29,14 +27,6 @@ use Rattle.edit_doc.proofs.Changing.{goes}
 use Rattle.edit_doc.proofs.HiddenTrees.{model_forest, placed-whole}
 use Rattle.edit_doc.proofs.Rests.{arena_forest}
 use Rattle.edit_doc.proofs.Settled.{settled_seen}
-
-none_set : length no_overrides ≡ 32
-unfolding no_overrides
-none_set = refl
-
-settled_length : (b : Bool) (list : List Setting) → length list ≡ 32 → length (if b then no_overrides else list) ≡ 32
-settled_length true list h = none_set
-settled_length false list h = h
 
 module _ (d : Inside) (law : IsArena d.tree.arena) (ok : Ok d) where
   pub points_now : IsPlaced d.tree.arena.trees d.tree.points

@@ -1,18 +1,15 @@
-use Rattle.std.proofs.Common.{◌≡◌, refl, sym, ap, ◌∙◌}
+use Rattle.std.proofs.Common.{◌≡◌, sym, ap, ◌∙◌}
 use Rattle.edit_model.specs.Edit.{Insert}
 use Rattle.edit_model.specs.Gives.{label_of}
 use Rattle.edit_parts.specs.Following.{settled}
 use Rattle.edit_doc.proofs.Edited.{Applied}
 use Rattle.edit_doc.proofs.Inserting.{fits, nodes_fit, chars_fit, held_here, points_fit, placed, link_done}
-use Rattle.edit_doc.proofs.HiddenTrees.{placed-whole}
-use Rattle.edit_doc.proofs.Rests.{arena_forest}
-use Rattle.edit_doc.proofs.SeenNodes.{out_of, held_seen}
+use Rattle.edit_doc.proofs.Settling.{points_now}
+use Rattle.edit_doc.proofs.SeenNodes.{held_seen}
 use Rattle.edit_doc.proofs.Doc.link.Goals as goal
 
 pub watch-watch-requires : goal.watch-watch-requires
-watch-watch-requires c =
-    let d = c.self.inside in
-    (placed-whole d.tree.arena.trees d.tree.arena.next (arena_forest d.tree.arena c.valid.ensures) (out_of d) refl d.tree.points c.self.invariant.valid.placed).selection
+watch-watch-requires c = (points_now c.self.inside c.valid.ensures c.self.invariant).selection
 
 pub counts_with-counts-requires-clause-nodes : goal.counts_with-counts-requires-clause-nodes
 counts_with-counts-requires-clause-nodes c =

@@ -13,9 +13,8 @@ use Rattle.edit_doc.specs.Held.{Holds, IfHeld}
 use Rattle.edit_doc.specs.Marks.{place_labels}
 use Rattle.edit_doc.proofs.Edited.{Done}
 use Rattle.edit_doc.proofs.Moving.{not_moved, fits, place_markable, markable_after, nodes_fit, chars_fit, held_here, points_fit, placed, stands, move_done}
-use Rattle.edit_doc.proofs.HiddenTrees.{placed-whole}
-use Rattle.edit_doc.proofs.Rests.{arena_forest}
-use Rattle.edit_doc.proofs.SeenNodes.{shows_of, out_of, held_seen, parent_seen, finds_parent, finds_next}
+use Rattle.edit_doc.proofs.Settling.{points_now}
+use Rattle.edit_doc.proofs.SeenNodes.{shows_of, held_seen, parent_seen, finds_parent, finds_next}
 use Rattle.edit_doc.proofs.Doc.move_keeping.Goals as goal
 
 up : (d : Inside) (node from : NodeRef) (o : Option NodeRef) → Names d.tree.arena o (parent_of d.tree.arena.trees node.label) → o ≡ Some from → parent_of d.tree.arena.trees node.label ≡ Some from.label
@@ -46,9 +45,7 @@ returns-then-not-may_go-clause-gives c =
     (not_moved a.self.now.state a.node.label a.parent.label (label_of a.before) (Some c.in-Some.from.label) (parent_seen (shows_of c.self.inside c.valid.ensures a.self.now c.self.view_is) a.node c.requires.node_held ∙ up c.self.inside a.node c.in-Some.from c.parent.result c.parent.ensures c.in-Some.is) (sym c.may_go.ensures ∙ c.if-not-may_go.true)) refl
 
 pub watch-watch-requires : goal.watch-watch-requires
-watch-watch-requires c =
-    let d = c.self.inside in
-    (placed-whole d.tree.arena.trees d.tree.arena.next (arena_forest d.tree.arena c.valid.ensures) (out_of d) refl d.tree.points c.self.invariant.valid.placed).selection
+watch-watch-requires c = (points_now c.self.inside c.valid.ensures c.self.invariant).selection
 
 pub counts_moved-counts-requires-clause-nodes : goal.counts_moved-counts-requires-clause-nodes
 counts_moved-counts-requires-clause-nodes c = let a = c.args in nodes_fit c.self.inside a.self.now c.self.view_is c.valid.ensures c.slotted.ensures c.requires.open c.self.invariant a.node c.in-Some.from a.parent a.before c.requires.node_held c.requires.parent_held c.requires.before_held (up c.self.inside a.node c.in-Some.from c.parent.result c.parent.ensures c.in-Some.is) (sym c.may_go.ensures ∙ c.if-not-may_go.false) (comes_in c.self.inside.tree.arena.trees a.node.label a.parent.label) refl

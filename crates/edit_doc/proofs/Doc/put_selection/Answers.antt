@@ -6,11 +6,12 @@ use Rattle.edit_doc.specs.Whole.{Whole, with_state}
 use Rattle.edit_doc.specs.History.{seen_trees}
 use Rattle.edit_doc.proofs.Inner.{seen}
 use Rattle.edit_doc.proofs.Chosen.{moved_to, scratch_at_rest}
-use Rattle.edit_doc.proofs.PointSteps.{placed_now, placed_then, settled_items, step_ok, step_is}
+use Rattle.edit_doc.proofs.PointSteps.{placed_then, settled_items, step_ok, step_is}
+use Rattle.edit_doc.proofs.Settling.{points_now}
 use Rattle.edit_doc.proofs.Doc.put_selection.Goals as goal
 
 pub watch-watch-requires : goal.watch-watch-requires
-watch-watch-requires c = (placed_now c.self.inside c.valid.ensures c.self.invariant).selection
+watch-watch-requires c = (points_now c.self.inside c.valid.ensures c.self.invariant).selection
 
 pub settle-requires : goal.settle-requires
 settle-requires c =

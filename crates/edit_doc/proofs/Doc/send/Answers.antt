@@ -1,4 +1,4 @@
-use Rattle.std.proofs.Common.{true, ◌∙◌, refl, ap, sym, arith}
+use Rattle.std.proofs.Common.{◌∙◌, refl, ap, sym, arith}
 use Rattle.live_range.specs.PointsEdit as range
 use Rattle.edit_model.specs.Action.{acted, sent}
 use Rattle.edit_model.specs.Confined.{may_send}
@@ -6,11 +6,12 @@ use Rattle.edit_model.proofs.Fitting.{places-send, fits-send}
 use Rattle.edit_model.proofs.Points.{Places}
 use Rattle.edit_doc.specs.Whole.{Whole}
 use Rattle.edit_doc.proofs.Inner.{seen}
-use Rattle.edit_doc.proofs.PointSteps.{placed_now, mapped_then, mapped_ok, mapped_is}
+use Rattle.edit_doc.proofs.PointSteps.{mapped_then, mapped_ok, mapped_is}
+use Rattle.edit_doc.proofs.Settling.{points_now}
 use Rattle.edit_doc.proofs.Doc.send.Goals as goal
 
 pub watch-watch-requires : goal.watch-watch-requires
-watch-watch-requires c = (placed_now c.self.inside c.valid.ensures c.self.invariant).selection
+watch-watch-requires c = (points_now c.self.inside c.valid.ensures c.self.invariant).selection
 
 pub split-requires : goal.split-requires
 split-requires c =
