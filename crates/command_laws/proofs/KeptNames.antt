@@ -1,16 +1,14 @@
 -- A command that keeps contents leaves the names of nodes.
-use Rattle.std.proofs.Common.{◌≡◌, ◌≢◌, ℕ, ◌<◌, Bool, true, false, cond, eqb, List, Option, Some, None, refl, sym, ap, subst, ◌∙◌, inl, inr, arith, true≢false}
+use Rattle.std.proofs.Common.{◌≡◌, ◌≢◌, ℕ, ◌<◌, true, false, List, Option, Some, None, refl, sym, ap, subst, ◌∙◌, inl, inr, arith, true≢false}
 use Rattle.std.specs.Option.{option_map, option_map_or, option_and_then}
 use Rattle.std.specs.Prelude.{bytes_eq}
 use Rattle.std.proofs.lemmas.Bool.{cases_Bool}
 use Rattle.dom_model.specs.declared.Content.{Content}
-use Rattle.dom_model.specs.declared.Content.TheVariants.{Document, Element, Words, Remark}
+use Rattle.dom_model.specs.declared.Content.TheVariants.{Element}
 use Rattle.dom_model.specs.Contents.{name_in, name_of, has_name}
-use Rattle.dom_model.specs.Forest.{Forest, Seen, count_of, seek, content_of, unlink, with_leaf}
-use Rattle.dom_model.specs.Revised.{revised}
+use Rattle.dom_model.specs.Forest.{Forest, Seen, count_of, seek, unlink, with_leaf}
 use Rattle.dom_model.proofs.Kept.{content_of-link, content_of-unlink, content_of-with_leaf_other}
 use Rattle.dom_model.proofs.Links.{found_count}
-use Rattle.dom_model.proofs.Revising.{content_of-revised}
 use Rattle.edit_model.specs.State.{State}
 use Rattle.edit_model.specs.Edit.{Edit, Insert, Remove, Move, Replace, Set, Unset, is_made_edit, trees_after, changed, with_replaced, with_set, with_unset}
 use Rattle.edit_model.specs.Action as action
@@ -23,34 +21,9 @@ use Rattle.edit_model.proofs.IslandRuns.{trees_made, trees_left}
 use Rattle.edit_model.proofs.ValidRuns.{valid_along}
 use Rattle.edit_model.proofs.OutsideRuns.{trees-extended, trees-selected, trees-grown, trees-sent, trees-scratched}
 use Rattle.edit_model.proofs.TailSteps.{extracted_off}
+use Rattle.edit_model.proofs.Things.{name-replaced, name-set, name-unset, name_of-revised}
 use Rattle.edit_model.proofs.Tests.{inserts, removes, goes, parent_there}
 use Rattle.edit_laws.specs.Order.{IsKeeping}
-
-name-replaced : (at count : ℕ) (put : List ℕ) (c : Content) → name_in (with_replaced at count put c) ≡ name_in c
-name-replaced at count put Document = refl
-name-replaced at count put (Element name attributes) = refl
-name-replaced at count put (Words chars) = refl
-name-replaced at count put (Remark chars) = refl
-
-name-set : (name value : List ℕ) (c : Content) → name_in (with_set name value c) ≡ name_in c
-name-set name value Document = refl
-name-set name value (Element tag list) = refl
-name-set name value (Words chars) = refl
-name-set name value (Remark chars) = refl
-
-name-unset : (name : List ℕ) (c : Content) → name_in (with_unset name c) ≡ name_in c
-name-unset name Document = refl
-name-unset name (Element tag list) = refl
-name-unset name (Words chars) = refl
-name-unset name (Remark chars) = refl
-
-name_of-revised : (f : Forest Content) (n l : ℕ) (g : Content → Content) → ((c : Content) → name_in (g c) ≡ name_in c) → name_of (revised f n g) l ≡ name_of f l
-name_of-revised f n l g same = ap (option_and_then name_in) (content_of-revised n g f l) ∙ each (eqb n l) (content_of f l)
-  where
-    each : (v : Bool) (o : Option Content) → option_and_then name_in (option_map (λ c. cond v (g c) c) o) ≡ option_and_then name_in o
-    each v None = refl
-    each true (Some c) = same c
-    each false (Some c) = refl
 
 named_there : (f : Forest Content) (l : ℕ) (name : List ℕ) → name_of f l ≡ Some name → 0 < count_of f l
 named_there f l name h = by_seen (seek None f l) refl h

@@ -34,25 +34,25 @@ use Rattle.edit_model.proofs.TailSteps.{extracted_off}
 
 -- ---- names
 
-name-replaced : (at count : ℕ) (put : List ℕ) (c : Content) → name_in (with_replaced at count put c) ≡ name_in c
+pub name-replaced : (at count : ℕ) (put : List ℕ) (c : Content) → name_in (with_replaced at count put c) ≡ name_in c
 name-replaced at count put Document = refl
 name-replaced at count put (Element name attributes) = refl
 name-replaced at count put (Words chars) = refl
 name-replaced at count put (Remark chars) = refl
 
-name-set : (name value : List ℕ) (c : Content) → name_in (with_set name value c) ≡ name_in c
+pub name-set : (name value : List ℕ) (c : Content) → name_in (with_set name value c) ≡ name_in c
 name-set name value Document = refl
 name-set name value (Element tag list) = refl
 name-set name value (Words chars) = refl
 name-set name value (Remark chars) = refl
 
-name-unset : (name : List ℕ) (c : Content) → name_in (with_unset name c) ≡ name_in c
+pub name-unset : (name : List ℕ) (c : Content) → name_in (with_unset name c) ≡ name_in c
 name-unset name Document = refl
 name-unset name (Element tag list) = refl
 name-unset name (Words chars) = refl
 name-unset name (Remark chars) = refl
 
-name_of-revised : (f : Forest Content) (n l : ℕ) (g : Content → Content) → ((c : Content) → name_in (g c) ≡ name_in c) → name_of (revised f n g) l ≡ name_of f l
+pub name_of-revised : (f : Forest Content) (n l : ℕ) (g : Content → Content) → ((c : Content) → name_in (g c) ≡ name_in c) → name_of (revised f n g) l ≡ name_of f l
 name_of-revised f n l g same = ap (option_and_then name_in) (content_of-revised n g f l) ∙ each (eqb n l) (content_of f l)
   where
     each : (v : Bool) (o : Option Content) → option_and_then name_in (option_map (λ c. cond v (g c) c) o) ≡ option_and_then name_in o
