@@ -13,6 +13,21 @@ use Rattle.edit_model.proofs.Islands.{link_elsewhere}
 module _ {C : Type 0} where
   -- ---- nothing comes in
 
+  -- a first tree whose children hold no more, with no more in them and behind it
+  fewer-tree : (m : ℕ) (c : C) (ks kids rest other : Forest C) (y l : ℕ) → count_of kids l ≤ count_of ks l → count_of (tree_of kids y) l ≤ count_of (tree_of ks y) l → count_of (tree_of other y) l ≤ count_of (tree_of rest y) l → count_of (tree_of (Tree m c kids other) y) l ≤ count_of (tree_of (Tree m c ks rest) y) l
+  fewer-tree m c ks kids rest other y l held inside behind = elim (eqb_tells m y) [
+    | inl (u, _) ↦ rw u (omega (arith, held))
+    | inr (u, _) ↦
+        rw u
+        (omega (
+          arith,
+          inside,
+          behind,
+          total-join (λ k _. cond (eqb k l) 1 0) (tree_of ks y) (tree_of rest y),
+          total-join (λ k _. cond (eqb k l) 1 0) (tree_of kids y) (tree_of other y),
+        ))
+  ]
+
   fewer-without : (f : Forest C) (n y l : ℕ) → IsDistinct f → count_of (tree_of (without f n) y) l ≤ count_of (tree_of f y) l
   fewer-without Nil n y l once = omega arith
   fewer-without (Tree m c ks rest) n y l once =
@@ -26,33 +41,12 @@ module _ {C : Type 0} where
               rw (t, u, tree_of_absent rest y (omega (arith, o'))) (omega arith))
           | inr (u, _) ↦ rw (t, u) (omega (arith, total-join (λ k _. cond (eqb k l) 1 0) (tree_of ks y) (tree_of rest y)))
         ]
-        | inr (t, _) ↦ elim (eqb_tells m y) [
-          | inl (u, _) ↦ rw (t, u) (omega (arith, total-without (λ k _. cond (eqb k l) 1 0) ks n))
-          | inr (u, _) ↦
-              rw (t, u)
-              (omega (
-                arith,
-                fewer-without ks n y l once_ks,
-                fewer-without rest n y l once_rest,
-                total-join (λ k _. cond (eqb k l) 1 0) (tree_of ks y) (tree_of rest y),
-                total-join (λ k _. cond (eqb k l) 1 0) (tree_of (without ks n) y) (tree_of (without rest n) y),
-              ))
-        ]
+        | inr (t, _) ↦ rw t (fewer-tree m c ks (without ks n) rest (without rest n) y l (omega (arith, total-without (λ k _. cond (eqb k l) 1 0) ks n)) (fewer-without ks n y l once_ks) (fewer-without rest n y l once_rest))
       ]
 
   fewer-join : (f g : Forest C) (y l : ℕ) → count_of g l ≡ 0 → count_of (tree_of (join f g) y) l ≤ count_of (tree_of f y) l
   fewer-join Nil g y l none = omega (arith, none, total-without (λ k _. cond (eqb k l) 1 0) g y)
-  fewer-join (Tree m c ks rest) g y l none = elim (eqb_tells m y) [
-    | inl (u, _) ↦ rw u (omega arith)
-    | inr (u, _) ↦
-        rw u
-        (omega (
-          arith,
-          fewer-join rest g y l none,
-          total-join (λ k _. cond (eqb k l) 1 0) (tree_of ks y) (tree_of rest y),
-          total-join (λ k _. cond (eqb k l) 1 0) (tree_of ks y) (tree_of (join rest g) y),
-        ))
-  ]
+  fewer-join (Tree m c ks rest) g y l none = fewer-tree m c ks ks rest (join rest g) y l (omega arith) (omega arith) (fewer-join rest g y l none)
 
   -- a tree without l before others
   before : (t g : Forest C) (y l : ℕ) → count_of t l ≡ 0 → count_of (tree_of (join t g) y) l ≤ count_of (tree_of g y) l
@@ -74,34 +68,14 @@ module _ {C : Type 0} where
   fewer-rising Nil n t y l none = omega (arith, none, total-without (λ k _. cond (eqb k l) 1 0) t y)
   fewer-rising (Tree m c ks rest) n t y l none = elim (cases_Bool (nat_lt n m)) [
     | inl v ↦ rw v (before t (Tree m c ks rest) y l none)
-    | inr v ↦ rw v (elim (eqb_tells m y) [
-      | inl (u, _) ↦ rw u (omega arith)
-      | inr (u, _) ↦
-          rw u
-          (omega (
-            arith,
-            fewer-rising rest n t y l none,
-            total-join (λ k _. cond (eqb k l) 1 0) (tree_of ks y) (tree_of rest y),
-            total-join (λ k _. cond (eqb k l) 1 0) (tree_of ks y) (tree_of (put_rising rest n t) y),
-          ))
-    ])
+    | inr v ↦ rw v (fewer-tree m c ks ks rest (put_rising rest n t) y l (omega arith) (omega arith) (fewer-rising rest n t y l none))
   ]
 
   fewer-before : (f : Forest C) (b : Option ℕ) (t : Forest C) (y l : ℕ) → count_of t l ≡ 0 → count_of (tree_of (put_before f b t) y) l ≤ count_of (tree_of f y) l
   fewer-before Nil b t y l none = omega (arith, none, total-without (λ k _. cond (eqb k l) 1 0) t y)
   fewer-before (Tree m c ks rest) b t y l none = elim (cases_Bool (is_label b m)) [
     | inl v ↦ rw v (before t (Tree m c ks rest) y l none)
-    | inr v ↦ rw v (elim (eqb_tells m y) [
-      | inl (u, _) ↦ rw u (omega arith)
-      | inr (u, _) ↦
-          rw u
-          (omega (
-            arith,
-            fewer-before rest b t y l none,
-            total-join (λ k _. cond (eqb k l) 1 0) (tree_of ks y) (tree_of rest y),
-            total-join (λ k _. cond (eqb k l) 1 0) (tree_of ks y) (tree_of (put_before rest b t) y),
-          ))
-    ])
+    | inr v ↦ rw v (fewer-tree m c ks ks rest (put_before rest b t) y l (omega arith) (omega arith) (fewer-before rest b t y l none))
   ]
 
   total-under : (f : Forest C) (p : ℕ) (b : Option ℕ) (t : Forest C) (l : ℕ) → count_of t l ≡ 0 → count_of (put_under f p b t) l ≡ count_of f l
@@ -114,29 +88,8 @@ module _ {C : Type 0} where
   fewer-under : (f : Forest C) (p : ℕ) (b : Option ℕ) (t : Forest C) (y l : ℕ) → count_of t l ≡ 0 → count_of (tree_of (put_under f p b t) y) l ≤ count_of (tree_of f y) l
   fewer-under Nil p b t y l none = omega arith
   fewer-under (Tree m c ks rest) p b t y l none = elim (eqb_tells m p) [
-    | inl (v, _) ↦ elim (eqb_tells m y) [
-      | inl (u, _) ↦ rw (v, u) (omega (arith, none, total-put_before (λ k _. cond (eqb k l) 1 0) ks b t))
-      | inr (u, _) ↦
-          rw (v, u)
-          (omega (
-            arith,
-            fewer-before ks b t y l none,
-            total-join (λ k _. cond (eqb k l) 1 0) (tree_of ks y) (tree_of rest y),
-            total-join (λ k _. cond (eqb k l) 1 0) (tree_of (put_before ks b t) y) (tree_of rest y),
-          ))
-    ]
-    | inr (v, _) ↦ elim (eqb_tells m y) [
-      | inl (u, _) ↦ rw (v, u) (omega (arith, total-under ks p b t l none))
-      | inr (u, _) ↦
-          rw (v, u)
-          (omega (
-            arith,
-            fewer-under ks p b t y l none,
-            fewer-under rest p b t y l none,
-            total-join (λ k _. cond (eqb k l) 1 0) (tree_of ks y) (tree_of rest y),
-            total-join (λ k _. cond (eqb k l) 1 0) (tree_of (put_under ks p b t) y) (tree_of (put_under rest p b t) y),
-          ))
-    ]
+    | inl (v, _) ↦ rw v (fewer-tree m c ks (put_before ks b t) rest rest y l (omega (arith, none, total-put_before (λ k _. cond (eqb k l) 1 0) ks b t)) (fewer-before ks b t y l none) (omega arith))
+    | inr (v, _) ↦ rw v (fewer-tree m c ks (put_under ks p b t) rest (put_under rest p b t) y l (omega (arith, total-under ks p b t l none)) (fewer-under ks p b t y l none) (fewer-under rest p b t y l none))
   ]
 
   -- where the tree that goes doesn't hold l, l comes into no tree
