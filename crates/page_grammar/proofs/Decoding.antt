@@ -260,14 +260,7 @@ four_is b h k =
 
 -- no character begins with such a byte
 no_lead : (b : ℕ) → (128 ≤ b) → (b < 194) ⊎ (245 ≤ b) → (x : ℕ) (t : List ℕ) → scalar x ≡ true → encode x ≡ b ∷ t → ⊥
-no_lead b lo (inl hi) x t s e =
-    elim (sized x) [
-      | inl z ↦ let q : x ≡ b = let e1 = z.1 in cc in omega arith
-      | inr (inl z) ↦ let q : 192 + x / 64 ≡ b = let e1 = z.2 in cc in omega arith
-      | inr (inr (inl z)) ↦ let q : 224 + x / 4096 ≡ b = let e1 = z.2 in cc in omega arith
-      | inr (inr (inr z)) ↦ let q : 240 + x / 262144 ≡ b = let e1 = z.1 in cc in omega arith
-    ]
-no_lead b lo (inr hi) x t s e =
+no_lead b lo out x t s e =
     let top : x < 1114112 = elim (scalar_cases x s) [ inl i ↦ omega arith | inr i ↦ i.1 ] in
     elim (sized x) [
       | inl z ↦ let q : x ≡ b = let e1 = z.1 in cc in omega arith
