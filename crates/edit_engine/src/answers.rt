@@ -3,6 +3,8 @@
 use edit_doc::{EditFault, MarkFault};
 use script_read::Path;
 use std::alloc::AllocError;
+use std::error::Error;
+use std::fmt;
 
 /// What executing a command answers (HTML Editing APIs, "execCommand()").
 #[derive(Clone, Copy, PartialEq, Eq, Debug)]
@@ -23,6 +25,18 @@ pub enum ExecFault {
     /// There is no memory for it.
     Memory = 3,
 }
+
+impl fmt::Display for ExecFault {
+    fn fmt<W: fmt::Write>(&self, f: &mut fmt::Formatter<W>) -> fmt::Result {
+        match self {
+            ExecFault::Full => write!(f, "no label is left below the cap"),
+            ExecFault::Deep => write!(f, "the document would be too deep"),
+            ExecFault::Memory => write!(f, "out of memory"),
+        }
+    }
+}
+
+impl Error for ExecFault {}
 
 impl From<AllocError> for ExecFault {
     ghost use Rattle.std.specs.Prelude.{◌≡◌};
@@ -58,6 +72,17 @@ pub enum LogFault {
     Memory = 2,
 }
 
+impl fmt::Display for LogFault {
+    fn fmt<W: fmt::Write>(&self, f: &mut fmt::Formatter<W>) -> fmt::Result {
+        match self {
+            LogFault::LogCut => write!(f, "the oldest entries of the log are gone"),
+            LogFault::Memory => write!(f, "out of memory"),
+        }
+    }
+}
+
+impl Error for LogFault {}
+
 impl From<AllocError> for LogFault {
     ghost use Rattle.std.specs.Prelude.{◌≡◌};
     ghost use Rattle.edit_engine.specs.declared.answers.LogFault.TheVariants.{Memory};
@@ -79,6 +104,18 @@ pub enum PlaceFault {
     /// There is no memory for the mark.
     Memory = 3,
 }
+
+impl fmt::Display for PlaceFault {
+    fn fmt<W: fmt::Write>(&self, f: &mut fmt::Formatter<W>) -> fmt::Result {
+        match self {
+            PlaceFault::BadPlace => write!(f, "the document has no such place"),
+            PlaceFault::TooManyMarks => write!(f, "16 marks of other names are there already"),
+            PlaceFault::Memory => write!(f, "out of memory"),
+        }
+    }
+}
+
+impl Error for PlaceFault {}
 
 impl From<MarkFault> for PlaceFault {
     ghost use Rattle.edit_engine.specs.Faults.{place_fault};
@@ -117,6 +154,17 @@ pub enum ViewFault {
     /// There is no memory for the text.
     Memory = 2,
 }
+
+impl fmt::Display for ViewFault {
+    fn fmt<W: fmt::Write>(&self, f: &mut fmt::Formatter<W>) -> fmt::Result {
+        match self {
+            ViewFault::BadPlace => write!(f, "the document has no such node"),
+            ViewFault::Memory => write!(f, "out of memory"),
+        }
+    }
+}
+
+impl Error for ViewFault {}
 
 impl From<AllocError> for ViewFault {
     ghost use Rattle.std.specs.Prelude.{◌≡◌};

@@ -2,6 +2,8 @@
 
 use dom_model::Chars;
 use std::alloc::AllocError;
+use std::error::Error;
+use std::fmt;
 
 /// The override of a command (HTML Editing APIs, "state override" and "value override").
 #[derive(Drop)]
@@ -33,6 +35,17 @@ pub enum EditFault {
     /// There is no memory for it.
     Memory = 2,
 }
+
+impl fmt::Display for EditFault {
+    fn fmt<W: fmt::Write>(&self, f: &mut fmt::Formatter<W>) -> fmt::Result {
+        match self {
+            EditFault::Full => write!(f, "no label is left below the cap"),
+            EditFault::Memory => write!(f, "out of memory"),
+        }
+    }
+}
+
+impl Error for EditFault {}
 
 impl From<AllocError> for EditFault {
     ghost use Rattle.std.specs.Prelude.{◌≡◌};

@@ -18,6 +18,8 @@ use crate::pairs::pair_of;
 use crate::places::{MarkPlace, Pair, Places, Point};
 use crate::standing::standing_label;
 use std::alloc::{AllocError, Global};
+use std::error::Error;
+use std::fmt;
 use std::marker::{Brand, Model};
 use std::mem::replace;
 use std::sync::ledger::{Blank, Ledger};
@@ -44,6 +46,17 @@ pub enum MarkFault {
     /// Memory ran out.
     Memory,
 }
+
+impl fmt::Display for MarkFault {
+    fn fmt<W: fmt::Write>(&self, f: &mut fmt::Formatter<W>) -> fmt::Result {
+        match self {
+            MarkFault::TooManyMarks => write!(f, "16 marks of other names are there already"),
+            MarkFault::Memory => write!(f, "out of memory"),
+        }
+    }
+}
+
+impl Error for MarkFault {}
 
 /// The selection, one scratch pair, and at most 16 marks, each a pair of points under a name.
 #[derive(Drop)]

@@ -31,6 +31,8 @@ pub use node_list::NodeList;
 pub use nodes::Nodes;
 use slab::Slab;
 use std::alloc::{AllocError, Global};
+use std::error::Error;
+use std::fmt;
 use std::marker::Model;
 
 /// Names a node: its slot, and its label, which no other node of the arena has.
@@ -57,6 +59,17 @@ pub enum MakeFault {
     /// There is no memory for it.
     Memory = 2,
 }
+
+impl fmt::Display for MakeFault {
+    fn fmt<W: fmt::Write>(&self, f: &mut fmt::Formatter<W>) -> fmt::Result {
+        match self {
+            MakeFault::Full => write!(f, "no label is left below the cap"),
+            MakeFault::Memory => write!(f, "out of memory"),
+        }
+    }
+}
+
+impl Error for MakeFault {}
 
 #[derive(Drop)]
 struct Node {

@@ -4,6 +4,8 @@ ghost use Rattle.std.specs.Prelude.{◌≡◌};
 ghost use Rattle.page_read.specs.Faults.{kind_word, fault_of_memory};
 
 use std::alloc::AllocError;
+use std::error::Error;
+use std::fmt;
 
 /// Why bytes are no page. At one place the kind that stands first in the order `TooLong`, `Unclosed`, `NotUtf8`,
 /// `TooDeep`, `Full`, `UnsupportedElement`, `RepeatedAttribute`, `UnknownReference`, `StrayEnd`, `BadAttribute`, `BadTag`
@@ -42,6 +44,36 @@ pub struct PageFault {
     pub at: usize,
     pub kind: PageKind,
 }
+
+impl fmt::Display for PageKind {
+    fn fmt<W: fmt::Write>(&self, f: &mut fmt::Formatter<W>) -> fmt::Result {
+        match self {
+            PageKind::NotUtf8 => write!(f, "the text is not UTF-8"),
+            PageKind::BadTag => write!(f, "the tag is malformed"),
+            PageKind::Unclosed => write!(f, "the page ends too early"),
+            PageKind::StrayEnd => write!(f, "no open element has this end tag"),
+            PageKind::BadAttribute => write!(f, "the attributes are malformed"),
+            PageKind::RepeatedAttribute => write!(f, "the tag has this attribute already"),
+            PageKind::UnknownReference => write!(f, "the character reference is unknown"),
+            PageKind::UnsupportedElement => write!(f, "a page may not have this element"),
+            PageKind::TooDeep => write!(f, "the document would be too deep"),
+            PageKind::TooLong => write!(f, "the page is too long"),
+            PageKind::Full => write!(f, "no label is left below the cap"),
+            PageKind::Memory => write!(f, "out of memory"),
+        }
+    }
+}
+
+impl fmt::Display for PageFault {
+    fn fmt<W: fmt::Write>(&self, f: &mut fmt::Formatter<W>) -> fmt::Result {
+        match self.kind {
+            PageKind::Memory => write!(f, "{}", self.kind),
+            _ => write!(f, "byte {}: {}", self.at, self.kind),
+        }
+    }
+}
+
+impl Error for PageFault {}
 
 impl PageKind {
     /// The word that is printed for a kind.

@@ -5,6 +5,8 @@ ghost use Rattle.std.specs.Prelude.{◌≡◌, IfOk};
 use dom_model::{Chars, Name};
 use html_names::QueryKind;
 use std::alloc::{AllocError, AllocFailed, Global};
+use std::error::Error;
+use std::fmt;
 use std::marker::{Copy, Model};
 
 /// The way from the document to a node: the index of a child in each node on the way. The document's own is empty.
@@ -119,6 +121,19 @@ pub enum LineFault {
     /// There was no memory for the act.
     Memory = 4,
 }
+
+impl fmt::Display for LineFault {
+    fn fmt<W: fmt::Write>(&self, f: &mut fmt::Formatter<W>) -> fmt::Result {
+        match self {
+            LineFault::Syntax => write!(f, "the line is outside the grammar of its act"),
+            LineFault::UnknownAct => write!(f, "the first word of the line is no act"),
+            LineFault::LongLine => write!(f, "the line has more than 8192 bytes"),
+            LineFault::Memory => write!(f, "out of memory"),
+        }
+    }
+}
+
+impl Error for LineFault {}
 
 impl From<AllocError> for LineFault {
     ghost use Rattle.script_read.specs.declared.act.LineFault.TheVariants.{Memory};

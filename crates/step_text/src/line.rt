@@ -4,6 +4,8 @@ ghost use Rattle.std.specs.Prelude.{◌≡◌};
 
 use dom_model::{Attributes, Chars, Name};
 use std::alloc::AllocError;
+use std::error::Error;
+use std::fmt;
 
 /// What a node is made with.
 #[derive(Drop)]
@@ -66,6 +68,20 @@ pub enum StepFault {
     /// There is no memory for it.
     Memory = 5,
 }
+
+impl fmt::Display for StepFault {
+    fn fmt<W: fmt::Write>(&self, f: &mut fmt::Formatter<W>) -> fmt::Result {
+        match self {
+            StepFault::Syntax => write!(f, "the line is no step"),
+            StepFault::BadLabel => write!(f, "the label is taken, unknown or not below the cap"),
+            StepFault::BadPlace => write!(f, "the node can't go there, or isn't of the kind"),
+            StepFault::TooDeep => write!(f, "the document would be too deep"),
+            StepFault::Memory => write!(f, "out of memory"),
+        }
+    }
+}
+
+impl Error for StepFault {}
 
 impl From<AllocError> for StepFault {
     ghost use Rattle.step_text.specs.declared.line.StepFault.TheVariants.{Memory};
