@@ -1,16 +1,7 @@
-mod blocks;
-mod commands;
-mod deleting;
 mod documents;
 mod extending;
-mod inline;
 mod nodes;
-mod objects;
-mod pages;
-mod paragraphs;
 mod queries;
 mod styles;
-mod toggles;
-mod typing;
 mod values;
 mod wraps;

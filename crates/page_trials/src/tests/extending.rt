@@ -1,10 +1,10 @@
 //! Block-extended ranges, and the outermost nodes of a list.
 
-use crate::tests::pages::{Look, Page, assert_pages, labels, node_of, range_of};
 use block_extend::{Choice, block_extend, gather_in, is_above_prohibited};
 use node_arena::{Arena, NodeRef};
 use std::alloc::Global;
 use std::test::Fail;
+use trial_pages::{Look, Page, check_pages, labels, node_of, range_of};
 
 // A place: the label of a node and an offset.
 type At = (u32, u32);
@@ -53,7 +53,7 @@ static EXTENDED: [Page<Extended>; 7] = [
 
 #[test]
 fn ranges_extend_to_blocks(rt: HostRuntime) -> Result<(), Fail> {
-    assert_pages(&rt, rt.alloc(), &EXTENDED)
+    check_pages(rt.alloc(), &EXTENDED)
 }
 
 // Every node is chosen.
@@ -99,7 +99,7 @@ static GATHERED: [Page<Gathered>; 3] = [
 
 #[test]
 fn outermost_nodes_are_gathered(rt: HostRuntime) -> Result<(), Fail> {
-    assert_pages(&rt, rt.alloc(), &GATHERED)
+    check_pages(rt.alloc(), &GATHERED)
 }
 
 // Nodes, with whether each is above a prohibited paragraph child.
@@ -131,5 +131,5 @@ static ABOVE: [Page<Above>; 1] = [Page(
 
 #[test]
 fn prohibited_children_are_found(rt: HostRuntime) -> Result<(), Fail> {
-    assert_pages(&rt, rt.alloc(), &ABOVE)
+    check_pages(rt.alloc(), &ABOVE)
 }

@@ -1,6 +1,5 @@
 //! Command values.
 
-use crate::tests::pages::{Look, Page, assert_pages, chars, node_of};
 use command_value::{
     alignment, alike, effective, equivalent, has_alike_value, is_activated, is_modifiable_element,
     is_simple_modifiable_element, meets_value, specified, specifies, specifies_other,
@@ -10,6 +9,7 @@ use html_names::Command;
 use node_arena::Arena;
 use std::alloc::{AllocError, Global};
 use std::test::Fail;
+use trial_pages::{Look, Page, chars, check_pages, node_of};
 
 // The label of a node, a command, its effective and its specified value.
 struct Valued(u32, Command, Option<&'static str>, Option<&'static str>);
@@ -274,7 +274,7 @@ impl Look for Valued {
 
 #[test]
 fn values_of_nodes(rt: HostRuntime) -> Result<(), Fail> {
-    assert_pages(&rt, rt.alloc(), &VALUES)
+    check_pages(rt.alloc(), &VALUES)
 }
 
 fn slice(value: Option<&Chars>) -> Option<&[char]> {
@@ -465,7 +465,7 @@ static ELEMENTS: [Page<Modifiable>; 31] = [
 
 #[test]
 fn elements_that_may_be_changed(rt: HostRuntime) -> Result<(), Fail> {
-    assert_pages(&rt, rt.alloc(), &ELEMENTS)
+    check_pages(rt.alloc(), &ELEMENTS)
 }
 
 // The label of a node, and its alignment.
@@ -501,7 +501,7 @@ static ALIGNMENTS: [Page<Aligned>; 9] = [
 
 #[test]
 fn alignments_of_nodes(rt: HostRuntime) -> Result<(), Fail> {
-    assert_pages(&rt, rt.alloc(), &ALIGNMENTS)
+    check_pages(rt.alloc(), &ALIGNMENTS)
 }
 
 // The label of a node, a command, and whether it counts as on.
@@ -540,7 +540,7 @@ static STATES: [Page<Active>; 12] = [
 
 #[test]
 fn states_of_commands(rt: HostRuntime) -> Result<(), Fail> {
-    assert_pages(&rt, rt.alloc(), &STATES)
+    check_pages(rt.alloc(), &STATES)
 }
 
 // A command, a value, and whether the element of the label 1 gives the command that value and has it.
@@ -581,5 +581,5 @@ static GIVEN: [Page<Meets>; 10] = [
 
 #[test]
 fn elements_that_meet_a_value(rt: HostRuntime) -> Result<(), Fail> {
-    assert_pages(&rt, rt.alloc(), &GIVEN)
+    check_pages(rt.alloc(), &GIVEN)
 }

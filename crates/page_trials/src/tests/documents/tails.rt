@@ -1,9 +1,9 @@
 //! Tails that are extracted.
 
-use crate::tests::pages::{Act, Row, assert_rows, node_of, point};
 use edit_doc::{Attributes, Doc, Name};
 use std::alloc::Global;
 use std::test::Fail;
+use trial_pages::{Act, Row, check_rows, node_of, point};
 
 // The tail of the node of a label from a point on goes to a new div at the end of the host.
 struct Tail(u32, (u32, u32));
@@ -51,5 +51,5 @@ static TAILS: [Row<Tail>; 5] = [
 
 #[test]
 fn a_tail_is_extracted(rt: HostRuntime) -> Result<(), Fail> {
-    assert_rows(&rt, rt.alloc(), &TAILS)
+    check_rows(rt.alloc(), &TAILS)
 }

@@ -1,10 +1,10 @@
 //! Which nodes follow and precede line breaks.
 
-use crate::tests::pages::{Look, Page, assert_pages, node_of};
 use node_arena::Arena;
 use node_tests::{follows_break, precedes_break};
 use std::alloc::Global;
 use std::test::Fail;
+use trial_pages::{Look, Page, check_pages, node_of};
 
 // Nodes by their labels, with whether each follows and precedes a line break.
 struct Beside(&'static [(u32, bool, bool)]);
@@ -83,5 +83,5 @@ static BREAKS: [Page<Beside>; 12] = [
 
 #[test]
 fn nodes_stand_beside_line_breaks(rt: HostRuntime) -> Result<(), Fail> {
-    assert_pages(&rt, rt.alloc(), &BREAKS)
+    check_pages(rt.alloc(), &BREAKS)
 }

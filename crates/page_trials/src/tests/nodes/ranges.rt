@@ -3,12 +3,12 @@
 ghost use Rattle.std.specs.Prelude.{◌<◌};
 ghost use Rattle.dom_model.specs.Forest.{count_of};
 
-use crate::tests::pages::{Look, Page, assert_pages, labels, point_of, range_of};
 use live_range::Point;
 use node_arena::Arena;
 use node_tests::*;
 use std::alloc::{AllocError, Global};
 use std::test::Fail;
+use trial_pages::{Look, Page, check_pages, labels, point_of, range_of};
 
 // Points, each the label of a node and an offset, with whether it is a block start point and a block end point.
 struct Points(&'static [(u32, u32, bool, bool)]);
@@ -64,7 +64,7 @@ static POINTS: [Page<Points>; 3] = [
 
 #[test]
 fn blocks_start_and_end(rt: HostRuntime) -> Result<(), Fail> {
-    assert_pages(&rt, rt.alloc(), &POINTS)
+    check_pages(rt.alloc(), &POINTS)
 }
 
 // A start and an end, each the label of a node and an offset, and the labels of the nodes that the range contains, and contains
@@ -167,7 +167,7 @@ static RANGES: [Page<Ranges>; 4] = [
 
 #[test]
 fn ranges_contain_nodes(rt: HostRuntime) -> Result<(), Fail> {
-    assert_pages(&rt, rt.alloc(), &RANGES)
+    check_pages(rt.alloc(), &RANGES)
 }
 
 // The labels of the ends of a range, and that of its host.
@@ -202,5 +202,5 @@ static HOSTS: [Page<Hosts>; 1] = [Page(
 
 #[test]
 fn ranges_have_hosts(rt: HostRuntime) -> Result<(), Fail> {
-    assert_pages(&rt, rt.alloc(), &HOSTS)
+    check_pages(rt.alloc(), &HOSTS)
 }

@@ -2,11 +2,11 @@
 
 ghost use Rattle.node_arena.specs.Held.{Holds};
 
-use crate::tests::pages::{Look, Page, assert_pages, node_of};
 use node_arena::{Arena, NodeRef};
 use node_tests::*;
 use std::alloc::{AllocError, Global};
 use std::test::Fail;
+use trial_pages::{Look, Page, check_pages, node_of};
 
 // Nodes by their labels with the letters of the tests that each meets: editable, block, visible, whitespace, collapsed
 // whitespace, extraneous break (x), collapsed break (k), collapsed block prop.
@@ -213,5 +213,5 @@ fn mark_breaks(text: &mut String, arena: &Arena, node: NodeRef) -> Result<(), Al
 
 #[test]
 fn nodes_meet_their_tests(rt: HostRuntime) -> Result<(), Fail> {
-    assert_pages(&rt, rt.alloc(), &NODES)
+    check_pages(rt.alloc(), &NODES)
 }

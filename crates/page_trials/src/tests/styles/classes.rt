@@ -1,10 +1,10 @@
 //! The classes of elements, and which nodes may stand in which.
 
-use crate::tests::pages::{Look, Page, assert_pages, node_of};
 use node_arena::Arena;
 use node_tests::*;
 use std::alloc::Global;
 use std::test::Fail;
+use trial_pages::{Look, Page, check_pages, node_of};
 
 const MIXED: &str =
     "<table> <tr><td>a</td></tr></table><ul><li>b</li></ul><a href=\"u\"><b>c</b></a><h1>d</h1><p>e</p>";
@@ -53,7 +53,7 @@ static ALLOWED: [Page<Allowed>; 1] = [Page(
 
 #[test]
 fn children_are_allowed(rt: HostRuntime) -> Result<(), Fail> {
-    assert_pages(&rt, rt.alloc(), &ALLOWED)
+    check_pages(rt.alloc(), &ALLOWED)
 }
 
 // The labels of an item and a text: whether names are allowed in the item, and both nodes in names.
@@ -77,7 +77,7 @@ static NAMES: [Page<AllowedNames>; 1] = [Page(MIXED, AllowedNames { item: 7, tex
 
 #[test]
 fn names_are_allowed(rt: HostRuntime) -> Result<(), Fail> {
-    assert_pages(&rt, rt.alloc(), &NAMES)
+    check_pages(rt.alloc(), &NAMES)
 }
 
 // Whether the first element is: a non-list single-line container, a single-line container, a formattable block, an indentation
@@ -147,7 +147,7 @@ static CLASSES: [Page<Classes>; 14] = [
 
 #[test]
 fn names_have_classes(rt: HostRuntime) -> Result<(), Fail> {
-    assert_pages(&rt, rt.alloc(), &CLASSES)
+    check_pages(rt.alloc(), &CLASSES)
 }
 
 // Nodes of the host of the label 1, with whether each is formattable and a removeFormat candidate.
@@ -182,5 +182,5 @@ static OWNED: [Page<Owned>; 1] = [Page(
 
 #[test]
 fn hosts_own_formattable_nodes(rt: HostRuntime) -> Result<(), Fail> {
-    assert_pages(&rt, rt.alloc(), &OWNED)
+    check_pages(rt.alloc(), &OWNED)
 }

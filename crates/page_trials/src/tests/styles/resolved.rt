@@ -1,11 +1,11 @@
 //! Resolved styles.
 
-use crate::tests::pages::{Look, Page, assert_pages, chars, node_of};
 use node_arena::Arena;
 use node_tests::*;
 use std::alloc::Global;
 use std::test::Fail;
 use style_table::Property;
+use trial_pages::{Look, Page, chars, check_pages, node_of};
 
 // A property, and its resolved value at the node of a label.
 struct Resolved(Property, u32, &'static str);
@@ -185,5 +185,5 @@ static STYLES: [Page<Resolved>; 50] = [
 
 #[test]
 fn styles_are_resolved(rt: HostRuntime) -> Result<(), Fail> {
-    assert_pages(&rt, rt.alloc(), &STYLES)
+    check_pages(rt.alloc(), &STYLES)
 }

@@ -2,9 +2,9 @@
 
 ghost use Rattle.edit_doc.specs.Whole.{IsOpen};
 
-use crate::tests::pages::{Act, Row, assert_rows, node_of};
 use std::alloc::Global;
 use std::test::Fail;
+use trial_pages::{Act, Row, check_rows, node_of};
 use wrap_split::{Doc, breaks_at_end, breaks_before};
 
 // Removes the line breaks before the node of a label.
@@ -49,10 +49,10 @@ static AT_END: [Row<ClearAtEnd>; 5] = [
 
 #[test]
 fn line_breaks_before_go(rt: HostRuntime) -> Result<(), Fail> {
-    assert_rows(&rt, rt.alloc(), &BEFORE)
+    check_rows(rt.alloc(), &BEFORE)
 }
 
 #[test]
 fn line_breaks_at_the_end_go(rt: HostRuntime) -> Result<(), Fail> {
-    assert_rows(&rt, rt.alloc(), &AT_END)
+    check_rows(rt.alloc(), &AT_END)
 }

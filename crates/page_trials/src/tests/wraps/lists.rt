@@ -1,10 +1,10 @@
 //! Lists that are wrapped.
 
 use super::listed;
-use crate::tests::pages::{Act, Row, assert_rows};
 use dom_model::{Attributes, Name};
 use std::alloc::{AllocError, Global};
 use std::test::Fail;
+use trial_pages::{Act, Row, check_rows};
 use wrap_split::{
     Blank, CopyMade, Doc, IndentationSibling, NamedSibling, NoSibling, NothingMade, WrapRule, wrap,
 };
@@ -64,7 +64,7 @@ impl Act for Wrap {
 
 #[test]
 fn lists_are_wrapped(rt: HostRuntime) -> Result<(), Fail> {
-    assert_rows(&rt, rt.alloc(), &WRAPS)
+    check_rows(rt.alloc(), &WRAPS)
 }
 
 static JOINS: [Row<Join>; 10] = [
@@ -137,7 +137,7 @@ impl Act for Join {
 
 #[test]
 fn lists_go_into_a_sibling(rt: HostRuntime) -> Result<(), Fail> {
-    assert_rows(&rt, rt.alloc(), &JOINS)
+    check_rows(rt.alloc(), &JOINS)
 }
 
 static NAMED: [Row<JoinBold>; 4] = [
@@ -161,5 +161,5 @@ impl Act for JoinBold {
 
 #[test]
 fn lists_go_into_a_sibling_of_a_name(rt: HostRuntime) -> Result<(), Fail> {
-    assert_rows(&rt, rt.alloc(), &NAMED)
+    check_rows(rt.alloc(), &NAMED)
 }

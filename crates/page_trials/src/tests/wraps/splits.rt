@@ -4,9 +4,9 @@ ghost use Rattle.std.specs.Prelude.{IfOk};
 ghost use Rattle.edit_doc.specs.Whole.{IsOpen};
 
 use super::listed;
-use crate::tests::pages::{Act, Row, assert_rows, node_of};
 use std::alloc::{AllocError, Global};
 use std::test::Fail;
+use trial_pages::{Act, Row, check_rows, node_of};
 use wrap_split::{Doc, remove_keeping_children, split_parent};
 
 static SPLITS: [Row<Split>; 21] = [
@@ -90,7 +90,7 @@ impl Act for Split {
 
 #[test]
 fn parents_are_split(rt: HostRuntime) -> Result<(), Fail> {
-    assert_rows(&rt, rt.alloc(), &SPLITS)
+    check_rows(rt.alloc(), &SPLITS)
 }
 
 static COUNTED: [Row<Counted>; 4] = [
@@ -150,7 +150,7 @@ impl Act for Counted {
 
 #[test]
 fn edits_and_labels_are_counted(rt: HostRuntime) -> Result<(), Fail> {
-    assert_rows(&rt, rt.alloc(), &COUNTED)
+    check_rows(rt.alloc(), &COUNTED)
 }
 
 static REMOVALS: [Row<Unwrap>; 6] = [
@@ -178,5 +178,5 @@ impl Act for Unwrap {
 
 #[test]
 fn children_take_the_place_of_their_parent(rt: HostRuntime) -> Result<(), Fail> {
-    assert_rows(&rt, rt.alloc(), &REMOVALS)
+    check_rows(rt.alloc(), &REMOVALS)
 }

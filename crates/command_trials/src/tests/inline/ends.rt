@@ -1,10 +1,10 @@
 //! The ends of the active range, at which texts are split.
 
-use crate::tests::pages::{Act, Row, assert_rows, point};
 use edit_doc::{Doc, Pair};
 use inline_value::split_ends;
 use std::alloc::Global;
 use std::test::Fail;
+use trial_pages::{Act, Row, check_rows, point};
 
 // The anchor and the focus, and those once both ends are split; and the label that then comes next, which tells how many texts were
 // split.
@@ -119,5 +119,5 @@ static ENDS: [Row<Ends>; 17] = [
 
 #[test]
 fn ends_are_split(rt: HostRuntime) -> Result<(), Fail> {
-    assert_rows(&rt, rt.alloc(), &ENDS)
+    check_rows(rt.alloc(), &ENDS)
 }

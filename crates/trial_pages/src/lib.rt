@@ -1,7 +1,8 @@
-//! Pages, their nodes, documents of them, and tables of what is done to documents.
+//! What `page_trials` and `command_trials` share: pages, their nodes, documents of them, and tables of what is done to documents.
 //!
 //! Pages and documents are let go here alone, each on one way: where one goes, its proof takes up to a minute, and again on each
 //! way out of the function that owns it. So tests say by a trait what they do with one.
+#![tactic(auto)]
 
 ghost use Rattle.std.specs.Prelude.{◌≡◌, ◌<◌, IfOk};
 ghost use Rattle.dom_model.specs.Forest.{count_of};
@@ -12,11 +13,10 @@ use node_arena::{Arena, NodeRef, Nodes};
 use page_read::read_page;
 use page_write::write_html;
 use std::alloc::{AllocError, Global};
-use std::process::Abort;
 use std::test::Fail;
 
 /// The nodes of a page.
-pub(crate) fn read(alloc: Global, page: &str) -> Result<Arena, Fail>
+pub fn read(alloc: Global, page: &str) -> Result<Arena, Fail>
     ensures { IfOk result HasNoLoose }
 {
     match read_page(alloc, page.as_bytes(), 1000) {
@@ -26,14 +26,14 @@ pub(crate) fn read(alloc: Global, page: &str) -> Result<Arena, Fail>
 }
 
 /// The node of a label.
-pub(crate) fn node_of<N: Nodes>(nodes: &N, label: u32) -> Result<NodeRef, Fail>
+pub fn node_of<N: Nodes>(nodes: &N, label: u32) -> Result<NodeRef, Fail>
     ensures { IfOk result (λ r. (r.label ≡ label) × N.holds nodes.now r) }
 {
     Ok(nodes.find(label).ok_or("no node")?)
 }
 
 /// The point at an offset in the node of a label.
-pub(crate) fn point_of<N: Nodes>(nodes: &N, at: (u32, u32)) -> Result<Point, Fail>
+pub fn point_of<N: Nodes>(nodes: &N, at: (u32, u32)) -> Result<Point, Fail>
     ensures { IfOk result (λ p. 0 < count_of (N.trees nodes.now) p.label) }
 {
     nodes.valid();
@@ -42,7 +42,7 @@ pub(crate) fn point_of<N: Nodes>(nodes: &N, at: (u32, u32)) -> Result<Point, Fai
 }
 
 /// The points of a range.
-pub(crate) fn range_of<N: Nodes>(
+pub fn range_of<N: Nodes>(
     nodes: &N,
     start: (u32, u32),
     end: (u32, u32),
@@ -55,7 +55,7 @@ pub(crate) fn range_of<N: Nodes>(
 
 /// The document of a page, whose history keeps three entries.
 #[tactic(auto, unfolding(edit_doc::specs::Whole::first_doc))]
-pub(crate) fn document_of(alloc: Global, page: &str) -> Result<Doc, Fail>
+pub fn document_of(alloc: Global, page: &str) -> Result<Doc, Fail>
     ensures { IfOk result (λ doc. IsClosed doc) }
 {
     let arena = read(alloc, page)?;
@@ -64,7 +64,7 @@ pub(crate) fn document_of(alloc: Global, page: &str) -> Result<Doc, Fail>
 
 /// Begins a command on the node of a label.
 #[tactic(auto, unfolding(edit_doc::specs::Whole::opened))]
-pub(crate) fn begin_in(doc: &mut Doc, label: u32) -> Result<(), AllocError>
+pub fn begin_in(doc: &mut Doc, label: u32) -> Result<(), AllocError>
     requires { IsClosed doc.old }
     ensures { IfOk result (λ _. IsOpen doc.new) }
 {
@@ -73,7 +73,7 @@ pub(crate) fn begin_in(doc: &mut Doc, label: u32) -> Result<(), AllocError>
 }
 
 /// Begins a command on the node of the label 1, the editing host of most pages here.
-pub(crate) fn begin(doc: &mut Doc) -> Result<(), AllocError>
+pub fn begin(doc: &mut Doc) -> Result<(), AllocError>
     requires { IsClosed doc.old }
     ensures { IfOk result (λ _. IsOpen doc.new) }
 {
@@ -81,7 +81,7 @@ pub(crate) fn begin(doc: &mut Doc) -> Result<(), AllocError>
 }
 
 /// The page of an editing host that holds this.
-pub(crate) fn page_of(alloc: Global, inner: &str) -> Result<String, AllocError> {
+pub fn page_of(alloc: Global, inner: &str) -> Result<String, AllocError> {
     let mut page = String::new(alloc);
     page.push_str("<div contenteditable=\"true\">")?;
     page.push_str(inner)?;
@@ -90,7 +90,7 @@ pub(crate) fn page_of(alloc: Global, inner: &str) -> Result<String, AllocError> 
 }
 
 /// The point of a label and an offset.
-pub(crate) fn point(at: (u32, u32)) -> Point
+pub fn point(at: (u32, u32)) -> Point
     ensures { result.label ≡ at.0 }
 {
     Point {
@@ -100,10 +100,10 @@ pub(crate) fn point(at: (u32, u32)) -> Point
 }
 
 /// A label and an offset.
-pub(crate) type At = (u32, u32);
+pub type At = (u32, u32);
 
 /// Whether the selection goes from one point to another.
-pub(crate) fn selects(doc: &Doc, anchor: At, focus: At) -> bool {
+pub fn selects(doc: &Doc, anchor: At, focus: At) -> bool {
     match doc.points().selection() {
         Some(pair) => pair.anchor == point(anchor) && pair.focus == point(focus),
         None => false,
@@ -111,23 +111,23 @@ pub(crate) fn selects(doc: &Doc, anchor: At, focus: At) -> bool {
 }
 
 /// The characters of a text.
-pub(crate) fn chars(alloc: Global, text: &str) -> Result<Vec<char>, AllocError> {
+pub fn chars(alloc: Global, text: &str) -> Result<Vec<char>, AllocError> {
     text.chars().collect(alloc)
 }
 
 /// The labels of nodes.
-pub(crate) fn labels(alloc: Global, list: &[NodeRef]) -> Result<Vec<u32>, AllocError> {
+pub fn labels(alloc: Global, list: &[NodeRef]) -> Result<Vec<u32>, AllocError> {
     list.iter().map(|node| node.label).collect(alloc)
 }
 
 /// What is looked for in a page.
-pub(crate) trait Look {
+pub trait Look {
     /// Whether it is there.
     fn meets(&self, alloc: Global, arena: &Arena) -> Result<bool, Fail>;
 }
 
 /// A row of a table: a page, and what is looked for in it.
-pub(crate) struct Page<L>(pub &'static str, pub L);
+pub struct Page<L>(pub &'static str, pub L);
 
 // Whether a page meets its row.
 fn meets<L: Look>(alloc: Global, row: &Page<L>) -> Result<bool, Fail> {
@@ -135,20 +135,18 @@ fn meets<L: Look>(alloc: Global, row: &Page<L>) -> Result<bool, Fail> {
     row.1.meets(alloc, &arena)
 }
 
-/// Asserts each row of a table of pages.
-pub(crate) fn assert_pages<L: Look>(
-    rt: &impl Abort,
-    alloc: Global,
-    rows: &[Page<L>],
-) -> Result<(), Fail> {
+/// Goes through a table of pages, and fails at the first that does not meet its row.
+pub fn check_pages<L: Look>(alloc: Global, rows: &[Page<L>]) -> Result<(), Fail> {
     for row in rows {
-        assert!(rt; meets(alloc, row)?, "{}", row.0);
+        if !meets(alloc, row)? {
+            return Err(Fail::new(row.0));
+        }
     }
     Ok(())
 }
 
 /// What is done with the document of a page, and what is found.
-pub(crate) trait Trial {
+pub trait Trial {
     type Found;
 
     fn run(&self, alloc: Global, doc: &mut Doc) -> Result<Self::Found, Fail>
@@ -156,20 +154,20 @@ pub(crate) trait Trial {
 }
 
 /// What a trial finds on the document of a page.
-pub(crate) fn found<T: Trial>(alloc: Global, page: &str, trial: &T) -> Result<T::Found, Fail> {
+pub fn found<T: Trial>(alloc: Global, page: &str, trial: &T) -> Result<T::Found, Fail> {
     let mut doc = document_of(alloc, page)?;
     trial.run(alloc, &mut doc)
 }
 
 /// What is done to a document in a command.
-pub(crate) trait Act {
+pub trait Act {
     /// Does it, and answers whether that answered as it should.
     fn act(&self, alloc: Global, doc: &mut Doc) -> Result<bool, Fail>
         requires { IsOpen doc.old };
 }
 
 /// A row of a table: what the editing host holds, what is done, and what the host then holds.
-pub(crate) struct Row<A>(pub &'static str, pub A, pub &'static str);
+pub struct Row<A>(pub &'static str, pub A, pub &'static str);
 
 // The page that the act leaves, in a command of its own; or a word that is no page where that answered otherwise.
 impl<A: Act> Trial for Row<A> {
@@ -186,17 +184,16 @@ impl<A: Act> Trial for Row<A> {
     }
 }
 
-/// Asserts each row of a table.
-pub(crate) fn assert_rows<A: Act>(
-    rt: &impl Abort,
-    alloc: Global,
-    rows: &[Row<A>],
-) -> Result<(), Fail> {
+/// Goes through a table, and fails at the first row that leaves another page.
+pub fn check_rows<A: Act>(alloc: Global, rows: &[Row<A>]) -> Result<(), Fail> {
     for row in rows {
         let page = page_of(alloc, row.0)?;
         let wanted = page_of(alloc, row.2)?;
         let html = found(alloc, page.as_str(), row)?;
-        assert_eq!(rt; html.as_str(), wanted.as_str(), "{}", row.0);
+        if html.as_str() != wanted.as_str() {
+            let found = html.as_str();
+            return Err(Fail::new(format!(in alloc; "{}: {found}", row.0)?));
+        }
     }
     Ok(())
 }

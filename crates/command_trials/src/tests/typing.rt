@@ -5,7 +5,6 @@
 ghost use Rattle.std.specs.Prelude.{IfOk};
 ghost use Rattle.edit_doc.specs.Whole.{IsOpen};
 
-use super::pages::{Act, At, Row, assert_rows, chars, point, selects};
 use Override::{Off, On, Wording};
 use dom_model::Chars;
 use edit_doc::{Doc, Setting};
@@ -13,6 +12,7 @@ use html_names::Command;
 use std::alloc::{AllocError, Global};
 use std::test::Fail;
 use text_insertion::insert_text;
+use trial_pages::{Act, At, Row, chars, check_rows, point, selects};
 
 // A text that is typed over a range, and the caret after it.
 struct Typed(At, At, &'static str, At);
@@ -362,7 +362,7 @@ static TYPED: [Row<Typed>; 68] = [
 
 #[test]
 fn text_is_typed(rt: HostRuntime) -> Result<(), Fail> {
-    assert_rows(&rt, rt.alloc(), &TYPED)
+    check_rows(rt.alloc(), &TYPED)
 }
 
 // What holds for a command at a caret.
@@ -494,5 +494,5 @@ static STYLED: [Row<Styled>; 15] = [
 
 #[test]
 fn overrides_hold_for_what_is_typed(rt: HostRuntime) -> Result<(), Fail> {
-    assert_rows(&rt, rt.alloc(), &STYLED)
+    check_rows(rt.alloc(), &STYLED)
 }

@@ -2,11 +2,11 @@
 //! an ordered one, the ends of a range by labels (1 is the host) before and after it, and what the
 //! host then holds.
 
-use super::pages::{Act, At, Row, assert_rows, point, selects};
 use edit_doc::Doc;
 use list_toggle::toggle_lists;
 use std::alloc::Global;
 use std::test::Fail;
+use trial_pages::{Act, At, Row, check_rows, point, selects};
 
 // Whether the list is ordered, and the ends of the range before and after it.
 struct Toggled(bool, (At, At), (At, At));
@@ -282,5 +282,5 @@ static TOGGLED: [Row<Toggled>; 43] = [
 
 #[test]
 fn lists_are_toggled(rt: HostRuntime) -> Result<(), Fail> {
-    assert_rows(&rt, rt.alloc(), &TOGGLED)
+    check_rows(rt.alloc(), &TOGGLED)
 }

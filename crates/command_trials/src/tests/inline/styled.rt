@@ -1,11 +1,11 @@
 //! Values that are forced while the CSS styling flag is set.
 
 use super::{Change, How};
-use crate::tests::pages::{Act, Row, assert_rows};
 use edit_doc::{Doc, Flags};
 use html_names::Command;
 use std::alloc::Global;
 use std::test::Fail;
+use trial_pages::{Act, Row, check_rows};
 
 // A change under the flag.
 struct Styled(Change);
@@ -93,5 +93,5 @@ static STYLED: [Row<Styled>; 13] = [
 
 #[test]
 fn values_are_styled(rt: HostRuntime) -> Result<(), Fail> {
-    assert_rows(&rt, rt.alloc(), &STYLED)
+    check_rows(rt.alloc(), &STYLED)
 }

@@ -2,11 +2,11 @@
 
 use super::Block::{Indent, Outdent};
 use super::Lines;
-use crate::tests::pages::{Act, Row, assert_rows, node_of};
 use edit_doc::{Doc, Flags};
 use list_indent::normalize_sublists;
 use std::alloc::Global;
 use std::test::Fail;
+use trial_pages::{Act, Row, check_rows, node_of};
 
 static INDENTED: [Row<Lines>; 37] = [
     // lines come into a blockquote
@@ -205,7 +205,7 @@ static INDENTED: [Row<Lines>; 37] = [
 
 #[test]
 fn lines_are_indented(rt: HostRuntime) -> Result<(), Fail> {
-    assert_rows(&rt, rt.alloc(), &INDENTED)
+    check_rows(rt.alloc(), &INDENTED)
 }
 
 static OUTDENTED: [Row<Lines>; 46] = [
@@ -439,7 +439,7 @@ static OUTDENTED: [Row<Lines>; 46] = [
 
 #[test]
 fn lines_are_outdented(rt: HostRuntime) -> Result<(), Fail> {
-    assert_rows(&rt, rt.alloc(), &OUTDENTED)
+    check_rows(rt.alloc(), &OUTDENTED)
 }
 
 // Brings the lists in the item of a label out of it.
@@ -510,7 +510,7 @@ static NORMALIZED: [Row<Normalize>; 10] = [
 
 #[test]
 fn lists_come_out_of_items(rt: HostRuntime) -> Result<(), Fail> {
-    assert_rows(&rt, rt.alloc(), &NORMALIZED)
+    check_rows(rt.alloc(), &NORMALIZED)
 }
 
 // Something that is done to lines where p is the default single-line container, and not div.
@@ -551,5 +551,5 @@ static PARAGRAPHS: [Row<Paragraphs>; 4] = [
 
 #[test]
 fn items_become_paragraphs(rt: HostRuntime) -> Result<(), Fail> {
-    assert_rows(&rt, rt.alloc(), &PARAGRAPHS)
+    check_rows(rt.alloc(), &PARAGRAPHS)
 }

@@ -4,12 +4,12 @@
 
 ghost use Rattle.edit_doc.specs.Whole.{IsOpen};
 
-use super::pages::{Act, At, Row, assert_rows, chars, point, selects};
 use Object::{Image, LineBreak, Refused, Rule};
 use edit_doc::Doc;
 use insert_objects::{insert_image, insert_line_break, insert_rule};
 use std::alloc::Global;
 use std::test::Fail;
+use trial_pages::{Act, At, Row, chars, check_rows, point, selects};
 
 // What is inserted.
 #[derive(Clone, Copy)]
@@ -294,5 +294,5 @@ static PUT: [Row<Put>; 48] = [
 
 #[test]
 fn objects_are_inserted(rt: HostRuntime) -> Result<(), Fail> {
-    assert_rows(&rt, rt.alloc(), &PUT)
+    check_rows(rt.alloc(), &PUT)
 }

@@ -2,11 +2,11 @@
 //! range stand by labels (1 is the host), where the caret stands once a paragraph was inserted, and
 //! what the host then holds. The nodes that are made have the labels that come next.
 
-use super::pages::{Act, At, Row, assert_rows, point, selects};
 use edit_doc::{Doc, Flags};
 use std::alloc::Global;
 use std::test::Fail;
 use text_insertion::insert_paragraph;
+use trial_pages::{Act, At, Row, check_rows, point, selects};
 
 // The ends of a range that is parted, and the caret after it.
 struct Parted(At, At, At);
@@ -326,7 +326,7 @@ static PARTED: [Row<Parted>; 53] = [
 
 #[test]
 fn lines_are_parted(rt: HostRuntime) -> Result<(), Fail> {
-    assert_rows(&rt, rt.alloc(), &PARTED)
+    check_rows(rt.alloc(), &PARTED)
 }
 
 // The same where the default single-line container is p.
@@ -404,5 +404,5 @@ static CONTAINED: [Row<Contained>; 11] = [
 
 #[test]
 fn new_lines_are_in_the_default_container(rt: HostRuntime) -> Result<(), Fail> {
-    assert_rows(&rt, rt.alloc(), &CONTAINED)
+    check_rows(rt.alloc(), &CONTAINED)
 }

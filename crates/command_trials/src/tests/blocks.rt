@@ -7,7 +7,6 @@ mod indents;
 ghost use Rattle.std.specs.Prelude.{IfOk};
 ghost use Rattle.edit_doc.specs.Whole.{IsOpen};
 
-use super::pages::{Act, Row, assert_rows, begin_in, chars, node_of, point};
 use Block::{Align, Format, Indent, Outdent, Refused};
 use block_commands::{format_block, justify};
 use css_value::TextAlign;
@@ -15,6 +14,7 @@ use edit_doc::{Attributes, Doc, EditFault, Name};
 use list_indent::{indent, outdent};
 use std::alloc::Global;
 use std::test::Fail;
+use trial_pages::{Act, Row, begin_in, chars, check_rows, node_of, point};
 
 // What is done to the lines of a range.
 #[derive(Clone, Copy)]
@@ -108,7 +108,7 @@ static HOSTED: [Row<Hosted>; 7] = [
 
 #[test]
 fn hosts_stand_in_paragraphs(rt: HostRuntime) -> Result<(), Fail> {
-    assert_rows(&rt, rt.alloc(), &HOSTED)
+    check_rows(rt.alloc(), &HOSTED)
 }
 
 // A void element gets two line breaks, and something is done to the second one. Its parent is never split, so the loops that split
@@ -155,5 +155,5 @@ static FILLED: [Row<Filled>; 3] = [
 
 #[test]
 fn bounds_end_loops(rt: HostRuntime) -> Result<(), Fail> {
-    assert_rows(&rt, rt.alloc(), &FILLED)
+    check_rows(rt.alloc(), &FILLED)
 }

@@ -1,9 +1,9 @@
 //! Values that stand in one another.
 
 use super::{Change, How};
-use crate::tests::pages::{Row, assert_rows};
 use html_names::Command;
 use std::test::Fail;
+use trial_pages::{Row, check_rows};
 
 static NESTED: [Row<Change>; 24] = [
     // values of the pages at which values are told
@@ -141,5 +141,5 @@ static NESTED: [Row<Change>; 24] = [
 
 #[test]
 fn values_stand_in_one_another(rt: HostRuntime) -> Result<(), Fail> {
-    assert_rows(&rt, rt.alloc(), &NESTED)
+    check_rows(rt.alloc(), &NESTED)
 }

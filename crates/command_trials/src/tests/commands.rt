@@ -3,7 +3,6 @@
 
 ghost use Rattle.edit_doc.specs.Whole.{IsOpen};
 
-use super::pages::{Act, Row, assert_rows, chars, point};
 use edit_doc::{Doc, EditFault, Setting};
 use html_names::Command;
 use inline_commands::{
@@ -12,6 +11,7 @@ use inline_commands::{
 use inline_value::record_states;
 use std::alloc::Global;
 use std::test::Fail;
+use trial_pages::{Act, Row, chars, check_rows, point};
 
 // The action of a command with a value on a range, and what it answers.
 struct Action((u32, u32), (u32, u32), Command, &'static str, bool);
@@ -145,7 +145,7 @@ fn takes(alloc: Global, doc: &mut Doc, command: Command, value: &[char]) -> Resu
 
 #[test]
 fn commands_change_pages(rt: HostRuntime) -> Result<(), Fail> {
-    assert_rows(&rt, rt.alloc(), &ROWS)
+    check_rows(rt.alloc(), &ROWS)
 }
 
 // Records the states and values of "ab", which is bold, and restores them at a range. A caret gets the overrides, or there are
@@ -192,5 +192,5 @@ impl Act for Restore {
 
 #[test]
 fn states_are_restored(rt: HostRuntime) -> Result<(), Fail> {
-    assert_rows(&rt, rt.alloc(), &RESTORED)
+    check_rows(rt.alloc(), &RESTORED)
 }

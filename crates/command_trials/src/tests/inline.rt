@@ -10,7 +10,6 @@ ghost use Rattle.std.specs.Prelude.{IfOk};
 ghost use Rattle.edit_doc.specs.Held.{EachHeld, Holds};
 ghost use Rattle.edit_doc.specs.Whole.{IsOpen};
 
-use super::pages::{Act, Row, assert_rows, chars, node_of, point};
 use edit_doc::{Doc, EditFault, NodeRef};
 use html_names::Command;
 use inline_value::{
@@ -18,6 +17,7 @@ use inline_value::{
 };
 use std::alloc::{AllocError, Global};
 use std::test::Fail;
+use trial_pages::{Act, Row, chars, check_rows, node_of, point};
 use wrap_split::remove_keeping_children;
 
 // What is done to a node.
@@ -422,5 +422,5 @@ fn changes(
 
 #[test]
 fn values_are_changed(rt: HostRuntime) -> Result<(), Fail> {
-    assert_rows(&rt, rt.alloc(), &ROWS)
+    check_rows(rt.alloc(), &ROWS)
 }

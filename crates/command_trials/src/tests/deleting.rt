@@ -3,7 +3,6 @@
 
 ghost use Rattle.edit_doc.specs.Whole.{IsOpen};
 
-use super::pages::{Act, At, Row, assert_rows, point, selects};
 use delete_core::{
     canonical_spaces, canonicalize, delete_selection, first_equivalent, last_equivalent,
 };
@@ -12,6 +11,7 @@ use html_names::Command;
 use std::alloc::Global;
 use std::test::Fail;
 use text_commands::delete;
+use trial_pages::{Act, At, Row, check_rows, point, selects};
 
 // The command with an anchor and a focus, and those that it leaves.
 struct Delete(At, At, At, At);
@@ -260,7 +260,7 @@ static DELETED: [Row<Delete>; 46] = [
 
 #[test]
 fn what_stands_before_goes(rt: HostRuntime) -> Result<(), Fail> {
-    assert_rows(&rt, rt.alloc(), &DELETED)
+    check_rows(rt.alloc(), &DELETED)
 }
 
 // A deletion of the selection, with its flags.
@@ -336,7 +336,7 @@ static CUT: [Row<Cut>; 4] = [
 
 #[test]
 fn selections_go_by_their_flags(rt: HostRuntime) -> Result<(), Fail> {
-    assert_rows(&rt, rt.alloc(), &CUT)
+    check_rows(rt.alloc(), &CUT)
 }
 
 // Whitespace made canonical at a point, with the flag to drop what shows nothing.
@@ -395,7 +395,7 @@ static CANONICAL: [Row<Canonical>; 17] = [
 
 #[test]
 fn whitespace_becomes_canonical(rt: HostRuntime) -> Result<(), Fail> {
-    assert_rows(&rt, rt.alloc(), &CANONICAL)
+    check_rows(rt.alloc(), &CANONICAL)
 }
 
 #[test]
@@ -439,7 +439,7 @@ static EQUIVALENT: [Row<Equivalent>; 3] = [
 
 #[test]
 fn points_are_equivalent(rt: HostRuntime) -> Result<(), Fail> {
-    assert_rows(&rt, rt.alloc(), &EQUIVALENT)
+    check_rows(rt.alloc(), &EQUIVALENT)
 }
 
 // A bold character is deleted, and what is typed next is bold.
@@ -459,5 +459,5 @@ static BOLD: [Row<DeleteBold>; 1] = [
 
 #[test]
 fn states_of_what_goes_are_restored(rt: HostRuntime) -> Result<(), Fail> {
-    assert_rows(&rt, rt.alloc(), &BOLD)
+    check_rows(rt.alloc(), &BOLD)
 }

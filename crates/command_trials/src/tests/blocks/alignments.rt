@@ -2,9 +2,9 @@
 
 use super::Block::Align;
 use super::Lines;
-use crate::tests::pages::{Row, assert_rows};
 use css_value::TextAlign;
 use std::test::Fail;
+use trial_pages::{Row, check_rows};
 
 static ALIGNED: [Row<Lines>; 36] = [
     // lines come into a div
@@ -199,5 +199,5 @@ static ALIGNED: [Row<Lines>; 36] = [
 
 #[test]
 fn lines_are_aligned(rt: HostRuntime) -> Result<(), Fail> {
-    assert_rows(&rt, rt.alloc(), &ALIGNED)
+    check_rows(rt.alloc(), &ALIGNED)
 }

@@ -2,8 +2,8 @@
 
 use super::Block::{Format, Refused};
 use super::Lines;
-use crate::tests::pages::{Row, assert_rows};
 use std::test::Fail;
+use trial_pages::{Row, check_rows};
 
 static FORMATTED: [Row<Lines>; 47] = [
     // lines of a host, and paragraphs; values in any case, with or without angle brackets
@@ -243,5 +243,5 @@ static FORMATTED: [Row<Lines>; 47] = [
 
 #[test]
 fn lines_become_blocks(rt: HostRuntime) -> Result<(), Fail> {
-    assert_rows(&rt, rt.alloc(), &FORMATTED)
+    check_rows(rt.alloc(), &FORMATTED)
 }
