@@ -1,7 +1,7 @@
 -- The labels at which points stand: a list in which each stands once.
-use Rattle.std.proofs.Common.{◌≡◌, ◌↔◌, ◌⊎◌, ℕ, zero, suc, ◌+◌, ◌*◌, ◌<◌, ◌≤◌, Bool, true, false, ◌||◌, ◌&&◌, List, [], ◌∷◌, ◌++◌, length, take, set, get_or, cond, nat_eq, eqb, Option, Some, None, refl, sym, ap, ◌∙◌, inl, inr, arith, add-one, length-append, IsTrue}
-use Rattle.std.specs.List.{list_any, flat_map, slice_get}
-use Rattle.std.proofs.lemmas.List.{take_all, take_more_set}
+use Rattle.std.proofs.Common.{◌≡◌, ◌↔◌, ℕ, ◌+◌, ◌<◌, Bool, true, false, ◌||◌, ◌&&◌, List, [], ◌∷◌, ◌++◌, length, take, set, get_or, cond, nat_eq, eqb, refl, sym, ap, ◌∙◌, inl, inr, arith}
+use Rattle.std.specs.List.{list_any}
+use Rattle.std.proofs.lemmas.List.{take_more, take_more_set}
 use Rattle.std.proofs.lemmas.List.Folds.{list_any-append}
 use Rattle.std.proofs.lemmas.Bool.{le-ltb, ltb_from_iff}
 use Rattle.std.proofs.lemmas.Bool.Decides.{eqb_tells}
@@ -9,11 +9,9 @@ use Rattle.dom_model.specs.declared.Content.{Content}
 use Rattle.dom_model.specs.Forest.{Forest, count_of, preorder, tree_of, IsWithin}
 use Rattle.dom_model.proofs.Totals.{total-without}
 use Rattle.edit_model.proofs.Points.{has_label-preorder}
-use Rattle.std.proofs.lemmas.Option.{slice_get_within}
 use Rattle.indexmap.specs.IndexSet.{insert_key, insert_all}
-use Rattle.live_range.specs.declared.places.Pair.{Pair}
 use Rattle.live_range.specs.PointsEdit.{has_label}
-use Rattle.live_range.specs.LivePoints.{LivePoints, IsValid, labels_of, option_labels, pair_labels, standing}
+use Rattle.live_range.specs.LivePoints.{LivePoints, labels_of, standing}
 
 or_false : (b : Bool) → (b || false) ≡ b
 or_false true = refl
@@ -61,68 +59,12 @@ insert_all-label ks (x ∷ xs) l =
 pub standing-label : (points : LivePoints) (l : ℕ) → has_label (standing points) l ≡ has_label (labels_of points) l
 standing-label points l = insert_all-label [] (labels_of points) l
 
-insert_key-length : (ks : List ℕ) (x : ℕ) → length (insert_key nat_eq ks x) ≤ length ks + 1
-insert_key-length ks x = by (list_any (nat_eq x) ks)
-  where
-    by : (b : Bool) → length (cond b ks (ks ++ x ∷ [])) ≤ length ks + 1
-    by true = omega arith
-    by false = omega (arith, length-append ks (x ∷ []))
+-- ---- a list that is gone through
 
-insert_all-length : (ks xs : List ℕ) → length (insert_all nat_eq ks xs) ≤ length ks + length xs
-insert_all-length ks [] = omega arith
-insert_all-length ks (x ∷ xs) = omega (arith, insert_all-length (insert_key nat_eq ks x) xs, insert_key-length ks x)
-
-option_labels-length : (o : Option Pair) → length (option_labels o) ≤ 2
-option_labels-length None = omega arith
-option_labels-length (Some p) = omega arith
-
-mark_labels-length : (ms : List (List ℕ × Pair)) → length (flat_map (λ m. pair_labels m.1) ms) ≡ 2 * length ms
-mark_labels-length [] = refl
-mark_labels-length (m ∷ ms) = omega (arith, mark_labels-length ms)
-
--- there are few points
-pub standing-few : (points : LivePoints) → IsValid points → length (standing points) ≤ 36
-standing-few points law =
-    let marks = flat_map (λ (m : List ℕ × Pair). pair_labels m.1) points.marks in
-    omega (
-      arith,
-      insert_all-length [] (labels_of points),
-      length-append (option_labels points.selection ++ option_labels points.scratch) marks,
-      length-append (option_labels points.selection) (option_labels points.scratch),
-      option_labels-length points.selection,
-      option_labels-length points.scratch,
-      mark_labels-length points.marks,
-      law.few_marks,
-    )
-
--- ---- lists that are gone through
-
-taken_at : (xs : List ℕ) (k x : ℕ) → slice_get xs k ≡ Some x → take (suc k) xs ≡ take k xs ++ x ∷ []
-taken_at [] zero x e = absurd (cc)
-taken_at [] (suc k) x e = absurd (cc)
-taken_at (y ∷ ys) zero x e = (let is : y ≡ x = (let e' = e in cc) in ap (λ z. z ∷ []) is)
-taken_at (y ∷ ys) (suc k) x e = ap (λ r. y ∷ r) (taken_at ys k x e)
-
-pub take_next : (xs : List ℕ) (k x : ℕ) → slice_get xs k ≡ Some x → take (k + 1) xs ≡ take k xs ++ x ∷ []
-take_next xs k x e = rw add-one (taken_at xs k x e)
-
-pub label_next : (xs : List ℕ) (k x l : ℕ) → slice_get xs k ≡ Some x → has_label (take (k + 1) xs) l ≡ (has_label (take k xs) l || nat_eq x l)
-label_next xs k x l e =
-    ap (λ ys. has_label ys l) (take_next xs k x e)
-    ∙ (has_label-append (take k xs) (x ∷ []) l ∙ ap (λ b. has_label (take k xs) l || b) (or_false (nat_eq x l)))
-
--- a label at a place is listed
-pub label_at : (xs : List ℕ) (k x : ℕ) → slice_get xs k ≡ Some x → has_label xs x ≡ true
-label_at [] zero x e = absurd (cc)
-label_at [] (suc k) x e = absurd (cc)
-label_at (y ∷ ys) zero x e = (let is : y ≡ x = (let e' = e in cc) in elim (eqb_tells y x) [ inl (t, _) ↦ rw t refl | inr (_, off) ↦ absurd (off is) ])
-label_at (y ∷ ys) (suc k) x e = elim (eqb_tells y x) [ inl (t, _) ↦ rw t refl | inr (t, _) ↦ rw t (label_at ys k x e) ]
-
--- past the end there is no place
-pub past_end : (xs : List ℕ) (k : ℕ) → slice_get xs k ≡ None → length xs ≤ k
-past_end [] k e = omega arith
-past_end (y ∷ ys) zero e = absurd (cc)
-past_end (y ∷ ys) (suc k) e = omega (arith, past_end ys k e)
+pub label_next : (xs : List ℕ) (k d l : ℕ) → k < length xs → has_label (take (k + 1) xs) l ≡ (has_label (take k xs) l || nat_eq (get_or xs k d) l)
+label_next xs k d l h =
+    ap (λ ys. has_label ys l) (take_more xs k d h)
+    ∙ (has_label-append (take k xs) (get_or xs k d ∷ []) l ∙ ap (λ b. has_label (take k xs) l || b) (or_false (nat_eq (get_or xs k d) l)))
 
 -- ---- the labels of a tree, among those at which points stand
 

@@ -20,15 +20,7 @@ const MOST_POINTS: usize = 36;
 pub fn stands_at(points: &Points, node: NodeRef) -> bool
     ensures { result ≡ has_label (labels_of points.now) node.label }
 {
-    points.valid();
-    let mut place = 0;
-    while let Some(label) = points.standing(place) {
-        if label == node.label {
-            return true;
-        }
-        place += 1;
-    }
-    false
+    points.stands_at(node.label)
 }
 
 /// What becomes of the points where a tree is removed: those in it go to its place, if a point stands in it or at its
@@ -46,18 +38,17 @@ fn labels_within(arena: &Arena, points: &Points, top: NodeRef) -> ([u32; MOST_PO
     ensures few { result.1 ≤ 36 }
     ensures tells { TellsAlike points.now (take result.1 result.0) (preorder (tree_of arena.now.trees top.label)) }
 {
-    points.valid();
+    let standing = points.standing();
+    let list = standing.as_slice();
     let mut labels = [0; MOST_POINTS];
     let mut count = 0;
-    let mut place = 0;
-    while let Some(label) = points.standing(place) {
-        if let Some(node) = arena.find(label) {
+    for label in list {
+        if let Some(node) = arena.find(*label) {
             if arena.is_within(top, node) {
-                labels[count] = label;
+                labels[count] = *label;
                 count += 1;
             }
         }
-        place += 1;
     }
     (labels, count)
 }

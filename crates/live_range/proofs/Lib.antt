@@ -1,9 +1,9 @@
 pub mod Lists
 pub mod RowBits
-pub mod LabelsSeen
 pub mod RowCount
 pub mod Adjusting
 pub mod RowLists
+pub mod RowLabels
 pub mod RowPoints
 pub mod Apart
 pub mod Shown

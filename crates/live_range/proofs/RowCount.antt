@@ -1,8 +1,6 @@
 -- How many rows a set has, and how many points stand at some nodes.
-use Rattle.std.proofs.Common.{◌≡◌, ℕ, suc, zero, ◌+◌, ◌*◌, ◌/◌, ◌<◌, ◌≤◌, Bool, true, false, ◌==◌, nat_lt, cond, List, ◌++◌, Option, Some, None, if◌then◌else◌, refl, sym, ap, ◌∙◌, arith}
+use Rattle.std.proofs.Common.{◌≡◌, ℕ, suc, zero, ◌+◌, ◌<◌, ◌≤◌, Bool, true, false, ◌==◌, cond, List, Option, Some, None, if◌then◌else◌, refl, sym, ap, ◌∙◌, arith}
 use Rattle.std.specs.List.{list_any, count_by}
-use Rattle.std.specs.Option.{option_map}
-use Rattle.std.proofs.lemmas.List.{append-nil}
 use Rattle.std.proofs.lemmas.List.Sums.{sum_by-append}
 use Rattle.std.proofs.lemmas.Bool.Decides.{Decides-eqb, nat_tests}
 use Rattle.live_range.specs.declared.places.Point.{Point}
@@ -10,10 +8,9 @@ use Rattle.live_range.specs.declared.places.Places.{Places}
 use Rattle.live_range.specs.declared.rows.RowSet.{RowSet}
 use Rattle.live_range.specs.PointsEdit.{has_label}
 use Rattle.live_range.specs.Names.{place_labels}
-use Rattle.live_range.specs.Rows.{RowsByNode, point_at, has_row, listed_at, side, Lists}
-use Rattle.live_range.proofs.RowLists.{pair_past}
+use Rattle.live_range.specs.Rows.{RowsByNode, point_at, has_row, listed_at, Lists}
 use Rattle.live_range.proofs.Adjusting.{stands_among, among, nowhere, row_among}
-use Rattle.live_range.proofs.LabelsSeen.{labels_at, row_labels, all_labels}
+use Rattle.live_range.proofs.RowLabels.{labels_at, row_labels, all_rows}
 
 -- how many numbers below n pass
 abbrev pub count_below : (ℕ → Bool) → ℕ → ℕ
@@ -69,20 +66,6 @@ rows_counted : (nodes : List ℕ) (p : Places) (n : ℕ) → count_below (λ r. 
 rows_counted nodes p zero = refl
 rows_counted nodes p (suc n) =
     (λ i. rows_counted nodes p n i + sym (at_label nodes (point_at p n)) i) ∙ sym (sum_by-append (λ l. cond (has_label nodes l) 1 0) (row_labels p n) (labels_at (point_at p n)))
-
--- past the last row there is no label
-no_more : (p : Places) (n d : ℕ) → 2 * (p.count + 2) ≤ n → row_labels p (suc n) ≡ row_labels p n
-no_more p n d h =
-    let none : point_at p n ≡ None = ap (option_map (side n)) (pair_past p (n / 2) (omega (arith, h))) in
-    ap (λ o. row_labels p n ++ labels_at o) none ∙ append-nil (row_labels p n)
-
-all_rows : (p : Places) (m : ℕ) → 2 * (p.count + 2) ≤ m → row_labels p m ≡ place_labels p
-all_rows p zero h = absurd (omega (arith, h))
-all_rows p (suc m) h = by (nat_lt m (2 * (p.count + 2))) refl (λ k. all_rows p m k)
-  where
-    by : (b : Bool) → nat_lt m (2 * (p.count + 2)) ≡ b → (2 * (p.count + 2) ≤ m → row_labels p m ≡ place_labels p) → row_labels p (suc m) ≡ place_labels p
-    by true e rest = all_labels p (suc m) (grind (arith, nat_tests))
-    by false e rest = let l : 2 * (p.count + 2) ≤ m = grind (arith, nat_tests) in no_more p m 0 l ∙ rest l
 
 pub rows_are_points : (nodes : List ℕ) (n : RowsByNode) (p : Places) (rows : RowSet) → Lists p n → p.count ≤ 16
     → ((r : ℕ) → has_row rows r ≡ list_any (λ l. listed_at n l r) nodes) → count_below (has_row rows) 64 ≡ count_by (has_label nodes) (place_labels p)

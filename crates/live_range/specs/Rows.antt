@@ -1,6 +1,6 @@
 -- Points by number: the rows. Pair 0 is the selection, pair 1 the scratch pair, and the marks follow in order; row 2k
 -- is the anchor of pair k, and row 2k + 1 its focus.
-use Rattle.std.specs.Prelude.{◌≡◌, ℕ, zero, suc, ◌/◌, ◌%◌, ◌<◌, Bool, false, ◌==◌, ◌||◌, nat_eq, List, Option, slice_get, if◌then◌else◌}
+use Rattle.std.specs.Prelude.{◌≡◌, ℕ, zero, suc, ◌/◌, ◌%◌, ◌<◌, Bool, false, ◌==◌, nat_eq, List, Option, slice_get, if◌then◌else◌}
 use Rattle.std.specs.Int.{bit_at}
 use Rattle.std.specs.Option.{option_map, option_map_or}
 use Rattle.std.specs.Map.{lookup}
@@ -42,11 +42,6 @@ listed_at n l r = option_map_or (λ rows. has_row rows r) (lookup (nat_eq l) n) 
 -- at each label exactly the rows are listed whose points stand there
 abbrev pub Lists : Places → RowsByNode → Type 0
 Lists p n = (l r : ℕ) → r < 64 → listed_at n l r ≡ stands_at p l r
-
--- whether one of the numbers below n passes
-abbrev pub any_below : (ℕ → Bool) → ℕ → Bool
-any_below t zero = false
-any_below t (suc n) = any_below t n || t n
 
 -- what holds of the fields of Points
 pub record AreSoundRows (names : List (List ℕ)) (p : Places) (n : RowsByNode) : Type 0 where

@@ -19,3 +19,4 @@ mod standing;
 
 pub use places::{MarkPlace, Pair, Places, Point};
 pub use points::{MarkFault, Points};
+pub use standing::Labels;

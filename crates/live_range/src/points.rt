@@ -4,9 +4,9 @@ ghost use Rattle.std.specs.Option.{option_map};
 ghost use Rattle.std.specs.Str.{bytes_eq};
 ghost use Rattle.std.specs.List.{remove};
 ghost use Rattle.indexmap.specs.IndexSet.{insert_key};
-ghost use Rattle.live_range.specs.PointsEdit.{Insert, Remove, Move, Replace, Split, Grown, named_nodes};
+ghost use Rattle.live_range.specs.PointsEdit.{Insert, Remove, Move, Replace, Split, Grown, has_label, named_nodes};
 ghost use Rattle.live_range.specs.Adjustments.{edit_of};
-ghost use Rattle.live_range.specs.LivePoints.{Fits, IsValid, TellsAlike, mapped, no_points, points_at, standing, has_mark, with_mark, without_mark, with_value_at};
+ghost use Rattle.live_range.specs.LivePoints.{Fits, IsValid, TellsAlike, labels_of, mapped, no_points, points_at, standing, has_mark, with_mark, without_mark, with_value_at};
 ghost use Rattle.live_range.specs.Names.{shown, IsOver};
 
 use crate::adjust::Adjustment;
@@ -16,7 +16,7 @@ use crate::names::Names;
 use crate::nodes::Nodes;
 use crate::pairs::pair_of;
 use crate::places::{MarkPlace, Pair, Places, Point};
-use crate::standing::standing_label;
+use crate::standing::{Labels, standing_labels};
 use std::alloc::{AllocError, Global};
 use std::error::Error;
 use std::fmt;
@@ -253,11 +253,18 @@ impl Points {
         list_all(&mut self.nodes, &self.places);
     }
 
-    /// The labels of the nodes at which a point stands, each once, by their places in a list.
-    pub fn standing(&self, place: usize) -> Option<u32>
-        ensures { result ≡ slice_get (standing self.now) place }
+    /// Whether a point stands at the node of that label.
+    pub fn stands_at(&self, label: u32) -> bool
+        ensures { result ≡ has_label (labels_of self.now) label }
     {
-        standing_label(&self.places, &self.nodes, place)
+        self.nodes.at(label).first().is_some()
+    }
+
+    /// The labels of the nodes at which a point stands.
+    pub fn standing(&self) -> Labels
+        ensures { result ≡ standing self.now }
+    {
+        standing_labels(&self.places)
     }
 
     // The steps are as many as points stand at the nodes that the edit names, however many others there are.

@@ -1,41 +1,83 @@
 //! The labels of the nodes at which a point stands, in the order of the points.
-ghost use Rattle.std.specs.Prelude.{◌≡◌, ◌<◌, ◌≤◌, [], nat_eq, not, slice_get, true};
-ghost use Rattle.indexmap.specs.IndexSet.{insert_all};
+ghost use Rattle.std.specs.Prelude.{◌≡◌, ◌+◌, ◌<◌, ◌≤◌, [], length, nat_eq};
+ghost use Rattle.indexmap.specs.IndexSet.{insert_all, insert_key};
+ghost use Rattle.live_range.specs.LivePoints.{pair_labels};
 ghost use Rattle.live_range.specs.Names.{place_labels};
-ghost use Rattle.live_range.specs.Rows.{listed_at, any_below, Lists};
 
-use crate::nodes::Nodes;
-use crate::pairs::point_of;
-use crate::places::Places;
+use crate::pairs::pair_of;
+use crate::places::{Pair, Places};
+use std::marker::Model;
 
-// Whether the row is the first at the label.
-fn leads(nodes: &Nodes, label: u32, row: u8) -> bool
-    requires row { row < 64 }
-    requires there { listed_at nodes.now label row ≡ true }
-    ensures { result ≡ not (any_below (listed_at nodes.now label) row) }
-{
-    match nodes.at(label).first() {
-        Some(first) => first == row,
-        None => false,
+// The selection's two points, the scratch pair's, and those of 16 marks.
+const MOST_POINTS: usize = 36;
+
+/// The labels of the nodes at which a point stands, each once, in the order of the points.
+#[derive(Drop)]
+pub struct Labels {
+    list: [u32; MOST_POINTS],
+    count: usize,
+}
+
+impl Model for Labels {
+    ghost use Rattle.std.specs.Prelude.{ℕ, ◌≤◌, List, take};
+
+    ghost Value = { List ℕ };
+
+    ghost view = { λ l. take l.count l.list };
+
+    ghost invariant = { λ l. l.count ≤ 36 };
+}
+
+impl Labels {
+    fn none() -> Labels
+        ensures { result ≡ [] }
+    {
+        Labels {
+            list: [0; MOST_POINTS],
+            count: 0,
+        }
+    }
+
+    /// The labels as a slice.
+    pub fn as_slice(&self) -> &[u32]
+        ensures list { result.now ≡ self.now }
+        ensures few { length result.now ≤ 36 }
+    {
+        &self.list[..self.count]
+    }
+
+    // The label goes last, if it isn't there.
+    fn meet(&mut self, label: u32)
+        requires { length self.old < 36 }
+        ensures met { self.new ≡ insert_key nat_eq self.old label }
+        ensures few { length self.new ≤ length self.old + 1 }
+    {
+        if !self.as_slice().contains(&label) {
+            self.list[self.count] = label;
+            self.count += 1;
+        }
+    }
+
+    fn meet_pair(&mut self, pair: Pair)
+        requires { length self.old + 2 ≤ 36 }
+        ensures met { self.new ≡ insert_all nat_eq self.old (pair_labels pair) }
+        ensures few { length self.new ≤ length self.old + 2 }
+    {
+        self.meet(pair.anchor.label);
+        self.meet(pair.focus.label);
     }
 }
 
-pub(crate) fn standing_label(places: &Places, nodes: &Nodes, place: usize) -> Option<u32>
-    requires few { places.now.count ≤ 16 }
-    requires listed { Lists places.now nodes.now }
-    ensures { result ≡ slice_get (insert_all nat_eq [] (place_labels places.now)) place }
+pub(crate) fn standing_labels(places: &Places) -> Labels
+    requires { places.now.count ≤ 16 }
+    ensures { result ≡ insert_all nat_eq [] (place_labels places.now) }
 {
-    let mut left = place;
-    for row in 0..2 * (places.count + 2) {
-        let Some(point) = point_of(places, row) else {
-            continue;
-        };
-        if leads(nodes, point.label, row) {
-            if left == 0 {
-                return Some(point.label);
-            }
-            left -= 1;
+    let mut labels = Labels::none();
+    for number in 0..places.count + 2 {
+        match pair_of(places, number) {
+            Some(pair) => labels.meet_pair(pair),
+            None => {}
         }
     }
-    None
+    labels
 }

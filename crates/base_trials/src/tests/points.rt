@@ -208,9 +208,10 @@ fn points_follow_edits(rt: HostRuntime) -> Result<(), Fail> {
     Ok(())
 }
 
-// The labels at which a point stands, at most three of them.
-fn labels(points: &Points) -> [Option<u32>; 3] {
-    [points.standing(0), points.standing(1), points.standing(2)]
+// Whether points stand at these nodes and no others, in this order.
+fn stand_at(points: &Points, labels: &[u32]) -> bool {
+    let standing = points.standing();
+    standing.as_slice() == labels
 }
 
 #[test]
@@ -220,7 +221,8 @@ fn marks_keep_their_order(rt: HostRuntime) -> Result<(), Fail> {
     set_mark(&mut points, b"b", pair(8, 1, 2))?;
     set_mark(&mut points, b"a", pair(9, 2, 2))?;
     assert_eq!(rt; points.mark_at(0), Some((b"a".as_slice(), pair(9, 2, 2))));
-    assert_eq!(rt; labels(&points), [Some(9), Some(8), None]);
+    assert!(rt; stand_at(&points, &[9, 8]));
+    assert!(rt; points.stands_at(8) && !points.stands_at(7));
     Ok(())
 }
 
@@ -232,7 +234,7 @@ fn a_mark_goes(rt: HostRuntime) -> Result<(), Fail> {
     assert!(rt; unset_mark(&mut points, b"a"));
     remove(&mut points, &[8], 3, 4);
     assert_eq!(rt; points.mark_at(0), Some((b"b".as_slice(), pair(3, 4, 4))));
-    assert_eq!(rt; labels(&points), [Some(3), None, None]);
+    assert!(rt; stand_at(&points, &[3]));
     Ok(())
 }
 
@@ -252,7 +254,7 @@ fn more_nodes_are_met_than_have_room(rt: HostRuntime) -> Result<(), Fail> {
     remove(&mut points, &[7], 3, 4);
     assert_eq!(rt; points.mark_at(0), Some((b"a".as_slice(), pair(3, 4, 4))));
     assert_eq!(rt; points.selection(), Some(pair(1000, 4, 4)));
-    assert_eq!(rt; labels(&points), [Some(1000), Some(3), None]);
+    assert!(rt; stand_at(&points, &[1000, 3]));
     Ok(())
 }
 
@@ -284,6 +286,6 @@ fn places_come_back(rt: HostRuntime) -> Result<(), Fail> {
     set_mark(&mut points, b"a", pair(7, 1, 1))?;
     bring_back(&mut points);
     assert_eq!(rt; points.scratch(), None);
-    assert_eq!(rt; labels(&points), [Some(7), None, None]);
+    assert!(rt; stand_at(&points, &[7]));
     Ok(())
 }
