@@ -2,7 +2,8 @@
 """Tells what the gate costs: bench/gate.py [--anew] [NAME..]
 
 Runs `rt ci` with these words, and prints for each crate the seconds of processor that its proofs, its tests and its
-must-fail edits took, and the sum. What an earlier run on this machine proved costs nothing, so `--anew` for all.
+must-fail edits took, and the sum, and then the minutes from the begin to the end. What an earlier run on this machine proved
+costs nothing, so `--anew` for all.
 
 The seconds are read from /proc, of each process of the prover and of those that it started, five times a second: what
 one took after it was last read is left out.
@@ -77,12 +78,13 @@ def print_table(found):
 
 
 def main():
-    found = {}
+    found, began = {}, time.monotonic()
     gate = subprocess.Popen(["rt", "ci", *sys.argv[1:]], cwd=Path(__file__).resolve().parent.parent)
     while gate.poll() is None:
         read_provers(gate.pid, found)
         time.sleep(0.2)
     print_table(found)
+    print(f"\n{(time.monotonic() - began) / 60:.1f} minutes from the begin to the end")
     return gate.returncode
 
 
