@@ -40,6 +40,7 @@ use Rattle.edit_doc.specs.Marks.{Marks}
 use Rattle.edit_doc.specs.Sound.{RefIn}
 use Rattle.edit_doc.specs.Trail.{Trail, with_note}
 use Rattle.edit_doc.specs.History.{other}
+use Rattle.edit_doc.specs.Counted.{IsCounted}
 use Rattle.edit_doc.proofs.Inner.{seen, Ok}
 use Rattle.edit_doc.proofs.SeenNodes.{shows_of, out_of, IsSeen, held_seen, attributes_seen}
 use Rattle.edit_doc.proofs.Changing.{Follows}
@@ -136,26 +137,34 @@ follows c d n list f m = record {
   loosed_is = refl;
 }
 
-module _ (d : Inside) (law : IsArena d.tree.arena) (slotted : IsSlotted d.tree.arena) (ok : Ok d) (node : NodeRef) (held : RefIn d.tree.arena.held node) (here : IsSeen d node.label)
-    (tag : List ℕ) (own list : List Attribute) (content : content_of d.tree.arena.trees node.label ≡ Some (Element tag own)) where
-  pub redress_fits : StepFits (Attributes node list) d.tree.arena
+module _ (d : Inside) (law : IsArena d.tree.nodes.arena) (slotted : IsSlotted d.tree.nodes.arena) (ok : Ok d) (node : NodeRef) (held : RefIn d.tree.nodes.arena.held node) (here : IsSeen d node.label)
+    (tag : List ℕ) (own list : List Attribute) (content : content_of d.tree.nodes.arena.trees node.label ≡ Some (Element tag own)) where
+  pub redress_fits : StepFits (Attributes node list) d.tree.nodes.arena
   redress_fits = record {
-    fits = record { forest = forest_of d.tree.arena law; here = ap (λ o. option_map_or is_element o false) content };
+    fits = record { forest = forest_of d.tree.nodes.arena law; here = ap (λ o. option_map_or is_element o false) content };
     slotted = slotted;
     held = (held, tt);
   }
 
+  pub counted_redressed : IsCounted (step_applied (Attributes node list) d.tree.nodes.arena).trees d.tree.nodes.counts
+  unfolding step_applied applied
+  counted_redressed = record {
+    nodes = d.tree.nodes.counted.nodes ∙ sym (nodes-redressed d.tree.nodes.arena.trees node.label list);
+    chars = d.tree.nodes.counted.chars ∙ sym (chars-redressed d.tree.nodes.arena.trees node.label list);
+    depth = (let low = d.tree.nodes.counted.depth in omega (arith, revised_depth d.tree.nodes.arena.trees d.tree.nodes.arena.next (arena_forest d.tree.nodes.arena law) node.label (with_attributes list), low));
+  }
+
   abbrev g : Forest Content
-  g = pruned (out_of d) d.tree.arena.trees
+  g = pruned (out_of d) d.tree.nodes.arena.trees
 
   content_here : content_of g node.label ≡ Some (Element tag own)
-  content_here = content_of-pruned (out_of d) d.tree.arena.trees node.label (forest_of d.tree.arena law) here ∙ content
+  content_here = content_of-pruned (out_of d) d.tree.nodes.arena.trees node.label (forest_of d.tree.nodes.arena law) here ∙ content
 
   own_here : Some own ≡ attributes_of g node.label
   own_here = sym (ap (option_and_then attributes_in) content_here)
 
   trees_same : (h : Content → Content) → with_attributes list (Element tag own) ≡ h (Element tag own) → revised g node.label (with_attributes list) ≡ revised g node.label h
-  trees_same h same = revised_same g node.label (with_attributes list) h (Element tag own) (IsDistinct-pruned (out_of d) d.tree.arena.trees law.distinct) content_here same
+  trees_same h same = revised_same g node.label (with_attributes list) h (Element tag own) (IsDistinct-pruned (out_of d) d.tree.nodes.arena.trees law.distinct) content_here same
 
   module _ (c : Command) (m : Marks (node.label ∷ []) d.command c) where
     redresses : (e : Edit) (h : Content → Content) →
@@ -163,34 +172,31 @@ module _ (d : Inside) (law : IsArena d.tree.arena) (slotted : IsSlotted d.tree.a
         revised g node.label (with_attributes list) ≡ trees_after e g →
         d.tree.points ≡ points_after e g d.tree.points →
         d.tree.overrides ≡ overrides_after (seen d).state (trees_after e g) (points_after e g d.tree.points) →
-        Makes d e (Attributes node list) d.tree.points d.tree.overrides d.tree.counts c
+        Makes d e (Attributes node list) d.tree.points d.tree.overrides c
     unfolding applied
     redresses e h change trees points overrides = record {
       fits = redress_fits;
       seen = (here, tt);
-      follows = follows d.command c node.label list d.tree.arena.trees m;
+      follows = follows d.command c node.label list d.tree.nodes.arena.trees m;
       names = refl;
       change = change;
       trees = trees;
       points_are = points;
       overrides_are = overrides;
-      nodes = ok.nodes ∙ sym (nodes-redressed d.tree.arena.trees node.label list);
-      chars = ok.chars ∙ sym (chars-redressed d.tree.arena.trees node.label list);
-      depth = (let low = ok.depth in omega (arith, revised_depth d.tree.arena.trees d.tree.arena.next (arena_forest d.tree.arena law) node.label (with_attributes list), low));
     }
 
-    pub sets : (name value : List ℕ) → list ≡ set_in own name value → Makes d (Set node.label name value) (Attributes node list) d.tree.points d.tree.overrides d.tree.counts c
+    pub sets : (name value : List ℕ) → list ≡ set_in own name value → Makes d (Set node.label name value) (Attributes node list) d.tree.points d.tree.overrides c
     unfolding trees_after points_after edit_change
     sets name value is = redresses (Set node.label name value) (with_set name value) (ap (SetAttributes node.label) (is ∙ ap (λ o. set_in (unwrap_or o []) name value) own_here)) (trees_same (with_set name value) (ap (Element tag) is)) refl (sym (overrides-revised (seen d).state node.label (with_set name value)))
 
-    pub unsets : (name : List ℕ) → list ≡ unset_in own name → Makes d (Unset node.label name) (Attributes node list) d.tree.points d.tree.overrides d.tree.counts c
+    pub unsets : (name : List ℕ) → list ≡ unset_in own name → Makes d (Unset node.label name) (Attributes node list) d.tree.points d.tree.overrides c
     unfolding trees_after points_after edit_change
     unsets name is = redresses (Unset node.label name) (with_unset name) (ap (SetAttributes node.label) (is ∙ ap (λ o. unset_in (unwrap_or o []) name) own_here)) (trees_same (with_unset name) (ap (Element tag) is)) refl (sym (overrides-revised (seen d).state node.label (with_unset name)))
 
 -- ---- for the value that a contract sees
 
-module _ (d : Inside) (v : Whole) (is : seen d ≡ v) (law : IsArena d.tree.arena) (slotted : IsSlotted d.tree.arena) (now_open : IsOpen v) (ok : Ok d) (node : NodeRef) (holds : Holds v node)
-    (tag : List ℕ) (own : List Attribute) (content : content_of d.tree.arena.trees node.label ≡ Some (Element tag own)) where
+module _ (d : Inside) (v : Whole) (is : seen d ≡ v) (law : IsArena d.tree.nodes.arena) (slotted : IsSlotted d.tree.nodes.arena) (now_open : IsOpen v) (ok : Ok d) (node : NodeRef) (holds : Holds v node)
+    (tag : List ℕ) (own : List Attribute) (content : content_of d.tree.nodes.arena.trees node.label ≡ Some (Element tag own)) where
   held_here : Holds (seen d) node
   held_here = held_seen d v is node holds
 
@@ -213,15 +219,15 @@ module _ (d : Inside) (v : Whole) (is : seen d ≡ v) (law : IsArena d.tree.aren
   unfolding is_made_edit may_set
   not_set_here name value same = rw (own_seen, same) (and_false (is_own v.state node.label))
 
-  module _ (list : List Attribute) (c : Command) (m : Marks (node.label ∷ []) d.command c) (arena : Arena) (trail : Trail) (arena_is : arena ≡ step_applied (Attributes node list) d.tree.arena) (trail_is : trail ≡ with_note d.history (step_inverse (Attributes node list) d.tree.arena)) where
-    pub unset_done : (name : List ℕ) → list ≡ unset_in own name → is_made_edit (Unset node.label name) v.state ≡ true → Done d v (Unset node.label name) arena d.tree.points d.tree.overrides d.tree.counts c trail
+  module _ (list : List Attribute) (c : Command) (m : Marks (node.label ∷ []) d.command c) (arena : Arena) (trail : Trail) (arena_is : arena ≡ step_applied (Attributes node list) d.tree.nodes.arena) (trail_is : trail ≡ with_note d.history (step_inverse (Attributes node list) d.tree.nodes.arena)) where
+    pub unset_done : (name : List ℕ) → list ≡ unset_in own name → is_made_edit (Unset node.label name) v.state ≡ true → Done d v (Unset node.label name) arena d.tree.points d.tree.overrides c trail
     unset_done name same may =
-        edit_called d v is law now_open ok (Unset node.label name) (Attributes node list) d.tree.points d.tree.overrides d.tree.counts c may
+        edit_called d v is law now_open ok (Unset node.label name) (Attributes node list) d.tree.points d.tree.overrides c may
         (unsets d law slotted ok node held_here.slot held_here.here tag own list content c m name same) arena trail arena_is trail_is
 
-    pub set_done : (name value : List ℕ) → list ≡ set_in own name value → is_made_edit (Set node.label name value) v.state ≡ true → Done d v (Set node.label name value) arena d.tree.points d.tree.overrides d.tree.counts c trail
+    pub set_done : (name value : List ℕ) → list ≡ set_in own name value → is_made_edit (Set node.label name value) v.state ≡ true → Done d v (Set node.label name value) arena d.tree.points d.tree.overrides c trail
     set_done name value same may =
-        edit_called d v is law now_open ok (Set node.label name value) (Attributes node list) d.tree.points d.tree.overrides d.tree.counts c may
+        edit_called d v is law now_open ok (Set node.label name value) (Attributes node list) d.tree.points d.tree.overrides c may
         (sets d law slotted ok node held_here.slot held_here.here tag own list content c m name value same) arena trail arena_is trail_is
 
 -- where the node isn't the command's own, or no element, nothing is done

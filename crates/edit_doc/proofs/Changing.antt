@@ -6,7 +6,6 @@ use Rattle.std.proofs.lemmas.List.{take-append-le, drop-append-le}
 use Rattle.std.proofs.lemmas.List.Folds.{list_any-append}
 use Rattle.std.proofs.lemmas.Bool.Decides.{eqb_tells}
 use Rattle.dom_model.specs.declared.Content.{Content}
-use Rattle.dom_model.specs.Document.{node_count, char_count, page_depth}
 use Rattle.dom_model.specs.Forest.{Forest, tops, times, count_of}
 use Rattle.dom_model.specs.Pruned.{pruned}
 use Rattle.dom_model.specs.ArenaState.{ArenaState as Arena, IsValid as IsArena}
@@ -33,7 +32,6 @@ use Rattle.edit_model.specs.Valid.{IsValid}
 use Rattle.edit_model.specs.History.{document_of}
 use Rattle.edit_model.specs.Gives.{label_of, labels_of}
 use Rattle.edit_model.proofs.Steps.{labels_of-append}
-use Rattle.edit_parts.specs.declared.Counts.{Counts}
 use Rattle.edit_doc.specs.declared.command.EntrySnapshot.{EntrySnapshot}
 use Rattle.edit_doc.specs.declared.command.Command.{Command}
 use Rattle.edit_doc.specs.Whole.{with_state}
@@ -41,7 +39,7 @@ use Rattle.edit_doc.specs.Marks.{IsMarked, has_named}
 use Rattle.edit_doc.specs.History.{edits_before, roots_from, forest_before, begun_forest, is_hidden, seen_trees, state_of, begun_state, began_with, history_of, whole_of}
 use Rattle.edit_doc.specs.Sound.{RefIn, EachHeldIn, CanGoBack, IsSide, AreAlone, IsSnapshot, IsRunning, OpenSound, UndoSound, RedoSound, detached_of, next_first, IsSoundDoc, AreNeeded}
 use Rattle.edit_doc.specs.Trail.{Trail, with_note}
-use Rattle.edit_doc.specs.declared.tree.LiveTree.{LiveTree}
+use Rattle.edit_doc.specs.Live.{Live}
 use Rattle.edit_doc.proofs.Laid.{redo_later}
 use Rattle.edit_doc.proofs.HiddenTrees.{top_loose}
 use Rattle.edit_doc.proofs.Places.{node_of, loosed, named_node, each_loosed, root_stays, root_was}
@@ -150,7 +148,7 @@ pub record Follows (c d : Command) (x y : Change) : Type 0 where
   pub detached : d.detached.items ≡ c.detached.items ++ more
   pub loosed_is : labels_of more ≡ loosed x
 
-module _ (tree : LiveTree) (c : Command) (trail : Trail)
+module _ (tree : Live) (c : Command) (trail : Trail)
     (law : IsArena tree.arena) (open_now : IsTrue (is_open trail.log.open_entry))
     (ok : IsSoundDoc tree c trail) where
   abbrev g : Forest Content
@@ -324,9 +322,9 @@ module _ (tree : LiveTree) (c : Command) (trail : Trail)
               made = [];
             }
 
-        pub sound_next : (counts' : Counts) → IsValid (seen_next points' overrides') → counts'.nodes ≡ node_count f → counts'.chars ≡ char_count f → page_depth f ≤ counts'.depth →
-            IsSoundDoc (record tree { arena = record tree.arena { trees = f }; points = points'; overrides = overrides'; counts = counts' }) d (with_note trail y)
-        sound_next counts' valid nodes chars depth =
+        pub sound_next : IsValid (seen_next points' overrides') →
+            IsSoundDoc (record tree { arena = record tree.arena { trees = f }; points = points'; overrides = overrides' }) d (with_note trail y)
+        sound_next valid =
             let start : c.start ≡ d.start = sym now.start in
             let undo : UndoSound tree.arena.held tree.points.names c.resumed d (next_first c.start trail.future) g trail.log.undo trail.past = undo_carried tree.arena.held tree.points.names c d start c.resumed (next_first c.start trail.future) g trail.log.undo trail.past (detached_same c.resumed) ok.undo in
             let le : c.start ≤ d.start = omega (arith, start) in
@@ -334,9 +332,6 @@ module _ (tree : LiveTree) (c : Command) (trail : Trail)
             record {
               valid = subst IsValid (sym state_next) valid;
               some_label = subst (λ n. 0 < n) start ok.some_label;
-              nodes = nodes;
-              chars = chars;
-              depth = depth;
               hidden = λ l h. (let h' : hides l ≡ true = subst (λ k. k l ≡ true) hides_same h in root_stays (change_of x) tree.arena.trees l fits.fits (off_hidden l h') (ok.hidden l h'));
               running = of_running (record tree.arena { trees = f }) points' d (begun_forest (with_step trail.log y) f) trail.log.open_entry y open_now
                   (subst (λ t. IsRunning (record tree.arena { trees = f }) points'.names d (xs ++ y ∷ []) t) (sym begun_same) (subst (λ ns. IsRunning (record tree.arena { trees = f }) ns d (xs ++ y ∷ []) g) (sym names) runs));

@@ -49,18 +49,15 @@ module _ (d : Inside) (ok : Ok d) (selection scratch : Option Pair) (marks : Lis
   points = moved_to d.tree.points selection scratch marks
 
   pub other_ok :
-      IsPlaced (seen_trees d.history.log d.command.start d.tree.arena.trees) points →
+      IsPlaced (seen_trees d.history.log d.command.start d.tree.nodes.arena.trees) points →
       length overrides ≡ 32 →
       (d.history.log.open_entry ≡ Closed → scratch ≡ None) →
-      IsSoundDoc (live_of d.tree.arena points overrides flags d.tree.counts) d.command d.history
+      IsSoundDoc (live_of d.tree.nodes.arena points overrides flags) d.command d.history
   other_ok placed settings none = record {
     valid = record { forest = ok.valid.forest; placed = placed; started = ok.valid.started; settings = settings };
     some_label = ok.some_label;
-    nodes = ok.nodes;
-    chars = ok.chars;
-    depth = ok.depth;
     hidden = ok.hidden;
-    running = open_other d.tree.arena d.tree.points d.command _ d.history.log.open_entry selection scratch marks none ok.running;
+    running = open_other d.tree.nodes.arena d.tree.points d.command _ d.history.log.open_entry selection scratch marks none ok.running;
     resumed = ok.resumed;
     host = ok.host;
     undo = ok.undo;
@@ -71,7 +68,7 @@ module _ (d : Inside) (ok : Ok d) (selection scratch : Option Pair) (marks : Lis
 -- outside commands no scratch pair is kept
 pub scratch_at_rest : (d : Inside) → Ok d → d.history.log.open_entry ≡ Closed → d.tree.points.scratch ≡ None
 scratch_at_rest d ok closed =
-    let idle : IsIdle d.command d.tree.points d.tree.arena.next = subst (λ o. OpenSound d.tree.arena d.tree.points d.command (begun_forest d.history.log d.tree.arena.trees) o) closed ok.running in
+    let idle : IsIdle d.command d.tree.points d.tree.nodes.arena.next = subst (λ o. OpenSound d.tree.nodes.arena d.tree.points d.command (begun_forest d.history.log d.tree.nodes.arena.trees) o) closed ok.running in
     idle.scratch
 
 -- ---- what stays held

@@ -1,8 +1,7 @@
 -- A command ends.
-use Rattle.std.proofs.Common.{◌≡◌, ℕ, ◌<◌, ◌≤◌, Bool, false, List, [], ◌∷◌, length, None, refl, sym, ap, subst, ◌∙◌, arith}
+use Rattle.std.proofs.Common.{◌≡◌, ℕ, ◌<◌, Bool, false, List, [], ◌∷◌, length, None, refl, sym, ap, subst, ◌∙◌, arith}
 use Rattle.std.specs.Prelude.{IsTrue, nat_le}
 use Rattle.undo_log.specs.declared.Committed.TheVariants.{Nothing, Entry as Made}
-use Rattle.dom_model.specs.Document.{node_count, char_count, page_depth}
 use Rattle.dom_model.specs.Forest.{count_of}
 use Rattle.dom_model.specs.Pruned.{pruned, IsWhole}
 use Rattle.dom_model.specs.ArenaState.{ArenaState as Arena, IsValid as IsArena}
@@ -26,7 +25,8 @@ use Rattle.edit_doc.specs.Held.{KeepsThere}
 use Rattle.edit_doc.specs.History.{edits_before, begun_forest, is_hidden, seen_trees, state_of, begun_state, began_with, history_of, whole_of}
 use Rattle.edit_doc.specs.Sound.{IsSoundDoc}
 use Rattle.edit_doc.specs.Trail.{trail_of}
-use Rattle.edit_doc.proofs.HiddenTrees.{false_le, document-pruned, placed-pruned, placed-whole, node_count-pruned, char_count-pruned, page_depth-pruned}
+use Rattle.edit_doc.specs.Live.{live}
+use Rattle.edit_doc.proofs.HiddenTrees.{false_le, document-pruned, placed-pruned, placed-whole}
 use Rattle.edit_doc.proofs.Inner.{seen, Ending}
 use Rattle.edit_doc.proofs.Rests.{AtRest, rest_sound, rest_state, none_noted, arena_forest}
 use Rattle.edit_doc.proofs.Rolls.{Leaves, whole_g, prunes_g, Without, without_rest, without_needed, without_history}
@@ -56,7 +56,7 @@ nothing_recorded s0 (Resumed xs) w e = rw e refl
 
 -- as many edits as steps were noted
 pub edits_count : (d : Inside) (v : Whole) → seen d ≡ v → length (noted d.history.log.open_entry) ≡ length v.state.edits
-edits_count d v sees = sym (count_edits (noted d.history.log.open_entry) d.tree.arena.trees) ∙ ap (λ (w : Whole). length w.state.edits) sees
+edits_count d v sees = sym (count_edits (noted d.history.log.open_entry) d.tree.nodes.arena.trees) ∙ ap (λ (w : Whole). length w.state.edits) sees
 
 -- ---- where no step was noted
 
@@ -65,26 +65,26 @@ module _ (d : Inside) (ending : Ending d) where
   rested_points = shown d.tree.points.names ending.places
 
   -- the points stand in the document, without the scratch pair too
-  pub placed_now : IsPlaced d.tree.arena.trees rested_points
+  pub placed_now : IsPlaced d.tree.nodes.arena.trees rested_points
   placed_now =
-      let h = placed-whole d.tree.arena.trees d.tree.arena.next (arena_forest d.tree.arena ending.during.law) (is_hidden (begun_forest d.history.log d.tree.arena.trees) d.command.start) refl d.tree.points ending.during.ok.valid.placed in
-      let own : IsPlaced d.tree.arena.trees (record d.tree.points { scratch = None }) = record { selection = h.selection; scratch = tt; marks = h.marks } in
-      subst (IsPlaced d.tree.arena.trees) (sym ending.resting.shown) own
+      let h = placed-whole d.tree.nodes.arena.trees d.tree.nodes.arena.next (arena_forest d.tree.nodes.arena ending.during.law) (is_hidden (begun_forest d.history.log d.tree.nodes.arena.trees) d.command.start) refl d.tree.points ending.during.ok.valid.placed in
+      let own : IsPlaced d.tree.nodes.arena.trees (record d.tree.points { scratch = None }) = record { selection = h.selection; scratch = tt; marks = h.marks } in
+      subst (IsPlaced d.tree.nodes.arena.trees) (sym ending.resting.shown) own
 
-  pub document_now : document_of (seen_trees d.history.log d.command.start d.tree.arena.trees) ≡ document_of d.tree.arena.trees
-  document_now = document-pruned d.tree.arena.trees d.tree.arena.next (arena_forest d.tree.arena ending.during.law) (is_hidden (begun_forest d.history.log d.tree.arena.trees) d.command.start) refl
+  pub document_now : document_of (seen_trees d.history.log d.command.start d.tree.nodes.arena.trees) ≡ document_of d.tree.nodes.arena.trees
+  document_now = document-pruned d.tree.nodes.arena.trees d.tree.nodes.arena.next (arena_forest d.tree.nodes.arena ending.during.law) (is_hidden (begun_forest d.history.log d.tree.nodes.arena.trees) d.command.start) refl
 
   module _ (nothing : noted d.history.log.open_entry ≡ []) where
-    same_forest : begun_forest d.history.log d.tree.arena.trees ≡ d.tree.arena.trees
-    same_forest = none_noted d.history.log d.tree.arena.trees nothing
+    same_forest : begun_forest d.history.log d.tree.nodes.arena.trees ≡ d.tree.nodes.arena.trees
+    same_forest = none_noted d.history.log d.tree.nodes.arena.trees nothing
 
     abbrev k : ℕ → Bool
     k l = nat_le d.command.start l
 
-    pub nothing_whole : IsWhole k d.tree.arena.trees
+    pub nothing_whole : IsWhole k d.tree.nodes.arena.trees
     nothing_whole = subst (IsWhole k) same_forest (whole_g d ending.during)
 
-    module _ (a : Arena) (drops : DropsMade d.tree.arena a d.command.start) (valid : IsArena a) (us : List EntrySnapshot) (forgets : Forgets d.history.past us d.command) (c : Command) (ended : IsEnded a.next c) where
+    module _ (a : Arena) (drops : DropsMade d.tree.nodes.arena a d.command.start) (valid : IsArena a) (us : List EntrySnapshot) (forgets : Forgets d.history.past us d.command) (c : Command) (ended : IsEnded a.next c) where
       detached_out : Without d ending.during a
       detached_out = record {
         valid = valid;
@@ -100,28 +100,25 @@ module _ (d : Inside) (ending : Ending d) where
       prunes : k 0 ≡ false
       prunes = (prunes_g d ending.during).document
 
-      ends : AtRest (record d.tree { arena = a; points = rested_points }) c (trail_of log' us d.history.future)
+      ends : AtRest (record (live d.tree) { arena = a; points = rested_points }) c (trail_of log' us d.history.future)
       ends =
-          let f = arena_forest d.tree.arena ending.during.law in
-          without_rest d ending.during a detached_out us forgets c ended log' refl refl refl refl refl rested_points d.tree.overrides d.tree.flags d.tree.counts
+          let f = arena_forest d.tree.nodes.arena ending.during.law in
+          without_rest d ending.during a detached_out us forgets c ended log' refl refl refl refl refl rested_points d.tree.overrides d.tree.flags
           refl ending.resting.resting
-          (subst (λ t. IsPlaced t rested_points) (sym drops.trees) (placed-pruned d.tree.arena.trees d.tree.arena.next f k prunes rested_points placed_now))
+          (subst (λ t. IsPlaced t rested_points) (sym drops.trees) (placed-pruned d.tree.nodes.arena.trees d.tree.nodes.arena.next f k prunes rested_points placed_now))
           ending.during.ok.valid.settings
-          (ending.during.ok.nodes ∙ (sym (node_count-pruned d.tree.arena.trees d.tree.arena.next f k prunes) ∙ ap node_count (sym drops.trees)))
-          (ending.during.ok.chars ∙ (sym (char_count-pruned d.tree.arena.trees d.tree.arena.next f k prunes) ∙ ap char_count (sym drops.trees)))
-          (subst (λ n. n ≤ d.tree.counts.depth) (sym (page_depth-pruned d.tree.arena.trees d.tree.arena.next f k prunes) ∙ ap page_depth (sym drops.trees)) ending.during.ok.depth)
 
-      nothing_ok : IsSoundDoc (record d.tree { arena = a; points = rested_points }) c (trail_of log' us d.history.future)
-      nothing_ok = rest_sound (record d.tree { arena = a; points = rested_points }) c (trail_of log' us d.history.future) ends
+      nothing_ok : IsSoundDoc (record (live d.tree) { arena = a; points = rested_points }) c (trail_of log' us d.history.future)
+      nothing_ok = rest_sound (record (live d.tree) { arena = a; points = rested_points }) c (trail_of log' us d.history.future) ends
           (without_needed d ending.during a detached_out us forgets c ended log' refl refl refl refl refl)
 
-      document_is : document_of a.trees ≡ document_of (seen_trees d.history.log d.command.start d.tree.arena.trees)
-      document_is = ap document_of drops.trees ∙ (document-pruned d.tree.arena.trees d.tree.arena.next (arena_forest d.tree.arena ending.during.law) k prunes ∙ sym document_now)
+      document_is : document_of a.trees ≡ document_of (seen_trees d.history.log d.command.start d.tree.nodes.arena.trees)
+      document_is = ap document_of drops.trees ∙ (document-pruned d.tree.nodes.arena.trees d.tree.nodes.arena.next (arena_forest d.tree.nodes.arena ending.during.law) k prunes ∙ sym document_now)
 
-      nothing_state : (v : Whole) → seen d ≡ v → state_of (record d.tree { arena = a; points = rested_points }) c log' ≡ rested v.state
+      nothing_state : (v : Whole) → seen d ≡ v → state_of (record (live d.tree) { arena = a; points = rested_points }) c log' ≡ rested v.state
       unfolding rested
       nothing_state v sees =
-          rest_state (record d.tree { arena = a; points = rested_points }) c (trail_of log' us d.history.future) ends
+          rest_state (record (live d.tree) { arena = a; points = rested_points }) c (trail_of log' us d.history.future) ends
           ∙ ((λ i. record {
             trees = document_is i;
             points = ending.resting.shown i;
@@ -142,10 +139,10 @@ module _ (d : Inside) (ending : Ending d) where
       nothing_history v sees =
           ap (λ f. history_of d.tree.points.names f (trail_of log' us d.history.future)) (none_noted log' a.trees refl)
           ∙ (without_history d ending.during a detached_out us forgets c ended log' refl refl refl refl refl d.tree.points.names refl
-          ∙ (nothing_recorded (begun_state d.tree.arena d.tree.points.names d.command d.history.log) d.history.log.open_entry (seen d) (ap (λ ys. edits_before ys d.tree.arena.trees) nothing ∙ no_edits d.tree.arena.trees) ∙ ap history_committed sees))
+          ∙ (nothing_recorded (begun_state d.tree.nodes.arena d.tree.points.names d.command d.history.log) d.history.log.open_entry (seen d) (ap (λ ys. edits_before ys d.tree.nodes.arena.trees) nothing ∙ no_edits d.tree.nodes.arena.trees) ∙ ap history_committed sees))
 
       abbrev nothing_doc : Whole
-      nothing_doc = whole_of (record d.tree { arena = a; points = rested_points }) c (trail_of log' us d.history.future)
+      nothing_doc = whole_of (record (live d.tree) { arena = a; points = rested_points }) c (trail_of log' us d.history.future)
 
       by_detached : (l : ℕ) → 0 < count_of a.trees l → l < d.command.start
       by_detached l here = false_le d.command.start l ((prunes_g d ending.during).out l (subst (λ t. 0 < count_of t l) detached_out.trees here))
@@ -158,5 +155,5 @@ module _ (d : Inside) (ending : Ending d) where
           }) in
           subst (λ (w : Whole). KeepsThere w nothing_doc) sees own
 
-      pub makes_nothing : (v : Whole) → seen d ≡ v → Leaves (record d.tree { arena = a; points = rested_points }) c (trail_of log' us d.history.future) v (rested v.state) (history_committed v)
+      pub makes_nothing : (v : Whole) → seen d ≡ v → Leaves (record (live d.tree) { arena = a; points = rested_points }) c (trail_of log' us d.history.future) v (rested v.state) (history_committed v)
       makes_nothing v sees = record { invariant = nothing_ok; state = nothing_state v sees; history = nothing_history v sees; keeps = nothing_keeps v sees }

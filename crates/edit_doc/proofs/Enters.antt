@@ -50,29 +50,29 @@ module _ (d : Inside) (ending : Ending d) where
   abbrev before : Forest Content
   before = g d ending.during
 
-  below_next : (ls : List ℕ) → Each (IsLeft (is_hidden before d.command.start) d.tree.arena.trees) ls → Each (λ l. l < d.tree.arena.next) ls
-  below_next ls h = each_of (IsLeft (is_hidden before d.command.start) d.tree.arena.trees) (λ l. l < d.tree.arena.next) ls (λ l t. ending.during.law.below l (let le = count_of-pruned (is_hidden before d.command.start) d.tree.arena.trees l in omega (arith, le, t))) h
+  below_next : (ls : List ℕ) → Each (IsLeft (is_hidden before d.command.start) d.tree.nodes.arena.trees) ls → Each (λ l. l < d.tree.nodes.arena.next) ls
+  below_next ls h = each_of (IsLeft (is_hidden before d.command.start) d.tree.nodes.arena.trees) (λ l. l < d.tree.nodes.arena.next) ls (λ l t. ending.during.law.below l (let le = count_of-pruned (is_hidden before d.command.start) d.tree.nodes.arena.trees l in omega (arith, le, t))) h
 
   -- an entry that the command began
-  pub made_snapshot : (b : EntrySnapshot) (detached : List NodeRef) → detached ≡ loose_roots d.tree.arena.trees d.command.detached.items → b.sides ≡ made_sides d.command ending.places d.tree.counts →
-      IsSnapshot d.tree.points.names before d.tree.arena.trees steps (inverses_back applied inverse (changes_of steps) d.tree.arena.trees) b detached d.tree.arena.next d.tree.arena.next
+  pub made_snapshot : (b : EntrySnapshot) (detached : List NodeRef) → detached ≡ loose_roots d.tree.nodes.arena.trees d.command.detached.items → b.sides ≡ made_sides d.command ending.places d.tree.nodes.counts →
+      IsSnapshot d.tree.points.names before d.tree.nodes.arena.trees steps (inverses_back applied inverse (changes_of steps) d.tree.nodes.arena.trees) b detached d.tree.nodes.arena.next d.tree.nodes.arena.next
   made_snapshot b detached none same =
-      let f = d.tree.arena.trees in
+      let f = d.tree.nodes.arena.trees in
       let r = run d ending.during in
       let k = is_hidden before d.command.start in
       let ts = inverses_back applied inverse (changes_of steps) f in
-      let gd : GoBackDown k (changes_of steps) f = back_down k (changes_of steps) f (prunes_after before f d.command.start (forest_of d.tree.arena ending.during.law) ending.during.ok.hidden) r.can.0 r.names_there in
-      let b1 : EntrySnapshot = record b { sides = made_sides d.command ending.places d.tree.counts } in
+      let gd : GoBackDown k (changes_of steps) f = back_down k (changes_of steps) f (prunes_after before f d.command.start (forest_of d.tree.nodes.arena ending.during.law) ending.during.ok.hidden) r.can.0 r.names_there in
+      let b1 : EntrySnapshot = record b { sides = made_sides d.command ending.places d.tree.nodes.counts } in
       let roots = loose_roots f d.command.detached.items in
-      let own : IsSnapshot d.tree.points.names before f steps ts b1 roots d.tree.arena.next d.tree.arena.next = record {
+      let own : IsSnapshot d.tree.points.names before f steps ts b1 roots d.tree.nodes.arena.next d.tree.nodes.arena.next = record {
         was = r.kept;
         is = record {
           over = ending.resting.over;
           placed = placed_now d ending;
           resting = ending.resting.resting;
-          nodes_are = ending.during.ok.nodes;
-          chars_are = ending.during.ok.chars;
-          no_deeper = ending.during.ok.depth;
+          nodes_are = d.tree.nodes.counted.nodes;
+          chars_are = d.tree.nodes.counted.chars;
+          no_deeper = d.tree.nodes.counted.depth;
         };
         some_label = ending.during.ok.some_label;
         fresh = record {
@@ -86,10 +86,10 @@ module _ (d : Inside) (ending : Ending d) where
         names_there = r.names_there;
         names_old = below_next (named_in (changes_of steps)) r.names_there;
         turns_old = below_next (named_in ts) gd.names;
-        detached_loose = filtered_loose f d.tree.arena.next ending.during.law.distinct ending.during.law.below d.command.detached.items;
+        detached_loose = filtered_loose f d.tree.nodes.arena.next ending.during.law.distinct ending.during.law.below d.command.detached.items;
         detached_all = λ l inner top out. elim (true_or_false (k l)) [
           | inl t ↦ absurd (out (each_off k f l ending.during.law.distinct top t (named_in (changes_of steps)) r.names_there) (each_off k f l ending.during.law.distinct top t (named_in ts) gd.names))
           | inr t ↦ (let seen = r.newly_detached l inner (subst (λ n. 0 < n) (sym (tops_stay k f l t)) top) in listed_loose f d.command.detached.items l (loose_is f l inner top) (listed_after d.command.detached_before d.command.detached.items l seen))
         ];
       } in
-      subst (λ ls. IsSnapshot d.tree.points.names before f steps ts b ls d.tree.arena.next d.tree.arena.next) (sym none) (snapshot_of d.tree.points.names before f steps ts b1 b roots d.tree.arena.next d.tree.arena.next (sym same) own)
+      subst (λ ls. IsSnapshot d.tree.points.names before f steps ts b ls d.tree.nodes.arena.next d.tree.nodes.arena.next) (sym none) (snapshot_of d.tree.points.names before f steps ts b1 b roots d.tree.nodes.arena.next d.tree.nodes.arena.next (sym same) own)

@@ -1,6 +1,5 @@
 -- A document outside commands without trees that its history doesn't name.
-use Rattle.std.proofs.Common.{◌≡◌, ◌≤◌, [], ℕ, Bool, false, sym, ap, subst, ◌∙◌, None}
-use Rattle.dom_model.specs.Document.{node_count, char_count, page_depth}
+use Rattle.std.proofs.Common.{◌≡◌, [], ℕ, Bool, false, sym, ap, subst, ◌∙◌, None}
 use Rattle.dom_model.specs.ArenaState.{ArenaState as Arena, IsValid as IsArena}
 use Rattle.forest_changes.specs.Change.{IsForest}
 use Rattle.forest_changes.specs.Down.{Prunes}
@@ -13,12 +12,12 @@ use Rattle.edit_doc.specs.History.{state_of, history_of}
 use Rattle.edit_doc.specs.History.Way.{Back, Forth}
 use Rattle.edit_doc.specs.Sound.{UndoSound, RedoSound, next_first}
 use Rattle.edit_doc.specs.Trail.{Trail}
-use Rattle.edit_doc.specs.declared.tree.LiveTree.{LiveTree}
+use Rattle.edit_doc.specs.Live.{Live}
 use Rattle.edit_doc.proofs.Downs.{Bounded, EntriesLeft, lies-pruned, entries-pruned}
-use Rattle.edit_doc.proofs.HiddenTrees.{document-pruned, placed-pruned, node_count-pruned, char_count-pruned, page_depth-pruned}
+use Rattle.edit_doc.proofs.HiddenTrees.{document-pruned, placed-pruned}
 use Rattle.edit_doc.proofs.Rests.{AtRest, rest_state, arena_forest}
 
-module _ (tree : LiveTree) (b : Arena) (k : ℕ → Bool) (gives : GivesUp k tree.arena b) (prunes : Prunes k tree.arena.trees) (law : IsArena b) (c : Command) (trail : Trail)
+module _ (tree : Live) (b : Arena) (k : ℕ → Bool) (gives : GivesUp k tree.arena b) (prunes : Prunes k tree.arena.trees) (law : IsArena b) (c : Command) (trail : Trail)
     (rests : AtRest tree c trail) (undo_detached : EntriesLeft k tree.arena.trees trail.log.undo) (redo_detached : EntriesLeft k tree.arena.trees trail.log.redo) where
   is : IsForest tree.arena.trees
   is = forest_of tree.arena rests.law
@@ -44,9 +43,6 @@ module _ (tree : LiveTree) (b : Arena) (k : ℕ → Bool) (gives : GivesUp k tre
         resumed = rests.resumed;
         placed = subst (λ t. IsPlaced t tree.points) (sym gives.trees) (placed-pruned tree.arena.trees tree.arena.next f k prunes.document tree.points rests.placed);
         settings = rests.settings;
-        nodes = rests.nodes ∙ (sym (node_count-pruned tree.arena.trees tree.arena.next f k prunes.document) ∙ ap node_count (sym gives.trees));
-        chars = rests.chars ∙ (sym (char_count-pruned tree.arena.trees tree.arena.next f k prunes.document) ∙ ap char_count (sym gives.trees));
-        depth = subst (λ n. n ≤ tree.counts.depth) (sym (page_depth-pruned tree.arena.trees tree.arena.next f k prunes.document) ∙ ap page_depth (sym gives.trees)) rests.depth;
         undo = subst (λ t. UndoSound b.held tree.points.names false c (next_first c.start trail.future) t trail.log.undo trail.past) (sym gives.trees)
             (lies-pruned k tree.arena.held b.held tree.points.names c Back false (next_first c.start trail.future) tree.arena.trees trail.log.undo trail.past prunes is bound gives.keeps undo_detached rests.undo);
         redo = subst (λ t. RedoSound b.held tree.points.names c t trail.log.redo trail.future) (sym gives.trees)

@@ -18,6 +18,8 @@ use Rattle.edit_model.specs.Valid.{IsPlaced, IsForest as IsModelForest}
 use Rattle.edit_model.proofs.Points.{Leaves, points_left}
 use Rattle.edit_model.proofs.Documents.{document_shape}
 use Rattle.edit_doc.specs.History.{is_hidden}
+use Rattle.edit_doc.specs.Counted.{IsCounted}
+use Rattle.edit_parts.specs.declared.Counts.{Counts}
 
 -- ---- tests
 
@@ -219,6 +221,9 @@ module _ (f : Forest Content) (next : ℕ) (is : IsModelForest f next) (k : ℕ 
 
   pub page_depth-pruned : page_depth (pruned k f) ≡ page_depth f
   page_depth-pruned = ap (λ (t : Forest Content). levels (kids_in t)) document-pruned
+
+  pub counted-pruned : (counts : Counts) → IsCounted f counts → IsCounted (pruned k f) counts
+  counted-pruned counts h = record { nodes = h.nodes ∙ sym node_count-pruned; chars = h.chars ∙ sym char_count-pruned; depth = omega (arith, h.depth, page_depth-pruned) }
 
 -- outside commands every loose tree is hidden
 pub seen_at_rest : (f : Forest Content) (next : ℕ) → IsModelForest f next → pruned (is_hidden f next) f ≡ tree_of f 0

@@ -14,12 +14,13 @@ use Rattle.edit_doc.specs.declared.command.EntrySnapshot.{EntrySnapshot}
 use Rattle.edit_doc.specs.Fields.{AreResting, Enters}
 use Rattle.edit_doc.specs.GivingUp.{loose_roots}
 use Rattle.edit_doc.specs.Sound.{IsSoundDoc}
+use Rattle.edit_doc.specs.Live.{live}
 
 abbrev pub seen : Inside → Whole
-seen d = whole_of d.tree d.command d.history
+seen d = whole_of (live d.tree) d.command d.history
 
 abbrev pub Ok : Inside → Type 0
-Ok d = IsSoundDoc d.tree d.command d.history
+Ok d = IsSoundDoc (live d.tree) d.command d.history
 
 closed_in : (s : State) (o : Open Step) → began_with s o ≡ None → o ≡ Closed
 closed_in s Closed e = refl
@@ -40,11 +41,11 @@ open_of d v is h = open_in _ d.history.log.open_entry (subst (λ (w : Whole). Is
 
 -- the fields while a command is open
 pub record Opened (d : Inside) : Type 0 where
-  pub law : IsArena d.tree.arena
+  pub law : IsArena d.tree.nodes.arena
   pub ok : Ok d
   pub opened : IsTrue (is_open d.history.log.open_entry)
 
-abbrev pub opened_of : (d : Inside) (v : Whole) → seen d ≡ v → IsArena d.tree.arena → Ok d → IsOpen v → Opened d
+abbrev pub opened_of : (d : Inside) (v : Whole) → seen d ≡ v → IsArena d.tree.nodes.arena → Ok d → IsOpen v → Opened d
 opened_of d v is law ok h = record { law = law; ok = ok; opened = open_of d v is h }
 
 -- as it ends, with the places where the points rest
@@ -53,7 +54,7 @@ pub record Ending (d : Inside) : Type 0 where
   pub places : Places
   pub resting : AreResting d.tree.points places
 
-abbrev pub ending_of : (d : Inside) (v : Whole) → seen d ≡ v → IsArena d.tree.arena → Ok d → IsOpen v → (p : Places) → AreResting d.tree.points p → Ending d
+abbrev pub ending_of : (d : Inside) (v : Whole) → seen d ≡ v → IsArena d.tree.nodes.arena → Ok d → IsOpen v → (p : Places) → AreResting d.tree.points p → Ending d
 ending_of d v is law ok h p resting = record { during = opened_of d v is law ok h; places = p; resting = resting }
 
 -- with an edit: the snapshots beside the entries that undo would take then, and the one that goes out
@@ -62,4 +63,4 @@ pub record Entering (d : Inside) : Type 0 where
   pub some : 0 < length (noted d.history.log.open_entry)
   pub past : List EntrySnapshot
   pub out : Option EntrySnapshot
-  pub entered : Enters d.command (loose_roots d.tree.arena.trees d.command.detached.items) ending.places d.tree.counts d.history.log.depth d.history.past past out
+  pub entered : Enters d.command (loose_roots d.tree.nodes.arena.trees d.command.detached.items) ending.places d.tree.nodes.counts d.history.log.depth d.history.past past out

@@ -40,6 +40,7 @@ use Rattle.edit_doc.specs.Whole.{Whole, IsOpen}
 use Rattle.edit_doc.specs.Held.{Holds, IfHeld}
 use Rattle.edit_doc.specs.Marks.{Marks, place_labels}
 use Rattle.edit_doc.specs.Trail.{Trail, with_note}
+use Rattle.edit_doc.specs.Counted.{IsCounted}
 use Rattle.edit_doc.proofs.Inner.{seen, Ok}
 use Rattle.edit_doc.proofs.SeenNodes.{shows_of, out_of, held_seen, is_parent_seen}
 use Rattle.edit_doc.proofs.Rests.{arena_forest}
@@ -62,13 +63,13 @@ pub is_inserted : (s : State) (p : ℕ) (b : Option ℕ) (n : ℕ) → may_inser
 unfolding is_made_edit
 is_inserted s p b n h = h
 
-module _ (d : Inside) (v : Whole) (is : seen d ≡ v) (law : IsArena d.tree.arena) (slotted : IsSlotted d.tree.arena) (now_open : IsOpen v) (ok : Ok d) (node parent : NodeRef) (before : Option NodeRef)
+module _ (d : Inside) (v : Whole) (is : seen d ≡ v) (law : IsArena d.tree.nodes.arena) (slotted : IsSlotted d.tree.nodes.arena) (now_open : IsOpen v) (ok : Ok d) (node parent : NodeRef) (before : Option NodeRef)
     (node_held : Holds v node) (parent_held : Holds v parent) (before_held : IfHeld v before) (may : is_made_edit (Insert parent.label (label_of before) node.label) (freed v.state) ≡ true) where
   abbrev f : Forest Content
-  f = d.tree.arena.trees
+  f = d.tree.nodes.arena.trees
 
   abbrev g : Forest Content
-  g = pruned (out_of d) d.tree.arena.trees
+  g = pruned (out_of d) d.tree.nodes.arena.trees
 
   abbrev p : ℕ
   p = parent.label
@@ -96,9 +97,9 @@ module _ (d : Inside) (v : Whole) (is : seen d ≡ v) (law : IsArena d.tree.aren
   bears = sym (is_parent_seen (shows_of d law (seen d) refl) parent (held_seen d v is parent parent_held)) ∙ told.parent
 
   can : CanPut f p b n
-  can = CanPut-pruned (out_of d) f p b n (forest_of d.tree.arena law) told.can
+  can = CanPut-pruned (out_of d) f p b n (forest_of d.tree.nodes.arena law) told.can
 
-  pub fits : StepFits (Link node parent before) d.tree.arena
+  pub fits : StepFits (Link node parent before) d.tree.nodes.arena
   fits = link_fits d v is law slotted node parent before node_held parent_held before_held told.can bears
 
   index_is : index_of (link f p b n) n ≡ index_before g p b
@@ -107,22 +108,27 @@ module _ (d : Inside) (v : Whole) (is : seen d ≡ v) (law : IsArena d.tree.aren
   -- ---- the numbers
 
   module _ (enters : Bool) (enters_is : enters ≡ is_in_document f p) where
-    nodes_is : with_more enters d.tree.counts.nodes (total (λ _ _. 1) (tree_of f n)) ≡ node_count (link f p b n)
-    nodes_is = (λ i. with_more (enters_is i) (ok.nodes i) (total (λ _ _. 1) (tree_of f n))) ∙ more_linked f d.tree.arena.next (arena_forest d.tree.arena law) (λ _ _. 1) p b n can
+    nodes_is : with_more enters d.tree.nodes.counts.nodes (total (λ _ _. 1) (tree_of f n)) ≡ node_count (link f p b n)
+    nodes_is = (λ i. with_more (enters_is i) (d.tree.nodes.counted.nodes i) (total (λ _ _. 1) (tree_of f n))) ∙ more_linked f d.tree.nodes.arena.next (arena_forest d.tree.nodes.arena law) (λ _ _. 1) p b n can
 
-    chars_is : with_more enters d.tree.counts.chars (total (λ _ c. words_length c) (tree_of f n)) ≡ char_count (link f p b n)
-    chars_is = (λ i. with_more (enters_is i) (ok.chars i) (total (λ _ c. words_length c) (tree_of f n))) ∙ more_linked f d.tree.arena.next (arena_forest d.tree.arena law) (λ _ c. words_length c) p b n can
+    chars_is : with_more enters d.tree.nodes.counts.chars (total (λ _ c. words_length c) (tree_of f n)) ≡ char_count (link f p b n)
+    chars_is = (λ i. with_more (enters_is i) (d.tree.nodes.counted.chars i) (total (λ _ c. words_length c) (tree_of f n))) ∙ more_linked f d.tree.nodes.arena.next (arena_forest d.tree.nodes.arena law) (λ _ c. words_length c) p b n can
 
-    pub nodes_fit : with_more enters d.tree.counts.nodes (total (λ _ _. 1) (tree_of f n)) < 2 ^ 32
-    nodes_fit = omega (arith, nodes_is, linked_low f d.tree.arena.next (arena_forest d.tree.arena law) (λ _ _. 1) p b n can, nodes_bound d.tree.arena law)
+    pub nodes_fit : with_more enters d.tree.nodes.counts.nodes (total (λ _ _. 1) (tree_of f n)) < 2 ^ 32
+    nodes_fit = omega (arith, nodes_is, linked_low f d.tree.nodes.arena.next (arena_forest d.tree.nodes.arena law) (λ _ _. 1) p b n can, nodes_bound d.tree.nodes.arena law)
 
-    pub chars_fit : with_more enters d.tree.counts.chars (total (λ _ c. words_length c) (tree_of f n)) < 2 ^ 64
-    chars_fit = omega (arith, chars_is, linked_low f d.tree.arena.next (arena_forest d.tree.arena law) (λ _ c. words_length c) p b n can, chars_bound d.tree.arena law)
+    pub chars_fit : with_more enters d.tree.nodes.counts.chars (total (λ _ c. words_length c) (tree_of f n)) < 2 ^ 64
+    chars_fit = omega (arith, chars_is, linked_low f d.tree.nodes.arena.next (arena_forest d.tree.nodes.arena law) (λ _ c. words_length c) p b n can, chars_bound d.tree.nodes.arena law)
 
-    pub depth_is : (new : ℕ) → IsRaised f p n enters d.tree.counts.depth new → page_depth (link f p b n) ≤ new
+    depth_is : (new : ℕ) → IsRaised f p n enters d.tree.nodes.counts.depth new → page_depth (link f p b n) ≤ new
     depth_is new raised =
-        let few = linked_low f d.tree.arena.next (arena_forest d.tree.arena law) (λ _ _. 1) p b n can in
-        linked_depth f d.tree.arena.next (arena_forest d.tree.arena law) p b n can enters enters_is d.tree.counts.depth new ok.depth raised (omega (arith, few, nodes_bound d.tree.arena law))
+        let few = linked_low f d.tree.nodes.arena.next (arena_forest d.tree.nodes.arena law) (λ _ _. 1) p b n can in
+        linked_depth f d.tree.nodes.arena.next (arena_forest d.tree.nodes.arena law) p b n can enters enters_is d.tree.nodes.counts.depth new d.tree.nodes.counted.depth raised (omega (arith, few, nodes_bound d.tree.nodes.arena law))
+
+    pub counted_linked : (counts : Counts) → counts.nodes ≡ with_more enters d.tree.nodes.counts.nodes (total (λ _ _. 1) (tree_of f n)) → counts.chars ≡ with_more enters d.tree.nodes.counts.chars (total (λ _ c. words_length c) (tree_of f n)) →
+        IsRaised f p n enters d.tree.nodes.counts.depth counts.depth → IsCounted (step_applied x d.tree.nodes.arena).trees counts
+    unfolding step_applied applied
+    counted_linked counts nodes chars raised = record { nodes = nodes ∙ nodes_is; chars = chars ∙ chars_is; depth = depth_is counts.depth raised }
 
   -- ---- the points
 
@@ -137,10 +143,10 @@ module _ (d : Inside) (v : Whole) (is : seen d ≡ v) (law : IsArena d.tree.aren
   fit_here : Fits (range.Insert p (index_before g p b)) d.tree.points
   fit_here = fits-insert (freed (seen d).state) p b n (valid_freed (seen d).state ok.valid) (omega (arith, law.capped, law.small)) may_seen
 
-  seen_place : Each (IsLeft (out_of d) d.tree.arena.trees) (named (change_of x))
+  seen_place : Each (IsLeft (out_of d) d.tree.nodes.arena.trees) (named (change_of x))
   seen_place = place_seen d v is law slotted node parent before node_held parent_held before_held
 
-  module _ (arena : Arena) (arena_is : arena ≡ step_applied (Link node parent before) d.tree.arena) where
+  module _ (arena : Arena) (arena_is : arena ≡ step_applied (Link node parent before) d.tree.nodes.arena) where
     trees_here : arena.trees ≡ link f p b n
     unfolding step_applied applied
     trees_here = ap (λ (a : Arena). a.trees) arena_is
@@ -148,7 +154,7 @@ module _ (d : Inside) (v : Whole) (is : seen d ≡ v) (law : IsArena d.tree.aren
     index_here : index_of arena.trees n ≡ index_before g p b
     index_here = ap (λ t. index_of t n) trees_here ∙ index_is
 
-    pub held_here : d.tree.arena.held ≡ arena.held
+    pub held_here : d.tree.nodes.arena.held ≡ arena.held
     unfolding step_applied
     held_here = sym (ap (λ (a : Arena). a.held) arena_is)
 
@@ -163,11 +169,8 @@ module _ (d : Inside) (v : Whole) (is : seen d ≡ v) (law : IsArena d.tree.aren
       unfolding applied
       placed = subst (λ t. IsPlaced t points) (sym trees_here) (subst (IsPlaced (link f p b n)) (sym points_here) (points_next d v is law now_open ok (Insert p b n) x fits seen_place made trees_is))
 
-      module _ (overrides : List Setting) (overrides_are : overrides ≡ settled f d.tree.points arena.trees points d.tree.overrides) (enters : Bool) (enters_is : enters ≡ is_in_document f p) (counts : Counts)
-          (nodes_are : counts.nodes ≡ with_more enters d.tree.counts.nodes (total (λ _ _. 1) (tree_of f n))) (chars_are : counts.chars ≡ with_more enters d.tree.counts.chars (total (λ _ c. words_length c) (tree_of f n)))
-          (raised : IsRaised f p n enters d.tree.counts.depth counts.depth)
-          (c : Command) (m : Marks (place_labels node parent before) d.command c) (trail : Trail) (trail_is : trail ≡ with_note d.history (step_inverse x d.tree.arena)) where
-        makes : Makes d (Insert p b n) x points overrides counts c
+      module _ (overrides : List Setting) (overrides_are : overrides ≡ settled f d.tree.points arena.trees points d.tree.overrides) (c : Command) (m : Marks (place_labels node parent before) d.command c) (trail : Trail) (trail_is : trail ≡ with_note d.history (step_inverse x d.tree.nodes.arena)) where
+        makes : Makes d (Insert p b n) x points overrides c
         unfolding applied edit_change
         makes = record {
           fits = fits;
@@ -178,10 +181,7 @@ module _ (d : Inside) (v : Whole) (is : seen d ≡ v) (law : IsArena d.tree.aren
           trees = trees_is;
           points_are = points_here;
           overrides_are = overrides_are ∙ ((λ i. settled f d.tree.points (trees_here i) (points_here i) d.tree.overrides) ∙ settled_after d v is law now_open ok (Insert p b n) x fits seen_place made trees_is);
-          nodes = nodes_are ∙ nodes_is enters enters_is;
-          chars = chars_are ∙ chars_is enters enters_is;
-          depth = depth_is enters enters_is counts.depth raised;
         }
 
-        pub link_done : Applied d v (Insert p (label_of before) n) arena points overrides counts c trail
-        link_done = subst (λ o. Applied d v (Insert p o n) arena points overrides counts c trail) (labels_same before) (edit_linked d v is law now_open ok (Insert p b n) x points overrides counts c made makes arena trail arena_is trail_is)
+        pub link_done : Applied d v (Insert p (label_of before) n) arena points overrides c trail
+        link_done = subst (λ o. Applied d v (Insert p o n) arena points overrides c trail) (labels_same before) (edit_linked d v is law now_open ok (Insert p b n) x points overrides c made makes arena trail arena_is trail_is)

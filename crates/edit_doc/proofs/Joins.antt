@@ -30,6 +30,7 @@ use Rattle.edit_doc.specs.Whole.{Whole, history_committed, committed_history}
 use Rattle.edit_doc.specs.History.{forest_before, edits_before, roots_from, is_hidden, begun_forest, state_of, began_with, history_of, undo_entries, redo_entries, view_at}
 use Rattle.edit_doc.specs.Sound.{RefIn, CanGoBack, IsOff, IsSnapshot, UndoSound}
 use Rattle.edit_doc.specs.Trail.{trail_of}
+use Rattle.edit_doc.specs.Live.{live}
 use Rattle.edit_doc.proofs.GivingUp.{filtered_loose, loose_is, listed_loose, listed_after, listed_before}
 use Rattle.edit_doc.proofs.Off.{Passes, passes_back, off_moved, each_here, each_off}
 use Rattle.live_range.specs.PointsEdit.{has_label}
@@ -85,7 +86,7 @@ joined_recorded s0 Closed w r some = absurd (cc)
 joined_recorded s0 (Begun ys) w r some = absurd (cc)
 joined_recorded s0 (Resumed ys) w r some = rw (some_edits (length w.state.edits) some) refl
 
-module _ (d : Inside) (ending : Ending d) (c : Command) (ended : IsEnded d.tree.arena.next c) where
+module _ (d : Inside) (ending : Ending d) (c : Command) (ended : IsEnded d.tree.nodes.arena.next c) where
   abbrev steps : List Step
   steps = xs d ending.during
 
@@ -93,23 +94,23 @@ module _ (d : Inside) (ending : Ending d) (c : Command) (ended : IsEnded d.tree.
   begun = g d ending.during
 
   abbrev now : Forest Content
-  now = d.tree.arena.trees
+  now = d.tree.nodes.arena.trees
 
   abbrev detached_now : List NodeRef
-  detached_now = loose_roots d.tree.arena.trees d.command.detached.items
+  detached_now = loose_roots d.tree.nodes.arena.trees d.command.detached.items
 
   -- the entry that the command resumed, with its steps
-  module _ (e : List Step) (b b' : EntrySnapshot) (detached : List NodeRef) (up : ℕ) (le : up ≤ d.command.start) (can : CanGoBack d.tree.arena.held e begun)
+  module _ (e : List Step) (b b' : EntrySnapshot) (detached : List NodeRef) (up : ℕ) (le : up ≤ d.command.start) (can : CanGoBack d.tree.nodes.arena.held e begun)
       (was : IsSnapshot d.tree.points.names (forest_before e begun) begun e (inverses_back applied inverse (changes_of e) begun) b detached up d.command.start)
-      (same : b'.sides ≡ joined_sides b.sides ending.places d.tree.counts) (detached_is : b'.detached.items ≡ detached_now) (taken : detached ≡ take d.command.detached_before d.command.detached.items) where
+      (same : b'.sides ≡ joined_sides b.sides ending.places d.tree.nodes.counts) (detached_is : b'.detached.items ≡ detached_now) (taken : detached ≡ take d.command.detached_before d.command.detached.items) where
     abbrev both : List Step
     both = e ++ steps
 
     abbrev first : Forest Content
     first = forest_before e begun
 
-    pub can_both : CanGoBack d.tree.arena.held both now
-    can_both = can_join d.tree.arena.held e steps now (run d ending.during).can can
+    pub can_both : CanGoBack d.tree.nodes.arena.held both now
+    can_both = can_join d.tree.nodes.arena.held e steps now (run d ending.during).can can
 
     abbrev k : ℕ → Bool
     k = is_hidden first b.sides.first_label
@@ -133,30 +134,30 @@ module _ (d : Inside) (ending : Ending d) (c : Command) (ended : IsEnded d.tree.
     last_there = each_of (IsLeft (is_hidden begun d.command.start) now) (IsLeft k now) (named_in (changes_of steps)) (λ l t. (let m = pruned_more (is_hidden begun d.command.start) k now l hidden_more in omega (arith, m, t))) (run d ending.during).names_there
 
     last_down : GoBackDown k (changes_of steps) now
-    last_down = back_down k (changes_of steps) now (prunes_after first now b.sides.first_label (forest_of d.tree.arena ending.during.law) roots) (run d ending.during).can.0 last_there
+    last_down = back_down k (changes_of steps) now (prunes_after first now b.sides.first_label (forest_of d.tree.nodes.arena ending.during.law) roots) (run d ending.during).can.0 last_there
 
     there : Each (IsLeft k now) (named_in (changes_of both))
     there = each_named (IsLeft k now) e steps (each_of (IsLeft k begun) (IsLeft k now) (named_in (changes_of e)) (λ l t. (let s = last_down.stays l in omega (arith, s, t))) was.names_there) last_there
 
     down : GoBackDown k (changes_of both) now
-    down = back_down k (changes_of both) now (prunes_after first now b.sides.first_label (forest_of d.tree.arena ending.during.law) roots) can_both.0 there
+    down = back_down k (changes_of both) now (prunes_after first now b.sides.first_label (forest_of d.tree.nodes.arena ending.during.law) roots) can_both.0 there
 
-    below : (ls : List ℕ) → Each (IsLeft k now) ls → Each (λ l. l < d.tree.arena.next) ls
-    below ls h = each_of (IsLeft k now) (λ l. l < d.tree.arena.next) ls (λ l t. ending.during.law.below l (let m = count_of-pruned k now l in omega (arith, m, t))) h
+    below : (ls : List ℕ) → Each (IsLeft k now) ls → Each (λ l. l < d.tree.nodes.arena.next) ls
+    below ls h = each_of (IsLeft k now) (λ l. l < d.tree.nodes.arena.next) ls (λ l t. ending.during.law.below l (let m = count_of-pruned k now l in omega (arith, m, t))) h
 
     abbrev turns : List Change
     turns = inverses_back applied inverse (changes_of both) now
 
-    own : IsSnapshot d.tree.points.names first now both turns (record b { sides = joined_sides b.sides ending.places d.tree.counts }) detached_now d.tree.arena.next d.tree.arena.next
+    own : IsSnapshot d.tree.points.names first now both turns (record b { sides = joined_sides b.sides ending.places d.tree.nodes.counts }) detached_now d.tree.nodes.arena.next d.tree.nodes.arena.next
     own = record {
       was = was.was;
       is = record {
         over = ending.resting.over;
         placed = placed_now d ending;
         resting = ending.resting.resting;
-        nodes_are = ending.during.ok.nodes;
-        chars_are = ending.during.ok.chars;
-        no_deeper = ending.during.ok.depth;
+        nodes_are = d.tree.nodes.counted.nodes;
+        chars_are = d.tree.nodes.counted.chars;
+        no_deeper = d.tree.nodes.counted.depth;
       };
       some_label = was.some_label;
       fresh = was.fresh;
@@ -167,34 +168,34 @@ module _ (d : Inside) (ending : Ending d) (c : Command) (ended : IsEnded d.tree.
       names_there = there;
       names_old = below (named_in (changes_of both)) there;
       turns_old = below (named_in turns) down.names;
-      detached_loose = filtered_loose now d.tree.arena.next ending.during.law.distinct ending.during.law.below d.command.detached.items;
+      detached_loose = filtered_loose now d.tree.nodes.arena.next ending.during.law.distinct ending.during.law.below d.command.detached.items;
       detached_all = λ l inner top out. listed_loose now d.command.detached.items l (loose_is now l inner top) (elim (true_or_false (hid l)) [
         | inl t ↦ (
             let last_off : Each (IsOff now l) (named_in (changes_of steps)) = each_off hid now l ending.during.law.distinct top t (named_in (changes_of steps)) (run d ending.during).names_there in
             let ps : Passes l now begun (inverses_back applied inverse (changes_of steps) now) =
-            passes_back l (changes_of steps) now (forest_of d.tree.arena ending.during.law) inner top (run d ending.during).can.0 (each_here hid now (named_in (changes_of steps)) (run d ending.during).names_there) last_off in
+            passes_back l (changes_of steps) now (forest_of d.tree.nodes.arena ending.during.law) inner top (run d ending.during).can.0 (each_here hid now (named_in (changes_of steps)) (run d ending.during).names_there) last_off in
             let listed = was.detached_all l inner ps.top (λ a x. (
             let first_off = off_moved l begun now (λ m. sym (ps.same m)) (named_in (changes_of e)) a in
             let both_off = each_named (IsOff now l) e steps first_off last_off in
-            let pb : Passes l now (forest_before both now) turns = passes_back l (changes_of both) now (forest_of d.tree.arena ending.during.law) inner top can_both.0 (each_here k now (named_in (changes_of both)) there) both_off in
+            let pb : Passes l now (forest_before both now) turns = passes_back l (changes_of both) now (forest_of d.tree.nodes.arena ending.during.law) inner top can_both.0 (each_here k now (named_in (changes_of both)) there) both_off in
             out both_off pb.turns)) in
             listed_before d.command.detached_before d.command.detached.items l (subst (λ ls. has_label (labels_of ls) l ≡ true) taken listed))
         | inr t ↦ listed_after d.command.detached_before d.command.detached.items l ((run d ending.during).newly_detached l inner (subst (λ n. 0 < n) (sym (tops_stay hid now l t)) top))
       ]);
     }
 
-    pub joined_snapshot : IsSnapshot d.tree.points.names (forest_before both now) now both turns b' b'.detached.items d.tree.arena.next c.start
+    pub joined_snapshot : IsSnapshot d.tree.points.names (forest_before both now) now both turns b' b'.detached.items d.tree.nodes.arena.next c.start
     joined_snapshot =
-        subst (λ n. IsSnapshot d.tree.points.names (forest_before both now) now both turns b' b'.detached.items d.tree.arena.next n) (sym ended.start)
-        (subst (λ h. IsSnapshot d.tree.points.names h now both turns b' b'.detached.items d.tree.arena.next d.tree.arena.next) (sym (before_join e steps now))
-        (subst (λ ls. IsSnapshot d.tree.points.names first now both turns b' ls d.tree.arena.next d.tree.arena.next) (sym detached_is)
-        (snapshot_of d.tree.points.names first now both turns (record b { sides = joined_sides b.sides ending.places d.tree.counts }) b' detached_now d.tree.arena.next d.tree.arena.next (sym same) own)))
+        subst (λ n. IsSnapshot d.tree.points.names (forest_before both now) now both turns b' b'.detached.items d.tree.nodes.arena.next n) (sym ended.start)
+        (subst (λ h. IsSnapshot d.tree.points.names h now both turns b' b'.detached.items d.tree.nodes.arena.next d.tree.nodes.arena.next) (sym (before_join e steps now))
+        (subst (λ ls. IsSnapshot d.tree.points.names first now both turns b' ls d.tree.nodes.arena.next d.tree.nodes.arena.next) (sym detached_is)
+        (snapshot_of d.tree.points.names first now both turns (record b { sides = joined_sides b.sides ending.places d.tree.nodes.counts }) b' detached_now d.tree.nodes.arena.next d.tree.nodes.arena.next (sym same) own)))
 
   start_le : d.command.start ≤ c.start
   start_le = (let s = ended.start in let t = ending.during.ok.valid.started in omega (arith, s, t))
 
-  joined_undo : (up room : ℕ) (s : Sides) (es : List (List Step)) (bs new : List EntrySnapshot) (out : Option EntrySnapshot) → up ≤ d.command.start → EntersIn true s detached_now ending.places d.tree.counts room bs new out →
-      UndoSound d.tree.arena.held d.tree.points.names true d.command up begun es bs → UndoSound d.tree.arena.held d.tree.points.names false c d.tree.arena.next now (joined es steps) new
+  joined_undo : (up room : ℕ) (s : Sides) (es : List (List Step)) (bs new : List EntrySnapshot) (out : Option EntrySnapshot) → up ≤ d.command.start → EntersIn true s detached_now ending.places d.tree.nodes.counts room bs new out →
+      UndoSound d.tree.nodes.arena.held d.tree.points.names true d.command up begun es bs → UndoSound d.tree.nodes.arena.held d.tree.points.names false c d.tree.nodes.arena.next now (joined es steps) new
   joined_undo up room s es [] new out le enters h = absurd enters
   joined_undo up room s es (b ∷ bs) [] out le enters h = absurd enters
   joined_undo up room s [] (b ∷ bs) (b' ∷ bs') out le enters h = absurd h
@@ -202,19 +203,19 @@ module _ (d : Inside) (ending : Ending d) (c : Command) (ended : IsEnded d.tree.
       let same = enters.1.0 in
       let first : Forest Content = forest_before e begun in
       let low : b.sides.first_label ≤ d.command.start = (let t = h.1.0.drawn in omega arith) in
-      let rest : UndoSound d.tree.arena.held d.tree.points.names false c b.sides.first_label first es bs = undo_later d.tree.arena.held d.tree.points.names d.command c start_le b.sides.first_label b.sides.first_label first es bs (omega arith) (let t = start_le in omega arith) h.1.1 in
+      let rest : UndoSound d.tree.nodes.arena.held d.tree.points.names false c b.sides.first_label first es bs = undo_later d.tree.nodes.arena.held d.tree.points.names d.command c start_le b.sides.first_label b.sides.first_label first es bs (omega arith) (let t = start_le in omega arith) h.1.1 in
       let detached = take d.command.detached_before d.command.detached.items in (
         can_both e b b' detached up le h.0 h.1.0 same enters.1.1.0 refl,
         (
           joined_snapshot e b b' detached up le h.0 h.1.0 same enters.1.1.0 refl,
-          subst (λ (t : Sides). UndoSound d.tree.arena.held d.tree.points.names false c t.first_label (forest_before (e ++ steps) now) es bs') (sym same)
-              (subst (λ t. UndoSound d.tree.arena.held d.tree.points.names false c b.sides.first_label t es bs') (sym (before_join e steps now))
-              (subst (λ cs. UndoSound d.tree.arena.held d.tree.points.names false c b.sides.first_label first es cs) (sym enters.0) rest)),
+          subst (λ (t : Sides). UndoSound d.tree.nodes.arena.held d.tree.points.names false c t.first_label (forest_before (e ++ steps) now) es bs') (sym same)
+              (subst (λ t. UndoSound d.tree.nodes.arena.held d.tree.points.names false c b.sides.first_label t es bs') (sym (before_join e steps now))
+              (subst (λ cs. UndoSound d.tree.nodes.arena.held d.tree.points.names false c b.sides.first_label first es cs) (sym enters.0) rest)),
         ),
       )
 
   -- the nodes of the entry and those of the command that joined it
-  module _ (e : List Step) (b : EntrySnapshot) (detached : List NodeRef) (up : ℕ) (le : up ≤ d.command.start) (can : CanGoBack d.tree.arena.held e begun)
+  module _ (e : List Step) (b : EntrySnapshot) (detached : List NodeRef) (up : ℕ) (le : up ≤ d.command.start) (can : CanGoBack d.tree.nodes.arena.held e begun)
       (was : IsSnapshot d.tree.points.names (forest_before e begun) begun e (inverses_back applied inverse (changes_of e) begun) b detached up d.command.start) where
     abbrev G : Forest Content
     G = forest_before e begun
@@ -243,7 +244,7 @@ module _ (d : Inside) (ending : Ending d) (c : Command) (ended : IsEnded d.tree.
     seen_last l t =
         let r = run d ending.during in
         let k = is_hidden begun d.command.start in
-        let prunes = prunes_after begun now d.command.start (forest_of d.tree.arena ending.during.law) ending.during.ok.hidden in
+        let prunes = prunes_after begun now d.command.start (forest_of d.tree.nodes.arena ending.during.law) ending.during.ok.hidden in
         let gd : GoBackDown k (changes_of steps) now = back_down k (changes_of steps) now prunes r.can.0 r.names_there in
         prunes.out l (listed_has (IsLeft k now) (named_in ys) l gd.names t)
 
@@ -263,8 +264,8 @@ module _ (d : Inside) (ending : Ending d) (c : Command) (ended : IsEnded d.tree.
         ∙ (used-join ts ys b.sides.first_label d.command.start first old_edits 0 G (back_forest (changes_of e) begun can.0 (forest_g d ending.during)).rising named_before
         ∙ ap (λ r. used ts (roots_from b.sides.first_label G) ++ used ys r) (roots-back d.command.start (changes_of e) begun old_steps))
 
-  joined_entries : (up room : ℕ) (s : Sides) (es : List (List Step)) (bs new : List EntrySnapshot) (out : Option EntrySnapshot) → up ≤ d.command.start → EntersIn true s detached_now ending.places d.tree.counts room bs new out →
-      UndoSound d.tree.arena.held d.tree.points.names true d.command up begun es bs →
+  joined_entries : (up room : ℕ) (s : Sides) (es : List (List Step)) (bs new : List EntrySnapshot) (out : Option EntrySnapshot) → up ≤ d.command.start → EntersIn true s detached_now ending.places d.tree.nodes.counts room bs new out →
+      UndoSound d.tree.nodes.arena.held d.tree.points.names true d.command up begun es bs →
       undo_entries d.tree.points.names now (joined es steps) new ≡ joined_in (state_now d ending) (undo_entries d.tree.points.names begun es bs)
   joined_entries up room s es [] new out le enters h = absurd enters
   joined_entries up room s es (b ∷ bs) [] out le enters h = absurd enters
@@ -281,28 +282,28 @@ module _ (d : Inside) (ending : Ending d) (c : Command) (ended : IsEnded d.tree.
         made = nodes i;
       } ∷ undo_entries d.tree.points.names (join i) es (enters.0 i)
 
-  module _ (resumed : is_resumed d.history.log.open_entry ≡ true) (us : List EntrySnapshot) (out : Option EntrySnapshot) (enters : Enters d.command (loose_roots d.tree.arena.trees d.command.detached.items) ending.places d.tree.counts d.history.log.depth d.history.past us out) where
-    pub entering : EntersIn true (made_sides d.command ending.places d.tree.counts) detached_now ending.places d.tree.counts d.history.log.depth d.history.past us out
-    entering = subst (λ r. EntersIn r (made_sides d.command ending.places d.tree.counts) detached_now ending.places d.tree.counts d.history.log.depth d.history.past us out) (ending.during.ok.resumed ∙ resumed) enters
+  module _ (resumed : is_resumed d.history.log.open_entry ≡ true) (us : List EntrySnapshot) (out : Option EntrySnapshot) (enters : Enters d.command (loose_roots d.tree.nodes.arena.trees d.command.detached.items) ending.places d.tree.nodes.counts d.history.log.depth d.history.past us out) where
+    pub entering : EntersIn true (made_sides d.command ending.places d.tree.nodes.counts) detached_now ending.places d.tree.nodes.counts d.history.log.depth d.history.past us out
+    entering = subst (λ r. EntersIn r (made_sides d.command ending.places d.tree.nodes.counts) detached_now ending.places d.tree.nodes.counts d.history.log.depth d.history.past us out) (ending.during.ok.resumed ∙ resumed) enters
 
-    pub joined_sound : UndoSound d.tree.arena.held d.tree.points.names false c d.tree.arena.next now (joined d.history.log.undo steps) us
+    pub joined_sound : UndoSound d.tree.nodes.arena.held d.tree.points.names false c d.tree.nodes.arena.next now (joined d.history.log.undo steps) us
     joined_sound =
         let up = high d ending in
-        joined_undo up d.history.log.depth (made_sides d.command ending.places d.tree.counts) d.history.log.undo d.history.past us out (high_le d ending) entering
-        (subst (λ r. UndoSound d.tree.arena.held d.tree.points.names r d.command up begun d.history.log.undo d.history.past) (ending.during.ok.resumed ∙ resumed) ending.during.ok.undo)
+        joined_undo up d.history.log.depth (made_sides d.command ending.places d.tree.nodes.counts) d.history.log.undo d.history.past us out (high_le d ending) entering
+        (subst (λ r. UndoSound d.tree.nodes.arena.held d.tree.points.names r d.command up begun d.history.log.undo d.history.past) (ending.during.ok.resumed ∙ resumed) ending.during.ok.undo)
 
     pub joined_history_is : d.history.log.redo ≡ [] → 0 < length steps → (v : Whole) → seen d ≡ v →
         history_of d.tree.points.names now (trail_of (record d.history.log { undo = joined d.history.log.undo steps; open_entry = Closed }) us []) ≡ history_committed v
     unfolding history_committed
     joined_history_is nothing some v sees =
         (λ i. record {
-          undo = joined_entries (high d ending) d.history.log.depth (made_sides d.command ending.places d.tree.counts) d.history.log.undo d.history.past us out (high_le d ending) entering
-              (subst (λ r. UndoSound d.tree.arena.held d.tree.points.names r d.command (high d ending) begun d.history.log.undo d.history.past) (ending.during.ok.resumed ∙ resumed) ending.during.ok.undo) i;
+          undo = joined_entries (high d ending) d.history.log.depth (made_sides d.command ending.places d.tree.nodes.counts) d.history.log.undo d.history.past us out (high_le d ending) entering
+              (subst (λ r. UndoSound d.tree.nodes.arena.held d.tree.points.names r d.command (high d ending) begun d.history.log.undo d.history.past) (ending.during.ok.resumed ∙ resumed) ending.during.ok.undo) i;
           redo = (ap (λ es. redo_entries d.tree.points.names now es []) nothing ∙ sym (ap (λ es. redo_entries d.tree.points.names begun es d.history.future) nothing)) i;
           depth = d.history.log.depth;
           dropped = d.history.log.dropped;
         })
-        ∙ (sym (joined_recorded (state_before d ending) d.history.log.open_entry (seen d) resumed (subst (λ n. 0 < n) (sym (count_edits steps d.tree.arena.trees)) some)) ∙ ap history_committed sees)
+        ∙ (sym (joined_recorded (state_before d ending) d.history.log.open_entry (seen d) resumed (subst (λ n. 0 < n) (sym (count_edits steps d.tree.nodes.arena.trees)) some)) ∙ ap history_committed sees)
 
 -- ---- either way
 
@@ -310,13 +311,13 @@ pub true_is : (b : Bool) → b ≡ true → IsTrue b
 true_is true e = refl
 true_is false e = absurd (cc)
 
-module _ (d : Inside) (enters : Entering d) (logged : IsLog d.history.log) (c : Command) (ended : IsEnded d.tree.arena.next c) where
+module _ (d : Inside) (enters : Entering d) (logged : IsLog d.history.log) (c : Command) (ended : IsEnded d.tree.nodes.arena.next c) where
   record Recorded (log : Log Step) : Type 0 where
     closed : log.open_entry ≡ Closed
     redo : log.redo ≡ []
     depth : log.depth ≡ d.history.log.depth
-    undo : UndoSound d.tree.arena.held d.tree.points.names false c d.tree.arena.next d.tree.arena.trees log.undo enters.past
-    history : (v : Whole) → seen d ≡ v → history_of d.tree.points.names d.tree.arena.trees (trail_of log enters.past []) ≡ history_committed v
+    undo : UndoSound d.tree.nodes.arena.held d.tree.points.names false c d.tree.nodes.arena.next d.tree.nodes.arena.trees log.undo enters.past
+    history : (v : Whole) → seen d ≡ v → history_of d.tree.points.names d.tree.nodes.arena.trees (trail_of log enters.past []) ≡ history_committed v
 
   recorded_is : Recorded (committed d.history.log)
   recorded_is = elim (true_or_false (is_resumed d.history.log.open_entry)) [
@@ -344,11 +345,11 @@ module _ (d : Inside) (enters : Entering d) (logged : IsLog d.history.log) (c : 
     pub entry_redo : log.redo ≡ []
     entry_redo = here.redo
 
-    pub entry_rests : AtRest (record d.tree { points = shown d.tree.points.names enters.ending.places }) c (trail_of log enters.past [])
+    pub entry_rests : AtRest (record (live d.tree) { points = shown d.tree.points.names enters.ending.places }) c (trail_of log enters.past [])
     entry_rests = ends d enters.ending log here.closed here.redo here.depth enters.past c ended here.undo
 
-    pub entry_state : (v : Whole) → seen d ≡ v → state_of (record d.tree { points = shown d.tree.points.names enters.ending.places }) c log ≡ rested v.state
+    pub entry_state : (v : Whole) → seen d ≡ v → state_of (record (live d.tree) { points = shown d.tree.points.names enters.ending.places }) c log ≡ rested v.state
     entry_state v sees = recorded_state d enters.ending log here.closed here.redo here.depth enters.past c ended here.undo v sees
 
-    pub entry_history : (v : Whole) → seen d ≡ v → history_of d.tree.points.names (begun_forest log d.tree.arena.trees) (trail_of log enters.past []) ≡ history_committed v
-    entry_history v sees = ap (λ f. history_of d.tree.points.names f (trail_of log enters.past [])) (none_noted log d.tree.arena.trees (ap noted here.closed)) ∙ here.history v sees
+    pub entry_history : (v : Whole) → seen d ≡ v → history_of d.tree.points.names (begun_forest log d.tree.nodes.arena.trees) (trail_of log enters.past []) ≡ history_committed v
+    entry_history v sees = ap (λ f. history_of d.tree.points.names f (trail_of log enters.past [])) (none_noted log d.tree.nodes.arena.trees (ap noted here.closed)) ∙ here.history v sees

@@ -23,6 +23,7 @@ use Rattle.edit_doc.specs.History.{forest_before, forest_after, begun_forest, un
 use Rattle.edit_doc.specs.Kept.{LeadAllBack, LeadAllForth, IsNamed, AreInTree, HoldsOnlyNeeded}
 use Rattle.edit_doc.specs.Sound.{IsOff, EntriesOff, UndoSound, RedoSound, next_first}
 use Rattle.edit_doc.specs.Whole.{Whole}
+use Rattle.edit_doc.specs.Live.{live}
 use Rattle.edit_doc.proofs.Found.{count_of-join}
 use Rattle.edit_doc.proofs.HiddenTrees.{top_loose}
 use Rattle.edit_doc.proofs.Inner.{seen, Ok}
@@ -88,15 +89,15 @@ module _ (f : Forest Content) (r : ℕ) where
     | inl h ↦ elim (entries_or es) [ inl t ↦ inl (h, t) | inr t ↦ inr (t.0, inr t.1, t.2) ]
   ]
 
-module _ (d : Inside) (law : IsArena d.tree.arena) (slotted : IsSlotted d.tree.arena) (closed : d.history.log.open_entry ≡ Closed) (ok : Ok d) where
+module _ (d : Inside) (law : IsArena d.tree.nodes.arena) (slotted : IsSlotted d.tree.nodes.arena) (closed : d.history.log.open_entry ≡ Closed) (ok : Ok d) where
   abbrev f : Forest Content
-  f = begun_forest d.history.log d.tree.arena.trees
+  f = begun_forest d.history.log d.tree.nodes.arena.trees
 
-  is : f ≡ d.tree.arena.trees
-  is = none_noted d.history.log d.tree.arena.trees (ap noted closed)
+  is : f ≡ d.tree.nodes.arena.trees
+  is = none_noted d.history.log d.tree.nodes.arena.trees (ap noted closed)
 
-  rests : AtRest d.tree d.command d.history
-  rests = rest_of d.tree d.command d.history law closed ok
+  rests : AtRest (live d.tree) d.command d.history
+  rests = rest_of (live d.tree) d.command d.history law closed ok
 
   once : IsDistinct f
   once = subst (λ t. IsDistinct t) (sym is) law.distinct
@@ -128,12 +129,12 @@ module _ (d : Inside) (law : IsArena d.tree.arena) (slotted : IsSlotted d.tree.a
     undone,
     redone,
     record {
-      forest = subst (λ t. IsForest t) (sym is) (forest_of d.tree.arena law);
-      document = ap document_of is ∙ sym (trees_are d.tree d.command d.history law closed rests.idle.start);
+      forest = subst (λ t. IsForest t) (sym is) (forest_of d.tree.nodes.arena law);
+      document = ap document_of is ∙ sym (trees_are (live d.tree) d.command d.history law closed rests.idle.start);
       held = λ slot l h. subst (λ t. 0 < count_of t l) (sym is) (law.here slot l h);
       slotted = λ l here. slotted.kept l (subst (λ t. 0 < count_of t l) is here);
-      undo = lead_back d.tree.arena.held d.tree.points.names d.command d.command.resumed (next_first d.command.start d.history.future) f d.history.log.undo d.history.past ok.undo;
-      redo = lead_forth d.tree.arena.held d.tree.points.names d.command f d.history.log.redo d.history.future ok.redo;
+      undo = lead_back d.tree.nodes.arena.held d.tree.points.names d.command d.command.resumed (next_first d.command.start d.history.future) f d.history.log.undo d.history.past ok.undo;
+      redo = lead_forth d.tree.nodes.arena.held d.tree.points.names d.command f d.history.log.redo d.history.future ok.redo;
       needed = λ l here. (let t = root_over f l once here in in_tree l t.0 t.1 t.2 t.0 refl);
     },
   )

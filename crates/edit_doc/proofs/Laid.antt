@@ -47,22 +47,22 @@ first_length_is w names f (e ∷ es) (b ∷ bs) h = edits_length w e f
 
 module _ (d : Inside) (v : Whole) (is : seen d ≡ v) (ok : Ok d) where
   us_length : length d.history.past ≡ length d.history.log.undo
-  us_length = sides_length d.tree.arena.held d.tree.points.names d.command Back d.command.resumed (next_first d.command.start d.history.future) (begun_forest d.history.log d.tree.arena.trees) d.history.log.undo d.history.past ok.undo
+  us_length = sides_length d.tree.nodes.arena.held d.tree.points.names d.command Back d.command.resumed (next_first d.command.start d.history.future) (begun_forest d.history.log d.tree.nodes.arena.trees) d.history.log.undo d.history.past ok.undo
 
   rs_length : length d.history.future ≡ length d.history.log.redo
-  rs_length = sides_length d.tree.arena.held d.tree.points.names d.command Forth false 0 (begun_forest d.history.log d.tree.arena.trees) d.history.log.redo d.history.future ok.redo
+  rs_length = sides_length d.tree.nodes.arena.held d.tree.points.names d.command Forth false 0 (begun_forest d.history.log d.tree.nodes.arena.trees) d.history.log.redo d.history.future ok.redo
 
   pub undo_count : length d.history.log.undo ≡ length v.history.undo
-  undo_count = sym (entries_length Back d.tree.points.names (begun_forest d.history.log d.tree.arena.trees) d.history.log.undo d.history.past us_length) ∙ ap (λ (w : Whole). length w.history.undo) is
+  undo_count = sym (entries_length Back d.tree.points.names (begun_forest d.history.log d.tree.nodes.arena.trees) d.history.log.undo d.history.past us_length) ∙ ap (λ (w : Whole). length w.history.undo) is
 
   pub redo_count : length d.history.log.redo ≡ length v.history.redo
-  redo_count = sym (entries_length Forth d.tree.points.names (begun_forest d.history.log d.tree.arena.trees) d.history.log.redo d.history.future rs_length) ∙ ap (λ (w : Whole). length w.history.redo) is
+  redo_count = sym (entries_length Forth d.tree.points.names (begun_forest d.history.log d.tree.nodes.arena.trees) d.history.log.redo d.history.future rs_length) ∙ ap (λ (w : Whole). length w.history.redo) is
 
   pub undo_edits : first_length d.history.log.undo ≡ first_edits v.history.undo
-  undo_edits = sym (first_length_is Back d.tree.points.names (begun_forest d.history.log d.tree.arena.trees) d.history.log.undo d.history.past us_length) ∙ ap (λ (w : Whole). first_edits w.history.undo) is
+  undo_edits = sym (first_length_is Back d.tree.points.names (begun_forest d.history.log d.tree.nodes.arena.trees) d.history.log.undo d.history.past us_length) ∙ ap (λ (w : Whole). first_edits w.history.undo) is
 
   pub redo_edits : first_length d.history.log.redo ≡ first_edits v.history.redo
-  redo_edits = sym (first_length_is Forth d.tree.points.names (begun_forest d.history.log d.tree.arena.trees) d.history.log.redo d.history.future rs_length) ∙ ap (λ (w : Whole). first_edits w.history.redo) is
+  redo_edits = sym (first_length_is Forth d.tree.points.names (begun_forest d.history.log d.tree.nodes.arena.trees) d.history.log.redo d.history.future rs_length) ∙ ap (λ (w : Whole). first_edits w.history.redo) is
 
   nil : {A : Type 0} (xs : List A) → length xs ≡ 0 → xs ≡ []
   nil [] e = refl

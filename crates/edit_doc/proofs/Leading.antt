@@ -30,6 +30,7 @@ use Rattle.edit_doc.specs.History.{edits_before, roots_from, forest_before, begu
 use Rattle.edit_doc.specs.Onward.{next_past, LeadsOnward, LeadOnward, LeadFrom, HasLedOnward}
 use Rattle.edit_doc.specs.Sound.{IsSnapshot, UndoSound, RedoSound, detached_of, next_first}
 use Rattle.edit_doc.specs.Whole.{Whole}
+use Rattle.edit_doc.specs.Live.{live}
 use Rattle.edit_doc.proofs.Downs.{Bounded, back_forest, back_bounded}
 use Rattle.edit_doc.proofs.HiddenTrees.{model_forest}
 use Rattle.edit_doc.proofs.Inner.{seen, Ok}
@@ -157,27 +158,27 @@ module _ (names : List (List ℕ)) where
         let known = s.known in
         record { below = document_old f b.sides.first_label is s.some_label s.fresh; known = omega arith }
 
-module _ (d : Inside) (law : IsArena d.tree.arena) (closed : d.history.log.open_entry ≡ Closed) (ok : Ok d) where
+module _ (d : Inside) (law : IsArena d.tree.nodes.arena) (closed : d.history.log.open_entry ≡ Closed) (ok : Ok d) where
   abbrev f : Forest Content
-  f = begun_forest d.history.log d.tree.arena.trees
+  f = begun_forest d.history.log d.tree.nodes.arena.trees
 
-  is : f ≡ d.tree.arena.trees
-  is = none_noted d.history.log d.tree.arena.trees (ap noted closed)
+  is : f ≡ d.tree.nodes.arena.trees
+  is = none_noted d.history.log d.tree.nodes.arena.trees (ap noted closed)
 
-  rests : AtRest d.tree d.command d.history
-  rests = rest_of d.tree d.command d.history law closed ok
+  rests : AtRest (live d.tree) d.command d.history
+  rests = rest_of (live d.tree) d.command d.history law closed ok
 
   pub has_led : (v : Whole) → seen d ≡ v → HasLedOnward v
   has_led v sees =
       let c = d.command in
-      let start : c.start ≡ d.tree.arena.next = rests.idle.start in
-      let forest : IsForest f = subst IsForest (sym is) (forest_of d.tree.arena law) in
+      let start : c.start ≡ d.tree.nodes.arena.next = rests.idle.start in
+      let forest : IsForest f = subst IsForest (sym is) (forest_of d.tree.nodes.arena law) in
       let low : IsBelow f c.start = record { below = λ l h. (let below = law.below l (subst (λ (t : Forest Content). 0 < count_of t l) is h) in omega (arith, below, start)) } in
-      let old = redo_old d.tree.points.names d.tree.arena.held c f d.history.log.redo d.history.future ok.redo forest low in
-      let led = undo_leads d.tree.points.names d.tree.arena.held c c.resumed (next_first c.start d.history.future) f d.history.log.undo d.history.past ok.undo forest (record { next = c.start; below = low.below }) old.below in
+      let old = redo_old d.tree.points.names d.tree.nodes.arena.held c f d.history.log.redo d.history.future ok.redo forest low in
+      let led = undo_leads d.tree.points.names d.tree.nodes.arena.held c c.resumed (next_first c.start d.history.future) f d.history.log.undo d.history.past ok.undo forest (record { next = c.start; below = low.below }) old.below in
       let lead = led.2 in
       let known = old.known in
-      let here = ap document_of is ∙ sym (trees_are d.tree d.command d.history law closed start) in
+      let here = ap document_of is ∙ sym (trees_are (live d.tree) d.command d.history law closed start) in
       let es = undo_entries d.tree.points.names f d.history.log.undo d.history.past in
       subst (λ (w : Whole). HasLedOnward w) sees (
         led.0,
@@ -186,7 +187,7 @@ module _ (d : Inside) (law : IsArena d.tree.arena) (closed : d.history.log.open_
           forest = lead.forest;
           alone = lead.alone;
           below = lead.below;
-          onward = subst (λ (w : Forest Content). LeadOnward led.1 led.0 (reverse es) w d.tree.arena.next) here
-              (lead_longer (reverse es) led.1 led.0 (document_of f) (next_first c.start d.history.future) d.tree.arena.next (omega (arith, known, start)) lead.onward);
+          onward = subst (λ (w : Forest Content). LeadOnward led.1 led.0 (reverse es) w d.tree.nodes.arena.next) here
+              (lead_longer (reverse es) led.1 led.0 (document_of f) (next_first c.start d.history.future) d.tree.nodes.arena.next (omega (arith, known, start)) lead.onward);
         },
       )

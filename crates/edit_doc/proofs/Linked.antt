@@ -50,20 +50,20 @@ inserts_follow c d node parent before f m = record {
   loosed_is = refl;
 }
 
-module _ (d : Inside) (v : Whole) (is : seen d ≡ v) (law : IsArena d.tree.arena) (slotted : IsSlotted d.tree.arena) (node parent : NodeRef) (before : Option NodeRef) (node_held : Holds v node) (parent_held : Holds v parent) (before_held : IfHeld v before) where
-  before_parts : (o : Option NodeRef) → IfHeld v o → Each (RefIn d.tree.arena.held) (listed o) × Each (IsLeft (out_of d) d.tree.arena.trees) (listed (label o))
+module _ (d : Inside) (v : Whole) (is : seen d ≡ v) (law : IsArena d.tree.nodes.arena) (slotted : IsSlotted d.tree.nodes.arena) (node parent : NodeRef) (before : Option NodeRef) (node_held : Holds v node) (parent_held : Holds v parent) (before_held : IfHeld v before) where
+  before_parts : (o : Option NodeRef) → IfHeld v o → Each (RefIn d.tree.nodes.arena.held) (listed o) × Each (IsLeft (out_of d) d.tree.nodes.arena.trees) (listed (label o))
   before_parts None h = (tt, tt)
   before_parts (Some r) h = (let k = held_seen d v is r h in ((k.slot, tt), (k.here, tt)))
 
-  pub place_held : Each (RefIn d.tree.arena.held) (node ∷ parent ∷ listed before)
+  pub place_held : Each (RefIn d.tree.nodes.arena.held) (node ∷ parent ∷ listed before)
   place_held = ((held_seen d v is node node_held).slot, ((held_seen d v is parent parent_held).slot, (before_parts before before_held).0))
 
-  pub place_seen : Each (IsLeft (out_of d) d.tree.arena.trees) (node.label ∷ parent.label ∷ listed (label before))
+  pub place_seen : Each (IsLeft (out_of d) d.tree.nodes.arena.trees) (node.label ∷ parent.label ∷ listed (label before))
   place_seen = ((held_seen d v is node node_held).here, ((held_seen d v is parent parent_held).here, (before_parts before before_held).1))
 
-  pub link_fits : CanPut (pruned (out_of d) d.tree.arena.trees) parent.label (label before) node.label → is_parent_at d.tree.arena.trees parent.label ≡ true → StepFits (Link node parent before) d.tree.arena
+  pub link_fits : CanPut (pruned (out_of d) d.tree.nodes.arena.trees) parent.label (label before) node.label → is_parent_at d.tree.nodes.arena.trees parent.label ≡ true → StepFits (Link node parent before) d.tree.nodes.arena
   link_fits can bears = record {
-    fits = record { forest = forest_of d.tree.arena law; here = record { place = CanPut-pruned (out_of d) d.tree.arena.trees parent.label (label before) node.label (forest_of d.tree.arena law) can; parent = bears } };
+    fits = record { forest = forest_of d.tree.nodes.arena law; here = record { place = CanPut-pruned (out_of d) d.tree.nodes.arena.trees parent.label (label before) node.label (forest_of d.tree.nodes.arena law) can; parent = bears } };
     slotted = slotted;
     held = place_held;
   }

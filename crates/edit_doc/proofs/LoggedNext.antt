@@ -19,16 +19,17 @@ use Rattle.edit_doc.specs.History.{roots_from, redo_entries}
 use Rattle.edit_doc.specs.Logged.{Logged, made_node, logged_with, logged_entry}
 use Rattle.edit_doc.specs.Sound.{AreFresh, RedoSound, next_first}
 use Rattle.edit_doc.specs.Whole.{Whole}
+use Rattle.edit_doc.specs.Live.{live}
 use Rattle.edit_doc.proofs.Inner.{seen, Ok}
 use Rattle.edit_doc.proofs.LoggedNodes.{contents_seen, edits_same}
 use Rattle.edit_doc.proofs.Rests.{AtRest, rest_of, none_noted}
 
-module _ (d : Inside) (v : Whole) (sees : seen d ≡ v) (law : IsArena d.tree.arena) (closed : d.history.log.open_entry ≡ Closed) (ok : Ok d) where
+module _ (d : Inside) (v : Whole) (sees : seen d ≡ v) (law : IsArena d.tree.nodes.arena) (closed : d.history.log.open_entry ≡ Closed) (ok : Ok d) where
   abbrev f : Forest Content
-  f = d.tree.arena.trees
+  f = d.tree.nodes.arena.trees
 
-  rests : AtRest d.tree d.command d.history
-  rests = rest_of d.tree d.command d.history law closed ok
+  rests : AtRest (live d.tree) d.command d.history
+  rests = rest_of (live d.tree) d.command d.history law closed ok
 
   entries_are : v.history.redo ≡ redo_entries d.tree.points.names f d.history.log.redo d.history.future
   entries_are =
@@ -40,10 +41,10 @@ module _ (d : Inside) (v : Whole) (sees : seen d ≡ v) (law : IsArena d.tree.ar
     pub order : first ≤ end
     pub fresh : AreFresh f first
     pub within : Each (λ l. l < end) (named_in (changes_of e))
-    pub held : Each (λ r. Holds d.tree.arena r) (nodes_in e)
+    pub held : Each (λ r. Holds d.tree.nodes.arena r) (nodes_in e)
     pub value : (entry : Logged) → entry ≡ logged_with (content_of f) (used (changes_of e) (roots_from first f)) (changes_of e) → option_map logged_entry (slice_get v.history.redo 0) ≡ Some entry
 
-  next_in : (es : List (List Step)) (bs : List EntrySnapshot) → RedoSound d.tree.arena.held d.tree.points.names d.command f es bs → v.history.redo ≡ redo_entries d.tree.points.names f es bs →
+  next_in : (es : List (List Step)) (bs : List EntrySnapshot) → RedoSound d.tree.nodes.arena.held d.tree.points.names d.command f es bs → v.history.redo ≡ redo_entries d.tree.points.names f es bs →
       (e : List Step) → slice_get es 0 ≡ Some e → Next e (next_first d.command.start bs) (next_first d.command.start (drop 1 bs))
   next_in [] bs h is e at = absurd (let t : None ≡ Some e = at in cc)
   next_in (x ∷ es) [] h is e at = absurd h
@@ -60,7 +61,7 @@ module _ (d : Inside) (v : Whole) (sees : seen d ≡ v) (law : IsArena d.tree.ar
         held = h.0.1;
         value = λ entry eq. (
             let made = used (changes_of x) (roots_from y.sides.first_label f) in
-            let seen = contents_seen f (forest_of d.tree.arena law) d.tree.arena.next y.sides.first_label law.below h.1.0.fresh (changes_of x) h.1.0.names_seen in
+            let seen = contents_seen f (forest_of d.tree.nodes.arena law) d.tree.nodes.arena.next y.sides.first_label law.below h.1.0.fresh (changes_of x) h.1.0.names_seen in
             ap (λ es. option_map logged_entry (slice_get es 0)) is
             ∙ ap Some (ap (λ es. record { made = map made_node made; edits = es }) (edits_same _ (content_of f) (changes_of x) seen) ∙ sym eq));
       }

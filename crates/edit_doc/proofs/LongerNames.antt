@@ -27,6 +27,7 @@ use Rattle.edit_doc.specs.Whole.{Whole, with_state}
 use Rattle.edit_doc.specs.History.{roots_from, begun_forest, begun_state, began_with, seen_trees, state_of, view_at, history_of, whole_of, Way, led, older, newer, edits_of, entries}
 use Rattle.edit_doc.specs.History.Way.{Back, Forth}
 use Rattle.edit_doc.specs.Sound.{IsSide, IsSnapshot, detached_of, next_first, OpenSound, IsSoundDoc, Lies, turned, bound_of, next_bound}
+use Rattle.edit_doc.specs.Live.{live}
 use Rattle.edit_doc.proofs.Inner.{seen, Ok}
 
 -- each name keeps its place
@@ -161,43 +162,40 @@ module _ (d : Inside) (ok : Ok d) (closed : d.history.log.open_entry ≡ Closed)
   longer : AreLonger d.tree.points.names points.names
   longer = longer_by name pair d.tree.points
 
-  pub marked_ok : IsPlacedPair (seen_trees d.history.log d.command.start d.tree.arena.trees) pair →
-      IsSoundDoc (record d.tree { points = points }) d.command d.history
+  pub marked_ok : IsPlacedPair (seen_trees d.history.log d.command.start d.tree.nodes.arena.trees) pair →
+      IsSoundDoc (record (live d.tree) { points = points }) d.command d.history
   marked_ok placed = record {
     valid = record {
       forest = ok.valid.forest;
       placed = record {
         selection = ok.valid.placed.selection;
         scratch = ok.valid.placed.scratch;
-        marks = inserted (IsPlacedPair (seen_trees d.history.log d.command.start d.tree.arena.trees)) name pair placed d.tree.points.marks ok.valid.placed.marks;
+        marks = inserted (IsPlacedPair (seen_trees d.history.log d.command.start d.tree.nodes.arena.trees)) name pair placed d.tree.points.marks ok.valid.placed.marks;
       };
       started = ok.valid.started;
       settings = ok.valid.settings;
     };
     some_label = ok.some_label;
-    nodes = ok.nodes;
-    chars = ok.chars;
-    depth = ok.depth;
     hidden = ok.hidden;
-    running = open_marked d.tree.arena d.tree.points points d.command (begun_forest d.history.log d.tree.arena.trees) d.history.log.open_entry closed refl ok.running;
+    running = open_marked d.tree.nodes.arena d.tree.points points d.command (begun_forest d.history.log d.tree.nodes.arena.trees) d.history.log.open_entry closed refl ok.running;
     resumed = ok.resumed;
     host = ok.host;
-    undo = lies_longer d.tree.points.names points.names longer d.tree.arena.held d.command Back d.command.resumed (next_first d.command.start d.history.future) (begun_forest d.history.log d.tree.arena.trees) d.history.log.undo d.history.past ok.undo;
-    redo = lies_longer d.tree.points.names points.names longer d.tree.arena.held d.command Forth false 0 (begun_forest d.history.log d.tree.arena.trees) d.history.log.redo d.history.future ok.redo;
+    undo = lies_longer d.tree.points.names points.names longer d.tree.nodes.arena.held d.command Back d.command.resumed (next_first d.command.start d.history.future) (begun_forest d.history.log d.tree.nodes.arena.trees) d.history.log.undo d.history.past ok.undo;
+    redo = lies_longer d.tree.points.names points.names longer d.tree.nodes.arena.held d.command Forth false 0 (begun_forest d.history.log d.tree.nodes.arena.trees) d.history.log.redo d.history.future ok.redo;
     needed = ok.needed;
   }
 
-  history_same : history_of points.names (begun_forest d.history.log d.tree.arena.trees) d.history ≡ history_of d.tree.points.names (begun_forest d.history.log d.tree.arena.trees) d.history
+  history_same : history_of points.names (begun_forest d.history.log d.tree.nodes.arena.trees) d.history ≡ history_of d.tree.points.names (begun_forest d.history.log d.tree.nodes.arena.trees) d.history
   history_same =
-      let u = entries_same d.tree.points.names points.names longer d.tree.arena.held d.command Back d.command.resumed (next_first d.command.start d.history.future) (begun_forest d.history.log d.tree.arena.trees) d.history.log.undo d.history.past ok.undo in
-      let r = entries_same d.tree.points.names points.names longer d.tree.arena.held d.command Forth false 0 (begun_forest d.history.log d.tree.arena.trees) d.history.log.redo d.history.future ok.redo in
+      let u = entries_same d.tree.points.names points.names longer d.tree.nodes.arena.held d.command Back d.command.resumed (next_first d.command.start d.history.future) (begun_forest d.history.log d.tree.nodes.arena.trees) d.history.log.undo d.history.past ok.undo in
+      let r = entries_same d.tree.points.names points.names longer d.tree.nodes.arena.held d.command Forth false 0 (begun_forest d.history.log d.tree.nodes.arena.trees) d.history.log.redo d.history.future ok.redo in
       λ i. record { undo = u i; redo = r i; depth = d.history.log.depth; dropped = d.history.log.dropped }
 
   pub marked_is : (v : Whole) → seen d ≡ v →
-      whole_of (record d.tree { points = points }) d.command d.history
+      whole_of (record (live d.tree) { points = points }) d.command d.history
       ≡ with_state v (record v.state { points = with_mark name pair v.state.points })
   marked_is v is =
-      let began = none_begun (begun_state d.tree.arena points.names d.command d.history.log) (begun_state d.tree.arena d.tree.points.names d.command d.history.log) d.history.log.open_entry closed in
-      let here : whole_of (record d.tree { points = points }) d.command d.history ≡ with_state (seen d) (record (seen d).state { points = points }) =
-      (λ i. record { state = state_of (record d.tree { points = points }) d.command d.history.log; history = history_same i; began = began i; held = d.tree.arena.held }) in
+      let began = none_begun (begun_state d.tree.nodes.arena points.names d.command d.history.log) (begun_state d.tree.nodes.arena d.tree.points.names d.command d.history.log) d.history.log.open_entry closed in
+      let here : whole_of (record (live d.tree) { points = points }) d.command d.history ≡ with_state (seen d) (record (seen d).state { points = points }) =
+      (λ i. record { state = state_of (record (live d.tree) { points = points }) d.command d.history.log; history = history_same i; began = began i; held = d.tree.nodes.arena.held }) in
       here ∙ ap (λ (w : Whole). with_state w (record w.state { points = with_mark name pair w.state.points })) is

@@ -46,11 +46,13 @@ use Rattle.edit_parts.specs.Following.{settled, IsFrom}
 use Rattle.edit_parts.specs.declared.Counts.{Counts}
 use Rattle.edit_doc.specs.declared.Doc.TheInside.{Inside}
 use Rattle.edit_doc.specs.declared.command.Command.{Command}
-use Rattle.edit_doc.specs.Fields.{IsRaised, with_more}
+use Rattle.edit_doc.specs.Fields.{comes_in, IsRaised, with_more}
 use Rattle.edit_doc.specs.Whole.{Whole, IsOpen}
 use Rattle.edit_doc.specs.Held.{Holds, IfHeld}
 use Rattle.edit_doc.specs.Marks.{Marks, IsMarked, AreMarkable, place_labels}
 use Rattle.edit_doc.specs.Trail.{Trail, with_note}
+use Rattle.edit_doc.specs.Live.{live}
+use Rattle.edit_doc.specs.Counted.{IsCounted}
 use Rattle.edit_doc.proofs.Inner.{seen, Ok, open_of}
 use Rattle.edit_doc.proofs.SeenNodes.{shows_of, out_of, held_seen, parent_seen, index_seen, tree_seen}
 use Rattle.edit_doc.proofs.Rests.{arena_forest}
@@ -180,13 +182,13 @@ moves_follow c c' d node parent from before next f up after m k = record {
 
 -- ---- the move
 
-module _ (d : Inside) (v : Whole) (is : seen d ≡ v) (law : IsArena d.tree.arena) (slotted : IsSlotted d.tree.arena) (now_open : IsOpen v) (ok : Ok d) (node from parent : NodeRef) (before : Option NodeRef)
-    (node_held : Holds v node) (parent_held : Holds v parent) (before_held : IfHeld v before) (up : parent_of d.tree.arena.trees node.label ≡ Some from.label) (may : may_go v.state node.label (Some from.label) parent.label (label_of before) ≡ true) where
+module _ (d : Inside) (v : Whole) (is : seen d ≡ v) (law : IsArena d.tree.nodes.arena) (slotted : IsSlotted d.tree.nodes.arena) (now_open : IsOpen v) (ok : Ok d) (node from parent : NodeRef) (before : Option NodeRef)
+    (node_held : Holds v node) (parent_held : Holds v parent) (before_held : IfHeld v before) (up : parent_of d.tree.nodes.arena.trees node.label ≡ Some from.label) (may : may_go v.state node.label (Some from.label) parent.label (label_of before) ≡ true) where
   abbrev f : Forest Content
-  f = d.tree.arena.trees
+  f = d.tree.nodes.arena.trees
 
   abbrev g : Forest Content
-  g = pruned (out_of d) d.tree.arena.trees
+  g = pruned (out_of d) d.tree.nodes.arena.trees
 
   abbrev p : ℕ
   p = parent.label
@@ -222,18 +224,18 @@ module _ (d : Inside) (v : Whole) (is : seen d ≡ v) (law : IsArena d.tree.aren
 
   fits_seen : ChangeFits (change.Move n p b) g
   fits_seen = record {
-    forest = IsForest-pruned (out_of d) f refl (forest_of d.tree.arena law);
+    forest = IsForest-pruned (out_of d) f refl (forest_of d.tree.nodes.arena law);
     here = (
       subst IsSome (sym up_seen) refl,
       record {
-        place = can_go g d.tree.arena.next ok.valid.forest from.label n p b up_seen told.apart told.parent (parent_there g p told.parent) told.before;
-        parent = parent_at-unlink g d.tree.arena.next ok.valid.forest from.label n p up_seen told.parent;
+        place = can_go g d.tree.nodes.arena.next ok.valid.forest from.label n p b up_seen told.apart told.parent (parent_there g p told.parent) told.before;
+        parent = parent_at-unlink g d.tree.nodes.arena.next ok.valid.forest from.label n p up_seen told.parent;
       },
     );
   }
 
   fits_here : ChangeFits (change.Move n p b) f
-  fits_here = (goes_up (out_of d) (change.Move n p b) f (seen_prunes d.tree d.command d.history law (open_of d v is now_open) ok) (forest_of d.tree.arena law) fits_seen).0
+  fits_here = (goes_up (out_of d) (change.Move n p b) f (seen_prunes (live d.tree) d.command d.history law (open_of d v is now_open) ok) (forest_of d.tree.nodes.arena law) fits_seen).0
 
   can : CanPut (unlink f n) p b n
   can = fits_here.here.1.place
@@ -244,10 +246,10 @@ module _ (d : Inside) (v : Whole) (is : seen d ≡ v) (law : IsArena d.tree.aren
   inside : is_in_document f n ≡ true → is_in_document f p ≡ true
   inside h = sym (document_seen (shows_of d law (seen d) refl) p) ∙ told.inside (document_seen (shows_of d law (seen d) refl) n ∙ h)
 
-  pub fits : StepFits (Place node parent before) d.tree.arena
+  pub fits : StepFits (Place node parent before) d.tree.nodes.arena
   fits = record { fits = fits_here; slotted = slotted; held = place_held d v is law slotted node parent before node_held parent_held before_held }
 
-  seen_place : Each (IsLeft (out_of d) d.tree.arena.trees) (named (change_of x))
+  seen_place : Each (IsLeft (out_of d) d.tree.nodes.arena.trees) (named (change_of x))
   seen_place = place_seen d v is law slotted node parent before node_held parent_held before_held
 
   -- ---- the marks
@@ -256,7 +258,7 @@ module _ (d : Inside) (v : Whole) (is : seen d ≡ v) (law : IsArena d.tree.aren
   markable r h =
       let k = held_seen d v is r h in
       let low = law.below r.label (law.here r.slot r.label k.slot) in
-      let marks = (run d.tree d.command d.history law (open_of d v is now_open) ok).marks in
+      let marks = (run (live d.tree) d.command d.history law (open_of d v is now_open) ok).marks in
       omega (arith, low, marks)
 
   pub place_markable : (a c : NodeRef) (o : Option NodeRef) → Holds v a → Holds v c → IfHeld v o → AreMarkable d.command (place_labels a c o)
@@ -271,27 +273,32 @@ module _ (d : Inside) (v : Whole) (is : seen d ≡ v) (law : IsArena d.tree.aren
   -- ---- the numbers
 
   module _ (enters : Bool) (enters_is : enters ≡ (not (is_in_document f n) && is_in_document f p)) where
-    nodes_is : with_more enters d.tree.counts.nodes (total (λ _ _. 1) (tree_of f n)) ≡ node_count (link (unlink f n) p b n)
-    nodes_is = (λ i. with_more (enters_is i) (ok.nodes i) (total (λ _ _. 1) (tree_of f n))) ∙ more_moved f d.tree.arena.next (arena_forest d.tree.arena law) (λ _ _. 1) from.label n p b up can inside apart
+    nodes_is : with_more enters d.tree.nodes.counts.nodes (total (λ _ _. 1) (tree_of f n)) ≡ node_count (link (unlink f n) p b n)
+    nodes_is = (λ i. with_more (enters_is i) (d.tree.nodes.counted.nodes i) (total (λ _ _. 1) (tree_of f n))) ∙ more_moved f d.tree.nodes.arena.next (arena_forest d.tree.nodes.arena law) (λ _ _. 1) from.label n p b up can inside apart
 
-    chars_is : with_more enters d.tree.counts.chars (total (λ _ c. words_length c) (tree_of f n)) ≡ char_count (link (unlink f n) p b n)
-    chars_is = (λ i. with_more (enters_is i) (ok.chars i) (total (λ _ c. words_length c) (tree_of f n))) ∙ more_moved f d.tree.arena.next (arena_forest d.tree.arena law) (λ _ c. words_length c) from.label n p b up can inside apart
+    chars_is : with_more enters d.tree.nodes.counts.chars (total (λ _ c. words_length c) (tree_of f n)) ≡ char_count (link (unlink f n) p b n)
+    chars_is = (λ i. with_more (enters_is i) (d.tree.nodes.counted.chars i) (total (λ _ c. words_length c) (tree_of f n))) ∙ more_moved f d.tree.nodes.arena.next (arena_forest d.tree.nodes.arena law) (λ _ c. words_length c) from.label n p b up can inside apart
 
-    pub nodes_fit : with_more enters d.tree.counts.nodes (total (λ _ _. 1) (tree_of f n)) < 2 ^ 32
-    nodes_fit = omega (arith, nodes_is, moved_low f d.tree.arena.next (arena_forest d.tree.arena law) (λ _ _. 1) from.label n p b up can inside apart, nodes_bound d.tree.arena law)
+    pub nodes_fit : with_more enters d.tree.nodes.counts.nodes (total (λ _ _. 1) (tree_of f n)) < 2 ^ 32
+    nodes_fit = omega (arith, nodes_is, moved_low f d.tree.nodes.arena.next (arena_forest d.tree.nodes.arena law) (λ _ _. 1) from.label n p b up can inside apart, nodes_bound d.tree.nodes.arena law)
 
-    pub chars_fit : with_more enters d.tree.counts.chars (total (λ _ c. words_length c) (tree_of f n)) < 2 ^ 64
-    chars_fit = omega (arith, chars_is, moved_low f d.tree.arena.next (arena_forest d.tree.arena law) (λ _ c. words_length c) from.label n p b up can inside apart, chars_bound d.tree.arena law)
+    pub chars_fit : with_more enters d.tree.nodes.counts.chars (total (λ _ c. words_length c) (tree_of f n)) < 2 ^ 64
+    chars_fit = omega (arith, chars_is, moved_low f d.tree.nodes.arena.next (arena_forest d.tree.nodes.arena law) (λ _ c. words_length c) from.label n p b up can inside apart, chars_bound d.tree.nodes.arena law)
 
   -- how deep the tree is where it stands in the document
-  pub stands : is_in_document f n ≡ true → levels (tree_of f n) + depth_of f n ≤ d.tree.counts.depth + 1
-  stands t = omega (arith, stands_low f d.tree.arena.next (arena_forest d.tree.arena law) n t, ok.depth)
+  pub stands : is_in_document f n ≡ true → levels (tree_of f n) + depth_of f n ≤ d.tree.nodes.counts.depth + 1
+  stands t = omega (arith, stands_low f d.tree.nodes.arena.next (arena_forest d.tree.nodes.arena law) n t, d.tree.nodes.counted.depth)
 
-  depth_is : (new : ℕ) → IsRaised f p n (is_in_document f p) d.tree.counts.depth new → page_depth (link (unlink f n) p b n) ≤ new
+  depth_is : (new : ℕ) → IsRaised f p n (is_in_document f p) d.tree.nodes.counts.depth new → page_depth (link (unlink f n) p b n) ≤ new
   depth_is new raised =
-      let few = moved_low f d.tree.arena.next (arena_forest d.tree.arena law) (λ _ _. 1) from.label n p b up can inside apart in
-      moved_depth f d.tree.arena.next (arena_forest d.tree.arena law) from.label n p b up can (in_same f d.tree.arena.next (arena_forest d.tree.arena law) (λ _ _. 1) from.label n p b up can inside apart)
-      d.tree.counts.depth new ok.depth raised (omega (arith, few, nodes_bound d.tree.arena law))
+      let few = moved_low f d.tree.nodes.arena.next (arena_forest d.tree.nodes.arena law) (λ _ _. 1) from.label n p b up can inside apart in
+      moved_depth f d.tree.nodes.arena.next (arena_forest d.tree.nodes.arena law) from.label n p b up can (in_same f d.tree.nodes.arena.next (arena_forest d.tree.nodes.arena law) (λ _ _. 1) from.label n p b up can inside apart)
+      d.tree.nodes.counts.depth new d.tree.nodes.counted.depth raised (omega (arith, few, nodes_bound d.tree.nodes.arena law))
+
+  pub counted_moved : (counts : Counts) → counts.nodes ≡ with_more (comes_in f n p) d.tree.nodes.counts.nodes (total (λ _ _. 1) (tree_of f n)) → counts.chars ≡ with_more (comes_in f n p) d.tree.nodes.counts.chars (total (λ _ c. words_length c) (tree_of f n)) →
+      IsRaised f p n (is_in_document f p) d.tree.nodes.counts.depth counts.depth → IsCounted (step_applied x d.tree.nodes.arena).trees counts
+  unfolding step_applied applied
+  counted_moved counts nodes chars raised = record { nodes = nodes ∙ nodes_is (comes_in f n p) refl; chars = chars ∙ chars_is (comes_in f n p) refl; depth = depth_is counts.depth raised }
 
   -- ---- the points
 
@@ -313,7 +320,7 @@ module _ (d : Inside) (v : Whole) (is : seen d ≡ v) (law : IsArena d.tree.aren
   fit_here = fits-move (seen d).state n p b ok.valid (omega (arith, law.capped, law.small)) may_seen
 
   index_is : index_of (link (unlink f n) p b n) n ≡ index_before (unlink g n) p b
-  index_is = index-link (unlink f n) p b n (forest-unlink f d.tree.arena.next (arena_forest d.tree.arena law) from.label n up).distinct can ∙ sym (index_detached (out_of d) f from.label n p b law.distinct up up_seen (held_seen d v is parent parent_held).here)
+  index_is = index-link (unlink f n) p b n (forest-unlink f d.tree.nodes.arena.next (arena_forest d.tree.nodes.arena law) from.label n up).distinct can ∙ sym (index_detached (out_of d) f from.label n p b law.distinct up up_seen (held_seen d v is parent parent_held).here)
 
   start_label : from.label ≡ parent_or_0 g n
   start_label = sym (parent_is g from.label n up_seen)
@@ -321,7 +328,7 @@ module _ (d : Inside) (v : Whole) (is : seen d ≡ v) (law : IsArena d.tree.aren
   start_index : index_of f n ≡ index_of g n
   start_index = sym (index_seen (shows_of d law (seen d) refl) node node_here)
 
-  module _ (arena : Arena) (arena_is : arena ≡ step_applied (Place node parent before) d.tree.arena) where
+  module _ (arena : Arena) (arena_is : arena ≡ step_applied (Place node parent before) d.tree.nodes.arena) where
     trees_here : arena.trees ≡ link (unlink f n) p b n
     unfolding step_applied applied
     trees_here = ap (λ (a : Arena). a.trees) arena_is
@@ -329,7 +336,7 @@ module _ (d : Inside) (v : Whole) (is : seen d ≡ v) (law : IsArena d.tree.aren
     index_here : index_of arena.trees n ≡ index_before (unlink g n) p b
     index_here = ap (λ t. index_of t n) trees_here ∙ index_is
 
-    pub held_here : d.tree.arena.held ≡ arena.held
+    pub held_here : d.tree.nodes.arena.held ≡ arena.held
     unfolding step_applied
     held_here = sym (ap (λ (a : Arena). a.held) arena_is)
 
@@ -359,11 +366,9 @@ module _ (d : Inside) (v : Whole) (is : seen d ≡ v) (law : IsArena d.tree.aren
       unfolding applied
       placed = subst (λ t. IsPlaced t points) (sym trees_here) (subst (IsPlaced (link (unlink f n) p b n)) (sym points_here) (points_next d v is law now_open ok (Move n p b) x fits seen_place (freed_edit (Move n p b) v.state made) trees_is))
 
-      module _ (overrides : List Setting) (overrides_are : overrides ≡ settled f d.tree.points arena.trees points d.tree.overrides) (enters : Bool) (enters_is : enters ≡ (not (is_in_document f n) && is_in_document f p)) (counts : Counts)
-          (nodes_are : counts.nodes ≡ with_more enters d.tree.counts.nodes (total (λ _ _. 1) (tree_of f n))) (chars_are : counts.chars ≡ with_more enters d.tree.counts.chars (total (λ _ c. words_length c) (tree_of f n)))
-          (raised : IsRaised f p n (is_in_document f p) d.tree.counts.depth counts.depth)
-          (next : Option NodeRef) (next_is : label next ≡ next_of f n) (mid c : Command) (m : Marks (place_labels node from next) d.command mid) (k : Marks (place_labels node parent before) mid c) (trail : Trail) (trail_is : trail ≡ with_note d.history (step_inverse x d.tree.arena)) where
-        makes : Makes d (Move n p b) x points overrides counts c
+      module _ (overrides : List Setting) (overrides_are : overrides ≡ settled f d.tree.points arena.trees points d.tree.overrides)
+          (next : Option NodeRef) (next_is : label next ≡ next_of f n) (mid c : Command) (m : Marks (place_labels node from next) d.command mid) (k : Marks (place_labels node parent before) mid c) (trail : Trail) (trail_is : trail ≡ with_note d.history (step_inverse x d.tree.nodes.arena)) where
+        makes : Makes d (Move n p b) x points overrides c
         unfolding applied edit_change
         makes = record {
           fits = fits;
@@ -374,10 +379,7 @@ module _ (d : Inside) (v : Whole) (is : seen d ≡ v) (law : IsArena d.tree.aren
           trees = trees_is;
           points_are = points_here;
           overrides_are = overrides_are ∙ ((λ i. settled f d.tree.points (trees_here i) (points_here i) d.tree.overrides) ∙ settled_after d v is law now_open ok (Move n p b) x fits seen_place (freed_edit (Move n p b) v.state made) trees_is);
-          nodes = nodes_are ∙ nodes_is enters enters_is;
-          chars = chars_are ∙ chars_is enters enters_is;
-          depth = depth_is counts.depth raised;
         }
 
-        pub move_done : Done d v (Move n p (label_of before)) arena points overrides counts c trail
-        move_done = subst (λ o. Done d v (Move n p o) arena points overrides counts c trail) (labels_same before) (edit_called d v is law now_open ok (Move n p b) x points overrides counts c made makes arena trail arena_is trail_is)
+        pub move_done : Done d v (Move n p (label_of before)) arena points overrides c trail
+        move_done = subst (λ o. Done d v (Move n p o) arena points overrides c trail) (labels_same before) (edit_called d v is law now_open ok (Move n p b) x points overrides c made makes arena trail arena_is trail_is)

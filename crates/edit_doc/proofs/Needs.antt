@@ -84,7 +84,7 @@ module _ (held : List (Option ℕ)) (names : List (List ℕ)) (c : Command) wher
 
 module _ (d : Inside) (enters : Entering d) (logged : IsLog d.history.log) where
   abbrev f : Forest Content
-  f = d.tree.arena.trees
+  f = d.tree.nodes.arena.trees
 
   abbrev begun : Forest Content
   begun = g d enters.ending.during
@@ -100,7 +100,7 @@ module _ (d : Inside) (enters : Entering d) (logged : IsLog d.history.log) where
       let r = run d enters.ending.during in
       let ch = changes_of steps in
       let turns = inverses_back applied inverse ch f in
-      let ps : Passes l f begun turns = passes_back l ch f (forest_of d.tree.arena enters.ending.during.law) inner top r.can.0 (each_here (is_hidden begun d.command.start) f (named_in ch) r.names_there) off in
+      let ps : Passes l f begun turns = passes_back l ch f (forest_of d.tree.nodes.arena enters.ending.during.law) inner top r.can.0 (each_here (is_hidden begun d.command.start) f (named_in ch) r.names_there) off in
       let own = own_tree f l top in
       let unlisted : (ls : List ℕ) → Each (IsOff f l) ls → has_label ls l ≡ true → ⊥ = λ ls e t. (let none = listed_has (IsOff f l) ls l e t in omega (arith, own, none)) in
       let early : has_named d.command l ≡ false → l < low d enters.ending.during = λ e. elim (true_or_false (nat_le (low d enters.ending.during) l)) [
@@ -111,12 +111,12 @@ module _ (d : Inside) (enters : Entering d) (logged : IsLog d.history.log) where
         | inl t ↦ elim (r.named_all l t) [ inl x ↦ unlisted (named_in ch) off x | inr x ↦ unlisted (named_in turns) ps.turns x ]
         | inr t ↦ (
             let old = early t in
-            let low_le = next_first_low d.tree.arena.held d.tree.points.names d.command begun d.history.log.redo d.history.future enters.ending.during.ok.redo in
+            let low_le = next_first_low d.tree.nodes.arena.held d.tree.points.names d.command begun d.history.log.redo d.history.future enters.ending.during.ok.redo in
             enters.ending.during.ok.needed l inner (omega (arith, old, low_le)) ps.top (entries_moved l f begun ps.same d.history.log.undo off_undo)
-            (redo_off d.tree.arena.held d.tree.points.names d.command begun d.history.log.redo d.history.future (forest_g d enters.ending.during) enters.ending.during.ok.redo l inner old ps.top))
+            (redo_off d.tree.nodes.arena.held d.tree.points.names d.command begun d.history.log.redo d.history.future (forest_g d enters.ending.during) enters.ending.during.ok.redo l inner old ps.top))
       ]
 
-  pub needed_after : (log : Log Step) → log ≡ committed d.history.log → (a : Arena) → GivesUp k d.tree.arena a → (start : ℕ) → AreNeeded start a.trees log.undo log.redo
+  pub needed_after : (log : Log Step) → log ≡ committed d.history.log → (a : Arena) → GivesUp k d.tree.nodes.arena a → (start : ℕ) → AreNeeded start a.trees log.undo log.redo
   needed_after log is a gives start l inner old top off_undo off_redo =
       let top' : 0 < times (tops (pruned k f)) l = subst (λ t. 0 < times (tops t) l) gives.trees top in
       let was = tops_detached k f l top' in
@@ -129,7 +129,7 @@ module _ (d : Inside) (enters : Entering d) (logged : IsLog d.history.log) where
             let last = (logged.resumes_last (true_is (is_resumed d.history.log.open_entry) r)).0 in
             none_named l inner was.0 kept.0 (joined_last l f d.history.log.undo steps last off') (joined_first l f d.history.log.undo steps off'))
         | inr r ↦ (
-            let c : Command = record d.command { start = d.tree.arena.next } in
+            let c : Command = record d.command { start = d.tree.nodes.arena.next } in
             let h = entering d enters.ending r c refl enters.past enters.out enters.entered in
             let bs : List EntrySnapshot = h.0 ∷ d.history.past in
             let es : List (List Step) = steps ∷ d.history.log.undo in
@@ -137,6 +137,6 @@ module _ (d : Inside) (enters : Entering d) (logged : IsLog d.history.log) where
             let unlisted : has_detached (slice_get bs d.history.log.depth) l ≡ false = subst (λ o. has_detached o l ≡ false) h.4 kept.1 in
             let within = logged.within in
             let few : length es ≤ d.history.log.depth + 1 = omega (arith, within) in
-            nearly d.tree.arena.held d.tree.points.names c d.history.log.depth d.tree.arena.next f es bs (forest_of d.tree.arena enters.ending.during.law) (with_first d enters.ending r c refl enters.past enters.out h.0 h.1 h.2) few l inner was.0 unlisted off'
+            nearly d.tree.nodes.arena.held d.tree.points.names c d.history.log.depth d.tree.nodes.arena.next f es bs (forest_of d.tree.nodes.arena enters.ending.during.law) (with_first d enters.ending r c refl enters.past enters.out h.0 h.1 h.2) few l inner was.0 unlisted off'
             (λ x. none_named l inner was.0 kept.0 x.0 x.1))
       ]

@@ -1,6 +1,6 @@
 -- A new node leaves the fields sound and the history as it was, and what is seen has one more node.
-use Rattle.std.proofs.Common.{◌≡◌, ◌⊎◌, ◌^◌, ◌||◌, ◌&&◌, true≢false, ℕ, zero, suc, ◌+◌, ◌-◌, ◌<◌, ◌≤◌, Bool, true, false, cond, List, [], ◌∷◌, ◌++◌, length, take, drop, map, Option, Some, None, IfSome, refl, sym, ap, subst, ◌∙◌, inl, inr, arith, eqb, nat_lt, nat_le, length-append}
-use Rattle.std.specs.Prelude.{IsTrue, slice_index_or, ◌==◌}
+use Rattle.std.proofs.Common.{◌≡◌, ◌⊎◌, ◌^◌, ◌||◌, ◌&&◌, true≢false, ℕ, zero, suc, ◌+◌, ◌-◌, ◌<◌, ◌≤◌, Bool, true, false, cond, List, [], ◌∷◌, ◌++◌, length, take, drop, map, Option, Some, None, IfSome, Result, Ok, Err, refl, sym, ap, subst, ◌∙◌, inl, inr, arith, eqb, nat_lt, nat_le, length-append}
+use Rattle.std.specs.Prelude.{IsTrue, IfOk, OnErr, slice_index_or, ◌==◌}
 use Rattle.std.proofs.lemmas.List.Folds.{list_any-append}
 use Rattle.std.proofs.lemmas.List.{take-append-le, drop-append-le}
 use Rattle.std.proofs.lemmas.Bool.Decides.{eqb_tells, nat_tests}
@@ -60,11 +60,13 @@ use Rattle.edit_doc.specs.History.{edits_before, roots_from, forest_before, begu
 use Rattle.edit_doc.specs.History.Way.{Back, Forth}
 use Rattle.edit_doc.specs.Sound.{RefIn, EachHeldIn, IsSide, AreFresh, IsOff, AreNeeded, AreAlone, IsSnapshot, IsRunning, OpenSound, UndoSound, RedoSound, detached_of, next_first, IsSoundDoc, Lies, FitsWay, turned, bound_of, next_bound}
 use Rattle.edit_doc.specs.Trail.{Trail}
-use Rattle.edit_doc.specs.declared.tree.LiveTree.{LiveTree}
+use Rattle.edit_doc.specs.Live.{Live, live}
+use Rattle.edit_doc.specs.Counted.{IsCounted}
+use Rattle.edit_parts.specs.declared.Counts.{Counts}
 use Rattle.edit_doc.proofs.Laid.{redo_later}
 use Rattle.edit_doc.proofs.Downs.{back_forest, led_forest, at_older, at_newer, ends_of}
 use Rattle.edit_doc.proofs.HiddenTrees.{model_forest, true_lt}
-use Rattle.edit_doc.proofs.Inner.{seen, Ok, open_of}
+use Rattle.edit_doc.proofs.Inner.{seen, Ok as OkInside, open_of}
 use Rattle.edit_doc.proofs.Off.{entries_moved}
 use Rattle.edit_doc.proofs.Changing.{undo_carried}
 use Rattle.edit_doc.proofs.MadeNodes.{roots-leaf, used-leaf, not_named}
@@ -336,7 +338,7 @@ of_running a points c g Closed h r = absurd (let h' = h in cc)
 of_running a points c g (Begun xs) h r = r
 of_running a points c g (Resumed xs) h r = r
 
-module _ (tree : LiveTree) (c d : Command) (trail : Trail)
+module _ (tree : Live) (c d : Command) (trail : Trail)
     (open_now : IsTrue (is_open trail.log.open_entry)) (law : IsArena tree.arena)
     (ok : IsSoundDoc tree (record d { named = c.named; detached = c.detached }) trail) where
   -- the command with the marks and the left trees of before
@@ -361,9 +363,6 @@ module _ (tree : LiveTree) (c d : Command) (trail : Trail)
   sound_carried named detached = record {
     valid = ok.valid;
     some_label = ok.some_label;
-    nodes = ok.nodes;
-    chars = ok.chars;
-    depth = ok.depth;
     hidden = ok.hidden;
     running = of_running tree.arena tree.points d g trail.log.open_entry open_now (record {
       kept = run.kept;
@@ -549,9 +548,6 @@ module _ (tree : LiveTree) (c d : Command) (trail : Trail)
     sound_made = record {
       valid = subst IsValid (sym state_is) valid_made;
       some_label = ok.some_label;
-      nodes = ok.nodes ∙ sym (nodes_leaf l x f is low);
-      chars = ok.chars ∙ sym (chars_leaf l x f is low);
-      depth = subst (λ n. n ≤ tree.counts.depth) (sym (depth_leaf l x f is low)) ok.depth;
       hidden = λ j h. (let h' : hides j ≡ true = subst (λ k. k j ≡ true) hides_is h in let top = ok.hidden j h' in omega (arith, top, times-with_leaf l x f j));
       running = of_running arena_made tree.points d (begun_forest trail.log (with_leaf f l x)) trail.log.open_entry open_now (subst (λ t. IsRunning arena_made tree.points.names d xs t) (sym begun_is) runs);
       resumed = ok.resumed;
@@ -614,53 +610,61 @@ module _ (tree : LiveTree) (c d : Command) (trail : Trail)
     unfolding made
     held_made = record { slot = own; here = subst (λ j. 0 < count_of (with_leaf (pruned hides f) l x) j) (sym label) (count-own l x (pruned hides f)) }
 
+-- the numbers stay where a node is made, or none
+pub counted_made : (a b : Arena) (x : Content) (counts : Counts) → IsArena a → IsCounted a.trees counts → (r : Result NodeRef MakeFault) → IfOk r (λ node. Makes a b node x) → OnErr r (b ≡ a) → IsCounted b.trees counts
+counted_made a b x counts law h (Ok node) made same =
+    let is = forest_of a law in
+    let low : IsBelow a.trees a.next = record { below = law.below } in
+    subst (λ t. IsCounted t counts) (sym made.trees) (record { nodes = h.nodes ∙ sym (nodes_leaf a.next x a.trees is low); chars = h.chars ∙ sym (chars_leaf a.next x a.trees is low); depth = subst (λ n. n ≤ counts.depth) (sym (depth_leaf a.next x a.trees is low)) h.depth })
+counted_made a b x counts law h (Err fault) made same = subst (λ (c : Arena). IsCounted c.trees counts) (sym same) h
+
 -- ---- what the calls owe
 
 pub record Given (d : Inside) (v : Whole) (x : Content) (node : NodeRef) (a : Arena) (c : Command) : Type 0 where
-  pub invariant : IsSoundDoc (record d.tree { arena = a }) c d.history
-  pub state : state_of (record d.tree { arena = a }) c d.history.log ≡ made x v.state
-  pub held : Holds (whole_of (record d.tree { arena = a }) c d.history) node
-  pub keeps : Keeps v (whole_of (record d.tree { arena = a }) c d.history)
+  pub invariant : IsSoundDoc (record (live d.tree) { arena = a }) c d.history
+  pub state : state_of (record (live d.tree) { arena = a }) c d.history.log ≡ made x v.state
+  pub held : Holds (whole_of (record (live d.tree) { arena = a }) c d.history) node
+  pub keeps : Keeps v (whole_of (record (live d.tree) { arena = a }) c d.history)
 
-module _ (d : Inside) (v : Whole) (sees : seen d ≡ v) (law : IsArena d.tree.arena) (now_open : IsOpen v) (ok : Ok d) where
+module _ (d : Inside) (v : Whole) (sees : seen d ≡ v) (law : IsArena d.tree.nodes.arena) (now_open : IsOpen v) (ok : OkInside d) where
   opened : IsTrue (is_open d.history.log.open_entry)
   opened = open_of d v sees now_open
 
   -- only room was made
   pub room_made : (c : Command) → record c { named = d.command.named; detached = d.command.detached } ≡ d.command → c.named.items ≡ d.command.named.items → c.detached.items ≡ d.command.detached.items →
-      IsSoundDoc d.tree c d.history
+      IsSoundDoc (live d.tree) c d.history
   room_made c rest named detached =
-      sound_carried d.tree d.command c d.history opened law
-      (subst (λ z. IsSoundDoc d.tree z d.history) (sym rest) ok) named detached
+      sound_carried (live d.tree) d.command c d.history opened law
+      (subst (λ z. IsSoundDoc (live d.tree) z d.history) (sym rest) ok) named detached
 
-  pub node_made : (x : Content) → IsMade x → (a : Arena) (node : NodeRef) → Makes d.tree.arena a node x → (b c : Command) → record b { named = d.command.named; detached = d.command.detached } ≡ d.command →
+  pub node_made : (x : Content) → IsMade x → (a : Arena) (node : NodeRef) → Makes d.tree.nodes.arena a node x → (b c : Command) → record b { named = d.command.named; detached = d.command.detached } ≡ d.command →
       b.named.items ≡ d.command.named.items → b.detached.items ≡ d.command.detached.items → NotesMade node b c → Given d v x node a c
   node_made x made_of a node m b c base named detached notes =
       let rest : record c { named = d.command.named; detached = d.command.detached } ≡ d.command = ap (λ (z : Command). record z { named = d.command.named; detached = d.command.detached }) notes.rest ∙ base in
-      let ok' = subst (λ z. IsSoundDoc d.tree z d.history) (sym rest) ok in
+      let ok' = subst (λ z. IsSoundDoc (live d.tree) z d.history) (sym rest) ok in
       let named' : c.named.items ≡ d.command.named.items ++ false ∷ [] = notes.named ∙ ap (λ ms. ms ++ false ∷ []) named in
       let left' : c.detached.items ≡ d.command.detached.items ++ node ∷ [] = notes.detached ∙ ap (λ ls. ls ++ node ∷ []) detached in
-      let arena_is : record { trees = with_leaf d.tree.arena.trees d.tree.arena.next x; next = d.tree.arena.next + 1; cap = d.tree.arena.cap; held = a.held } ≡ a = (λ i. record { trees = sym m.trees i; next = sym m.next i; cap = sym m.cap i; held = a.held }) in
-      let whole_is = whole_made d.tree d.command c d.history opened law ok' a.held node x made_of m.keeps m.held m.label named' left' in
-      let same : whole_of d.tree (record c { named = d.command.named; detached = d.command.detached }) d.history ≡ v =
-      ap (λ z. whole_of d.tree z d.history) rest ∙ sees in
+      let arena_is : record { trees = with_leaf d.tree.nodes.arena.trees d.tree.nodes.arena.next x; next = d.tree.nodes.arena.next + 1; cap = d.tree.nodes.arena.cap; held = a.held } ≡ a = (λ i. record { trees = sym m.trees i; next = sym m.next i; cap = sym m.cap i; held = a.held }) in
+      let whole_is = whole_made (live d.tree) d.command c d.history opened law ok' a.held node x made_of m.keeps m.held m.label named' left' in
+      let same : whole_of (live d.tree) (record c { named = d.command.named; detached = d.command.detached }) d.history ≡ v =
+      ap (λ z. whole_of (live d.tree) z d.history) rest ∙ sees in
       subst (λ t. Given d v x node t c) arena_is (record {
-        invariant = sound_made d.tree d.command c d.history opened law ok' a.held node x made_of m.keeps m.held m.label named' left';
+        invariant = sound_made (live d.tree) d.command c d.history opened law ok' a.held node x made_of m.keeps m.held m.label named' left';
         state = ap (λ (w : Whole). w.state) whole_is ∙ ap (λ (w : Whole). made x w.state) same;
-        held = subst (λ w. Holds w node) (sym whole_is) (held_made d.tree d.command c d.history opened law ok' a.held node x made_of m.keeps m.held m.label named' left');
-        keeps = subst (Keeps v) (sym whole_is) (subst (λ w. Keeps w (record (whole_of d.tree (record c { named = d.command.named; detached = d.command.detached }) d.history) { state = made x (state_of d.tree (record c { named = d.command.named; detached = d.command.detached }) d.history.log); held = a.held })) same
-            (keeps_made d.tree d.command c d.history opened law ok' a.held node x made_of m.keeps m.held m.label named' left'));
+        held = subst (λ w. Holds w node) (sym whole_is) (held_made (live d.tree) d.command c d.history opened law ok' a.held node x made_of m.keeps m.held m.label named' left');
+        keeps = subst (Keeps v) (sym whole_is) (subst (λ w. Keeps w (record (whole_of (live d.tree) (record c { named = d.command.named; detached = d.command.detached }) d.history) { state = made x (state_of (live d.tree) (record c { named = d.command.named; detached = d.command.detached }) d.history.log); held = a.held })) same
+            (keeps_made (live d.tree) d.command c d.history opened law ok' a.held node x made_of m.keeps m.held m.label named' left'));
       })
 
   -- no node was made
   pub none_made : (t : State) (fault : MakeFault) (r : EditFault) → (fault ≡ ArenaFull → r ≡ Full) → (fault ≡ ArenaMemory → r ≡ Memory) →
-      (fault ≡ ArenaFull → d.tree.arena.next ≡ d.tree.arena.cap) → (v.state.cap ≤ v.state.next → Fails Full t) → Fails r t
+      (fault ≡ ArenaFull → d.tree.nodes.arena.next ≡ d.tree.nodes.arena.cap) → (v.state.cap ≤ v.state.next → Fails Full t) → Fails r t
   none_made t fault r full memory capped over = by_fault fault full memory capped
     where
-      at_cap : d.tree.arena.next ≡ d.tree.arena.cap → v.state.cap ≤ v.state.next
+      at_cap : d.tree.nodes.arena.next ≡ d.tree.nodes.arena.cap → v.state.cap ≤ v.state.next
       at_cap e = subst (λ (w : Whole). w.state.cap ≤ w.state.next) sees (omega (arith, e))
 
-      by_fault : (q : MakeFault) → (q ≡ ArenaFull → r ≡ Full) → (q ≡ ArenaMemory → r ≡ Memory) → (q ≡ ArenaFull → d.tree.arena.next ≡ d.tree.arena.cap) → Fails r t
+      by_fault : (q : MakeFault) → (q ≡ ArenaFull → r ≡ Full) → (q ≡ ArenaMemory → r ≡ Memory) → (q ≡ ArenaFull → d.tree.nodes.arena.next ≡ d.tree.nodes.arena.cap) → Fails r t
       by_fault ArenaFull f m c = subst (λ z. Fails z t) (sym (f refl)) (over (at_cap (c refl)))
       by_fault ArenaMemory f m c = subst (λ z. Fails z t) (sym (m refl)) tt
 

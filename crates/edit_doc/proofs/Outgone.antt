@@ -116,7 +116,7 @@ module _ (held : List (Option ℕ)) (names : List (List ℕ)) (c : Command) wher
 
 module _ (d : Inside) (enters : Entering d) where
   abbrev f : Forest Content
-  f = d.tree.arena.trees
+  f = d.tree.nodes.arena.trees
 
   record GoesOut (o : Option EntrySnapshot) : Type 0 where
     inner : (l : ℕ) → has_detached o l ≡ true → 0 < l
@@ -126,20 +126,20 @@ module _ (d : Inside) (enters : Entering d) where
   none_out : GoesOut None
   none_out = record { inner = λ l t. absurd (cc); loose = λ l t. absurd (cc); detached = entries_none (unnamed d enters.ending.during) f (committed d.history.log).undo (kept_detached d enters.ending.during enters.some) }
 
-  joined_out : (s : Sides) (detached : List NodeRef) (room : ℕ) (bs new : List EntrySnapshot) (o : Option EntrySnapshot) → EntersIn true s detached enters.ending.places d.tree.counts room bs new o → o ≡ None
+  joined_out : (s : Sides) (detached : List NodeRef) (room : ℕ) (bs new : List EntrySnapshot) (o : Option EntrySnapshot) → EntersIn true s detached enters.ending.places d.tree.nodes.counts room bs new o → o ≡ None
   joined_out s detached room [] new o h = absurd h
   joined_out s detached room (b ∷ bs) [] o h = absurd h
   joined_out s detached room (b ∷ bs) (b' ∷ bs') o h = h.1.1.1
 
   goes_out : GoesOut enters.out
   goes_out = elim (true_or_false (is_resumed d.history.log.open_entry)) [
-    | inl r ↦ subst GoesOut (sym (joined_out (made_sides d.command enters.ending.places d.tree.counts) (loose_roots f d.command.detached.items) d.history.log.depth d.history.past enters.past enters.out (subst (λ b. EntersIn b (made_sides d.command enters.ending.places d.tree.counts) (loose_roots f d.command.detached.items) enters.ending.places d.tree.counts d.history.log.depth d.history.past enters.past enters.out) (enters.ending.during.ok.resumed ∙ r) enters.entered))) none_out
+    | inl r ↦ subst GoesOut (sym (joined_out (made_sides d.command enters.ending.places d.tree.nodes.counts) (loose_roots f d.command.detached.items) d.history.log.depth d.history.past enters.past enters.out (subst (λ b. EntersIn b (made_sides d.command enters.ending.places d.tree.nodes.counts) (loose_roots f d.command.detached.items) enters.ending.places d.tree.nodes.counts d.history.log.depth d.history.past enters.past enters.out) (enters.ending.during.ok.resumed ∙ r) enters.entered))) none_out
     | inr r ↦ (
-        let c : Command = record d.command { start = d.tree.arena.next } in
+        let c : Command = record d.command { start = d.tree.nodes.arena.next } in
         let h = entering d enters.ending r c refl enters.past enters.out enters.entered in
         let bs : List EntrySnapshot = h.0 ∷ d.history.past in
         let es : List (List Step) = xs d enters.ending.during ∷ d.history.log.undo in
-        let o = outgone d.tree.arena.held d.tree.points.names c d.history.log.depth d.tree.arena.next f es bs (forest_of d.tree.arena enters.ending.during.law) (with_first d enters.ending r c refl enters.past enters.out h.0 h.1 h.2) in
+        let o = outgone d.tree.nodes.arena.held d.tree.points.names c d.history.log.depth d.tree.nodes.arena.next f es bs (forest_of d.tree.nodes.arena enters.ending.during.law) (with_first d enters.ending r c refl enters.past enters.out h.0 h.1 h.2) in
         let own : GoesOut (slice_get bs d.history.log.depth) = record {
           inner = λ l t. (o.loose l t).0;
           loose = λ l t. (o.loose l t).1.1;
@@ -156,14 +156,14 @@ module _ (d : Inside) (enters : Entering d) where
   pub detached_inner : (l : ℕ) → has_detached enters.out l ≡ true → 0 < l
   detached_inner = goes_out.inner
 
-  pub detached_still_loose : (a : Arena) → GivesUp (unnamed d enters.ending.during) d.tree.arena a → (l : ℕ) → has_detached enters.out l ≡ true → parent_of a.trees l ≡ None
+  pub detached_still_loose : (a : Arena) → GivesUp (unnamed d enters.ending.during) d.tree.nodes.arena a → (l : ℕ) → has_detached enters.out l ≡ true → parent_of a.trees l ≡ None
   detached_still_loose a gives l t = ap (λ g. parent_of g l) gives.trees ∙ loose_detached (unnamed d enters.ending.during) f l enters.ending.during.law.distinct (goes_out.loose l t)
 
-  pub gives_both : (a b : Arena) → GivesUp (unnamed d enters.ending.during) d.tree.arena a → GivesUp (has_detached enters.out) a b → GivesUp unkept d.tree.arena b
-  gives_both a b x y = gives_join (unnamed d enters.ending.during) (has_detached enters.out) d.tree.arena a b x y
+  pub gives_both : (a b : Arena) → GivesUp (unnamed d enters.ending.during) d.tree.nodes.arena a → GivesUp (has_detached enters.out) a b → GivesUp unkept d.tree.nodes.arena b
+  gives_both a b x y = gives_join (unnamed d enters.ending.during) (has_detached enters.out) d.tree.nodes.arena a b x y
 
   pub prunes_both : Prunes unkept f
-  prunes_both = prunes_roots unkept f (forest_of d.tree.arena enters.ending.during.law) zero_out (λ l t. elim (or_true (unnamed d enters.ending.during l) (has_detached enters.out l) t) [ inl u ↦ unnamed_loose d enters.ending.during l u | inr u ↦ goes_out.loose l u ])
+  prunes_both = prunes_roots unkept f (forest_of d.tree.nodes.arena enters.ending.during.law) zero_out (λ l t. elim (or_true (unnamed d enters.ending.during l) (has_detached enters.out l) t) [ inl u ↦ unnamed_loose d enters.ending.during l u | inr u ↦ goes_out.loose l u ])
     where
       zero_out : unkept 0 ≡ false
       zero_out = elim (true_or_false (unkept 0)) [

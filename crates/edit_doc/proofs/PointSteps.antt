@@ -17,7 +17,7 @@ use Rattle.edit_model.specs.Valid.{IsPlaced}
 use Rattle.edit_model.specs.Overrides.{no_overrides}
 use Rattle.edit_model.proofs.Points.{Places, mapped_placed}
 use Rattle.edit_doc.specs.declared.Doc.TheInside.{Inside}
-use Rattle.edit_doc.specs.declared.tree.LiveTree.{LiveTree}
+use Rattle.edit_doc.specs.Live.{Live, live}
 use Rattle.edit_parts.specs.declared.overrides.Watch.{Watch}
 use Rattle.edit_parts.specs.Following.{Watches, settled}
 use Rattle.edit_doc.specs.Whole.{Whole, with_state}
@@ -38,34 +38,34 @@ pub settled_length : (b : Bool) (list : List Setting) → length list ≡ 32 →
 settled_length true list h = none_set
 settled_length false list h = h
 
-module _ (d : Inside) (law : IsArena d.tree.arena) (ok : Ok d) where
-  module _ (selection scratch : Option Pair) (marks : List (List ℕ × Pair)) (placed : IsPlaced (seen_trees d.history.log d.command.start d.tree.arena.trees) (moved_to d.tree.points selection scratch marks)) where
+module _ (d : Inside) (law : IsArena d.tree.nodes.arena) (ok : Ok d) where
+  module _ (selection scratch : Option Pair) (marks : List (List ℕ × Pair)) (placed : IsPlaced (seen_trees d.history.log d.command.start d.tree.nodes.arena.trees) (moved_to d.tree.points selection scratch marks)) where
     abbrev points : LivePoints
     points = moved_to d.tree.points selection scratch marks
 
     abbrev overrides : List Setting
-    overrides = settled d.tree.arena.trees d.tree.points d.tree.arena.trees points d.tree.overrides
+    overrides = settled d.tree.nodes.arena.trees d.tree.points d.tree.nodes.arena.trees points d.tree.overrides
 
-    pub placed_then : IsPlaced d.tree.arena.trees points
-    placed_then = placed-whole d.tree.arena.trees d.tree.arena.next (arena_forest d.tree.arena law) (out_of d) refl points placed
+    pub placed_then : IsPlaced d.tree.nodes.arena.trees points
+    placed_then = placed-whole d.tree.nodes.arena.trees d.tree.nodes.arena.next (arena_forest d.tree.nodes.arena law) (out_of d) refl points placed
 
     -- what settling writes
-    pub settled_items : (new : List Setting) (n : LivePoints) (w : Option Watch) → n ≡ points → Watches d.tree.arena.trees d.tree.points d.tree.overrides w →
-        ((g : Forest Content) (b : LivePoints) → Watches g b d.tree.overrides w → new ≡ settled g b d.tree.arena.trees n d.tree.overrides) → new ≡ overrides
-    settled_items new n w en watches settles = settles d.tree.arena.trees d.tree.points watches ∙ ap (λ q. settled d.tree.arena.trees d.tree.points d.tree.arena.trees q d.tree.overrides) en
+    pub settled_items : (new : List Setting) (n : LivePoints) (w : Option Watch) → n ≡ points → Watches d.tree.nodes.arena.trees d.tree.points d.tree.overrides w →
+        ((g : Forest Content) (b : LivePoints) → Watches g b d.tree.overrides w → new ≡ settled g b d.tree.nodes.arena.trees n d.tree.overrides) → new ≡ overrides
+    settled_items new n w en watches settles = settles d.tree.nodes.arena.trees d.tree.points watches ∙ ap (λ q. settled d.tree.nodes.arena.trees d.tree.points d.tree.nodes.arena.trees q d.tree.overrides) en
 
-    pub step_ok : (d.history.log.open_entry ≡ Closed → scratch ≡ None) → IsSoundDoc (record d.tree { points = points; overrides = overrides }) d.command d.history
-    step_ok none = other_ok d ok selection scratch marks overrides d.tree.flags placed (settled_length (range_changed (is_before d.tree.arena.trees) (is_before d.tree.arena.trees) d.tree.points.selection selection) d.tree.overrides ok.valid.settings) none
+    pub step_ok : (d.history.log.open_entry ≡ Closed → scratch ≡ None) → IsSoundDoc (record (live d.tree) { points = points; overrides = overrides }) d.command d.history
+    step_ok none = other_ok d ok selection scratch marks overrides d.tree.flags placed (settled_length (range_changed (is_before d.tree.nodes.arena.trees) (is_before d.tree.nodes.arena.trees) d.tree.points.selection selection) d.tree.overrides ok.valid.settings) none
 
     settled_so : overrides ≡ overrides_after (seen d).state (seen d).state.trees points
-    settled_so = settled_seen (out_of d) d.tree.arena.trees d.tree.arena.trees (seen d).state points law.distinct law.distinct refl ok.valid.placed placed
+    settled_so = settled_seen (out_of d) d.tree.nodes.arena.trees d.tree.nodes.arena.trees (seen d).state points law.distinct law.distinct refl ok.valid.placed placed
 
     pub step_is : (v : Whole) → seen d ≡ v →
-        whole_of (record d.tree { points = points; overrides = overrides }) d.command d.history
+        whole_of (record (live d.tree) { points = points; overrides = overrides }) d.command d.history
         ≡ with_state v (changed v.state v.state.trees (moved_to v.state.points selection scratch marks))
     unfolding changed
     step_is v is =
-        ap (λ o. whole_of (record d.tree { points = points; overrides = o }) d.command d.history) settled_so
+        ap (λ o. whole_of (record (live d.tree) { points = points; overrides = o }) d.command d.history) settled_so
         ∙ ap (λ (w : Whole). with_state w (record w.state { points = moved_to w.state.points selection scratch marks; overrides = overrides_after w.state w.state.trees (moved_to w.state.points selection scratch marks) })) is
 
   -- the points go along with a change of their places
@@ -82,17 +82,17 @@ module _ (d : Inside) (law : IsArena d.tree.arena) (ok : Ok d) where
     stand : IsPlaced (seen d).state.trees (mapped e d.tree.points)
     stand = mapped_placed e (seen d).state.trees (seen d).state.trees places d.tree.points ok.valid.placed
 
-    pub mapped_then : IsPlaced d.tree.arena.trees (mapped e d.tree.points)
+    pub mapped_then : IsPlaced d.tree.nodes.arena.trees (mapped e d.tree.points)
     mapped_then = placed_then chosen kept marks stand
 
     -- what settling leaves then
-    module _ (n : LivePoints) (n_is : n ≡ mapped e d.tree.points) (w : Option Watch) (new : List Setting) (watches : Watches d.tree.arena.trees d.tree.points d.tree.overrides w)
-        (settles : (g : Forest Content) (b : LivePoints) → Watches g b d.tree.overrides w → new ≡ settled g b d.tree.arena.trees n d.tree.overrides) where
-      abbrev after : LiveTree
-      after = record d.tree { points = n; overrides = new }
+    module _ (n : LivePoints) (n_is : n ≡ mapped e d.tree.points) (w : Option Watch) (new : List Setting) (watches : Watches d.tree.nodes.arena.trees d.tree.points d.tree.overrides w)
+        (settles : (g : Forest Content) (b : LivePoints) → Watches g b d.tree.overrides w → new ≡ settled g b d.tree.nodes.arena.trees n d.tree.overrides) where
+      abbrev after : Live
+      after = record (live d.tree) { points = n; overrides = new }
 
-      after_is : after ≡ record d.tree { points = mapped e d.tree.points; overrides = settled d.tree.arena.trees d.tree.points d.tree.arena.trees (mapped e d.tree.points) d.tree.overrides }
-      after_is = λ i. record d.tree { points = n_is i; overrides = settled_items chosen kept marks stand new n w n_is watches settles i }
+      after_is : after ≡ record (live d.tree) { points = mapped e d.tree.points; overrides = settled d.tree.nodes.arena.trees d.tree.points d.tree.nodes.arena.trees (mapped e d.tree.points) d.tree.overrides }
+      after_is = λ i. record (live d.tree) { points = n_is i; overrides = settled_items chosen kept marks stand new n w n_is watches settles i }
 
       pub mapped_ok : IsSoundDoc after d.command d.history
       mapped_ok = subst (λ t. IsSoundDoc t d.command d.history) (sym after_is) (step_ok chosen kept marks stand (λ closed. ap (option_map (adjusted_pair e)) (scratch_at_rest d ok closed)))

@@ -27,6 +27,7 @@ use Rattle.edit_doc.specs.Whole.{Whole, history_committed, committed_history}
 use Rattle.edit_doc.specs.History.{edits_before, roots_from, state_of, begun_state, began_with, history_of, undo_entries, view_at}
 use Rattle.edit_doc.specs.Sound.{IsSnapshot, UndoSound, RedoSound, next_first}
 use Rattle.edit_doc.specs.Trail.{trail_of}
+use Rattle.edit_doc.specs.Live.{live}
 use Rattle.edit_doc.proofs.Inner.{seen, Ending}
 use Rattle.edit_doc.proofs.Laid.{undo_count, undo_later, next_first_low}
 use Rattle.edit_doc.proofs.HiddenTrees.{model_forest}
@@ -75,13 +76,13 @@ module _ (d : Inside) (ending : Ending d) where
   high = next_first d.command.start d.history.future
 
   pub high_le : high ≤ d.command.start
-  high_le = next_first_low d.tree.arena.held d.tree.points.names d.command before d.history.log.redo d.history.future ending.during.ok.redo
+  high_le = next_first_low d.tree.nodes.arena.held d.tree.points.names d.command before d.history.log.redo d.history.future ending.during.ok.redo
 
   -- ---- a document whose history has the entry
 
-  module _ (log : Log Step) (closed : log.open_entry ≡ Closed) (redo : log.redo ≡ []) (depth : log.depth ≡ d.history.log.depth) (us : List EntrySnapshot) (c : Command) (ended : IsEnded d.tree.arena.next c) where
-    module _ (undo : UndoSound d.tree.arena.held d.tree.points.names false c d.tree.arena.next d.tree.arena.trees log.undo us) where
-      pub ends : AtRest (record d.tree { points = rested_points }) c (trail_of log us [])
+  module _ (log : Log Step) (closed : log.open_entry ≡ Closed) (redo : log.redo ≡ []) (depth : log.depth ≡ d.history.log.depth) (us : List EntrySnapshot) (c : Command) (ended : IsEnded d.tree.nodes.arena.next c) where
+    module _ (undo : UndoSound d.tree.nodes.arena.held d.tree.points.names false c d.tree.nodes.arena.next d.tree.nodes.arena.trees log.undo us) where
+      pub ends : AtRest (record (live d.tree) { points = rested_points }) c (trail_of log us [])
       ends = record {
         law = ending.during.law;
         closed = closed;
@@ -97,25 +98,22 @@ module _ (d : Inside) (ending : Ending d) where
         resumed = ended.resumed;
         placed = placed_now d ending;
         settings = ending.during.ok.valid.settings;
-        nodes = ending.during.ok.nodes;
-        chars = ending.during.ok.chars;
-        depth = ending.during.ok.depth;
-        undo = subst (λ n. UndoSound d.tree.arena.held d.tree.points.names false c n d.tree.arena.trees log.undo us) (sym ended.start) undo;
-        redo = subst (λ es. RedoSound d.tree.arena.held d.tree.points.names c d.tree.arena.trees es []) (sym redo) tt;
+        undo = subst (λ n. UndoSound d.tree.nodes.arena.held d.tree.points.names false c n d.tree.nodes.arena.trees log.undo us) (sym ended.start) undo;
+        redo = subst (λ es. RedoSound d.tree.nodes.arena.held d.tree.points.names c d.tree.nodes.arena.trees es []) (sym redo) tt;
       }
 
-      pub recorded_state : (v : Whole) → seen d ≡ v → state_of (record d.tree { points = rested_points }) c log ≡ rested v.state
+      pub recorded_state : (v : Whole) → seen d ≡ v → state_of (record (live d.tree) { points = rested_points }) c log ≡ rested v.state
       unfolding rested
       recorded_state v sees =
-          rest_state (record d.tree { points = rested_points }) c (trail_of log us []) ends
+          rest_state (record (live d.tree) { points = rested_points }) c (trail_of log us []) ends
           ∙ ((λ i. record {
             trees = sym (document_now d ending) i;
             points = ending.resting.shown i;
             overrides = d.tree.overrides;
             flags = d.tree.flags;
-            next = d.tree.arena.next;
-            cap = d.tree.arena.cap;
-            start = d.tree.arena.next;
+            next = d.tree.nodes.arena.next;
+            cap = d.tree.nodes.arena.cap;
+            start = d.tree.nodes.arena.next;
             host = None;
             keeping = false;
             edits = [];
@@ -126,10 +124,10 @@ module _ (d : Inside) (ending : Ending d) where
   -- ---- the views on both sides of the entry
 
   abbrev pub state_before : State
-  state_before = begun_state d.tree.arena d.tree.points.names d.command d.history.log
+  state_before = begun_state d.tree.nodes.arena d.tree.points.names d.command d.history.log
 
   abbrev pub state_now : State
-  state_now = state_of d.tree d.command d.history.log
+  state_now = state_of (live d.tree) d.command d.history.log
 
   pub view_before : view_at d.tree.points.names before d.command.kept.places ≡ view_of state_before
   unfolding view_of
@@ -139,7 +137,7 @@ module _ (d : Inside) (ending : Ending d) where
     marks = (shown d.tree.points.names d.command.kept.places).marks;
   }
 
-  pub view_now : view_at d.tree.points.names d.tree.arena.trees ending.places ≡ view_of state_now
+  pub view_now : view_at d.tree.points.names d.tree.nodes.arena.trees ending.places ≡ view_of state_now
   unfolding view_of
   view_now = λ i. record {
     document = sym (document_now d ending) i;
@@ -149,45 +147,45 @@ module _ (d : Inside) (ending : Ending d) where
 
   -- ---- an entry that the command began
 
-  module _ (begun : is_resumed d.history.log.open_entry ≡ false) (c : Command) (starts : c.start ≡ d.tree.arena.next) (us : List EntrySnapshot) (out : Option EntrySnapshot) where
+  module _ (begun : is_resumed d.history.log.open_entry ≡ false) (c : Command) (starts : c.start ≡ d.tree.nodes.arena.next) (us : List EntrySnapshot) (out : Option EntrySnapshot) where
     abbrev roots : List NodeRef
-    roots = loose_roots d.tree.arena.trees d.command.detached.items
+    roots = loose_roots d.tree.nodes.arena.trees d.command.detached.items
 
-    begun_undo : UndoSound d.tree.arena.held d.tree.points.names false d.command high before d.history.log.undo d.history.past
-    begun_undo = subst (λ r. UndoSound d.tree.arena.held d.tree.points.names r d.command high before d.history.log.undo d.history.past) (ending.during.ok.resumed ∙ begun) ending.during.ok.undo
+    begun_undo : UndoSound d.tree.nodes.arena.held d.tree.points.names false d.command high before d.history.log.undo d.history.past
+    begun_undo = subst (λ r. UndoSound d.tree.nodes.arena.held d.tree.points.names r d.command high before d.history.log.undo d.history.past) (ending.during.ok.resumed ∙ begun) ending.during.ok.undo
 
     start_le : d.command.start ≤ c.start
     start_le = (let s = starts in let t = ending.during.ok.valid.started in omega (arith, s, t))
 
-    pub with_first : (b : EntrySnapshot) → b.sides ≡ made_sides d.command ending.places d.tree.counts → b.detached.items ≡ roots →
-        UndoSound d.tree.arena.held d.tree.points.names false c d.tree.arena.next d.tree.arena.trees (steps ∷ d.history.log.undo) (b ∷ d.history.past)
+    pub with_first : (b : EntrySnapshot) → b.sides ≡ made_sides d.command ending.places d.tree.nodes.counts → b.detached.items ≡ roots →
+        UndoSound d.tree.nodes.arena.held d.tree.points.names false c d.tree.nodes.arena.next d.tree.nodes.arena.trees (steps ∷ d.history.log.undo) (b ∷ d.history.past)
     with_first b same none =
-        let f = d.tree.arena.trees in
+        let f = d.tree.nodes.arena.trees in
         let ts = inverses_back applied inverse (changes_of steps) f in
-        let rest = undo_later d.tree.arena.held d.tree.points.names d.command c start_le high d.command.start before d.history.log.undo d.history.past high_le start_le begun_undo in (
+        let rest = undo_later d.tree.nodes.arena.held d.tree.points.names d.command c start_le high d.command.start before d.history.log.undo d.history.past high_le start_le begun_undo in (
           (run d ending.during).can,
           (
-            subst (λ n. IsSnapshot d.tree.points.names before f steps ts b b.detached.items d.tree.arena.next n) (sym starts) (made_snapshot d ending b b.detached.items none same),
-            subst (λ (s : Sides). UndoSound d.tree.arena.held d.tree.points.names false c s.first_label before d.history.log.undo d.history.past) (sym same) rest,
+            subst (λ n. IsSnapshot d.tree.points.names before f steps ts b b.detached.items d.tree.nodes.arena.next n) (sym starts) (made_snapshot d ending b b.detached.items none same),
+            subst (λ (s : Sides). UndoSound d.tree.nodes.arena.held d.tree.points.names false c s.first_label before d.history.log.undo d.history.past) (sym same) rest,
           ),
         )
 
-    pub entering : Enters d.command roots ending.places d.tree.counts d.history.log.depth d.history.past us out → EntersIn false (made_sides d.command ending.places d.tree.counts) roots ending.places d.tree.counts d.history.log.depth d.history.past us out
-    entering h = subst (λ r. EntersIn r (made_sides d.command ending.places d.tree.counts) roots ending.places d.tree.counts d.history.log.depth d.history.past us out) (ending.during.ok.resumed ∙ begun) h
+    pub entering : Enters d.command roots ending.places d.tree.nodes.counts d.history.log.depth d.history.past us out → EntersIn false (made_sides d.command ending.places d.tree.nodes.counts) roots ending.places d.tree.nodes.counts d.history.log.depth d.history.past us out
+    entering h = subst (λ r. EntersIn r (made_sides d.command ending.places d.tree.nodes.counts) roots ending.places d.tree.nodes.counts d.history.log.depth d.history.past us out) (ending.during.ok.resumed ∙ begun) h
 
-    module _ (enters : Enters d.command roots ending.places d.tree.counts d.history.log.depth d.history.past us out) where
-      pub begun_sound : UndoSound d.tree.arena.held d.tree.points.names false c d.tree.arena.next d.tree.arena.trees (take d.history.log.depth (steps ∷ d.history.log.undo)) us
+    module _ (enters : Enters d.command roots ending.places d.tree.nodes.counts d.history.log.depth d.history.past us out) where
+      pub begun_sound : UndoSound d.tree.nodes.arena.held d.tree.points.names false c d.tree.nodes.arena.next d.tree.nodes.arena.trees (take d.history.log.depth (steps ∷ d.history.log.undo)) us
       begun_sound =
           let h = entering enters in
-          let all = undo-take d.tree.arena.held d.tree.points.names c d.history.log.depth d.tree.arena.next d.tree.arena.trees (steps ∷ d.history.log.undo) (h.0 ∷ d.history.past) (with_first h.0 h.1 h.2) in
+          let all = undo-take d.tree.nodes.arena.held d.tree.points.names c d.history.log.depth d.tree.nodes.arena.next d.tree.nodes.arena.trees (steps ∷ d.history.log.undo) (h.0 ∷ d.history.past) (with_first h.0 h.1 h.2) in
           let is : us ≡ take d.history.log.depth (h.0 ∷ d.history.past) = h.3 in
-          subst (λ bs. UndoSound d.tree.arena.held d.tree.points.names false c d.tree.arena.next d.tree.arena.trees (take d.history.log.depth (steps ∷ d.history.log.undo)) bs) (sym is) all
+          subst (λ bs. UndoSound d.tree.nodes.arena.held d.tree.points.names false c d.tree.nodes.arena.next d.tree.nodes.arena.trees (take d.history.log.depth (steps ∷ d.history.log.undo)) bs) (sym is) all
 
       pub begun_history : 0 < length steps → (v : Whole) → seen d ≡ v →
-          history_of d.tree.points.names d.tree.arena.trees (trail_of (record d.history.log { undo = take d.history.log.depth (steps ∷ d.history.log.undo); redo = []; open_entry = Closed; dropped = d.history.log.dropped || nat_le d.history.log.depth (length d.history.log.undo) }) us []) ≡ history_committed v
+          history_of d.tree.points.names d.tree.nodes.arena.trees (trail_of (record d.history.log { undo = take d.history.log.depth (steps ∷ d.history.log.undo); redo = []; open_entry = Closed; dropped = d.history.log.dropped || nat_le d.history.log.depth (length d.history.log.undo) }) us []) ≡ history_committed v
       unfolding history_committed
       begun_history some v sees =
-          let f = d.tree.arena.trees in
+          let f = d.tree.nodes.arena.trees in
           let h = entering enters in
           let is : us ≡ take d.history.log.depth (h.0 ∷ d.history.past) = h.3 in
           let was = ap (λ (s : Sides). view_at d.tree.points.names before s.before) h.1 ∙ view_before in
@@ -198,4 +196,4 @@ module _ (d : Inside) (ending : Ending d) where
           ∙ (undo_entries-take d.tree.points.names d.history.log.depth f (steps ∷ d.history.log.undo) (h.0 ∷ d.history.past)
           ∙ (λ i. take d.history.log.depth (record { before = was i; after = now i; edits = edits_before steps f; made = made_is i } ∷ undo_entries d.tree.points.names before d.history.log.undo d.history.past))) in
           (λ i. record { undo = entries i; redo = []; depth = d.history.log.depth; dropped = d.history.log.dropped || nat_le d.history.log.depth (undo_count d (seen d) refl ending.during.ok i) })
-          ∙ (sym (made_recorded state_before d.history.log.open_entry (seen d) ending.during.opened begun (subst (λ n. 0 < n) (sym (count_edits steps d.tree.arena.trees)) some)) ∙ ap history_committed sees)
+          ∙ (sym (made_recorded state_before d.history.log.open_entry (seen d) ending.during.opened begun (subst (λ n. 0 < n) (sym (count_edits steps d.tree.nodes.arena.trees)) some)) ∙ ap history_committed sees)

@@ -32,6 +32,8 @@ use Rattle.edit_doc.specs.Whole.{Whole, IsOpen}
 use Rattle.edit_doc.specs.Held.{Holds, IfHeld}
 use Rattle.edit_doc.specs.Marks.{Marks, IsMarked, AreMarkable, place_labels, has_named}
 use Rattle.edit_doc.specs.Trail.{Trail, with_note}
+use Rattle.edit_doc.specs.Live.{live}
+use Rattle.edit_doc.specs.Counted.{IsCounted}
 use Rattle.edit_doc.proofs.Changing.{Follows, run}
 use Rattle.edit_doc.proofs.Edited.{Makes, Applied, edit_linked}
 use Rattle.edit_doc.proofs.Inner.{seen, Ok, open_of}
@@ -65,12 +67,12 @@ follows c b d node parent o f same detached up next m = record {
   loosed_is = refl;
 }
 
-module _ (d : Inside) (law : IsArena d.tree.arena) (v : Whole) (is : seen d ≡ v) (now_open : IsOpen v) (ok : Ok d) where
+module _ (d : Inside) (law : IsArena d.tree.nodes.arena) (v : Whole) (is : seen d ≡ v) (now_open : IsOpen v) (ok : Ok d) where
   markable : (r : NodeRef) → Holds v r → r.label < d.command.start + length d.command.named.items
   markable r h =
       let here = (held_seen d v is r h).here in
-      let below = law.below r.label (omega (arith, here, count_of-pruned (out_of d) d.tree.arena.trees r.label)) in
-      let marks = (run d.tree d.command d.history law (open_of d v is now_open) ok).marks in
+      let below = law.below r.label (omega (arith, here, count_of-pruned (out_of d) d.tree.nodes.arena.trees r.label)) in
+      let marks = (run (live d.tree) d.command d.history law (open_of d v is now_open) ok).marks in
       omega (arith, below, marks)
 
   pub place_markable : (node parent : NodeRef) (o : Option NodeRef) → Holds v node → Holds v parent → IfHeld v o → AreMarkable d.command (place_labels node parent o)
@@ -89,26 +91,26 @@ pub may_remove_here : (s : State) (n p : ℕ) → parent_of s.trees n ≡ Some p
 unfolding is_made_edit may_remove
 may_remove_here s n p up may = ap (may_leave s n) up ∙ may
 
-module _ (d : Inside) (law : IsArena d.tree.arena) (v : Whole) (is : seen d ≡ v) (node : NodeRef) (holds : Holds v node) where
+module _ (d : Inside) (law : IsArena d.tree.nodes.arena) (v : Whole) (is : seen d ≡ v) (node : NodeRef) (holds : Holds v node) where
   module _ (parent : NodeRef) (child : parent_of v.state.trees node.label ≡ Some parent.label) where
-    pub up : parent_of d.tree.arena.trees node.label ≡ Some parent.label
+    pub up : parent_of d.tree.nodes.arena.trees node.label ≡ Some parent.label
     up = sym (parent_seen (shows_of d law v is) node holds) ∙ child
 
-    module _ (slotted : IsSlotted d.tree.arena) (now_open : IsOpen v) (ok : Ok d) (may : is_made_edit (Remove node.label) (freed v.state) ≡ true) where
+    module _ (slotted : IsSlotted d.tree.nodes.arena) (now_open : IsOpen v) (ok : Ok d) (may : is_made_edit (Remove node.label) (freed v.state) ≡ true) where
       abbrev f : Forest Content
-      f = d.tree.arena.trees
+      f = d.tree.nodes.arena.trees
 
       abbrev g : Forest Content
-      g = pruned (out_of d) d.tree.arena.trees
+      g = pruned (out_of d) d.tree.nodes.arena.trees
 
-      pub fits : StepFits (Unlink node) d.tree.arena
+      pub fits : StepFits (Unlink node) d.tree.nodes.arena
       fits = record {
-        fits = record { forest = forest_of d.tree.arena law; here = subst IsSome (sym up) refl };
+        fits = record { forest = forest_of d.tree.nodes.arena law; here = subst IsSome (sym up) refl };
         slotted = slotted;
         held = ((held_seen d v is node holds).slot, tt);
       }
 
-      pub detached : Each (IsLeft (out_of d) d.tree.arena.trees) (named (change_of (Unlink node)))
+      pub detached : Each (IsLeft (out_of d) d.tree.nodes.arena.trees) (named (change_of (Unlink node)))
       detached = ((held_seen d v is node holds).here, tt)
 
       pub trees : applied (change_of (Unlink node)) g ≡ trees_after (Remove node.label) g
@@ -128,22 +130,25 @@ module _ (d : Inside) (law : IsArena d.tree.arena) (v : Whole) (is : seen d ≡ 
       unfolding applied
       unlinked = refl
 
-      depth_is : (new : ℕ) → new ≡ d.tree.counts.depth → page_depth (applied (change.Remove node.label) f) ≤ new
+      depth_is : (new : ℕ) → new ≡ d.tree.nodes.counts.depth → page_depth (applied (change.Remove node.label) f) ≤ new
       depth_is new same =
-          let low = unlinked_depth f d.tree.arena.next (arena_forest d.tree.arena law) node.label (inner_child node.label up) in
-          subst (λ t. page_depth t ≤ new) unlinked (omega (arith, low, ok.depth, same))
+          let low = unlinked_depth f d.tree.nodes.arena.next (arena_forest d.tree.nodes.arena law) node.label (inner_child node.label up) in
+          subst (λ t. page_depth t ≤ new) unlinked (omega (arith, low, d.tree.nodes.counted.depth, same))
         where
           -- a node with a parent isn't the document
           inner_child : (l : ℕ) → parent_of f l ≡ Some parent.label → 0 < l
           inner_child zero child = absurd (let t : None ≡ Some parent.label = sym law.root ∙ child in cc)
           inner_child (suc l) child = omega arith
 
-      module _ (points : LivePoints) (overrides : List Setting) (counts : Counts) (b c : Command) (o : Option NodeRef) (next : label_of o ≡ next_of d.tree.arena.trees node.label)
+      pub counted_unlinked : (counts : Counts) → counts.nodes ≡ node_count (unlink f node.label) → counts.chars ≡ char_count (unlink f node.label) → counts.depth ≡ d.tree.nodes.counts.depth → IsCounted (step_applied (Unlink node) d.tree.nodes.arena).trees counts
+      unfolding step_applied
+      counted_unlinked counts nodes chars depth = record { nodes = nodes ∙ ap node_count unlinked; chars = chars ∙ ap char_count unlinked; depth = depth_is counts.depth depth }
+
+      module _ (points : LivePoints) (overrides : List Setting) (b c : Command) (o : Option NodeRef) (next : label_of o ≡ next_of d.tree.nodes.arena.trees node.label)
           (same : record b { detached = d.command.detached } ≡ d.command) (pushed : b.detached.items ≡ d.command.detached.items ++ node ∷ []) (m : Marks (place_labels node parent o) b c)
-          (points_is : points ≡ mapped (range.Remove (preorder (tree_of d.tree.arena.trees node.label)) parent.label (index_of d.tree.arena.trees node.label)) d.tree.points)
-          (overrides_is : overrides ≡ overrides_next d v is law now_open ok (Remove node.label) (Unlink node) fits detached may trees)
-          (nodes : counts.nodes ≡ node_count (unlink d.tree.arena.trees node.label)) (chars : counts.chars ≡ char_count (unlink d.tree.arena.trees node.label)) (depth : counts.depth ≡ d.tree.counts.depth) where
-        removes : Makes d (Remove node.label) (Unlink node) points overrides counts c
+          (points_is : points ≡ mapped (range.Remove (preorder (tree_of d.tree.nodes.arena.trees node.label)) parent.label (index_of d.tree.nodes.arena.trees node.label)) d.tree.points)
+          (overrides_is : overrides ≡ overrides_next d v is law now_open ok (Remove node.label) (Unlink node) fits detached may trees) where
+        removes : Makes d (Remove node.label) (Unlink node) points overrides c
         unfolding edit_change
         removes = record {
           fits = fits;
@@ -154,11 +159,8 @@ module _ (d : Inside) (law : IsArena d.tree.arena) (v : Whole) (is : seen d ≡ 
           trees = trees;
           points_are = points_is ∙ points_are;
           overrides_are = overrides_is ∙ overrides_are d v is law now_open ok (Remove node.label) (Unlink node) fits detached may trees;
-          nodes = nodes ∙ ap node_count unlinked;
-          chars = chars ∙ ap char_count unlinked;
-          depth = depth_is counts.depth depth;
         }
 
-        pub unlink_done : (arena : Arena) (trail : Trail) → arena ≡ step_applied (Unlink node) d.tree.arena → trail ≡ with_note d.history (step_inverse (Unlink node) d.tree.arena) → Applied d v (Remove node.label) arena points overrides counts c trail
+        pub unlink_done : (arena : Arena) (trail : Trail) → arena ≡ step_applied (Unlink node) d.tree.nodes.arena → trail ≡ with_note d.history (step_inverse (Unlink node) d.tree.nodes.arena) → Applied d v (Remove node.label) arena points overrides c trail
         unlink_done arena trail arena_is trail_is =
-            edit_linked d v is law now_open ok (Remove node.label) (Unlink node) points overrides counts c may removes arena trail arena_is trail_is
+            edit_linked d v is law now_open ok (Remove node.label) (Unlink node) points overrides c may removes arena trail arena_is trail_is

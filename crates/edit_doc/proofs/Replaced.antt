@@ -28,13 +28,13 @@ use Rattle.edit_model.specs.State.{State}
 use Rattle.edit_model.specs.Edit.{Replace, is_made_edit, change_of as edit_change, trees_after, points_after, with_replaced}
 use Rattle.edit_model.specs.Confined.{is_own, spliced, may_change, may_replace}
 use Rattle.edit_model.proofs.Fitting.{fits-replace}
-use Rattle.edit_parts.specs.declared.Counts.{Counts}
 use Rattle.edit_doc.specs.declared.Doc.TheInside.{Inside}
 use Rattle.edit_doc.specs.declared.command.Command.{Command}
 use Rattle.edit_doc.specs.Whole.{Whole, IsOpen}
 use Rattle.edit_doc.specs.Held.{Holds}
 use Rattle.edit_doc.specs.Marks.{Marks}
 use Rattle.edit_doc.specs.Trail.{Trail, with_note}
+use Rattle.edit_doc.specs.Counted.{IsCounted}
 use Rattle.edit_doc.proofs.Attributed.{revised_same}
 use Rattle.edit_doc.proofs.Rests.{arena_forest}
 use Rattle.edit_doc.proofs.Raised.{revised_depth}
@@ -70,7 +70,7 @@ follows c d n words f m = record {
   loosed_is = refl;
 }
 
-module _ (d : Inside) (law : IsArena d.tree.arena) (v : Whole) (is : seen d ≡ v) (node : NodeRef) (holds : Holds v node) (at count : ℕ) (put : List ℕ) (con : Content) (content : content_of d.tree.arena.trees node.label ≡ Some con) where
+module _ (d : Inside) (law : IsArena d.tree.nodes.arena) (v : Whole) (is : seen d ≡ v) (node : NodeRef) (holds : Holds v node) (at count : ℕ) (put : List ℕ) (con : Content) (content : content_of d.tree.nodes.arena.trees node.label ≡ Some con) where
   content_here : content_of v.state.trees node.label ≡ Some con
   content_here = content_seen (shows_of d law v is) node holds ∙ content
 
@@ -90,10 +90,10 @@ module _ (d : Inside) (law : IsArena d.tree.arena) (v : Whole) (is : seen d ≡ 
       let low = law.small in
       fits-replace (seen d).state node.label at count put ok.valid (omega (arith, capped, low)) may
 
-  module _ (slotted : IsSlotted d.tree.arena) (now_open : IsOpen v) (ok : Ok d) (own : is_own v.state node.label ≡ true) (change : may_change (Some con) at count put ≡ true)
+  module _ (slotted : IsSlotted d.tree.nodes.arena) (now_open : IsOpen v) (ok : Ok d) (own : is_own v.state node.label ≡ true) (change : may_change (Some con) at count put ≡ true)
       (words : List ℕ) (words_are : Words words ≡ with_replaced at count put con) (short : length words < 2 ^ 32) where
     abbrev g : Forest Content
-    g = pruned (out_of d) d.tree.arena.trees
+    g = pruned (out_of d) d.tree.nodes.arena.trees
 
     t : Changes (Some con) at count put
     t = changes (Some con) at count put change
@@ -104,24 +104,24 @@ module _ (d : Inside) (law : IsArena d.tree.arena) (v : Whole) (is : seen d ≡ 
     same : with_chars words con ≡ with_replaced at count put con
     same = ap (with_chars words) con_is ∙ words_are
 
-    pub fits : StepFits (Rewords node words) d.tree.arena
+    pub fits : StepFits (Rewords node words) d.tree.nodes.arena
     fits = record {
-      fits = record { forest = forest_of d.tree.arena law; here = (ap (λ o. option_map_or has_chars o false) (content ∙ ap Some con_is), short) };
+      fits = record { forest = forest_of d.tree.nodes.arena law; here = (ap (λ o. option_map_or has_chars o false) (content ∙ ap Some con_is), short) };
       slotted = slotted;
       held = ((held_seen d v is node holds).slot, tt);
     }
 
-    pub detached : Each (IsLeft (out_of d) d.tree.arena.trees) (named (change_of (Rewords node words)))
+    pub detached : Each (IsLeft (out_of d) d.tree.nodes.arena.trees) (named (change_of (Rewords node words)))
     detached = ((held_seen d v is node holds).here, tt)
 
     pub trees : applied (change_of (Rewords node words)) g ≡ trees_after (Replace node.label at count put) g
     unfolding applied trees_after
-    trees = revised_same g node.label (with_chars words) (with_replaced at count put) con (IsDistinct-pruned (out_of d) d.tree.arena.trees law.distinct)
-        (content_of-pruned (out_of d) d.tree.arena.trees node.label (forest_of d.tree.arena law) (held_seen d v is node holds).here ∙ content) same
+    trees = revised_same g node.label (with_chars words) (with_replaced at count put) con (IsDistinct-pruned (out_of d) d.tree.nodes.arena.trees law.distinct)
+        (content_of-pruned (out_of d) d.tree.nodes.arena.trees node.label (forest_of d.tree.nodes.arena law) (held_seen d v is node holds).here ∙ content) same
 
     words_same : words ≡ spliced (unwrap_or (chars_of g node.label) []) at count put
     words_same =
-        let seen_here : content_of g node.label ≡ Some (Words t.chars) = content_of-pruned (out_of d) d.tree.arena.trees node.label (forest_of d.tree.arena law) (held_seen d v is node holds).here ∙ (content ∙ ap Some con_is) in
+        let seen_here : content_of g node.label ≡ Some (Words t.chars) = content_of-pruned (out_of d) d.tree.nodes.arena.trees node.label (forest_of d.tree.nodes.arena law) (held_seen d v is node holds).here ∙ (content ∙ ap Some con_is) in
         let both : Words words ≡ Words (spliced t.chars at count put) = words_are ∙ ap (with_replaced at count put) con_is in
         let own_is : words ≡ spliced t.chars at count put = cc in
         own_is ∙ sym (ap (λ o. spliced (unwrap_or (option_and_then chars_in o) []) at count put) seen_here)
@@ -130,44 +130,48 @@ module _ (d : Inside) (law : IsArena d.tree.arena) (v : Whole) (is : seen d ≡ 
     unfolding edit_change
     change_is = ap (SetText node.label) words_same
 
-    nodes_same : node_count (applied (SetText node.label words) d.tree.arena.trees) ≡ node_count d.tree.arena.trees
+    nodes_same : node_count (applied (SetText node.label words) d.tree.nodes.arena.trees) ≡ node_count d.tree.nodes.arena.trees
     unfolding applied
-    nodes_same = ap (total (λ _ _. 1)) (tree_of-revised node.label (with_chars words) d.tree.arena.trees 0) ∙ total-revised node.label (with_chars words) (λ _. 1) (tree_of d.tree.arena.trees 0)
+    nodes_same = ap (total (λ _ _. 1)) (tree_of-revised node.label (with_chars words) d.tree.nodes.arena.trees 0) ∙ total-revised node.label (with_chars words) (λ _. 1) (tree_of d.tree.nodes.arena.trees 0)
 
-    depth_same : page_depth (applied (SetText node.label words) d.tree.arena.trees) ≡ page_depth d.tree.arena.trees
+    depth_same : page_depth (applied (SetText node.label words) d.tree.nodes.arena.trees) ≡ page_depth d.tree.nodes.arena.trees
     unfolding applied
-    depth_same = revised_depth d.tree.arena.trees d.tree.arena.next (arena_forest d.tree.arena law) node.label (with_chars words)
+    depth_same = revised_depth d.tree.nodes.arena.trees d.tree.nodes.arena.next (arena_forest d.tree.nodes.arena law) node.label (with_chars words)
 
-    chars_same : char_count (revised d.tree.arena.trees node.label (with_replaced at count put)) ≡ char_count (applied (SetText node.label words) d.tree.arena.trees)
+    chars_same : char_count (revised d.tree.nodes.arena.trees node.label (with_replaced at count put)) ≡ char_count (applied (SetText node.label words) d.tree.nodes.arena.trees)
     unfolding applied
-    chars_same = ap char_count (sym (revised_same d.tree.arena.trees node.label (with_chars words) (with_replaced at count put) con law.distinct content same))
+    chars_same = ap char_count (sym (revised_same d.tree.nodes.arena.trees node.label (with_chars words) (with_replaced at count put) con law.distinct content same))
+
+    pub counted_replaced : (chars : ℕ) → chars ≡ char_count (revised d.tree.nodes.arena.trees node.label (with_replaced at count put)) → IsCounted (step_applied (Rewords node words) d.tree.nodes.arena).trees (record d.tree.nodes.counts { chars = chars })
+    unfolding step_applied
+    counted_replaced chars is = record {
+      nodes = d.tree.nodes.counted.nodes ∙ sym nodes_same;
+      chars = is ∙ chars_same;
+      depth = (let low = d.tree.nodes.counted.depth in omega (arith, depth_same, low));
+    }
 
     pub points_are : mapped (range.Replace node.label at count (length put)) d.tree.points ≡ points_after (Replace node.label at count put) g d.tree.points
     unfolding points_after
     points_are = refl
 
-    module _ (points : LivePoints) (overrides : List Setting) (counts : Counts) (c : Command) (m : Marks (node.label ∷ []) d.command c)
+    module _ (points : LivePoints) (overrides : List Setting) (c : Command) (m : Marks (node.label ∷ []) d.command c)
         (points_is : points ≡ mapped (range.Replace node.label at count (length put)) d.tree.points)
-        (overrides_is : overrides ≡ overrides_next d v is law now_open ok (Replace node.label at count put) (Rewords node words) fits detached (freed_edit (Replace node.label at count put) v.state (may_replace_here own change)) trees)
-        (nodes : counts.nodes ≡ d.tree.counts.nodes) (depth : counts.depth ≡ d.tree.counts.depth) (chars : counts.chars ≡ char_count (revised d.tree.arena.trees node.label (with_replaced at count put))) where
-      replaces : Makes d (Replace node.label at count put) (Rewords node words) points overrides counts c
+        (overrides_is : overrides ≡ overrides_next d v is law now_open ok (Replace node.label at count put) (Rewords node words) fits detached (freed_edit (Replace node.label at count put) v.state (may_replace_here own change)) trees) where
+      replaces : Makes d (Replace node.label at count put) (Rewords node words) points overrides c
       replaces = record {
         fits = fits;
         seen = detached;
-        follows = follows d.command c node.label words d.tree.arena.trees m;
+        follows = follows d.command c node.label words d.tree.nodes.arena.trees m;
         names = ap (λ (p : LivePoints). p.names) points_is;
         change = change_is;
         trees = trees;
         points_are = points_is ∙ points_are;
         overrides_are = overrides_is ∙ overrides_are d v is law now_open ok (Replace node.label at count put) (Rewords node words) fits detached (freed_edit (Replace node.label at count put) v.state (may_replace_here own change)) trees;
-        nodes = nodes ∙ (ok.nodes ∙ sym nodes_same);
-        chars = chars ∙ chars_same;
-        depth = (let low = ok.depth in omega (arith, depth_same, low, depth));
       }
 
-      pub replace_done : (arena : Arena) (trail : Trail) → arena ≡ step_applied (Rewords node words) d.tree.arena → trail ≡ with_note d.history (step_inverse (Rewords node words) d.tree.arena) → Done d v (Replace node.label at count put) arena points overrides counts c trail
+      pub replace_done : (arena : Arena) (trail : Trail) → arena ≡ step_applied (Rewords node words) d.tree.nodes.arena → trail ≡ with_note d.history (step_inverse (Rewords node words) d.tree.nodes.arena) → Done d v (Replace node.label at count put) arena points overrides c trail
       replace_done arena trail arena_is trail_is =
-          edit_called d v is law now_open ok (Replace node.label at count put) (Rewords node words) points overrides counts c (may_replace_here own change) replaces arena trail arena_is trail_is
+          edit_called d v is law now_open ok (Replace node.label at count put) (Rewords node words) points overrides c (may_replace_here own change) replaces arena trail arena_is trail_is
 
 pub not_own_replace : (s : State) (n at count : ℕ) (put : List ℕ) → is_own s n ≡ false → is_made_edit (Replace n at count put) s ≡ false
 unfolding is_made_edit may_replace

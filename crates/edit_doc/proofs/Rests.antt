@@ -1,7 +1,6 @@
 -- A document outside commands.
-use Rattle.std.proofs.Common.{◌≡◌, ◌<◌, ◌≤◌, false, [], length, Option, Some, None, IfSome, refl, sym, ap, subst, ◌∙◌, arith}
+use Rattle.std.proofs.Common.{◌≡◌, ◌<◌, false, [], length, Option, Some, None, IfSome, refl, sym, ap, subst, ◌∙◌, arith}
 use Rattle.dom_model.specs.declared.Content.{Content}
-use Rattle.dom_model.specs.Document.{node_count, char_count, page_depth}
 use Rattle.dom_model.specs.Forest.{Forest, tops, times, count_of}
 use Rattle.dom_model.specs.Pruned.{pruned}
 use Rattle.dom_model.specs.ArenaState.{ArenaState as Arena, IsValid as IsArena}
@@ -22,7 +21,7 @@ use Rattle.edit_doc.specs.History.{edits_before, roots_from, begun_forest, fores
 use Rattle.node_arena.specs.declared.NodeRef.{NodeRef}
 use Rattle.edit_doc.specs.Sound.{RefIn, IsIdle, OpenSound, UndoSound, RedoSound, AreNeeded, next_first, IsSoundDoc}
 use Rattle.edit_doc.specs.Trail.{Trail}
-use Rattle.edit_doc.specs.declared.tree.LiveTree.{LiveTree}
+use Rattle.edit_doc.specs.Live.{Live}
 use Rattle.edit_doc.proofs.HiddenTrees.{hidden_is, seen_at_rest, model_forest, placed-whole}
 use Rattle.edit_doc.proofs.MadeNodes.{no_edits, roots-none}
 
@@ -37,7 +36,7 @@ no_host : (o : Option NodeRef) (P : NodeRef → Type 0) → o ≡ None → IfSom
 no_host None P e = tt
 no_host (Some r) P e = absurd (cc)
 
-abbrev pub rested_state : LiveTree → State
+abbrev pub rested_state : Live → State
 rested_state tree = record {
   trees = document_of tree.arena.trees;
   points = tree.points;
@@ -52,7 +51,7 @@ rested_state tree = record {
   made = [];
 }
 
-module _ (tree : LiveTree) (c : Command) (trail : Trail) where
+module _ (tree : Live) (c : Command) (trail : Trail) where
   -- what has to hold of the fields outside commands
   pub record AtRest : Type 0 where
     pub law : IsArena tree.arena
@@ -61,9 +60,6 @@ module _ (tree : LiveTree) (c : Command) (trail : Trail) where
     pub resumed : c.resumed ≡ false
     pub placed : IsPlaced tree.arena.trees tree.points
     pub settings : length tree.overrides ≡ 32
-    pub nodes : tree.counts.nodes ≡ node_count tree.arena.trees
-    pub chars : tree.counts.chars ≡ char_count tree.arena.trees
-    pub depth : page_depth tree.arena.trees ≤ tree.counts.depth
     pub undo : UndoSound tree.arena.held tree.points.names false c (next_first c.start trail.future) tree.arena.trees trail.log.undo trail.past
     pub redo : RedoSound tree.arena.held tree.points.names c tree.arena.trees trail.log.redo trail.future
 
@@ -119,9 +115,6 @@ module _ (tree : LiveTree) (c : Command) (trail : Trail) where
       record {
         valid = subst IsValid (sym (rest_state r)) (valid_rest r);
         some_label = (let s = r.idle.start in let t = r.law.below 0 r.law.document in omega arith);
-        nodes = r.nodes;
-        chars = r.chars;
-        depth = r.depth;
         hidden = λ l h. subst (λ g. 0 < times (tops g) l) e (hidden_is (begun_forest trail.log tree.arena.trees) c.start l h).root;
         running = subst (λ o. OpenSound tree.arena tree.points c (begun_forest trail.log tree.arena.trees) o) (sym r.closed) r.idle;
         resumed = r.resumed ∙ ap is_resumed (sym r.closed);
@@ -144,9 +137,6 @@ module _ (tree : LiveTree) (c : Command) (trail : Trail) where
         resumed = resumed;
         placed = placed-whole tree.arena.trees tree.arena.next f (is_hidden (begun_forest trail.log tree.arena.trees) c.start) refl tree.points ok.valid.placed;
         settings = ok.valid.settings;
-        nodes = ok.nodes;
-        chars = ok.chars;
-        depth = ok.depth;
         undo = subst (λ g. UndoSound tree.arena.held tree.points.names false c (next_first c.start trail.future) g trail.log.undo trail.past) e (subst (λ b. UndoSound tree.arena.held tree.points.names b c (next_first c.start trail.future) (begun_forest trail.log tree.arena.trees) trail.log.undo trail.past) resumed ok.undo);
         redo = subst (λ g. RedoSound tree.arena.held tree.points.names c g trail.log.redo trail.future) e ok.redo;
       }

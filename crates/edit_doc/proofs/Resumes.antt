@@ -22,6 +22,7 @@ use Rattle.edit_doc.specs.History.{forest_before, undo_entries, redo_entries, wh
 use Rattle.edit_doc.specs.History.Way.{Back}
 use Rattle.edit_doc.specs.Sound.{IsSnapshot, UndoSound, next_first, IsSoundDoc}
 use Rattle.edit_doc.specs.Trail.{trail_of}
+use Rattle.edit_doc.specs.Live.{live}
 use Rattle.edit_doc.proofs.Inner.{seen, Ok}
 use Rattle.edit_doc.proofs.Laid.{snapshot_later, undo_later, redo_later, next_first_low, sides_length}
 use Rattle.edit_doc.proofs.Rolls.{snapshot_of}
@@ -60,14 +61,14 @@ swapped_undo held names c m r le same all high f (e ∷ es) (b ∷ bs) new known
       ),
     )
 
-module _ (d : Inside) (law : IsArena d.tree.arena) (closed : d.history.log.open_entry ≡ Closed) (ok : Ok d) where
+module _ (d : Inside) (law : IsArena d.tree.nodes.arena) (closed : d.history.log.open_entry ≡ Closed) (ok : Ok d) where
   pub some_sides : 0 < length d.history.log.undo → 0 < length d.history.past
   some_sides h =
       let r = rest d law closed ok in
-      let n = sides_length d.tree.arena.held d.tree.points.names d.command Back false (next_first d.command.start d.history.future) d.tree.arena.trees d.history.log.undo d.history.past r.undo in
+      let n = sides_length d.tree.nodes.arena.held d.tree.points.names d.command Back false (next_first d.command.start d.history.future) d.tree.nodes.arena.trees d.history.log.undo d.history.past r.undo in
       omega (arith, n, h)
 
-  module _ (k : Kept) (host : Option NodeRef) (keeps : IsKept d.tree.points d.tree.overrides d.tree.flags d.tree.counts k) (us : List EntrySnapshot) (m : Command) (swaps : SwapsLeft d.history.past us d.command m) (n : ℕ) (all : n ≡ length m.detached.items) where
+  module _ (k : Kept) (host : Option NodeRef) (keeps : IsKept d.tree.points d.tree.overrides d.tree.flags d.tree.nodes.counts k) (us : List EntrySnapshot) (m : Command) (swaps : SwapsLeft d.history.past us d.command m) (n : ℕ) (all : n ≡ length m.detached.items) where
     abbrev command : Command
     command = record m { host = host; resumed = true; detached_before = n; kept = k }
 
@@ -87,25 +88,25 @@ module _ (d : Inside) (law : IsArena d.tree.arena) (closed : d.history.log.open_
     start_le : d.command.start ≤ command.start
     start_le = (let e = opens.start in omega (arith, e))
 
-    pub resume_ok : IfHeld (seen d) host → IsSoundDoc d.tree command (trail_of (resumed_log d.history.log) us d.history.future)
+    pub resume_ok : IfHeld (seen d) host → IsSoundDoc (live d.tree) command (trail_of (resumed_log d.history.log) us d.history.future)
     resume_ok held =
         let r = rest d law closed ok in
         let high = next_first d.command.start d.history.future in
-        let low = next_first_low d.tree.arena.held d.tree.points.names d.command d.tree.arena.trees d.history.log.redo d.history.future r.redo in
-        let undo = swapped_undo d.tree.arena.held d.tree.points.names d.command m command start_le refl all high d.tree.arena.trees d.history.log.undo d.history.past us (omega (arith, low, start_le)) swaps r.undo in
+        let low = next_first_low d.tree.nodes.arena.held d.tree.points.names d.command d.tree.nodes.arena.trees d.history.log.redo d.history.future r.redo in
+        let undo = swapped_undo d.tree.nodes.arena.held d.tree.points.names d.command m command start_le refl all high d.tree.nodes.arena.trees d.history.log.undo d.history.past us (omega (arith, low, start_le)) swaps r.undo in
         opened_ok d law closed ok command (resumed_log d.history.log) opens us (λ g h. h) refl (held_host d law closed ok host held)
-        (subst (λ (x : ℕ). UndoSound d.tree.arena.held d.tree.points.names true command (next_first x d.history.future) d.tree.arena.trees d.history.log.undo us) (sym opens.start) undo)
-        (redo_later d.tree.arena.held d.tree.points.names d.command command start_le d.tree.arena.trees d.history.log.redo d.history.future r.redo)
+        (subst (λ (x : ℕ). UndoSound d.tree.nodes.arena.held d.tree.points.names true command (next_first x d.history.future) d.tree.nodes.arena.trees d.history.log.undo us) (sym opens.start) undo)
+        (redo_later d.tree.nodes.arena.held d.tree.points.names d.command command start_le d.tree.nodes.arena.trees d.history.log.redo d.history.future r.redo)
         (needed_now d law closed ok)
 
-    pub resume_is : whole_of d.tree command (trail_of (resumed_log d.history.log) us d.history.future) ≡ opened (label_of host) false true (seen d)
+    pub resume_is : whole_of (live d.tree) command (trail_of (resumed_log d.history.log) us d.history.future) ≡ opened (label_of host) false true (seen d)
     resume_is =
         let r = rest d law closed ok in
         let s = swapped d.history.past us d.command m swaps in
         opened_is d law closed ok command (resumed_log d.history.log) opens us true (λ t. refl)
         (λ i. record {
-          undo = swapped_entries d.tree.points.names d.tree.arena.trees d.history.log.undo d.history.past us d.command m swaps i;
-          redo = redo_entries d.tree.points.names d.tree.arena.trees d.history.log.redo d.history.future;
+          undo = swapped_entries d.tree.points.names d.tree.nodes.arena.trees d.history.log.undo d.history.past us d.command m swaps i;
+          redo = redo_entries d.tree.points.names d.tree.nodes.arena.trees d.history.log.redo d.history.future;
           depth = d.history.log.depth;
           dropped = d.history.log.dropped;
         })

@@ -2,7 +2,6 @@
 use Rattle.std.proofs.Common.{◌≡◌, ℕ, ◌<◌, ◌≤◌, Bool, true, false, List, [], ◌∷◌, length, take, Option, Some, None, refl, sym, ap, subst, ◌∙◌, inl, inr, arith}
 use Rattle.std.specs.Prelude.{IsTrue, nat_le}
 use Rattle.dom_model.specs.declared.Content.{Content}
-use Rattle.dom_model.specs.Document.{node_count, char_count, page_depth}
 use Rattle.dom_model.specs.Forest.{Forest, tops, times, count_of, tree_of, parent_of, first_of, IsDistinct}
 use Rattle.dom_model.specs.Pruned.{pruned, IsWhole}
 use Rattle.dom_model.specs.ArenaState.{ArenaState as Arena, IsValid as IsArena, IsSlotted}
@@ -32,7 +31,6 @@ use Rattle.edit_model.specs.declared.settings.Flags.{Flags}
 use Rattle.edit_model.specs.State.{State}
 use Rattle.edit_model.specs.Valid.{IsPlaced}
 use Rattle.edit_model.specs.History.{History, used, document_of}
-use Rattle.edit_parts.specs.declared.Counts.{Counts}
 use Rattle.edit_doc.specs.declared.Doc.TheInside.{Inside}
 use Rattle.edit_doc.specs.declared.command.EntrySnapshot.{EntrySnapshot}
 use Rattle.edit_doc.specs.declared.command.Sides.{Sides}
@@ -44,8 +42,8 @@ use Rattle.edit_doc.specs.History.{edits_before, roots_from, forest_before, is_h
 use Rattle.edit_doc.specs.History.Way.{Back, Forth}
 use Rattle.edit_doc.specs.Sound.{RefIn, AreFresh, AreAlone, IsSide, IsSnapshot, IsRunning, OpenSound, UndoSound, RedoSound, EntriesOff, AreNeeded, next_first, IsSoundDoc, Lies, turned, bound_of, next_bound, detached_of}
 use Rattle.edit_doc.specs.Trail.{trail_of, IsTrail, Trail}
-use Rattle.edit_doc.specs.Live.{live_of}
-use Rattle.edit_doc.specs.declared.tree.LiveTree.{LiveTree}
+use Rattle.edit_doc.specs.Live.{Live, live_of}
+use Rattle.edit_doc.specs.Counted.{IsCounted}
 use Rattle.edit_doc.proofs.HiddenTrees.{tops_detached, le_false, true_le, false_le, document-pruned, model_forest}
 use Rattle.edit_doc.proofs.Downs.{back_forest, back_bounded, back_labels, Bounded, KeepsLeft, EntriesLeft, side-pruned, lies-pruned, entries-pruned, led_labels, names_here}
 use Rattle.edit_doc.proofs.Inner.{seen, Opened}
@@ -160,7 +158,7 @@ whole_alone g first next once below alone = whole_those (nat_le first) g once (�
 
 -- ---- what a call that ends a command leaves
 
-pub record Leaves (tree : LiveTree) (c : Command) (trail : Trail) (v : Whole) (s : State) (h : History) : Type 0 where
+pub record Leaves (tree : Live) (c : Command) (trail : Trail) (v : Whole) (s : State) (h : History) : Type 0 where
   pub invariant : IsSoundDoc tree c trail
   pub state : state_of tree c trail.log ≡ s
   pub history : history_of tree.points.names (begun_forest trail.log tree.arena.trees) trail ≡ h
@@ -171,11 +169,11 @@ pub record Leaves (tree : LiveTree) (c : Command) (trail : Trail) (v : Whole) (s
 -- The arena at the forest as the command began, or at one where it noted nothing, without what was made since. The labels
 -- may be drawn again from the start on, or stay spent.
 module _ (d : Inside) (during : Opened d) where
-  pub run : IsRunning d.tree.arena d.tree.points.names d.command (noted d.history.log.open_entry) (begun_forest d.history.log d.tree.arena.trees)
-  run = run_of d.tree.arena d.tree.points d.command (begun_forest d.history.log d.tree.arena.trees) d.history.log.open_entry during.opened during.ok.running
+  pub run : IsRunning d.tree.nodes.arena d.tree.points.names d.command (noted d.history.log.open_entry) (begun_forest d.history.log d.tree.nodes.arena.trees)
+  run = run_of d.tree.nodes.arena d.tree.points d.command (begun_forest d.history.log d.tree.nodes.arena.trees) d.history.log.open_entry during.opened during.ok.running
 
   abbrev pub g : Forest Content
-  g = begun_forest d.history.log d.tree.arena.trees
+  g = begun_forest d.history.log d.tree.nodes.arena.trees
 
   abbrev pub xs : List Step
   xs = noted d.history.log.open_entry
@@ -183,20 +181,20 @@ module _ (d : Inside) (during : Opened d) where
   abbrev pub k : ℕ → Bool
   k l = nat_le d.command.start l
 
-  pub fits_of : IsSlotted d.tree.arena → FitsBack step_applied StepFits xs d.tree.arena
-  fits_of slotted = back_fits xs d.tree.arena slotted run.can.1 run.can.0
+  pub fits_of : IsSlotted d.tree.nodes.arena → FitsBack step_applied StepFits xs d.tree.nodes.arena
+  fits_of slotted = back_fits xs d.tree.nodes.arena slotted run.can.1 run.can.0
 
   pub forest_g : IsForest g
-  forest_g = back_forest (changes_of xs) d.tree.arena.trees run.can.0 (forest_of d.tree.arena during.law)
+  forest_g = back_forest (changes_of xs) d.tree.nodes.arena.trees run.can.0 (forest_of d.tree.nodes.arena during.law)
 
   pub bound_g : Bounded g
-  bound_g = back_bounded xs d.tree.arena.trees run.can.0 (record { next = d.tree.arena.next; below = during.law.below })
+  bound_g = back_bounded xs d.tree.nodes.arena.trees run.can.0 (record { next = d.tree.nodes.arena.next; below = during.law.below })
 
-  pub below_g : (l : ℕ) → 0 < count_of g l → l < d.tree.arena.next
-  below_g l here = during.law.below l (let s = back_labels (changes_of xs) d.tree.arena.trees l run.can.0 in omega arith)
+  pub below_g : (l : ℕ) → 0 < count_of g l → l < d.tree.nodes.arena.next
+  below_g l here = during.law.below l (let s = back_labels (changes_of xs) d.tree.nodes.arena.trees l run.can.0 in omega arith)
 
   pub whole_g : IsWhole k g
-  whole_g = whole_alone g d.command.start d.tree.arena.next forest_g.distinct below_g run.made
+  whole_g = whole_alone g d.command.start d.tree.nodes.arena.next forest_g.distinct below_g run.made
 
   pub prunes_g : Prunes k g
   prunes_g = prunes_whole k g forest_g (le_false d.command.start 0 during.ok.some_label) whole_g
@@ -205,22 +203,22 @@ module _ (d : Inside) (during : Opened d) where
   stays_g l low here = (let s = whole_stays k g forest_g.distinct whole_g l (le_false d.command.start l low) in omega (arith, s, here))
 
   pub undo_detached_g : EntriesLeft k g d.history.log.undo
-  undo_detached_g = lies_detached k g d.tree.arena.held d.tree.points.names d.command stays_g Back d.command.resumed (next_first d.command.start d.history.future) g d.history.log.undo d.history.past (λ l. refl) during.ok.undo
+  undo_detached_g = lies_detached k g d.tree.nodes.arena.held d.tree.points.names d.command stays_g Back d.command.resumed (next_first d.command.start d.history.future) g d.history.log.undo d.history.past (λ l. refl) during.ok.undo
 
   pub redo_detached_g : EntriesLeft k g d.history.log.redo
-  redo_detached_g = lies_detached k g d.tree.arena.held d.tree.points.names d.command stays_g Forth false 0 g d.history.log.redo d.history.future (λ l. refl) during.ok.redo
+  redo_detached_g = lies_detached k g d.tree.nodes.arena.held d.tree.points.names d.command stays_g Forth false 0 g d.history.log.redo d.history.future (λ l. refl) during.ok.redo
 
   -- the arena without them
   pub record Without (a : Arena) : Type 0 where
     pub valid : IsArena a
     pub trees : a.trees ≡ pruned k g
     pub next : d.command.start ≤ a.next
-    pub cap : a.cap ≡ d.tree.arena.cap
-    pub held : (q : NodeRef) → RefIn d.tree.arena.held q → q.label < d.command.start → RefIn a.held q
+    pub cap : a.cap ≡ d.tree.nodes.arena.cap
+    pub held : (q : NodeRef) → RefIn d.tree.nodes.arena.held q → q.label < d.command.start → RefIn a.held q
 
   -- the fields afterwards
   module _ (a : Arena) (w : Without a) (us : List EntrySnapshot) (forgets : Forgets d.history.past us d.command) (c : Command) (ended : IsEnded a.next c) (log : Log Step) (closed : log.open_entry ≡ Closed) (depth : log.depth ≡ d.history.log.depth) (dropped : log.dropped ≡ d.history.log.dropped) (undo_is : log.undo ≡ d.history.log.undo) (redo_is : log.redo ≡ d.history.log.redo) where
-    keeps : KeepsLeft k g d.tree.arena.held a.held
+    keeps : KeepsLeft k g d.tree.nodes.arena.held a.held
     keeps q h detached = w.held q h (false_le d.command.start q.label (prunes_g.out q.label detached))
 
     start_le : d.command.start ≤ c.start
@@ -233,12 +231,12 @@ module _ (d : Inside) (during : Opened d) where
     undo_sound =
         subst (λ t. UndoSound a.held d.tree.points.names false d.command high t d.history.log.undo us) (sym w.trees)
         (undo_forgets a.held d.tree.points.names d.command d.command.resumed high (pruned k g) d.history.log.undo d.history.past us forgets
-        (lies-pruned k d.tree.arena.held a.held d.tree.points.names d.command Back d.command.resumed high g d.history.log.undo d.history.past prunes_g forest_g bound_g keeps undo_detached_g during.ok.undo))
+        (lies-pruned k d.tree.nodes.arena.held a.held d.tree.points.names d.command Back d.command.resumed high g d.history.log.undo d.history.past prunes_g forest_g bound_g keeps undo_detached_g during.ok.undo))
 
     redo_sound : RedoSound a.held d.tree.points.names d.command a.trees d.history.log.redo d.history.future
     redo_sound =
         subst (λ t. RedoSound a.held d.tree.points.names d.command t d.history.log.redo d.history.future) (sym w.trees)
-        (lies-pruned k d.tree.arena.held a.held d.tree.points.names d.command Forth false 0 g d.history.log.redo d.history.future prunes_g forest_g bound_g keeps redo_detached_g during.ok.redo)
+        (lies-pruned k d.tree.nodes.arena.held a.held d.tree.points.names d.command Forth false 0 g d.history.log.redo d.history.future prunes_g forest_g bound_g keeps redo_detached_g during.ok.redo)
 
     high_le : high ≤ next_first c.start d.history.future
     high_le = by_case d.history.future
@@ -250,10 +248,10 @@ module _ (d : Inside) (during : Opened d) where
     high_known : next_first c.start d.history.future ≤ c.start
     high_known = next_first_low a.held d.tree.points.names c a.trees d.history.log.redo d.history.future (redo_later a.held d.tree.points.names d.command c start_le a.trees d.history.log.redo d.history.future redo_sound)
 
-    pub without_rest : (points : LivePoints) (overrides : List Setting) (flags : Flags) (counts : Counts) →
-        points.names ≡ d.tree.points.names → points.scratch ≡ None → IsPlaced a.trees points → length overrides ≡ 32 → counts.nodes ≡ node_count a.trees → counts.chars ≡ char_count a.trees → page_depth a.trees ≤ counts.depth →
-        AtRest (live_of a points overrides flags counts) c (trail_of log us d.history.future)
-    without_rest points overrides flags counts names scratch placed settings nodes chars deep = record {
+    pub without_rest : (points : LivePoints) (overrides : List Setting) (flags : Flags) →
+        points.names ≡ d.tree.points.names → points.scratch ≡ None → IsPlaced a.trees points → length overrides ≡ 32 →
+        AtRest (live_of a points overrides flags) c (trail_of log us d.history.future)
+    without_rest points overrides flags names scratch placed settings = record {
       law = w.valid;
       closed = closed;
       idle = record {
@@ -268,9 +266,6 @@ module _ (d : Inside) (during : Opened d) where
       resumed = ended.resumed;
       placed = placed;
       settings = settings;
-      nodes = nodes;
-      chars = chars;
-      depth = deep;
       undo = subst (λ es. UndoSound a.held points.names false c (next_first c.start d.history.future) a.trees es us) (sym undo_is)
           (subst (λ ns. UndoSound a.held ns false c (next_first c.start d.history.future) a.trees d.history.log.undo us) (sym names)
           (undo_later a.held d.tree.points.names d.command c start_le high (next_first c.start d.history.future) a.trees d.history.log.undo us high_le high_known undo_sound));
@@ -297,8 +292,8 @@ module _ (d : Inside) (during : Opened d) where
         })
         ∙ (λ i. record {
           undo = (entries_forget a.held d.tree.points.names d.command d.command.resumed (pruned k g) d.history.log.undo d.history.past us forgets
-              ∙ entries-pruned k d.tree.arena.held a.held d.tree.points.names d.command Back d.command.resumed high g d.history.log.undo d.history.past prunes_g forest_g bound_g undo_detached_g during.ok.undo) i;
-          redo = entries-pruned k d.tree.arena.held a.held d.tree.points.names d.command Forth false 0 g d.history.log.redo d.history.future prunes_g forest_g bound_g redo_detached_g during.ok.redo i;
+              ∙ entries-pruned k d.tree.nodes.arena.held a.held d.tree.points.names d.command Back d.command.resumed high g d.history.log.undo d.history.past prunes_g forest_g bound_g undo_detached_g during.ok.undo) i;
+          redo = entries-pruned k d.tree.nodes.arena.held a.held d.tree.points.names d.command Forth false 0 g d.history.log.redo d.history.future prunes_g forest_g bound_g redo_detached_g during.ok.redo i;
           depth = d.history.log.depth;
           dropped = d.history.log.dropped;
         })
@@ -315,9 +310,12 @@ module _ (d : Inside) (during : Opened d) where
       true_is true e = refl
       true_is false e = absurd (cc)
 
-  module _ (slotted : IsSlotted d.tree.arena) (a1 : Arena) (abandons : a1 ≡ start step_applied d.history.log d.tree.arena) where
-    pub back_is : a1 ≡ record d.tree.arena { trees = g }
-    back_is = abandons ∙ (started_at d.history.log.open_entry d.tree.arena during.opened ∙ (go_back xs d.tree.arena (fits_of slotted)).state)
+  module _ (slotted : IsSlotted d.tree.nodes.arena) (a1 : Arena) (abandons : a1 ≡ start step_applied d.history.log d.tree.nodes.arena) where
+    pub back_is : a1 ≡ record d.tree.nodes.arena { trees = g }
+    back_is = abandons ∙ (started_at d.history.log.open_entry d.tree.nodes.arena during.opened ∙ (go_back xs d.tree.nodes.arena (fits_of slotted)).state)
+
+    pub counted_back : IsCounted (start step_applied d.history.log d.tree.nodes.arena).trees d.command.kept.counts
+    counted_back = subst (λ (b : Arena). IsCounted b.trees d.command.kept.counts) (sym back_is ∙ abandons) (record { nodes = run.kept.nodes_are; chars = run.kept.chars_are; depth = run.kept.no_deeper })
 
     pub drop_whole : IsWhole k a1.trees
     drop_whole = subst (λ (b : Arena). IsWhole k b.trees) (sym back_is) whole_g
@@ -339,19 +337,16 @@ module _ (d : Inside) (during : Opened d) where
         abbrev log' : Log Step
         log' = abandoned d.history.log
 
-        resting : AtRest (live_of a3 kept_points d.command.kept.overrides d.command.kept.flags d.command.kept.counts) c (trail_of log' us d.history.future)
+        resting : AtRest (live_of a3 kept_points d.command.kept.overrides d.command.kept.flags) c (trail_of log' us d.history.future)
         resting =
             let side = side-pruned k prunes_g.document d.tree.points.names g d.command.kept.places d.command.kept.counts.nodes d.command.kept.counts.chars d.command.kept.counts.depth forest_g bound_g run.kept in
-            without_rest a3 rolled us forgets c ended log' refl refl refl refl refl kept_points d.command.kept.overrides d.command.kept.flags d.command.kept.counts
+            without_rest a3 rolled us forgets c ended log' refl refl refl refl refl kept_points d.command.kept.overrides d.command.kept.flags
             refl side.resting
             (subst (λ t. IsPlaced t kept_points) (sym rolled.trees) side.placed)
             run.settings
-            (side.nodes_are ∙ ap node_count (sym rolled.trees))
-            (side.chars_are ∙ ap char_count (sym rolled.trees))
-            (subst (λ t. page_depth t ≤ d.command.kept.counts.depth) (sym rolled.trees) side.no_deeper)
 
-        rolled_ok : IsSoundDoc (live_of a3 kept_points d.command.kept.overrides d.command.kept.flags d.command.kept.counts) c (trail_of log' us d.history.future)
-        rolled_ok = rest_sound (live_of a3 kept_points d.command.kept.overrides d.command.kept.flags d.command.kept.counts) c (trail_of log' us d.history.future) resting
+        rolled_ok : IsSoundDoc (live_of a3 kept_points d.command.kept.overrides d.command.kept.flags) c (trail_of log' us d.history.future)
+        rolled_ok = rest_sound (live_of a3 kept_points d.command.kept.overrides d.command.kept.flags) c (trail_of log' us d.history.future) resting
             (without_needed a3 rolled us forgets c ended log' refl refl refl refl refl)
 
         begun_is : (o : Open Step) (s t : State) → IsTrue (is_open o) → t ≡ rolled_to s (began_with t o)
@@ -365,10 +360,10 @@ module _ (d : Inside) (during : Opened d) where
         next_is : a3.next ≡ d.command.start
         next_is = ap (λ (b : Arena). b.next) rewinds
 
-        rolled_state : (v : Whole) → seen d ≡ v → state_of (live_of a3 kept_points d.command.kept.overrides d.command.kept.flags d.command.kept.counts) c log' ≡ state_rolled_back v
+        rolled_state : (v : Whole) → seen d ≡ v → state_of (live_of a3 kept_points d.command.kept.overrides d.command.kept.flags) c log' ≡ state_rolled_back v
         unfolding state_rolled_back
         rolled_state v sees =
-            rest_state (live_of a3 kept_points d.command.kept.overrides d.command.kept.flags d.command.kept.counts) c (trail_of log' us d.history.future) resting
+            rest_state (live_of a3 kept_points d.command.kept.overrides d.command.kept.flags) c (trail_of log' us d.history.future) resting
             ∙ ((λ i. record {
               trees = document_is i;
               points = kept_points;
@@ -382,7 +377,7 @@ module _ (d : Inside) (during : Opened d) where
               edits = [];
               made = [];
             })
-            ∙ (begun_is d.history.log.open_entry (seen d).state (begun_state d.tree.arena d.tree.points.names d.command d.history.log) during.opened ∙ ap state_rolled_back sees))
+            ∙ (begun_is d.history.log.open_entry (seen d).state (begun_state d.tree.nodes.arena d.tree.points.names d.command d.history.log) during.opened ∙ ap state_rolled_back sees))
 
         rolled_history : (v : Whole) → seen d ≡ v → history_of d.tree.points.names (begun_forest log' a3.trees) (trail_of log' us d.history.future) ≡ v.history
         rolled_history v sees =
@@ -393,7 +388,7 @@ module _ (d : Inside) (during : Opened d) where
         by_detached l here = false_le d.command.start l (prunes_g.out l (subst (λ t. 0 < count_of t l) rolled.trees here))
 
         abbrev rolled_whole : Whole
-        rolled_whole = whole_of (live_of a3 kept_points d.command.kept.overrides d.command.kept.flags d.command.kept.counts) c (trail_of log' us d.history.future)
+        rolled_whole = whole_of (live_of a3 kept_points d.command.kept.overrides d.command.kept.flags) c (trail_of log' us d.history.future)
 
         rolled_keeps : (v : Whole) → seen d ≡ v → KeepsThere v rolled_whole
         rolled_keeps v sees =
@@ -403,5 +398,5 @@ module _ (d : Inside) (during : Opened d) where
             }) in
             subst (λ (w : Whole). KeepsThere w rolled_whole) sees own
 
-        pub rolls : (v : Whole) → seen d ≡ v → Leaves (live_of a3 kept_points d.command.kept.overrides d.command.kept.flags d.command.kept.counts) c (trail_of log' us d.history.future) v (state_rolled_back v) v.history
+        pub rolls : (v : Whole) → seen d ≡ v → Leaves (live_of a3 kept_points d.command.kept.overrides d.command.kept.flags) c (trail_of log' us d.history.future) v (state_rolled_back v) v.history
         rolls v sees = record { invariant = rolled_ok; state = rolled_state v sees; history = rolled_history v sees; keeps = rolled_keeps v sees }

@@ -16,7 +16,7 @@ use Rattle.edit_doc.specs.declared.command.Command.{Command}
 use Rattle.edit_doc.specs.History.{begun_forest, is_hidden}
 use Rattle.edit_doc.specs.Sound.{IsRunning, OpenSound, IsSoundDoc, detached_of, next_first}
 use Rattle.edit_doc.specs.Trail.{Trail}
-use Rattle.edit_doc.specs.declared.tree.LiveTree.{LiveTree}
+use Rattle.edit_doc.specs.Live.{Live}
 use Rattle.edit_doc.proofs.Changing.{undo_carried}
 use Rattle.edit_doc.proofs.Laid.{redo_later}
 
@@ -49,14 +49,11 @@ module _ (c : Command) (l : _) (e : (record c { detached = l }).detached.items �
   opens a points g (Begun xs) h = runs a points.names (noted (Begun xs)) g h
   opens a points g (Resumed xs) h = runs a points.names (noted (Resumed xs)) g h
 
-  pub room_made : (tree : LiveTree) (trail : Trail) →
+  pub room_made : (tree : Live) (trail : Trail) →
       IsSoundDoc tree c trail → IsSoundDoc tree d trail
   room_made tree trail ok = record {
     valid = ok.valid;
     some_label = ok.some_label;
-    nodes = ok.nodes;
-    chars = ok.chars;
-    depth = ok.depth;
     hidden = ok.hidden;
     running = opens tree.arena tree.points (begun_forest trail.log tree.arena.trees) trail.log.open_entry ok.running;
     resumed = ok.resumed;

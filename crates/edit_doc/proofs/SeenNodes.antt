@@ -25,16 +25,16 @@ use Rattle.edit_doc.proofs.SeenLookUps.{first_detached, last_detached, prev_deta
 
 -- the trees that are hidden
 abbrev pub out_of : Inside → ℕ → Bool
-out_of d = is_hidden (begun_forest d.history.log d.tree.arena.trees) d.command.start
+out_of d = is_hidden (begun_forest d.history.log d.tree.nodes.arena.trees) d.command.start
 
 -- the label stands in the trees that are seen
 abbrev pub IsSeen : Inside → ℕ → Type 0
-IsSeen d l = 0 < count_of (pruned (out_of d) d.tree.arena.trees) l
+IsSeen d l = 0 < count_of (pruned (out_of d) d.tree.nodes.arena.trees) l
 
 pub held_seen : (d : Inside) (v : Whole) → seen d ≡ v → (r : NodeRef) → Holds v r → Holds (seen d) r
 held_seen d v is r h = subst (λ w. Holds w r) (sym is) h
 
-pub shows_of : (d : Inside) → IsArena d.tree.arena → (v : Whole) → seen d ≡ v → Shows v d.tree.arena
+pub shows_of : (d : Inside) → IsArena d.tree.nodes.arena → (v : Whole) → seen d ≡ v → Shows v d.tree.nodes.arena
 shows_of d law v is = record {
   law = law;
   part = record { detached_out = out_of d; not_document = refl; is = sym (ap (λ (w : Whole). w.state.trees) is) };

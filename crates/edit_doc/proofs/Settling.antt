@@ -21,6 +21,7 @@ use Rattle.edit_parts.specs.declared.overrides.Watch.{Watch}
 use Rattle.edit_parts.specs.Following.{Watches, settled}
 use Rattle.edit_doc.specs.declared.Doc.TheInside.{Inside}
 use Rattle.edit_doc.specs.Whole.{Whole, IsOpen}
+use Rattle.edit_doc.specs.Live.{live}
 use Rattle.edit_doc.proofs.Inner.{seen, seen as seen_of, Ok, open_of}
 use Rattle.edit_doc.proofs.SeenNodes.{out_of}
 use Rattle.edit_doc.proofs.Changing.{goes}
@@ -28,24 +29,24 @@ use Rattle.edit_doc.proofs.HiddenTrees.{model_forest, placed-whole}
 use Rattle.edit_doc.proofs.Rests.{arena_forest}
 use Rattle.edit_doc.proofs.Settled.{settled_seen}
 
-module _ (d : Inside) (law : IsArena d.tree.arena) (ok : Ok d) where
-  pub points_now : IsPlaced d.tree.arena.trees d.tree.points
-  points_now = placed-whole d.tree.arena.trees d.tree.arena.next (arena_forest d.tree.arena law) (out_of d) refl d.tree.points ok.valid.placed
+module _ (d : Inside) (law : IsArena d.tree.nodes.arena) (ok : Ok d) where
+  pub points_now : IsPlaced d.tree.nodes.arena.trees d.tree.points
+  points_now = placed-whole d.tree.nodes.arena.trees d.tree.nodes.arena.next (arena_forest d.tree.nodes.arena law) (out_of d) refl d.tree.points ok.valid.placed
 
-module _ (d : Inside) (v : Whole) (is : seen d ≡ v) (law : IsArena d.tree.arena) (now_open : IsOpen v) (ok : Ok d)
-    (e : Edit) (x : Step) (fits : StepFits x d.tree.arena) (detached : Each (IsLeft (out_of d) d.tree.arena.trees) (named (change_of x))) (may : is_made_edit e (freed v.state) ≡ true)
-    (trees : applied (change_of x) (pruned (out_of d) d.tree.arena.trees) ≡ trees_after e (pruned (out_of d) d.tree.arena.trees)) where
+module _ (d : Inside) (v : Whole) (is : seen d ≡ v) (law : IsArena d.tree.nodes.arena) (now_open : IsOpen v) (ok : Ok d)
+    (e : Edit) (x : Step) (fits : StepFits x d.tree.nodes.arena) (detached : Each (IsLeft (out_of d) d.tree.nodes.arena.trees) (named (change_of x))) (may : is_made_edit e (freed v.state) ≡ true)
+    (trees : applied (change_of x) (pruned (out_of d) d.tree.nodes.arena.trees) ≡ trees_after e (pruned (out_of d) d.tree.nodes.arena.trees)) where
   abbrev f : Forest Content
-  f = d.tree.arena.trees
+  f = d.tree.nodes.arena.trees
 
   abbrev g : Forest Content
-  g = applied (change_of x) d.tree.arena.trees
+  g = applied (change_of x) d.tree.nodes.arena.trees
 
   abbrev after : LivePoints
-  after = points_after e (pruned (out_of d) d.tree.arena.trees) d.tree.points
+  after = points_after e (pruned (out_of d) d.tree.nodes.arena.trees) d.tree.points
 
-  down : GoesDown (out_of d) (change_of x) d.tree.arena.trees
-  down = goes d.tree d.command d.history law (open_of d v is now_open) ok x fits detached
+  down : GoesDown (out_of d) (change_of x) d.tree.nodes.arena.trees
+  down = goes (live d.tree) d.command d.history law (open_of d v is now_open) ok x fits detached
 
   pruned_is : pruned (out_of d) g ≡ trees_after e (pruned (out_of d) f)
   pruned_is = down.same ∙ trees
@@ -56,14 +57,14 @@ module _ (d : Inside) (v : Whole) (is : seen d ≡ v) (law : IsArena d.tree.aren
   placed_seen : IsPlaced (pruned (out_of d) g) after
   placed_seen = subst (λ t. IsPlaced t after) (sym pruned_is) (made_placed e (freed (seen_of d).state) (valid_freed (seen_of d).state ok.valid) may_seen)
 
-  forest_next : IsForest g d.tree.arena.next
-  forest_next = model_forest g (IsForest-applied (change_of x) f fits.fits) d.tree.arena.next (λ l h. law.below l (let same = count_of-applied (change_of x) f fits.fits l in omega (arith, h, same)))
+  forest_next : IsForest g d.tree.nodes.arena.next
+  forest_next = model_forest g (IsForest-applied (change_of x) f fits.fits) d.tree.nodes.arena.next (λ l h. law.below l (let same = count_of-applied (change_of x) f fits.fits l in omega (arith, h, same)))
 
   pub points_next : IsPlaced g after
-  points_next = placed-whole g d.tree.arena.next forest_next (out_of d) refl after placed_seen
+  points_next = placed-whole g d.tree.nodes.arena.next forest_next (out_of d) refl after placed_seen
 
   abbrev pub overrides_next : List Setting
-  overrides_next = settled d.tree.arena.trees d.tree.points (applied (change_of x) d.tree.arena.trees) (points_after e (pruned (out_of d) d.tree.arena.trees) d.tree.points) d.tree.overrides
+  overrides_next = settled d.tree.nodes.arena.trees d.tree.points (applied (change_of x) d.tree.nodes.arena.trees) (points_after e (pruned (out_of d) d.tree.nodes.arena.trees) d.tree.points) d.tree.overrides
 
   pub overrides_are : overrides_next ≡ overrides_after (seen_of d).state (trees_after e (pruned (out_of d) f)) after
   overrides_are =
@@ -71,11 +72,11 @@ module _ (d : Inside) (v : Whole) (is : seen d ≡ v) (law : IsArena d.tree.aren
       ∙ ap (λ t. overrides_after (seen_of d).state t after) pruned_is
 
   -- what settling writes
-  pub settled_items : (new : List Setting) (n : LivePoints) (a : Arena) (w : Option Watch) → n ≡ after → a ≡ step_applied x d.tree.arena →
-      Watches d.tree.arena.trees d.tree.points d.tree.overrides w → ((h : Forest Content) (b : LivePoints) → Watches h b d.tree.overrides w → new ≡ settled h b a.trees n d.tree.overrides) → new ≡ overrides_next
+  pub settled_items : (new : List Setting) (n : LivePoints) (a : Arena) (w : Option Watch) → n ≡ after → a ≡ step_applied x d.tree.nodes.arena →
+      Watches d.tree.nodes.arena.trees d.tree.points d.tree.overrides w → ((h : Forest Content) (b : LivePoints) → Watches h b d.tree.overrides w → new ≡ settled h b a.trees n d.tree.overrides) → new ≡ overrides_next
   unfolding step_applied
   settled_items new n a w en ea watches settles = settles f d.tree.points watches ∙ (λ i. settled f d.tree.points (ea i).trees (en i) d.tree.overrides)
 
-  pub placed_called : (n : LivePoints) (a : Arena) → n ≡ after → a ≡ step_applied x d.tree.arena → IsPlaced a.trees n
+  pub placed_called : (n : LivePoints) (a : Arena) → n ≡ after → a ≡ step_applied x d.tree.nodes.arena → IsPlaced a.trees n
   unfolding step_applied
   placed_called n a en ea = subst (λ (b : Arena). IsPlaced b.trees n) (sym ea) (subst (IsPlaced g) (sym en) points_next)

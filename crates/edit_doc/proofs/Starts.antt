@@ -2,7 +2,6 @@
 use Rattle.std.proofs.Common.{◌≡◌, ℕ, ◌<◌, false, [], ◌∷◌, length, None, refl, sym, ap, subst, ◌∙◌, arith, zero, suc, eqb}
 use Rattle.std.proofs.lemmas.Bool.Decides.{nat_tests}
 use Rattle.dom_model.specs.declared.Content.{Content}
-use Rattle.dom_model.specs.Document.{node_count, char_count, page_depth}
 use Rattle.dom_model.specs.Forest.{Forest, tops, times}
 use Rattle.dom_model.specs.Forest.Forest.{Nil, Tree}
 use Rattle.dom_model.specs.ArenaState.{ArenaState as Arena, IsValid as IsArena}
@@ -13,7 +12,6 @@ use Rattle.std.proofs.lemmas.List.Elements.{All-nil}
 use Rattle.edit_model.specs.History.{document_of}
 use Rattle.edit_model.specs.Overrides.{no_overrides}
 use Rattle.edit_model.proofs.Documents.{document_shape}
-use Rattle.edit_parts.specs.declared.Counts.{Counts}
 use Rattle.edit_doc.specs.declared.command.Command.{Command}
 use Rattle.edit_doc.specs.Fields.{IsEnded}
 use Rattle.edit_doc.specs.Whole.{HasNoLoose, first_doc, first_state}
@@ -34,11 +32,11 @@ alone_is f next is h =
     none Nil e = refl
     none (Tree m c ks rest) e = absurd (omega (arith, e))
 
-module _ (a : Arena) (law : IsArena a) (loose : HasNoLoose a) (depth : ℕ) (counts : Counts) (nodes : counts.nodes ≡ node_count a.trees) (chars : counts.chars ≡ char_count a.trees) (deep : counts.depth ≡ page_depth a.trees) (c : Command) (ended : IsEnded a.next c) where
+module _ (a : Arena) (law : IsArena a) (loose : HasNoLoose a) (depth : ℕ) (c : Command) (ended : IsEnded a.next c) where
   abbrev flags : Flags
   flags = record { css_styling = false; paragraphs = false }
 
-  fresh : AtRest (live_of a no_points no_overrides flags counts) c (first_trail depth)
+  fresh : AtRest (live_of a no_points no_overrides flags) c (first_trail depth)
   fresh = record {
     law = law;
     closed = refl;
@@ -54,9 +52,6 @@ module _ (a : Arena) (law : IsArena a) (loose : HasNoLoose a) (depth : ℕ) (cou
     resumed = ended.resumed;
     placed = record { selection = tt; scratch = tt; marks = All-nil (λ m. IsPlacedPair a.trees m.1) };
     settings = unset_length;
-    nodes = nodes;
-    chars = chars;
-    depth = omega (arith, deep);
     undo = tt;
     redo = tt;
   }
@@ -68,12 +63,12 @@ module _ (a : Arena) (law : IsArena a) (loose : HasNoLoose a) (depth : ℕ) (cou
       alone zero h t = absurd (omega (arith, h))
       alone (suc n) h t = absurd (let e : eqb 0 (suc n) ≡ false = grind (arith, nat_tests) in let t' = rw e at t in omega (arith, t'))
 
-  pub new_ok : IsSoundDoc (live_of a no_points no_overrides flags counts) c (first_trail depth)
-  new_ok = rest_sound (live_of a no_points no_overrides flags counts) c (first_trail depth) fresh none_needed
+  pub new_ok : IsSoundDoc (live_of a no_points no_overrides flags) c (first_trail depth)
+  new_ok = rest_sound (live_of a no_points no_overrides flags) c (first_trail depth) fresh none_needed
 
-  pub new_is : whole_of (live_of a no_points no_overrides flags counts) c (first_trail depth) ≡ first_doc a depth
+  pub new_is : whole_of (live_of a no_points no_overrides flags) c (first_trail depth) ≡ first_doc a depth
   unfolding first_doc first_state
-  new_is = rest_whole (live_of a no_points no_overrides flags counts) c (first_trail depth) fresh
+  new_is = rest_whole (live_of a no_points no_overrides flags) c (first_trail depth) fresh
       ∙ (λ i. record {
         state = record {
           trees = alone_is a.trees a.next (arena_forest a law) loose i;

@@ -16,6 +16,7 @@ use Rattle.edit_doc.specs.Whole.{Whole, IsClosed, IsDoc}
 use Rattle.edit_doc.specs.Held.{Holds, Finds, IfHeld}
 use Rattle.edit_doc.specs.Shows.{Shows}
 use Rattle.edit_doc.specs.Sound.{RefIn}
+use Rattle.edit_doc.specs.Live.{live}
 use Rattle.edit_doc.proofs.HiddenTrees.{node_count-pruned, char_count-pruned, page_depth-pruned, document_here}
 use Rattle.edit_doc.proofs.Inner.{seen, Ok, closed_of}
 use Rattle.edit_doc.proofs.Laid.{undo_count}
@@ -29,14 +30,14 @@ document_twice f next is = let s = document_shape f next is in subst (λ g. tree
 no_scratch : (p : LivePoints) → p.scratch ≡ None → record p { scratch = None } ≡ p
 no_scratch p e = λ i. record p { scratch = sym e i }
 
-module _ (d : Inside) (law : IsArena d.tree.arena) (ok : Ok d) where
+module _ (d : Inside) (law : IsArena d.tree.nodes.arena) (ok : Ok d) where
   at_rest : IsClosed (seen d) → rested (seen d).state ≡ (seen d).state
   unfolding rested
   at_rest closed =
-      let rest = rest_of d.tree d.command d.history law (closed_of d (seen d) refl closed) ok in
-      let e = rest_state d.tree d.command d.history rest in
-      ap rested e ∙ ((λ i. record (rested_state d.tree) {
-        trees = document_twice d.tree.arena.trees d.tree.arena.next (arena_forest d.tree.arena law) i;
+      let rest = rest_of (live d.tree) d.command d.history law (closed_of d (seen d) refl closed) ok in
+      let e = rest_state (live d.tree) d.command d.history rest in
+      ap rested e ∙ ((λ i. record (rested_state (live d.tree)) {
+        trees = document_twice d.tree.nodes.arena.trees d.tree.nodes.arena.next (arena_forest d.tree.nodes.arena law) i;
         points = no_scratch d.tree.points rest.idle.scratch i;
       }) ∙ sym e)
 
@@ -49,20 +50,20 @@ module _ (d : Inside) (law : IsArena d.tree.arena) (ok : Ok d) where
     within = (let n = undo_count d (seen d) refl ok in let w = log.within in omega (arith, n, w));
   })
 
-  pub nodes_are : (v : Whole) → seen d ≡ v → d.tree.counts.nodes ≡ node_count v.state.trees
-  nodes_are v is = subst (λ (w : Whole). d.tree.counts.nodes ≡ node_count w.state.trees) is (ok.nodes ∙ sym (node_count-pruned d.tree.arena.trees d.tree.arena.next (arena_forest d.tree.arena law) (out_of d) refl))
+  pub nodes_are : (v : Whole) → seen d ≡ v → d.tree.nodes.counts.nodes ≡ node_count v.state.trees
+  nodes_are v is = subst (λ (w : Whole). d.tree.nodes.counts.nodes ≡ node_count w.state.trees) is (d.tree.nodes.counted.nodes ∙ sym (node_count-pruned d.tree.nodes.arena.trees d.tree.nodes.arena.next (arena_forest d.tree.nodes.arena law) (out_of d) refl))
 
-  pub chars_are : (v : Whole) → seen d ≡ v → d.tree.counts.chars ≡ char_count v.state.trees
-  chars_are v is = subst (λ (w : Whole). d.tree.counts.chars ≡ char_count w.state.trees) is (ok.chars ∙ sym (char_count-pruned d.tree.arena.trees d.tree.arena.next (arena_forest d.tree.arena law) (out_of d) refl))
+  pub chars_are : (v : Whole) → seen d ≡ v → d.tree.nodes.counts.chars ≡ char_count v.state.trees
+  chars_are v is = subst (λ (w : Whole). d.tree.nodes.counts.chars ≡ char_count w.state.trees) is (d.tree.nodes.counted.chars ∙ sym (char_count-pruned d.tree.nodes.arena.trees d.tree.nodes.arena.next (arena_forest d.tree.nodes.arena law) (out_of d) refl))
 
-  pub depth_is : (v : Whole) → seen d ≡ v → page_depth v.state.trees ≤ d.tree.counts.depth
-  depth_is v is = subst (λ (w : Whole). page_depth w.state.trees ≤ d.tree.counts.depth) is (subst (λ n. n ≤ d.tree.counts.depth) (sym (page_depth-pruned d.tree.arena.trees d.tree.arena.next (arena_forest d.tree.arena law) (out_of d) refl)) ok.depth)
+  pub depth_is : (v : Whole) → seen d ≡ v → page_depth v.state.trees ≤ d.tree.nodes.counts.depth
+  depth_is v is = subst (λ (w : Whole). page_depth w.state.trees ≤ d.tree.nodes.counts.depth) is (subst (λ n. n ≤ d.tree.nodes.counts.depth) (sym (page_depth-pruned d.tree.nodes.arena.trees d.tree.nodes.arena.next (arena_forest d.tree.nodes.arena law) (out_of d) refl)) d.tree.nodes.counted.depth)
 
 pub document_held : {v : Whole} {a : Arena} → Shows v a → (r : NodeRef) → r.label ≡ 0 → HoldsNode a r → Holds v r
 document_held {v} {a} s r e held = holds_shown s r held (subst (λ l. 0 < count_of v.state.trees l) (sym e) (subst (λ t. 0 < count_of t 0) (sym s.part.is) (document_here a.trees a.next (arena_forest a s.law) s.part.detached_out s.part.not_document)))
 
 module _ (d : Inside) (ok : Ok d) where
-  host_held : (o : Option NodeRef) → IfSome o (λ h. RefIn d.tree.arena.held h × IsSeen d h.label) → IfHeld (seen d) o
+  host_held : (o : Option NodeRef) → IfSome o (λ h. RefIn d.tree.nodes.arena.held h × IsSeen d h.label) → IfHeld (seen d) o
   host_held None h = tt
   host_held (Some r) h = record { slot = h.0; here = h.1 }
 

@@ -1,9 +1,8 @@
 -- An entry is taken back, or forth again.
-use Rattle.std.proofs.Common.{◌≡◌, ℕ, ◌<◌, ◌≤◌, true, false, List, [], ◌∷◌, ◌++◌, length, take, drop, Option, Some, None, refl, sym, ap, subst, ◌∙◌, arith}
-use Rattle.std.specs.Prelude.{slice_get}
+use Rattle.std.proofs.Common.{◌≡◌, ℕ, ◌<◌, true, false, List, [], ◌∷◌, ◌++◌, length, take, drop, Option, Some, None, refl, sym, ap, subst, ◌∙◌, arith}
+use Rattle.std.specs.Prelude.{IfSome, slice_get}
 use Rattle.std.specs.Option.{option_map}
 use Rattle.dom_model.specs.declared.Content.{Content}
-use Rattle.dom_model.specs.Document.{page_depth}
 use Rattle.dom_model.specs.Forest.{Forest, tops, times, count_of, tree_of}
 use Rattle.dom_model.specs.ArenaState.{ArenaState as Arena, IsValid as IsArena, IsSlotted}
 use Rattle.live_range.specs.declared.places.Places.{Places}
@@ -24,7 +23,6 @@ use Rattle.edit_steps.proofs.StepLists.{go_back, go_forth, back_fits, forth_fits
 use Rattle.edit_model.specs.Overrides.{no_overrides}
 use Rattle.edit_model.specs.History.{History, used, at_view, undone_state as undone_doc, undone_history, redone_state as redone_doc, redone_history, undone_state_by, undone_history_by, redone_state_by, redone_history_by}
 use Rattle.node_arena.specs.declared.NodeRef.{NodeRef}
-use Rattle.edit_parts.specs.declared.Counts.{Counts}
 use Rattle.edit_doc.specs.declared.Doc.TheInside.{Inside}
 use Rattle.edit_doc.specs.declared.command.EntrySnapshot.{EntrySnapshot}
 use Rattle.edit_doc.specs.declared.command.Sides.{Sides}
@@ -33,7 +31,9 @@ use Rattle.edit_doc.specs.Whole.{Whole}
 use Rattle.edit_doc.specs.History.{roots_from, forest_before, forest_after, is_hidden, undo_entries, redo_entries, history_of, whole_of, view_at, Way, led, older, newer, other}
 use Rattle.edit_doc.specs.History.Way.{Back, Forth}
 use Rattle.edit_doc.specs.Sound.{IsOff, EntriesOff, AreNeeded, IsSide, IsSnapshot, UndoSound, RedoSound, next_first, IsSoundDoc, CanGo, turned}
-use Rattle.edit_doc.specs.Live.{live_of}
+use Rattle.edit_doc.specs.Live.{live, live_of}
+use Rattle.edit_doc.specs.Counted.{IsCounted}
+use Rattle.edit_doc.specs.Fields.{counts_before, counts_after}
 use Rattle.edit_doc.proofs.HiddenTrees.{hidden_is, top_loose}
 use Rattle.edit_doc.proofs.Inner.{seen, Ok}
 use Rattle.edit_doc.proofs.Laid.{undo_count, redo_count}
@@ -157,56 +157,77 @@ none_long (x ∷ xs) e = absurd (omega (arith, e))
 
 -- ---- for the value that a contract sees
 
-module _ (d : Inside) (v : Whole) (sees : seen d ≡ v) (law : IsArena d.tree.arena) (slotted : IsSlotted d.tree.arena) (beside : IsTrail d.history) (closed : d.history.log.open_entry ≡ Closed) (ok : Ok d) where
-  at_rest : AtRest d.tree d.command d.history
-  at_rest = rest_of d.tree d.command d.history law closed ok
+module _ (d : Inside) (v : Whole) (sees : seen d ≡ v) (law : IsArena d.tree.nodes.arena) (slotted : IsSlotted d.tree.nodes.arena) (beside : IsTrail d.history) (closed : d.history.log.open_entry ≡ Closed) (ok : Ok d) where
+  at_rest : AtRest (live d.tree) d.command d.history
+  at_rest = rest_of (live d.tree) d.command d.history law closed ok
 
-  undo_fit_of : (high : ℕ) (es : List (List Step)) (bs : List EntrySnapshot) → UndoSound d.tree.arena.held d.tree.points.names false d.command high d.tree.arena.trees es bs → FitsUndo step_applied StepFits es d.tree.arena
+  undo_fit_of : (high : ℕ) (es : List (List Step)) (bs : List EntrySnapshot) → UndoSound d.tree.nodes.arena.held d.tree.points.names false d.command high d.tree.nodes.arena.trees es bs → FitsUndo step_applied StepFits es d.tree.nodes.arena
   undo_fit_of high [] bs h = tt
   undo_fit_of high (e ∷ es) [] h = absurd h
-  undo_fit_of high (e ∷ es) (b ∷ bs) h = back_fits e d.tree.arena slotted h.0.1 h.0.0
+  undo_fit_of high (e ∷ es) (b ∷ bs) h = back_fits e d.tree.nodes.arena slotted h.0.1 h.0.0
 
-  pub undo_fits : FitsUndo step_applied StepFits d.history.log.undo d.tree.arena
+  pub undo_fits : FitsUndo step_applied StepFits d.history.log.undo d.tree.nodes.arena
   undo_fits = undo_fit_of (next_first d.command.start d.history.future) d.history.log.undo d.history.past at_rest.undo
 
-  redo_fit_of : (es : List (List Step)) (bs : List EntrySnapshot) → RedoSound d.tree.arena.held d.tree.points.names d.command d.tree.arena.trees es bs → FitsRedo step_applied StepFits es d.tree.arena
+  undo_counted_of : (high : ℕ) (es : List (List Step)) (bs : List EntrySnapshot) → UndoSound d.tree.nodes.arena.held d.tree.points.names false d.command high d.tree.nodes.arena.trees es bs → FitsUndo step_applied StepFits es d.tree.nodes.arena →
+      IfSome (slice_get bs 0) (λ b. IsCounted (undone_state step_applied es d.tree.nodes.arena).trees (counts_before b.sides))
+  undo_counted_of high es [] h fits = tt
+  undo_counted_of high [] (b ∷ bs) h fits = absurd h
+  undo_counted_of high (e ∷ es) (b ∷ bs) h fits =
+      let was = h.1.0.was in
+      subst (λ (a : Arena). IsCounted a.trees (counts_before b.sides)) (sym (go_back e d.tree.nodes.arena fits).state) (record { nodes = was.nodes_are; chars = was.chars_are; depth = was.no_deeper })
+
+  pub undo_counted : IfSome (slice_get d.history.past 0) (λ b. IsCounted (undone_state step_applied d.history.log.undo d.tree.nodes.arena).trees (counts_before b.sides))
+  undo_counted = undo_counted_of (next_first d.command.start d.history.future) d.history.log.undo d.history.past at_rest.undo undo_fits
+
+  redo_fit_of : (es : List (List Step)) (bs : List EntrySnapshot) → RedoSound d.tree.nodes.arena.held d.tree.points.names d.command d.tree.nodes.arena.trees es bs → FitsRedo step_applied StepFits es d.tree.nodes.arena
   redo_fit_of [] bs h = tt
   redo_fit_of (e ∷ es) [] h = absurd h
-  redo_fit_of (e ∷ es) (b ∷ bs) h = forth_fits e d.tree.arena slotted h.0.1 h.0.0
+  redo_fit_of (e ∷ es) (b ∷ bs) h = forth_fits e d.tree.nodes.arena slotted h.0.1 h.0.0
 
-  pub redo_fits : FitsRedo step_applied StepFits d.history.log.redo d.tree.arena
+  pub redo_fits : FitsRedo step_applied StepFits d.history.log.redo d.tree.nodes.arena
   redo_fits = redo_fit_of d.history.log.redo d.history.future at_rest.redo
 
-  needed_now : AreNeeded d.command.start d.tree.arena.trees d.history.log.undo d.history.log.redo
-  needed_now = subst (λ g. AreNeeded d.command.start g d.history.log.undo d.history.log.redo) (none_noted d.history.log d.tree.arena.trees (ap noted closed)) ok.needed
+  redo_counted_of : (es : List (List Step)) (bs : List EntrySnapshot) → RedoSound d.tree.nodes.arena.held d.tree.points.names d.command d.tree.nodes.arena.trees es bs → FitsRedo step_applied StepFits es d.tree.nodes.arena →
+      IfSome (slice_get bs 0) (λ b. IsCounted (redone_state step_applied es d.tree.nodes.arena).trees (counts_after b.sides))
+  redo_counted_of es [] h fits = tt
+  redo_counted_of [] (b ∷ bs) h fits = absurd h
+  redo_counted_of (e ∷ es) (b ∷ bs) h fits =
+      let is = h.1.0.is in
+      subst (λ (a : Arena). IsCounted a.trees (counts_after b.sides)) (sym (go_forth e d.tree.nodes.arena fits).state) (record { nodes = is.nodes_are; chars = is.chars_are; depth = is.no_deeper })
 
-  pub record Turned (a : Arena) (points : LivePoints) (counts : Counts) (trail : Trail) (new : Whole) : Type 0 where
-    pub invariant : IsSoundDoc (live_of a points no_overrides d.tree.flags counts) d.command trail
-    pub value : whole_of (live_of a points no_overrides d.tree.flags counts) d.command trail ≡ new
+  pub redo_counted : IfSome (slice_get d.history.future 0) (λ b. IsCounted (redone_state step_applied d.history.log.redo d.tree.nodes.arena).trees (counts_after b.sides))
+  redo_counted = redo_counted_of d.history.log.redo d.history.future at_rest.redo redo_fits
+
+  needed_now : AreNeeded d.command.start d.tree.nodes.arena.trees d.history.log.undo d.history.log.redo
+  needed_now = subst (λ g. AreNeeded d.command.start g d.history.log.undo d.history.log.redo) (none_noted d.history.log d.tree.nodes.arena.trees (ap noted closed)) ok.needed
+
+  pub record Turned (a : Arena) (points : LivePoints) (trail : Trail) (new : Whole) : Type 0 where
+    pub invariant : IsSoundDoc (live_of a points no_overrides d.tree.flags) d.command trail
+    pub value : whole_of (live_of a points no_overrides d.tree.flags) d.command trail ≡ new
 
   -- the value, where the history is this one
   abbrev resting_with : Trail → Whole
   resting_with trail = record {
-    state = rested_state d.tree;
-    history = history_of d.tree.points.names d.tree.arena.trees trail;
+    state = rested_state (live d.tree);
+    history = history_of d.tree.points.names d.tree.nodes.arena.trees trail;
     began = None;
-    held = d.tree.arena.held;
+    held = d.tree.nodes.arena.held;
   }
 
   resting_is : seen d ≡ resting_with d.history
-  resting_is = rest_whole d.tree d.command d.history at_rest
+  resting_is = rest_whole (live d.tree) d.command d.history at_rest
 
   -- ---- the document at a side of an entry
 
-  module _ (g : Forest Content) (law' : IsArena (record d.tree.arena { trees = g })) (p : Places) (nodes chars depth : ℕ) (side : IsSide d.tree.points.names g p nodes chars depth)
-      (counts : Counts) (nodes_are : counts.nodes ≡ nodes) (chars_are : counts.chars ≡ chars) (depth_is : counts.depth ≡ depth)
+  module _ (g : Forest Content) (law' : IsArena (record d.tree.nodes.arena { trees = g })) (p : Places) (nodes chars depth : ℕ) (side : IsSide d.tree.points.names g p nodes chars depth)
       (trail : Trail) (closed' : trail.log.open_entry ≡ Closed)
-      (undo : UndoSound d.tree.arena.held d.tree.points.names false d.command (next_first d.command.start trail.future) g trail.log.undo trail.past)
-      (redo : RedoSound d.tree.arena.held d.tree.points.names d.command g trail.log.redo trail.future) where
+      (undo : UndoSound d.tree.nodes.arena.held d.tree.points.names false d.command (next_first d.command.start trail.future) g trail.log.undo trail.past)
+      (redo : RedoSound d.tree.nodes.arena.held d.tree.points.names d.command g trail.log.redo trail.future) where
     abbrev there : Arena
-    there = record d.tree.arena { trees = g }
+    there = record d.tree.nodes.arena { trees = g }
 
-    rests_there : AtRest (live_of there (shown d.tree.points.names p) no_overrides d.tree.flags counts) d.command trail
+    rests_there : AtRest (live_of there (shown d.tree.points.names p) no_overrides d.tree.flags) d.command trail
     rests_there = record {
       law = law';
       closed = closed';
@@ -222,9 +243,6 @@ module _ (d : Inside) (v : Whole) (sees : seen d ≡ v) (law : IsArena d.tree.ar
       resumed = at_rest.resumed;
       placed = side.placed;
       settings = unset_length;
-      nodes = nodes_are ∙ side.nodes_are;
-      chars = chars_are ∙ side.chars_are;
-      depth = subst (λ n. page_depth g ≤ n) (sym depth_is) side.no_deeper;
       undo = undo;
       redo = redo;
     }
@@ -232,21 +250,21 @@ module _ (d : Inside) (v : Whole) (sees : seen d ≡ v) (law : IsArena d.tree.ar
     -- as undo and redo say it
     abbrev standing : History → Whole
     standing h = record {
-      state = record (rested_state (live_of there (shown d.tree.points.names p) no_overrides d.tree.flags counts)) { points = record (shown d.tree.points.names p) { scratch = None } };
+      state = record (rested_state (live_of there (shown d.tree.points.names p) no_overrides d.tree.flags)) { points = record (shown d.tree.points.names p) { scratch = None } };
       history = h;
       began = None;
-      held = d.tree.arena.held;
+      held = d.tree.nodes.arena.held;
     }
 
-    stands : AreNeeded d.command.start g trail.log.undo trail.log.redo → (h : History) → history_of d.tree.points.names g trail ≡ h → Turned there (shown d.tree.points.names p) counts trail (standing h)
+    stands : AreNeeded d.command.start g trail.log.undo trail.log.redo → (h : History) → history_of d.tree.points.names g trail ≡ h → Turned there (shown d.tree.points.names p) trail (standing h)
     stands needed h is = record {
-      invariant = rest_sound (live_of there (shown d.tree.points.names p) no_overrides d.tree.flags counts) d.command trail rests_there needed;
-      value = rest_whole (live_of there (shown d.tree.points.names p) no_overrides d.tree.flags counts) d.command trail rests_there
+      invariant = rest_sound (live_of there (shown d.tree.points.names p) no_overrides d.tree.flags) d.command trail rests_there needed;
+      value = rest_whole (live_of there (shown d.tree.points.names p) no_overrides d.tree.flags) d.command trail rests_there
           ∙ (λ i. record {
-            state = record (rested_state (live_of there (shown d.tree.points.names p) no_overrides d.tree.flags counts)) { points = record (shown d.tree.points.names p) { scratch = side.resting i } };
+            state = record (rested_state (live_of there (shown d.tree.points.names p) no_overrides d.tree.flags)) { points = record (shown d.tree.points.names p) { scratch = side.resting i } };
             history = is i;
             began = None;
-            held = d.tree.arena.held;
+            held = d.tree.nodes.arena.held;
           });
     }
 
@@ -256,21 +274,21 @@ module _ (d : Inside) (v : Whole) (sees : seen d ≡ v) (law : IsArena d.tree.ar
   undo_whole w = record w { state = undone_doc w.history w.state; history = undone_history w.history }
 
   undo_go : (e : List Step) (es : List (List Step)) (b : EntrySnapshot) (bs : List EntrySnapshot) → d.history.log.undo ≡ e ∷ es → d.history.past ≡ b ∷ bs →
-      IsArena (record d.tree.arena { trees = forest_before e d.tree.arena.trees }) → (counts : Counts) → counts.nodes ≡ b.sides.nodes_before → counts.chars ≡ b.sides.chars_before → counts.depth ≡ b.sides.depth_before →
-      Turned (record d.tree.arena { trees = forest_before e d.tree.arena.trees }) (shown d.tree.points.names b.sides.before) counts
-      (trail_of (record d.history.log { undo = es; redo = inverses_back step_applied step_inverse e d.tree.arena ∷ d.history.log.redo }) bs (b ∷ d.history.future))
+      IsArena (record d.tree.nodes.arena { trees = forest_before e d.tree.nodes.arena.trees }) →
+      Turned (record d.tree.nodes.arena { trees = forest_before e d.tree.nodes.arena.trees }) (shown d.tree.points.names b.sides.before)
+      (trail_of (record d.history.log { undo = es; redo = inverses_back step_applied step_inverse e d.tree.nodes.arena ∷ d.history.log.redo }) bs (b ∷ d.history.future))
       (undo_whole (seen d))
   unfolding undone_doc undone_history at_view
-  undo_go e es b bs eu su law' counts nodes chars depth =
-      let f = d.tree.arena.trees in
+  undo_go e es b bs eu su law' =
+      let f = d.tree.nodes.arena.trees in
       let g = forest_before e f in
       let high = next_first d.command.start d.history.future in
-      let h : UndoSound d.tree.arena.held d.tree.points.names false d.command high f (e ∷ es) (b ∷ bs) =
-      subst (λ xs. UndoSound d.tree.arena.held d.tree.points.names false d.command high f xs (b ∷ bs)) eu (subst (λ xs. UndoSound d.tree.arena.held d.tree.points.names false d.command high f d.history.log.undo xs) su at_rest.undo) in
-      let t = inverses_back step_applied step_inverse e d.tree.arena in
-      let taking = taken d.tree.arena (forest_of d.tree.arena law) slotted d.tree.points.names e b b.detached.items high d.command.start Back h.0 h.1.0 in
+      let h : UndoSound d.tree.nodes.arena.held d.tree.points.names false d.command high f (e ∷ es) (b ∷ bs) =
+      subst (λ xs. UndoSound d.tree.nodes.arena.held d.tree.points.names false d.command high f xs (b ∷ bs)) eu (subst (λ xs. UndoSound d.tree.nodes.arena.held d.tree.points.names false d.command high f d.history.log.undo xs) su at_rest.undo) in
+      let t = inverses_back step_applied step_inverse e d.tree.nodes.arena in
+      let taking = taken d.tree.nodes.arena (forest_of d.tree.nodes.arena law) slotted d.tree.points.names e b b.detached.items high d.command.start Back h.0 h.1.0 in
       let tb = taking.0 in
-      let a' : Arena = record d.tree.arena { trees = g } in
+      let a' : Arena = record d.tree.nodes.arena { trees = g } in
       let trail' : Trail = trail_of (record d.history.log { undo = es; redo = t ∷ d.history.log.redo }) bs (b ∷ d.history.future) in
       let needed : AreNeeded d.command.start g es (t ∷ d.history.log.redo) = λ l inner old top off_undo off_redo. (
       let ch = changes_of t in
@@ -292,9 +310,9 @@ module _ (d : Inside) (v : Whole) (sees : seen d ≡ v) (law : IsArena d.tree.ar
         depth = d.history.log.depth;
         dropped = d.history.log.dropped;
       } in
-      subst (Turned a' (shown d.tree.points.names b.sides.before) counts trail') (ap undo_whole (sym (resting_is ∙ was)))
-      (stands g law' b.sides.before b.sides.nodes_before b.sides.chars_before b.sides.depth_before h.1.0.was counts nodes chars depth trail' closed h.1.1
-      (tb.can, (taking.1, subst (λ x. RedoSound d.tree.arena.held d.tree.points.names d.command x d.history.log.redo d.history.future) (sym tb.again) at_rest.redo)) needed
+      subst (Turned a' (shown d.tree.points.names b.sides.before) trail') (ap undo_whole (sym (resting_is ∙ was)))
+      (stands g law' b.sides.before b.sides.nodes_before b.sides.chars_before b.sides.depth_before h.1.0.was trail' closed h.1.1
+      (tb.can, (taking.1, subst (λ x. RedoSound d.tree.nodes.arena.held d.tree.points.names d.command x d.history.log.redo d.history.future) (sym tb.again) at_rest.redo)) needed
       (undone_history w.history) history)
 
   -- ---- redo
@@ -303,23 +321,23 @@ module _ (d : Inside) (v : Whole) (sees : seen d ≡ v) (law : IsArena d.tree.ar
   redo_whole w = record w { state = redone_doc w.history w.state; history = redone_history w.history }
 
   redo_go : (e : List Step) (es : List (List Step)) (b : EntrySnapshot) (bs : List EntrySnapshot) → d.history.log.redo ≡ e ∷ es → d.history.future ≡ b ∷ bs →
-      IsArena (record d.tree.arena { trees = forest_after e d.tree.arena.trees }) → (counts : Counts) → counts.nodes ≡ b.sides.nodes_after → counts.chars ≡ b.sides.chars_after → counts.depth ≡ b.sides.depth_after →
-      Turned (record d.tree.arena { trees = forest_after e d.tree.arena.trees }) (shown d.tree.points.names b.sides.after) counts
-      (trail_of (record d.history.log { undo = inverses_forth step_applied step_inverse e d.tree.arena ∷ d.history.log.undo; redo = es }) (b ∷ d.history.past) bs)
+      IsArena (record d.tree.nodes.arena { trees = forest_after e d.tree.nodes.arena.trees }) →
+      Turned (record d.tree.nodes.arena { trees = forest_after e d.tree.nodes.arena.trees }) (shown d.tree.points.names b.sides.after)
+      (trail_of (record d.history.log { undo = inverses_forth step_applied step_inverse e d.tree.nodes.arena ∷ d.history.log.undo; redo = es }) (b ∷ d.history.past) bs)
       (redo_whole (seen d))
   unfolding redone_doc redone_history at_view
-  redo_go e es b bs eu su law' counts nodes chars depth =
-      let f = d.tree.arena.trees in
+  redo_go e es b bs eu su law' =
+      let f = d.tree.nodes.arena.trees in
       let g = forest_after e f in
       let high = next_first d.command.start bs in
-      let h : RedoSound d.tree.arena.held d.tree.points.names d.command f (e ∷ es) (b ∷ bs) =
-      subst (λ xs. RedoSound d.tree.arena.held d.tree.points.names d.command f xs (b ∷ bs)) eu (subst (λ xs. RedoSound d.tree.arena.held d.tree.points.names d.command f d.history.log.redo xs) su at_rest.redo) in
-      let under : UndoSound d.tree.arena.held d.tree.points.names false d.command b.sides.first_label f d.history.log.undo d.history.past =
-      subst (λ xs. UndoSound d.tree.arena.held d.tree.points.names false d.command (next_first d.command.start xs) f d.history.log.undo d.history.past) su at_rest.undo in
-      let t = inverses_forth step_applied step_inverse e d.tree.arena in
-      let taking = taken d.tree.arena (forest_of d.tree.arena law) slotted d.tree.points.names e b b.detached.items high d.command.start Forth h.0 h.1.0 in
+      let h : RedoSound d.tree.nodes.arena.held d.tree.points.names d.command f (e ∷ es) (b ∷ bs) =
+      subst (λ xs. RedoSound d.tree.nodes.arena.held d.tree.points.names d.command f xs (b ∷ bs)) eu (subst (λ xs. RedoSound d.tree.nodes.arena.held d.tree.points.names d.command f d.history.log.redo xs) su at_rest.redo) in
+      let under : UndoSound d.tree.nodes.arena.held d.tree.points.names false d.command b.sides.first_label f d.history.log.undo d.history.past =
+      subst (λ xs. UndoSound d.tree.nodes.arena.held d.tree.points.names false d.command (next_first d.command.start xs) f d.history.log.undo d.history.past) su at_rest.undo in
+      let t = inverses_forth step_applied step_inverse e d.tree.nodes.arena in
+      let taking = taken d.tree.nodes.arena (forest_of d.tree.nodes.arena law) slotted d.tree.points.names e b b.detached.items high d.command.start Forth h.0 h.1.0 in
       let tb = taking.0 in
-      let a' : Arena = record d.tree.arena { trees = g } in
+      let a' : Arena = record d.tree.nodes.arena { trees = g } in
       let trail' : Trail = trail_of (record d.history.log { undo = t ∷ d.history.log.undo; redo = es }) (b ∷ d.history.past) bs in
       let needed : AreNeeded d.command.start g (t ∷ d.history.log.undo) es = λ l inner old top off_undo off_redo. (
       let ch = changes_of t in
@@ -341,9 +359,9 @@ module _ (d : Inside) (v : Whole) (sees : seen d ≡ v) (law : IsArena d.tree.ar
         depth = d.history.log.depth;
         dropped = d.history.log.dropped;
       } in
-      subst (Turned a' (shown d.tree.points.names b.sides.after) counts trail') (ap redo_whole (sym (resting_is ∙ was)))
-      (stands g law' b.sides.after b.sides.nodes_after b.sides.chars_after b.sides.depth_after h.1.0.is counts nodes chars depth trail' closed
-      (tb.can, (taking.1, subst (λ x. UndoSound d.tree.arena.held d.tree.points.names false d.command b.sides.first_label x d.history.log.undo d.history.past) (sym tb.again) under)) h.1.1 needed
+      subst (Turned a' (shown d.tree.points.names b.sides.after) trail') (ap redo_whole (sym (resting_is ∙ was)))
+      (stands g law' b.sides.after b.sides.nodes_after b.sides.chars_after b.sides.depth_after h.1.0.is trail' closed
+      (tb.can, (taking.1, subst (λ x. UndoSound d.tree.nodes.arena.held d.tree.points.names false d.command b.sides.first_label x d.history.log.undo d.history.past) (sym tb.again) under)) h.1.1 needed
       (redone_history w.history) history)
 
   -- ---- what the calls give
@@ -352,39 +370,37 @@ module _ (d : Inside) (v : Whole) (sees : seen d ≡ v) (law : IsArena d.tree.ar
   some_entries s [] e = absurd (let e' : Some s ≡ None = e in cc)
   some_entries s (b ∷ bs) e = omega arith
 
-  pub undo_done : (a : Arena) (points : LivePoints) (counts : Counts) (trail : Trail) (s : Sides) → Some s ≡ first_sides d.history.past → IsArena a →
-      a ≡ undone_state step_applied d.history.log.undo d.tree.arena → trail ≡ trail_undone d.history d.tree.arena → points ≡ shown d.tree.points.names s.before →
-      counts.nodes ≡ s.nodes_before → counts.chars ≡ s.chars_before → counts.depth ≡ s.depth_before →
-      Turned a points counts trail (undo_whole v)
-  undo_done a points counts trail s first law' ea et ep nodes chars depth =
+  pub undo_done : (a : Arena) (points : LivePoints) (trail : Trail) (s : Sides) → Some s ≡ first_sides d.history.past → IsArena a →
+      a ≡ undone_state step_applied d.history.log.undo d.tree.nodes.arena → trail ≡ trail_undone d.history d.tree.nodes.arena → points ≡ shown d.tree.points.names s.before →
+      Turned a points trail (undo_whole v)
+  undo_done a points trail s first law' ea et ep =
       let more = some_entries s d.history.past first in
       let u = uncons d.history.log.undo (let n = beside.past in omega (arith, more, n)) in
       let w = uncons d.history.past more in
       let same : s ≡ w.0.sides = some_eq s w.0.sides (first ∙ ap first_sides w.2) in
-      let fits : FitsUndo step_applied StepFits (u.0 ∷ u.1) d.tree.arena = subst (λ xs. FitsUndo step_applied StepFits xs d.tree.arena) u.2 undo_fits in
-      let ea' : a ≡ record d.tree.arena { trees = forest_before u.0 d.tree.arena.trees } = ea ∙ (ap (λ xs. undone_state step_applied xs d.tree.arena) u.2 ∙ (go_back u.0 d.tree.arena fits).state) in
-      let et' : trail ≡ trail_of (record d.history.log { undo = u.1; redo = inverses_back step_applied step_inverse u.0 d.tree.arena ∷ d.history.log.redo }) w.1 (w.0 ∷ d.history.future) =
-      et ∙ (λ i. trail_of (undone_with step_applied step_inverse d.history.log (u.2 i) d.tree.arena) (drop 1 (w.2 i)) (take 1 (w.2 i) ++ d.history.future)) in
+      let fits : FitsUndo step_applied StepFits (u.0 ∷ u.1) d.tree.nodes.arena = subst (λ xs. FitsUndo step_applied StepFits xs d.tree.nodes.arena) u.2 undo_fits in
+      let ea' : a ≡ record d.tree.nodes.arena { trees = forest_before u.0 d.tree.nodes.arena.trees } = ea ∙ (ap (λ xs. undone_state step_applied xs d.tree.nodes.arena) u.2 ∙ (go_back u.0 d.tree.nodes.arena fits).state) in
+      let et' : trail ≡ trail_of (record d.history.log { undo = u.1; redo = inverses_back step_applied step_inverse u.0 d.tree.nodes.arena ∷ d.history.log.redo }) w.1 (w.0 ∷ d.history.future) =
+      et ∙ (λ i. trail_of (undone_with step_applied step_inverse d.history.log (u.2 i) d.tree.nodes.arena) (drop 1 (w.2 i)) (take 1 (w.2 i) ++ d.history.future)) in
       let ep' : points ≡ shown d.tree.points.names w.0.sides.before = ep ∙ ap (λ (o : Sides). shown d.tree.points.names o.before) same in
-      let r = undo_go u.0 u.1 w.0 w.1 u.2 w.2 (subst IsArena ea' law') counts (nodes ∙ ap (λ (o : Sides). o.nodes_before) same) (chars ∙ ap (λ (o : Sides). o.chars_before) same) (depth ∙ ap (λ (o : Sides). o.depth_before) same) in
-      subst (λ (x : Whole). Turned a points counts trail (undo_whole x)) sees (rw (ea', et', ep') r)
+      let r = undo_go u.0 u.1 w.0 w.1 u.2 w.2 (subst IsArena ea' law') in
+      subst (λ (x : Whole). Turned a points trail (undo_whole x)) sees (rw (ea', et', ep') r)
 
-  pub redo_done : (a : Arena) (points : LivePoints) (counts : Counts) (trail : Trail) (s : Sides) → Some s ≡ first_sides d.history.future → IsArena a →
-      a ≡ redone_state step_applied d.history.log.redo d.tree.arena → trail ≡ trail_redone d.history d.tree.arena → points ≡ shown d.tree.points.names s.after →
-      counts.nodes ≡ s.nodes_after → counts.chars ≡ s.chars_after → counts.depth ≡ s.depth_after →
-      Turned a points counts trail (redo_whole v)
-  redo_done a points counts trail s first law' ea et ep nodes chars depth =
+  pub redo_done : (a : Arena) (points : LivePoints) (trail : Trail) (s : Sides) → Some s ≡ first_sides d.history.future → IsArena a →
+      a ≡ redone_state step_applied d.history.log.redo d.tree.nodes.arena → trail ≡ trail_redone d.history d.tree.nodes.arena → points ≡ shown d.tree.points.names s.after →
+      Turned a points trail (redo_whole v)
+  redo_done a points trail s first law' ea et ep =
       let more = some_entries s d.history.future first in
       let u = uncons d.history.log.redo (let n = beside.future in omega (arith, more, n)) in
       let w = uncons d.history.future more in
       let same : s ≡ w.0.sides = some_eq s w.0.sides (first ∙ ap first_sides w.2) in
-      let fits : FitsRedo step_applied StepFits (u.0 ∷ u.1) d.tree.arena = subst (λ xs. FitsRedo step_applied StepFits xs d.tree.arena) u.2 redo_fits in
-      let ea' : a ≡ record d.tree.arena { trees = forest_after u.0 d.tree.arena.trees } = ea ∙ (ap (λ xs. redone_state step_applied xs d.tree.arena) u.2 ∙ (go_forth u.0 d.tree.arena fits).state) in
-      let et' : trail ≡ trail_of (record d.history.log { undo = inverses_forth step_applied step_inverse u.0 d.tree.arena ∷ d.history.log.undo; redo = u.1 }) (w.0 ∷ d.history.past) w.1 =
-      et ∙ (λ i. trail_of (redone_with step_applied step_inverse d.history.log (u.2 i) d.tree.arena) (take 1 (w.2 i) ++ d.history.past) (drop 1 (w.2 i))) in
+      let fits : FitsRedo step_applied StepFits (u.0 ∷ u.1) d.tree.nodes.arena = subst (λ xs. FitsRedo step_applied StepFits xs d.tree.nodes.arena) u.2 redo_fits in
+      let ea' : a ≡ record d.tree.nodes.arena { trees = forest_after u.0 d.tree.nodes.arena.trees } = ea ∙ (ap (λ xs. redone_state step_applied xs d.tree.nodes.arena) u.2 ∙ (go_forth u.0 d.tree.nodes.arena fits).state) in
+      let et' : trail ≡ trail_of (record d.history.log { undo = inverses_forth step_applied step_inverse u.0 d.tree.nodes.arena ∷ d.history.log.undo; redo = u.1 }) (w.0 ∷ d.history.past) w.1 =
+      et ∙ (λ i. trail_of (redone_with step_applied step_inverse d.history.log (u.2 i) d.tree.nodes.arena) (take 1 (w.2 i) ++ d.history.past) (drop 1 (w.2 i))) in
       let ep' : points ≡ shown d.tree.points.names w.0.sides.after = ep ∙ ap (λ (o : Sides). shown d.tree.points.names o.after) same in
-      let r = redo_go u.0 u.1 w.0 w.1 u.2 w.2 (subst IsArena ea' law') counts (nodes ∙ ap (λ (o : Sides). o.nodes_after) same) (chars ∙ ap (λ (o : Sides). o.chars_after) same) (depth ∙ ap (λ (o : Sides). o.depth_after) same) in
-      subst (λ (x : Whole). Turned a points counts trail (redo_whole x)) sees (rw (ea', et', ep') r)
+      let r = redo_go u.0 u.1 w.0 w.1 u.2 w.2 (subst IsArena ea' law') in
+      subst (λ (x : Whole). Turned a points trail (redo_whole x)) sees (rw (ea', et', ep') r)
 
   -- where no entry lies that way
   undo_same : (w : Whole) → w.history.undo ≡ [] → w ≡ undo_whole w
@@ -395,22 +411,22 @@ module _ (d : Inside) (v : Whole) (sees : seen d ≡ v) (law : IsArena d.tree.ar
   unfolding redone_doc redone_history
   redo_same w e = λ i. record w { state = redone_state_by (sym e i) w.state; history = redone_history_by (sym e i) w.history }
 
-  pub undo_none : (a : Arena) (trail : Trail) → None ≡ first_sides d.history.past → a ≡ undone_state step_applied d.history.log.undo d.tree.arena → trail ≡ trail_undone d.history d.tree.arena →
-      whole_of (record d.tree { arena = a }) d.command trail ≡ undo_whole v
+  pub undo_none : (a : Arena) (trail : Trail) → None ≡ first_sides d.history.past → a ≡ undone_state step_applied d.history.log.undo d.tree.nodes.arena → trail ≡ trail_undone d.history d.tree.nodes.arena →
+      whole_of (record (live d.tree) { arena = a }) d.command trail ≡ undo_whole v
   undo_none a trail none ea et =
       let past = no_first d.history.past none in
       let nil = none_long d.history.log.undo (sym beside.past ∙ ap length past) in
-      let ea' : a ≡ d.tree.arena = ea ∙ ap (λ xs. undone_state step_applied xs d.tree.arena) nil in
+      let ea' : a ≡ d.tree.nodes.arena = ea ∙ ap (λ xs. undone_state step_applied xs d.tree.nodes.arena) nil in
       let et' : trail ≡ d.history =
-      et ∙ ((λ i. trail_of (undone_with step_applied step_inverse d.history.log (nil i) d.tree.arena) (drop 1 (past i)) (take 1 (past i) ++ d.history.future)) ∙ (λ i. trail_of d.history.log (sym past i) d.history.future)) in
-      (λ i. whole_of (record d.tree { arena = ea' i }) d.command (et' i)) ∙ (sees ∙ undo_same v (none_long v.history.undo (sym (undo_count d v sees ok) ∙ ap length nil)))
+      et ∙ ((λ i. trail_of (undone_with step_applied step_inverse d.history.log (nil i) d.tree.nodes.arena) (drop 1 (past i)) (take 1 (past i) ++ d.history.future)) ∙ (λ i. trail_of d.history.log (sym past i) d.history.future)) in
+      (λ i. whole_of (record (live d.tree) { arena = ea' i }) d.command (et' i)) ∙ (sees ∙ undo_same v (none_long v.history.undo (sym (undo_count d v sees ok) ∙ ap length nil)))
 
-  pub redo_none : (a : Arena) (trail : Trail) → None ≡ first_sides d.history.future → a ≡ redone_state step_applied d.history.log.redo d.tree.arena → trail ≡ trail_redone d.history d.tree.arena →
-      whole_of (record d.tree { arena = a }) d.command trail ≡ redo_whole v
+  pub redo_none : (a : Arena) (trail : Trail) → None ≡ first_sides d.history.future → a ≡ redone_state step_applied d.history.log.redo d.tree.nodes.arena → trail ≡ trail_redone d.history d.tree.nodes.arena →
+      whole_of (record (live d.tree) { arena = a }) d.command trail ≡ redo_whole v
   redo_none a trail none ea et =
       let future = no_first d.history.future none in
       let nil = none_long d.history.log.redo (sym beside.future ∙ ap length future) in
-      let ea' : a ≡ d.tree.arena = ea ∙ ap (λ xs. redone_state step_applied xs d.tree.arena) nil in
+      let ea' : a ≡ d.tree.nodes.arena = ea ∙ ap (λ xs. redone_state step_applied xs d.tree.nodes.arena) nil in
       let et' : trail ≡ d.history =
-      et ∙ ((λ i. trail_of (redone_with step_applied step_inverse d.history.log (nil i) d.tree.arena) (take 1 (future i) ++ d.history.past) (drop 1 (future i))) ∙ (λ i. trail_of d.history.log d.history.past (sym future i))) in
-      (λ i. whole_of (record d.tree { arena = ea' i }) d.command (et' i)) ∙ (sees ∙ redo_same v (none_long v.history.redo (sym (redo_count d v sees ok) ∙ ap length nil)))
+      et ∙ ((λ i. trail_of (redone_with step_applied step_inverse d.history.log (nil i) d.tree.nodes.arena) (take 1 (future i) ++ d.history.past) (drop 1 (future i))) ∙ (λ i. trail_of d.history.log d.history.past (sym future i))) in
+      (λ i. whole_of (record (live d.tree) { arena = ea' i }) d.command (et' i)) ∙ (sees ∙ redo_same v (none_long v.history.redo (sym (redo_count d v sees ok) ∙ ap length nil)))

@@ -51,7 +51,7 @@ marked_named c m from marked = (let t = le_true c.start m from in let n = marked
 
 module _ (d : Inside) (during : Opened d) where
   abbrev f : Forest Content
-  f = d.tree.arena.trees
+  f = d.tree.nodes.arena.trees
 
   abbrev begun : Forest Content
   begun = g d during
@@ -72,12 +72,12 @@ module _ (d : Inside) (during : Opened d) where
   unnamed = is_unnamed low d.command
 
   low_le : low ≤ d.command.start
-  low_le = next_first_low d.tree.arena.held d.tree.points.names d.command begun d.history.log.redo d.history.future during.ok.redo
+  low_le = next_first_low d.tree.nodes.arena.held d.tree.points.names d.command begun d.history.log.redo d.history.future during.ok.redo
 
   pub some_low : 0 < low
   some_low = by_case d.history.log.redo d.history.future during.ok.redo
     where
-      by_case : (es : List (List Step)) (bs : List EntrySnapshot) → RedoSound d.tree.arena.held d.tree.points.names d.command begun es bs → 0 < next_first d.command.start bs
+      by_case : (es : List (List Step)) (bs : List EntrySnapshot) → RedoSound d.tree.nodes.arena.held d.tree.points.names d.command begun es bs → 0 < next_first d.command.start bs
       by_case es [] h = during.ok.some_label
       by_case [] (b ∷ bs) h = absurd h
       by_case (e ∷ es) (b ∷ bs) h = h.1.0.some_label
@@ -86,7 +86,7 @@ module _ (d : Inside) (during : Opened d) where
   fresh : AreFresh begun low
   fresh = by_case d.history.log.redo d.history.future during.ok.redo
     where
-      by_case : (es : List (List Step)) (bs : List EntrySnapshot) → RedoSound d.tree.arena.held d.tree.points.names d.command begun es bs → AreFresh begun (next_first d.command.start bs)
+      by_case : (es : List (List Step)) (bs : List EntrySnapshot) → RedoSound d.tree.nodes.arena.held d.tree.points.names d.command begun es bs → AreFresh begun (next_first d.command.start bs)
       by_case es [] h = (let r = run d during in record {
         loose = λ l from here. r.made.loose l from (below_g d during l here) here;
         leaf = λ l from here. r.made.leaf l from (below_g d during l here) here;
@@ -104,7 +104,7 @@ module _ (d : Inside) (during : Opened d) where
   not_named l e named = (let t = (and_true (nat_le low l) (not (has_named d.command l)) e).1 in absurd (let t' : not true ≡ true = subst (λ b. not b ≡ true) named t in cc))
 
   prunes_hidden : Prunes hides f
-  prunes_hidden = prunes_after begun f d.command.start (forest_of d.tree.arena during.law) during.ok.hidden
+  prunes_hidden = prunes_after begun f d.command.start (forest_of d.tree.nodes.arena during.law) during.ok.hidden
 
   -- what the command sees and marks is kept
   kept : (m : ℕ) → IsLeft hides f m → IsMarked d.command m → unnamed m ≡ false
@@ -191,7 +191,7 @@ module _ (d : Inside) (during : Opened d) where
 
   -- ---- the entries name none of them
 
-  entries_below : (r : Bool) (high : ℕ) (h : Forest Content) (es : List (List Step)) (bs : List EntrySnapshot) → high ≤ low → ((l : ℕ) → count_of h l ≡ count_of begun l) → UndoSound d.tree.arena.held d.tree.points.names r d.command high h es bs → EntriesLeft unnamed f es
+  entries_below : (r : Bool) (high : ℕ) (h : Forest Content) (es : List (List Step)) (bs : List EntrySnapshot) → high ≤ low → ((l : ℕ) → count_of h l ≡ count_of begun l) → UndoSound d.tree.nodes.arena.held d.tree.points.names r d.command high h es bs → EntriesLeft unnamed f es
   entries_below r high h [] bs le same s = tt
   entries_below r high h (e ∷ es) [] le same s = absurd s
   entries_below r high h (e ∷ es) (b ∷ bs) le same s = (

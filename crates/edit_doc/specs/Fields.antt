@@ -61,6 +61,13 @@ Forgets us new c = ForgetsIn c.resumed us new (take c.detached_before c.detached
 abbrev pub has_newly_detached : Command → ℕ → Bool
 has_newly_detached c l = nat_le c.start l || has_label (labels_of (drop c.detached_before c.detached.items)) l
 
+-- the numbers on both sides of an entry
+abbrev pub counts_before : Sides → Counts
+counts_before s = record { nodes = s.nodes_before; chars = s.chars_before; depth = s.depth_before }
+
+abbrev pub counts_after : Sides → Counts
+counts_after s = record { nodes = s.nodes_after; chars = s.chars_after; depth = s.depth_after }
+
 -- the sides of an entry that a command makes, and of one that it joins
 abbrev pub made_sides : Command → Places → Counts → Sides
 made_sides c p counts = record {

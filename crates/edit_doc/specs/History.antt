@@ -22,7 +22,7 @@ use Rattle.edit_model.specs.Gives.{label_of}
 use Rattle.edit_model.specs.History.{View, Entry, History, document_of, used}
 use Rattle.edit_doc.specs.declared.command.EntrySnapshot.{EntrySnapshot}
 use Rattle.edit_doc.specs.declared.command.Command.{Command}
-use Rattle.edit_doc.specs.declared.tree.LiveTree.{LiveTree}
+use Rattle.edit_doc.specs.Live.{Live}
 use Rattle.edit_doc.specs.Trail.{Trail}
 use Rattle.edit_doc.specs.Whole.{Began, Whole}
 
@@ -57,7 +57,7 @@ seen_trees log start f = pruned (is_hidden (begun_forest log f) start) f
 
 -- ---- the state
 
-abbrev pub state_of : LiveTree → Command → Log Step → State
+abbrev pub state_of : Live → Command → Log Step → State
 state_of t c log = record {
   trees = seen_trees log c.start t.arena.trees;
   points = t.points;
@@ -156,7 +156,7 @@ history_of names f t = record {
 
 -- ---- the document
 
-abbrev pub whole_of : LiveTree → Command → Trail → Whole
+abbrev pub whole_of : Live → Command → Trail → Whole
 whole_of t c h = record {
   state = state_of t c h.log;
   history = history_of t.points.names (begun_forest h.log t.arena.trees) h;

@@ -3,6 +3,7 @@ pub mod Held
 pub mod WholeCode
 pub mod History
 pub mod Sound
+pub mod Counted
 pub mod Live
 pub mod Shows
 pub mod Trail

@@ -22,7 +22,7 @@ use Rattle.edit_model.specs.Gives.{labels_of}
 use Rattle.edit_model.specs.Valid.{IsValid, IsPlaced}
 use Rattle.edit_doc.specs.declared.command.EntrySnapshot.{EntrySnapshot}
 use Rattle.edit_doc.specs.declared.command.Command.{Command}
-use Rattle.edit_doc.specs.declared.tree.LiveTree.{LiveTree}
+use Rattle.edit_doc.specs.Live.{Live}
 use Rattle.edit_doc.specs.Trail.{Trail}
 use Rattle.edit_doc.specs.Marks.{IsMarked, has_named}
 use Rattle.edit_doc.specs.History.{Way, led, older, newer, begun_forest, is_hidden, seen_trees, state_of}
@@ -182,12 +182,9 @@ OpenSound a points c g o = IsRunning a points.names c (noted o) g
 
 -- ---- all of it
 
-pub record IsSoundDoc (t : LiveTree) (c : Command) (h : Trail) : Type 0 where
+pub record IsSoundDoc (t : Live) (c : Command) (h : Trail) : Type 0 where
   pub valid : IsValid (state_of t c h.log)
   pub some_label : 0 < c.start
-  pub nodes : t.counts.nodes ≡ node_count t.arena.trees
-  pub chars : t.counts.chars ≡ char_count t.arena.trees
-  pub depth : page_depth t.arena.trees ≤ t.counts.depth
   pub hidden : (l : ℕ) → is_hidden (begun_forest h.log t.arena.trees) c.start l ≡ true → 0 < times (tops t.arena.trees) l
   pub running : OpenSound t.arena t.points c (begun_forest h.log t.arena.trees) h.log.open_entry
   pub resumed : c.resumed ≡ is_resumed h.log.open_entry

@@ -1,7 +1,7 @@
 //! What is kept of the running command, and beside each entry of the log.
 
 ghost use Rattle.std.specs.Prelude.{◌≡◌, ℕ, ◌<◌, [], ◌∷◌, vec_len, vec_capacity};
-ghost use Rattle.edit_doc.specs.Fields.{IsEnded, AreResting, has_newly_detached, made_sides, joined_sides};
+ghost use Rattle.edit_doc.specs.Fields.{IsEnded, AreResting, counts_after, counts_before, has_newly_detached, made_sides, joined_sides};
 ghost use Rattle.edit_doc.specs.Marks.{Marks, AreMarkable, NotesMade, place_labels};
 
 use crate::Counts;
@@ -28,9 +28,7 @@ pub struct Sides {
 
 impl Sides {
     pub(crate) fn counts_before(&self) -> Counts
-        ensures nodes { result.nodes ≡ self.now.nodes_before }
-        ensures chars { result.chars ≡ self.now.chars_before }
-        ensures depth { result.depth ≡ self.now.depth_before }
+        ensures { result ≡ counts_before self.now }
     {
         Counts {
             nodes: self.nodes_before,
@@ -40,9 +38,7 @@ impl Sides {
     }
 
     pub(crate) fn counts_after(&self) -> Counts
-        ensures nodes { result.nodes ≡ self.now.nodes_after }
-        ensures chars { result.chars ≡ self.now.chars_after }
-        ensures depth { result.depth ≡ self.now.depth_after }
+        ensures { result ≡ counts_after self.now }
     {
         Counts {
             nodes: self.nodes_after,

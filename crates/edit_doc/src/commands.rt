@@ -24,7 +24,7 @@ impl Doc {
         ensures begun { IfOk result (λ _. self.new ≡ opened (label_of host) keeping false self.old) }
         ensures err { OnErr result (self.new ≡ self.old) }
     {
-        self.tree.arena.valid();
+        self.tree.nodes.arena.valid();
         let kept = self.tree.keep(self.alloc)?;
         self.history.begin();
         self.command.kept = kept;
@@ -41,7 +41,7 @@ impl Doc {
         ensures begun { IfOk result (λ b. self.new ≡ (if b then opened (label_of host) false true self.old else self.old)) }
         ensures err { OnErr result (self.new ≡ self.old) }
     {
-        self.tree.arena.valid();
+        self.tree.nodes.arena.valid();
         let kept = self.tree.keep(self.alloc)?;
         if !self.history.resume() {
             return Ok(false);
@@ -64,29 +64,30 @@ impl Doc {
         ensures keeps { KeepsThere self.old self.new }
     {
         self.history.valid();
-        self.tree.arena.valid();
+        self.tree.nodes.arena.valid();
         let places = resting_places(&self.tree.points);
         self.tree.points.set_places(&places);
         let low = self.history.first_undone(self.command.start);
+        let nodes = &mut self.tree.nodes;
         match self.history.commit(
             self.alloc,
-            &self.tree.arena,
+            &nodes.arena,
             &mut self.command,
             places,
-            self.tree.counts,
+            nodes.counts,
         ) {
             Closing::Nothing => {
-                self.tree.arena.drop_made(self.command.start);
+                nodes.arena.drop_made(self.command.start);
                 self.history.forget_detached(&mut self.command);
-                self.tree.arena.valid();
-                self.command.end(self.tree.arena.next_label());
+                nodes.arena.valid();
+                self.command.end(nodes.arena.next_label());
                 Committed::Nothing
             }
             Closing::Entry(oldest) => {
-                give_up_unnamed(&mut self.tree.arena, low, &self.command);
-                give_up_detached(&mut self.tree.arena, oldest);
-                self.tree.arena.valid();
-                self.command.end(self.tree.arena.next_label());
+                give_up_unnamed(&mut nodes.arena, low, &self.command);
+                give_up_detached(&mut nodes.arena, oldest);
+                nodes.arena.valid();
+                self.command.end(nodes.arena.next_label());
                 Committed::Entry
             }
         }
@@ -101,19 +102,20 @@ impl Doc {
         ensures keeps { KeepsThere self.old self.new }
     {
         self.history.valid();
-        self.tree.arena.valid();
-        self.tree.arena.slotted();
-        self.history.abandon(&mut self.tree.arena);
-        self.tree.arena.valid();
-        self.tree.arena.drop_made(self.command.start);
-        self.tree.arena.rewind(self.command.start);
-        self.tree.arena.valid();
+        self.tree.nodes.arena.valid();
+        self.tree.nodes.arena.slotted();
+        self.tree
+            .nodes
+            .abandon(&mut self.history, self.command.kept.counts);
+        self.tree.nodes.arena.valid();
+        self.tree.nodes.arena.drop_made(self.command.start);
+        self.tree.nodes.arena.rewind(self.command.start);
+        self.tree.nodes.arena.valid();
         self.tree.points.set_places(&self.command.kept.places);
         swap(&mut self.tree.overrides, &mut self.command.kept.overrides);
         self.tree.flags = self.command.kept.flags;
-        self.tree.counts = self.command.kept.counts;
         self.history.forget_detached(&mut self.command);
-        self.command.end(self.tree.arena.next_label());
+        self.command.end(self.tree.nodes.arena.next_label());
     }
 
     /// Takes the entry before the cursor back. False where there is none.
@@ -124,14 +126,13 @@ impl Doc {
         ensures count { steps.new ≡ steps.old + first_edits self.old.history.undo }
     {
         self.history.valid();
-        self.tree.arena.valid();
-        self.tree.arena.slotted();
-        let Some(sides) = self.history.undo(&mut self.tree.arena, steps) else {
+        self.tree.nodes.arena.valid();
+        self.tree.nodes.arena.slotted();
+        let Some(sides) = self.tree.nodes.undo(&mut self.history, steps) else {
             return false;
         };
-        self.tree.arena.valid();
+        self.tree.nodes.arena.valid();
         self.tree.points.set_places(&sides.before);
-        self.tree.counts = sides.counts_before();
         self.tree.overrides.unset();
         true
     }
@@ -144,14 +145,13 @@ impl Doc {
         ensures count { steps.new ≡ steps.old + first_edits self.old.history.redo }
     {
         self.history.valid();
-        self.tree.arena.valid();
-        self.tree.arena.slotted();
-        let Some(sides) = self.history.redo(&mut self.tree.arena, steps) else {
+        self.tree.nodes.arena.valid();
+        self.tree.nodes.arena.slotted();
+        let Some(sides) = self.tree.nodes.redo(&mut self.history, steps) else {
             return false;
         };
-        self.tree.arena.valid();
+        self.tree.nodes.arena.valid();
         self.tree.points.set_places(&sides.after);
-        self.tree.counts = sides.counts_after();
         self.tree.overrides.unset();
         true
     }

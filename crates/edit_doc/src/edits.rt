@@ -10,9 +10,8 @@ ghost use Rattle.edit_model.specs.Run.{insert, remove, move, replace, set_attrib
 ghost use Rattle.edit_doc.specs.Whole.{IsOpen};
 ghost use Rattle.edit_doc.specs.Held.{Holds, IfHeld, Keeps};
 
-use crate::change::make_change;
 use crate::numbers::{chars_replaced, counts_moved, counts_with, counts_without};
-use crate::{Chars, Doc, EditFault, Name, NodeRef};
+use crate::{Chars, Counts, Doc, EditFault, Name, NodeRef};
 use edit_parts::{
     adjust_inserted, adjust_moved, has_value, is_in_document, moving_from, removal_of, replaced,
 };
@@ -59,23 +58,29 @@ impl Doc {
         ensures keeps { Keeps self.old self.new }
         ensures err { OnErr result (self.new ≡ self.old) }
     {
-        self.tree.arena.valid();
-        self.tree.arena.slotted();
+        self.tree.nodes.arena.valid();
+        self.tree.nodes.arena.slotted();
         let watch = self.tree.watch();
-        let enters = is_in_document(&self.tree.arena, parent);
-        let counts = counts_with(&self.tree.arena, self.tree.counts, node, parent, enters);
+        let enters = is_in_document(&self.tree.nodes.arena, parent);
+        let counts = counts_with(
+            &self.tree.nodes.arena,
+            self.tree.nodes.counts,
+            node,
+            parent,
+            enters,
+        );
         let link = Step::Link {
             node,
             parent,
             before,
         };
-        make_change(&mut self.tree.arena, &mut self.history, link)?;
-        self.tree.counts = counts;
+        self.tree.nodes.change(&mut self.history, link, counts)?;
         self.command.name_place(node, parent, before);
-        adjust_inserted(&self.tree.arena, &mut self.tree.points, parent, node);
+        let nodes = &self.tree.nodes;
+        adjust_inserted(&nodes.arena, &mut self.tree.points, parent, node);
         self.tree
             .overrides
-            .settle(&self.tree.arena, &self.tree.points, watch);
+            .settle(&nodes.arena, &self.tree.points, watch);
         Ok(())
     }
 
@@ -109,25 +114,24 @@ impl Doc {
         ensures keeps { Keeps self.old self.new }
         ensures err { OnErr result (self.new ≡ self.old) }
     {
-        self.tree.arena.valid();
-        self.tree.arena.slotted();
+        self.tree.nodes.arena.valid();
+        self.tree.nodes.arena.slotted();
         self.command.detached.reserve(1)?;
         let watch = self.tree.watch();
-        let removal = removal_of(&self.tree.arena, &self.tree.points, node, parent);
-        let counts = counts_without(&self.tree.arena, self.tree.counts, node, parent);
-        let next = self.tree.arena.next(node);
-        make_change(
-            &mut self.tree.arena,
-            &mut self.history,
-            Step::Unlink { node },
-        )?;
-        self.tree.counts = counts;
+        let nodes = &self.tree.nodes;
+        let removal = removal_of(&nodes.arena, &self.tree.points, node, parent);
+        let counts = counts_without(&nodes.arena, nodes.counts, node, parent);
+        let next = nodes.arena.next(node);
+        self.tree
+            .nodes
+            .change(&mut self.history, Step::Unlink { node }, counts)?;
         let _ = self.command.detached.push(node);
         self.command.name_place(node, parent, next);
         removal.adjust(&mut self.tree.points);
+        let nodes = &self.tree.nodes;
         self.tree
             .overrides
-            .settle(&self.tree.arena, &self.tree.points, watch);
+            .settle(&nodes.arena, &self.tree.points, watch);
         Ok(())
     }
 
@@ -147,31 +151,32 @@ impl Doc {
         ensures keeps { Keeps self.old self.new }
         ensures err { OnErr result (self.new ≡ self.old) }
     {
-        self.tree.arena.valid();
-        self.tree.arena.slotted();
-        let Some(from) = self.tree.arena.parent(node) else {
+        self.tree.nodes.arena.valid();
+        self.tree.nodes.arena.slotted();
+        let Some(from) = self.tree.nodes.arena.parent(node) else {
             return Ok(false);
         };
         if !self.may_go(node, from, parent, before) {
             return Ok(false);
         }
         let watch = self.tree.watch();
-        let place = moving_from(&self.tree.arena, &self.tree.points, node, from, parent);
-        let counts = counts_moved(&self.tree.arena, self.tree.counts, node, parent);
-        let next = self.tree.arena.next(node);
+        let nodes = &self.tree.nodes;
+        let place = moving_from(&nodes.arena, &self.tree.points, node, from, parent);
+        let counts = counts_moved(&nodes.arena, nodes.counts, node, parent);
+        let next = nodes.arena.next(node);
         let step = Step::Place {
             node,
             parent,
             before,
         };
-        make_change(&mut self.tree.arena, &mut self.history, step)?;
-        self.tree.counts = counts;
+        self.tree.nodes.change(&mut self.history, step, counts)?;
         self.command.name_place(node, from, next);
         self.command.name_place(node, parent, before);
-        adjust_moved(&self.tree.arena, &mut self.tree.points, place, parent, node);
+        let nodes = &self.tree.nodes;
+        adjust_moved(&nodes.arena, &mut self.tree.points, place, parent, node);
         self.tree
             .overrides
-            .settle(&self.tree.arena, &self.tree.points, watch);
+            .settle(&nodes.arena, &self.tree.points, watch);
         Ok(true)
     }
 
@@ -189,34 +194,38 @@ impl Doc {
         ensures keeps { Keeps self.old self.new }
         ensures err { OnErr result (self.new ≡ self.old) }
     {
-        self.tree.arena.valid();
-        self.tree.arena.slotted();
+        self.tree.nodes.arena.valid();
+        self.tree.nodes.arena.slotted();
         if !self.is_own(node) {
             return Ok(false);
         }
-        let content = self.tree.arena.content(node);
+        let content = self.tree.nodes.arena.content(node);
         let Some(words) = replaced(self.alloc, content, at, count, put)? else {
             return Ok(false);
         };
         let watch = self.tree.watch();
         let chars = chars_replaced(
-            &self.tree.arena,
-            self.tree.counts.chars,
+            &self.tree.nodes.arena,
+            self.tree.nodes.counts.chars,
             node,
             at,
             count,
             put,
         );
         let step = Step::Words { node, words };
-        make_change(&mut self.tree.arena, &mut self.history, step)?;
-        self.tree.counts.chars = chars;
+        let counts = Counts {
+            chars,
+            ..self.tree.nodes.counts
+        };
+        self.tree.nodes.change(&mut self.history, step, counts)?;
         self.command.name(node);
         self.tree
             .points
             .replaced(node.label, at, count, put.len() as u32);
+        let nodes = &self.tree.nodes;
         self.tree
             .overrides
-            .settle(&self.tree.arena, &self.tree.points, watch);
+            .settle(&nodes.arena, &self.tree.points, watch);
         Ok(true)
     }
 
@@ -234,12 +243,12 @@ impl Doc {
         ensures keeps { Keeps self.old self.new }
         ensures err { OnErr result (self.new ≡ self.old) }
     {
-        self.tree.arena.valid();
-        self.tree.arena.slotted();
+        self.tree.nodes.arena.valid();
+        self.tree.nodes.arena.slotted();
         if !self.is_own(node) {
             return Ok(false);
         }
-        let Content::Element { attributes, .. } = self.tree.arena.content(node) else {
+        let Content::Element { attributes, .. } = self.tree.nodes.arena.content(node) else {
             return Ok(false);
         };
         if has_value(attributes, name, value) {
@@ -248,7 +257,8 @@ impl Doc {
         let mut list = attributes.copy()?;
         list.set(name, value)?;
         let step = Step::Attributes { node, list };
-        make_change(&mut self.tree.arena, &mut self.history, step)?;
+        let counts = self.tree.nodes.counts;
+        self.tree.nodes.change(&mut self.history, step, counts)?;
         self.command.name(node);
         Ok(true)
     }
@@ -261,12 +271,12 @@ impl Doc {
         ensures keeps { Keeps self.old self.new }
         ensures err { OnErr result (self.new ≡ self.old) }
     {
-        self.tree.arena.valid();
-        self.tree.arena.slotted();
+        self.tree.nodes.arena.valid();
+        self.tree.nodes.arena.slotted();
         if !self.is_own(node) {
             return Ok(false);
         }
-        let Content::Element { attributes, .. } = self.tree.arena.content(node) else {
+        let Content::Element { attributes, .. } = self.tree.nodes.arena.content(node) else {
             return Ok(false);
         };
         if attributes.get(name.as_slice()).is_none() {
@@ -275,7 +285,8 @@ impl Doc {
         let mut list = attributes.copy()?;
         list.unset(name.as_slice());
         let step = Step::Attributes { node, list };
-        make_change(&mut self.tree.arena, &mut self.history, step)?;
+        let counts = self.tree.nodes.counts;
+        self.tree.nodes.change(&mut self.history, step, counts)?;
         self.command.name(node);
         Ok(true)
     }

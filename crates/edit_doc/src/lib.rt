@@ -9,11 +9,11 @@
 ghost use Rattle.std.specs.Prelude.{◌≡◌, ℕ, ◌<◌, IfOk};
 ghost use Rattle.edit_doc.specs.Whole.{HasNoLoose, first_doc};
 
-mod change;
 mod command;
 mod commands;
 mod composed;
 mod confined;
+mod counted_arena;
 mod edits;
 mod extracting;
 mod giving_up;
@@ -29,6 +29,7 @@ mod tree;
 
 pub use command::Sides;
 use command::{Command, Kept};
+use counted_arena::CountedArena;
 pub use dom_model::{Attributes, Chars, Name};
 pub use edit_model::{EditFault, Flags, Setting};
 pub use edit_parts::Counts;
@@ -61,11 +62,12 @@ impl Model for Doc {
     ghost coded = { whole_code };
 
     ghost use Rattle.edit_doc.specs.History.{whole_of};
+    ghost use Rattle.edit_doc.specs.Live.{live};
     ghost use Rattle.edit_doc.specs.Sound.{IsSoundDoc};
 
-    ghost view = { λ d. whole_of d.tree d.command d.history };
+    ghost view = { λ d. whole_of (live d.tree) d.command d.history };
 
-    ghost invariant = { λ d. IsSoundDoc d.tree d.command d.history };
+    ghost invariant = { λ d. IsSoundDoc (live d.tree) d.command d.history };
 }
 
 impl Doc {
@@ -96,11 +98,10 @@ impl Doc {
         Ok(Doc {
             alloc,
             tree: LiveTree {
-                arena,
+                nodes: CountedArena { arena, counts },
                 points,
                 overrides: Overrides::none(alloc)?,
                 flags,
-                counts,
             },
             history: History::new(alloc, undo_depth)?,
             command: Command::none(alloc, next, kept),

@@ -200,12 +200,12 @@ impl Doc {
         requires more { 0 < length self.now.history.redo }
         ensures { IfOk result (λ entry. option_map logged_entry (slice_get self.now.history.redo 0) ≡ Some entry) }
     {
-        self.tree.arena.valid();
-        self.tree.arena.slotted();
+        self.tree.nodes.arena.valid();
+        self.tree.nodes.arena.slotted();
         let steps = self.history.next_entry().unwrap();
         let first = self.history.first_undone(self.command.start);
         let end = self.history.first_later(self.command.start);
-        read_entry(alloc, &self.tree.arena, steps, first, end)
+        read_entry(alloc, &self.tree.nodes.arena, steps, first, end)
     }
 
     // Puts the points, the overrides and the flags as they were kept.

@@ -52,10 +52,10 @@ impl Doc {
         ensures keeps { Keeps self.old self.new }
         ensures err { OnErr result (self.new ≡ self.old) }
     {
-        self.tree.arena.valid();
+        self.tree.nodes.arena.valid();
         self.command.detached.reserve(1)?;
         self.command.named.reserve(1)?;
-        match self.tree.arena.make_element(name, attributes) {
+        match self.tree.nodes.arena.make_element(name, attributes) {
             Ok(node) => {
                 self.command.note_made(node);
                 Ok(node)
@@ -73,10 +73,10 @@ impl Doc {
         ensures keeps { Keeps self.old self.new }
         ensures err { OnErr result (self.new ≡ self.old) }
     {
-        self.tree.arena.valid();
+        self.tree.nodes.arena.valid();
         self.command.detached.reserve(1)?;
         self.command.named.reserve(1)?;
-        match self.tree.arena.make_words(words) {
+        match self.tree.nodes.arena.make_words(words) {
             Ok(node) => {
                 self.command.note_made(node);
                 Ok(node)

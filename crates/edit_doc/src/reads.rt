@@ -24,7 +24,7 @@ impl Doc {
     pub fn valid(&self)
         ensures { IsDoc self.now }
     {
-        self.tree.arena.valid();
+        self.tree.nodes.arena.valid();
         self.history.valid();
     }
 
@@ -34,8 +34,8 @@ impl Doc {
         requires closed { IsClosed self.now }
         ensures { HoldsOnlyNeeded self.now }
     {
-        self.tree.arena.valid();
-        self.tree.arena.slotted();
+        self.tree.nodes.arena.valid();
+        self.tree.nodes.arena.slotted();
     }
 
     /// How the entries before the cursor led from the page to the document, for proofs: the edits of each fit the document
@@ -44,15 +44,15 @@ impl Doc {
         requires closed { IsClosed self.now }
         ensures { HasLedOnward self.now }
     {
-        self.tree.arena.valid();
+        self.tree.nodes.arena.valid();
     }
 
     // The nodes, with loose trees of kept entries beside those of the state.
     pub(crate) fn nodes(&self) -> &Arena
         ensures { Shows self.now result.now }
     {
-        self.tree.arena.valid();
-        &self.tree.arena
+        self.tree.nodes.arena.valid();
+        &self.tree.nodes.arena
     }
 
     /// The nodes: those of the state, and loose trees of kept entries beside them, which no definition sees.
@@ -79,8 +79,8 @@ impl Doc {
         ensures chars { result.chars ≡ char_count self.now.state.trees }
         ensures depth { page_depth self.now.state.trees ≤ result.depth }
     {
-        self.tree.arena.valid();
-        self.tree.counts
+        self.tree.nodes.arena.valid();
+        self.tree.nodes.counts
     }
 
     /// How deep the deepest node of the document is. It walks the document.
@@ -120,9 +120,9 @@ impl Doc {
         ensures found { IfSome result (λ r. (r.label ≡ label) × Holds self.now r) }
         ensures absent { (result ≡ None) ↔ (count_of self.now.state.trees label ≡ 0) }
     {
-        self.tree.arena.valid();
-        let node = self.tree.arena.find(label)?;
-        let root = root_of(&self.tree.arena, node);
+        self.tree.nodes.arena.valid();
+        let node = self.tree.nodes.arena.find(label)?;
+        let root = root_of(&self.tree.nodes.arena, node);
         if root.label == 0 || self.command.has_newly_detached(root) {
             Some(node)
         } else {

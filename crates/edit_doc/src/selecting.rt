@@ -67,13 +67,14 @@ impl Doc {
     pub fn grow(&mut self, at: Point)
         ensures { self.new ≡ with_state self.old (acted (Grow at) self.old.state) }
     {
-        self.tree.arena.valid();
+        self.tree.nodes.arena.valid();
         if self.may_grow(at) {
             let watch = self.tree.watch();
             self.tree.points.grown(at);
+            let nodes = &self.tree.nodes;
             self.tree
                 .overrides
-                .settle(&self.tree.arena, &self.tree.points, watch);
+                .settle(&nodes.arena, &self.tree.points, watch);
         }
     }
 
@@ -166,12 +167,13 @@ impl Doc {
         requires { IfSome pair (IsPlacedPair self.old.state.trees) }
         ensures { self.new ≡ with_state self.old (with_selection pair self.old.state) }
     {
-        self.tree.arena.valid();
+        self.tree.nodes.arena.valid();
         let watch = self.tree.watch();
         self.tree.points.set_selection(pair);
+        let nodes = &self.tree.nodes;
         self.tree
             .overrides
-            .settle(&self.tree.arena, &self.tree.points, watch);
+            .settle(&nodes.arena, &self.tree.points, watch);
     }
 
     // The points of a text past an offset go to another text.
@@ -180,16 +182,17 @@ impl Doc {
         requires tail_held { Holds self.old tail }
         ensures { self.new ≡ with_state self.old (acted (Send node.label at tail.label) self.old.state) }
     {
-        self.tree.arena.valid();
+        self.tree.nodes.arena.valid();
         if self.may_send(node, at, tail) {
             let watch = self.tree.watch();
             // The points of the parent are moved by the insertion of the tail.
             self.tree
                 .points
                 .split(node.label, at, tail.label, node.label, 0);
+            let nodes = &self.tree.nodes;
             self.tree
                 .overrides
-                .settle(&self.tree.arena, &self.tree.points, watch);
+                .settle(&nodes.arena, &self.tree.points, watch);
         }
     }
 }

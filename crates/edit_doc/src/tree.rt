@@ -6,40 +6,39 @@ ghost use Rattle.edit_parts.specs.Following.{Watches};
 ghost use Rattle.edit_doc.specs.Fields.{IsKept};
 
 use crate::command::Kept;
+use crate::counted_arena::CountedArena;
 use crate::overrides::Overrides;
-use crate::{Arena, Counts, Flags, Points};
+use crate::{Flags, Points};
 use edit_parts::Watch;
 use std::alloc::{AllocError, Global};
 
 // The nodes, and what stands in them and is set beside them.
 #[derive(Drop)]
 pub(crate) struct LiveTree {
-    // with the trees that only entries of the log name
-    pub(crate) arena: Arena,
+    pub(crate) nodes: CountedArena,
     pub(crate) points: Points,
     pub(crate) overrides: Overrides,
     pub(crate) flags: Flags,
-    pub(crate) counts: Counts,
 }
 
 impl LiveTree {
     // What a command keeps as it begins.
     pub(crate) fn keep(&self, alloc: Global) -> Result<Kept, AllocError>
-        ensures { IfOk result (IsKept self.now.points self.now.overrides self.now.flags self.now.counts) }
+        ensures { IfOk result (IsKept self.now.points self.now.overrides self.now.flags self.now.nodes.counts) }
     {
         Ok(Kept {
             places: self.points.places(),
             overrides: self.overrides.copy(alloc)?,
             flags: self.flags,
-            counts: self.counts,
+            counts: self.nodes.counts,
         })
     }
 
     // What to watch until the points stand where a change takes them.
     pub(crate) fn watch(&self) -> Option<Watch>
-        requires { IfSome self.now.points.selection (IsPlacedPair self.now.arena.trees) }
-        ensures { Watches self.now.arena.trees self.now.points self.now.overrides result }
+        requires { IfSome self.now.points.selection (IsPlacedPair self.now.nodes.arena.trees) }
+        ensures { Watches self.now.nodes.arena.trees self.now.points self.now.overrides result }
     {
-        self.overrides.watch(&self.arena, &self.points)
+        self.overrides.watch(&self.nodes.arena, &self.points)
     }
 }

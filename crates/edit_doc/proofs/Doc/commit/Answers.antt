@@ -9,13 +9,17 @@ use Rattle.live_range.specs.Names.{shown}
 use Rattle.edit_model.specs.History.{rested}
 use Rattle.edit_doc.specs.Whole.{history_committed}
 use Rattle.edit_doc.specs.declared.command.Command.{Command}
+use Rattle.edit_doc.specs.Counted.{IsCounted}
 use Rattle.edit_doc.specs.Fields.{IsEnded, Forgets}
 use Rattle.edit_doc.specs.GivingUp.{GivesUp, is_unnamed}
 use Rattle.edit_doc.specs.Sound.{next_first}
 use Rattle.edit_doc.specs.Trail.{Trail, trail_of}
+use Rattle.edit_doc.specs.Live.{live}
 use Rattle.edit_doc.proofs.Commits.{edits_count, committed_none, nothing_whole, makes_nothing}
 use Rattle.edit_doc.proofs.Inner.{Entering, opened_of, open_of, ending_of}
-use Rattle.edit_doc.proofs.Outgone.{detached_inner, detached_still_loose, unkept, gives_both}
+use Rattle.edit_doc.proofs.Outgone.{detached_inner, detached_still_loose, unkept, gives_both, prunes_both}
+use Rattle.edit_doc.proofs.HiddenTrees.{counted-pruned, le_false}
+use Rattle.edit_doc.proofs.Rests.{arena_forest}
 use Rattle.edit_doc.proofs.Spared.{spared}
 use Rattle.edit_doc.proofs.Rolls.{Leaves}
 use Rattle.edit_doc.proofs.Unnamed.{unnamed, some_low, unnamed_loose}
@@ -26,11 +30,18 @@ use Rattle.edit_doc.proofs.Doc.commit.Goals as goal
 pub drop_made-requires-clause-whole : goal.drop_made-requires-clause-whole
 drop_made-requires-clause-whole c =
     let n = c.in-Nothing.ensures.closes in
-    subst (λ (m : Command). IsWhole (λ l. nat_le m.start l) c.self.inside.tree.arena.trees) (sym n.command)
+    subst (λ (m : Command). IsWhole (λ l. nat_le m.start l) c.self.inside.tree.nodes.arena.trees) (sym n.command)
     (nothing_whole c.self.inside (ending_of c.self.inside _ c.self.view_is c.valid-2.ensures c.self.invariant c.requires.«open» c.resting_places-places.result c.resting_places-places.ensures) n.none)
 
-drops : (c : goal.After-end) → DropsMade c.self.inside.tree.arena c.drop_made.new.self c.self.inside.command.start
-drops c = subst (λ (m : Command). DropsMade c.self.inside.tree.arena c.drop_made.new.self m.start) c.in-Nothing.ensures.closes.command c.drop_made.ensures.drops
+pub invariant_of-nodes : goal.invariant_of-nodes
+invariant_of-nodes c =
+    let n = c.self.inside.tree.nodes in
+    let start = c.self.inside.command.start in
+    let drops = subst (λ (m : Command). DropsMade n.arena c.drop_made.new.self m.start) c.in-Nothing.ensures.closes.command c.drop_made.ensures.drops in
+    record { counted = subst (λ t. IsCounted t n.counts) (sym drops.trees) (counted-pruned n.arena.trees n.arena.next (arena_forest n.arena c.valid-2.ensures) (nat_le start) (le_false start 0 c.self.invariant.some_label) n.counts n.counted) }
+
+drops : (c : goal.After-end) → DropsMade c.self.inside.tree.nodes.arena c.drop_made.new.self c.self.inside.command.start
+drops c = subst (λ (m : Command). DropsMade c.self.inside.tree.nodes.arena c.drop_made.new.self m.start) c.in-Nothing.ensures.closes.command c.drop_made.ensures.drops
 
 forgets : (c : goal.After-end) → Forgets c.self.inside.history.past c.forget_detached.new.self.past c.self.inside.command
 forgets c =
@@ -49,7 +60,7 @@ trail c =
 ended : (c : goal.After-end) → IsEnded c.drop_made.new.self.next c.end.new.self
 ended c = subst (λ (n : ℕ). IsEnded n c.end.new.self) c.next_label.ensures c.end.ensures
 
-nothing : (c : goal.After-end) → Leaves (record c.self.inside.tree { arena = c.drop_made.new.self; points = shown c.self.inside.tree.points.names c.resting_places-places.result }) c.end.new.self
+nothing : (c : goal.After-end) → Leaves (record (live c.self.inside.tree) { arena = c.drop_made.new.self; points = shown c.self.inside.tree.points.names c.resting_places-places.result }) c.end.new.self
     (trail_of (record c.self.inside.history.log { open_entry = Closed }) c.forget_detached.new.self.past c.self.inside.history.future) c.args.self.now (rested c.args.self.now.state) (history_committed c.args.self.now)
 nothing c =
     makes_nothing c.self.inside (ending_of c.self.inside _ c.self.view_is c.valid-2.ensures c.self.invariant c.requires.«open» c.resting_places-places.result c.resting_places-places.ensures) c.in-Nothing.ensures.closes.none
@@ -80,17 +91,17 @@ give_up_unnamed-requires-clause-inner c = subst (λ (n : ℕ). 0 < n) (sym c.fir
 
 pub give_up_unnamed-requires-clause-loose : goal.give_up_unnamed-requires-clause-loose
 give_up_unnamed-requires-clause-loose c =
-    subst (λ (m : Command). (l : ℕ) → is_unnamed c.first_undone-low.result m l ≡ true → parent_of c.self.inside.tree.arena.trees l ≡ None) (sym c.in-Entry.ensures.closes.command)
-    (subst (λ (n : ℕ). (l : ℕ) → is_unnamed n c.self.inside.command l ≡ true → parent_of c.self.inside.tree.arena.trees l ≡ None) (sym c.first_undone-low.ensures)
+    subst (λ (m : Command). (l : ℕ) → is_unnamed c.first_undone-low.result m l ≡ true → parent_of c.self.inside.tree.nodes.arena.trees l ≡ None) (sym c.in-Entry.ensures.closes.command)
+    (subst (λ (n : ℕ). (l : ℕ) → is_unnamed n c.self.inside.command l ≡ true → parent_of c.self.inside.tree.nodes.arena.trees l ≡ None) (sym c.first_undone-low.ensures)
     (unnamed_loose c.self.inside (opened_of c.self.inside _ c.self.view_is c.valid-2.ensures c.self.invariant c.requires.«open»)))
 
 abbrev enters : (c : goal.After-give_up_detached-arg-1) → Entering c.self.inside
 enters c = let m = c.in-Entry.ensures.closes in record { ending = ending_of c.self.inside _ c.self.view_is c.valid-2.ensures c.self.invariant c.requires.«open» c.resting_places-places.result c.resting_places-places.ensures; some = m.some; past = c.commit.new.self.past; out = c.in-Entry.oldest; entered = m.entered }
 
-gives : (c : goal.After-give_up_detached-arg-1) → GivesUp (unnamed c.self.inside (opened_of c.self.inside _ c.self.view_is c.valid-2.ensures c.self.invariant c.requires.«open»)) c.self.inside.tree.arena c.give_up_unnamed.new.arena
+gives : (c : goal.After-give_up_detached-arg-1) → GivesUp (unnamed c.self.inside (opened_of c.self.inside _ c.self.view_is c.valid-2.ensures c.self.invariant c.requires.«open»)) c.self.inside.tree.nodes.arena c.give_up_unnamed.new.arena
 gives c =
-    subst (λ (m : Command). GivesUp (is_unnamed (next_first c.self.inside.command.start c.self.inside.history.future) m) c.self.inside.tree.arena c.give_up_unnamed.new.arena) c.in-Entry.ensures.closes.command
-    (subst (λ (n : ℕ). GivesUp (is_unnamed n c.commit.new.command) c.self.inside.tree.arena c.give_up_unnamed.new.arena) c.first_undone-low.ensures c.give_up_unnamed.ensures)
+    subst (λ (m : Command). GivesUp (is_unnamed (next_first c.self.inside.command.start c.self.inside.history.future) m) c.self.inside.tree.nodes.arena c.give_up_unnamed.new.arena) c.in-Entry.ensures.closes.command
+    (subst (λ (n : ℕ). GivesUp (is_unnamed n c.commit.new.command) c.self.inside.tree.nodes.arena c.give_up_unnamed.new.arena) c.first_undone-low.ensures c.give_up_unnamed.ensures)
 
 pub give_up_detached-requires-clause-inner : goal.give_up_detached-requires-clause-inner
 give_up_detached-requires-clause-inner c =
@@ -103,18 +114,29 @@ give_up_detached-requires-clause-loose c =
 abbrev enters_all : (c : goal.After-end-in-Entry) → Entering c.self.inside
 enters_all c = let m = c.in-Entry.ensures.closes in record { ending = ending_of c.self.inside _ c.self.view_is c.valid-2.ensures c.self.invariant c.requires.«open» c.resting_places-places.result c.resting_places-places.ensures; some = m.some; past = c.commit.new.self.past; out = c.in-Entry.oldest; entered = m.entered }
 
-gives_all : (c : goal.After-end-in-Entry) → GivesUp (unkept c.self.inside (enters_all c)) c.self.inside.tree.arena c.give_up_detached.new.arena
+gives_all : (c : goal.After-end-in-Entry) → GivesUp (unkept c.self.inside (enters_all c)) c.self.inside.tree.nodes.arena c.give_up_detached.new.arena
 gives_all c =
     let m = c.in-Entry.ensures.closes in
-    let first : GivesUp (unnamed c.self.inside (opened_of c.self.inside _ c.self.view_is c.valid-2.ensures c.self.invariant c.requires.«open»)) c.self.inside.tree.arena c.give_up_unnamed.new.arena =
-    subst (λ (n : Command). GivesUp (is_unnamed (next_first c.self.inside.command.start c.self.inside.history.future) n) c.self.inside.tree.arena c.give_up_unnamed.new.arena) m.command
-    (subst (λ (n : ℕ). GivesUp (is_unnamed n c.commit.new.command) c.self.inside.tree.arena c.give_up_unnamed.new.arena) c.first_undone-low.ensures c.give_up_unnamed.ensures) in
+    let first : GivesUp (unnamed c.self.inside (opened_of c.self.inside _ c.self.view_is c.valid-2.ensures c.self.invariant c.requires.«open»)) c.self.inside.tree.nodes.arena c.give_up_unnamed.new.arena =
+    subst (λ (n : Command). GivesUp (is_unnamed (next_first c.self.inside.command.start c.self.inside.history.future) n) c.self.inside.tree.nodes.arena c.give_up_unnamed.new.arena) m.command
+    (subst (λ (n : ℕ). GivesUp (is_unnamed n c.commit.new.command) c.self.inside.tree.nodes.arena c.give_up_unnamed.new.arena) c.first_undone-low.ensures c.give_up_unnamed.ensures) in
     gives_both c.self.inside (enters_all c) _ _ first c.give_up_detached.ensures
 
-entry_ended : (c : goal.After-end-in-Entry) → IsEnded c.self.inside.tree.arena.next c.end-in-Entry.new.self
+pub invariant_of-nodes-in-Entry : goal.invariant_of-nodes-in-Entry
+invariant_of-nodes-in-Entry c =
+    let n = c.self.inside.tree.nodes in
+    let m = c.in-Entry.ensures.closes in
+    let entering : Entering c.self.inside = record { ending = ending_of c.self.inside _ c.self.view_is c.valid-2.ensures c.self.invariant c.requires.«open» c.resting_places-places.result c.resting_places-places.ensures; some = m.some; past = c.commit.new.self.past; out = c.in-Entry.oldest; entered = m.entered } in
+    let first : GivesUp (unnamed c.self.inside (opened_of c.self.inside _ c.self.view_is c.valid-2.ensures c.self.invariant c.requires.«open»)) c.self.inside.tree.nodes.arena c.give_up_unnamed.new.arena =
+    subst (λ (n : Command). GivesUp (is_unnamed (next_first c.self.inside.command.start c.self.inside.history.future) n) c.self.inside.tree.nodes.arena c.give_up_unnamed.new.arena) m.command
+    (subst (λ (n : ℕ). GivesUp (is_unnamed n c.commit.new.command) c.self.inside.tree.nodes.arena c.give_up_unnamed.new.arena) c.first_undone-low.ensures c.give_up_unnamed.ensures) in
+    let gives = gives_both c.self.inside entering _ _ first c.give_up_detached.ensures in
+    record { counted = subst (λ t. IsCounted t n.counts) (sym gives.trees) (counted-pruned n.arena.trees n.arena.next (arena_forest n.arena c.valid-2.ensures) (unkept c.self.inside entering) (prunes_both c.self.inside entering).document n.counts n.counted) }
+
+entry_ended : (c : goal.After-end-in-Entry) → IsEnded c.self.inside.tree.nodes.arena.next c.end-in-Entry.new.self
 entry_ended c = subst (λ (n : ℕ). IsEnded n c.end-in-Entry.new.self) (c.next_label-in-Entry.ensures ∙ (c.give_up_detached.ensures.next ∙ c.give_up_unnamed.ensures.next)) c.end-in-Entry.ensures
 
-spares : (c : goal.After-end-in-Entry) → Leaves (record c.self.inside.tree { arena = c.give_up_detached.new.arena; points = shown c.self.inside.tree.points.names c.resting_places-places.result }) c.end-in-Entry.new.self
+spares : (c : goal.After-end-in-Entry) → Leaves (record (live c.self.inside.tree) { arena = c.give_up_detached.new.arena; points = shown c.self.inside.tree.points.names c.resting_places-places.result }) c.end-in-Entry.new.self
     (trail_of c.commit.new.self.log c.commit.new.self.past []) c.args.self.now (rested c.args.self.now.state) (history_committed c.args.self.now)
 spares c =
     let m = c.in-Entry.ensures.closes in

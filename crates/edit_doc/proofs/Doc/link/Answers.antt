@@ -3,7 +3,7 @@ use Rattle.edit_model.specs.Edit.{Insert}
 use Rattle.edit_model.specs.Gives.{label_of}
 use Rattle.edit_parts.specs.Following.{settled}
 use Rattle.edit_doc.proofs.Edited.{Applied}
-use Rattle.edit_doc.proofs.Inserting.{fits, nodes_fit, chars_fit, held_here, points_fit, placed, link_done}
+use Rattle.edit_doc.proofs.Inserting.{fits, nodes_fit, chars_fit, counted_linked, held_here, points_fit, placed, link_done}
 use Rattle.edit_doc.proofs.Settling.{points_now}
 use Rattle.edit_doc.proofs.SeenNodes.{held_seen}
 use Rattle.edit_doc.proofs.Doc.link.Goals as goal
@@ -23,39 +23,45 @@ counts_with-counts-requires-clause-chars c =
     chars_fit c.self.inside a.self.now c.self.view_is c.valid.ensures c.slotted.ensures c.requires.open c.self.invariant a.node a.parent a.before c.requires.node_held c.requires.parent_held c.requires.before_held c.requires.possible
     c.is_in_document-enters.result c.is_in_document-enters.ensures
 
-pub make_change-requires-clause-fits : goal.make_change-requires-clause-fits
-make_change-requires-clause-fits c =
+pub change-requires-clause-fits : goal.change-requires-clause-fits
+change-requires-clause-fits c =
     let a = c.args in
     fits c.self.inside a.self.now c.self.view_is c.valid.ensures c.slotted.ensures c.requires.open c.self.invariant a.node a.parent a.before c.requires.node_held c.requires.parent_held c.requires.before_held c.requires.possible
+
+pub change-requires-clause-counted : goal.change-requires-clause-counted
+change-requires-clause-counted c =
+    let a = c.args in
+    counted_linked c.self.inside a.self.now c.self.view_is c.valid.ensures c.slotted.ensures c.requires.open c.self.invariant a.node a.parent a.before c.requires.node_held c.requires.parent_held c.requires.before_held c.requires.possible
+    c.is_in_document-enters.result c.is_in_document-enters.ensures c.counts_with-counts.result c.counts_with-counts.ensures.nodes c.counts_with-counts.ensures.chars c.counts_with-counts.ensures.depth
 
 pub adjust_inserted-requires-clause-held : goal.adjust_inserted-requires-clause-held
 adjust_inserted-requires-clause-held c =
     let a = c.args in
     let same = held_here c.self.inside a.self.now c.self.view_is c.valid.ensures c.slotted.ensures c.requires.open c.self.invariant a.node a.parent a.before c.requires.node_held c.requires.parent_held c.requires.before_held c.requires.possible
-    c.make_change.new.arena c.in_ok-make_change.ensures.arena in
+    c.change.new.self.arena c.in_ok-change.ensures.arena in
     ap (λ h. Rattle.std.specs.Prelude.slice_index_or h a.node.slot Rattle.std.proofs.Common.None) (sym same) ∙ (held_seen c.self.inside a.self.now c.self.view_is a.node c.requires.node_held).slot
 
 pub adjust_inserted-requires-clause-fits : goal.adjust_inserted-requires-clause-fits
 adjust_inserted-requires-clause-fits c =
     let a = c.args in
     points_fit c.self.inside a.self.now c.self.view_is c.valid.ensures c.slotted.ensures c.requires.open c.self.invariant a.node a.parent a.before c.requires.node_held c.requires.parent_held c.requires.before_held c.requires.possible
-    c.make_change.new.arena c.in_ok-make_change.ensures.arena
+    c.change.new.self.arena c.in_ok-change.ensures.arena
 
 pub settle-requires : goal.settle-requires
 settle-requires c =
     let a = c.args in
     (placed c.self.inside a.self.now c.self.view_is c.valid.ensures c.slotted.ensures c.requires.open c.self.invariant a.node a.parent a.before c.requires.node_held c.requires.parent_held c.requires.before_held c.requires.possible
-    c.make_change.new.arena c.in_ok-make_change.ensures.arena c.adjust_inserted.new.points c.adjust_inserted.ensures).selection
+    c.change.new.self.arena c.in_ok-change.ensures.arena c.adjust_inserted.new.points c.adjust_inserted.ensures).selection
 
-overrides_are : (c : goal.After-settle) → c.settle.new.self ≡ settled c.self.inside.tree.arena.trees c.self.inside.tree.points c.make_change.new.arena.trees c.adjust_inserted.new.points c.self.inside.tree.overrides
-overrides_are c = c.settle.ensures c.self.inside.tree.arena.trees c.self.inside.tree.points c.watch-watch.ensures
+overrides_are : (c : goal.After-settle) → c.settle.new.self ≡ settled c.self.inside.tree.nodes.arena.trees c.self.inside.tree.points c.change.new.self.arena.trees c.adjust_inserted.new.points c.self.inside.tree.overrides
+overrides_are c = c.settle.ensures c.self.inside.tree.nodes.arena.trees c.self.inside.tree.points c.watch-watch.ensures
 
-done : (c : goal.After-settle) → Applied c.self.inside c.args.self.now (Insert c.args.parent.label (label_of c.args.before) c.args.node.label) c.make_change.new.arena c.adjust_inserted.new.points c.settle.new.self c.counts_with-counts.result c.name_place.new.self c.make_change.new.history
+done : (c : goal.After-settle) → Applied c.self.inside c.args.self.now (Insert c.args.parent.label (label_of c.args.before) c.args.node.label) c.change.new.self.arena c.adjust_inserted.new.points c.settle.new.self c.name_place.new.self c.change.new.history
 done c =
     let a = c.args in
     link_done c.self.inside a.self.now c.self.view_is c.valid.ensures c.slotted.ensures c.requires.open c.self.invariant a.node a.parent a.before c.requires.node_held c.requires.parent_held c.requires.before_held c.requires.possible
-    c.make_change.new.arena c.in_ok-make_change.ensures.arena c.adjust_inserted.new.points c.adjust_inserted.ensures c.settle.new.self (overrides_are c)
-    c.is_in_document-enters.result c.is_in_document-enters.ensures c.counts_with-counts.result c.counts_with-counts.ensures.nodes c.counts_with-counts.ensures.chars c.counts_with-counts.ensures.depth c.name_place.new.self c.name_place.ensures c.make_change.new.history c.in_ok-make_change.ensures.history
+    c.change.new.self.arena c.in_ok-change.ensures.arena c.adjust_inserted.new.points c.adjust_inserted.ensures c.settle.new.self (overrides_are c)
+    c.name_place.new.self c.name_place.ensures c.change.new.history c.in_ok-change.ensures.history
 
 pub invariant_of-self-2 : goal.invariant_of-self-2
 invariant_of-self-2 c = (done c).invariant

@@ -6,7 +6,8 @@ use Rattle.edit_model.specs.Run.{make_words, final}
 use Rattle.edit_model.specs.Action.{made}
 use Rattle.edit_doc.specs.Sound.{IsSoundDoc}
 use Rattle.edit_doc.specs.Whole.{Whole}
-use Rattle.edit_doc.proofs.NewNodes.{Given, room_made, node_made, none_made, words_made, words_content_is}
+use Rattle.edit_doc.specs.Live.{live}
+use Rattle.edit_doc.proofs.NewNodes.{Given, counted_made, room_made, node_made, none_made, words_made, words_content_is}
 use Rattle.edit_doc.proofs.Doc.make_owned_words.Goals as goal
 
 pub invariant_of-self : goal.invariant_of-self
@@ -14,6 +15,11 @@ invariant_of-self c = room_made c.self.inside c.args.self.now c.self.view_is c.v
 
 pub invariant_of-self-in_err-reserve-2 : goal.invariant_of-self-in_err-reserve-2
 invariant_of-self-in_err-reserve-2 c = room_made c.self.inside c.args.self.now c.self.view_is c.valid.ensures c.requires.open c.self.invariant (record c.self.inside.command { detached = c.reserve.new.self; named = c.reserve-2.new.self }) refl c.reserve-2.ensures.items c.reserve.ensures.items
+
+pub invariant_of-self-inside : goal.invariant_of-self-inside
+invariant_of-self-inside c =
+    let n = c.self.inside.tree.nodes in
+    record { counted = counted_made n.arena c.make_words.new.self (Words c.args.words) n.counts c.valid.ensures n.counted c.make_words.result c.make_words.ensures.made c.make_words.ensures.err }
 
 given : (c : goal.After-note_made) → Given c.self.inside c.args.self.now (Words c.args.words) c.in-Ok.node c.make_words.new.self c.note_made.new.self
 given c =
@@ -26,7 +32,7 @@ invariant_of-self-in-Ok c = (given c).invariant
 pub invariant_of-self-in-Err : goal.invariant_of-self-in-Err
 invariant_of-self-in-Err c =
     let i = c.self.inside in
-    subst (λ a. IsSoundDoc (record i.tree { arena = a }) (record i.command { detached = c.reserve.new.self; named = c.reserve-2.new.self }) i.history) (sym c.in-Err.ensures.err)
+    subst (λ a. IsSoundDoc (record (live i.tree) { arena = a }) (record i.command { detached = c.reserve.new.self; named = c.reserve-2.new.self }) i.history) (sym c.in-Err.ensures.err)
     (room_made i c.args.self.now c.self.view_is c.valid.ensures c.requires.open c.self.invariant (record i.command { detached = c.reserve.new.self; named = c.reserve-2.new.self }) refl c.reserve-2.ensures.items c.reserve.ensures.items)
 
 pub returns-in-Ok-clause-gives : goal.returns-in-Ok-clause-gives

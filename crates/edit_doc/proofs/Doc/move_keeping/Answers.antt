@@ -12,18 +12,18 @@ use Rattle.edit_doc.specs.Fields.{comes_in}
 use Rattle.edit_doc.specs.Held.{Holds, IfHeld}
 use Rattle.edit_doc.specs.Marks.{place_labels}
 use Rattle.edit_doc.proofs.Edited.{Done}
-use Rattle.edit_doc.proofs.Moving.{not_moved, fits, place_markable, markable_after, nodes_fit, chars_fit, held_here, points_fit, placed, stands, move_done}
+use Rattle.edit_doc.proofs.Moving.{not_moved, fits, place_markable, markable_after, nodes_fit, chars_fit, counted_moved, held_here, points_fit, placed, stands, move_done}
 use Rattle.edit_doc.proofs.Settling.{points_now}
 use Rattle.edit_doc.proofs.SeenNodes.{shows_of, held_seen, parent_seen, finds_parent, finds_next}
 use Rattle.edit_doc.proofs.Doc.move_keeping.Goals as goal
 
-up : (d : Inside) (node from : NodeRef) (o : Option NodeRef) → Names d.tree.arena o (parent_of d.tree.arena.trees node.label) → o ≡ Some from → parent_of d.tree.arena.trees node.label ≡ Some from.label
+up : (d : Inside) (node from : NodeRef) (o : Option NodeRef) → Names d.tree.nodes.arena o (parent_of d.tree.nodes.arena.trees node.label) → o ≡ Some from → parent_of d.tree.nodes.arena.trees node.label ≡ Some from.label
 up d node from o h e = sym h.is ∙ ap label e
 
 pub returns-in_default-clause-gives : goal.returns-in_default-clause-gives
 returns-in_default-clause-gives c =
     let a = c.args in
-    let none : parent_of c.self.inside.tree.arena.trees a.node.label ≡ None = sym c.parent.ensures.is ∙ by_option c.parent.result c.in_default.not-Some in
+    let none : parent_of c.self.inside.tree.nodes.arena.trees a.node.label ≡ None = sym c.parent.ensures.is ∙ by_option c.parent.result c.in_default.not-Some in
     gives_left (Move a.node.label a.parent.label (label_of a.before)) a.self.now.state a.self.now.state (not_moved a.self.now.state a.node.label a.parent.label (label_of a.before) None (parent_seen (shows_of c.self.inside c.valid.ensures a.self.now c.self.view_is) a.node c.requires.node_held ∙ none) refl) refl
   where
     by_option : (o : Option NodeRef) → ((r : NodeRef) → o ≡ Some r → ⊥) → label o ≡ None
@@ -48,16 +48,22 @@ pub watch-watch-requires : goal.watch-watch-requires
 watch-watch-requires c = (points_now c.self.inside c.valid.ensures c.self.invariant).selection
 
 pub counts_moved-counts-requires-clause-nodes : goal.counts_moved-counts-requires-clause-nodes
-counts_moved-counts-requires-clause-nodes c = let a = c.args in nodes_fit c.self.inside a.self.now c.self.view_is c.valid.ensures c.slotted.ensures c.requires.open c.self.invariant a.node c.in-Some.from a.parent a.before c.requires.node_held c.requires.parent_held c.requires.before_held (up c.self.inside a.node c.in-Some.from c.parent.result c.parent.ensures c.in-Some.is) (sym c.may_go.ensures ∙ c.if-not-may_go.false) (comes_in c.self.inside.tree.arena.trees a.node.label a.parent.label) refl
+counts_moved-counts-requires-clause-nodes c = let a = c.args in nodes_fit c.self.inside a.self.now c.self.view_is c.valid.ensures c.slotted.ensures c.requires.open c.self.invariant a.node c.in-Some.from a.parent a.before c.requires.node_held c.requires.parent_held c.requires.before_held (up c.self.inside a.node c.in-Some.from c.parent.result c.parent.ensures c.in-Some.is) (sym c.may_go.ensures ∙ c.if-not-may_go.false) (comes_in c.self.inside.tree.nodes.arena.trees a.node.label a.parent.label) refl
 
 pub counts_moved-counts-requires-clause-chars : goal.counts_moved-counts-requires-clause-chars
-counts_moved-counts-requires-clause-chars c = let a = c.args in chars_fit c.self.inside a.self.now c.self.view_is c.valid.ensures c.slotted.ensures c.requires.open c.self.invariant a.node c.in-Some.from a.parent a.before c.requires.node_held c.requires.parent_held c.requires.before_held (up c.self.inside a.node c.in-Some.from c.parent.result c.parent.ensures c.in-Some.is) (sym c.may_go.ensures ∙ c.if-not-may_go.false) (comes_in c.self.inside.tree.arena.trees a.node.label a.parent.label) refl
+counts_moved-counts-requires-clause-chars c = let a = c.args in chars_fit c.self.inside a.self.now c.self.view_is c.valid.ensures c.slotted.ensures c.requires.open c.self.invariant a.node c.in-Some.from a.parent a.before c.requires.node_held c.requires.parent_held c.requires.before_held (up c.self.inside a.node c.in-Some.from c.parent.result c.parent.ensures c.in-Some.is) (sym c.may_go.ensures ∙ c.if-not-may_go.false) (comes_in c.self.inside.tree.nodes.arena.trees a.node.label a.parent.label) refl
 
 pub counts_moved-counts-requires-clause-stands : goal.counts_moved-counts-requires-clause-stands
 counts_moved-counts-requires-clause-stands c = let a = c.args in stands c.self.inside a.self.now c.self.view_is c.valid.ensures c.slotted.ensures c.requires.open c.self.invariant a.node c.in-Some.from a.parent a.before c.requires.node_held c.requires.parent_held c.requires.before_held (up c.self.inside a.node c.in-Some.from c.parent.result c.parent.ensures c.in-Some.is) (sym c.may_go.ensures ∙ c.if-not-may_go.false)
 
-pub make_change-requires-clause-fits : goal.make_change-requires-clause-fits
-make_change-requires-clause-fits c = let a = c.args in fits c.self.inside a.self.now c.self.view_is c.valid.ensures c.slotted.ensures c.requires.open c.self.invariant a.node c.in-Some.from a.parent a.before c.requires.node_held c.requires.parent_held c.requires.before_held (up c.self.inside a.node c.in-Some.from c.parent.result c.parent.ensures c.in-Some.is) (sym c.may_go.ensures ∙ c.if-not-may_go.false)
+pub change-requires-clause-fits : goal.change-requires-clause-fits
+change-requires-clause-fits c = let a = c.args in fits c.self.inside a.self.now c.self.view_is c.valid.ensures c.slotted.ensures c.requires.open c.self.invariant a.node c.in-Some.from a.parent a.before c.requires.node_held c.requires.parent_held c.requires.before_held (up c.self.inside a.node c.in-Some.from c.parent.result c.parent.ensures c.in-Some.is) (sym c.may_go.ensures ∙ c.if-not-may_go.false)
+
+pub change-requires-clause-counted : goal.change-requires-clause-counted
+change-requires-clause-counted c =
+    let a = c.args in
+    counted_moved c.self.inside a.self.now c.self.view_is c.valid.ensures c.slotted.ensures c.requires.open c.self.invariant a.node c.in-Some.from a.parent a.before c.requires.node_held c.requires.parent_held c.requires.before_held (up c.self.inside a.node c.in-Some.from c.parent.result c.parent.ensures c.in-Some.is) (sym c.may_go.ensures ∙ c.if-not-may_go.false)
+    c.counts_moved-counts.result c.counts_moved-counts.ensures.nodes c.counts_moved-counts.ensures.chars c.counts_moved-counts.ensures.depth
 
 pub name_place-requires : goal.name_place-requires
 name_place-requires c =
@@ -76,26 +82,26 @@ name_place-requires-2 c =
 pub adjust_moved-requires-clause-held : goal.adjust_moved-requires-clause-held
 adjust_moved-requires-clause-held c =
     let a = c.args in
-    let same = held_here c.self.inside a.self.now c.self.view_is c.valid.ensures c.slotted.ensures c.requires.open c.self.invariant a.node c.in-Some.from a.parent a.before c.requires.node_held c.requires.parent_held c.requires.before_held (up c.self.inside a.node c.in-Some.from c.parent.result c.parent.ensures c.in-Some.is) (sym c.may_go.ensures ∙ c.if-not-may_go.false) c.make_change.new.arena c.in_ok-make_change.ensures.arena in
+    let same = held_here c.self.inside a.self.now c.self.view_is c.valid.ensures c.slotted.ensures c.requires.open c.self.invariant a.node c.in-Some.from a.parent a.before c.requires.node_held c.requires.parent_held c.requires.before_held (up c.self.inside a.node c.in-Some.from c.parent.result c.parent.ensures c.in-Some.is) (sym c.may_go.ensures ∙ c.if-not-may_go.false) c.change.new.self.arena c.in_ok-change.ensures.arena in
     ap (λ h. slice_index_or h a.node.slot None) (sym same) ∙ (held_seen c.self.inside a.self.now c.self.view_is a.node c.requires.node_held).slot
 
 pub adjust_moved-requires-clause-fits : goal.adjust_moved-requires-clause-fits
-adjust_moved-requires-clause-fits c = let a = c.args in points_fit c.self.inside a.self.now c.self.view_is c.valid.ensures c.slotted.ensures c.requires.open c.self.invariant a.node c.in-Some.from a.parent a.before c.requires.node_held c.requires.parent_held c.requires.before_held (up c.self.inside a.node c.in-Some.from c.parent.result c.parent.ensures c.in-Some.is) (sym c.may_go.ensures ∙ c.if-not-may_go.false) c.make_change.new.arena c.in_ok-make_change.ensures.arena c.moving_from-place.result c.moving_from-place.ensures
+adjust_moved-requires-clause-fits c = let a = c.args in points_fit c.self.inside a.self.now c.self.view_is c.valid.ensures c.slotted.ensures c.requires.open c.self.invariant a.node c.in-Some.from a.parent a.before c.requires.node_held c.requires.parent_held c.requires.before_held (up c.self.inside a.node c.in-Some.from c.parent.result c.parent.ensures c.in-Some.is) (sym c.may_go.ensures ∙ c.if-not-may_go.false) c.change.new.self.arena c.in_ok-change.ensures.arena c.moving_from-place.result c.moving_from-place.ensures
 
 pub settle-requires : goal.settle-requires
 settle-requires c =
     let a = c.args in
-    (placed c.self.inside a.self.now c.self.view_is c.valid.ensures c.slotted.ensures c.requires.open c.self.invariant a.node c.in-Some.from a.parent a.before c.requires.node_held c.requires.parent_held c.requires.before_held (up c.self.inside a.node c.in-Some.from c.parent.result c.parent.ensures c.in-Some.is) (sym c.may_go.ensures ∙ c.if-not-may_go.false) c.make_change.new.arena c.in_ok-make_change.ensures.arena c.adjust_moved.new.points c.moving_from-place.result c.moving_from-place.ensures c.adjust_moved.ensures.moved c.adjust_moved.ensures.none).selection
+    (placed c.self.inside a.self.now c.self.view_is c.valid.ensures c.slotted.ensures c.requires.open c.self.invariant a.node c.in-Some.from a.parent a.before c.requires.node_held c.requires.parent_held c.requires.before_held (up c.self.inside a.node c.in-Some.from c.parent.result c.parent.ensures c.in-Some.is) (sym c.may_go.ensures ∙ c.if-not-may_go.false) c.change.new.self.arena c.in_ok-change.ensures.arena c.adjust_moved.new.points c.moving_from-place.result c.moving_from-place.ensures c.adjust_moved.ensures.moved c.adjust_moved.ensures.none).selection
 
-overrides_are : (c : goal.After-settle) → c.settle.new.self ≡ settled c.self.inside.tree.arena.trees c.self.inside.tree.points c.make_change.new.arena.trees c.adjust_moved.new.points c.self.inside.tree.overrides
-overrides_are c = c.settle.ensures c.self.inside.tree.arena.trees c.self.inside.tree.points c.watch-watch.ensures
+overrides_are : (c : goal.After-settle) → c.settle.new.self ≡ settled c.self.inside.tree.nodes.arena.trees c.self.inside.tree.points c.change.new.self.arena.trees c.adjust_moved.new.points c.self.inside.tree.overrides
+overrides_are c = c.settle.ensures c.self.inside.tree.nodes.arena.trees c.self.inside.tree.points c.watch-watch.ensures
 
-done : (c : goal.After-settle) → Done c.self.inside c.args.self.now (Move c.args.node.label c.args.parent.label (label_of c.args.before)) c.make_change.new.arena c.adjust_moved.new.points c.settle.new.self c.counts_moved-counts.result c.name_place-2.new.self c.make_change.new.history
+done : (c : goal.After-settle) → Done c.self.inside c.args.self.now (Move c.args.node.label c.args.parent.label (label_of c.args.before)) c.change.new.self.arena c.adjust_moved.new.points c.settle.new.self c.name_place-2.new.self c.change.new.history
 done c =
     let a = c.args in
     move_done c.self.inside a.self.now c.self.view_is c.valid.ensures c.slotted.ensures c.requires.open c.self.invariant a.node c.in-Some.from a.parent a.before c.requires.node_held c.requires.parent_held c.requires.before_held (up c.self.inside a.node c.in-Some.from c.parent.result c.parent.ensures c.in-Some.is) (sym c.may_go.ensures ∙ c.if-not-may_go.false)
-    c.make_change.new.arena c.in_ok-make_change.ensures.arena c.adjust_moved.new.points c.moving_from-place.result c.moving_from-place.ensures c.adjust_moved.ensures.moved c.adjust_moved.ensures.none c.settle.new.self (overrides_are c)
-    (comes_in c.self.inside.tree.arena.trees a.node.label a.parent.label) refl c.counts_moved-counts.result c.counts_moved-counts.ensures.nodes c.counts_moved-counts.ensures.chars c.counts_moved-counts.ensures.depth c.next-next.result c.next-next.ensures.is c.name_place.new.self c.name_place-2.new.self c.name_place.ensures c.name_place-2.ensures c.make_change.new.history c.in_ok-make_change.ensures.history
+    c.change.new.self.arena c.in_ok-change.ensures.arena c.adjust_moved.new.points c.moving_from-place.result c.moving_from-place.ensures c.adjust_moved.ensures.moved c.adjust_moved.ensures.none c.settle.new.self (overrides_are c)
+    c.next-next.result c.next-next.ensures.is c.name_place.new.self c.name_place-2.new.self c.name_place.ensures c.name_place-2.ensures c.change.new.history c.in_ok-change.ensures.history
 
 pub invariant_of-self-2 : goal.invariant_of-self-2
 invariant_of-self-2 c = (done c).invariant

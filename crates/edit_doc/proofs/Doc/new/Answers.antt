@@ -10,10 +10,10 @@ ended c = subst (λ (n : ℕ). IsEnded n c.none-3.result) c.next_label-next.ensu
 
 pub invariant_of-result : goal.invariant_of-result
 invariant_of-result c =
-    rw (c.arena.view_is, c.points.view_is ∙ c.in_ok-points.ensures, c.in_ok-none-2.ensures, c.in_ok-new.ensures)
-    (new_ok c.args.arena c.valid.ensures c.requires.loose c.args.undo_depth (record { nodes = c.node_count.result; chars = c.char_count.result; depth = c.page_depth.result }) c.node_count.ensures c.char_count.ensures c.page_depth.ensures c.none-3.result (ended c))
+    rw (c.points.view_is ∙ c.in_ok-points.ensures, c.in_ok-none-2.ensures, c.in_ok-new.ensures)
+    (new_ok c.args.arena c.valid.ensures c.requires.loose c.args.undo_depth c.none-3.result (ended c))
 
 pub returns : goal.returns
 returns c =
-    (λ i. whole_of (live_of (c.arena.view_is i) ((c.points.view_is ∙ c.in_ok-points.ensures) i) (c.in_ok-none-2.ensures i) (record { css_styling = false; paragraphs = false }) (record { nodes = c.node_count.result; chars = c.char_count.result; depth = c.page_depth.result })) c.none-3.result (c.in_ok-new.ensures i))
-    ∙ new_is c.args.arena c.valid.ensures c.requires.loose c.args.undo_depth (record { nodes = c.node_count.result; chars = c.char_count.result; depth = c.page_depth.result }) c.node_count.ensures c.char_count.ensures c.page_depth.ensures c.none-3.result (ended c)
+    (λ i. whole_of (live_of c.args.arena ((c.points.view_is ∙ c.in_ok-points.ensures) i) (c.in_ok-none-2.ensures i) (record { css_styling = false; paragraphs = false })) c.none-3.result (c.in_ok-new.ensures i))
+    ∙ new_is c.args.arena c.valid.ensures c.requires.loose c.args.undo_depth c.none-3.result (ended c)

@@ -20,12 +20,12 @@ settle-requires c =
     let pair = subst (λ (w : Whole). IfSome c.args.pair (IsPlacedPair w.state.trees)) (sym c.self.view_is) c.requires in
     rw c.set_selection.ensures (placed_then d c.valid.ensures c.self.invariant c.args.pair d.tree.points.scratch d.tree.points.marks (record { selection = pair; scratch = p.scratch; marks = p.marks })).selection
 
-placed : (c : goal.After-settle) → IsPlaced (seen_trees c.self.inside.history.log c.self.inside.command.start c.self.inside.tree.arena.trees) (moved_to c.self.inside.tree.points c.args.pair c.self.inside.tree.points.scratch c.self.inside.tree.points.marks)
+placed : (c : goal.After-settle) → IsPlaced (seen_trees c.self.inside.history.log c.self.inside.command.start c.self.inside.tree.nodes.arena.trees) (moved_to c.self.inside.tree.points c.args.pair c.self.inside.tree.points.scratch c.self.inside.tree.points.marks)
 placed c =
     let p = c.self.invariant.valid.placed in
     record { selection = subst (λ (w : Whole). IfSome c.args.pair (IsPlacedPair w.state.trees)) (sym c.self.view_is) c.requires; scratch = p.scratch; marks = p.marks }
 
-written : (c : goal.After-settle) → c.settle.new.self ≡ settled c.self.inside.tree.arena.trees c.self.inside.tree.points c.self.inside.tree.arena.trees (moved_to c.self.inside.tree.points c.args.pair c.self.inside.tree.points.scratch c.self.inside.tree.points.marks) c.self.inside.tree.overrides
+written : (c : goal.After-settle) → c.settle.new.self ≡ settled c.self.inside.tree.nodes.arena.trees c.self.inside.tree.points c.self.inside.tree.nodes.arena.trees (moved_to c.self.inside.tree.points c.args.pair c.self.inside.tree.points.scratch c.self.inside.tree.points.marks) c.self.inside.tree.overrides
 written c =
     let d = c.self.inside in
     settled_items d c.valid.ensures c.self.invariant c.args.pair d.tree.points.scratch d.tree.points.marks (placed c) c.settle.new.self c.set_selection.new.self c.watch-watch.result c.set_selection.ensures c.watch-watch.ensures c.settle.ensures

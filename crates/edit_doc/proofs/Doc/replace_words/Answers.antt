@@ -9,7 +9,7 @@ use Rattle.edit_model.proofs.Giving.{gives_left}
 use Rattle.edit_doc.proofs.Edited.{Done}
 use Rattle.edit_doc.proofs.Freely.{freed_edit}
 use Rattle.edit_doc.proofs.Lessened.{changes}
-use Rattle.edit_doc.proofs.Replaced.{not_own_replace, not_replace_here, may_replace_here, points_fit, fits, detached, trees, points_are, replace_done}
+use Rattle.edit_doc.proofs.Replaced.{not_own_replace, not_replace_here, may_replace_here, points_fit, fits, detached, trees, points_are, counted_replaced, replace_done}
 use Rattle.edit_doc.proofs.Settling.{points_now, placed_called, settled_items}
 use Rattle.edit_doc.proofs.Doc.replace_words.Goals as goal
 
@@ -43,6 +43,19 @@ replaced-requires-2 c =
     let change : may_change (Some c.content-content.result.now) a.at a.count a.put.now ≡ true = sym c.in_ok-words.ensures.changes ∙ ap is_some c.in-Some.is in
     points_fit c.self.inside c.valid.ensures a.self.now c.self.view_is a.node c.requires.node_held a.at a.count a.put.now c.content-content.result.now c.content-content.ensures c.self.invariant (sym c.is_own.ensures ∙ c.if-not-is_own.false) change
 
+pub change-requires-clause-counted : goal.change-requires-clause-counted
+change-requires-clause-counted c =
+    let a = c.args in
+    let d = c.self.inside in
+    let v = a.self.now in
+    let con = c.content-content.result.now in
+    let own = sym c.is_own.ensures ∙ c.if-not-is_own.false in
+    let change : may_change (Some con) a.at a.count a.put.now ≡ true = sym c.in_ok-words.ensures.changes ∙ ap is_some c.in-Some.is in
+    let words = c.in-Some.words in
+    let words_are = subst (λ o. IfSome o (λ list. Words list ≡ with_replaced a.at a.count a.put.now con)) c.in-Some.is c.in_ok-words.ensures.words in
+    let short = subst (λ o. IfSome o (λ (list : List ℕ). length list < 2 ^ 32)) c.in-Some.is c.in_ok-words.ensures.short in
+    counted_replaced d c.valid.ensures v c.self.view_is a.node c.requires.node_held a.at a.count a.put.now con c.content-content.ensures c.slotted.ensures c.requires.open c.self.invariant own change words words_are short c.chars_replaced-chars.result c.chars_replaced-chars.ensures
+
 pub settle-requires : goal.settle-requires
 settle-requires c =
     let a = c.args in
@@ -59,9 +72,9 @@ settle-requires c =
     let t = trees d c.valid.ensures v c.self.view_is a.node c.requires.node_held a.at a.count a.put.now con c.content-content.ensures c.slotted.ensures c.requires.open c.self.invariant own change words words_are short in
     let p = points_are d c.valid.ensures v c.self.view_is a.node c.requires.node_held a.at a.count a.put.now con c.content-content.ensures c.slotted.ensures c.requires.open c.self.invariant own change words words_are short in
     let may = freed_edit (Replace a.node.label a.at a.count a.put.now) v.state (may_replace_here d c.valid.ensures v c.self.view_is a.node c.requires.node_held a.at a.count a.put.now con c.content-content.ensures own change) in
-    (placed_called d v c.self.view_is c.valid.ensures c.requires.open c.self.invariant (Replace a.node.label a.at a.count a.put.now) (Rewords a.node words) x l may t c.replaced-2.new.self c.make_change.new.arena (c.replaced-2.ensures ∙ p) c.in_ok-make_change.ensures.arena).selection
+    (placed_called d v c.self.view_is c.valid.ensures c.requires.open c.self.invariant (Replace a.node.label a.at a.count a.put.now) (Rewords a.node words) x l may t c.replaced-2.new.self c.change.new.self.arena (c.replaced-2.ensures ∙ p) c.in_ok-change.ensures.arena).selection
 
-done : (c : goal.After-settle) → Done c.self.inside c.args.self.now (Replace c.args.node.label c.args.at c.args.count c.args.put.now) c.make_change.new.arena c.replaced-2.new.self c.settle.new.self (record c.self.inside.tree.counts { chars = c.chars_replaced-chars.result }) c.name.new.self c.make_change.new.history
+done : (c : goal.After-settle) → Done c.self.inside c.args.self.now (Replace c.args.node.label c.args.at c.args.count c.args.put.now) c.change.new.self.arena c.replaced-2.new.self c.settle.new.self c.name.new.self c.change.new.history
 done c =
     let a = c.args in
     let d = c.self.inside in
@@ -78,10 +91,10 @@ done c =
     let p = points_are d c.valid.ensures v c.self.view_is a.node c.requires.node_held a.at a.count a.put.now con c.content-content.ensures c.slotted.ensures c.requires.open c.self.invariant own change words words_are short in
     let may = freed_edit (Replace a.node.label a.at a.count a.put.now) v.state (may_replace_here d c.valid.ensures v c.self.view_is a.node c.requires.node_held a.at a.count a.put.now con c.content-content.ensures own change) in
     let e = settled_items d v c.self.view_is c.valid.ensures c.requires.open c.self.invariant (Replace a.node.label a.at a.count a.put.now) (Rewords a.node words) x l may t
-    c.settle.new.self c.replaced-2.new.self c.make_change.new.arena c.watch-watch.result (c.replaced-2.ensures ∙ p) c.in_ok-make_change.ensures.arena c.watch-watch.ensures c.settle.ensures in
+    c.settle.new.self c.replaced-2.new.self c.change.new.self.arena c.watch-watch.result (c.replaced-2.ensures ∙ p) c.in_ok-change.ensures.arena c.watch-watch.ensures c.settle.ensures in
     replace_done d c.valid.ensures v c.self.view_is a.node c.requires.node_held a.at a.count a.put.now con c.content-content.ensures c.slotted.ensures c.requires.open c.self.invariant own change words words_are short
-    c.replaced-2.new.self c.settle.new.self (record d.tree.counts { chars = c.chars_replaced-chars.result }) c.name.new.self c.name.ensures c.replaced-2.ensures
-    e refl refl c.chars_replaced-chars.ensures c.make_change.new.arena c.make_change.new.history c.in_ok-make_change.ensures.arena c.in_ok-make_change.ensures.history
+    c.replaced-2.new.self c.settle.new.self c.name.new.self c.name.ensures c.replaced-2.ensures
+    e c.change.new.self.arena c.change.new.history c.in_ok-change.ensures.arena c.in_ok-change.ensures.history
 
 pub invariant_of-self-2 : goal.invariant_of-self-2
 invariant_of-self-2 c = (done c).invariant

@@ -8,9 +8,9 @@ use Rattle.dom_model.specs.Contents.{attributes_in}
 use Rattle.dom_model.specs.Forest.{content_of}
 use Rattle.edit_model.proofs.Giving.{gives_left}
 use Rattle.edit_model.specs.Edit.{Set}
-use Rattle.edit_doc.proofs.Attributed.{not_own_set, no_list_set, not_set_here, may_set_here, set_done, no_list}
+use Rattle.edit_doc.proofs.Attributed.{not_own_set, no_list_set, not_set_here, may_set_here, counted_redressed, set_done, no_list}
 use Rattle.edit_doc.proofs.Edited.{Done, keeps_same}
-use Rattle.edit_doc.proofs.SeenNodes.{shows_of, attributes_seen}
+use Rattle.edit_doc.proofs.SeenNodes.{shows_of, held_seen, attributes_seen}
 use Rattle.edit_doc.proofs.Doc.set_attribute.Goals as goal
 
 pub returns-then-not-is_own-clause-gives : goal.returns-then-not-is_own-clause-gives
@@ -32,19 +32,26 @@ pub returns-then-has_value-clause-gives : goal.returns-then-has_value-clause-giv
 returns-then-has_value-clause-gives c =
     let a = c.args in
     let k = c.in-Element in
-    let content : content_of c.self.inside.tree.arena.trees a.node.label ≡ Some (Element k.name k.attributes) = c.content.ensures ∙ ap Some k.is in
+    let content : content_of c.self.inside.tree.nodes.arena.trees a.node.label ≡ Some (Element k.name k.attributes) = c.content.ensures ∙ ap Some k.is in
     let same : has_value k.attributes a.name.now a.value.now ≡ true = sym c.has_value.ensures ∙ c.if-has_value.true in
     gives_left (Set a.node.label a.name.now a.value.now) a.self.now.state a.self.now.state (not_set_here c.self.inside a.self.now c.self.view_is c.valid.ensures c.slotted.ensures c.requires.open c.self.invariant a.node c.requires.node_held k.name k.attributes content a.name.now a.value.now same) refl
 
-done : (c : goal.After-name) → Done c.self.inside c.args.self.now (Set c.args.node.label c.args.name.now c.args.value.now) c.make_change.new.arena c.self.inside.tree.points c.self.inside.tree.overrides c.self.inside.tree.counts c.name.new.self c.make_change.new.history
+pub change-requires-clause-counted : goal.change-requires-clause-counted
+change-requires-clause-counted c =
+    let a = c.args in
+    let k = c.in-Element in
+    let here = held_seen c.self.inside a.self.now c.self.view_is a.node c.requires.node_held in
+    counted_redressed c.self.inside c.valid.ensures c.slotted.ensures c.self.invariant a.node here.slot here.here k.name k.attributes c.set.new.self (c.content.ensures ∙ ap Some k.is)
+
+done : (c : goal.After-name) → Done c.self.inside c.args.self.now (Set c.args.node.label c.args.name.now c.args.value.now) c.change.new.self.arena c.self.inside.tree.points c.self.inside.tree.overrides c.name.new.self c.change.new.history
 done c =
     let a = c.args in
     let k = c.in-Element in
-    let content : content_of c.self.inside.tree.arena.trees a.node.label ≡ Some (Element k.name k.attributes) = c.content.ensures ∙ ap Some k.is in
+    let content : content_of c.self.inside.tree.nodes.arena.trees a.node.label ≡ Some (Element k.name k.attributes) = c.content.ensures ∙ ap Some k.is in
     let same : c.set.new.self ≡ set_in k.attributes a.name.now a.value.now = c.in_ok-set.ensures.ok ∙ ap (λ xs. set_in xs a.name.now a.value.now) c.in_ok-list.ensures in
     let other : has_value k.attributes a.name.now a.value.now ≡ false = sym c.has_value.ensures ∙ c.if-has_value.false in
     let may = may_set_here c.self.inside a.self.now c.self.view_is c.valid.ensures c.slotted.ensures c.requires.open c.self.invariant a.node c.requires.node_held k.name k.attributes content a.name.now a.value.now (sym c.is_own.ensures ∙ c.if-not-is_own.false) other in
-    set_done c.self.inside a.self.now c.self.view_is c.valid.ensures c.slotted.ensures c.requires.open c.self.invariant a.node c.requires.node_held k.name k.attributes content c.set.new.self c.name.new.self c.name.ensures c.make_change.new.arena c.make_change.new.history c.in_ok-make_change.ensures.arena c.in_ok-make_change.ensures.history a.name.now a.value.now same may
+    set_done c.self.inside a.self.now c.self.view_is c.valid.ensures c.slotted.ensures c.requires.open c.self.invariant a.node c.requires.node_held k.name k.attributes content c.set.new.self c.name.new.self c.name.ensures c.change.new.self.arena c.change.new.history c.in_ok-change.ensures.arena c.in_ok-change.ensures.history a.name.now a.value.now same may
 
 pub invariant_of-self-2 : goal.invariant_of-self-2
 invariant_of-self-2 c = (done c).invariant

@@ -4,6 +4,7 @@ use Rattle.edit_model.specs.Valid.{IsPlacedPair}
 use Rattle.edit_doc.specs.Whole.{Whole}
 use Rattle.edit_doc.specs.History.{whole_of}
 use Rattle.edit_doc.specs.Sound.{IsSoundDoc}
+use Rattle.edit_doc.specs.Live.{live}
 use Rattle.edit_doc.proofs.Inner.{closed_of}
 use Rattle.edit_doc.proofs.LongerNames.{marked_ok, marked_is}
 use Rattle.edit_doc.proofs.Doc.set_mark.Goals as goal
@@ -24,7 +25,7 @@ invariant_of-self c =
     let closed = closed_of d c.args.self.now c.self.view_is c.requires.closed in
     let placed = subst (λ (w : Whole). IsPlacedPair w.state.trees c.args.pair) (sym c.self.view_is) c.requires.placed in
     after_either
-    (λ points. IsSoundDoc (record d.tree { points = points }) d.command d.history)
+    (λ points. IsSoundDoc (record (live d.tree) { points = points }) d.command d.history)
     c.set_mark.result c.set_mark.new.self (with_mark c.args.name.now c.args.pair d.tree.points) d.tree.points c.set_mark.ensures.set c.set_mark.ensures.err
     (marked_ok d ok closed c.args.name.now c.args.pair placed) ok
 
@@ -32,6 +33,6 @@ pub returns-clause-set : goal.returns-clause-set
 returns-clause-set c =
     let d = c.self.inside in
     let closed = closed_of d c.args.self.now c.self.view_is c.requires.closed in
-    where_set (λ points. whole_of (record d.tree { points = points }) d.command d.history)
+    where_set (λ points. whole_of (record (live d.tree) { points = points }) d.command d.history)
     c.set_mark.result c.set_mark.new.self (with_mark c.args.name.now c.args.pair d.tree.points) _ c.set_mark.ensures.set
     (marked_is d c.self.invariant closed c.args.name.now c.args.pair c.args.self.now c.self.view_is)

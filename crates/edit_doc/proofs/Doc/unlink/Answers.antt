@@ -3,25 +3,26 @@ use Rattle.std.specs.Prelude.{if◌then◌else◌}
 use Rattle.edit_steps.specs.declared.step.Step.TheVariants.{Unlink}
 use Rattle.edit_model.specs.Edit.{Remove}
 use Rattle.edit_doc.proofs.Edited.{Applied}
-use Rattle.edit_doc.proofs.Removed.{place_markable, up, fits, detached, trees, points_are, unlink_done}
+use Rattle.edit_doc.proofs.Removed.{place_markable, up, fits, detached, trees, points_are, counted_unlinked, unlink_done}
 use Rattle.edit_doc.proofs.Roomier.{room_made}
 use Rattle.edit_doc.proofs.SeenNodes.{shows_of, finds_next}
 use Rattle.edit_doc.proofs.Settling.{points_now, placed_called, settled_items}
 use Rattle.edit_doc.proofs.Doc.unlink.Goals as goal
+use Rattle.edit_doc.specs.Live.{live}
 
 pub invariant_of-self : goal.invariant_of-self
 invariant_of-self c =
     let d = c.self.inside in
-    room_made d.command c.reserve.new.self c.reserve.ensures.items d.tree d.history c.self.invariant
+    room_made d.command c.reserve.new.self c.reserve.ensures.items (live d.tree) d.history c.self.invariant
 
 pub watch-watch-requires : goal.watch-watch-requires
 watch-watch-requires c = (points_now c.self.inside c.valid.ensures c.self.invariant).selection
 
-pub invariant_of-self-in_err-make_change : goal.invariant_of-self-in_err-make_change
-invariant_of-self-in_err-make_change c =
+pub invariant_of-self-in_err-change : goal.invariant_of-self-in_err-change
+invariant_of-self-in_err-change c =
     let d = c.self.inside in
-    let same = c.in_err-make_change.ensures.err in
-    rw (same.0, same.1) (room_made d.command c.reserve.new.self c.reserve.ensures.items d.tree d.history c.self.invariant)
+    let same = c.in_err-change.ensures.err in
+    rw (same.0, same.1) (room_made d.command c.reserve.new.self c.reserve.ensures.items (live d.tree) d.history c.self.invariant)
 
 pub name_place-requires : goal.name_place-requires
 name_place-requires c =
@@ -41,10 +42,10 @@ settle-requires c =
     let l = detached d c.valid.ensures v c.self.view_is a.node c.requires.node_held a.parent child c.slotted.ensures c.requires.open c.self.invariant may in
     let t = trees d c.valid.ensures v c.self.view_is a.node c.requires.node_held a.parent child c.slotted.ensures c.requires.open c.self.invariant may in
     let p = points_are d c.valid.ensures v c.self.view_is a.node c.requires.node_held a.parent child c.slotted.ensures c.requires.open c.self.invariant may in
-    let moved = c.adjust.ensures d.tree.arena.trees a.node.label a.parent.label c.removal_of-removal.ensures in
-    (placed_called d v c.self.view_is c.valid.ensures c.requires.open c.self.invariant (Remove a.node.label) (Unlink a.node) x l may t c.adjust.new.points c.make_change.new.arena (moved ∙ p) c.in_ok-make_change.ensures.arena).selection
+    let moved = c.adjust.ensures d.tree.nodes.arena.trees a.node.label a.parent.label c.removal_of-removal.ensures in
+    (placed_called d v c.self.view_is c.valid.ensures c.requires.open c.self.invariant (Remove a.node.label) (Unlink a.node) x l may t c.adjust.new.points c.change.new.self.arena (moved ∙ p) c.in_ok-change.ensures.arena).selection
 
-done : (c : goal.After-settle) → Applied c.self.inside c.args.self.now (Remove c.args.node.label) c.make_change.new.arena c.adjust.new.points c.settle.new.self c.counts_without-counts.result c.name_place.new.self c.make_change.new.history
+done : (c : goal.After-settle) → Applied c.self.inside c.args.self.now (Remove c.args.node.label) c.change.new.self.arena c.adjust.new.points c.settle.new.self c.name_place.new.self c.change.new.history
 done c =
     let a = c.args in
     let d = c.self.inside in
@@ -55,16 +56,16 @@ done c =
     let l = detached d c.valid.ensures v c.self.view_is a.node c.requires.node_held a.parent child c.slotted.ensures c.requires.open c.self.invariant may in
     let t = trees d c.valid.ensures v c.self.view_is a.node c.requires.node_held a.parent child c.slotted.ensures c.requires.open c.self.invariant may in
     let p = points_are d c.valid.ensures v c.self.view_is a.node c.requires.node_held a.parent child c.slotted.ensures c.requires.open c.self.invariant may in
-    let moved = c.adjust.ensures d.tree.arena.trees a.node.label a.parent.label c.removal_of-removal.ensures in
+    let moved = c.adjust.ensures d.tree.nodes.arena.trees a.node.label a.parent.label c.removal_of-removal.ensures in
     let e = settled_items d v c.self.view_is c.valid.ensures c.requires.open c.self.invariant (Remove a.node.label) (Unlink a.node) x l may t
-    c.settle.new.self c.adjust.new.points c.make_change.new.arena c.watch-watch.result (moved ∙ p) c.in_ok-make_change.ensures.arena c.watch-watch.ensures c.settle.ensures in
+    c.settle.new.self c.adjust.new.points c.change.new.self.arena c.watch-watch.result (moved ∙ p) c.in_ok-change.ensures.arena c.watch-watch.ensures c.settle.ensures in
     let room = c.in_ok-reserve.ensures.ok in
     let put = c.push.ensures.succeeds (omega (arith, room)) in
     let pushed : c.push.new.self.items ≡ d.command.detached.items ++ a.node ∷ [] = c.push.ensures.items ∙ (ap (λ b. if b then (c.reserve.new.self.items ++ a.node ∷ []) else c.reserve.new.self.items) put ∙ ap (λ xs. xs ++ a.node ∷ []) c.reserve.ensures.items) in
     unlink_done d c.valid.ensures v c.self.view_is a.node c.requires.node_held a.parent child c.slotted.ensures c.requires.open c.self.invariant may
-    c.adjust.new.points c.settle.new.self c.counts_without-counts.result (record d.command { detached = c.push.new.self }) c.name_place.new.self c.next-next.result c.next-next.ensures.is
-    refl pushed c.name_place.ensures moved e c.counts_without-counts.ensures.nodes c.counts_without-counts.ensures.chars c.counts_without-counts.ensures.depth
-    c.make_change.new.arena c.make_change.new.history c.in_ok-make_change.ensures.arena c.in_ok-make_change.ensures.history
+    c.adjust.new.points c.settle.new.self (record d.command { detached = c.push.new.self }) c.name_place.new.self c.next-next.result c.next-next.ensures.is
+    refl pushed c.name_place.ensures moved e
+    c.change.new.self.arena c.change.new.history c.in_ok-change.ensures.arena c.in_ok-change.ensures.history
 
 pub invariant_of-self-2 : goal.invariant_of-self-2
 invariant_of-self-2 c = (done c).invariant
@@ -78,7 +79,13 @@ returns-clause-keeps c = (done c).keeps
 pub counts_without-counts-requires-clause-child : goal.counts_without-counts-requires-clause-child
 counts_without-counts-requires-clause-child c = up c.self.inside c.valid.ensures c.args.self.now c.self.view_is c.args.node c.requires.node_held c.args.parent c.requires.child
 
-pub make_change-requires-clause-fits : goal.make_change-requires-clause-fits
-make_change-requires-clause-fits c =
+pub change-requires-clause-fits : goal.change-requires-clause-fits
+change-requires-clause-fits c =
     let a = c.args in
     fits c.self.inside c.valid.ensures a.self.now c.self.view_is a.node c.requires.node_held a.parent c.requires.child c.slotted.ensures c.requires.open c.self.invariant c.requires.possible
+
+pub change-requires-clause-counted : goal.change-requires-clause-counted
+change-requires-clause-counted c =
+    let a = c.args in
+    counted_unlinked c.self.inside c.valid.ensures a.self.now c.self.view_is a.node c.requires.node_held a.parent c.requires.child c.slotted.ensures c.requires.open c.self.invariant c.requires.possible
+    c.counts_without-counts.result c.counts_without-counts.ensures.nodes c.counts_without-counts.ensures.chars c.counts_without-counts.ensures.depth

@@ -24,5 +24,5 @@ invariant_of-self c =
     let ok = c.self.invariant in
     let placed = ok.valid.placed in
     rw c.unset_mark.ensures.unset (other_ok d ok d.tree.points.selection d.tree.points.scratch (remove_entry (bytes_eq c.args.name.now) d.tree.points.marks) d.tree.overrides d.tree.flags
-    (record { selection = placed.selection; scratch = placed.scratch; marks = all_detached (bytes_eq c.args.name.now) (λ m. IsPlacedPair (seen_trees d.history.log d.command.start d.tree.arena.trees) m.1) d.tree.points.marks placed.marks })
+    (record { selection = placed.selection; scratch = placed.scratch; marks = all_detached (bytes_eq c.args.name.now) (λ m. IsPlacedPair (seen_trees d.history.log d.command.start d.tree.nodes.arena.trees) m.1) d.tree.points.marks placed.marks })
     ok.valid.settings (scratch_at_rest d ok))
