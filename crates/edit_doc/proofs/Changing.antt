@@ -118,7 +118,7 @@ named_last : (xs : List Change) (y : Change) (l : ℕ) → has_label (named y) l
 named_last [] y l h = has_first (named y) [] l h
 named_last (x ∷ xs) y l h = has_later (named x) (named_in (xs ++ y ∷ [])) l (named_last xs y l h)
 
--- ---- the history beside a command whose marks and left trees change
+-- ---- the history beside a command whose marks and detached trees change
 
 module _ (held : List (Option ℕ)) (names : List (List ℕ)) (c d : Command) (start : c.start ≡ d.start) where
   pub undo_carried : (r : Bool) (high : ℕ) (f : Forest Content) (es : List (List Step)) (bs : List EntrySnapshot) → ((b : EntrySnapshot) → detached_of r c b ≡ detached_of r d b) → UndoSound held names r c high f es bs → UndoSound held names r d high f es bs

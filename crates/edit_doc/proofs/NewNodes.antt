@@ -341,7 +341,7 @@ of_running a points c g (Resumed xs) h r = r
 module _ (tree : Live) (c d : Command) (trail : Trail)
     (open_now : IsTrue (is_open trail.log.open_entry)) (law : IsArena tree.arena)
     (ok : IsSoundDoc tree (record d { named = c.named; detached = c.detached }) trail) where
-  -- the command with the marks and the left trees of before
+  -- the command with the marks and the detached trees of before
   abbrev e : Command
   e = record d { named = c.named; detached = c.detached }
 

@@ -1,4 +1,4 @@
--- The trees that the oldest entry left, when it goes out: no kept entry saw them.
+-- The trees that the oldest entry detached, when it goes out: no kept entry saw them.
 use Rattle.std.proofs.Common.{◌≡◌, ℕ, zero, suc, ◌+◌, ◌<◌, ◌≤◌, Bool, true, false, true≢false, cond, eqb, List, [], ◌∷◌, take, Option, None, refl, sym, ap, subst, ◌∙◌, inl, inr, arith}
 use Rattle.std.specs.Prelude.{◌||◌, slice_get}
 use Rattle.std.specs.Option.{option_and_then}
@@ -72,7 +72,7 @@ entries_none k f (e ∷ es) h = (
 absent_loose : (f : Forest Content) (l : ℕ) → count_of f l ≡ 0 → parent_of f l ≡ None
 absent_loose f l none = ap (λ (o : Option (Seen Content)). option_and_then (λ s. s.parent) o) (seek_absent None f l none)
 
--- what the entry at a place left is loose now, and the entries before that place name none of it
+-- what the entry at a place detached is loose now, and the entries before that place name none of it
 record Outgone (n high : ℕ) (f : Forest Content) (es : List (List Step)) (bs : List EntrySnapshot) : Type 0 where
   loose : (l : ℕ) → has_detached (slice_get bs n) l ≡ true → (0 < l) × ((l < high) × (parent_of f l ≡ None))
   detached : EntriesLeft (has_detached (slice_get bs n)) f (take n es)

@@ -43,7 +43,7 @@ use Rattle.edit_doc.proofs.Raised.{unlinked_depth}
 use Rattle.edit_doc.proofs.SeenNodes.{shows_of, out_of, held_seen, parent_seen}
 use Rattle.edit_doc.proofs.Settling.{overrides_next, overrides_are}
 
--- the tree of n was left loose, which stood under p before o
+-- the tree of n was detached, which stood under p before o
 follows : (c b d : Command) (node parent : NodeRef) (o : Option NodeRef) (f : Forest Content) → record b { detached = c.detached } ≡ c → b.detached.items ≡ c.detached.items ++ node ∷ [] →
     parent_of f node.label ≡ Some parent.label → label_of o ≡ next_of f node.label → Marks (place_labels node parent o) b d → Follows c d (change.Remove node.label) (inverse (change.Remove node.label) f)
 unfolding inverse

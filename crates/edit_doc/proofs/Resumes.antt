@@ -28,7 +28,7 @@ use Rattle.edit_doc.proofs.Laid.{snapshot_later, undo_later, redo_later, next_fi
 use Rattle.edit_doc.proofs.Rolls.{snapshot_of}
 use Rattle.edit_doc.proofs.Begins.{Opens, rest, take_all, held_host, needed_now, opened_ok, opened_is}
 
--- the command but for its left trees
+-- the command but for its detached trees
 record Swapped (c m : Command) : Type 0 where
   start : m.start ≡ c.start
   named : m.named.items ≡ c.named.items

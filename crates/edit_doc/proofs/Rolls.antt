@@ -51,7 +51,7 @@ use Rattle.edit_doc.proofs.Laid.{undo_later, redo_later, next_first_low}
 use Rattle.edit_doc.proofs.Off.{tree_pruned, entries_moved as entries_off}
 use Rattle.edit_doc.proofs.Rests.{AtRest, rest_sound, rest_state, none_noted}
 
--- ---- an entry's left trees
+-- ---- an entry's detached trees
 
 -- an entry depends on the sides alone
 pub snapshot_of : (names : List (List ℕ)) (before after : Forest Content) (e : List Step) (ts : List Change) (b c : EntrySnapshot) (detached : List NodeRef) (high start : ℕ) →

@@ -1,4 +1,4 @@
--- Room for one more tree that is left loose changes nothing that holds.
+-- Room for one more tree that is detached changes nothing that holds.
 use Rattle.std.proofs.Common.{◌≡◌, ℕ, ◌<◌, ◌≤◌, Bool, true, false, List, length, take, drop, refl, sym, ap, subst, ◌∙◌, arith}
 use Rattle.dom_model.specs.declared.Content.{Content}
 use Rattle.dom_model.specs.Forest.{Forest, count_of}

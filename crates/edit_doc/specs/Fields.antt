@@ -42,12 +42,12 @@ pub record AreResting (points : LivePoints) (p : Places) : Type 0 where
   pub over : IsOver points.names p
   pub resting : p.scratch ≡ None
 
--- the left trees of the first entry and those of the command are exchanged
+-- the detached trees of the first entry and those of the command are exchanged
 abbrev pub SwapsLeft : List EntrySnapshot → List EntrySnapshot → Command → Command → Type 0
 SwapsLeft [] us c d = ⊥
 SwapsLeft (b ∷ bs) us c d = (us ≡ record b { detached = c.detached } ∷ bs) × (d ≡ record c { detached = b.detached })
 
--- what the command left is forgotten, and a resumed entry has its left trees again
+-- what the command detached is forgotten, and a resumed entry has its detached trees again
 abbrev pub ForgetsIn : Bool → List EntrySnapshot → List EntrySnapshot → List NodeRef → Type 0
 ForgetsIn false us new ls = new ≡ us
 ForgetsIn true [] new ls = ⊥
@@ -90,7 +90,7 @@ joined_sides s p counts = record s {
   depth_after = counts.depth;
 }
 
--- The command's entry is the first, in place of the one that it resumed, with these left trees. Where there are too many
+-- The command's entry is the first, in place of the one that it resumed, with these detached trees. Where there are too many
 -- the oldest goes out.
 abbrev pub EntersIn : Bool → Sides → List NodeRef → Places → Counts → ℕ → List EntrySnapshot → List EntrySnapshot → Option EntrySnapshot → Type 0
 EntersIn false s detached p counts room us new out = (b : EntrySnapshot) × (b.sides ≡ s) × (b.detached.items ≡ detached) × (new ≡ take room (b ∷ us)) × (out ≡ slice_get (b ∷ us) room)

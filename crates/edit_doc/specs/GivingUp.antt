@@ -24,7 +24,7 @@ is_loose f l = nat_lt 0 l && nat_lt 0 (times (tops f) l)
 abbrev pub loose_roots : Forest Content → List NodeRef → List NodeRef
 loose_roots f rs = filter (λ r. is_loose f r.label) rs
 
--- the entry that goes out, if there is one, left a tree with this root
+-- the entry that goes out, if there is one, detached a tree with this root
 abbrev pub has_detached : Option EntrySnapshot → ℕ → Bool
 has_detached None l = false
 has_detached (Some b) l = has_label (labels_of b.detached.items) l

@@ -29,7 +29,7 @@ pub record Marks (ls : List ℕ) (old new : Command) : Type 0 where
   pub stay : (l : ℕ) → IsMarked old l → IsMarked new l
   pub only : (l : ℕ) → has_named new l ≡ true → (has_named old l ≡ true) ⊎ (has_label ls l ≡ true)
 
--- there is one more mark, which isn't set, and one more tree was left
+-- there is one more mark, which isn't set, and one more tree was detached
 pub record NotesMade (node : NodeRef) (old new : Command) : Type 0 where
   pub rest : record new { named = old.named; detached = old.detached } ≡ old
   pub named : new.named.items ≡ old.named.items ++ false ∷ []

@@ -101,7 +101,7 @@ pub record IsSnapshot (names : List (List ℕ)) (before after : Forest Content) 
 
 -- ---- the history over a forest
 
--- what the entry that undo would take left loose: while a command resumes it, the command keeps that
+-- what the entry that undo would take detached: while a command resumes it, the command keeps that
 abbrev pub detached_of : Bool → Command → EntrySnapshot → List NodeRef
 detached_of false c b = b.detached.items
 detached_of true c b = take c.detached_before c.detached.items

@@ -65,7 +65,7 @@ pub(crate) struct Kept {
     pub(crate) counts: Counts,
 }
 
-// The running command. Outside commands it has no host, nothing is named or left, and `start` is the next label.
+// The running command. Outside commands it has no host, nothing is named or detached, and `start` is the next label.
 #[derive(Drop)]
 pub(crate) struct Command {
     pub(crate) start: u32,

@@ -75,7 +75,7 @@ fn give_up_roots(arena: &mut Arena, roots: &[NodeRef])
     }
 }
 
-// Gives up the loose trees that an entry left.
+// Gives up the loose trees that an entry detached.
 pub(crate) fn give_up_detached(arena: &mut Arena, entry: Option<EntrySnapshot>)
     requires inner { (l : ℕ) → has_detached entry l ≡ true → 0 < l }
     requires loose { (l : ℕ) → has_detached entry l ≡ true → parent_of arena.old.trees l ≡ None }

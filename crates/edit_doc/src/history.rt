@@ -100,7 +100,7 @@ impl History {
     }
 
     // Closes the open entry. With a step it is kept with the roots of the loose trees that the
-    // command left, a new one in place of those that redo would take.
+    // command detached, a new one in place of those that redo would take.
     pub(crate) fn commit(
         &mut self,
         alloc: Global,
@@ -176,7 +176,7 @@ impl History {
         Some(pass(&mut self.future, &mut self.past))
     }
 
-    // Exchanges the left trees of the command with those of the entry that undo would take.
+    // Exchanges the detached trees of the command with those of the entry that undo would take.
     pub(crate) fn swap_detached(&mut self, command: &mut Command)
         requires { 0 < length self.old.past }
         ensures swapped { SwapsLeft self.old.past self.new.past command.old command.new }
@@ -185,7 +185,7 @@ impl History {
         swap_first(&mut self.past, command);
     }
 
-    // Forgets what the command left; a resumed entry has its left trees again.
+    // Forgets what the command detached; a resumed entry has its detached trees again.
     pub(crate) fn forget_detached(&mut self, command: &mut Command)
         requires { command.old.resumed ≡ true → 0 < length self.old.past }
         ensures forgotten { Forgets self.old.past self.new.past command.old }
@@ -253,7 +253,7 @@ impl History {
     }
 }
 
-// Exchanges the left trees of the command with those of the first entry.
+// Exchanges the detached trees of the command with those of the first entry.
 fn swap_first(past: &mut HeapCircularBuffer<EntrySnapshot>, command: &mut Command)
     requires { 0 < length past.old.items }
     ensures swapped { SwapsLeft past.old.items past.new.items command.old command.new }
@@ -265,7 +265,7 @@ fn swap_first(past: &mut HeapCircularBuffer<EntrySnapshot>, command: &mut Comman
     }
 }
 
-// The command makes an entry, or joins the one that it resumed, with what it left. Answers the
+// The command makes an entry, or joins the one that it resumed, with what it detached. Answers the
 // oldest entry's snapshot where there were too many.
 fn keep_entry(
     alloc: Global,
