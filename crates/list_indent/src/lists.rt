@@ -2,14 +2,13 @@
 
 ghost use Rattle.std.specs.Prelude.{◌≡◌};
 ghost use Rattle.std.specs.List.{list_any};
-ghost use Rattle.css_value.specs.StyleText.{is_space};
 ghost use Rattle.dom_model.specs.Forest.{children_of};
-ghost use Rattle.node_styles.specs.Allowed as allowed;
 ghost use Rattle.edit_doc.specs.Held.{Holds};
 ghost use Rattle.list_indent.specs.Sublists.{is_list, is_item, is_in_list, is_blank};
 
 use dom_model::Content;
 use edit_doc::{Doc, NodeRef};
+use node_styles::are_spaces;
 use node_tests::has_name;
 
 /// Whether a node is an ol or ul.
@@ -39,20 +38,6 @@ pub fn is_in_list(doc: &Doc, node: NodeRef) -> bool
         Some(parent) => is_list(doc, parent),
         None => false,
     }
-}
-
-fn is_space(c: char) -> bool
-    ensures { result ≡ is_space c }
-{
-    matches!(c, '\t' | '\n' | '\x0c' | '\r' | ' ')
-}
-
-// Whether a text is space characters alone, or empty.
-#[tactic(auto, unfolding(node_styles::specs::Allowed::are_spaces))]
-fn are_spaces(chars: &[char]) -> bool
-    ensures { result ≡ allowed.are_spaces chars.now }
-{
-    chars.iter().all(|c| is_space(*c))
 }
 
 // Whether a node is Words of space characters alone.

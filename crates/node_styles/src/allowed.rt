@@ -36,9 +36,9 @@ fn is_space(c: char) -> bool
     matches!(c, '\t' | '\n' | '\x0c' | '\r' | ' ')
 }
 
-// Whether a text is spaces alone, or empty.
+/// Whether a text is ASCII whitespace alone, or empty (Infra, "ASCII whitespace").
 #[tactic(auto, unfolding(crate::specs::Allowed::are_spaces))]
-fn are_spaces(chars: &[char]) -> bool
+pub fn are_spaces(chars: &[char]) -> bool
     ensures { result ≡ allowed.are_spaces chars.now }
 {
     chars.iter().all(|c| is_space(*c))

@@ -13,7 +13,7 @@ mod names;
 mod own;
 mod values;
 
-pub use allowed::{allowed_in, allowed_in_name, name_allowed_in};
+pub use allowed::{allowed_in, allowed_in_name, are_spaces, name_allowed_in};
 pub use blocks::{
     has_no_box, is_block, is_block_content, is_hidden, is_whitespace, nearest_block, own_or_inline,
 };
