@@ -341,6 +341,15 @@ module _ (f : Forest Content) (once : IsDistinct f) where
         empty Nil e = refl
         empty (Tree m c ks rest) e = absurd (let e' = e in cc)
 
+    pub whole : n.kids ≡ join (earlier n.kids l) (join (tree_of n.kids l) (later n.kids l))
+    whole =
+        let s = split_at n.kids l n.among in
+        let none = front_none l n.kids n.single s in
+        let before : earlier n.kids l ≡ s.front = ap (λ g. earlier g l) s.is ∙ earlier-split l s.content s.kids s.rest s.front none in
+        let own : tree_of n.kids l ≡ Tree l s.content s.kids Nil = ap (λ g. tree_of g l) s.is ∙ tree-split l s.content s.kids s.rest s.front none in
+        let after : later n.kids l ≡ s.rest = ap (λ g. later g l) s.is ∙ later-split l s.content s.kids s.rest s.front none in
+        s.is ∙ sym (rw (before, own, after) refl)
+
     pub front_empty : prev_of f l ≡ None → (s : Split n.kids l) → s.front ≡ Nil
     front_empty none s = by_front s.front refl
       where

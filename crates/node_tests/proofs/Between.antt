@@ -16,8 +16,8 @@ use Rattle.node_tests.specs.Listing.{siblings, LiesAfter, LiesBefore}
 use Rattle.node_tests.specs.Ranges.{all_effective}
 use Rattle.node_tests.proofs.Effective.{next_effective}
 use Rattle.node_tests.proofs.Elsewhere.{root_above, end_inside, not_effective}
-use Rattle.node_tests.proofs.Endings.{last_alone}
-use Rattle.node_tests.proofs.Gathered.{begins_off, effective_is, every_effective, off_after, off_before}
+use Rattle.node_tests.proofs.Tags.{last_alone}
+use Rattle.node_tests.proofs.Gathered.{effective_is, every_effective, off_after, off_before}
 use Rattle.node_tests.proofs.Inside.{nodes, fewer_kids, fewer_onward, some_node}
 use Rattle.node_tests.proofs.Propping.{and_true}
 use Rattle.node_tests.proofs.Reaching.{after_it, before_it, same_index, side}

@@ -13,16 +13,16 @@ use Rattle.node_styles.specs.Blocks.{is_block, is_whitespace, is_whitespace_in}
 use Rattle.node_arena.specs.declared.NodeRef.{NodeRef}
 use Rattle.node_tests.specs.declared.neighbours.Neighbour.{Neighbour}
 use Rattle.node_tests.specs.declared.neighbours.Neighbour.TheVariants.{BlockEdge, LineBreak, Solid}
+use Rattle.node_tests.specs.declared.sides.Side.TheVariants as sides
 use Rattle.node_tests.specs.Surroundings.{later, labels_after, in_block, trees_after, nodes_before, nodes_after}
 use Rattle.node_tests.specs.CollapsedWhitespace.{decides, collapses_at, is_solid}
-use Rattle.node_tests.specs.SolidNeighbours.{met, first_met, last_in_order, neighbour_after, is_solid_neighbour}
+use Rattle.node_tests.specs.SolidNeighbours.{met, first_met, last_in_order, neighbour_on, is_solid_neighbour}
 use Rattle.node_tests.proofs.Pieces.{count_in_tree, find_where, once_kids, once_rest, tree-below, tree-after, has, hasnt, back}
 use Rattle.node_tests.proofs.Pieces.Where.{Here, Below, After}
 use Rattle.node_tests.specs.Listing.{siblings}
 use Rattle.node_tests.proofs.Inside.{tree_is_kids}
 use Rattle.node_tests.proofs.Around.{content_at, single_block, inner_is}
-use Rattle.node_tests.proofs.Steps.{prev_step, labels-parent, labels-block, labels-root}
-use Rattle.node_tests.proofs.Walking.{prev_parent}
+use Rattle.node_tests.proofs.Steps.{sibling_parent, labels_step, labels_out, labels-root}
 
 yields : Neighbour → Bool
 yields m = not (is_solid_neighbour m)
@@ -56,15 +56,14 @@ module _ (f : Forest Content) where
       ∙ sym (map_or (last_in_order f ks) (met f m) (collapses_at f ls)))
       ∙ sym (map_or (last_in_order f rest) (option_or (last_in_order f ks) (met f m)) (collapses_at f ls))
 
-  collapses-onto : (g : Forest Content) (ls : List ℕ) → collapses_at f (preorder_onto g ls) ≡ unwrap_or (option_map yields (first_met f g)) (collapses_at f ls)
+  collapses-onto : (g : Forest Content) (ls : List ℕ) → collapses_at f (preorder_onto g ls) ≡ unwrap_or (option_map yields (first_met sides.After f g)) (collapses_at f ls)
   collapses-onto Nil ls = refl
   collapses-onto (Tree m c ks rest) ls =
       at_first m (preorder_onto ks (preorder_onto rest ls))
-      ∙ ap (unwrap_or (option_map yields (met f m))) (
-      collapses-onto ks (preorder_onto rest ls)
-      ∙ ap (unwrap_or (option_map yields (first_met f ks))) (collapses-onto rest ls)
-      ∙ sym (map_or (first_met f ks) (first_met f rest) (collapses_at f ls)))
-      ∙ sym (map_or (met f m) (option_or (first_met f ks) (first_met f rest)) (collapses_at f ls))
+      ∙ ap (unwrap_or (option_map yields (met f m))) (collapses-onto ks (preorder_onto rest ls))
+      ∙ sym (map_or (met f m) (first_met sides.After f ks) (collapses_at f (preorder_onto rest ls)))
+      ∙ ap (unwrap_or (option_map yields (option_or (met f m) (first_met sides.After f ks)))) (collapses-onto rest ls)
+      ∙ sym (map_or (option_or (met f m) (first_met sides.After f ks)) (first_met sides.After f rest) (collapses_at f ls))
 
   none_left : collapses_at f [] ≡ true
   unfolding collapses_at
@@ -120,11 +119,11 @@ module _ (f : Forest Content) (once : IsDistinct f) where
             let some : 0 < count_of (tree_of (in_block f l) l) l = rw (tree, one) (omega arith) in
             omega (arith, some, count_in_tree (in_block f l) l l)
 
-    pub after_collapses : not (is_solid_neighbour (neighbour_after f l)) ≡ collapses_at f (nodes_after f l)
-    unfolding neighbour_after yields
+    pub after_collapses : not (is_solid_neighbour (neighbour_on sides.After f l)) ≡ collapses_at f (nodes_after f l)
+    unfolding neighbour_on yields
     after_collapses =
-        by_met (first_met f (trees_after f l))
-        ∙ ap (unwrap_or (option_map yields (first_met f (trees_after f l)))) (sym (none_left f))
+        by_met (first_met sides.After f (trees_after f l))
+        ∙ ap (unwrap_or (option_map yields (first_met sides.After f (trees_after f l)))) (sym (none_left f))
         ∙ sym (collapses-onto f (trees_after f l) [])
         ∙ ap (collapses_at f) (sym after_trees)
       where
@@ -137,8 +136,8 @@ module _ (f : Forest Content) (once : IsDistinct f) where
   module _ (l k : ℕ) (prev : prev_of f l ≡ Some k) where
     by_prev : collapses_at f (nodes_before f l) ≡ unwrap_or (option_map yields (last_in_order f (tree_of f k))) (collapses_at f (nodes_before f k))
     by_prev =
-        let p = prev_parent f l k prev in
-        ap (collapses_at f) (prev_step f once l k p.0 p.1 prev).labels ∙ collapses-back f (tree_of f k) (nodes_before f k)
+        let p = sibling_parent f once sides.Before l k prev in
+        ap (collapses_at f) (labels_step f once l k p.0 p.1 prev) ∙ collapses-back f (tree_of f k) (nodes_before f k)
 
     pub back_found : (m : Neighbour) → Some m ≡ last_in_order f (tree_of f k) → not (is_solid_neighbour m) ≡ collapses_at f (nodes_before f l)
     unfolding yields
@@ -153,10 +152,10 @@ module _ (f : Forest Content) (once : IsDistinct f) where
 
   module _ (l p : ℕ) (child : parent_of f l ≡ Some p) (first : prev_of f l ≡ None) where
     by_inline : is_block f p ≡ false → collapses_at f (nodes_before f l) ≡ unwrap_or (option_map yields (met f p)) (collapses_at f (nodes_before f p))
-    by_inline inline = ap (collapses_at f) (labels-parent f once l p child first inline) ∙ at_first f p (nodes_before f p)
+    by_inline inline = ap (collapses_at f) (labels_out f once l p child first ∙ ap (λ b. cond b [] (p ∷ nodes_before f p)) inline) ∙ at_first f p (nodes_before f p)
 
     by_block : is_block f p ≡ true → true ≡ collapses_at f (nodes_before f l)
-    by_block block = sym (ap (collapses_at f) (labels-block f once l p child first block) ∙ none_left f)
+    by_block block = sym (ap (collapses_at f) (labels_out f once l p child first ∙ ap (λ b. cond b [] (p ∷ nodes_before f p)) block) ∙ none_left f)
 
     pub up_found : (m : Neighbour) → Some m ≡ met f p → not (is_solid_neighbour m) ≡ collapses_at f (nodes_before f l)
     unfolding yields

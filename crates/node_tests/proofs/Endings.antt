@@ -8,7 +8,7 @@ use Rattle.dom_model.specs.Forest.Forest.{Tree}
 use Rattle.dom_model.specs.Places.{index_of}
 use Rattle.node_arena.specs.Reads.{IsValid}
 use Rattle.dom_model.specs.TreeOrder.{total_after}
-use Rattle.dom_model.proofs.Indexes.{index_of-first, index_of-last}
+use Rattle.dom_model.proofs.Indexes.{index_of-first}
 use Rattle.dom_model.proofs.Links.{parent_count}
 use Rattle.dom_model.proofs.Neighbours.{parent_of-last}
 use Rattle.dom_model.proofs.Walks.{document_first, total_after_document, total_from_whole}
@@ -22,8 +22,8 @@ use Rattle.node_tests.proofs.Toward.{parent_among}
 use Rattle.node_tests.proofs.Inside.{nodes}
 use Rattle.node_tests.proofs.Pieces.{has}
 use Rattle.node_tests.proofs.Steps.{prev_next}
-use Rattle.node_tests.proofs.Tags.{from_start, past_end, start_low, own_end, first_start, next_start, last_end}
-use Rattle.node_tests.proofs.Turning.{before_end, after_end, before_index, after_index, first_index, last_index, first_get, get_times}
+use Rattle.node_tests.proofs.Tags.{from_start, past_end, start_low, own_end, first_start, next_start, last_end, last_alone}
+use Rattle.node_tests.proofs.Turning.{before_end, after_end, before_index, after_index, first_index, first_get, get_times}
 use Rattle.node_tests.proofs.Turns.{walk_answers, walk_goes}
 
 -- ---- walks
@@ -79,9 +79,6 @@ module _ {holds : NodeRef → Type 0} {f : Forest Content} {upper : ℕ} (law : 
   child_at_of : (l o k : ℕ) → child_at f l o ≡ Some k → parent_of f k ≡ Some l
   child_at_of l o k e = parent_among f law.distinct l k (get_times (children_of f l) o k e)
 
-  pub last_alone : (k m : ℕ) → last_of f k ≡ Some m → next_of f m ≡ None
-  last_alone k m last = last_index law m k (parent_of-last f law.distinct k m last) (index_of-last f law.distinct k m last)
-
   -- ---- back
 
   -- the starts and ends before a place of a node, by the child before it
@@ -96,7 +93,7 @@ module _ {holds : NodeRef → Type 0} {f : Forest Content} {upper : ℕ} (law : 
   back_end k here None e = omega (arith, own_end f law.distinct k here, start_low f law.distinct k)
   back_end k here (Some m) e =
       let child = parent_of-last f law.distinct k m e in
-      omega (arith, last_end f law.distinct m k child (last_alone k m e), own_end f law.distinct k here, start_low f law.distinct k)
+      omega (arith, last_end f law.distinct m k child (last_alone law k m e), own_end f law.distinct k here, start_low f law.distinct k)
 
   back_out : (l p : ℕ) → parent_of f l ≡ Some p → (o : Option ℕ) → prev_of f l ≡ o → passed_back p o < 2 * nodes f + 1 - from_start f l
   back_out l p child None e =

@@ -1,5 +1,6 @@
 mod Pieces
 mod Around
+mod Joined
 mod Steps
 mod Inside
 mod Kids

@@ -6,8 +6,11 @@ use Rattle.dom_model.specs.Forest.{Forest, join, count_of, IsDistinct, tree_of, 
 use Rattle.dom_model.specs.Forest.Forest.{Nil, Tree}
 use Rattle.dom_model.specs.Places.{onward}
 use Rattle.node_tests.specs.declared.neighbours.Neighbour.{Neighbour}
-use Rattle.node_tests.specs.SolidNeighbours.{met, first_met, last_met, last_in_order}
+use Rattle.node_tests.specs.SolidNeighbours.{met, nearer, first_met, last_in_order}
+use Rattle.node_tests.specs.declared.sides.Side.{Side}
+use Rattle.node_tests.specs.declared.sides.Side.TheVariants.{Before, After}
 use Rattle.node_tests.specs.Listing.{siblings}
+use Rattle.node_tests.proofs.Joined.{joined}
 use Rattle.node_tests.proofs.Inside.{tree_is_kids, onward_is_tree}
 use Rattle.node_tests.proofs.Around.{content_at}
 
@@ -19,19 +22,25 @@ or_assoc : (a b c : Option Neighbour) → option_or (option_or a b) c ≡ option
 or_assoc None b c = refl
 or_assoc (Some x) b c = refl
 
-module _ (f : Forest Content) where
-  pub first_met-join : (g h : Forest Content) → first_met f (join g h) ≡ option_or (first_met f g) (first_met f h)
-  first_met-join Nil h = refl
-  first_met-join (Tree m c ks rest) h =
-      ap (λ o. option_or (met f m) (option_or (first_met f ks) o)) (first_met-join rest h)
-      ∙ ap (option_or (met f m)) (sym (or_assoc (first_met f ks) (first_met f rest) (first_met f h)))
-      ∙ sym (or_assoc (met f m) (option_or (first_met f ks) (first_met f rest)) (first_met f h))
+nearer_assoc : (side : Side) (a b c : Option Neighbour) → nearer side a (nearer side b c) ≡ nearer side (nearer side a b) c
+nearer_assoc Before a b c = or_assoc c b a
+nearer_assoc After a b c = sym (or_assoc a b c)
 
-  pub last_met-join : (g h : Forest Content) → last_met f (join g h) ≡ option_or (last_met f h) (last_met f g)
-  last_met-join Nil h = sym (or_none (last_met f h))
-  last_met-join (Tree m c ks rest) h =
-      ap (λ o. option_or o (option_or (met f m) (last_met f ks))) (last_met-join rest h)
-      ∙ or_assoc (last_met f h) (last_met f rest) (option_or (met f m) (last_met f ks))
+module _ (f : Forest Content) where
+  pub first_met-join : (side : Side) (g h : Forest Content) → first_met side f (join g h) ≡ nearer side (first_met side f g) (first_met side f h)
+  first_met-join Before Nil h = sym (or_none (first_met Before f h))
+  first_met-join After Nil h = refl
+  first_met-join side (Tree m c ks rest) h =
+      ap (nearer side (option_or (met f m) (first_met side f ks))) (first_met-join side rest h)
+      ∙ nearer_assoc side (option_or (met f m) (first_met side f ks)) (first_met side f rest) (first_met side f h)
+
+  pub first_met-joined : (side : Side) (near far : Forest Content) → first_met side f (joined side near far) ≡ option_or (first_met side f near) (first_met side f far)
+  first_met-joined Before near far = first_met-join Before far near
+  first_met-joined After near far = first_met-join After near far
+
+  pub first_met-tree : (side : Side) (l : ℕ) (c : Content) (ks : Forest Content) → first_met side f (Tree l c ks Nil) ≡ option_or (met f l) (first_met side f ks)
+  first_met-tree Before l c ks = refl
+  first_met-tree After l c ks = or_none (option_or (met f l) (first_met After f ks))
 
   pub last_in_order-join : (g h : Forest Content) → last_in_order f (join g h) ≡ option_or (last_in_order f h) (last_in_order f g)
   last_in_order-join Nil h = sym (or_none (last_in_order f h))
@@ -44,35 +53,6 @@ module _ (f : Forest Content) (once : IsDistinct f) where
   own l here = let c = content_at f once l here in (c.0, tree_is_kids f once l c.0 here c.1)
 
   module _ (l : ℕ) (here : 0 < count_of f l) (m : Option Neighbour) (at : m ≡ met f l) where
-    -- ---- from the front
-
-    first_own : first_met f (tree_of f l) ≡ option_or m (first_met f (siblings f (first_of f l)))
-    first_own =
-        ap (first_met f) (own l here).1
-        ∙ ap (option_or (met f l)) (or_none (first_met f (siblings f (first_of f l))))
-        ∙ ap (λ o. option_or o (first_met f (siblings f (first_of f l)))) (sym at)
-
-    pub first_at : (x : Neighbour) → m ≡ Some x → Some x ≡ first_met f (tree_of f l)
-    first_at x e = sym (first_own ∙ ap (λ o. option_or o (first_met f (siblings f (first_of f l)))) e)
-
-    pub first_kids : (o : Option ℕ) → m ≡ None → o ≡ first_of f l → first_met f (tree_of f l) ≡ first_met f (siblings f o)
-    first_kids o e is = first_own ∙ ap (λ x. option_or x (first_met f (siblings f (first_of f l)))) e ∙ ap (λ x. first_met f (siblings f x)) (sym is)
-
-    -- ---- from the back
-
-    last_own : last_met f (tree_of f l) ≡ option_or m (last_met f (siblings f (first_of f l)))
-    last_own = ap (last_met f) (own l here).1 ∙ ap (λ o. option_or o (last_met f (siblings f (first_of f l)))) (sym at)
-
-    pub last_at : (x : Neighbour) → m ≡ Some x → Some x ≡ last_met f (tree_of f l)
-    last_at x e = sym (last_own ∙ ap (λ o. option_or o (last_met f (siblings f (first_of f l)))) e)
-
-    pub last_kids : (o : Option ℕ) → m ≡ None → o ≡ first_of f l → last_met f (tree_of f l) ≡ option_or (last_met f (siblings f o)) None
-    last_kids o e is =
-        last_own
-        ∙ ap (λ x. option_or x (last_met f (siblings f (first_of f l)))) e
-        ∙ ap (λ x. last_met f (siblings f x)) (sym is)
-        ∙ sym (or_none (last_met f (siblings f o)))
-
     pub order_kids : (o : Option ℕ) → o ≡ first_of f l → last_in_order f (tree_of f l) ≡ option_or (last_in_order f (siblings f o)) m
     order_kids o is =
         ap (last_in_order f) (own l here).1
@@ -84,18 +64,8 @@ module _ (f : Forest Content) (once : IsDistinct f) where
     onward_next : onward f k ≡ join (tree_of f k) (siblings f o)
     onward_next = onward_is_tree f once k p child ∙ ap (λ x. join (tree_of f k) (siblings f x)) (sym next)
 
-    pub first_next : first_met f (onward f k) ≡ option_or (first_met f (tree_of f k)) (first_met f (siblings f o))
-    first_next = ap (first_met f) onward_next ∙ first_met-join f (tree_of f k) (siblings f o)
-
-    module _ (r last : Option Neighbour) where
-      pub last_next : r ≡ last_met f (tree_of f k) → option_or (last_met f (onward f k)) last ≡ option_or (last_met f (siblings f o)) (option_or r last)
-      last_next e =
-          ap (λ x. option_or x last) (ap (last_met f) onward_next ∙ last_met-join f (tree_of f k) (siblings f o))
-          ∙ or_assoc (last_met f (siblings f o)) (last_met f (tree_of f k)) last
-          ∙ ap (λ x. option_or (last_met f (siblings f o)) (option_or x last)) (sym e)
-
-      pub order_next : r ≡ last_in_order f (tree_of f k) → option_or (last_in_order f (onward f k)) last ≡ option_or (last_in_order f (siblings f o)) (option_or r last)
-      order_next e =
-          ap (λ x. option_or x last) (ap (last_in_order f) onward_next ∙ last_in_order-join f (tree_of f k) (siblings f o))
-          ∙ or_assoc (last_in_order f (siblings f o)) (last_in_order f (tree_of f k)) last
-          ∙ ap (λ x. option_or (last_in_order f (siblings f o)) (option_or x last)) (sym e)
+    pub order_next : (r last : Option Neighbour) → r ≡ last_in_order f (tree_of f k) → option_or (last_in_order f (onward f k)) last ≡ option_or (last_in_order f (siblings f o)) (option_or r last)
+    order_next r last e =
+        ap (λ x. option_or x last) (ap (last_in_order f) onward_next ∙ last_in_order-join f (tree_of f k) (siblings f o))
+        ∙ or_assoc (last_in_order f (siblings f o)) (last_in_order f (tree_of f k)) last
+        ∙ ap (λ x. option_or (last_in_order f (siblings f o)) (option_or x last)) (sym e)

@@ -1,143 +1,148 @@
--- The trees and the labels round a node in its nearest block, by one step to a sibling or to the parent.
-use Rattle.std.proofs.Common.{◌≡◌, ℕ, ◌⊎◌, ◌<◌, Bool, true, false, List, [], ◌∷◌, Some, None, refl, sym, ap, subst, ◌∙◌, inl, inr, arith}
+-- The trees and the labels round a node in its nearest block, by one step to a sibling, to a child or to the parent.
+use Rattle.std.proofs.Common.{◌≡◌, ℕ, ◌<◌, Bool, true, false, cond, List, [], ◌∷◌, Some, None, refl, sym, ap, subst, ◌∙◌, arith, inl, inr}
+use Rattle.std.specs.Option.{option_and_then}
 use Rattle.dom_model.specs.declared.Content.{Content}
-use Rattle.dom_model.specs.Forest.{Forest, join, count_of, IsDistinct, tree_of, preorder, parent_of, children_of, next_of, prev_of, before_in}
+use Rattle.dom_model.specs.Forest.{Forest, join, count_of, IsDistinct, tree_of, preorder, parent_of, children_of, next_of, prev_of, before_in, after_in}
 use Rattle.dom_model.specs.Forest.Forest.{Nil, Tree}
 use Rattle.dom_model.specs.Places.{kids_in}
 use Rattle.dom_model.proofs.Links.{tree_is, join-Nil, times-children_of, eqb_refl_true}
 use Rattle.dom_model.proofs.Within.{within_self}
 use Rattle.dom_model.proofs.Neighbours.{parent_of-next, parent_of-prev_sibling}
 use Rattle.node_styles.specs.Blocks.{is_block}
+use Rattle.node_tests.specs.declared.sides.Side.{Side}
+use Rattle.node_tests.specs.declared.sides.Side.TheVariants.{Before, After}
+use Rattle.node_tests.specs.Sides.{other, sibling, trees}
 use Rattle.node_tests.specs.Surroundings.{earlier, later, labels_before_onto, in_block, nodes_before, trees_before, trees_after}
-use Rattle.node_tests.proofs.Pieces.{count_in_tree, join_assoc, later-below, earlier-below, labels-below, back}
-use Rattle.node_tests.proofs.Around.{family, Pair, pair, kid_inner, counts, in_parent, same_block, at_root, single_block, inner_is, next_in, prev_in, before-after, later-pair, earlier-pair, labels-pair, later-last, earlier-first, labels-first}
+use Rattle.node_tests.proofs.Pieces.{count_in_tree, later-below, earlier-below, labels-below, back}
+use Rattle.node_tests.proofs.Around.{Family, family, whole, pair, kid_inner, counts, in_parent, same_block, at_root, root_or_child, single_block, inner_is, next_in, prev_in, before-after, later-pair, earlier-pair, labels-pair, later-last, earlier-first, labels-first}
+use Rattle.node_tests.proofs.Joined.{joined, beyond, joined_assoc, joined-Nil}
 
 module _ (f : Forest Content) (once : IsDistinct f) where
-  -- what lies round a child of p, by what lies round it among the children: the trees before and after p in its block and
-  -- the labels before these, if p is in a line
-  record Beside (l p : ℕ) (kids before after : Forest Content) (labels : List ℕ) : Type 0 where
-    pub trees_after_is : trees_after f l ≡ join (later kids l) after
-    pub trees_before_is : trees_before f l ≡ join before (earlier kids l)
-    pub labels_is : nodes_before f l ≡ labels_before_onto labels (preorder kids) l
+  -- what lies on a side of all children of p in their nearest block, and the labels before them
+  abbrev pub around : ℕ → Side → Forest Content
+  around p side = cond (is_block f p) Nil (trees side f p)
 
-  in_a_block : (l p : ℕ) → parent_of f l ≡ Some p → is_block f p ≡ true → (c : Content) (kids : Forest Content) → tree_of f p ≡ Tree p c kids Nil → Beside l p kids Nil Nil []
-  unfolding trees_after trees_before nodes_before
-  in_a_block l p child block c kids tree =
-      let e : in_block f l ≡ kids = in_parent f once l p child block ∙ ap kids_in tree in
-      record {
-        trees_after_is = ap (λ g. later g l) e ∙ sym (join-Nil (later kids l));
-        trees_before_is = ap (λ g. earlier g l) e;
-        labels_is = ap (λ g. labels_before_onto [] (preorder g) l) e;
-      }
+  abbrev pub above : ℕ → List ℕ
+  above p = cond (is_block f p) [] (p ∷ nodes_before f p)
 
-  in_a_line : (l p : ℕ) → parent_of f l ≡ Some p → is_block f p ≡ false → (c : Content) (kids : Forest Content) → tree_of f p ≡ Tree p c kids Nil → 0 < count_of kids l → Beside l p kids (trees_before f p) (trees_after f p) (p ∷ nodes_before f p)
-  unfolding trees_after trees_before nodes_before
-  in_a_line l p child inline c kids tree low =
-      let e = same_block f once l p child inline in
-      let n = counts f once l p child in
-      let inner : tree_of (in_block f p) p ≡ Tree p c kids Nil = inner_is f once p n.1 ∙ tree in
-      let single = single_block f once p in
-      record {
-        trees_after_is = ap (λ g. later g l) e ∙ later-below p l c kids low (in_block f p) single inner;
-        trees_before_is = ap (λ g. earlier g l) e ∙ earlier-below p l c kids low (in_block f p) single inner;
-        labels_is = ap (λ g. labels_before_onto [] (preorder g) l) e ∙ labels-below p l c kids low [] (in_block f p) [] [] single inner;
-      }
+  -- ---- round a child, by what lies round it among the children
 
-  low_kid : (k p : ℕ) (c : Content) (kids : Forest Content) → parent_of f k ≡ Some p → tree_of f p ≡ Tree p c kids Nil → 0 < count_of kids k
-  low_kid k p c kids child tree =
-      let t = kid_inner f once k p child c kids tree in
-      let some : 0 < count_of (tree_of kids k) k = subst (λ g. 0 < count_of g k) (sym t) (within_self f k once (counts f once k p child).0) in
-      omega (arith, some, count_in_tree kids k k)
+  module _ (l p : ℕ) (c : Content) (kids : Forest Content) (child : parent_of f l ≡ Some p) (tree : tree_of f p ≡ Tree p c kids Nil) where
+    low : 0 < count_of kids l
+    low =
+        let t = kid_inner f once l p child c kids tree in
+        let some : 0 < count_of (tree_of kids l) l = subst (λ g. 0 < count_of g l) (sym t) (within_self f l once (counts f once l p child).0) in
+        omega (arith, some, count_in_tree kids l l)
+
+    inner : tree_of (in_block f p) p ≡ Tree p c kids Nil
+    inner = inner_is f once p (counts f once l p child).1 ∙ tree
+
+    in_a_block : is_block f p ≡ true → in_block f l ≡ kids
+    in_a_block block = in_parent f once l p child block ∙ ap kids_in tree
+
+    pub beside : (side : Side) (b : Bool) → is_block f p ≡ b → trees side f l ≡ joined side (beyond side kids l) (cond b Nil (trees side f p))
+    unfolding trees_before trees_after
+    beside Before true e = ap (λ g. earlier g l) (in_a_block e)
+    beside After true e = ap (λ g. later g l) (in_a_block e) ∙ sym (join-Nil (later kids l))
+    beside Before false e = ap (λ g. earlier g l) (same_block f once l p child e) ∙ earlier-below p l c kids low (in_block f p) (single_block f once p) inner
+    beside After false e = ap (λ g. later g l) (same_block f once l p child e) ∙ later-below p l c kids low (in_block f p) (single_block f once p) inner
+
+    labels_beside : (b : Bool) → is_block f p ≡ b → nodes_before f l ≡ labels_before_onto (cond b [] (p ∷ nodes_before f p)) (preorder kids) l
+    unfolding nodes_before
+    labels_beside true e = ap (λ g. labels_before_onto [] (preorder g) l) (in_a_block e)
+    labels_beside false e =
+        ap (λ g. labels_before_onto [] (preorder g) l) (same_block f once l p child e)
+        ∙ labels-below p l c kids low [] (in_block f p) [] [] (single_block f once p) inner
 
   -- ---- a step to a sibling
 
-  module _ (l k p : ℕ) (child : parent_of f l ≡ Some p) (next : next_of f l ≡ Some k) where
-    pub next_child : parent_of f k ≡ Some p
-    next_child = parent_of-next f once l k p child next
+  -- a root has none
+  no_sibling : (side : Side) (l : ℕ) → parent_of f l ≡ None → sibling side f l ≡ None
+  no_sibling Before l root = ap (option_and_then (λ q. before_in (children_of f q) l)) root
+  no_sibling After l root = ap (option_and_then (λ q. after_in (children_of f q) l)) root
 
-  -- after a node comes its next sibling's tree, and before that sibling comes its tree
-  pub record Next (l k : ℕ) : Type 0 where
-    pub after : trees_after f l ≡ join (tree_of f k) (trees_after f k)
-    pub before : trees_before f k ≡ join (trees_before f l) (tree_of f l)
-    pub labels : nodes_before f k ≡ back (tree_of f l) (nodes_before f l)
-
-  by_besides : (l k p : ℕ) (c : Content) (kids before after : Forest Content) (labels : List ℕ) → parent_of f l ≡ Some p → parent_of f k ≡ Some p → tree_of f p ≡ Tree p c kids Nil → Pair f once l k kids → Beside l p kids before after labels → Beside k p kids before after labels → Next l k
-  by_besides l k p c kids before after labels child_l child_k tree n a b =
-      let in_l = kid_inner f once l p child_l c kids tree in
-      let in_k = kid_inner f once k p child_k c kids tree in
-      record {
-        after =
-            a.trees_after_is
-            ∙ ap (λ g. join g after) (later-pair f once l k kids n ∙ ap (λ t. join t (later kids k)) in_k)
-            ∙ join_assoc (tree_of f k) (later kids k) after
-            ∙ ap (join (tree_of f k)) (sym b.trees_after_is);
-        before =
-            b.trees_before_is
-            ∙ ap (join before) (earlier-pair f once l k kids n ∙ ap (join (earlier kids l)) in_l)
-            ∙ sym (join_assoc before (earlier kids l) (tree_of f l))
-            ∙ ap (λ g. join g (tree_of f l)) (sym a.trees_before_is);
-        labels =
-            b.labels_is
-            ∙ labels-pair f once l k kids n labels
-            ∙ ap (λ t. back t (labels_before_onto labels (preorder kids) l)) in_l
-            ∙ ap (back (tree_of f l)) (sym a.labels_is);
-      }
-
-  pub next_step : (l k p : ℕ) → parent_of f l ≡ Some p → next_of f l ≡ Some k → Next l k
-  next_step l k p child next =
-      let n = family f once l p child in
-      let child_k = next_child l k p child next in
-      let two = pair f once l k p child n next in
-      elim (block_or_not (is_block f p)) [
-        | inl block ↦ by_besides l k p n.content n.kids Nil Nil [] child child_k n.tree two (in_a_block l p child block n.content n.kids n.tree) (in_a_block k p child_k block n.content n.kids n.tree)
-        | inr inline ↦ by_besides l k p n.content n.kids (trees_before f p) (trees_after f p) (p ∷ nodes_before f p) child child_k n.tree two
-            (in_a_line l p child inline n.content n.kids n.tree n.low)
-            (in_a_line k p child_k inline n.content n.kids n.tree (low_kid k p n.content n.kids child_k n.tree))
+  pub sibling_parent : (side : Side) (l k : ℕ) → sibling side f l ≡ Some k → (p : ℕ) × (parent_of f l ≡ Some p)
+  sibling_parent side l k e =
+      elim (root_or_child f once l) [
+        | inl root ↦ absurd (let t : None ≡ Some k = sym (no_sibling side l root) ∙ e in cc)
+        | inr child ↦ child
       ]
-    where
-      block_or_not : (b : Bool) → (b ≡ true) ⊎ (b ≡ false)
-      block_or_not true = inl refl
-      block_or_not false = inr refl
+
+  pub sibling_child : (side : Side) (l k p : ℕ) → parent_of f l ≡ Some p → sibling side f l ≡ Some k → parent_of f k ≡ Some p
+  sibling_child Before l k p child e = parent_of-prev_sibling f once l k p child e
+  sibling_child After l k p child e = parent_of-next f once l k p child e
+
+  pub prev_next : (l k p : ℕ) → parent_of f l ≡ Some p → prev_of f l ≡ Some k → (parent_of f k ≡ Some p) × (next_of f k ≡ Some l)
+  prev_next l k p child prev =
+      let child_k = sibling_child Before l k p child prev in
+      let e : before_in (children_of f p) l ≡ Some k = sym (prev_in f once l p child) ∙ prev in
+      (child_k, next_in f once k p child_k ∙ before-after (children_of f p) l k (λ j. times-children_of f p j once) e)
+
+  -- among the children of their parent
+  pair_of : (side : Side) (l k p : ℕ) → parent_of f l ≡ Some p → sibling side f l ≡ Some k → (c : Content) × (kids : Forest Content) × (tree_of f p ≡ Tree p c kids Nil) × (beyond side kids l ≡ joined side (tree_of kids k) (beyond side kids k))
+  pair_of Before l k p child e =
+      let t = prev_next l k p child e in
+      let n = family f once k p t.0 in
+      (n.content, n.kids, n.tree, earlier-pair f once k l n.kids (pair f once k l p t.0 n t.1))
+  pair_of After l k p child e = let n = family f once l p child in (n.content, n.kids, n.tree, later-pair f once l k n.kids (pair f once l k p child n e))
+
+  pub step : (side : Side) (l k : ℕ) → sibling side f l ≡ Some k → trees side f l ≡ joined side (tree_of f k) (trees side f k)
+  step side l k e =
+      let (p, child) = sibling_parent side l k e in
+      let child_k = sibling_child side l k p child e in
+      let (c, kids, tree, two) = pair_of side l k p child e in
+      beside l p c kids child tree side (is_block f p) refl
+      ∙ ap (λ g. joined side g (around p side)) (two ∙ ap (λ t. joined side t (beyond side kids k)) (kid_inner f once k p child_k c kids tree))
+      ∙ joined_assoc side (tree_of f k) (beyond side kids k) (around p side)
+      ∙ ap (joined side (tree_of f k)) (sym (beside k p c kids child_k tree side (is_block f p) refl))
+
+  pub labels_step : (l k p : ℕ) → parent_of f l ≡ Some p → prev_of f l ≡ Some k → nodes_before f l ≡ back (tree_of f k) (nodes_before f k)
+  labels_step l k p child prev =
+      let t = prev_next l k p child prev in
+      let n = family f once k p t.0 in
+      labels_beside l p n.content n.kids child n.tree (is_block f p) refl
+      ∙ labels-pair f once k l n.kids (pair f once k l p t.0 n t.1) (above p)
+      ∙ ap (λ t. back t (labels_before_onto (above p) (preorder n.kids) k)) n.inner
+      ∙ ap (back (tree_of f k)) (sym (labels_beside k p n.content n.kids t.0 n.tree (is_block f p) refl))
+
+  -- ---- a step to a child
+
+  nearest : (side : Side) (k p : ℕ) (child : parent_of f k ≡ Some p) (n : Family f once k p) → sibling (other side) f k ≡ None → n.kids ≡ joined side (tree_of f k) (beyond side n.kids k)
+  nearest Before k p child n last =
+      whole f once k p child n
+      ∙ ap (λ g. join (earlier n.kids k) (join (tree_of n.kids k) g)) (later-last f once k p child n last)
+      ∙ ap (join (earlier n.kids k)) (join-Nil (tree_of n.kids k) ∙ n.inner)
+  nearest After k p child n first =
+      whole f once k p child n
+      ∙ ap (λ g. join g (join (tree_of n.kids k) (later n.kids k))) (earlier-first f once k p child n first)
+      ∙ ap (λ g. join g (later n.kids k)) n.inner
+
+  pub step_in : (side : Side) (k p : ℕ) → parent_of f k ≡ Some p → sibling (other side) f k ≡ None → is_block f p ≡ false → (c : Content) (kids : Forest Content) → tree_of f p ≡ Tree p c kids Nil → joined side kids (trees side f p) ≡ joined side (tree_of f k) (trees side f k)
+  step_in side k p child first inline c kids tree =
+      let n = family f once k p child in
+      let same : kids ≡ n.kids = (let t : Tree p c kids Nil ≡ Tree p n.content n.kids Nil = sym tree ∙ n.tree in cc) in
+      ap (λ g. joined side g (trees side f p)) (same ∙ nearest side k p child n first)
+      ∙ joined_assoc side (tree_of f k) (beyond side n.kids k) (trees side f p)
+      ∙ ap (joined side (tree_of f k)) (sym (beside k p n.content n.kids child n.tree side false inline))
 
   -- ---- a step to the parent
 
-  block_or_not : (b : Bool) → (b ≡ true) ⊎ (b ≡ false)
-  block_or_not true = inl refl
-  block_or_not false = inr refl
+  none_beyond : (side : Side) (l p : ℕ) (child : parent_of f l ≡ Some p) (n : Family f once l p) → sibling side f l ≡ None → beyond side n.kids l ≡ Nil
+  none_beyond Before l p child n first = earlier-first f once l p child n first
+  none_beyond After l p child n last = later-last f once l p child n last
 
   module _ (l p : ℕ) (child : parent_of f l ≡ Some p) where
-    -- after the last child of an inline node comes what comes after that node
-    pub after-parent : next_of f l ≡ None → is_block f p ≡ false → trees_after f l ≡ trees_after f p
-    after-parent last inline =
+    pub step_out : (side : Side) → sibling side f l ≡ None → trees side f l ≡ around p side
+    step_out side none =
         let n = family f once l p child in
-        (in_a_line l p child inline n.content n.kids n.tree n.low).trees_after_is ∙ ap (λ g. join g (trees_after f p)) (later-last f once l p child n last)
+        beside l p n.content n.kids child n.tree side (is_block f p) refl
+        ∙ ap (λ g. joined side g (around p side)) (none_beyond side l p child n none)
+        ∙ joined-Nil side (around p side)
 
-    pub after-block : next_of f l ≡ None → is_block f p ≡ true → trees_after f l ≡ Nil
-    after-block last block =
+    pub labels_out : prev_of f l ≡ None → nodes_before f l ≡ above p
+    labels_out first =
         let n = family f once l p child in
-        (in_a_block l p child block n.content n.kids n.tree).trees_after_is ∙ ap (λ g. join g Nil) (later-last f once l p child n last)
-
-    pub before-parent : prev_of f l ≡ None → is_block f p ≡ false → trees_before f l ≡ trees_before f p
-    before-parent first inline =
-        let n = family f once l p child in
-        (in_a_line l p child inline n.content n.kids n.tree n.low).trees_before_is
-        ∙ ap (join (trees_before f p)) (earlier-first f once l p child n first)
-        ∙ join-Nil (trees_before f p)
-
-    pub before-block : prev_of f l ≡ None → is_block f p ≡ true → trees_before f l ≡ Nil
-    before-block first block =
-        let n = family f once l p child in
-        (in_a_block l p child block n.content n.kids n.tree).trees_before_is ∙ earlier-first f once l p child n first
-
-    pub labels-parent : prev_of f l ≡ None → is_block f p ≡ false → nodes_before f l ≡ p ∷ nodes_before f p
-    labels-parent first inline =
-        let n = family f once l p child in
-        (in_a_line l p child inline n.content n.kids n.tree n.low).labels_is ∙ labels-first f once l p child n (p ∷ nodes_before f p) first
-
-    pub labels-block : prev_of f l ≡ None → is_block f p ≡ true → nodes_before f l ≡ []
-    labels-block first block =
-        let n = family f once l p child in
-        (in_a_block l p child block n.content n.kids n.tree).labels_is ∙ labels-first f once l p child n [] first
+        labels_beside l p n.content n.kids child n.tree (is_block f p) refl ∙ labels-first f once l p child n (above p) first
 
   -- ---- at a root
 
@@ -145,25 +150,11 @@ module _ (f : Forest Content) (once : IsDistinct f) where
     root_tree : (c : Content) × (ks : Forest Content) × (in_block f l ≡ Tree l c ks Nil)
     root_tree = let t = tree_is f l (omega (arith, once l, here)) in (t.0, t.1, at_root f once l here root ∙ t.2)
 
-    pub after-root : trees_after f l ≡ Nil
-    unfolding trees_after
-    after-root = let t = root_tree in let one = eqb_refl_true l in ap (λ g. later g l) t.2 ∙ rw one refl
-
-    pub before-root : trees_before f l ≡ Nil
-    unfolding trees_before
-    before-root = let t = root_tree in let one = eqb_refl_true l in ap (λ g. earlier g l) t.2 ∙ rw one refl
+    pub root_alone : (side : Side) → trees side f l ≡ Nil
+    unfolding trees_before trees_after
+    root_alone Before = let t = root_tree in let one = eqb_refl_true l in ap (λ g. earlier g l) t.2 ∙ rw one refl
+    root_alone After = let t = root_tree in let one = eqb_refl_true l in ap (λ g. later g l) t.2 ∙ rw one refl
 
     pub labels-root : nodes_before f l ≡ []
     unfolding nodes_before
     labels-root = let t = root_tree in let one = eqb_refl_true l in ap (λ g. labels_before_onto [] (preorder g) l) t.2 ∙ rw one refl
-
-  -- ---- a step back
-
-  pub prev_next : (l k p : ℕ) → parent_of f l ≡ Some p → prev_of f l ≡ Some k → (parent_of f k ≡ Some p) × (next_of f k ≡ Some l)
-  prev_next l k p child prev =
-      let child_k = parent_of-prev_sibling f once l k p child prev in
-      let e : before_in (children_of f p) l ≡ Some k = sym (prev_in f once l p child) ∙ prev in
-      (child_k, next_in f once k p child_k ∙ before-after (children_of f p) l k (λ j. times-children_of f p j once) e)
-
-  pub prev_step : (l k p : ℕ) → parent_of f l ≡ Some p → prev_of f l ≡ Some k → Next k l
-  prev_step l k p child prev = let n = prev_next l k p child prev in next_step k l p n.0 n.1

@@ -6,7 +6,7 @@ use Rattle.std.proofs.lemmas.Bool.Decides.{eqb_tells}
 use Rattle.dom_model.specs.declared.Content.{Content}
 use Rattle.dom_model.specs.declared.Content.TheVariants.{Document, Element, Words, Remark}
 use Rattle.dom_model.specs.Contents.{may_have_children, length_in, length_of}
-use Rattle.dom_model.specs.Forest.{Forest, Seen, seek, content_of, times, count_of, first_in, last_or, last_in, before_from, before_in, after_in, parent_of, children_of, first_of, last_of, prev_of, next_of}
+use Rattle.dom_model.specs.Forest.{Forest, Seen, seek, content_of, times, count_of, IsDistinct, first_in, last_or, last_in, before_from, before_in, after_in, parent_of, children_of, first_of, last_of, prev_of, next_of}
 use Rattle.dom_model.specs.Places.{place_in, index_of}
 use Rattle.dom_model.proofs.Lists.{before_from_some}
 use Rattle.dom_model.proofs.Links.{parent_count, times-children_of}
@@ -136,6 +136,15 @@ none_after (x ∷ xs) l h =
       | inr (t, _) ↦ (let h' = rw t at h in
           rw t (none_after xs l (omega (arith, h')) ∙ sym (eqb_shift (place_in xs l + 1) (length xs)) ∙ ap (eqb (place_in xs l + 1 + 1)) (sym longer)))
     ]
+
+none_prior : (xs : List ℕ) (l : ℕ) → first_in xs ≡ Some l → before_in xs l ≡ None
+none_prior [] l e = refl
+none_prior (x ∷ xs) l e =
+    let is : x ≡ l = (let t = e in cc) in
+    elim (eqb_tells x l) [ inl (t, _) ↦ rw t refl | inr (_, off) ↦ absurd (off is) ]
+
+pub first_prev : (f : Forest Content) → IsDistinct f → (k p : ℕ) → parent_of f k ≡ Some p → first_of f p ≡ Some k → prev_of f k ≡ None
+first_prev f once k p child first = prev_in f once k p child ∙ none_prior (children_of f p) k first
 
 -- ---- the end of a node
 

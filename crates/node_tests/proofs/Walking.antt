@@ -1,142 +1,152 @@
--- The steps of the walks to the neighbours of a node.
-use Rattle.std.proofs.Common.{◌≡◌, ℕ, ◌+◌, ◌*◌, ◌<◌, true, false, Option, Some, None, refl, sym, ap, ◌∙◌, arith}
-use Rattle.std.specs.Option.{option_or, option_and_then, unwrap_or}
+-- The walk to the solid neighbour on a side of a node.
+use Rattle.std.proofs.Common.{◌≡◌, ℕ, ◌<◌, Bool, true, false, cond, Option, Some, None, IfSome, length, refl, sym, ap, ◌∙◌, arith}
+use Rattle.std.specs.Option.{option_or, unwrap_or}
 use Rattle.dom_model.specs.declared.Content.{Content}
-use Rattle.dom_model.specs.Forest.{Forest, join, count_of, IsDistinct, tree_of, parent_of, children_of, next_of, prev_of, after_in, before_in, depth_of}
-use Rattle.dom_model.specs.Places.{index_of}
-use Rattle.dom_model.specs.TreeOrder.{total_from, total_after}
-use Rattle.dom_model.proofs.Links.{parent_count}
-use Rattle.dom_model.proofs.Parts.{at_label, total_from_Part, total_after_Part}
-use Rattle.dom_model.proofs.Walks.{total_after-next, total_after-last}
-use Rattle.dom_model.proofs.Within.{depth_of-parent}
-use Rattle.dom_model.proofs.Indexes.{index_of-prev, index_of_low}
-use Rattle.dom_model.proofs.Few.{some_nodes}
-use Rattle.dom_model.proofs.Neighbours.{parent_of-next, parent_of-prev_sibling}
+use Rattle.dom_model.specs.Contents.{is_break}
+use Rattle.dom_model.specs.Forest.{Forest, tops, count_of, tree_of, parent_of, children_of, first_in}
+use Rattle.dom_model.specs.Forest.Forest.{Nil, Tree}
+use Rattle.dom_model.proofs.Indexes.{children_of-none}
+use Rattle.node_arena.specs.declared.NodeRef.{NodeRef}
+use Rattle.node_arena.specs.Held.{label}
+use Rattle.node_arena.specs.Reads.{IsValid, Names}
 use Rattle.node_styles.specs.Blocks.{is_block}
 use Rattle.node_tests.specs.declared.neighbours.Neighbour.{Neighbour}
-use Rattle.node_tests.specs.declared.neighbours.Neighbour.TheVariants.{BlockEdge}
-use Rattle.node_tests.specs.Surroundings.{trees_after, trees_before}
-use Rattle.node_tests.specs.SolidNeighbours.{first_met, last_met, neighbour_after, neighbour_before}
-use Rattle.node_tests.proofs.Inside.{nodes}
-use Rattle.node_tests.proofs.Meeting.{first_met-join, last_met-join}
-use Rattle.node_tests.proofs.Steps.{next_step, prev_step, after-parent, after-block, after-root, before-parent, before-block, before-root}
+use Rattle.node_tests.specs.declared.neighbours.Neighbour.TheVariants.{BlockEdge, LineBreak, Solid}
+use Rattle.node_tests.specs.declared.sides.Side.{Side}
+use Rattle.node_tests.specs.declared.sides.Side.TheVariants.{Before, After}
+use Rattle.node_tests.specs.CollapsedWhitespace.{is_solid}
+use Rattle.node_tests.specs.Sides.{sibling, near_child, inward, trees}
+use Rattle.node_tests.specs.SolidNeighbours.{met, first_met, neighbour_on}
+use Rattle.node_tests.proofs.Around.{content_at, own_tree}
+use Rattle.node_tests.proofs.Meeting.{first_met-joined, first_met-tree}
+use Rattle.node_tests.proofs.Joined.{joined, joined-Nil}
+use Rattle.node_tests.proofs.Steps.{step, step_in, step_out, root_alone, around}
+use Rattle.node_tests.proofs.Tags.{left_from, left_past, left_in, near_parent, near_alone, in_less, on_less, parent_less}
+
+-- what is ahead of a walk that has passed l: the trees on this side, which begin with that of the node that comes next
+abbrev pub ahead : Side → Forest Content → ℕ → Option ℕ → Forest Content
+ahead side f l None = trees side f l
+ahead side f l (Some k) = joined side (tree_of f k) (trees side f k)
+
+-- a walk that has passed a node, and what it meets
+pub record Walked (holds : NodeRef → Type 0) (f : Forest Content) (side : Side) (at : NodeRef) (next : Option NodeRef) (answer : Neighbour) : Type 0 where
+  pub held : holds at
+  pub next_held : IfSome next (λ r. holds r)
+  pub last : label next ≡ None → sibling side f at.label ≡ None
+  pub same : unwrap_or (first_met side f (ahead side f at.label (label next))) BlockEdge ≡ answer
+
+or_second : (a b : Option ℕ) → option_or a b ≡ None → b ≡ None
+or_second None b e = e
+or_second (Some x) b e = absurd (let t = e in cc)
 
 module _ (f : Forest Content) where
-  one_each : ℕ → Content → ℕ
-  one_each = λ _ _. 1
-
-  -- the measure of a walk forward, and of one back
-  abbrev pub ahead : ℕ → ℕ
-  ahead l = total_after (λ _ _. 1) f l + depth_of f l
-
-  abbrev pub behind : ℕ → ℕ
-  behind l = depth_of f l * nodes f + index_of f l
-
-  -- a sibling has a parent
-  pub next_parent : (l k : ℕ) → next_of f l ≡ Some k → (p : ℕ) × (parent_of f l ≡ Some p)
-  next_parent l k next = by_parent (parent_of f l) refl
+  no_block : (k : ℕ) → None ≡ met f k → is_block f k ≡ false
+  unfolding met
+  no_block k e = by_test (is_block f k) e
     where
-      by_parent : (o : Option ℕ) → parent_of f l ≡ o → (p : ℕ) × (o ≡ Some p)
-      by_parent None e = absurd (let t : next_of f l ≡ None = ap (option_and_then (λ q. after_in (children_of f q) l)) e in let u = next in cc)
-      by_parent (Some p) e = (p, refl)
+      by_test : (b : Bool) → None ≡ cond b (Some BlockEdge) (cond (is_break f k) (Some LineBreak) (cond (is_solid f k) (Some Solid) None)) → b ≡ false
+      by_test true e = absurd (let t = e in cc)
+      by_test false e = refl
 
-  pub prev_parent : (l k : ℕ) → prev_of f l ≡ Some k → (p : ℕ) × (parent_of f l ≡ Some p)
-  prev_parent l k prev = by_parent (parent_of f l) refl
+module _ {holds : NodeRef → Type 0} {f : Forest Content} {upper : ℕ} (law : IsValid holds f upper) (side : Side) where
+  ahead_beside : (l : ℕ) (o : Option ℕ) → o ≡ sibling side f l → trees side f l ≡ ahead side f l o
+  ahead_beside l None e = refl
+  ahead_beside l (Some k) e = step f law.distinct side l k (sym e)
+
+  -- ---- a step in
+
+  no_kids : (side : Side) (l : ℕ) (ks : Forest Content) → children_of f l ≡ tops ks → near_child side f l ≡ None → ks ≡ Nil
+  no_kids side l Nil children none = refl
+  no_kids Before l (Tree m c ks rest) children none = absurd (omega (arith, children_of-none f law.distinct l none, ap length children))
+  no_kids After l (Tree m c ks rest) children none = absurd (let t : Some m ≡ None = sym (ap first_in children) ∙ none in cc)
+
+  ahead_in : (k : ℕ) (c : Content) (ks : Forest Content) → tree_of f k ≡ Tree k c ks Nil → children_of f k ≡ tops ks → is_block f k ≡ false → joined side ks (trees side f k) ≡ ahead side f k (inward side f k)
+  ahead_in k c ks tree children inline = by_child (near_child side f k) refl
     where
-      by_parent : (o : Option ℕ) → parent_of f l ≡ o → (p : ℕ) × (o ≡ Some p)
-      by_parent None e = absurd (let t : prev_of f l ≡ None = ap (option_and_then (λ q. before_in (children_of f q) l)) e in let u = prev in cc)
-      by_parent (Some p) e = (p, refl)
+      by_child : (o : Option ℕ) → near_child side f k ≡ o → joined side ks (trees side f k) ≡ ahead side f k (option_or o (sibling side f k))
+      by_child None e =
+          ap (λ g. joined side g (trees side f k)) (no_kids side k ks children e)
+          ∙ joined-Nil side (trees side f k)
+          ∙ ahead_beside k (sibling side f k) refl
+      by_child (Some j) e = step_in f law.distinct side j k (near_parent law side k j e) (near_alone law side k j e) inline c ks tree
 
-  edge : Option Neighbour → Neighbour
-  edge o = unwrap_or o BlockEdge
+  met_on : (k : ℕ) → first_met side f (ahead side f k (Some k)) ≡ option_or (first_met side f (tree_of f k)) (first_met side f (trees side f k))
+  met_on k = first_met-joined f side (tree_of f k) (trees side f k)
 
-module _ (f : Forest Content) (once : IsDistinct f) where
-  -- ---- the walks end
+  met_in : (k : ℕ) → 0 < count_of f k → None ≡ met f k → first_met side f (ahead side f k (Some k)) ≡ first_met side f (ahead side f k (inward side f k))
+  met_in k here none =
+      let c = content_at f law.distinct k here in
+      let own = own_tree f law.distinct k c.0 here c.1 in
+      let ks = own.0 in
+      met_on k
+      ∙ ap (λ g. option_or (first_met side f g) (first_met side f (trees side f k))) own.1
+      ∙ ap (λ o. option_or o (first_met side f (trees side f k))) (first_met-tree f side k c.0 ks ∙ ap (λ o. option_or o (first_met side f ks)) (sym none))
+      ∙ sym (first_met-joined f side ks (trees side f k))
+      ∙ ap (first_met side f) (ahead_in k c.0 ks own.1 own.2 (no_block f k none))
 
-  pub after_less : (l : ℕ) → 0 < count_of f l → total_after (λ _ _. 1) f l < total_from (λ _ _. 1) f l
-  after_less l here =
-      let a = at_label f once l here in
-      let p = a.parts (λ _ _. 1) in
-      omega (arith, total_from_Part (λ _ _. 1) f l a.content a.kids a.rest p.0 (once l) p.1, total_after_Part (λ _ _. 1) f l a.content a.kids a.rest p.0 (once l) p.1)
+  met_at : (k : ℕ) → 0 < count_of f k → (m : Neighbour) → Some m ≡ met f k → first_met side f (ahead side f k (Some k)) ≡ Some m
+  met_at k here m e =
+      let c = content_at f law.distinct k here in
+      let own = own_tree f law.distinct k c.0 here c.1 in
+      met_on k
+      ∙ ap (λ g. option_or (first_met side f g) (first_met side f (trees side f k))) own.1
+      ∙ ap (λ o. option_or o (first_met side f (trees side f k))) (first_met-tree f side k c.0 own.0 ∙ ap (λ o. option_or o (first_met side f own.0)) (sym e))
 
-  pub next_ahead : (l k : ℕ) → next_of f l ≡ Some k → ahead f k < ahead f l
-  next_ahead l k next =
-      let p = next_parent f l k next in
-      let child = parent_of-next f once l k p.0 p.1 next in
-      omega (arith, total_after-next f once (λ _ _. 1) l k p.0 p.1 next, after_less k (parent_count f k p.0 once child).0, depth_of-parent f l p.0 once p.1, depth_of-parent f k p.0 once child)
+  -- ---- the walk
 
-  pub parent_ahead : (l p : ℕ) → parent_of f l ≡ Some p → next_of f l ≡ None → ahead f p < ahead f l
-  parent_ahead l p child last = omega (arith, total_after-last f once (λ _ _. 1) l p child last, depth_of-parent f l p once child)
+  pub begun : (r : NodeRef) (o : Option NodeRef) → holds r → Names holds o (sibling side f r.label) → Walked holds f side r o (neighbour_on side f r.label)
+  unfolding neighbour_on
+  begun r o held named = record {
+    held = held;
+    next_held = named.held;
+    last = λ none. sym named.is ∙ none;
+    same = ap (λ g. unwrap_or (first_met side f g) BlockEdge) (sym (ahead_beside r.label (label o) named.is));
+  }
 
-  lower : (d n i j : ℕ) → i < n → d * n + i < (d + 1) * n + j
-  lower d n i j h = omega (arith, h)
+  module _ (at k : NodeRef) (answer : Neighbour) (walked : Walked holds f side at (Some k) answer) where
+    pub found : (m : Neighbour) → Some m ≡ met f k.label → m ≡ answer
+    found m e = sym (ap (λ o. unwrap_or o BlockEdge) (met_at k.label (law.here k walked.next_held) m e)) ∙ walked.same
 
-  pub prev_behind : (l k : ℕ) → prev_of f l ≡ Some k → behind f k < behind f l
-  prev_behind l k prev =
-      let p = prev_parent f l k prev in
-      let child = parent_of-prev_sibling f once l k p.0 p.1 prev in
-      let same : depth_of f k ≡ depth_of f l = depth_of-parent f k p.0 once child ∙ sym (depth_of-parent f l p.0 once p.1) in
-      rw same (omega (arith, index_of-prev f once l k prev))
+    pub gone_in : None ≡ met f k.label → (o : Option NodeRef) → Names holds o (inward side f k.label) → Walked holds f side k o answer
+    gone_in none o named = record {
+      held = walked.next_held;
+      next_held = named.held;
+      last = λ e. or_second (near_child side f k.label) (sibling side f k.label) (sym named.is ∙ e);
+      same =
+          ap (λ n. unwrap_or (first_met side f (ahead side f k.label n)) BlockEdge) named.is
+          ∙ ap (λ o. unwrap_or o BlockEdge) (sym (met_in k.label (law.here k walked.next_held) none))
+          ∙ walked.same;
+    }
 
-  pub parent_behind : (l p : ℕ) → parent_of f l ≡ Some p → behind f p < behind f l
-  parent_behind l p child =
-      rw (depth_of-parent f l p once child) (lower (depth_of f p) (nodes f) (index_of f p) (index_of f l) (index_of_low f once p (some_nodes f p (parent_count f l p once child).1)))
+    pub in_nearer : (o : Option NodeRef) → Names holds o (inward side f k.label) → left_in side f k.label (label o) < left_from side f k.label
+    in_nearer o named = rw named.is (by_child (near_child side f k.label) refl)
+      where
+        by_child : (o : Option ℕ) → near_child side f k.label ≡ o → left_in side f k.label (option_or o (sibling side f k.label)) < left_from side f k.label
+        by_child None e =
+            let past = rw e at (in_less law side k.label (law.here k walked.next_held)) in
+            omega (arith, past, on_less law side k.label)
+        by_child (Some j) e = rw e at (in_less law side k.label (law.here k walked.next_held))
 
-  -- ---- forward
+  module _ (at : NodeRef) (answer : Neighbour) (walked : Walked holds f side at None answer) where
+    out : (p : ℕ) → parent_of f at.label ≡ Some p → unwrap_or (first_met side f (around f law.distinct p side)) BlockEdge ≡ answer
+    out p child = ap (λ g. unwrap_or (first_met side f g) BlockEdge) (sym (step_out f law.distinct at.label p child side (walked.last refl))) ∙ walked.same
 
-  module _ (l k : ℕ) (next : next_of f l ≡ Some k) where
-    after_join : trees_after f l ≡ join (tree_of f k) (trees_after f k)
-    after_join = let p = next_parent f l k next in (next_step f once l k p.0 p.1 next).after
+    pub gone_out : (p : NodeRef) → parent_of f at.label ≡ Some p.label → holds p → is_block f p.label ≡ false → (o : Option NodeRef) → Names holds o (sibling side f p.label) → Walked holds f side p o answer
+    gone_out p child held inline o named = record {
+      held = held;
+      next_held = named.held;
+      last = λ none. sym named.is ∙ none;
+      same =
+          ap (λ g. unwrap_or (first_met side f g) BlockEdge) (sym (ahead_beside p.label (label o) named.is))
+          ∙ ap (λ b. unwrap_or (first_met side f (cond b Nil (trees side f p.label))) BlockEdge) (sym inline)
+          ∙ out p.label child;
+    }
 
-    after_met : first_met f (trees_after f l) ≡ option_or (first_met f (tree_of f k)) (first_met f (trees_after f k))
-    after_met = ap (first_met f) after_join ∙ first_met-join f (tree_of f k) (trees_after f k)
+    pub out_nearer : (p : ℕ) → parent_of f at.label ≡ Some p → (o : Option NodeRef) → Names holds o (sibling side f p) → left_in side f p (label o) < left_past side f at.label
+    out_nearer p child o named = rw named.is (omega (arith, on_less law side p, parent_less law side at.label p child (walked.last refl)))
 
-    pub after_found : (m : Neighbour) → Some m ≡ first_met f (tree_of f k) → m ≡ neighbour_after f l
-    unfolding neighbour_after
-    after_found m e = sym (ap (λ o. unwrap_or o BlockEdge) (after_met ∙ ap (λ o. option_or o (first_met f (trees_after f k))) (sym e)))
+    pub at_edge : (p : ℕ) → parent_of f at.label ≡ Some p → is_block f p ≡ true → BlockEdge ≡ answer
+    at_edge p child block = ap (λ b. unwrap_or (first_met side f (cond b Nil (trees side f p))) BlockEdge) (sym block) ∙ out p child
 
-    pub after_passed : None ≡ first_met f (tree_of f k) → neighbour_after f k ≡ neighbour_after f l
-    unfolding neighbour_after
-    after_passed e = sym (ap (λ o. unwrap_or o BlockEdge) (after_met ∙ ap (λ o. option_or o (first_met f (trees_after f k))) (sym e)))
-
-  module _ (l p : ℕ) (child : parent_of f l ≡ Some p) (last : next_of f l ≡ None) where
-    pub after_up : is_block f p ≡ false → neighbour_after f p ≡ neighbour_after f l
-    unfolding neighbour_after
-    after_up inline = ap (λ g. unwrap_or (first_met f g) BlockEdge) (sym (after-parent f once l p child last inline))
-
-    pub after_edge : is_block f p ≡ true → BlockEdge ≡ neighbour_after f l
-    unfolding neighbour_after
-    after_edge block = ap (λ g. unwrap_or (first_met f g) BlockEdge) (sym (after-block f once l p child last block))
-
-  pub after_top : (l : ℕ) → 0 < count_of f l → parent_of f l ≡ None → BlockEdge ≡ neighbour_after f l
-  unfolding neighbour_after
-  after_top l here root = ap (λ g. unwrap_or (first_met f g) BlockEdge) (sym (after-root f once l here root))
-
-  -- ---- back
-
-  module _ (l k : ℕ) (prev : prev_of f l ≡ Some k) where
-    before_met : last_met f (trees_before f l) ≡ option_or (last_met f (tree_of f k)) (last_met f (trees_before f k))
-    before_met =
-        let p = prev_parent f l k prev in
-        ap (last_met f) (prev_step f once l k p.0 p.1 prev).before ∙ last_met-join f (trees_before f k) (tree_of f k)
-
-    pub before_found : (m : Neighbour) → Some m ≡ last_met f (tree_of f k) → m ≡ neighbour_before f l
-    unfolding neighbour_before
-    before_found m e = sym (ap (λ o. unwrap_or o BlockEdge) (before_met ∙ ap (λ o. option_or o (last_met f (trees_before f k))) (sym e)))
-
-    pub before_passed : None ≡ last_met f (tree_of f k) → neighbour_before f k ≡ neighbour_before f l
-    unfolding neighbour_before
-    before_passed e = sym (ap (λ o. unwrap_or o BlockEdge) (before_met ∙ ap (λ o. option_or o (last_met f (trees_before f k))) (sym e)))
-
-  module _ (l p : ℕ) (child : parent_of f l ≡ Some p) (first : prev_of f l ≡ None) where
-    pub before_up : is_block f p ≡ false → neighbour_before f p ≡ neighbour_before f l
-    unfolding neighbour_before
-    before_up inline = ap (λ g. unwrap_or (last_met f g) BlockEdge) (sym (before-parent f once l p child first inline))
-
-    pub before_edge : is_block f p ≡ true → BlockEdge ≡ neighbour_before f l
-    unfolding neighbour_before
-    before_edge block = ap (λ g. unwrap_or (last_met f g) BlockEdge) (sym (before-block f once l p child first block))
-
-  pub before_top : (l : ℕ) → 0 < count_of f l → parent_of f l ≡ None → BlockEdge ≡ neighbour_before f l
-  unfolding neighbour_before
-  before_top l here root = ap (λ g. unwrap_or (last_met f g) BlockEdge) (sym (before-root f once l here root))
+    pub at_top : parent_of f at.label ≡ None → BlockEdge ≡ answer
+    at_top root = ap (λ g. unwrap_or (first_met side f g) BlockEdge) (sym (root_alone f law.distinct at.label (law.here at walked.held) root side)) ∙ walked.same

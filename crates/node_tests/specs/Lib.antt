@@ -1,4 +1,5 @@
 pub mod Surroundings
+pub mod Sides
 pub mod CollapsedWhitespace
 pub mod SolidNeighbours
 pub mod Visible

@@ -8,7 +8,9 @@ use Rattle.dom_model.specs.Forest.Forest.{Nil, Tree}
 use Rattle.node_styles.specs.Blocks.{is_block}
 use Rattle.node_tests.specs.declared.neighbours.Neighbour.{Neighbour}
 use Rattle.node_tests.specs.declared.neighbours.Neighbour.TheVariants.{BlockEdge, LineBreak, Solid}
-use Rattle.node_tests.specs.Surroundings.{trees_before, trees_after}
+use Rattle.node_tests.specs.declared.sides.Side.{Side}
+use Rattle.node_tests.specs.declared.sides.Side.TheVariants.{Before, After}
+use Rattle.node_tests.specs.Sides.{trees}
 use Rattle.node_tests.specs.CollapsedWhitespace.{is_solid}
 use Rattle.dom_model.specs.Contents.{has_name, is_break}
 
@@ -20,27 +22,25 @@ met f l =
     else (if is_solid f l then Some Solid
     else None))
 
--- the first that is met in trees, from the front and from the back, where a block is met before what it holds; f is the
--- forest that the trees stand in
-abbrev pub first_met : Forest Content → Forest Content → Option Neighbour
-first_met f Nil = None
-first_met f (Tree l c ks rest) = option_or (met f l) (option_or (first_met f ks) (first_met f rest))
+-- of what is met in the front of trees and in the rest of them, what a walk to this side meets first
+abbrev pub nearer : Side → Option Neighbour → Option Neighbour → Option Neighbour
+nearer Before front rest = option_or rest front
+nearer After front rest = option_or front rest
 
-abbrev pub last_met : Forest Content → Forest Content → Option Neighbour
-last_met f Nil = None
-last_met f (Tree l c ks rest) = option_or (last_met f rest) (option_or (met f l) (last_met f ks))
+-- what a walk to this side meets first in trees, where a node is met before what it holds; f is the forest that the trees
+-- stand in
+abbrev pub first_met : Side → Forest Content → Forest Content → Option Neighbour
+first_met side f Nil = None
+first_met side f (Tree l c ks rest) = nearer side (option_or (met f l) (first_met side f ks)) (first_met side f rest)
 
 -- the first in tree order from the back, where a block is met after what it holds
 abbrev pub last_in_order : Forest Content → Forest Content → Option Neighbour
 last_in_order f Nil = None
 last_in_order f (Tree l c ks rest) = option_or (last_in_order f rest) (option_or (last_in_order f ks) (met f l))
 
--- the solid neighbours in the nearest block, whose start and end are block edges too
-unfoldable pub neighbour_before : Forest Content → ℕ → Neighbour
-neighbour_before f l = unwrap_or (last_met f (trees_before f l)) BlockEdge
-
-unfoldable pub neighbour_after : Forest Content → ℕ → Neighbour
-neighbour_after f l = unwrap_or (first_met f (trees_after f l)) BlockEdge
+-- the solid neighbour on this side in the nearest block, whose start and end are block edges too
+unfoldable pub neighbour_on : Side → Forest Content → ℕ → Neighbour
+neighbour_on side f l = unwrap_or (first_met side f (trees side f l)) BlockEdge
 
 abbrev pub is_block_edge : Neighbour → Bool
 is_block_edge BlockEdge = true
@@ -62,8 +62,8 @@ is_sole_in_item f l =
 -- a br after text or an image and before a block edge, which shows no line of its own
 unfoldable pub is_extraneous_break : Forest Content → ℕ → Bool
 is_extraneous_break f l =
-    is_break f l && is_block_edge (neighbour_after f l) && is_solid_neighbour (neighbour_before f l) && not (is_sole_in_item f l)
+    is_break f l && is_block_edge (neighbour_on After f l) && is_solid_neighbour (neighbour_on Before f l) && not (is_sole_in_item f l)
 
 -- a br after a block edge or a br, and before a block edge
 unfoldable pub is_collapsed_break : Forest Content → ℕ → Bool
-is_collapsed_break f l = is_break f l && not (is_solid_neighbour (neighbour_before f l)) && is_block_edge (neighbour_after f l)
+is_collapsed_break f l = is_break f l && not (is_solid_neighbour (neighbour_on Before f l)) && is_block_edge (neighbour_on After f l)

@@ -13,6 +13,7 @@ mod listing;
 mod neighbours;
 mod props;
 mod ranges;
+mod sides;
 mod visible;
 mod whitespace;
 

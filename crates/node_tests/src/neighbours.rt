@@ -6,6 +6,7 @@ ghost use Rattle.node_arena.specs.Held.{label};
 ghost use Rattle.node_tests.specs.CollapsedWhitespace as whitespace;
 ghost use Rattle.node_tests.specs.SolidNeighbours as neighbours;
 
+use crate::sides::{Side, inward, sibling};
 use node_arena::{Content, NodeRef, Nodes, has_name, is_break, is_image};
 use node_styles::{is_block, is_whitespace};
 
@@ -54,43 +55,6 @@ pub(crate) fn met_at<N: Nodes>(nodes: &N, node: NodeRef) -> Option<Neighbour>
     }
 }
 
-// What is met first in the tree of a node.
-fn first_inside<N: Nodes>(nodes: &N, node: NodeRef) -> Option<Neighbour>
-    requires { N.holds nodes.now node }
-    ensures { result ≡ neighbours.first_met (N.trees nodes.now) (tree_of (N.trees nodes.now) node.label) }
-{
-    nodes.valid();
-    if let Some(met) = met_at(nodes, node) {
-        return Some(met);
-    }
-    let mut child = nodes.first_child(node);
-    while let Some(at) = child {
-        if let Some(met) = first_inside(nodes, at) {
-            return Some(met);
-        }
-        child = nodes.next(at);
-    }
-    None
-}
-
-// What is met last in the tree of a node.
-fn last_inside<N: Nodes>(nodes: &N, node: NodeRef) -> Option<Neighbour>
-    requires { N.holds nodes.now node }
-    ensures { result ≡ neighbours.last_met (N.trees nodes.now) (tree_of (N.trees nodes.now) node.label) }
-{
-    nodes.valid();
-    if let Some(met) = met_at(nodes, node) {
-        return Some(met);
-    }
-    let mut last = None;
-    let mut child = nodes.first_child(node);
-    while let Some(at) = child {
-        last = last_inside(nodes, at).or(last);
-        child = nodes.next(at);
-    }
-    last
-}
-
 /// What is met last in the tree of a node in tree order, inside blocks too.
 pub(crate) fn last_in_order<N: Nodes>(nodes: &N, node: NodeRef) -> Option<Neighbour>
     requires { N.holds nodes.now node }
@@ -106,44 +70,27 @@ pub(crate) fn last_in_order<N: Nodes>(nodes: &N, node: NodeRef) -> Option<Neighb
     last
 }
 
-/// What is met first after the tree of a node in its nearest block.
-pub(crate) fn neighbour_after<N: Nodes>(nodes: &N, node: NodeRef) -> Neighbour
+/// What is met first on a side of the tree of a node in its nearest block. A block is met before what it holds.
+pub(crate) fn neighbour_on<N: Nodes>(nodes: &N, node: NodeRef, side: Side) -> Neighbour
     requires { N.holds nodes.now node }
-    ensures { result ≡ neighbours.neighbour_after (N.trees nodes.now) node.label }
+    ensures { result ≡ neighbours.neighbour_on side (N.trees nodes.now) node.label }
 {
     nodes.valid();
     let mut at = node;
+    let mut next = sibling(nodes, node, side);
     'walk: loop {
-        if let Some(next) = nodes.next(at) {
-            if let Some(met) = first_inside(nodes, next) {
+        if let Some(inner) = next {
+            if let Some(met) = met_at(nodes, inner) {
                 return met;
             }
-            at = next;
+            at = inner;
+            next = inward(nodes, inner, side);
         } else {
             match nodes.parent(at) {
-                Some(parent) if !is_block(nodes, parent) => at = parent,
-                _ => return Neighbour::BlockEdge,
-            }
-        }
-    }
-}
-
-// What is met first before a node in its nearest block.
-fn neighbour_before<N: Nodes>(nodes: &N, node: NodeRef) -> Neighbour
-    requires { N.holds nodes.now node }
-    ensures { result ≡ neighbours.neighbour_before (N.trees nodes.now) node.label }
-{
-    nodes.valid();
-    let mut at = node;
-    'walk: loop {
-        if let Some(prev) = nodes.prev(at) {
-            if let Some(met) = last_inside(nodes, prev) {
-                return met;
-            }
-            at = prev;
-        } else {
-            match nodes.parent(at) {
-                Some(parent) if !is_block(nodes, parent) => at = parent,
+                Some(parent) if !is_block(nodes, parent) => {
+                    at = parent;
+                    next = sibling(nodes, parent, side);
+                }
                 _ => return Neighbour::BlockEdge,
             }
         }
@@ -198,8 +145,8 @@ pub fn is_extraneous_break<N: Nodes>(nodes: &N, node: NodeRef) -> bool
     ensures { result ≡ neighbours.is_extraneous_break (N.trees nodes.now) node.label }
 {
     is_break(nodes, node)
-        && is_block_edge(neighbour_after(nodes, node))
-        && is_solid_neighbour(neighbour_before(nodes, node))
+        && is_block_edge(neighbour_on(nodes, node, Side::After))
+        && is_solid_neighbour(neighbour_on(nodes, node, Side::Before))
         && !is_sole_in_item(nodes, node)
 }
 
@@ -210,6 +157,6 @@ pub fn is_collapsed_break<N: Nodes>(nodes: &N, node: NodeRef) -> bool
     ensures { result ≡ neighbours.is_collapsed_break (N.trees nodes.now) node.label }
 {
     is_break(nodes, node)
-        && !is_solid_neighbour(neighbour_before(nodes, node))
-        && is_block_edge(neighbour_after(nodes, node))
+        && !is_solid_neighbour(neighbour_on(nodes, node, Side::Before))
+        && is_block_edge(neighbour_on(nodes, node, Side::After))
 }

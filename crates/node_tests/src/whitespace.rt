@@ -5,7 +5,8 @@ ghost use Rattle.dom_model.specs.Forest.{first_of};
 ghost use Rattle.node_tests.specs.CollapsedWhitespace as whitespace;
 ghost use Rattle.node_tests.specs.Surroundings as before;
 
-use crate::neighbours::{is_solid_neighbour, last_in_order, met_at, neighbour_after};
+use crate::neighbours::{is_solid_neighbour, last_in_order, met_at, neighbour_on};
+use crate::sides::Side;
 use node_arena::{Content, NodeRef, Nodes};
 use node_styles::{is_hidden, is_whitespace};
 
@@ -44,7 +45,7 @@ fn collapses_after<N: Nodes>(nodes: &N, node: NodeRef) -> bool
     ensures { result ≡ whitespace.collapses_at (N.trees nodes.now) (before.nodes_after (N.trees nodes.now) node.label) }
 {
     nodes.valid();
-    !is_solid_neighbour(neighbour_after(nodes, node))
+    !is_solid_neighbour(neighbour_on(nodes, node, Side::After))
 }
 
 fn is_empty_words(content: &Content) -> bool

@@ -1,5 +1,6 @@
 use Rattle.std.proofs.Common.{sym, ap, ◌∙◌, not}
-use Rattle.node_tests.proofs.Walking.{prev_behind, parent_behind}
+use Rattle.node_tests.specs.declared.sides.Side.TheVariants.{Before}
+use Rattle.node_tests.proofs.Tags.{past_sibling, parent_less}
 use Rattle.node_tests.proofs.Collapsing.{back_found, back_passed, up_found, up_passed, top_collapses}
 use Rattle.node_tests.proofs.whitespace.collapses_before.Goals as goal
 
@@ -13,9 +14,7 @@ returns-in-Some-last_in_order g c =
 
 pub walk-smaller-in-Some : goal.walk-smaller-in-Some
 walk-smaller-in-Some g c =
-    let f = (g.N.Nodes.trees c.args.nodes.now) in
-    let law = c.valid.ensures in
-    prev_behind f law.distinct c.walk.at.label c.in-Some.prev.label (sym c.in-Some.ensures.is)
+    past_sibling c.valid.ensures Before c.walk.at.label c.in-Some.prev.label (sym c.in-Some.ensures.is)
 
 pub walk-preserved-in-Some : goal.walk-preserved-in-Some
 walk-preserved-in-Some g c =
@@ -42,9 +41,7 @@ returns-in-Some-met_at g c =
 
 pub walk-smaller : goal.walk-smaller
 walk-smaller g c =
-    let f = (g.N.Nodes.trees c.args.nodes.now) in
-    let law = c.valid.ensures in
-    parent_behind f law.distinct c.walk.at.label c.in-Some-parent.parent.label (sym c.in-Some-parent.ensures.is)
+    parent_less c.valid.ensures Before c.walk.at.label c.in-Some-parent.parent.label (sym c.in-Some-parent.ensures.is) (sym c.in_default.ensures.is)
 
 pub walk-preserved : goal.walk-preserved
 walk-preserved g c =

@@ -1,7 +1,8 @@
 use Rattle.std.proofs.Common.{◌≡◌}
 use Rattle.node_tests.specs.Surroundings.{nodes_before}
 use Rattle.node_tests.specs.CollapsedWhitespace.{collapses_at}
-use Rattle.node_tests.proofs.Walking.{behind}
+use Rattle.node_tests.specs.declared.sides.Side.TheVariants.{Before}
+use Rattle.node_tests.proofs.Tags.{left_past}
 use Rattle.node_tests.proofs.whitespace.collapses_before.Given as goal
 
 abbrev pub invariant-walk : goal.invariant-walk
@@ -11,4 +12,4 @@ invariant-walk g l = record {
 }
 
 abbrev pub decreases-walk : goal.decreases-walk
-decreases-walk g l = behind (g.N.Nodes.trees l.nodes) l.at.label
+decreases-walk g l = left_past Before (g.N.Nodes.trees l.nodes) l.at.label
