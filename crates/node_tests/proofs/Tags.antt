@@ -121,7 +121,7 @@ module _ {holds : NodeRef → Type 0} {f : Forest Content} {upper : ℕ} (law : 
   near_alone Before p k e = last_alone p k e
   near_alone After p k e = first_prev f law.distinct k p (near_parent After p k e) e
 
-  past_less : (side : Side) (l : ℕ) → 0 < count_of f l → left_past side f l < left_from side f l
+  pub past_less : (side : Side) (l : ℕ) → 0 < count_of f l → left_past side f l < left_from side f l
   past_less Before l here = omega (arith, own_end f law.distinct l here, start_low f law.distinct l)
   past_less After l here = omega (arith, own_end f law.distinct l here)
 

@@ -1,5 +1,5 @@
 -- The places beside the children of a node.
-use Rattle.std.proofs.Common.{◌≡◌, ◌≢◌, ℕ, zero, suc, ◌+◌, ◌<◌, ◌≤◌, Bool, true, false, ◌||◌, List, [], ◌∷◌, length, Option, Some, None, refl, sym, ap, ◌∙◌, inl, inr, arith, eqb, is_none, add-one, add-zero}
+use Rattle.std.proofs.Common.{◌≡◌, ◌≢◌, ℕ, zero, suc, ◌+◌, ◌<◌, ◌≤◌, Bool, true, false, ◌||◌, List, [], ◌∷◌, length, Option, Some, None, refl, sym, ap, ◌∙◌, inl, inr, arith, eqb, is_none, add-one}
 use Rattle.std.specs.Prelude.{slice_get}
 use Rattle.std.specs.Option.{option_map, option_map_or}
 use Rattle.std.proofs.lemmas.Bool.Decides.{eqb_tells}
@@ -239,16 +239,13 @@ module _ {holds : NodeRef → Type 0} {f : Forest Content} {upper : ℕ} (law : 
     index : index_of f l ≡ place_in (children_of f p) l
     index = ap (λ o. option_map_or (λ q. place_in (children_of f q) l) o 0) child
 
-    before_at : index_of f l + 0 ≡ place_in (children_of f p) l
-    before_at = rw add-zero index
-
     after_at : index_of f l + 1 ≡ suc (place_in (children_of f p) l)
     after_at = rw add-one (ap suc index)
 
-    pub before_index : child_before f p (index_of f l + 0) ≡ prev_of f l
+    pub before_index : child_before f p (index_of f l) ≡ prev_of f l
     before_index =
-        before_is f p (index_of f l + 0)
-        ∙ ap (preceding None (children_of f p)) before_at
+        before_is f p (index_of f l)
+        ∙ ap (preceding None (children_of f p)) index
         ∙ before_place None (children_of f p) l among
         ∙ sym (prev_in f law.distinct l p child)
 
@@ -294,11 +291,11 @@ module _ {holds : NodeRef → Type 0} {f : Forest Content} {upper : ℕ} (law : 
         elim (eqb_tells (place_in xs l + 1) (length xs)) [ inl (_, same) ↦ omega (arith, same, index) | inr (u, _) ↦ absurd (let v : true ≡ false = sym t ∙ u in cc) ]
 
   module _ (r p : NodeRef) (child : parent_of f r.label ≡ Some p.label) where
-    pub stands_before : (o : Option NodeRef) → label o ≡ prev_of f r.label → StandsAt f (record { node = p; before = o; after = Some r }) (record { node = p.label; offset = index_of f r.label + 0 })
+    pub stands_before : (o : Option NodeRef) → label o ≡ prev_of f r.label → StandsAt f (record { node = p; before = o; after = Some r }) (record { node = p.label; offset = index_of f r.label })
     stands_before o prev =
         let xs = children_of f p.label in
         let some = among r.label p.label child in
-        let at = before_at r.label p.label child in
+        let at = index r.label p.label child in
         let before : label o ≡ before_in xs r.label = prev ∙ prev_in f law.distinct r.label p.label child in
         let short : eqb (place_in xs r.label) (length_of f p.label) ≡ false = differ (place_in xs r.label) (length_of f p.label) (λ e. omega (arith, e, long r.label p.label child, place_low xs r.label some)) in
         record {

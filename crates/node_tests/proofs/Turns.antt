@@ -1,16 +1,19 @@
 -- The turns of a walk from place to place, and the walk.
-use Rattle.std.proofs.Common.{◌≡◌, ℕ, suc, ◌-◌, ◌<◌, Bool, true, false, cond, ◌&&◌, ◌||◌, Some, None, refl, sym, ap, ◌∙◌, arith, eqb, is_none}
+use Rattle.std.proofs.Common.{◌≡◌, ℕ, suc, ◌-◌, ◌<◌, Bool, true, false, cond, ◌&&◌, ◌||◌, Some, None, IfSome, refl, sym, ap, ◌∙◌, arith, eqb, is_none}
 use Rattle.dom_model.specs.declared.Content.{Content}
 use Rattle.dom_model.specs.Contents.{length_of}
 use Rattle.dom_model.specs.Forest.{Forest, parent_of}
 use Rattle.node_arena.specs.declared.NodeRef.{NodeRef}
 use Rattle.node_arena.specs.Held.{label}
 use Rattle.node_tests.specs.declared.breaks.Gap.{Gap}
+use Rattle.node_tests.specs.declared.sides.Side.{Side}
+use Rattle.node_tests.specs.declared.sides.Side.TheVariants.{Before, After}
+use Rattle.node_tests.specs.Sides.{other}
 use Rattle.node_tests.specs.Visible.{is_visible}
 use Rattle.node_tests.specs.BlockPoints.{child_before, child_at, starts_after, ends_before, is_block_start, is_block_end, is_block_boundary}
-use Rattle.node_tests.specs.LineBreaks.{Place, Turn, past, out_of, back_past, forth_past, turn_back, turn_forth, walk}
+use Rattle.node_tests.specs.LineBreaks.{Place, Turn, end_of, past, out_of, child_beside, go_past, turn_to, walk}
 use Rattle.node_tests.specs.LineBreaks.Turn.{Answer, GoOn}
-use Rattle.node_tests.specs.Gaps.{HoldsGap, StandsAt, meets_boundary}
+use Rattle.node_tests.specs.Gaps.{beside, HoldsGap, StandsAt, meets_boundary}
 
 mix : (r x y s e : Bool) → ((r && (x || y)) || s || e) ≡ (((r && x) || s) || ((r && y) || e))
 mix false x y s e = refl
@@ -35,46 +38,38 @@ module _ (f : Forest Content) (at : Gap) (place : Place) (stands : StandsAt f at
       ∙ ap (λ o. (root && (is_none (label at.before) || is_none (label at.after))) || starts_after f o || after) (sym stands.before)
       ∙ ap (λ o. (root && (is_none (label at.before) || is_none (label at.after))) || starts_after f (label at.before) || ends_before f o) (sym stands.after)
 
-  pub back_ends : meets_boundary f at ≡ true → turn_back f place ≡ Answer true
-  unfolding turn_back
-  back_ends met = ap (λ b. cond b (Answer true) (back_past f place.node (child_before f place.node place.offset))) (boundary_is ∙ met)
+  beside_is : (side : Side) → child_beside side f place.node place.offset ≡ label (beside side at)
+  beside_is Before = ap (λ n. child_before f n place.offset) stands.node ∙ sym stands.before
+  beside_is After = ap (λ n. child_at f n place.offset) stands.node ∙ sym stands.after
 
-  pub forth_ends : meets_boundary f at ≡ true → turn_forth f place ≡ Answer true
-  unfolding turn_forth
-  forth_ends met = ap (λ b. cond b (Answer true) (forth_past f place.node (child_at f place.node place.offset))) (boundary_is ∙ met)
+  module _ (side : Side) where
+    pub turn_ends : meets_boundary f at ≡ true → turn_to side f place ≡ Answer true
+    unfolding turn_to
+    turn_ends met = ap (λ b. cond b (Answer true) (go_past side f place.node (child_beside side f place.node place.offset))) (boundary_is ∙ met)
 
-  module _ (inner : meets_boundary f at ≡ false) where
-    back_goes : turn_back f place ≡ back_past f at.node.label (label at.before)
-    unfolding turn_back
-    back_goes =
-        ap (λ b. cond b (Answer true) (back_past f place.node (child_before f place.node place.offset))) (boundary_is ∙ inner)
-        ∙ ap (λ n. back_past f n (child_before f n place.offset)) stands.node
-        ∙ ap (back_past f at.node.label) (sym stands.before)
+    module _ (inner : meets_boundary f at ≡ false) where
+      turn_goes : turn_to side f place ≡ go_past side f at.node.label (label (beside side at))
+      unfolding turn_to
+      turn_goes =
+          ap (λ b. cond b (Answer true) (go_past side f place.node (child_beside side f place.node place.offset))) (boundary_is ∙ inner)
+          ∙ ap (go_past side f place.node) (beside_is side)
+          ∙ ap (λ n. go_past side f n (label (beside side at))) stands.node
 
-    forth_goes : turn_forth f place ≡ forth_past f at.node.label (label at.after)
-    unfolding turn_forth
-    forth_goes =
-        ap (λ b. cond b (Answer true) (forth_past f place.node (child_at f place.node place.offset))) (boundary_is ∙ inner)
-        ∙ ap (λ n. forth_past f n (child_at f n place.offset)) stands.node
-        ∙ ap (forth_past f at.node.label) (sym stands.after)
+      pub turn_child : (child : NodeRef) → beside side at ≡ Some child → turn_to side f place ≡ past side f child.label
+      turn_child child is = turn_goes ∙ ap (λ o. go_past side f at.node.label (label o)) is
 
-    pub back_child : (child : NodeRef) → at.before ≡ Some child → turn_back f place ≡ past f child.label (length_of f child.label)
-    back_child child is = back_goes ∙ ap (λ o. back_past f at.node.label (label o)) is
+      pub turn_out : beside side at ≡ None → turn_to side f place ≡ out_of side f at.node.label
+      turn_out is = turn_goes ∙ ap (λ o. go_past side f at.node.label (label o)) is
 
-    pub back_out : at.before ≡ None → turn_back f place ≡ out_of f at.node.label 0
-    back_out is = back_goes ∙ ap (λ o. back_past f at.node.label (label o)) is
+pub held_beside : {holds : NodeRef → Type 0} (at : Gap) (side : Side) → HoldsGap holds at → IfSome (beside side at) (λ r. holds r)
+held_beside at Before held = held.before
+held_beside at After held = held.after
 
-    pub forth_child : (child : NodeRef) → at.after ≡ Some child → turn_forth f place ≡ past f child.label 0
-    forth_child child is = forth_goes ∙ ap (λ o. forth_past f at.node.label (label o)) is
+pub past_seen : (side : Side) (f : Forest Content) (k : ℕ) → is_visible f k ≡ true → past side f k ≡ Answer false
+past_seen side f k seen = ap (λ b. cond b (Answer false) (GoOn (end_of (other side) f k))) seen
 
-    pub forth_out : at.after ≡ None → turn_forth f place ≡ out_of f at.node.label 1
-    forth_out is = forth_goes ∙ ap (λ o. forth_past f at.node.label (label o)) is
-
-pub past_seen : (f : Forest Content) (k n : ℕ) → is_visible f k ≡ true → past f k n ≡ Answer false
-past_seen f k n seen = ap (λ b. cond b (Answer false) (GoOn (record { node = k; offset = n }))) seen
-
-pub past_unseen : (f : Forest Content) (k n : ℕ) → is_visible f k ≡ false → past f k n ≡ GoOn (record { node = k; offset = n })
-past_unseen f k n unseen = ap (λ b. cond b (Answer false) (GoOn (record { node = k; offset = n }))) unseen
+pub past_unseen : (side : Side) (f : Forest Content) (k : ℕ) → is_visible f k ≡ false → past side f k ≡ GoOn (end_of (other side) f k)
+past_unseen side f k unseen = ap (λ b. cond b (Answer false) (GoOn (end_of (other side) f k))) unseen
 
 -- ---- the walk
 

@@ -1,5 +1,5 @@
 -- Places told by the children beside them.
-use Rattle.std.specs.Prelude.{◌≡◌, ◌==◌, ◌||◌, ◌&&◌, Bool, is_none, IfSome}
+use Rattle.std.specs.Prelude.{◌≡◌, ◌==◌, ◌||◌, ◌&&◌, Bool, Option, is_none, IfSome}
 use Rattle.dom_model.specs.declared.Content.{Content}
 use Rattle.dom_model.specs.Contents.{length_of}
 use Rattle.dom_model.specs.Forest.{Forest, parent_of}
@@ -9,7 +9,14 @@ use Rattle.node_tests.specs.BlockPoints.{child_before, child_at, starts_after, e
 use Rattle.node_tests.specs.LineBreaks as line_breaks
 use Rattle.node_tests.specs.declared.breaks.Gap.{Gap}
 use Rattle.node_tests.specs.declared.breaks.Turn.{Turn}
+use Rattle.node_tests.specs.declared.sides.Side.{Side}
+use Rattle.node_tests.specs.declared.sides.Side.TheVariants.{Before, After}
 use Rattle.node_tests.specs.declared.breaks.Turn.TheVariants.{Answer, GoOn}
+
+-- the child beside a place
+abbrev pub beside : Side → Gap → Option NodeRef
+beside Before at = at.before
+beside After at = at.after
 
 -- the nodes are held
 pub record HoldsGap (holds : NodeRef → Type 0) (at : Gap) : Type 0 where

@@ -6,6 +6,9 @@ use Rattle.dom_model.specs.Contents.{length_of}
 use Rattle.dom_model.specs.Document.{node_count, char_count}
 use Rattle.dom_model.specs.Forest.{Forest, parent_of}
 use Rattle.dom_model.specs.Places.{index_of}
+use Rattle.node_tests.specs.declared.sides.Side.{Side}
+use Rattle.node_tests.specs.declared.sides.Side.TheVariants.{Before, After}
+use Rattle.node_tests.specs.Sides.{other}
 use Rattle.node_tests.specs.Visible.{is_visible}
 use Rattle.node_tests.specs.BlockPoints.{child_before, child_at, is_block_boundary}
 
@@ -22,43 +25,55 @@ pub data Turn : Type 0 where
   Answer : Bool → Turn
   GoOn : Place → Turn
 
--- past a child, unless it is visible: from its end on
-abbrev pub past : Forest Content → ℕ → ℕ → Turn
-past f k offset = if is_visible f k then Answer false else GoOn (record { node = k; offset = offset })
+-- the place at an end of a node, the first or the last
+abbrev pub edge : Side → Forest Content → ℕ → ℕ
+edge Before f l = 0
+edge After f l = length_of f l
 
--- out of a node, to this many places after its own
-abbrev pub out_to : Forest Content → ℕ → ℕ → Option ℕ → Turn
-out_to f l places None = Answer true
-out_to f l places (Some p) = GoOn (record { node = p; offset = index_of f l + places })
+abbrev pub end_of : Side → Forest Content → ℕ → Place
+end_of side f l = record { node = l; offset = edge side f l }
 
-abbrev pub out_of : Forest Content → ℕ → ℕ → Turn
-out_of f l places = out_to f l places (parent_of f l)
+-- past a child, unless it is visible: from its other end on
+abbrev pub past : Side → Forest Content → ℕ → Turn
+past side f k = if is_visible f k then Answer false else GoOn (end_of (other side) f k)
 
-abbrev pub back_past : Forest Content → ℕ → Option ℕ → Turn
-back_past f l None = out_of f l 0
-back_past f l (Some k) = past f k (length_of f k)
+-- out of a node, to the place beside it
+abbrev pub own_place : Side → ℕ → ℕ
+own_place Before index = index
+own_place After index = index + 1
 
-abbrev pub forth_past : Forest Content → ℕ → Option ℕ → Turn
-forth_past f l None = out_of f l 1
-forth_past f l (Some k) = past f k 0
+abbrev pub out_to : Side → Forest Content → ℕ → Option ℕ → Turn
+out_to side f l None = Answer true
+out_to side f l (Some p) = GoOn (record { node = p; offset = own_place side (index_of f l) })
 
-unfoldable pub turn_back : Forest Content → Place → Turn
-turn_back f at =
-    if is_block_boundary f at.node at.offset then Answer true else back_past f at.node (child_before f at.node at.offset)
+abbrev pub out_of : Side → Forest Content → ℕ → Turn
+out_of side f l = out_to side f l (parent_of f l)
 
-unfoldable pub turn_forth : Forest Content → Place → Turn
-turn_forth f at =
-    if is_block_boundary f at.node at.offset then Answer true else forth_past f at.node (child_at f at.node at.offset)
+-- the child beside a place
+abbrev pub child_beside : Side → Forest Content → ℕ → ℕ → Option ℕ
+child_beside Before f l o = child_before f l o
+child_beside After f l o = child_at f l o
+
+abbrev pub go_past : Side → Forest Content → ℕ → Option ℕ → Turn
+go_past side f l None = out_of side f l
+go_past side f l (Some k) = past side f k
+
+unfoldable pub turn_to : Side → Forest Content → Place → Turn
+turn_to side f at =
+    if is_block_boundary f at.node at.offset then Answer true
+    else go_past side f at.node (child_beside side f at.node at.offset)
 
 -- at most so many turns; then it is answered as at a boundary
 abbrev pub walk : (Place → Turn) → ℕ → Place → Bool
 walk turn zero at = true
 walk turn (suc n) at = elim (turn at) [ Answer b ↦ b | GoOn next ↦ walk turn n next ]
 
--- from the start of l back
-unfoldable pub follows_break : Forest Content → ℕ → Bool
-follows_break f l = walk (turn_back f) (turns f) (record { node = l; offset = 0 })
+-- from the end of l on this side
+unfoldable pub meets_break : Side → Forest Content → ℕ → Bool
+meets_break side f l = walk (turn_to side f) (turns f) (end_of side f l)
 
--- from the end of l on
+unfoldable pub follows_break : Forest Content → ℕ → Bool
+follows_break f l = meets_break Before f l
+
 unfoldable pub precedes_break : Forest Content → ℕ → Bool
-precedes_break f l = walk (turn_forth f) (turns f) (record { node = l; offset = length_of f l })
+precedes_break f l = meets_break After f l

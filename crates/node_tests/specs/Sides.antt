@@ -2,7 +2,6 @@
 use Rattle.std.specs.Prelude.{ℕ, Option}
 use Rattle.std.specs.Option.{option_or}
 use Rattle.dom_model.specs.declared.Content.{Content}
-use Rattle.dom_model.specs.Contents.{length_of}
 use Rattle.dom_model.specs.Forest.{Forest, first_of, last_of, prev_of, next_of}
 use Rattle.node_tests.specs.declared.sides.Side.{Side}
 use Rattle.node_tests.specs.declared.sides.Side.TheVariants.{Before, After}
@@ -24,11 +23,6 @@ near_child After f l = first_of f l
 -- where it goes on without going up
 abbrev pub inward : Side → Forest Content → ℕ → Option ℕ
 inward side f l = option_or (near_child side f l) (sibling side f l)
-
--- the offset at this end of a node
-abbrev pub edge : Side → Forest Content → ℕ → ℕ
-edge Before f l = 0
-edge After f l = length_of f l
 
 -- the trees that lie wholly on this side in the nearest block
 abbrev pub trees : Side → Forest Content → ℕ → Forest Content

@@ -1,15 +1,16 @@
 //! Whether a node follows or precedes a line break.
 
 ghost use Rattle.std.specs.Prelude.{◌≡◌, ◌||◌, ◌&&◌, ◌+◌, ◌*◌, is_none, IfSome};
-ghost use Rattle.dom_model.specs.Contents.{length_of};
 ghost use Rattle.dom_model.specs.Forest.{parent_of};
 ghost use Rattle.node_arena.specs.Held.{label};
-ghost use Rattle.node_tests.specs.BlockPoints as points;
+ghost use Rattle.node_tests.specs.Gaps as gaps;
 ghost use Rattle.node_tests.specs.LineBreaks as line_breaks;
+ghost use Rattle.node_tests.specs.declared.sides.Side as sides;
 ghost use Rattle.node_tests.specs.Gaps.{HoldsGap, StandsAt, Comes, meets_boundary};
 
 use crate::block_points::{ends_before, is_root, starts_after};
 use crate::neighbours::is_nothing;
+use crate::sides::{Side, other};
 use crate::visible::is_visible;
 use node_arena::{NodeRef, Nodes};
 
@@ -28,63 +29,57 @@ enum Turn {
     GoOn(Gap),
 }
 
-// The place before the first child of a node.
-fn start_of<N: Nodes>(nodes: &N, node: NodeRef) -> Gap
+// The place at an end of a node.
+fn end_of<N: Nodes>(nodes: &N, node: NodeRef, side: Side) -> Gap
     requires { N.holds nodes.now node }
     ensures held { HoldsGap (N.holds nodes.now) result }
-    ensures place { StandsAt (N.trees nodes.now) result (record { node = node.label; offset = 0 }) }
+    ensures place { StandsAt (N.trees nodes.now) result (line_breaks.end_of side (N.trees nodes.now) node.label) }
 {
     nodes.valid();
-    Gap {
-        node,
-        before: None,
-        after: nodes.first_child(node),
+    match side {
+        Side::Before => Gap {
+            node,
+            before: None,
+            after: nodes.first_child(node),
+        },
+        Side::After => Gap {
+            node,
+            before: nodes.last_child(node),
+            after: None,
+        },
     }
 }
 
-// The place after the last child of a node.
-fn end_of<N: Nodes>(nodes: &N, node: NodeRef) -> Gap
+// Out of a node, to the place beside it.
+fn out_of<N: Nodes>(nodes: &N, node: NodeRef, side: Side) -> Turn
     requires { N.holds nodes.now node }
-    ensures held { HoldsGap (N.holds nodes.now) result }
-    ensures place { StandsAt (N.trees nodes.now) result (record { node = node.label; offset = length_of (N.trees nodes.now) node.label }) }
-{
-    nodes.valid();
-    Gap {
-        node,
-        before: nodes.last_child(node),
-        after: None,
-    }
-}
-
-// Out of a node, to the place before it.
-fn out_before<N: Nodes>(nodes: &N, node: NodeRef) -> Turn
-    requires { N.holds nodes.now node }
-    ensures { Comes (N.holds nodes.now) (N.trees nodes.now) result (line_breaks.out_of (N.trees nodes.now) node.label 0) }
+    ensures { Comes (N.holds nodes.now) (N.trees nodes.now) result (line_breaks.out_of side (N.trees nodes.now) node.label) }
 {
     nodes.valid();
     match nodes.parent(node) {
-        Some(parent) => Turn::GoOn(Gap {
-            node: parent,
-            before: nodes.prev(node),
-            after: Some(node),
-        }),
+        Some(parent) => match side {
+            Side::Before => Turn::GoOn(Gap {
+                node: parent,
+                before: nodes.prev(node),
+                after: Some(node),
+            }),
+            Side::After => Turn::GoOn(Gap {
+                node: parent,
+                before: Some(node),
+                after: nodes.next(node),
+            }),
+        },
         None => Turn::Answer(true),
     }
 }
 
-// Out of a node, to the place after it.
-fn out_after<N: Nodes>(nodes: &N, node: NodeRef) -> Turn
-    requires { N.holds nodes.now node }
-    ensures { Comes (N.holds nodes.now) (N.trees nodes.now) result (line_breaks.out_of (N.trees nodes.now) node.label 1) }
+// The child beside a place.
+fn beside(at: Gap, side: Side) -> Option<NodeRef>
+    ensures { result ≡ gaps.beside side at }
 {
-    nodes.valid();
-    match nodes.parent(node) {
-        Some(parent) => Turn::GoOn(Gap {
-            node: parent,
-            before: Some(node),
-            after: nodes.next(node),
-        }),
-        None => Turn::Answer(true),
+    match side {
+        Side::Before => at.before,
+        Side::After => at.after,
     }
 }
 
@@ -104,33 +99,18 @@ fn is_boundary<N: Nodes>(nodes: &N, at: Gap) -> bool
     is_tree_end(nodes, at) || starts_after(nodes, at.before) || ends_before(nodes, at.after)
 }
 
-// A turn of the walk back.
-fn turn_back<N: Nodes>(nodes: &N, at: Gap) -> Turn
+// A turn of the walk to a side.
+fn turn_to<N: Nodes>(nodes: &N, at: Gap, side: Side) -> Turn
     requires { HoldsGap (N.holds nodes.now) at }
-    ensures { (place : line_breaks.Place) → StandsAt (N.trees nodes.now) at place → Comes (N.holds nodes.now) (N.trees nodes.now) result (line_breaks.turn_back (N.trees nodes.now) place) }
+    ensures { (place : line_breaks.Place) → StandsAt (N.trees nodes.now) at place → Comes (N.holds nodes.now) (N.trees nodes.now) result (line_breaks.turn_to side (N.trees nodes.now) place) }
 {
     if is_boundary(nodes, at) {
         return Turn::Answer(true);
     }
-    match at.before {
+    match beside(at, side) {
         Some(child) if is_visible(nodes, child) => Turn::Answer(false),
-        Some(child) => Turn::GoOn(end_of(nodes, child)),
-        None => out_before(nodes, at.node),
-    }
-}
-
-// A turn of the walk on.
-fn turn_forth<N: Nodes>(nodes: &N, at: Gap) -> Turn
-    requires { HoldsGap (N.holds nodes.now) at }
-    ensures { (place : line_breaks.Place) → StandsAt (N.trees nodes.now) at place → Comes (N.holds nodes.now) (N.trees nodes.now) result (line_breaks.turn_forth (N.trees nodes.now) place) }
-{
-    if is_boundary(nodes, at) {
-        return Turn::Answer(true);
-    }
-    match at.after {
-        Some(child) if is_visible(nodes, child) => Turn::Answer(false),
-        Some(child) => Turn::GoOn(start_of(nodes, child)),
-        None => out_after(nodes, at.node),
+        Some(child) => Turn::GoOn(end_of(nodes, child, other(side))),
+        None => out_of(nodes, at.node, side),
     }
 }
 
@@ -138,8 +118,7 @@ fn turn_forth<N: Nodes>(nodes: &N, at: Gap) -> Turn
 // node at each turn, so it ends by itself; only outside it do the nodes and characters of the document have to be counted.
 fn turns<N: Nodes>(nodes: &N, node: NodeRef) -> u128
     requires { N.holds nodes.now node }
-    ensures back { line_breaks.walk (line_breaks.turn_back (N.trees nodes.now)) result (record { node = node.label; offset = 0 }) ≡ line_breaks.follows_break (N.trees nodes.now) node.label }
-    ensures forth { line_breaks.walk (line_breaks.turn_forth (N.trees nodes.now)) result (record { node = node.label; offset = length_of (N.trees nodes.now) node.label }) ≡ line_breaks.precedes_break (N.trees nodes.now) node.label }
+    ensures { (side : sides.Side) → line_breaks.walk (line_breaks.turn_to side (N.trees nodes.now)) result (line_breaks.end_of side (N.trees nodes.now) node.label) ≡ line_breaks.meets_break side (N.trees nodes.now) node.label }
 {
     nodes.valid();
     if nodes.is_within(nodes.document(), node) {
@@ -149,15 +128,15 @@ fn turns<N: Nodes>(nodes: &N, node: NodeRef) -> u128
     }
 }
 
-/// Whether a node follows a line break: from its start back, a block boundary comes before anything visible.
-pub fn follows_break<N: Nodes>(nodes: &N, node: NodeRef) -> bool
+// Whether a block boundary comes before anything visible, from an end of a node on out.
+fn meets_break<N: Nodes>(nodes: &N, node: NodeRef, side: Side) -> bool
     requires { N.holds nodes.now node }
-    ensures { result ≡ line_breaks.follows_break (N.trees nodes.now) node.label }
+    ensures { result ≡ line_breaks.meets_break side (N.trees nodes.now) node.label }
 {
     let mut left = turns(nodes, node);
-    let mut at = start_of(nodes, node);
+    let mut at = end_of(nodes, node, side);
     'walk: while left > 0 {
-        match turn_back(nodes, at) {
+        match turn_to(nodes, at, side) {
             Turn::Answer(answer) => return answer,
             Turn::GoOn(next) => at = next,
         }
@@ -166,19 +145,20 @@ pub fn follows_break<N: Nodes>(nodes: &N, node: NodeRef) -> bool
     true
 }
 
+#[tactic(auto, unfolding(crate::specs::LineBreaks::follows_break))]
+/// Whether a node follows a line break: from its start back, a block boundary comes before anything visible.
+pub fn follows_break<N: Nodes>(nodes: &N, node: NodeRef) -> bool
+    requires { N.holds nodes.now node }
+    ensures { result ≡ line_breaks.follows_break (N.trees nodes.now) node.label }
+{
+    meets_break(nodes, node, Side::Before)
+}
+
+#[tactic(auto, unfolding(crate::specs::LineBreaks::precedes_break))]
 /// Whether a node precedes a line break: from its end on, a block boundary comes before anything visible.
 pub fn precedes_break<N: Nodes>(nodes: &N, node: NodeRef) -> bool
     requires { N.holds nodes.now node }
     ensures { result ≡ line_breaks.precedes_break (N.trees nodes.now) node.label }
 {
-    let mut left = turns(nodes, node);
-    let mut at = end_of(nodes, node);
-    'walk: while left > 0 {
-        match turn_forth(nodes, at) {
-            Turn::Answer(answer) => return answer,
-            Turn::GoOn(next) => at = next,
-        }
-        left -= 1;
-    }
-    true
+    meets_break(nodes, node, Side::After)
 }
