@@ -5,7 +5,7 @@ ghost use Rattle.std.specs.Option.{option_copied, option_map};
 ghost use Rattle.dom_model.specs.AttributeList.{value_of, set_in, unset_in, IsDistinctNames};
 ghost use Rattle.dom_model.specs.AttributeMap.{attributes_of};
 
-use crate::texts::{Chars, Name};
+use crate::items::{Chars, Name};
 use indexmap::IndexMap;
 use std::alloc::{AllocError, AllocFailed, Global};
 use std::marker::Model;

@@ -6,10 +6,10 @@
 #![tactic(auto)]
 
 mod attributes;
-mod texts;
+mod items;
 
 pub use attributes::{Attribute, Attributes};
-pub use texts::{Chars, Name};
+pub use items::{Chars, Items, Name};
 
 /// What a node is, without its place in the tree.
 #[derive(Drop)]

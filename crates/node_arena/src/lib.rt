@@ -20,14 +20,13 @@ mod edits;
 mod elements;
 mod hosts;
 mod links;
-mod node_list;
 mod nodes;
 mod places;
 mod reads;
 
+use dom_model::Items;
 pub use dom_model::{Attribute, Attributes, Chars, Content, Name};
 pub use elements::{has_name, is_break, is_image};
-pub use node_list::NodeList;
 pub use nodes::Nodes;
 use slab::Slab;
 use std::alloc::{AllocError, Global};
@@ -41,6 +40,9 @@ pub struct NodeRef {
     pub slot: u32,
     pub label: u32,
 }
+
+/// A list of nodes.
+pub type NodeList = Items<NodeRef>;
 
 /// What a node is.
 #[derive(Clone, Copy, PartialEq, Eq, Debug)]

@@ -2,51 +2,15 @@
 
 ghost use Rattle.std.specs.Prelude.{◌≡◌, IfOk};
 
-use dom_model::{Chars, Name};
+use dom_model::{Chars, Items, Name};
 use html_names::QueryKind;
 use std::alloc::{AllocError, AllocFailed, Global};
 use std::error::Error;
 use std::fmt;
-use std::marker::{Copy, Model};
+use std::marker::Copy;
 
 /// The way from the document to a node: the index of a child in each node on the way. The document's own is empty.
-#[derive(Drop)]
-pub struct Path {
-    items: Vec<u32>,
-}
-
-impl Model for Path {
-    ghost use Rattle.std.specs.Prelude.{ℕ, List};
-
-    ghost Value = { List ℕ };
-
-    ghost view = { λ p. p.items.items };
-}
-
-impl Path {
-    /// A copy of the indexes of a slice.
-    pub fn from_slice(alloc: Global, items: &[u32]) -> Result<Path, AllocError>
-        ensures { IfOk result (λ path. path ≡ items.now) }
-    {
-        Ok(Path {
-            items: items.to_vec(alloc)?,
-        })
-    }
-
-    // The indexes of a `Vec`, which is taken over and not copied.
-    pub(crate) fn from_vec(items: Vec<u32>) -> Path
-        ensures { result ≡ items.items }
-    {
-        Path { items }
-    }
-
-    /// The indexes as a slice.
-    pub fn as_slice(&self) -> &[u32]
-        ensures { result.now ≡ self.now }
-    {
-        self.items.as_slice()
-    }
-}
+pub type Path = Items<u32>;
 
 /// A point: a node by its path, and an offset in it.
 #[derive(Drop)]

@@ -1,7 +1,7 @@
 //! Start tags on one line, read as they are written: where the text is no start tag, anything may be read.
 
 ghost use Rattle.std.specs.Prelude.{◌≡◌, ◌++◌, IfOk, OnOk, Some, None, true, false};
-ghost use Rattle.std.specs.Str.{all_scalars, chars};
+ghost use Rattle.std.specs.Str.{all_scalars};
 ghost use Rattle.step_text.specs.StepLine.{AreAttributes, IsTag};
 ghost use Rattle.step_text.specs.StepReading as reading;
 ghost use Rattle.step_text.specs.StepReading.{Reads};
@@ -129,19 +129,13 @@ fn dereference(alloc: Global, text: &[u8]) -> Result<Vec<u8>, AllocError>
     Ok(bytes)
 }
 
-fn collect_chars(alloc: Global, text: &str) -> Result<Chars, AllocError>
-    ensures { IfOk result (λ collected. collected ≡ chars text.now) }
-{
-    Ok(Chars::from_vec(text.chars().collect(alloc)?))
-}
-
 // The characters of a text in UTF-8.
 fn decode(alloc: Global, bytes: &[u8]) -> Result<Chars, StepFault>
     ensures read { Reads result (reading.decoded bytes.now) }
     ensures sound { IfOk result (λ decoded. all_scalars decoded ≡ true) }
 {
     match str::from_utf8(bytes) {
-        Ok(text) => Ok(collect_chars(alloc, text)?),
+        Ok(text) => Ok(Chars::from_text(alloc, text)?),
         Err(_) => Err(StepFault::Syntax),
     }
 }

@@ -7,7 +7,7 @@ ghost use Rattle.std.specs.Str.{chars};
 ghost use Rattle.hedit_c.specs.Calls.{ExecAnswers, ExecTells, SelectTells, MarkTells, UnmarkTells, place};
 
 use super::status::Status;
-use super::texts::{collect_chars, place_of};
+use super::texts::place_of;
 use dom_model::{Chars, Name};
 use edit_engine::{Answer, Editor, ExecFault, PlaceFault, Turn};
 use script_read::Place;
@@ -29,7 +29,7 @@ fn exec_text(alloc: Global, editor: &mut Editor, name: &str, value: &str) -> Sta
     ensures { ExecAnswers result editor.old editor.new
         (outcome editor.old name.now (chars value.now)) }
 {
-    match collect_chars(alloc, value) {
+    match Chars::from_text(alloc, value) {
         Ok(value) => exec_chars(alloc, editor, name, &value),
         Err(_) => Status::Memory,
     }

@@ -1,20 +1,11 @@
 //! Texts, places and buffers that cross to C and back.
 
 ghost use Rattle.std.specs.Prelude.{◌≡◌, IfOk};
-ghost use Rattle.std.specs.Str.{chars};
 ghost use Rattle.hedit_c.specs.Calls.{Puts, place};
 
 use super::status::Status;
-use dom_model::Chars;
 use script_read::{Path, Place};
 use std::alloc::{AllocError, Global};
-
-/// The characters of a text.
-pub(crate) fn collect_chars(alloc: Global, text: &str) -> Result<Chars, AllocError>
-    ensures { IfOk result (λ collected. collected ≡ chars text.now) }
-{
-    Ok(Chars::from_vec(text.chars().collect(alloc)?))
-}
 
 /// The place of an offset in the node at a path.
 pub(crate) fn place_of(alloc: Global, path: &[u32], offset: u32) -> Result<Place, AllocError>
