@@ -9,7 +9,7 @@ use Rattle.edit_model.specs.History.{document_of}
 use Rattle.edit_doc.specs.declared.command.Command.{Command}
 use Rattle.edit_doc.specs.GivingUp.{GivesUp}
 use Rattle.edit_doc.specs.History.{state_of, history_of}
-use Rattle.edit_doc.specs.History.Way.{Back, Forth}
+use Rattle.edit_doc.specs.declared.history.Way.TheVariants.{Back, Forth}
 use Rattle.edit_doc.specs.Sound.{UndoSound, RedoSound, next_first}
 use Rattle.edit_doc.specs.Trail.{Trail}
 use Rattle.edit_doc.specs.Live.{Live}

@@ -16,8 +16,9 @@ use Rattle.edit_doc.specs.declared.command.EntrySnapshot.{EntrySnapshot}
 use Rattle.edit_doc.specs.declared.command.Command.{Command}
 use Rattle.edit_doc.specs.declared.Doc.TheInside.{Inside}
 use Rattle.edit_doc.specs.Whole.{Whole, first_edits}
-use Rattle.edit_doc.specs.History.{forest_before, forest_after, begun_forest, Way, led, edits_of, entries}
-use Rattle.edit_doc.specs.History.Way.{Back, Forth}
+use Rattle.edit_doc.specs.declared.history.Way.{Way}
+use Rattle.edit_doc.specs.History.{forest_before, forest_after, begun_forest, led, edits_of, entries}
+use Rattle.edit_doc.specs.declared.history.Way.TheVariants.{Back, Forth}
 use Rattle.edit_doc.specs.Sound.{IsSnapshot, next_first, UndoSound, RedoSound, Lies, next_bound}
 use Rattle.edit_doc.proofs.Inner.{seen, Ok}
 use Rattle.edit_doc.proofs.MadeNodes.{count_changes, count_edits}

@@ -24,8 +24,9 @@ use Rattle.edit_doc.specs.declared.Doc.TheInside.{Inside}
 use Rattle.edit_doc.specs.declared.command.EntrySnapshot.{EntrySnapshot}
 use Rattle.edit_doc.specs.declared.command.Command.{Command}
 use Rattle.edit_doc.specs.Whole.{Whole, with_state}
-use Rattle.edit_doc.specs.History.{roots_from, begun_forest, begun_state, began_with, seen_trees, state_of, view_at, history_of, whole_of, Way, led, older, newer, edits_of, entries}
-use Rattle.edit_doc.specs.History.Way.{Back, Forth}
+use Rattle.edit_doc.specs.declared.history.Way.{Way}
+use Rattle.edit_doc.specs.History.{roots_from, begun_forest, begun_state, began_with, seen_trees, state_of, view_at, history_of, whole_of, led, older, newer, edits_of, entries}
+use Rattle.edit_doc.specs.declared.history.Way.TheVariants.{Back, Forth}
 use Rattle.edit_doc.specs.Sound.{IsSide, IsSnapshot, detached_of, next_first, OpenSound, IsSoundDoc, Lies, turned, bound_of, next_bound}
 use Rattle.edit_doc.specs.Live.{live}
 use Rattle.edit_doc.proofs.Inner.{seen, Ok}

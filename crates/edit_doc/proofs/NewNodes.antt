@@ -56,8 +56,9 @@ use Rattle.edit_doc.specs.declared.command.Command.{Command}
 use Rattle.edit_doc.specs.Whole.{Whole, IsOpen}
 use Rattle.edit_doc.specs.Held.{Holds, Keeps}
 use Rattle.edit_doc.specs.Marks.{IsMarked, has_named, NotesMade}
-use Rattle.edit_doc.specs.History.{edits_before, roots_from, forest_before, begun_forest, is_hidden, seen_trees, state_of, begun_state, began_with, view_at, history_of, whole_of, Way, led, older, newer, edits_of, entries}
-use Rattle.edit_doc.specs.History.Way.{Back, Forth}
+use Rattle.edit_doc.specs.declared.history.Way.{Way}
+use Rattle.edit_doc.specs.History.{edits_before, roots_from, forest_before, begun_forest, is_hidden, seen_trees, state_of, begun_state, began_with, view_at, history_of, whole_of, led, older, newer, edits_of, entries}
+use Rattle.edit_doc.specs.declared.history.Way.TheVariants.{Back, Forth}
 use Rattle.edit_doc.specs.Sound.{RefIn, EachHeldIn, IsSide, AreFresh, IsOff, AreNeeded, AreAlone, IsSnapshot, IsRunning, OpenSound, UndoSound, RedoSound, detached_of, next_first, IsSoundDoc, Lies, FitsWay, turned, bound_of, next_bound}
 use Rattle.edit_doc.specs.Trail.{Trail}
 use Rattle.edit_doc.specs.Live.{Live, live}

@@ -19,7 +19,7 @@ use Rattle.edit_doc.specs.Fields.{IsKept, SwapsLeft}
 use Rattle.edit_doc.specs.Whole.{opened}
 use Rattle.edit_doc.specs.Held.{IfHeld}
 use Rattle.edit_doc.specs.History.{forest_before, undo_entries, redo_entries, whole_of}
-use Rattle.edit_doc.specs.History.Way.{Back}
+use Rattle.edit_doc.specs.declared.history.Way.TheVariants.{Back}
 use Rattle.edit_doc.specs.Sound.{IsSnapshot, UndoSound, next_first, IsSoundDoc}
 use Rattle.edit_doc.specs.Trail.{trail_of}
 use Rattle.edit_doc.specs.Live.{live}

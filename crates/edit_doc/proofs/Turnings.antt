@@ -1,6 +1,6 @@
 -- An entry is taken back, or forth again.
 use Rattle.std.proofs.Common.{◌≡◌, ℕ, ◌<◌, true, false, List, [], ◌∷◌, ◌++◌, length, take, drop, Option, Some, None, refl, sym, ap, subst, ◌∙◌, arith}
-use Rattle.std.specs.Prelude.{IfSome, slice_get}
+use Rattle.std.specs.Prelude.{slice_get}
 use Rattle.std.specs.Option.{option_map}
 use Rattle.dom_model.specs.declared.Content.{Content}
 use Rattle.dom_model.specs.Forest.{Forest, tops, times, count_of, tree_of}
@@ -9,7 +9,7 @@ use Rattle.live_range.specs.declared.places.Places.{Places}
 use Rattle.live_range.specs.LivePoints.{LivePoints}
 use Rattle.live_range.specs.Names.{shown}
 use Rattle.undo_log.specs.Turning.{back, forth, inverses_back, inverses_forth, FitsBack, FitsForth, TurnsBack, TurnsForth}
-use Rattle.undo_log.specs.Log.{noted, FitsUndo, FitsRedo, undone_state, redone_state, undone_with, redone_with}
+use Rattle.undo_log.specs.Log.{noted, first_length, FitsUndo, FitsRedo, undone_state, redone_state, undone_with, redone_with}
 use Rattle.undo_log.specs.Log.Open.{Closed}
 use Rattle.forest_changes.specs.Change.{Change, IsForest, Fits, applied, inverse}
 use Rattle.forest_changes.specs.Named.{Each, named_in}
@@ -26,17 +26,17 @@ use Rattle.node_arena.specs.declared.NodeRef.{NodeRef}
 use Rattle.edit_doc.specs.declared.Doc.TheInside.{Inside}
 use Rattle.edit_doc.specs.declared.command.EntrySnapshot.{EntrySnapshot}
 use Rattle.edit_doc.specs.declared.command.Sides.{Sides}
-use Rattle.edit_doc.specs.Trail.{Trail, IsTrail, trail_of, trail_undone, trail_redone}
-use Rattle.edit_doc.specs.Whole.{Whole}
-use Rattle.edit_doc.specs.History.{roots_from, forest_before, forest_after, is_hidden, undo_entries, redo_entries, history_of, whole_of, view_at, Way, led, older, newer, other}
-use Rattle.edit_doc.specs.History.Way.{Back, Forth}
-use Rattle.edit_doc.specs.Sound.{IsOff, EntriesOff, AreNeeded, IsSide, IsSnapshot, UndoSound, RedoSound, next_first, IsSoundDoc, CanGo, turned}
+use Rattle.edit_doc.specs.Trail.{Trail, IsTrail, trail_of, FitsAlong, steps_along, snapshots_along, arena_along, trail_along}
+use Rattle.edit_doc.specs.Whole.{Whole, first_edits}
+use Rattle.edit_doc.specs.declared.history.Way.{Way}
+use Rattle.edit_doc.specs.History.{roots_from, forest_before, forest_after, is_hidden, undo_entries, redo_entries, history_of, whole_of, view_at, led, older, newer, other, entries_along, whole_along}
+use Rattle.edit_doc.specs.declared.history.Way.TheVariants.{Back, Forth}
+use Rattle.edit_doc.specs.Sound.{IsOff, EntriesOff, AreNeeded, IsSide, IsSnapshot, UndoSound, RedoSound, next_first, IsSoundDoc, CanGo, Lies, turned}
 use Rattle.edit_doc.specs.Live.{live, live_of}
-use Rattle.edit_doc.specs.Counted.{IsCounted}
-use Rattle.edit_doc.specs.Fields.{counts_before, counts_after}
+use Rattle.edit_doc.specs.Fields.{places_along, counts_along}
 use Rattle.edit_doc.proofs.HiddenTrees.{hidden_is, top_loose}
 use Rattle.edit_doc.proofs.Inner.{seen, Ok}
-use Rattle.edit_doc.proofs.Laid.{undo_count, redo_count}
+use Rattle.edit_doc.proofs.Laid.{undo_count, redo_count, undo_edits, redo_edits}
 use Rattle.edit_doc.proofs.Off.{Passes, passes_back, passes_forth, off_moved, entries_moved, each_here}
 use Rattle.edit_doc.proofs.Rests.{AtRest, rest_of, rest_sound, rest_whole, none_noted, rested_state}
 use Rattle.edit_doc.proofs.Downs.{at_older, at_newer, led_down, names_here, turned_ends}
@@ -161,43 +161,45 @@ module _ (d : Inside) (v : Whole) (sees : seen d ≡ v) (law : IsArena d.tree.no
   at_rest : AtRest (live d.tree) d.command d.history
   at_rest = rest_of (live d.tree) d.command d.history law closed ok
 
-  undo_fit_of : (high : ℕ) (es : List (List Step)) (bs : List EntrySnapshot) → UndoSound d.tree.nodes.arena.held d.tree.points.names false d.command high d.tree.nodes.arena.trees es bs → FitsUndo step_applied StepFits es d.tree.nodes.arena
-  undo_fit_of high [] bs h = tt
-  undo_fit_of high (e ∷ es) [] h = absurd h
-  undo_fit_of high (e ∷ es) (b ∷ bs) h = back_fits e d.tree.nodes.arena slotted h.0.1 h.0.0
+  -- ---- the entries that lie one way
 
-  pub undo_fits : FitsUndo step_applied StepFits d.history.log.undo d.tree.nodes.arena
-  undo_fits = undo_fit_of (next_first d.command.start d.history.future) d.history.log.undo d.history.past at_rest.undo
+  abbrev high : Way → ℕ
+  high Back = next_first d.command.start d.history.future
+  high Forth = 0
 
-  undo_counted_of : (high : ℕ) (es : List (List Step)) (bs : List EntrySnapshot) → UndoSound d.tree.nodes.arena.held d.tree.points.names false d.command high d.tree.nodes.arena.trees es bs → FitsUndo step_applied StepFits es d.tree.nodes.arena →
-      IfSome (slice_get bs 0) (λ b. IsCounted (undone_state step_applied es d.tree.nodes.arena).trees (counts_before b.sides))
-  undo_counted_of high es [] h fits = tt
-  undo_counted_of high [] (b ∷ bs) h fits = absurd h
-  undo_counted_of high (e ∷ es) (b ∷ bs) h fits =
-      let was = h.1.0.was in
-      subst (λ (a : Arena). IsCounted a.trees (counts_before b.sides)) (sym (go_back e d.tree.nodes.arena fits).state) (record { nodes = was.nodes_are; chars = was.chars_are; depth = was.no_deeper })
+  abbrev LiesHere : Way → ℕ → List (List Step) → List EntrySnapshot → Type 0
+  LiesHere w n es bs = Lies w d.tree.nodes.arena.held d.tree.points.names false d.command n d.tree.nodes.arena.trees es bs
 
-  pub undo_counted : IfSome (slice_get d.history.past 0) (λ b. IsCounted (undone_state step_applied d.history.log.undo d.tree.nodes.arena).trees (counts_before b.sides))
-  undo_counted = undo_counted_of (next_first d.command.start d.history.future) d.history.log.undo d.history.past at_rest.undo undo_fits
+  lies : (w : Way) → LiesHere w (high w) (steps_along w d.history) (snapshots_along w d.history)
+  lies Back = at_rest.undo
+  lies Forth = at_rest.redo
 
-  redo_fit_of : (es : List (List Step)) (bs : List EntrySnapshot) → RedoSound d.tree.nodes.arena.held d.tree.points.names d.command d.tree.nodes.arena.trees es bs → FitsRedo step_applied StepFits es d.tree.nodes.arena
-  redo_fit_of [] bs h = tt
-  redo_fit_of (e ∷ es) [] h = absurd h
-  redo_fit_of (e ∷ es) (b ∷ bs) h = forth_fits e d.tree.nodes.arena slotted h.0.1 h.0.0
+  fits_of : (w : Way) (n : ℕ) (es : List (List Step)) (bs : List EntrySnapshot) → LiesHere w n es bs → FitsAlong w es d.tree.nodes.arena
+  fits_of Back n [] bs h = tt
+  fits_of Forth n [] bs h = tt
+  fits_of w n (e ∷ es) [] h = absurd h
+  fits_of Back n (e ∷ es) (b ∷ bs) h = back_fits e d.tree.nodes.arena slotted h.0.1 h.0.0
+  fits_of Forth n (e ∷ es) (b ∷ bs) h = forth_fits e d.tree.nodes.arena slotted h.0.1 h.0.0
 
-  pub redo_fits : FitsRedo step_applied StepFits d.history.log.redo d.tree.nodes.arena
-  redo_fits = redo_fit_of d.history.log.redo d.history.future at_rest.redo
+  pub fits : (w : Way) → FitsAlong w (steps_along w d.history) d.tree.nodes.arena
+  fits w = fits_of w (high w) (steps_along w d.history) (snapshots_along w d.history) (lies w)
 
-  redo_counted_of : (es : List (List Step)) (bs : List EntrySnapshot) → RedoSound d.tree.nodes.arena.held d.tree.points.names d.command d.tree.nodes.arena.trees es bs → FitsRedo step_applied StepFits es d.tree.nodes.arena →
-      IfSome (slice_get bs 0) (λ b. IsCounted (redone_state step_applied es d.tree.nodes.arena).trees (counts_after b.sides))
-  redo_counted_of es [] h fits = tt
-  redo_counted_of [] (b ∷ bs) h fits = absurd h
-  redo_counted_of (e ∷ es) (b ∷ bs) h fits =
-      let is = h.1.0.is in
-      subst (λ (a : Arena). IsCounted a.trees (counts_after b.sides)) (sym (go_forth e d.tree.nodes.arena fits).state) (record { nodes = is.nodes_are; chars = is.chars_are; depth = is.no_deeper })
+  abbrev IsLedSide : Way → List (List Step) → Sides → Type 0
+  IsLedSide w es s = IsSide d.tree.points.names (arena_along w es d.tree.nodes.arena).trees (places_along w s) (counts_along w s).nodes (counts_along w s).chars (counts_along w s).depth
 
-  pub redo_counted : IfSome (slice_get d.history.future 0) (λ b. IsCounted (redone_state step_applied d.history.log.redo d.tree.nodes.arena).trees (counts_after b.sides))
-  redo_counted = redo_counted_of d.history.log.redo d.history.future at_rest.redo redo_fits
+  side_of : (w : Way) (n : ℕ) (es : List (List Step)) (bs : List EntrySnapshot) → LiesHere w n es bs → FitsAlong w es d.tree.nodes.arena → (s : Sides) → Some s ≡ first_sides bs → IsLedSide w es s
+  side_of w n es [] h fit s first = absurd (let first' : Some s ≡ None = first in cc)
+  side_of w n [] (b ∷ bs) h fit s first = absurd h
+  side_of Back n (e ∷ es) (b ∷ bs) h fit s first = rw (some_eq s b.sides first, (go_back e d.tree.nodes.arena fit).state) h.1.0.was
+  side_of Forth n (e ∷ es) (b ∷ bs) h fit s first = rw (some_eq s b.sides first, (go_forth e d.tree.nodes.arena fit).state) h.1.0.is
+
+  -- the document to which the first of them leads
+  pub side : (w : Way) (s : Sides) → Some s ≡ first_sides (snapshots_along w d.history) → IsLedSide w (steps_along w d.history) s
+  side w = side_of w (high w) (steps_along w d.history) (snapshots_along w d.history) (lies w) (fits w)
+
+  pub edits : (w : Way) → first_length (steps_along w d.history) ≡ first_edits (entries_along w v)
+  edits Back = undo_edits d v sees ok
+  edits Forth = redo_edits d v sees ok
 
   needed_now : AreNeeded d.command.start d.tree.nodes.arena.trees d.history.log.undo d.history.log.redo
   needed_now = subst (λ g. AreNeeded d.command.start g d.history.log.undo d.history.log.redo) (none_noted d.history.log d.tree.nodes.arena.trees (ap noted closed)) ok.needed
@@ -270,14 +272,11 @@ module _ (d : Inside) (v : Whole) (sees : seen d ≡ v) (law : IsArena d.tree.no
 
   -- ---- undo
 
-  abbrev pub undo_whole : Whole → Whole
-  undo_whole w = record w { state = undone_doc w.history w.state; history = undone_history w.history }
-
   undo_go : (e : List Step) (es : List (List Step)) (b : EntrySnapshot) (bs : List EntrySnapshot) → d.history.log.undo ≡ e ∷ es → d.history.past ≡ b ∷ bs →
       IsArena (record d.tree.nodes.arena { trees = forest_before e d.tree.nodes.arena.trees }) →
       Turned (record d.tree.nodes.arena { trees = forest_before e d.tree.nodes.arena.trees }) (shown d.tree.points.names b.sides.before)
       (trail_of (record d.history.log { undo = es; redo = inverses_back step_applied step_inverse e d.tree.nodes.arena ∷ d.history.log.redo }) bs (b ∷ d.history.future))
-      (undo_whole (seen d))
+      (whole_along Back (seen d))
   unfolding undone_doc undone_history at_view
   undo_go e es b bs eu su law' =
       let f = d.tree.nodes.arena.trees in
@@ -310,21 +309,18 @@ module _ (d : Inside) (v : Whole) (sees : seen d ≡ v) (law : IsArena d.tree.no
         depth = d.history.log.depth;
         dropped = d.history.log.dropped;
       } in
-      subst (Turned a' (shown d.tree.points.names b.sides.before) trail') (ap undo_whole (sym (resting_is ∙ was)))
+      subst (Turned a' (shown d.tree.points.names b.sides.before) trail') (ap (whole_along Back) (sym (resting_is ∙ was)))
       (stands g law' b.sides.before b.sides.nodes_before b.sides.chars_before b.sides.depth_before h.1.0.was trail' closed h.1.1
       (tb.can, (taking.1, subst (λ x. RedoSound d.tree.nodes.arena.held d.tree.points.names d.command x d.history.log.redo d.history.future) (sym tb.again) at_rest.redo)) needed
       (undone_history w.history) history)
 
   -- ---- redo
 
-  abbrev pub redo_whole : Whole → Whole
-  redo_whole w = record w { state = redone_doc w.history w.state; history = redone_history w.history }
-
   redo_go : (e : List Step) (es : List (List Step)) (b : EntrySnapshot) (bs : List EntrySnapshot) → d.history.log.redo ≡ e ∷ es → d.history.future ≡ b ∷ bs →
       IsArena (record d.tree.nodes.arena { trees = forest_after e d.tree.nodes.arena.trees }) →
       Turned (record d.tree.nodes.arena { trees = forest_after e d.tree.nodes.arena.trees }) (shown d.tree.points.names b.sides.after)
       (trail_of (record d.history.log { undo = inverses_forth step_applied step_inverse e d.tree.nodes.arena ∷ d.history.log.undo; redo = es }) (b ∷ d.history.past) bs)
-      (redo_whole (seen d))
+      (whole_along Forth (seen d))
   unfolding redone_doc redone_history at_view
   redo_go e es b bs eu su law' =
       let f = d.tree.nodes.arena.trees in
@@ -359,7 +355,7 @@ module _ (d : Inside) (v : Whole) (sees : seen d ≡ v) (law : IsArena d.tree.no
         depth = d.history.log.depth;
         dropped = d.history.log.dropped;
       } in
-      subst (Turned a' (shown d.tree.points.names b.sides.after) trail') (ap redo_whole (sym (resting_is ∙ was)))
+      subst (Turned a' (shown d.tree.points.names b.sides.after) trail') (ap (whole_along Forth) (sym (resting_is ∙ was)))
       (stands g law' b.sides.after b.sides.nodes_after b.sides.chars_after b.sides.depth_after h.1.0.is trail' closed
       (tb.can, (taking.1, subst (λ x. UndoSound d.tree.nodes.arena.held d.tree.points.names false d.command b.sides.first_label x d.history.log.undo d.history.past) (sym tb.again) under)) h.1.1 needed
       (redone_history w.history) history)
@@ -370,63 +366,50 @@ module _ (d : Inside) (v : Whole) (sees : seen d ≡ v) (law : IsArena d.tree.no
   some_entries s [] e = absurd (let e' : Some s ≡ None = e in cc)
   some_entries s (b ∷ bs) e = omega arith
 
-  pub undo_done : (a : Arena) (points : LivePoints) (trail : Trail) (s : Sides) → Some s ≡ first_sides d.history.past → IsArena a →
-      a ≡ undone_state step_applied d.history.log.undo d.tree.nodes.arena → trail ≡ trail_undone d.history d.tree.nodes.arena → points ≡ shown d.tree.points.names s.before →
-      Turned a points trail (undo_whole v)
+  undo_done : (a : Arena) (points : LivePoints) (trail : Trail) (s : Sides) → Some s ≡ first_sides d.history.past → IsArena a →
+      a ≡ undone_state step_applied d.history.log.undo d.tree.nodes.arena → trail ≡ trail_along Back d.history d.tree.nodes.arena → points ≡ shown d.tree.points.names s.before →
+      Turned a points trail (whole_along Back v)
   undo_done a points trail s first law' ea et ep =
       let more = some_entries s d.history.past first in
       let u = uncons d.history.log.undo (let n = beside.past in omega (arith, more, n)) in
       let w = uncons d.history.past more in
       let same : s ≡ w.0.sides = some_eq s w.0.sides (first ∙ ap first_sides w.2) in
-      let fits : FitsUndo step_applied StepFits (u.0 ∷ u.1) d.tree.nodes.arena = subst (λ xs. FitsUndo step_applied StepFits xs d.tree.nodes.arena) u.2 undo_fits in
+      let fits : FitsUndo step_applied StepFits (u.0 ∷ u.1) d.tree.nodes.arena = subst (λ xs. FitsUndo step_applied StepFits xs d.tree.nodes.arena) u.2 (fits Back) in
       let ea' : a ≡ record d.tree.nodes.arena { trees = forest_before u.0 d.tree.nodes.arena.trees } = ea ∙ (ap (λ xs. undone_state step_applied xs d.tree.nodes.arena) u.2 ∙ (go_back u.0 d.tree.nodes.arena fits).state) in
       let et' : trail ≡ trail_of (record d.history.log { undo = u.1; redo = inverses_back step_applied step_inverse u.0 d.tree.nodes.arena ∷ d.history.log.redo }) w.1 (w.0 ∷ d.history.future) =
       et ∙ (λ i. trail_of (undone_with step_applied step_inverse d.history.log (u.2 i) d.tree.nodes.arena) (drop 1 (w.2 i)) (take 1 (w.2 i) ++ d.history.future)) in
       let ep' : points ≡ shown d.tree.points.names w.0.sides.before = ep ∙ ap (λ (o : Sides). shown d.tree.points.names o.before) same in
       let r = undo_go u.0 u.1 w.0 w.1 u.2 w.2 (subst IsArena ea' law') in
-      subst (λ (x : Whole). Turned a points trail (undo_whole x)) sees (rw (ea', et', ep') r)
+      subst (λ (x : Whole). Turned a points trail (whole_along Back x)) sees (rw (ea', et', ep') r)
 
-  pub redo_done : (a : Arena) (points : LivePoints) (trail : Trail) (s : Sides) → Some s ≡ first_sides d.history.future → IsArena a →
-      a ≡ redone_state step_applied d.history.log.redo d.tree.nodes.arena → trail ≡ trail_redone d.history d.tree.nodes.arena → points ≡ shown d.tree.points.names s.after →
-      Turned a points trail (redo_whole v)
+  redo_done : (a : Arena) (points : LivePoints) (trail : Trail) (s : Sides) → Some s ≡ first_sides d.history.future → IsArena a →
+      a ≡ redone_state step_applied d.history.log.redo d.tree.nodes.arena → trail ≡ trail_along Forth d.history d.tree.nodes.arena → points ≡ shown d.tree.points.names s.after →
+      Turned a points trail (whole_along Forth v)
   redo_done a points trail s first law' ea et ep =
       let more = some_entries s d.history.future first in
       let u = uncons d.history.log.redo (let n = beside.future in omega (arith, more, n)) in
       let w = uncons d.history.future more in
       let same : s ≡ w.0.sides = some_eq s w.0.sides (first ∙ ap first_sides w.2) in
-      let fits : FitsRedo step_applied StepFits (u.0 ∷ u.1) d.tree.nodes.arena = subst (λ xs. FitsRedo step_applied StepFits xs d.tree.nodes.arena) u.2 redo_fits in
+      let fits : FitsRedo step_applied StepFits (u.0 ∷ u.1) d.tree.nodes.arena = subst (λ xs. FitsRedo step_applied StepFits xs d.tree.nodes.arena) u.2 (fits Forth) in
       let ea' : a ≡ record d.tree.nodes.arena { trees = forest_after u.0 d.tree.nodes.arena.trees } = ea ∙ (ap (λ xs. redone_state step_applied xs d.tree.nodes.arena) u.2 ∙ (go_forth u.0 d.tree.nodes.arena fits).state) in
       let et' : trail ≡ trail_of (record d.history.log { undo = inverses_forth step_applied step_inverse u.0 d.tree.nodes.arena ∷ d.history.log.undo; redo = u.1 }) (w.0 ∷ d.history.past) w.1 =
       et ∙ (λ i. trail_of (redone_with step_applied step_inverse d.history.log (u.2 i) d.tree.nodes.arena) (take 1 (w.2 i) ++ d.history.past) (drop 1 (w.2 i))) in
       let ep' : points ≡ shown d.tree.points.names w.0.sides.after = ep ∙ ap (λ (o : Sides). shown d.tree.points.names o.after) same in
       let r = redo_go u.0 u.1 w.0 w.1 u.2 w.2 (subst IsArena ea' law') in
-      subst (λ (x : Whole). Turned a points trail (redo_whole x)) sees (rw (ea', et', ep') r)
+      subst (λ (x : Whole). Turned a points trail (whole_along Forth x)) sees (rw (ea', et', ep') r)
+
+  pub turn_done : (w : Way) (a : Arena) (points : LivePoints) (trail : Trail) (s : Sides) → Some s ≡ first_sides (snapshots_along w d.history) → IsArena a →
+      a ≡ arena_along w (steps_along w d.history) d.tree.nodes.arena → trail ≡ trail_along w d.history d.tree.nodes.arena → points ≡ shown d.tree.points.names (places_along w s) →
+      Turned a points trail (whole_along w v)
+  turn_done Back = undo_done
+  turn_done Forth = redo_done
 
   -- where no entry lies that way
-  undo_same : (w : Whole) → w.history.undo ≡ [] → w ≡ undo_whole w
-  unfolding undone_doc undone_history
-  undo_same w e = λ i. record w { state = undone_state_by (sym e i) w.state; history = undone_history_by (sym e i) w.history }
+  pub nil : (w : Way) → None ≡ first_sides (snapshots_along w d.history) → entries_along w v ≡ []
+  nil Back none = none_long v.history.undo (sym (undo_count d v sees ok) ∙ (sym beside.past ∙ ap length (no_first d.history.past none)))
+  nil Forth none = none_long v.history.redo (sym (redo_count d v sees ok) ∙ (sym beside.future ∙ ap length (no_first d.history.future none)))
 
-  redo_same : (w : Whole) → w.history.redo ≡ [] → w ≡ redo_whole w
-  unfolding redone_doc redone_history
-  redo_same w e = λ i. record w { state = redone_state_by (sym e i) w.state; history = redone_history_by (sym e i) w.history }
-
-  pub undo_none : (a : Arena) (trail : Trail) → None ≡ first_sides d.history.past → a ≡ undone_state step_applied d.history.log.undo d.tree.nodes.arena → trail ≡ trail_undone d.history d.tree.nodes.arena →
-      whole_of (record (live d.tree) { arena = a }) d.command trail ≡ undo_whole v
-  undo_none a trail none ea et =
-      let past = no_first d.history.past none in
-      let nil = none_long d.history.log.undo (sym beside.past ∙ ap length past) in
-      let ea' : a ≡ d.tree.nodes.arena = ea ∙ ap (λ xs. undone_state step_applied xs d.tree.nodes.arena) nil in
-      let et' : trail ≡ d.history =
-      et ∙ ((λ i. trail_of (undone_with step_applied step_inverse d.history.log (nil i) d.tree.nodes.arena) (drop 1 (past i)) (take 1 (past i) ++ d.history.future)) ∙ (λ i. trail_of d.history.log (sym past i) d.history.future)) in
-      (λ i. whole_of (record (live d.tree) { arena = ea' i }) d.command (et' i)) ∙ (sees ∙ undo_same v (none_long v.history.undo (sym (undo_count d v sees ok) ∙ ap length nil)))
-
-  pub redo_none : (a : Arena) (trail : Trail) → None ≡ first_sides d.history.future → a ≡ redone_state step_applied d.history.log.redo d.tree.nodes.arena → trail ≡ trail_redone d.history d.tree.nodes.arena →
-      whole_of (record (live d.tree) { arena = a }) d.command trail ≡ redo_whole v
-  redo_none a trail none ea et =
-      let future = no_first d.history.future none in
-      let nil = none_long d.history.log.redo (sym beside.future ∙ ap length future) in
-      let ea' : a ≡ d.tree.nodes.arena = ea ∙ ap (λ xs. redone_state step_applied xs d.tree.nodes.arena) nil in
-      let et' : trail ≡ d.history =
-      et ∙ ((λ i. trail_of (redone_with step_applied step_inverse d.history.log (nil i) d.tree.nodes.arena) (take 1 (future i) ++ d.history.past) (drop 1 (future i))) ∙ (λ i. trail_of d.history.log d.history.past (sym future i))) in
-      (λ i. whole_of (record (live d.tree) { arena = ea' i }) d.command (et' i)) ∙ (sees ∙ redo_same v (none_long v.history.redo (sym (redo_count d v sees ok) ∙ ap length nil)))
+  pub same : (w : Way) → entries_along w v ≡ [] → v ≡ whole_along w v
+  unfolding undone_doc undone_history redone_doc redone_history
+  same Back e = λ i. record v { state = undone_state_by (sym e i) v.state; history = undone_history_by (sym e i) v.history }
+  same Forth e = λ i. record v { state = redone_state_by (sym e i) v.state; history = redone_history_by (sym e i) v.history }

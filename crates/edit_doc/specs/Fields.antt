@@ -17,6 +17,8 @@ use Rattle.edit_doc.specs.declared.command.EntrySnapshot.{EntrySnapshot}
 use Rattle.edit_doc.specs.declared.command.Sides.{Sides}
 use Rattle.edit_doc.specs.declared.command.Kept.{Kept}
 use Rattle.edit_doc.specs.declared.command.Command.{Command}
+use Rattle.edit_doc.specs.declared.history.Way.{Way}
+use Rattle.edit_doc.specs.declared.history.Way.TheVariants.{Back, Forth}
 
 -- what a command keeps as it begins
 pub record IsKept (points : LivePoints) (overrides : List Setting) (flags : Flags) (counts : Counts) (k : Kept) : Type 0 where
@@ -61,12 +63,14 @@ Forgets us new c = ForgetsIn c.resumed us new (take c.detached_before c.detached
 abbrev pub has_newly_detached : Command → ℕ → Bool
 has_newly_detached c l = nat_le c.start l || has_label (labels_of (drop c.detached_before c.detached.items)) l
 
--- the numbers on both sides of an entry
-abbrev pub counts_before : Sides → Counts
-counts_before s = record { nodes = s.nodes_before; chars = s.chars_before; depth = s.depth_before }
+-- the places and the numbers to which an entry leads
+abbrev pub places_along : Way → Sides → Places
+places_along Back s = s.before
+places_along Forth s = s.after
 
-abbrev pub counts_after : Sides → Counts
-counts_after s = record { nodes = s.nodes_after; chars = s.chars_after; depth = s.depth_after }
+abbrev pub counts_along : Way → Sides → Counts
+counts_along Back s = record { nodes = s.nodes_before; chars = s.chars_before; depth = s.depth_before }
+counts_along Forth s = record { nodes = s.nodes_after; chars = s.chars_after; depth = s.depth_after }
 
 -- the sides of an entry that a command makes, and of one that it joins
 abbrev pub made_sides : Command → Places → Counts → Sides

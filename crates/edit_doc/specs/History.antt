@@ -19,9 +19,11 @@ use Rattle.edit_steps.specs.declared.step.Step.{Step}
 use Rattle.edit_steps.specs.Step.{changes_of}
 use Rattle.edit_model.specs.State.{State}
 use Rattle.edit_model.specs.Gives.{label_of}
-use Rattle.edit_model.specs.History.{View, Entry, History, document_of, used}
+use Rattle.edit_model.specs.History.{View, Entry, History, document_of, used, undone_state, undone_history, redone_state, redone_history}
 use Rattle.edit_doc.specs.declared.command.EntrySnapshot.{EntrySnapshot}
 use Rattle.edit_doc.specs.declared.command.Command.{Command}
+use Rattle.edit_doc.specs.declared.history.Way.{Way}
+use Rattle.edit_doc.specs.declared.history.Way.TheVariants.{Back, Forth}
 use Rattle.edit_doc.specs.Live.{Live}
 use Rattle.edit_doc.specs.Trail.{Trail}
 use Rattle.edit_doc.specs.Whole.{Began, Whole}
@@ -100,11 +102,6 @@ view_at names f p = record { document = document_of f; selection = p.selection; 
 
 -- ---- the two ways through the history
 
--- back, as undo goes, and forth, as redo goes
-pub data Way : Type 0 where
-  Back : Way
-  Forth : Way
-
 abbrev pub other : Way → Way
 other Back = Forth
 other Forth = Back
@@ -163,3 +160,13 @@ whole_of t c h = record {
   began = began_with (begun_state t.arena t.points.names c h.log) h.log.open_entry;
   held = t.arena.held;
 }
+
+-- ---- after the first entry that way is taken
+
+abbrev pub entries_along : Way → Whole → List Entry
+entries_along Back d = d.history.undo
+entries_along Forth d = d.history.redo
+
+abbrev pub whole_along : Way → Whole → Whole
+whole_along Back d = record d { state = undone_state d.history d.state; history = undone_history d.history }
+whole_along Forth d = record d { state = redone_state d.history d.state; history = redone_history d.history }

@@ -25,8 +25,9 @@ use Rattle.edit_doc.specs.declared.command.Command.{Command}
 use Rattle.edit_doc.specs.Live.{Live}
 use Rattle.edit_doc.specs.Trail.{Trail}
 use Rattle.edit_doc.specs.Marks.{IsMarked, has_named}
-use Rattle.edit_doc.specs.History.{Way, led, older, newer, begun_forest, is_hidden, seen_trees, state_of}
-use Rattle.edit_doc.specs.History.Way.{Back, Forth}
+use Rattle.edit_doc.specs.declared.history.Way.{Way}
+use Rattle.edit_doc.specs.History.{led, older, newer, begun_forest, is_hidden, seen_trees, state_of}
+use Rattle.edit_doc.specs.declared.history.Way.TheVariants.{Back, Forth}
 
 -- ---- steps over forests
 

@@ -1,10 +1,11 @@
 //! What is kept of the running command, and beside each entry of the log.
 
 ghost use Rattle.std.specs.Prelude.{◌≡◌, ℕ, ◌<◌, [], ◌∷◌, vec_len, vec_capacity};
-ghost use Rattle.edit_doc.specs.Fields.{IsEnded, AreResting, counts_after, counts_before, has_newly_detached, made_sides, joined_sides};
+ghost use Rattle.edit_doc.specs.Fields.{IsEnded, AreResting, places_along, counts_along, has_newly_detached, made_sides, joined_sides};
 ghost use Rattle.edit_doc.specs.Marks.{Marks, AreMarkable, NotesMade, place_labels};
 
 use crate::Counts;
+use crate::history::Way;
 use crate::overrides::Overrides;
 use edit_model::Flags;
 use live_range::{Places, Points};
@@ -27,23 +28,31 @@ pub struct Sides {
 }
 
 impl Sides {
-    pub(crate) fn counts_before(&self) -> Counts
-        ensures { result ≡ counts_before self.now }
+    // The places to which the way leads.
+    pub(crate) fn places(&self, way: Way) -> &Places
+        ensures { result.now ≡ places_along way self.now }
     {
-        Counts {
-            nodes: self.nodes_before,
-            chars: self.chars_before,
-            depth: self.depth_before,
+        match way {
+            Way::Back => &self.before,
+            Way::Forth => &self.after,
         }
     }
 
-    pub(crate) fn counts_after(&self) -> Counts
-        ensures { result ≡ counts_after self.now }
+    // The numbers to which it leads.
+    pub(crate) fn counts(&self, way: Way) -> Counts
+        ensures { result ≡ counts_along way self.now }
     {
-        Counts {
-            nodes: self.nodes_after,
-            chars: self.chars_after,
-            depth: self.depth_after,
+        match way {
+            Way::Back => Counts {
+                nodes: self.nodes_before,
+                chars: self.chars_before,
+                depth: self.depth_before,
+            },
+            Way::Forth => Counts {
+                nodes: self.nodes_after,
+                chars: self.chars_after,
+                depth: self.depth_after,
+            },
         }
     }
 }

@@ -5,10 +5,11 @@ ghost use Rattle.edit_model.specs.Gives.{label_of};
 ghost use Rattle.edit_model.specs.History.{rested, undone_state, undone_history, redone_state, redone_history};
 ghost use Rattle.edit_doc.specs.Whole.{IsOpen, IsClosed, opened, history_committed, state_rolled_back, first_edits};
 ghost use Rattle.edit_doc.specs.Held.{IfHeld, KeepsThere};
+ghost use Rattle.edit_doc.specs.History.{entries_along, whole_along};
 
 use crate::command::resting_places;
 use crate::giving_up::{give_up_detached, give_up_unnamed};
-use crate::history::Closing;
+use crate::history::{Closing, Way};
 use crate::{Committed, Doc, NodeRef};
 use std::alloc::AllocError;
 use std::mem::swap;
@@ -125,16 +126,7 @@ impl Doc {
         ensures doc { self.new ≡ record self.old { state = undone_state self.old.history self.old.state; history = undone_history self.old.history } }
         ensures count { steps.new ≡ steps.old + first_edits self.old.history.undo }
     {
-        self.history.valid();
-        self.tree.nodes.arena.valid();
-        self.tree.nodes.arena.slotted();
-        let Some(sides) = self.tree.nodes.undo(&mut self.history, steps) else {
-            return false;
-        };
-        self.tree.nodes.arena.valid();
-        self.tree.points.set_places(&sides.before);
-        self.tree.overrides.unset();
-        true
+        self.turn(Way::Back, steps)
     }
 
     /// Takes the entry after the cursor forth again. False where there is none.
@@ -144,14 +136,26 @@ impl Doc {
         ensures doc { self.new ≡ record self.old { state = redone_state self.old.history self.old.state; history = redone_history self.old.history } }
         ensures count { steps.new ≡ steps.old + first_edits self.old.history.redo }
     {
+        self.turn(Way::Forth, steps)
+    }
+
+    // Takes the first entry that way. False where there is none.
+    fn turn<L: Ledger>(&mut self, way: Way, steps: &mut Steps<L>) -> bool
+        requires closed { IsClosed self.old }
+        ensures answer { IsTrue result ↔ (0 < length (entries_along way self.old)) }
+        ensures doc { self.new ≡ whole_along way self.old }
+        ensures count { steps.new ≡ steps.old + first_edits (entries_along way self.old) }
+    {
         self.history.valid();
         self.tree.nodes.arena.valid();
         self.tree.nodes.arena.slotted();
-        let Some(sides) = self.tree.nodes.redo(&mut self.history, steps) else {
+        let Some(sides) = self.history.first_sides(way) else {
             return false;
         };
+        let counts = sides.counts(way);
+        self.tree.points.set_places(sides.places(way));
+        self.tree.nodes.turn(way, &mut self.history, counts, steps);
         self.tree.nodes.arena.valid();
-        self.tree.points.set_places(&sides.after);
         self.tree.overrides.unset();
         true
     }

@@ -1,18 +1,15 @@
 //! The nodes of a document, with its numbers.
 
-ghost use Rattle.std.specs.Prelude.{◌≡◌, ◌+◌, IsTrue, OnOk, OnErr, IfErr, IfSome, slice_get};
-ghost use Rattle.std.specs.Option.{option_map};
+ghost use Rattle.std.specs.Prelude.{◌≡◌, ◌+◌, IsTrue, OnOk, OnErr, IfErr};
 ghost use Rattle.edit_steps.specs.Step.{StepFits, step_applied, step_inverse};
-ghost use Rattle.undo_log.specs.Log.{FitsUndo, FitsRedo, abandoned, is_open, noted, undone_state, redone_state, first_length};
+ghost use Rattle.undo_log.specs.Log.{abandoned, is_open, noted, first_length};
 ghost use Rattle.undo_log.specs.Log.Open.{Closed};
 ghost use Rattle.undo_log.specs.States.{start};
 ghost use Rattle.undo_log.specs.Turning.{FitsBack};
 ghost use Rattle.edit_doc.specs.Counted.{IsCounted};
-ghost use Rattle.edit_doc.specs.Fields.{counts_before, counts_after};
-ghost use Rattle.edit_doc.specs.Trail.{with_note, trail_undone, trail_redone};
+ghost use Rattle.edit_doc.specs.Trail.{FitsAlong, with_note, steps_along, arena_along, trail_along};
 
-use crate::command::Sides;
-use crate::history::History;
+use crate::history::{History, Way};
 use crate::{Arena, Counts, EditFault};
 use edit_steps::Step;
 use std::sync::ledger::Ledger;
@@ -73,47 +70,22 @@ impl CountedArena {
         self.counts = counts;
     }
 
-    // Takes the entry before the cursor back. Answers its sides; none where there is no entry.
-    pub(crate) fn undo<L: Ledger>(
+    // Takes the first entry of the history that way, to where there were these numbers.
+    pub(crate) fn turn<L: Ledger>(
         &mut self,
+        way: Way,
         history: &mut History,
+        counts: Counts,
         steps: &mut Steps<L>,
-    ) -> Option<Sides>
+    )
         requires closed { history.old.log.open_entry ≡ Closed }
-        requires fit { FitsUndo step_applied StepFits history.old.log.undo self.old.arena }
-        requires counted { IfSome (slice_get history.old.past 0) (λ b. IsCounted (undone_state step_applied history.old.log.undo self.old.arena).trees (counts_before b.sides)) }
-        ensures sides { result ≡ option_map (λ b. b.sides) (slice_get history.old.past 0) }
-        ensures history { history.new ≡ trail_undone history.old self.old.arena }
-        ensures arena { self.new.arena ≡ undone_state step_applied history.old.log.undo self.old.arena }
-        ensures count { steps.new ≡ steps.old + first_length history.old.log.undo }
+        requires fit { FitsAlong way (steps_along way history.old) self.old.arena }
+        requires counted { IsCounted (arena_along way (steps_along way history.old) self.old.arena).trees counts }
+        ensures history { history.new ≡ trail_along way history.old self.old.arena }
+        ensures arena { self.new.arena ≡ arena_along way (steps_along way history.old) self.old.arena }
+        ensures count { steps.new ≡ steps.old + first_length (steps_along way history.old) }
     {
-        history.valid();
-        let sides = history.undo(&mut self.arena, steps);
-        if let Some(sides) = sides {
-            self.counts = sides.counts_before();
-        }
-        sides
-    }
-
-    // Takes the entry after the cursor forth again. Answers its sides; none where there is no entry.
-    pub(crate) fn redo<L: Ledger>(
-        &mut self,
-        history: &mut History,
-        steps: &mut Steps<L>,
-    ) -> Option<Sides>
-        requires closed { history.old.log.open_entry ≡ Closed }
-        requires fit { FitsRedo step_applied StepFits history.old.log.redo self.old.arena }
-        requires counted { IfSome (slice_get history.old.future 0) (λ b. IsCounted (redone_state step_applied history.old.log.redo self.old.arena).trees (counts_after b.sides)) }
-        ensures sides { result ≡ option_map (λ b. b.sides) (slice_get history.old.future 0) }
-        ensures history { history.new ≡ trail_redone history.old self.old.arena }
-        ensures arena { self.new.arena ≡ redone_state step_applied history.old.log.redo self.old.arena }
-        ensures count { steps.new ≡ steps.old + first_length history.old.log.redo }
-    {
-        history.valid();
-        let sides = history.redo(&mut self.arena, steps);
-        if let Some(sides) = sides {
-            self.counts = sides.counts_after();
-        }
-        sides
+        history.turn(way, &mut self.arena, steps);
+        self.counts = counts;
     }
 }

@@ -1,15 +1,15 @@
 //! The history of a document: the log of the steps, and a snapshot beside each entry of it.
 
-ghost use Rattle.std.specs.Prelude.{◌≡◌, ◌+◌, ◌<◌, ◌↔◌, ◌++◌, IsTrue, IfOk, OnOk, IfErr, Some, [], length, take, drop, slice_get, true, if◌then◌else◌};
+ghost use Rattle.std.specs.Prelude.{◌≡◌, ◌+◌, ◌<◌, ◌↔◌, ◌++◌, IsTrue, IfOk, OnOk, IfErr, [], length, take, drop, slice_get, option_copied, true, if◌then◌else◌};
 ghost use Rattle.std.specs.Option.{option_map};
 ghost use Rattle.edit_steps.specs.Step.{StepFits, step_applied};
 ghost use Rattle.undo_log.specs.Turning.{FitsBack};
-ghost use Rattle.undo_log.specs.Log.{FitsUndo, FitsRedo, begun, resumed, abandoned, is_open, is_resumed, noted, undone_state, redone_state, first_length};
+ghost use Rattle.undo_log.specs.Log.{begun, resumed, abandoned, is_open, is_resumed, noted, first_length};
 ghost use Rattle.undo_log.specs.Log.Open.{Closed};
 ghost use Rattle.undo_log.specs.States.{start};
 ghost use Rattle.edit_doc.specs.Fields.{SwapsLeft, Forgets, Enters};
 ghost use Rattle.edit_doc.specs.Sound.{next_first};
-ghost use Rattle.edit_doc.specs.Trail.{IsTrail, first_trail, with_note, trail_undone, trail_redone};
+ghost use Rattle.edit_doc.specs.Trail.{IsTrail, FitsAlong, first_trail, with_note, steps_along, snapshots_along, arena_along, trail_along};
 ghost use Rattle.edit_doc.specs.Closing.{Closes};
 
 use crate::Counts;
@@ -25,6 +25,13 @@ use std::mem::swap;
 use std::sync::ledger::Ledger;
 use step_count::Steps;
 use undo_log::{Committed, UndoLog};
+
+// The two ways through the history: back, as undo goes, and forth again, as redo goes.
+#[derive(Clone, Copy)]
+pub(crate) enum Way {
+    Back,
+    Forth,
+}
 
 // The entries around the cursor, and the open one.
 #[derive(Drop)]
@@ -135,45 +142,27 @@ impl History {
         self.log.abandon(arena);
     }
 
-    // Takes the entry before the cursor back. Answers its sides; none where there is no entry.
-    pub(crate) fn undo<L: Ledger>(
-        &mut self,
-        arena: &mut Arena,
-        steps: &mut Steps<L>,
-    ) -> Option<Sides>
+    // Takes the first entry that way, if there is one.
+    pub(crate) fn turn<L: Ledger>(&mut self, way: Way, arena: &mut Arena, steps: &mut Steps<L>)
         requires closed { self.old.log.open_entry ≡ Closed }
-        requires fit { FitsUndo step_applied StepFits self.old.log.undo arena.old }
-        ensures sides { result ≡ option_map (λ b. b.sides) (slice_get self.old.past 0) }
-        ensures history { self.new ≡ trail_undone self.old arena.old }
-        ensures arena { arena.new ≡ undone_state step_applied self.old.log.undo arena.old }
-        ensures count { steps.new ≡ steps.old + first_length self.old.log.undo }
+        requires fit { FitsAlong way (steps_along way self.old) arena.old }
+        ensures history { self.new ≡ trail_along way self.old arena.old }
+        ensures arena { arena.new ≡ arena_along way (steps_along way self.old) arena.old }
+        ensures count { steps.new ≡ steps.old + first_length (steps_along way self.old) }
     {
         self.log.valid();
-        if !self.log.undo(arena, steps) {
-            return None;
+        match way {
+            Way::Back => {
+                if self.log.undo(arena, steps) {
+                    pass(&mut self.past, &mut self.future);
+                }
+            }
+            Way::Forth => {
+                if self.log.redo(arena, steps) {
+                    pass(&mut self.future, &mut self.past);
+                }
+            }
         }
-        Some(pass(&mut self.past, &mut self.future))
-    }
-
-    // Takes the entry after the cursor forth again. Answers its sides; none where there is no
-    // entry.
-    pub(crate) fn redo<L: Ledger>(
-        &mut self,
-        arena: &mut Arena,
-        steps: &mut Steps<L>,
-    ) -> Option<Sides>
-        requires closed { self.old.log.open_entry ≡ Closed }
-        requires fit { FitsRedo step_applied StepFits self.old.log.redo arena.old }
-        ensures sides { result ≡ option_map (λ b. b.sides) (slice_get self.old.future 0) }
-        ensures history { self.new ≡ trail_redone self.old arena.old }
-        ensures arena { arena.new ≡ redone_state step_applied self.old.log.redo arena.old }
-        ensures count { steps.new ≡ steps.old + first_length self.old.log.redo }
-    {
-        self.log.valid();
-        if !self.log.redo(arena, steps) {
-            return None;
-        }
-        Some(pass(&mut self.future, &mut self.past))
     }
 
     // Exchanges the detached trees of the command with those of the entry that undo would take.
@@ -230,6 +219,20 @@ impl History {
         ensures { option_map (λ steps. steps.now) result ≡ slice_get self.now.log.redo 0 }
     {
         self.log.next_entry()
+    }
+
+    // The sides of the first entry that way. None where there is none.
+    pub(crate) fn first_sides(&self, way: Way) -> Option<&Sides>
+        ensures { option_copied result ≡ option_map (λ b. b.sides) (slice_get (snapshots_along way self.now) 0) }
+    {
+        let first = match way {
+            Way::Back => self.past.front(),
+            Way::Forth => self.future.front(),
+        };
+        match first {
+            Some(snapshot) => Some(&snapshot.sides),
+            None => None,
+        }
     }
 
     // The first label of the entries that redo would take; without any, that of the command.
@@ -295,20 +298,13 @@ fn keep_entry(
     }
 }
 
-// The first snapshot on one side of the cursor comes to stand on the other. Answers its sides.
-fn pass(
-    from: &mut HeapCircularBuffer<EntrySnapshot>,
-    to: &mut HeapCircularBuffer<EntrySnapshot>,
-) -> Sides
+// The first snapshot on one side of the cursor comes to stand on the other.
+fn pass(from: &mut HeapCircularBuffer<EntrySnapshot>, to: &mut HeapCircularBuffer<EntrySnapshot>)
     requires some { 0 < length from.old.items }
     requires room { length to.old.items < to.old.capacity }
-    ensures sides { Some result ≡ option_map (λ b. b.sides) (slice_get from.old.items 0) }
     ensures from { from.new.items ≡ drop 1 from.old.items }
     ensures to { to.new.items ≡ take 1 from.old.items ++ to.old.items }
     ensures rooms { (from.new.capacity ≡ from.old.capacity) × (to.new.capacity ≡ to.old.capacity) }
 {
-    let snapshot = from.pop_front().unwrap();
-    let sides = snapshot.sides;
-    let _ = to.push_front(snapshot);
-    sides
+    let _ = to.push_front(from.pop_front().unwrap());
 }
