@@ -4,10 +4,18 @@ use Rattle.dom_model.specs.declared.Content.{Content}
 use Rattle.dom_model.specs.Contents.{is_element}
 use Rattle.dom_model.specs.Editing.{is_true_state, is_false_state, host_by, editing_host, is_editable}
 use Rattle.dom_model.specs.Forest.{Forest, IsDistinct, parent_of, content_of, is_label}
+use Rattle.node_arena.specs.declared.hosts.EditableState.TheVariants.{True, False, Inherit}
+use Rattle.node_arena.specs.EditableStates.{state_of, is_true, takes}
 use Rattle.dom_model.proofs.Hosts.{editing_host-root, editing_host-child}
 
-abbrev takes : Content → Content → Bool
-takes c d = not (is_true_state c || is_false_state c) && (is_element c || is_element d)
+pub true_state : (c : Content) → is_true (state_of c) ≡ is_true_state c
+unfolding state_of is_true
+true_state c = by_tests (is_true_state c) (is_false_state c)
+  where
+    by_tests : (v w : Bool) → is_true (cond v True (cond w False Inherit)) ≡ v
+    by_tests true w = refl
+    by_tests false true = refl
+    by_tests false false = refl
 
 host_taken : (c d : Content) (above : Option ℕ) → takes c d ≡ true → host_by c (is_element d) above ≡ above
 host_taken c d above t = by_tests (is_true_state c || is_false_state c) (is_element c || is_element d) t

@@ -6,3 +6,4 @@ pub mod Kinds
 pub mod Walk
 pub mod Made
 pub mod Reads
+pub mod EditableStates

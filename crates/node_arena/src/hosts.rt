@@ -1,21 +1,23 @@
 //! Editing hosts and editable nodes, by the attribute contenteditable.
 
-ghost use Rattle.std.specs.Prelude.{◌≡◌, map, ◌||◌, ◌&&◌, not, bytes_eq};
+ghost use Rattle.std.specs.Prelude.{◌≡◌, map, bytes_eq};
 ghost use Rattle.std.specs.Option.{option_map};
 ghost use Rattle.std.specs.Char.{to_ascii_lowercase};
 ghost use Rattle.dom_model.specs.Contents.{is_element};
-ghost use Rattle.dom_model.specs.Editing.{contenteditable, is_true_state, is_false_state, is_host, is_editable};
+ghost use Rattle.dom_model.specs.Editing.{contenteditable, is_host, is_editable};
+ghost use Rattle.node_arena.specs.EditableStates.{state_of, is_true, takes};
 ghost use Rattle.node_arena.specs.Held.{Holds};
 
 use crate::{Arena, Chars, Content, NodeRef};
 
 impl Arena {
     /// Whether a node is an editing host.
+    #[tactic(auto, using(crate::proofs::HostsOk::true_state))]
     pub fn is_host(&self, node: NodeRef) -> bool
         requires { Holds self.now node }
         ensures { result ≡ is_host self.now.trees node.label }
     {
-        is_true_state(self.content(node))
+        EditableState::of(self.content(node)).is_true()
     }
 
     /// Whether a node is editable with `host` as its editing host.
@@ -26,17 +28,59 @@ impl Arena {
     {
         self.valid();
         let mut at = node;
+        let mut own = EditableState::of(self.content(node));
         while let Some(parent) = self.parent(at) {
+            let content = self.content(at);
             let above = self.content(parent);
-            if !takes_host(self.content(at), above) {
+            if !takes_host(own, content, above) {
                 return false;
             }
-            if is_true_state(above) {
+            own = EditableState::of(above);
+            if own.is_true() {
                 return parent.label == host.label;
             }
             at = parent;
         }
         false
+    }
+}
+
+// The state of the attribute contenteditable: in the inherit state are other values, and a node without the attribute.
+#[derive(Clone, Copy)]
+enum EditableState {
+    True,
+    False,
+    Inherit,
+}
+
+impl EditableState {
+    #[tactic(auto, unfolding(crate::specs::EditableStates::state_of))]
+    fn of(content: &Content) -> EditableState
+        ensures { result ≡ state_of content.now }
+    {
+        match contenteditable(content) {
+            None => EditableState::Inherit,
+            Some(value) => {
+                let value = value.as_slice();
+                if value.is_empty() || spells(value, b"true") {
+                    EditableState::True
+                } else if spells(value, b"false") {
+                    EditableState::False
+                } else {
+                    EditableState::Inherit
+                }
+            }
+        }
+    }
+
+    #[tactic(auto, unfolding(crate::specs::EditableStates::is_true))]
+    fn is_true(self) -> bool
+        ensures { result ≡ is_true self }
+    {
+        match self {
+            EditableState::True => true,
+            _ => false,
+        }
     }
 }
 
@@ -63,32 +107,17 @@ fn contenteditable(content: &Content) -> Option<&Chars>
     }
 }
 
-// Whether contenteditable is in the true state: it is empty or "true".
-fn is_true_state(content: &Content) -> bool
-    ensures { result ≡ is_true_state content.now }
+// Whether a node in this state has the host that its parent offers: it has no state of its own, and it or its
+// parent is an element.
+#[tactic(auto, unfolding(crate::specs::EditableStates::state_of))]
+fn takes_host(own: EditableState, content: &Content, above: &Content) -> bool
+    requires { own ≡ state_of content.now }
+    ensures { result ≡ takes content.now above.now }
 {
-    match contenteditable(content) {
-        None => false,
-        Some(value) => spells(value.as_slice(), b"") || spells(value.as_slice(), b"true"),
+    match own {
+        EditableState::Inherit => is_element(content) || is_element(above),
+        _ => false,
     }
-}
-
-// Whether contenteditable is in the false state.
-fn is_false_state(content: &Content) -> bool
-    ensures { result ≡ is_false_state content.now }
-{
-    match contenteditable(content) {
-        None => false,
-        Some(value) => spells(value.as_slice(), b"false"),
-    }
-}
-
-// Whether a node has the host that its parent offers: it has no state of its own, and it or its parent is an element.
-fn takes_host(content: &Content, above: &Content) -> bool
-    ensures { result ≡ (not (is_true_state content.now || is_false_state content.now) && (is_element content.now || is_element above.now)) }
-{
-    let has_state = is_true_state(content) || is_false_state(content);
-    !has_state && (is_element(content) || is_element(above))
 }
 
 fn is_element(content: &Content) -> bool
