@@ -374,9 +374,13 @@ module _ (f : Forest Content) (once : IsDistinct f) where
         ∙ earlier-split l s.content s.kids s.rest s.front (front_none l n.kids n.single s)
         ∙ front_empty none s
 
-    pub labels-first : (a : List ℕ) → prev_of f l ≡ None → labels_before_onto a (preorder n.kids) l ≡ a
-    labels-first a none =
+    pub labels_beyond : (a : List ℕ) → labels_before_onto a (preorder n.kids) l ≡ back (earlier n.kids l) a
+    labels_beyond a =
         let s = split_at n.kids l n.among in
+        let none = front_none l n.kids n.single s in
         ap (λ g. labels_before_onto a (preorder g) l) s.is
-        ∙ labels-split l s.content s.kids s.rest s.front a [] (front_none l n.kids n.single s)
-        ∙ ap (λ g. back g a) (front_empty none s)
+        ∙ labels-split l s.content s.kids s.rest s.front a [] none
+        ∙ ap (λ g. back g a) (sym (ap (λ g. earlier g l) s.is ∙ earlier-split l s.content s.kids s.rest s.front none))
+
+    pub labels-first : (a : List ℕ) → prev_of f l ≡ None → labels_before_onto a (preorder n.kids) l ≡ a
+    labels-first a none = labels_beyond a ∙ ap (λ g. back g a) (earlier-first none)

@@ -1,12 +1,13 @@
 -- Whether whitespace collapses at what stands before and after it.
-use Rattle.std.proofs.Common.{◌≡◌, ℕ, ◌<◌, Bool, true, false, not, cond, ◌||◌, List, [], ◌∷◌, Option, Some, None, refl, sym, ap, ◌∙◌, inl, inr, arith}
+use Rattle.std.proofs.Common.{◌≡◌, ℕ, ◌<◌, Bool, true, false, not, cond, ◌||◌, List, [], ◌∷◌, Option, Some, None, IfSome, refl, sym, ap, ◌∙◌, inl, inr, arith}
 use Rattle.std.specs.Option.{option_or, option_map, option_map_or, unwrap_or}
 use Rattle.std.proofs.lemmas.Bool.Decides.{eqb_tells}
 use Rattle.dom_model.specs.declared.Content.{Content}
 use Rattle.dom_model.specs.declared.Content.TheVariants.{Document, Element, Words, Remark}
-use Rattle.node_arena.specs.Reads.{IsValid}
+use Rattle.node_arena.specs.Held.{label}
+use Rattle.node_arena.specs.Reads.{IsValid, Names}
 use Rattle.dom_model.specs.Contents.{may_have_children, is_break}
-use Rattle.dom_model.specs.Forest.{Forest, Seen, join, count_of, IsDistinct, tree_of, preorder, preorder_onto, parent_of, first_of, first_in, prev_of}
+use Rattle.dom_model.specs.Forest.{Forest, Seen, join, count_of, IsDistinct, tree_of, preorder, preorder_onto, parent_of, first_of, last_of, first_in, prev_of}
 use Rattle.dom_model.specs.Forest.Forest.{Nil, Tree}
 use Rattle.dom_model.proofs.Links.{seen, eqb_refl_true}
 use Rattle.node_styles.specs.Blocks.{is_block, is_whitespace, is_whitespace_in}
@@ -14,15 +15,17 @@ use Rattle.node_arena.specs.declared.NodeRef.{NodeRef}
 use Rattle.node_tests.specs.declared.neighbours.Neighbour.{Neighbour}
 use Rattle.node_tests.specs.declared.neighbours.Neighbour.TheVariants.{BlockEdge, LineBreak, Solid}
 use Rattle.node_tests.specs.declared.sides.Side.TheVariants as sides
-use Rattle.node_tests.specs.Surroundings.{later, labels_after, in_block, trees_after, nodes_before, nodes_after}
+use Rattle.node_tests.specs.Surroundings.{earlier, later, labels_after, in_block, trees_after, nodes_before, nodes_after}
 use Rattle.node_tests.specs.CollapsedWhitespace.{decides, collapses_at, is_solid}
-use Rattle.node_tests.specs.SolidNeighbours.{met, first_met, last_in_order, neighbour_on, is_solid_neighbour}
+use Rattle.node_tests.specs.SolidNeighbours.{met, first_met, neighbour_on, is_solid_neighbour}
 use Rattle.node_tests.proofs.Pieces.{count_in_tree, find_where, once_kids, once_rest, tree-below, tree-after, has, hasnt, back}
 use Rattle.node_tests.proofs.Pieces.Where.{Here, Below, After}
 use Rattle.node_tests.specs.Listing.{siblings}
 use Rattle.node_tests.proofs.Inside.{tree_is_kids}
-use Rattle.node_tests.proofs.Around.{content_at, single_block, inner_is}
-use Rattle.node_tests.proofs.Steps.{sibling_parent, labels_step, labels_out, labels-root}
+use Rattle.node_tests.proofs.Around.{content_at, own_tree, family, back-join, labels_beyond, single_block, inner_is}
+use Rattle.node_tests.proofs.Steps.{sibling_parent, nearest, labels_beside, labels_step, labels_out, labels-root}
+use Rattle.node_tests.proofs.Tags.{near_parent, near_alone}
+use Rattle.node_tests.proofs.Walking.{no_kids}
 
 yields : Neighbour → Bool
 yields m = not (is_solid_neighbour m)
@@ -46,15 +49,10 @@ module _ (f : Forest Content) where
   unfolding collapses_at
   at_first l ls = ap (λ o. unwrap_or o (collapses_at f ls)) (decides_met l)
 
-  collapses-back : (g : Forest Content) (ls : List ℕ) → collapses_at f (back g ls) ≡ unwrap_or (option_map yields (last_in_order f g)) (collapses_at f ls)
-  collapses-back Nil ls = refl
-  collapses-back (Tree m c ks rest) ls =
-      collapses-back rest (back ks (m ∷ ls))
-      ∙ ap (unwrap_or (option_map yields (last_in_order f rest))) (
-      collapses-back ks (m ∷ ls)
-      ∙ ap (unwrap_or (option_map yields (last_in_order f ks))) (at_first m ls)
-      ∙ sym (map_or (last_in_order f ks) (met f m) (collapses_at f ls)))
-      ∙ sym (map_or (last_in_order f rest) (option_or (last_in_order f ks) (met f m)) (collapses_at f ls))
+  collapses-back : (g : Forest Content) (xs ys : List ℕ) → collapses_at f xs ≡ collapses_at f ys → collapses_at f (back g xs) ≡ collapses_at f (back g ys)
+  collapses-back Nil xs ys e = e
+  collapses-back (Tree m c ks rest) xs ys e =
+      collapses-back rest (back ks (m ∷ xs)) (back ks (m ∷ ys)) (collapses-back ks (m ∷ xs) (m ∷ ys) (at_first m xs ∙ ap (unwrap_or (option_map yields (met f m))) e ∙ sym (at_first m ys)))
 
   collapses-onto : (g : Forest Content) (ls : List ℕ) → collapses_at f (preorder_onto g ls) ≡ unwrap_or (option_map yields (first_met sides.After f g)) (collapses_at f ls)
   collapses-onto Nil ls = refl
@@ -133,19 +131,6 @@ module _ (f : Forest Content) (once : IsDistinct f) where
 
   -- ---- the walk back
 
-  module _ (l k : ℕ) (prev : prev_of f l ≡ Some k) where
-    by_prev : collapses_at f (nodes_before f l) ≡ unwrap_or (option_map yields (last_in_order f (tree_of f k))) (collapses_at f (nodes_before f k))
-    by_prev =
-        let p = sibling_parent f once sides.Before l k prev in
-        ap (collapses_at f) (labels_step f once l k p.0 p.1 prev) ∙ collapses-back f (tree_of f k) (nodes_before f k)
-
-    pub back_found : (m : Neighbour) → Some m ≡ last_in_order f (tree_of f k) → not (is_solid_neighbour m) ≡ collapses_at f (nodes_before f l)
-    unfolding yields
-    back_found m e = sym (by_prev ∙ ap (λ o. unwrap_or (option_map yields o) (collapses_at f (nodes_before f k))) (sym e))
-
-    pub back_passed : None ≡ last_in_order f (tree_of f k) → collapses_at f (nodes_before f k) ≡ collapses_at f (nodes_before f l)
-    back_passed e = sym (by_prev ∙ ap (λ o. unwrap_or (option_map yields o) (collapses_at f (nodes_before f k))) (sym e))
-
   block_edge : (p : ℕ) → is_block f p ≡ true → met f p ≡ Some BlockEdge
   unfolding met
   block_edge p block = rw block refl
@@ -176,6 +161,77 @@ module _ (f : Forest Content) (once : IsDistinct f) where
 
   pub top_collapses : (l : ℕ) → 0 < count_of f l → parent_of f l ≡ None → true ≡ collapses_at f (nodes_before f l)
   top_collapses l here root = sym (ap (collapses_at f) (labels-root f once l here root) ∙ none_left f)
+
+-- a walk that has come back to a node, and the tree that it goes into next
+abbrev pub labels_back : Forest Content → ℕ → Option ℕ → List ℕ
+labels_back f l None = nodes_before f l
+labels_back f l (Some k) = back (tree_of f k) (nodes_before f k)
+
+pub record Backward (holds : NodeRef → Type 0) (f : Forest Content) (at : NodeRef) (tree : Option NodeRef) (answer : Bool) : Type 0 where
+  pub held : holds at
+  pub tree_held : IfSome tree (λ r. holds r)
+  pub first : label tree ≡ None → prev_of f at.label ≡ None
+  pub same : collapses_at f (labels_back f at.label (label tree)) ≡ answer
+
+module _ {holds : NodeRef → Type 0} {f : Forest Content} {upper : ℕ} (law : IsValid holds f upper) where
+  labels_on : (l : ℕ) (o : Option ℕ) → o ≡ prev_of f l → labels_back f l o ≡ nodes_before f l
+  labels_on l None e = refl
+  labels_on l (Some k) e = let p = sibling_parent f law.distinct sides.Before l k (sym e) in sym (labels_step f law.distinct l k p.0 p.1 (sym e))
+
+  pub come_back : (r : NodeRef) (o : Option NodeRef) (answer : Bool) → holds r → Names holds o (prev_of f r.label) → collapses_at f (nodes_before f r.label) ≡ answer → Backward holds f r o answer
+  come_back r o answer held named same = record {
+    held = held;
+    tree_held = named.held;
+    first = λ none. sym named.is ∙ none;
+    same = ap (collapses_at f) (labels_on r.label (label o) named.is) ∙ same;
+  }
+
+  -- a node's own label counts as the nodes above its children do
+  own_label : (k : ℕ) (b : Bool) → is_block f k ≡ b → collapses_at f (k ∷ nodes_before f k) ≡ collapses_at f (cond b [] (k ∷ nodes_before f k))
+  unfolding yields
+  own_label k true block =
+      at_first f k (nodes_before f k)
+      ∙ ap (λ o. unwrap_or (option_map yields o) (collapses_at f (nodes_before f k))) (block_edge f law.distinct k block)
+      ∙ sym (none_left f)
+  own_label k false inline = refl
+
+  down : (k j : ℕ) → last_of f k ≡ Some j → collapses_at f (back (tree_of f k) (nodes_before f k)) ≡ collapses_at f (back (tree_of f j) (nodes_before f j))
+  down k j e =
+      let child = near_parent law sides.Before k j e in
+      let n = family f law.distinct j k child in
+      let front = earlier n.kids j in
+      let above = cond (is_block f k) [] (k ∷ nodes_before f k) in
+      let labels = labels_beside f law.distinct j k n.content n.kids child n.tree (is_block f k) refl ∙ labels_beyond f law.distinct j k child n above in
+      ap (λ g. collapses_at f (back g (nodes_before f k))) n.tree
+      ∙ ap (λ g. collapses_at f (back g (k ∷ nodes_before f k))) (nearest f law.distinct sides.Before j k child n (near_alone law sides.Before k j e))
+      ∙ ap (collapses_at f) (back-join f law.distinct front (tree_of f j) (k ∷ nodes_before f k))
+      ∙ collapses-back f (tree_of f j) (back front (k ∷ nodes_before f k)) (back front above) (collapses-back f front (k ∷ nodes_before f k) above (own_label k (is_block f k) refl))
+      ∙ ap (λ xs. collapses_at f (back (tree_of f j) xs)) (sym labels)
+
+  module _ (at k : NodeRef) (answer : Bool) (backward : Backward holds f at (Some k) answer) where
+    pub gone_down : (j : NodeRef) → holds j → last_of f k.label ≡ Some j.label → Backward holds f at (Some j) answer
+    gone_down j held last = record {
+      held = backward.held;
+      tree_held = held;
+      first = λ e. absurd (let t = e in cc);
+      same = sym (down k.label j.label last) ∙ backward.same;
+    }
+
+    module _ (leaf : last_of f k.label ≡ None) where
+      at_leaf : unwrap_or (option_map yields (met f k.label)) (collapses_at f (nodes_before f k.label)) ≡ answer
+      at_leaf =
+          let here = law.here k backward.tree_held in
+          let c = content_at f law.distinct k.label here in
+          let own = own_tree f law.distinct k.label c.0 here c.1 in
+          let alone : tree_of f k.label ≡ Tree k.label c.0 Nil Nil = own.1 ∙ ap (λ ks. Tree k.label c.0 ks Nil) (no_kids law sides.Before k.label own.0 own.2 leaf) in
+          sym (ap (λ g. collapses_at f (back g (nodes_before f k.label))) alone ∙ at_first f k.label (nodes_before f k.label)) ∙ backward.same
+
+      pub leaf_found : (m : Neighbour) → Some m ≡ met f k.label → not (is_solid_neighbour m) ≡ answer
+      unfolding yields
+      leaf_found m e = ap (λ o. unwrap_or (option_map yields o) (collapses_at f (nodes_before f k.label))) e ∙ at_leaf
+
+      pub leaf_passed : None ≡ met f k.label → (o : Option NodeRef) → Names holds o (prev_of f k.label) → Backward holds f k o answer
+      leaf_passed none o named = come_back k o answer backward.tree_held named (ap (λ o. unwrap_or (option_map yields o) (collapses_at f (nodes_before f k.label))) none ∙ at_leaf)
 
 -- whitespace has no children
 pub whitespace_leaf : {holds : NodeRef → Type 0} {f : Forest Content} {upper : ℕ} → IsValid holds f upper → (l : ℕ) → 0 < count_of f l → is_whitespace f l ≡ true → first_of f l ≡ None

@@ -47,7 +47,7 @@ module _ (f : Forest Content) (once : IsDistinct f) where
     beside Before false e = ap (λ g. earlier g l) (same_block f once l p child e) ∙ earlier-below p l c kids low (in_block f p) (single_block f once p) inner
     beside After false e = ap (λ g. later g l) (same_block f once l p child e) ∙ later-below p l c kids low (in_block f p) (single_block f once p) inner
 
-    labels_beside : (b : Bool) → is_block f p ≡ b → nodes_before f l ≡ labels_before_onto (cond b [] (p ∷ nodes_before f p)) (preorder kids) l
+    pub labels_beside : (b : Bool) → is_block f p ≡ b → nodes_before f l ≡ labels_before_onto (cond b [] (p ∷ nodes_before f p)) (preorder kids) l
     unfolding nodes_before
     labels_beside true e = ap (λ g. labels_before_onto [] (preorder g) l) (in_a_block e)
     labels_beside false e =
@@ -107,7 +107,7 @@ module _ (f : Forest Content) (once : IsDistinct f) where
 
   -- ---- a step to a child
 
-  nearest : (side : Side) (k p : ℕ) (child : parent_of f k ≡ Some p) (n : Family f once k p) → sibling (other side) f k ≡ None → n.kids ≡ joined side (tree_of f k) (beyond side n.kids k)
+  pub nearest : (side : Side) (k p : ℕ) (child : parent_of f k ≡ Some p) (n : Family f once k p) → sibling (other side) f k ≡ None → n.kids ≡ joined side (tree_of f k) (beyond side n.kids k)
   nearest Before k p child n last =
       whole f once k p child n
       ∙ ap (λ g. join (earlier n.kids k) (join (tree_of n.kids k) g)) (later-last f once k p child n last)

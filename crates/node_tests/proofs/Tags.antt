@@ -21,7 +21,7 @@ use Rattle.node_arena.specs.Reads.{IsValid}
 use Rattle.node_tests.specs.declared.sides.Side.{Side}
 use Rattle.node_tests.specs.declared.sides.Side.TheVariants.{Before, After}
 use Rattle.node_tests.specs.Sides.{other, sibling, near_child}
-use Rattle.node_tests.proofs.Steps.{prev_next, sibling_parent, sibling_child}
+use Rattle.node_tests.proofs.Steps.{prev_next, sibling_parent}
 use Rattle.node_tests.proofs.Turning.{first_index, last_index, first_prev}
 
 -- how many come from the start of a node on, and how many after its end
@@ -125,7 +125,7 @@ module _ {holds : NodeRef → Type 0} {f : Forest Content} {upper : ℕ} (law : 
   past_less Before l here = omega (arith, own_end f law.distinct l here, start_low f law.distinct l)
   past_less After l here = omega (arith, own_end f law.distinct l here)
 
-  child_less : (side : Side) (p k : ℕ) → 0 < count_of f p → near_child side f p ≡ Some k → left_from side f k < left_from side f p
+  pub child_less : (side : Side) (p k : ℕ) → 0 < count_of f p → near_child side f p ≡ Some k → left_from side f k < left_from side f p
   child_less Before p k here e =
       omega (arith, last_end f law.distinct k p (near_parent Before p k e) (last_alone p k e), own_end f law.distinct p here, start_low f law.distinct p)
   child_less After p k here e = omega (arith, first_start f law.distinct p k here e)
@@ -136,7 +136,7 @@ module _ {holds : NodeRef → Type 0} {f : Forest Content} {upper : ℕ} (law : 
       omega (arith, next_start f law.distinct k l p n.0 n.1, start_low f law.distinct l)
   sibling_less After l k p child e = omega (arith, next_start f law.distinct l k p child e)
 
-  pub parent_less : (side : Side) (l p : ℕ) → parent_of f l ≡ Some p → sibling side f l ≡ None → left_past side f p < left_past side f l
+  parent_less : (side : Side) (l p : ℕ) → parent_of f l ≡ Some p → sibling side f l ≡ None → left_past side f p < left_past side f l
   parent_less Before l p child e =
       let first = first_index law l p child (index_of-first f law.distinct l e) in
       omega (arith, first_start f law.distinct p l (parent_count f l p law.distinct child).1 first, start_low f law.distinct p)
@@ -150,7 +150,7 @@ module _ {holds : NodeRef → Type 0} {f : Forest Content} {upper : ℕ} (law : 
       by_child None e = past_less side l here
       by_child (Some k) e = child_less side l k here e
 
-  pub on_less : (side : Side) (l : ℕ) → left_in side f l (sibling side f l) ≤ left_past side f l
+  on_less : (side : Side) (l : ℕ) → left_in side f l (sibling side f l) ≤ left_past side f l
   on_less side l = by_sibling (sibling side f l) refl
     where
       by_sibling : (o : Option ℕ) → sibling side f l ≡ o → left_in side f l o ≤ left_past side f l
@@ -164,8 +164,9 @@ module _ {holds : NodeRef → Type 0} {f : Forest Content} {upper : ℕ} (law : 
       by_sibling None e = parent_less side l p child e
       by_sibling (Some k) e = sibling_less side l k p child e
 
-  pub past_sibling : (side : Side) (l k : ℕ) → sibling side f l ≡ Some k → left_past side f k < left_past side f l
-  past_sibling side l k e =
-      let p = sibling_parent f law.distinct side l k e in
-      let here = (parent_count f k p.0 law.distinct (sibling_child f law.distinct side l k p.0 p.1 e)).0 in
-      omega (arith, past_less side k here, sibling_less side l k p.0 p.1 e)
+  -- past a node on to its sibling, and past the node above it
+  pub over_less : (side : Side) (l : ℕ) → 0 < count_of f l → left_in side f l (sibling side f l) < left_from side f l
+  over_less side l here = omega (arith, on_less side l, past_less side l here)
+
+  pub up_less : (side : Side) (l p : ℕ) → parent_of f l ≡ Some p → sibling side f l ≡ None → left_in side f p (sibling side f p) < left_past side f l
+  up_less side l p child none = omega (arith, on_less side p, parent_less side l p child none)

@@ -1,5 +1,5 @@
 -- The turns of a walk from place to place, and the walk.
-use Rattle.std.proofs.Common.{◌≡◌, ℕ, suc, ◌-◌, ◌<◌, Bool, true, false, cond, ◌&&◌, ◌||◌, Some, None, IfSome, refl, sym, ap, ◌∙◌, arith, eqb, is_none}
+use Rattle.std.proofs.Common.{◌≡◌, ℕ, suc, Bool, true, false, cond, ◌&&◌, ◌||◌, Some, None, IfSome, refl, sym, ap, ◌∙◌, eqb, is_none}
 use Rattle.dom_model.specs.declared.Content.{Content}
 use Rattle.dom_model.specs.Contents.{length_of}
 use Rattle.dom_model.specs.Forest.{Forest, parent_of}
@@ -85,21 +85,3 @@ pub record Reached (holds : NodeRef → Type 0) (f : Forest Content) (turn : Pla
   pub place : Place
   pub stands : StandsAt f at place
   pub same : walk turn left place ≡ answer
-
-less_one : (n : ℕ) → 0 < n → n ≡ suc (n - 1)
-less_one n h = omega (arith, h)
-
-pub answered : {holds : NodeRef → Type 0} {f : Forest Content} (turn : Place → Turn) (left : ℕ) (at : Gap) (answer b : Bool) → 0 < left → (reached : Reached holds f turn left at answer) → turn reached.place ≡ Answer b → b ≡ answer
-answered turn left at answer b some reached e =
-    sym (walk_answers turn (left - 1) reached.place b e) ∙ ap (λ n. walk turn n reached.place) (sym (less_one left some)) ∙ reached.same
-
-pub gone_on : {holds : NodeRef → Type 0} {f : Forest Content} (turn : Place → Turn) (left : ℕ) (at next : Gap) (answer : Bool) → 0 < left → (reached : Reached holds f turn left at answer) → (place : Place) × (turn reached.place ≡ GoOn place) × HoldsGap holds next × StandsAt f next place → Reached holds f turn (left - 1) next answer
-gone_on turn left at next answer some reached (place, e, held, stands) = record {
-  held = held;
-  place = place;
-  stands = stands;
-  same = sym (walk_goes turn (left - 1) reached.place place e) ∙ ap (λ n. walk turn n reached.place) (sym (less_one left some)) ∙ reached.same;
-}
-
-pub run_out : {holds : NodeRef → Type 0} {f : Forest Content} (turn : Place → Turn) (left : ℕ) (at : Gap) (answer : Bool) → left ≡ 0 → Reached holds f turn left at answer → true ≡ answer
-run_out turn left at answer none reached = sym (ap (λ n. walk turn n reached.place) none) ∙ reached.same

@@ -21,7 +21,7 @@ use Rattle.node_tests.proofs.Around.{content_at, own_tree}
 use Rattle.node_tests.proofs.Meeting.{first_met-joined, first_met-tree}
 use Rattle.node_tests.proofs.Joined.{joined, joined-Nil}
 use Rattle.node_tests.proofs.Steps.{step, step_in, step_out, root_alone, around}
-use Rattle.node_tests.proofs.Tags.{left_from, left_past, left_in, near_parent, near_alone, in_less, on_less, parent_less}
+use Rattle.node_tests.proofs.Tags.{left_from, left_past, left_in, near_parent, near_alone, in_less, over_less, up_less}
 
 -- what is ahead of a walk that has passed l: the trees on this side, which begin with that of the node that comes next
 abbrev pub ahead : Side → Forest Content → ℕ → Option ℕ → Forest Content
@@ -48,6 +48,12 @@ module _ (f : Forest Content) where
       by_test true e = absurd (let t = e in cc)
       by_test false e = refl
 
+module _ {holds : NodeRef → Type 0} {f : Forest Content} {upper : ℕ} (law : IsValid holds f upper) where
+  pub no_kids : (side : Side) (l : ℕ) (ks : Forest Content) → children_of f l ≡ tops ks → near_child side f l ≡ None → ks ≡ Nil
+  no_kids side l Nil children none = refl
+  no_kids Before l (Tree m c ks rest) children none = absurd (omega (arith, children_of-none f law.distinct l none, ap length children))
+  no_kids After l (Tree m c ks rest) children none = absurd (let t : Some m ≡ None = sym (ap first_in children) ∙ none in cc)
+
 module _ {holds : NodeRef → Type 0} {f : Forest Content} {upper : ℕ} (law : IsValid holds f upper) (side : Side) where
   ahead_beside : (l : ℕ) (o : Option ℕ) → o ≡ sibling side f l → trees side f l ≡ ahead side f l o
   ahead_beside l None e = refl
@@ -55,17 +61,12 @@ module _ {holds : NodeRef → Type 0} {f : Forest Content} {upper : ℕ} (law : 
 
   -- ---- a step in
 
-  no_kids : (side : Side) (l : ℕ) (ks : Forest Content) → children_of f l ≡ tops ks → near_child side f l ≡ None → ks ≡ Nil
-  no_kids side l Nil children none = refl
-  no_kids Before l (Tree m c ks rest) children none = absurd (omega (arith, children_of-none f law.distinct l none, ap length children))
-  no_kids After l (Tree m c ks rest) children none = absurd (let t : Some m ≡ None = sym (ap first_in children) ∙ none in cc)
-
   ahead_in : (k : ℕ) (c : Content) (ks : Forest Content) → tree_of f k ≡ Tree k c ks Nil → children_of f k ≡ tops ks → is_block f k ≡ false → joined side ks (trees side f k) ≡ ahead side f k (inward side f k)
   ahead_in k c ks tree children inline = by_child (near_child side f k) refl
     where
       by_child : (o : Option ℕ) → near_child side f k ≡ o → joined side ks (trees side f k) ≡ ahead side f k (option_or o (sibling side f k))
       by_child None e =
-          ap (λ g. joined side g (trees side f k)) (no_kids side k ks children e)
+          ap (λ g. joined side g (trees side f k)) (no_kids law side k ks children e)
           ∙ joined-Nil side (trees side f k)
           ∙ ahead_beside k (sibling side f k) refl
       by_child (Some j) e = step_in f law.distinct side j k (near_parent law side k j e) (near_alone law side k j e) inline c ks tree
@@ -122,9 +123,7 @@ module _ {holds : NodeRef → Type 0} {f : Forest Content} {upper : ℕ} (law : 
     in_nearer o named = rw named.is (by_child (near_child side f k.label) refl)
       where
         by_child : (o : Option ℕ) → near_child side f k.label ≡ o → left_in side f k.label (option_or o (sibling side f k.label)) < left_from side f k.label
-        by_child None e =
-            let past = rw e at (in_less law side k.label (law.here k walked.next_held)) in
-            omega (arith, past, on_less law side k.label)
+        by_child None e = over_less law side k.label (law.here k walked.next_held)
         by_child (Some j) e = rw e at (in_less law side k.label (law.here k walked.next_held))
 
   module _ (at : NodeRef) (answer : Neighbour) (walked : Walked holds f side at None answer) where
@@ -143,7 +142,7 @@ module _ {holds : NodeRef → Type 0} {f : Forest Content} {upper : ℕ} (law : 
     }
 
     pub out_nearer : (p : ℕ) → parent_of f at.label ≡ Some p → (o : Option NodeRef) → Names holds o (sibling side f p) → left_in side f p (label o) < left_past side f at.label
-    out_nearer p child o named = rw named.is (omega (arith, on_less law side p, parent_less law side at.label p child (walked.last refl)))
+    out_nearer p child o named = rw named.is (up_less law side at.label p child (walked.last refl))
 
     pub at_edge : (p : ℕ) → parent_of f at.label ≡ Some p → is_block f p ≡ true → BlockEdge ≡ answer
     at_edge p child block = ap (λ b. unwrap_or (first_met side f (cond b Nil (trees side f p))) BlockEdge) (sym block) ∙ out p child

@@ -33,11 +33,6 @@ abbrev pub first_met : Side → Forest Content → Forest Content → Option Nei
 first_met side f Nil = None
 first_met side f (Tree l c ks rest) = nearer side (option_or (met f l) (first_met side f ks)) (first_met side f rest)
 
--- the first in tree order from the back, where a block is met after what it holds
-abbrev pub last_in_order : Forest Content → Forest Content → Option Neighbour
-last_in_order f Nil = None
-last_in_order f (Tree l c ks rest) = option_or (last_in_order f rest) (option_or (last_in_order f ks) (met f l))
-
 -- the solid neighbour on this side in the nearest block, whose start and end are block edges too
 unfoldable pub neighbour_on : Side → Forest Content → ℕ → Neighbour
 neighbour_on side f l = unwrap_or (first_met side f (trees side f l)) BlockEdge

@@ -55,21 +55,6 @@ pub(crate) fn met_at<N: Nodes>(nodes: &N, node: NodeRef) -> Option<Neighbour>
     }
 }
 
-/// What is met last in the tree of a node in tree order, inside blocks too.
-pub(crate) fn last_in_order<N: Nodes>(nodes: &N, node: NodeRef) -> Option<Neighbour>
-    requires { N.holds nodes.now node }
-    ensures { result ≡ neighbours.last_in_order (N.trees nodes.now) (tree_of (N.trees nodes.now) node.label) }
-{
-    nodes.valid();
-    let mut last = met_at(nodes, node);
-    let mut child = nodes.first_child(node);
-    while let Some(at) = child {
-        last = last_in_order(nodes, at).or(last);
-        child = nodes.next(at);
-    }
-    last
-}
-
 /// What is met first on a side of the tree of a node in its nearest block. A block is met before what it holds.
 pub(crate) fn neighbour_on<N: Nodes>(nodes: &N, node: NodeRef, side: Side) -> Neighbour
     requires { N.holds nodes.now node }

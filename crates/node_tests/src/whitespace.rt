@@ -5,25 +5,31 @@ ghost use Rattle.dom_model.specs.Forest.{first_of};
 ghost use Rattle.node_tests.specs.CollapsedWhitespace as whitespace;
 ghost use Rattle.node_tests.specs.Surroundings as before;
 
-use crate::neighbours::{is_solid_neighbour, last_in_order, met_at, neighbour_on};
+use crate::neighbours::{is_solid_neighbour, met_at, neighbour_on};
 use crate::sides::Side;
 use node_arena::{Content, NodeRef, Nodes};
 use node_styles::{is_hidden, is_whitespace};
 
-// Whether whitespace collapses at what stands before it. The text inside an earlier block is met before that block, and the
-// nearest block last.
+// Whether whitespace collapses at what stands before it: at the first node on the way back that decides. A node is
+// met after what it holds.
 fn collapses_before<N: Nodes>(nodes: &N, node: NodeRef) -> bool
     requires { N.holds nodes.now node }
     ensures { result ≡ whitespace.collapses_at (N.trees nodes.now) (before.nodes_before (N.trees nodes.now) node.label) }
 {
     nodes.valid();
     let mut at = node;
+    let mut tree = nodes.prev(node);
     'walk: loop {
-        if let Some(prev) = nodes.prev(at) {
-            if let Some(met) = last_in_order(nodes, prev) {
-                return !is_solid_neighbour(met);
+        if let Some(inner) = tree {
+            if let Some(last) = nodes.last_child(inner) {
+                tree = Some(last);
+            } else {
+                if let Some(met) = met_at(nodes, inner) {
+                    return !is_solid_neighbour(met);
+                }
+                at = inner;
+                tree = nodes.prev(inner);
             }
-            at = prev;
         } else {
             match nodes.parent(at) {
                 None => return true,
@@ -32,6 +38,7 @@ fn collapses_before<N: Nodes>(nodes: &N, node: NodeRef) -> bool
                         return !is_solid_neighbour(met);
                     }
                     at = parent;
+                    tree = nodes.prev(parent);
                 }
             }
         }
@@ -57,9 +64,9 @@ fn is_empty_words(content: &Content) -> bool
     }
 }
 
+/// Whether a node is a collapsed whitespace node: a whitespace node that is empty or hidden by `display: none`, or
+/// beside which no text or image of its block stands on one side.
 #[tactic(auto, unfolding(crate::specs::CollapsedWhitespace::is_collapsed_whitespace))]
-/// Whether a node is a collapsed whitespace node: a whitespace node that is empty or hidden by `display: none`, or beside
-/// which no text or image of its block stands on one side.
 pub fn is_collapsed_whitespace<N: Nodes>(nodes: &N, node: NodeRef) -> bool
     requires { N.holds nodes.now node }
     ensures { result ≡ whitespace.is_collapsed_whitespace (N.trees nodes.now) node.label }
