@@ -5,7 +5,7 @@
 //! `texts` for `escaped_text` and `dom_model`, `streams` for `edit_io`, `points` for `live_range`, `logs` for `undo_log`
 //! and `step_count`, `arenas` for `node_arena` and `point_order`, `styles` for `node_styles`, `steps` for `edit_steps`,
 //! `parts` for `edit_parts`, `pages` for `page_read` and `page_write`, `acts` for `script_read`, `lines` and `applying`
-//! for `step_text`. `trees` makes the nodes of all of them.
+//! for `step_text`, `faults` for what the faults of all of them print. `trees` makes the nodes.
 #![tactic(auto)]
 
 #[cfg(test)]

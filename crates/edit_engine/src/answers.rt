@@ -28,11 +28,11 @@ pub enum ExecFault {
 
 impl fmt::Display for ExecFault {
     fn fmt<W: fmt::Write>(&self, f: &mut fmt::Formatter<W>) -> fmt::Result {
-        match self {
-            ExecFault::Full => write!(f, "no label is left below the cap"),
-            ExecFault::Deep => write!(f, "the document would be too deep"),
-            ExecFault::Memory => write!(f, "out of memory"),
-        }
+        f.write_str(match self {
+            ExecFault::Full => "no label is left below the cap",
+            ExecFault::Deep => "the document would be too deep",
+            ExecFault::Memory => "out of memory",
+        })
     }
 }
 
@@ -74,10 +74,10 @@ pub enum LogFault {
 
 impl fmt::Display for LogFault {
     fn fmt<W: fmt::Write>(&self, f: &mut fmt::Formatter<W>) -> fmt::Result {
-        match self {
-            LogFault::LogCut => write!(f, "the oldest entries of the log are gone"),
-            LogFault::Memory => write!(f, "out of memory"),
-        }
+        f.write_str(match self {
+            LogFault::LogCut => "the oldest entries of the log are gone",
+            LogFault::Memory => "out of memory",
+        })
     }
 }
 
@@ -107,11 +107,11 @@ pub enum PlaceFault {
 
 impl fmt::Display for PlaceFault {
     fn fmt<W: fmt::Write>(&self, f: &mut fmt::Formatter<W>) -> fmt::Result {
-        match self {
-            PlaceFault::BadPlace => write!(f, "the document has no such place"),
-            PlaceFault::TooManyMarks => write!(f, "16 marks of other names are there already"),
-            PlaceFault::Memory => write!(f, "out of memory"),
-        }
+        f.write_str(match self {
+            PlaceFault::BadPlace => "the document has no such place",
+            PlaceFault::TooManyMarks => "16 marks of other names are there already",
+            PlaceFault::Memory => "out of memory",
+        })
     }
 }
 
@@ -157,10 +157,10 @@ pub enum ViewFault {
 
 impl fmt::Display for ViewFault {
     fn fmt<W: fmt::Write>(&self, f: &mut fmt::Formatter<W>) -> fmt::Result {
-        match self {
-            ViewFault::BadPlace => write!(f, "the document has no such node"),
-            ViewFault::Memory => write!(f, "out of memory"),
-        }
+        f.write_str(match self {
+            ViewFault::BadPlace => "the document has no such node",
+            ViewFault::Memory => "out of memory",
+        })
     }
 }
 

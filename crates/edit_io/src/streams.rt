@@ -23,7 +23,7 @@ pub enum SinkFault {
 
 impl fmt::Display for Failed {
     fn fmt<W: fmt::Write>(&self, f: &mut fmt::Formatter<W>) -> fmt::Result {
-        write!(f, "the read failed")
+        f.write_str("the read failed")
     }
 }
 
@@ -31,10 +31,10 @@ impl Error for Failed {}
 
 impl fmt::Display for SinkFault {
     fn fmt<W: fmt::Write>(&self, f: &mut fmt::Formatter<W>) -> fmt::Result {
-        match self {
-            SinkFault::Failed => write!(f, "the write failed"),
-            SinkFault::Memory => write!(f, "out of memory"),
-        }
+        f.write_str(match self {
+            SinkFault::Failed => "the write failed",
+            SinkFault::Memory => "out of memory",
+        })
     }
 }
 

@@ -22,11 +22,11 @@ pub enum ReadAllFault {
 
 impl fmt::Display for ReadAllFault {
     fn fmt<W: fmt::Write>(&self, f: &mut fmt::Formatter<W>) -> fmt::Result {
-        match self {
-            ReadAllFault::Failed => write!(f, "a read failed"),
-            ReadAllFault::TooLong => write!(f, "the input is too long"),
-            ReadAllFault::Memory => write!(f, "out of memory"),
-        }
+        f.write_str(match self {
+            ReadAllFault::Failed => "a read failed",
+            ReadAllFault::TooLong => "the input is too long",
+            ReadAllFault::Memory => "out of memory",
+        })
     }
 }
 

@@ -38,10 +38,10 @@ pub enum EditFault {
 
 impl fmt::Display for EditFault {
     fn fmt<W: fmt::Write>(&self, f: &mut fmt::Formatter<W>) -> fmt::Result {
-        match self {
-            EditFault::Full => write!(f, "no label is left below the cap"),
-            EditFault::Memory => write!(f, "out of memory"),
-        }
+        f.write_str(match self {
+            EditFault::Full => "no label is left below the cap",
+            EditFault::Memory => "out of memory",
+        })
     }
 }
 

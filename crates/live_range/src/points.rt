@@ -49,10 +49,10 @@ pub enum MarkFault {
 
 impl fmt::Display for MarkFault {
     fn fmt<W: fmt::Write>(&self, f: &mut fmt::Formatter<W>) -> fmt::Result {
-        match self {
-            MarkFault::TooManyMarks => write!(f, "16 marks of other names are there already"),
-            MarkFault::Memory => write!(f, "out of memory"),
-        }
+        f.write_str(match self {
+            MarkFault::TooManyMarks => "16 marks of other names are there already",
+            MarkFault::Memory => "out of memory",
+        })
     }
 }
 

@@ -64,10 +64,10 @@ pub enum MakeFault {
 
 impl fmt::Display for MakeFault {
     fn fmt<W: fmt::Write>(&self, f: &mut fmt::Formatter<W>) -> fmt::Result {
-        match self {
-            MakeFault::Full => write!(f, "no label is left below the cap"),
-            MakeFault::Memory => write!(f, "out of memory"),
-        }
+        f.write_str(match self {
+            MakeFault::Full => "no label is left below the cap",
+            MakeFault::Memory => "out of memory",
+        })
     }
 }
 

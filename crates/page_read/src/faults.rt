@@ -47,20 +47,20 @@ pub struct PageFault {
 
 impl fmt::Display for PageKind {
     fn fmt<W: fmt::Write>(&self, f: &mut fmt::Formatter<W>) -> fmt::Result {
-        match self {
-            PageKind::NotUtf8 => write!(f, "the text is not UTF-8"),
-            PageKind::BadTag => write!(f, "the tag is malformed"),
-            PageKind::Unclosed => write!(f, "the page ends too early"),
-            PageKind::StrayEnd => write!(f, "no open element has this end tag"),
-            PageKind::BadAttribute => write!(f, "the attributes are malformed"),
-            PageKind::RepeatedAttribute => write!(f, "the tag has this attribute already"),
-            PageKind::UnknownReference => write!(f, "the character reference is unknown"),
-            PageKind::UnsupportedElement => write!(f, "a page may not have this element"),
-            PageKind::TooDeep => write!(f, "the document would be too deep"),
-            PageKind::TooLong => write!(f, "the page is too long"),
-            PageKind::Full => write!(f, "no label is left below the cap"),
-            PageKind::Memory => write!(f, "out of memory"),
-        }
+        f.write_str(match self {
+            PageKind::NotUtf8 => "the text is not UTF-8",
+            PageKind::BadTag => "the tag is malformed",
+            PageKind::Unclosed => "the page ends too early",
+            PageKind::StrayEnd => "no open element has this end tag",
+            PageKind::BadAttribute => "the attributes are malformed",
+            PageKind::RepeatedAttribute => "the tag has this attribute already",
+            PageKind::UnknownReference => "the character reference is unknown",
+            PageKind::UnsupportedElement => "a page may not have this element",
+            PageKind::TooDeep => "the document would be too deep",
+            PageKind::TooLong => "the page is too long",
+            PageKind::Full => "no label is left below the cap",
+            PageKind::Memory => "out of memory",
+        })
     }
 }
 

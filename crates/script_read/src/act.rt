@@ -88,12 +88,12 @@ pub enum LineFault {
 
 impl fmt::Display for LineFault {
     fn fmt<W: fmt::Write>(&self, f: &mut fmt::Formatter<W>) -> fmt::Result {
-        match self {
-            LineFault::Syntax => write!(f, "the line is outside the grammar of its act"),
-            LineFault::UnknownAct => write!(f, "the first word of the line is no act"),
-            LineFault::LongLine => write!(f, "the line has more than 8192 bytes"),
-            LineFault::Memory => write!(f, "out of memory"),
-        }
+        f.write_str(match self {
+            LineFault::Syntax => "the line is outside the grammar of its act",
+            LineFault::UnknownAct => "the first word of the line is no act",
+            LineFault::LongLine => "the line has more than 8192 bytes",
+            LineFault::Memory => "out of memory",
+        })
     }
 }
 

@@ -71,13 +71,13 @@ pub enum StepFault {
 
 impl fmt::Display for StepFault {
     fn fmt<W: fmt::Write>(&self, f: &mut fmt::Formatter<W>) -> fmt::Result {
-        match self {
-            StepFault::Syntax => write!(f, "the line is no step"),
-            StepFault::BadLabel => write!(f, "the label is taken, unknown or not below the cap"),
-            StepFault::BadPlace => write!(f, "the node can't go there, or isn't of the kind"),
-            StepFault::TooDeep => write!(f, "the document would be too deep"),
-            StepFault::Memory => write!(f, "out of memory"),
-        }
+        f.write_str(match self {
+            StepFault::Syntax => "the line is no step",
+            StepFault::BadLabel => "the label is taken, unknown or not below the cap",
+            StepFault::BadPlace => "the node can't go there, or isn't of the kind",
+            StepFault::TooDeep => "the document would be too deep",
+            StepFault::Memory => "out of memory",
+        })
     }
 }
 
