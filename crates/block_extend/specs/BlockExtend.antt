@@ -1,5 +1,5 @@
--- The block-extended range (HTML Editing APIs, "block-extend"): a range with its ends taken out to where lines of blocks
--- start and end. The steps are those of docs/ALGORITHMS.md.
+-- The block-extended range (HTML Editing APIs, "block-extend"): a range with its ends taken out to where lines of
+-- blocks start and end. The steps are those of docs/ALGORITHMS.md.
 use Rattle.std.specs.Prelude.{ℕ, zero, suc, ◌+◌, ◌-◌, ◌==◌, nat_lt, Bool, false, Option, Some, None, if◌then◌else◌, codes}
 use Rattle.std.specs.Option.{option_map, option_and_then, unwrap_or}
 use Rattle.dom_model.specs.declared.Content.{Content}
@@ -27,7 +27,10 @@ back f at = if at.offset == 0 then out_of f at.label 0 else Some (record { label
 -- the place after: at the end of a node, that after the node
 unfoldable pub forth : Forest Content → Point → Option Point
 forth f at =
-    if nat_lt at.offset (length_of f at.label) then Some (record { label = at.label; offset = at.offset + 1 }) else out_of f at.label 1
+    if nat_lt at.offset (length_of f at.label) then Some (record {
+      label = at.label;
+      offset = at.offset + 1;
+    }) else out_of f at.label 1
 
 -- out of a node, from its start alone
 unfoldable pub out_before : Forest Content → Point → Option Point
@@ -63,7 +66,8 @@ walk way f (suc n) at = led (step way f at) at λ next. if stops way f next then
 
 -- block-extend, steps 1 and 4: out of the innermost li that the node is or is in
 unfoldable pub out_of_item : Forest Content → ℕ → Point → Point
-out_of_item f places at = unwrap_or (option_and_then (λ l. out_of f l places) (nearest_label (is_named (codes "li")) f at.label)) at
+out_of_item f places at = unwrap_or (option_and_then (λ l. out_of f l places)
+    (nearest_label (is_named (codes "li")) f at.label)) at
 
 -- block-extend, step 2: back to a block boundary point, but from a block start point
 unfoldable pub to_block_start : Forest Content → Point → Point

@@ -44,7 +44,8 @@ fn turns<N: Nodes>(nodes: &N) -> u128
 fn walk<N: Nodes>(nodes: &N, way: Way, start: Place) -> Place
     requires { Stands (N.holds nodes.now) (N.trees nodes.now) start }
     ensures stands { Stands (N.holds nodes.now) (N.trees nodes.now) result }
-    ensures place { gaps.point_of result ≡ extend.walk way (N.trees nodes.now) (turns (N.trees nodes.now)) (gaps.point_of start) }
+    ensures place { gaps.point_of result ≡ extend.walk way (N.trees nodes.now) (turns (N.trees nodes.now))
+        (gaps.point_of start) }
 {
     let mut left = turns(nodes);
     let mut at = start;
@@ -155,8 +156,9 @@ fn extended_end<N: Nodes>(nodes: &N, point: Point) -> Point
     point_of(at)
 }
 
-/// The block-extended range: its start and its end, taken out to where lines of blocks start and end. A walk goes over the
-/// children and ancestors on its way by links; only the place where it begins is found by counting children.
+/// The block-extended range: its start and its end, taken out to where lines of blocks start and end. A walk goes
+/// over the children and ancestors on its way by links; only the place where it begins is found by counting
+/// children.
 #[tactic(auto, unfolding(crate::specs::BlockExtend::block_extend))]
 pub fn block_extend<N: Nodes>(nodes: &N, range: (Point, Point)) -> (Point, Point)
     requires start { 0 < count_of (N.trees nodes.now) range.0.label }

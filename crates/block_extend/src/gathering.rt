@@ -39,8 +39,8 @@ fn is_below<N: Nodes>(nodes: &N, last: Option<NodeRef>, node: NodeRef) -> bool
     }
 }
 
-// Whether a node is taken after the one that was taken last: it doesn't stand below that one, which is looked at first, and
-// passes the test.
+// Whether a node is taken after the one that was taken last: it doesn't stand below that one, which is looked at
+// first, and passes the test.
 fn is_taken<N: Nodes, C: Choice<N>>(
     nodes: &N,
     last: Option<NodeRef>,
@@ -49,13 +49,14 @@ fn is_taken<N: Nodes, C: Choice<N>>(
 ) -> bool
     requires last_held { IfSome last (N.holds nodes.now) }
     requires node_held { N.holds nodes.now node }
-    ensures { result ≡ (not (is_below (N.trees nodes.now) (label last) node.label) && C.chosen choice.now nodes.now node.label) }
+    ensures { result ≡ (not (is_below (N.trees nodes.now) (label last) node.label)
+        && C.chosen choice.now nodes.now node.label) }
 {
     !is_below(nodes, last, node) && choice.chooses(nodes, node)
 }
 
-// The members of a list that pass a test, without those that have an ancestor among them. They are in tree order, so only the
-// member that was taken last can be an ancestor of the next one.
+// The members of a list that pass a test, without those that have an ancestor among them. They are in tree order,
+// so only the member that was taken last can be an ancestor of the next one.
 fn gather<N: Nodes, C: Choice<N>>(
     alloc: Global,
     nodes: &N,
@@ -63,8 +64,10 @@ fn gather<N: Nodes, C: Choice<N>>(
     choice: &C,
 ) -> Result<NodeList, AllocError>
     requires held { All (N.holds nodes.now) list.now }
-    requires order { IsInOrder (N.trees nodes.now) (filter (C.chosen choice.now nodes.now) (map (λ r. r.label) list.now)) }
-    ensures nodes { IfOk result (λ kept. map (λ r. r.label) kept ≡ gather (N.trees nodes.now) (filter (C.chosen choice.now nodes.now) (map (λ r. r.label) list.now))) }
+    requires order { IsInOrder (N.trees nodes.now) (filter (C.chosen choice.now nodes.now)
+        (map (λ r. r.label) list.now)) }
+    ensures nodes { IfOk result (λ kept. map (λ r. r.label) kept
+        ≡ gather (N.trees nodes.now) (filter (C.chosen choice.now nodes.now) (map (λ r. r.label) list.now))) }
     ensures held { IfOk result (λ kept. All (N.holds nodes.now) kept) }
 {
     nodes.valid();
@@ -79,8 +82,8 @@ fn gather<N: Nodes, C: Choice<N>>(
     NodeList::from_slice(alloc, &kept)
 }
 
-/// The nodes that a range contains and that pass a test, in tree order, without those that have an ancestor among them. Nodes
-/// below one of them aren't tested.
+/// The nodes that a range contains and that pass a test, in tree order, without those that have an ancestor among
+/// them. Nodes below one of them aren't tested.
 #[tactic(auto, unfolding(crate::specs::Gather::gathered))]
 pub fn gather_in<N: Nodes, C: Choice<N>>(
     alloc: Global,
@@ -90,7 +93,8 @@ pub fn gather_in<N: Nodes, C: Choice<N>>(
 ) -> Result<NodeList, AllocError>
     requires start { 0 < count_of (N.trees nodes.now) range.0.label }
     requires end { 0 < count_of (N.trees nodes.now) range.1.label }
-    ensures nodes { IfOk result (λ list. map (λ r. r.label) list ≡ gathered (C.chosen choice.now nodes.now) (N.trees nodes.now) range.0 range.1) }
+    ensures nodes { IfOk result (λ list. map (λ r. r.label) list
+        ≡ gathered (C.chosen choice.now nodes.now) (N.trees nodes.now) range.0 range.1) }
     ensures held { IfOk result (λ list. All (N.holds nodes.now) list) }
 {
     let contained = contained_nodes(alloc, nodes, range)?;

@@ -147,7 +147,8 @@ fn is_before_end<N: Nodes>(nodes: &N, at: Place) -> bool
 #[tactic(auto, unfolding(crate::specs::BlockExtend::back))]
 fn back<N: Nodes>(nodes: &N, at: Place) -> Option<Place>
     requires { Stands (N.holds nodes.now) (N.trees nodes.now) at }
-    ensures { Leads (N.holds nodes.now) (N.trees nodes.now) result (extend.back (N.trees nodes.now) (gaps.point_of at)) }
+    ensures { Leads (N.holds nodes.now) (N.trees nodes.now) result
+        (extend.back (N.trees nodes.now) (gaps.point_of at)) }
 {
     if at.offset == 0 {
         place_before(nodes, at.node)
@@ -160,7 +161,8 @@ fn back<N: Nodes>(nodes: &N, at: Place) -> Option<Place>
 #[tactic(auto, unfolding(crate::specs::BlockExtend::forth))]
 fn forth<N: Nodes>(nodes: &N, at: Place) -> Option<Place>
     requires { Stands (N.holds nodes.now) (N.trees nodes.now) at }
-    ensures { Leads (N.holds nodes.now) (N.trees nodes.now) result (extend.forth (N.trees nodes.now) (gaps.point_of at)) }
+    ensures { Leads (N.holds nodes.now) (N.trees nodes.now) result
+        (extend.forth (N.trees nodes.now) (gaps.point_of at)) }
 {
     if is_before_end(nodes, at) {
         Some(one_forth(nodes, at))
@@ -173,7 +175,8 @@ fn forth<N: Nodes>(nodes: &N, at: Place) -> Option<Place>
 #[tactic(auto, unfolding(crate::specs::BlockExtend::out_before))]
 fn out_before<N: Nodes>(nodes: &N, at: Place) -> Option<Place>
     requires { Stands (N.holds nodes.now) (N.trees nodes.now) at }
-    ensures { Leads (N.holds nodes.now) (N.trees nodes.now) result (extend.out_before (N.trees nodes.now) (gaps.point_of at)) }
+    ensures { Leads (N.holds nodes.now) (N.trees nodes.now) result
+        (extend.out_before (N.trees nodes.now) (gaps.point_of at)) }
 {
     if at.offset == 0 {
         place_before(nodes, at.node)
@@ -186,7 +189,8 @@ fn out_before<N: Nodes>(nodes: &N, at: Place) -> Option<Place>
 #[tactic(auto, unfolding(crate::specs::BlockExtend::out_after))]
 fn out_after<N: Nodes>(nodes: &N, at: Place) -> Option<Place>
     requires { Stands (N.holds nodes.now) (N.trees nodes.now) at }
-    ensures { Leads (N.holds nodes.now) (N.trees nodes.now) result (extend.out_after (N.trees nodes.now) (gaps.point_of at)) }
+    ensures { Leads (N.holds nodes.now) (N.trees nodes.now) result
+        (extend.out_after (N.trees nodes.now) (gaps.point_of at)) }
 {
     if is_before_end(nodes, at) {
         None
@@ -198,7 +202,8 @@ fn out_after<N: Nodes>(nodes: &N, at: Place) -> Option<Place>
 /// A step of a walk.
 pub(crate) fn step<N: Nodes>(nodes: &N, way: Way, at: Place) -> Option<Place>
     requires { Stands (N.holds nodes.now) (N.trees nodes.now) at }
-    ensures { Leads (N.holds nodes.now) (N.trees nodes.now) result (extend.step way (N.trees nodes.now) (gaps.point_of at)) }
+    ensures { Leads (N.holds nodes.now) (N.trees nodes.now) result
+        (extend.step way (N.trees nodes.now) (gaps.point_of at)) }
 {
     match way {
         Way::Back => back(nodes, at),

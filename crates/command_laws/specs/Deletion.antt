@@ -1,5 +1,5 @@
--- The laws of deleting: of the algorithm that other commands take, and of the command, that its run leaves the states of
--- contenteditable. Deleting keeps no contents, so there is no law of order.
+-- The laws of deleting: of the algorithm that other commands take, and of the command, that its run leaves the
+-- states of contenteditable. Deleting keeps no contents, so there is no law of order.
 use Rattle.std.specs.Prelude.{Bool}
 use Rattle.edit_laws.specs.Stateless.{Stateless}
 use Rattle.delete_core.specs.Deletion.{delete_selection}

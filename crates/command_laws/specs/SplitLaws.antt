@@ -11,7 +11,8 @@ use Rattle.wrap_split.specs.Split.{split_parent, remove_keeping_children}
 -- of consecutive children of a node, in order
 abbrev pub ParentsSplit : Type 0
 ParentsSplit =
-    (front list rest : List ℕ) (o : ℕ) (s : State) → IsKeeping s → children_of s.trees o ≡ front ++ (list ++ rest) → KeepsOrder s (final (split_parent list) s)
+    (front list rest : List ℕ) (o : ℕ) (s : State) → IsKeeping s → children_of s.trees o ≡ front
+    ++ (list ++ rest) → KeepsOrder s (final (split_parent list) s)
 
 -- of one node
 abbrev pub ParentOfOneSplits : Type 0

@@ -29,19 +29,23 @@ MakesNoThing (Make blank) = is_thing blank.name ≡ false
 -- what a recipe makes has no state of contenteditable
 abbrev pub MakesNoState : Recipe → Type 0
 MakesNoState Nothing = Unit {0}
-MakesNoState (Make blank) = (is_true_state (Element blank.name blank.attributes) || is_false_state (Element blank.name blank.attributes)) ≡ false
+MakesNoState (Make blank) = (is_true_state (Element blank.name blank.attributes)
+    || is_false_state (Element blank.name blank.attributes)) ≡ false
 
 -- of consecutive children of a node, in order
 abbrev pub ListsWrap : Type 0
 ListsWrap =
-    (c : Criterion) (r : Recipe) (front list rest : List ℕ) (o : ℕ) (s : State) → NamesNoThing c → MakesNoThing r → IsKeeping s
+    (c : Criterion) (r : Recipe) (front list rest : List ℕ) (o : ℕ) (s : State) → NamesNoThing c
+    → MakesNoThing r → IsKeeping s
     → children_of s.trees o ≡ front ++ (list ++ rest) → KeepsOrder s (final (wrap c r list) s)
 
 -- of any nodes, where those that are taken, the children of the first parent, are consecutive and in order
 abbrev pub TakenWrap : Type 0
 TakenWrap =
-    (c : Criterion) (r : Recipe) (front list rest : List ℕ) (o : ℕ) (s : State) → NamesNoThing c → MakesNoThing r → IsKeeping s
-    → first_parent s list ≡ Some o → children_of s.trees o ≡ front ++ (members s o list ++ rest) → KeepsOrder s (final (wrap c r list) s)
+    (c : Criterion) (r : Recipe) (front list rest : List ℕ) (o : ℕ) (s : State) → NamesNoThing c
+    → MakesNoThing r → IsKeeping s
+    → first_parent s list ≡ Some o → children_of s.trees o ≡ front ++ (members s o list ++ rest)
+    → KeepsOrder s (final (wrap c r list) s)
 
 -- of one node
 abbrev pub OneWraps : Type 0

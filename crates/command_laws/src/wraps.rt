@@ -2,8 +2,8 @@
 
 ghost use Rattle.command_laws.specs.WrapLaws.{ListsWrap, TakenWrap, OneWraps, WrapsStateless};
 
-/// Wrapping a list keeps the order, where the list has consecutive children of a node, and neither a name that a criterion
-/// wants nor that of a new element is img or hr,
+/// Wrapping a list keeps the order, where the list has consecutive children of a node, and neither a name that a
+/// criterion wants nor that of a new element is img or hr,
 pub fn lists_wrap()
     ensures { ListsWrap }
 {}

@@ -1,4 +1,5 @@
--- The values that inline commands have at a node (HTML Editing APIs, "effective command value"). A value is a text or null.
+-- The values that inline commands have at a node (HTML Editing APIs, "effective command value"). A value is a text
+-- or null.
 use Rattle.std.specs.Prelude.{ℕ, zero, suc, Bool, true, false, ◌&&◌, if◌then◌else◌, List, [], ◌∷◌, Option, Some, None, is_some, codes, decimal}
 use Rattle.std.specs.List.{find, list_any}
 use Rattle.std.specs.Option.{option_map_or, option_and_then, unwrap_or}
@@ -28,7 +29,8 @@ use Rattle.command_value.specs.declared.subject.Subject.TheVariants.{Link, Backg
 
 -- an inherited property: what the innermost that has a value of its own gives
 abbrev pub inherited_in : {V : Type 0} → (Content → Option V) → V → List Ancestor → V
-inherited_in own initial line = unwrap_or (option_and_then (λ k. own k.content) (find (λ k. is_some (own k.content)) line)) initial
+inherited_in own initial line = unwrap_or (option_and_then (λ k. own k.content)
+    (find (λ k. is_some (own k.content)) line)) initial
 
 abbrev pub is_link : Content → Bool
 is_link c = is_named (codes "a") c && is_some (attribute c (codes "href"))
@@ -46,7 +48,8 @@ background_in turns [] = transparent
 background_in turns (k ∷ []) = background k.content
 background_in zero (k ∷ j ∷ line) = background k.content
 background_in (suc turns) (k ∷ j ∷ line) =
-    if (background k.content).clear && is_element j.content then background_in turns (j ∷ line) else background k.content
+    if (background k.content).clear && is_element j.content then background_in turns (j ∷ line)
+    else background k.content
 
 -- the innermost ones as long as they are inline
 abbrev pub inline_part : List Ancestor → List Ancestor
@@ -62,7 +65,8 @@ script_by false false = None
 -- whether a sub and whether a sup stands among the inline ones
 unfoldable pub script_in : List Ancestor → Option (List ℕ)
 script_in line =
-    script_by (list_any (λ k. is_named (codes "sub") k.content) (inline_part line)) (list_any (λ k. is_named (codes "sup") k.content) (inline_part line))
+    script_by (list_any (λ k. is_named (codes "sub") k.content) (inline_part line))
+    (list_any (λ k. is_named (codes "sup") k.content) (inline_part line))
 
 abbrev pub has_word : DecorationLine → TextDecoration → Bool
 has_word Underline d = d.underline

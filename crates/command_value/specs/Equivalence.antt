@@ -1,5 +1,5 @@
--- Which values of an inline command are the same (HTML Editing APIs, "equivalent values", "loosely equivalent values"). A
--- value is a text or null.
+-- Which values of an inline command are the same (HTML Editing APIs, "equivalent values", "loosely equivalent
+-- values"). A value is a text or null.
 use Rattle.std.specs.Prelude.{ℕ, ◌==◌, Bool, true, false, not, ◌&&◌, ◌||◌, if◌then◌else◌, List, Option, Some, None, bytes_eq, codes}
 use Rattle.std.specs.Option.{option_map_or}
 use Rattle.css_value.specs.declared.colours.Colour.{Colour}

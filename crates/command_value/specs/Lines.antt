@@ -1,5 +1,5 @@
--- What the code of command values has between: the lineage of a node that may not be there, where its inline part ends, and
--- the names of weights. No public clause cites this module.
+-- What the code of command values has between: the lineage of a node that may not be there, where its inline part
+-- ends, and the names of weights. No public clause cites this module.
 use Rattle.std.specs.Prelude.{ℕ, ◌==◌, Bool, ◌&&◌, ◌||◌, bytes_eq, codes, if◌then◌else◌, List, [], Option, Some, None}
 use Rattle.dom_model.specs.declared.Content.{Content}
 use Rattle.dom_model.specs.Contents.{is_element_at}

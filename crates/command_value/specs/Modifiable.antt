@@ -27,7 +27,8 @@ is_style_of group a = bytes_eq a.name (codes "style") && sets_only group (names_
 -- an a, b, em, font, i, s, span, strike, strong, sub, sup or u
 abbrev pub has_inline_name : Content → Bool
 has_inline_name c =
-    is_named_in (codes "a" ∷ codes "b" ∷ codes "em" ∷ codes "font" ∷ codes "i" ∷ codes "s" ∷ codes "span" ∷ codes "strike" ∷ codes "strong" ∷ codes "sub" ∷ codes "sup" ∷ codes "u" ∷ []) c
+    is_named_in (codes "a" ∷ codes "b" ∷ codes "em" ∷ codes "font" ∷ codes "i" ∷ codes "s" ∷ codes "span"
+    ∷ codes "strike" ∷ codes "strong" ∷ codes "sub" ∷ codes "sup" ∷ codes "u" ∷ []) c
 
 -- the style sets nothing
 abbrev pub is_bare : Content → Attribute → Bool
@@ -48,12 +49,14 @@ is_styled_italic c a = is_named_in (codes "i" ∷ codes "em" ∷ []) c && is_sty
 -- one property other than text-decoration
 abbrev pub is_styled_span : Content → Attribute → Bool
 is_styled_span c a =
-    is_named_in (codes "a" ∷ codes "font" ∷ codes "span" ∷ []) c && (is_style_of only.AnyOne a && not (is_style_of only.TextDecoration a))
+    is_named_in (codes "a" ∷ codes "font" ∷ codes "span" ∷ []) c
+    && (is_style_of only.AnyOne a && not (is_style_of only.TextDecoration a))
 
 -- the text-decoration is line-through, underline, overline or none
 abbrev pub is_line_word : List ℕ → Bool
 is_line_word text =
-    bytes_eq (codes "line-through") text || bytes_eq (codes "underline") text || bytes_eq (codes "overline") text || bytes_eq (codes "none") text
+    bytes_eq (codes "line-through") text || bytes_eq (codes "underline") text
+    || bytes_eq (codes "overline") text || bytes_eq (codes "none") text
 
 abbrev pub is_one_line : List ℕ → Bool
 is_one_line style = option_map_or is_line_word (value_of (declarations_in style) (codes "text-decoration")) false
@@ -94,7 +97,8 @@ has_only names list = list_all (λ a. is_one_of names a.name) list
 
 abbrev pub is_modifiable_plain : Content → List Attribute → Bool
 is_modifiable_plain c list =
-    is_named_in (codes "b" ∷ codes "em" ∷ codes "i" ∷ codes "s" ∷ codes "span" ∷ codes "strike" ∷ codes "strong" ∷ codes "sub" ∷ codes "sup" ∷ codes "u" ∷ []) c
+    is_named_in (codes "b" ∷ codes "em" ∷ codes "i" ∷ codes "s" ∷ codes "span" ∷ codes "strike" ∷ codes "strong"
+    ∷ codes "sub" ∷ codes "sup" ∷ codes "u" ∷ []) c
     && has_only (codes "style" ∷ []) list
 
 abbrev pub is_modifiable_font : Content → List Attribute → Bool
@@ -123,4 +127,5 @@ specifies_other f l command value =
 -- a simple modifiable element that gives the command this value, and has it
 unfoldable pub meets_value : Forest Content → ℕ → Command → List ℕ → Bool
 meets_value f l command value =
-    is_simple_modifiable f l && equivalent command (specified f l command) (Some value) && alike command (effective f l command) (Some value)
+    is_simple_modifiable f l && equivalent command (specified f l command) (Some value)
+    && alike command (effective f l command) (Some value)

@@ -1,5 +1,5 @@
--- The values that an element itself gives inline commands (HTML Editing APIs, "specified command value"). A value is a text
--- or null.
+-- The values that an element itself gives inline commands (HTML Editing APIs, "specified command value"). A value
+-- is a text or null.
 use Rattle.std.specs.Prelude.{ℕ, Bool, true, false, if◌then◌else◌, List, [], ◌∷◌, Option, Some, None, is_some, codes}
 use Rattle.std.specs.Option.{option_map, option_map_or, option_and_then, option_or}
 use Rattle.dom_model.specs.declared.Content.{Content}
@@ -64,11 +64,13 @@ line_of line c = if gives_line line c (declared c (codes "text-decoration")) the
 -- the valid value of the style, as it is written, else what the name stands for
 abbrev pub weight_of : Content → Option (List ℕ)
 weight_of c =
-    option_or (if_read font_weight_of (declared c (codes "font-weight"))) (if is_named_in (codes "b" ∷ codes "strong" ∷ []) c then Some (codes "bold") else None)
+    option_or (if_read font_weight_of (declared c (codes "font-weight")))
+    (if is_named_in (codes "b" ∷ codes "strong" ∷ []) c then Some (codes "bold") else None)
 
 abbrev pub slant_of : Content → Option (List ℕ)
 slant_of c =
-    option_or (if_read font_style_of (declared c (codes "font-style"))) (if is_named_in (codes "i" ∷ codes "em" ∷ []) c then Some (codes "italic") else None)
+    option_or (if_read font_style_of (declared c (codes "font-style")))
+    (if is_named_in (codes "i" ∷ codes "em" ∷ []) c then Some (codes "italic") else None)
 
 -- the valid value of the style, as it is written, else the hint of a font
 abbrev pub family_in : Content → Option (List ℕ)

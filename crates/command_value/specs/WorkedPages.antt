@@ -21,8 +21,12 @@ bold_page = page (plain (codes "b")) (text_node 2 (codes "x") Nil)
 
 -- <sub>a<sup>b</sup></sub>
 abbrev pub script_page : Forest Content
-script_page = page (plain (codes "sub")) (text_node 2 (codes "a") (Tree 3 (plain (codes "sup")) (text_node 4 (codes "b") Nil) Nil))
+script_page = page (plain (codes "sub")) (text_node 2 (codes "a")
+    (Tree 3 (plain (codes "sup")) (text_node 4 (codes "b") Nil) Nil))
 
 -- <font size="+1">x</font>
 abbrev pub size_page : Forest Content
-size_page = page (Element (codes "font") (record { name = codes "size"; value = codes "+1" } ∷ [])) (text_node 2 (codes "x") Nil)
+size_page = page (Element (codes "font") (record {
+  name = codes "size";
+  value = codes "+1";
+} ∷ [])) (text_node 2 (codes "x") Nil)

@@ -84,7 +84,8 @@ fn is_element<N: Nodes>(nodes: &N, node: NodeRef) -> bool
 pub(crate) fn element_of<N: Nodes>(nodes: &N, node: NodeRef) -> Option<NodeRef>
     requires { N.holds nodes.now node }
     ensures held { IfSome result (λ element. N.holds nodes.now element) }
-    ensures line { lineage_of (N.trees nodes.now) (label result) ≡ effective.element_line (lineage (N.trees nodes.now) node.label) }
+    ensures line { lineage_of (N.trees nodes.now) (label result)
+        ≡ effective.element_line (lineage (N.trees nodes.now) node.label) }
 {
     nodes.valid();
     if is_element(nodes, node) {
@@ -109,7 +110,8 @@ pub(crate) fn link_value<N: Nodes>(nodes: &N, element: NodeRef) -> Option<&[char
 // outside it do the nodes and characters of the document have to be counted.
 fn turns<N: Nodes>(nodes: &N, node: NodeRef) -> u128
     requires { N.holds nodes.now node }
-    ensures { effective.background_in result (lineage (N.trees nodes.now) node.label) ≡ effective.background_in (turn_bound (N.trees nodes.now)) (lineage (N.trees nodes.now) node.label) }
+    ensures { effective.background_in result (lineage (N.trees nodes.now) node.label)
+        ≡ effective.background_in (turn_bound (N.trees nodes.now)) (lineage (N.trees nodes.now) node.label) }
 {
     nodes.valid();
     if nodes.is_within(nodes.document(), node) {
@@ -135,7 +137,8 @@ fn parent_element<N: Nodes>(nodes: &N, node: NodeRef) -> Option<NodeRef>
 // The background that shows behind an element, as far as its ancestors are elements.
 pub(crate) fn background_value<N: Nodes>(nodes: &N, element: NodeRef) -> Colour
     requires { N.holds nodes.now element }
-    ensures { result ≡ effective.background_in (turn_bound (N.trees nodes.now)) (lineage (N.trees nodes.now) element.label) }
+    ensures { result ≡ effective.background_in (turn_bound (N.trees nodes.now))
+        (lineage (N.trees nodes.now) element.label) }
 {
     nodes.valid();
     let mut left = turns(nodes, element);
@@ -157,7 +160,8 @@ pub(crate) fn background_value<N: Nodes>(nodes: &N, element: NodeRef) -> Colour
 // Whether an element of a name stands among an element and its ancestors as long as they are inline.
 pub(crate) fn is_among_inline<N: Nodes>(nodes: &N, element: NodeRef, name: &'static [u8]) -> bool
     requires { N.holds nodes.now element }
-    ensures { result ≡ list_any (λ k. is_named name.now k.content) (effective.inline_part (lineage (N.trees nodes.now) element.label)) }
+    ensures { result ≡ list_any (λ k. is_named name.now k.content)
+        (effective.inline_part (lineage (N.trees nodes.now) element.label)) }
 {
     match nearest(nodes, element, &InlineEndTest { name }) {
         Some(found) => !is_block_content(nodes.content(found)),
@@ -229,7 +233,8 @@ pub(crate) fn value_if(text: Option<&[char]>) -> Value<'_>
 #[tactic(auto, unfolding(node_styles::specs::Resolved::font_weight, node_styles::specs::Resolved::font_style, node_styles::specs::Resolved::font_size, node_styles::specs::Resolved::font_family, node_styles::specs::Resolved::color, node_styles::specs::Lineage::nearest))]
 pub(crate) fn element_value<N: Nodes>(nodes: &N, element: NodeRef, subject: Subject) -> Value<'_>
     requires { N.holds nodes.now element }
-    ensures { value_text result ≡ effective.value_in (turn_bound (N.trees nodes.now)) subject (lineage (N.trees nodes.now) element.label) }
+    ensures { value_text result ≡ effective.value_in (turn_bound (N.trees nodes.now)) subject
+        (lineage (N.trees nodes.now) element.label) }
 {
     match subject {
         Subject::Link => value_if(link_value(nodes, element)),

@@ -53,7 +53,9 @@ fn is_slanted(slant: FontStyle) -> bool
 #[tactic(auto, using(crate::proofs::Shown::under_on, crate::proofs::Shown::through_on, crate::proofs::Shown::sub_on, crate::proofs::Shown::sup_on), unfolding(crate::specs::EffectiveValues::script_in, node_styles::specs::Resolved::font_weight, node_styles::specs::Resolved::font_style, node_styles::specs::Resolved::font_size, node_styles::specs::Resolved::font_family, node_styles::specs::Resolved::color, node_styles::specs::Lineage::nearest))]
 fn is_on<N: Nodes>(nodes: &N, element: NodeRef, command: Command) -> bool
     requires { N.holds nodes.now element }
-    ensures { result ≡ option_map_or (is_one_of (activated_values command)) (effective.value_in (turn_bound (N.trees nodes.now)) (subject command) (lineage (N.trees nodes.now) element.label)) Bool.false }
+    ensures { result ≡ option_map_or (is_one_of (activated_values command))
+        (effective.value_in (turn_bound (N.trees nodes.now)) (subject command)
+        (lineage (N.trees nodes.now) element.label)) Bool.false }
 {
     match command {
         Command::Bold => is_bold_weight(font_weight(nodes, element)),
@@ -146,7 +148,8 @@ fn is_alike_colour(command: Command, colour: Colour, text: &[char]) -> bool
 }
 
 fn is_alike_text(command: Command, value: Option<&[char]>, text: &[char]) -> bool
-    ensures { result ≡ option_map_or (λ own. equivalence.are_alike command own text.now) (option_copied value.entry) Bool.false }
+    ensures { result ≡ option_map_or (λ own. equivalence.are_alike command own text.now)
+        (option_copied value.entry) Bool.false }
 {
     match value {
         Some(own) => are_alike(command, own, text),
@@ -158,7 +161,9 @@ fn is_alike_text(command: Command, value: Option<&[char]>, text: &[char]) -> boo
 #[tactic(auto, using(crate::proofs::Shown::under_on, crate::proofs::Shown::through_on, crate::proofs::Shown::sub_on, crate::proofs::Shown::sup_on), unfolding(crate::specs::EffectiveValues::script_in, node_styles::specs::Resolved::font_weight, node_styles::specs::Resolved::font_style, node_styles::specs::Resolved::font_size, node_styles::specs::Resolved::font_family, node_styles::specs::Resolved::color, node_styles::specs::Lineage::nearest))]
 fn is_alike<N: Nodes>(nodes: &N, element: NodeRef, command: Command, text: &[char]) -> bool
     requires { N.holds nodes.now element }
-    ensures { result ≡ option_map_or (λ own. equivalence.are_alike command own text.now) (effective.value_in (turn_bound (N.trees nodes.now)) (subject command) (lineage (N.trees nodes.now) element.label)) Bool.false }
+    ensures { result ≡ option_map_or (λ own. equivalence.are_alike command own text.now)
+        (effective.value_in (turn_bound (N.trees nodes.now)) (subject command)
+        (lineage (N.trees nodes.now) element.label)) Bool.false }
 {
     match command {
         Command::Bold => is_alike_weight(font_weight(nodes, element), text),
@@ -196,7 +201,8 @@ fn is_alike<N: Nodes>(nodes: &N, element: NodeRef, command: Command, text: &[cha
 // Whether the effective value of a node is alike to a text.
 fn is_alike_at<N: Nodes>(nodes: &N, node: NodeRef, command: Command, text: &[char]) -> bool
     requires { N.holds nodes.now node }
-    ensures { result ≡ option_map_or (λ own. equivalence.are_alike command own text.now) (effective.effective (N.trees nodes.now) node.label command) Bool.false }
+    ensures { result ≡ option_map_or (λ own. equivalence.are_alike command own text.now)
+        (effective.effective (N.trees nodes.now) node.label command) Bool.false }
 {
     nodes.valid();
     match element_of(nodes, node) {
@@ -214,7 +220,8 @@ pub fn has_alike_value<N: Nodes>(
     value: Option<&[char]>,
 ) -> bool
     requires { N.holds nodes.now node }
-    ensures { result ≡ equivalence.alike command (effective.effective (N.trees nodes.now) node.label command) (option_copied value.entry) }
+    ensures { result ≡ equivalence.alike command (effective.effective (N.trees nodes.now) node.label command)
+        (option_copied value.entry) }
 {
     match value {
         Some(text) => is_alike_at(nodes, node, command, text),

@@ -32,7 +32,8 @@ pub(crate) fn is_one_of(table: &[&[u8]], name: &[u8]) -> bool
 
 // Whether a node is an element of one of these names.
 pub(crate) fn is_named_in(content: &Content, names: &[&[u8]]) -> bool
-    ensures { result ≡ option_map_or (λ name. list_any (λ row. bytes_eq row.now name) names.now) (name_in content.now) Bool.false }
+    ensures { result ≡ option_map_or (λ name. list_any (λ row. bytes_eq row.now name) names.now)
+        (name_in content.now) Bool.false }
 {
     match content {
         Content::Element { name, .. } => is_one_of(names, name.as_slice()),

@@ -52,7 +52,8 @@ hex_value c = if is_ascii_digit c then c - 48 else to_ascii_lowercase c - 87
 abbrev pub of_digits : List ℕ → Option Colour
 of_digits (r ∷ g ∷ b ∷ []) = Some (opaque_colour (17 * hex_value r) (17 * hex_value g) (17 * hex_value b))
 of_digits (r ∷ s ∷ g ∷ h ∷ b ∷ c ∷ []) =
-    Some (opaque_colour (16 * hex_value r + hex_value s) (16 * hex_value g + hex_value h) (16 * hex_value b + hex_value c))
+    Some (opaque_colour (16 * hex_value r + hex_value s) (16 * hex_value g + hex_value h)
+    (16 * hex_value b + hex_value c))
 of_digits _ = None
 
 -- `rgb` stands for `rrggbb`
@@ -62,7 +63,8 @@ hex_colour digits = if list_all is_ascii_hexdigit digits then of_digits digits e
 -- what stands before and after the first character of this code
 abbrev pub split_first : ℕ → List ℕ → Option (List ℕ × List ℕ)
 split_first stop [] = None
-split_first stop (c ∷ text) = if c == stop then Some ([], text) else option_map (λ p. (c ∷ p.0, p.1)) (split_first stop text)
+split_first stop (c ∷ text) = if c == stop then Some ([], text)
+    else option_map (λ p. (c ∷ p.0, p.1)) (split_first stop text)
 
 -- the number to 255 before the first character of this code, and the text after it
 abbrev pub number_before : Option (List ℕ × List ℕ) → Option (ℕ × List ℕ)
@@ -102,7 +104,8 @@ marked_colour [] = None
 marked_colour (c ∷ text) = if c == 35 then hex_colour text else None
 
 abbrev pub functional_colour : List ℕ → Option Colour
-functional_colour (r ∷ g ∷ b ∷ o ∷ text) = if bytes_eq (codes "rgb(") (r ∷ g ∷ b ∷ o ∷ []) then rgb_colour text else None
+functional_colour (r ∷ g ∷ b ∷ o ∷ text) = if bytes_eq (codes "rgb(") (r ∷ g ∷ b ∷ o ∷ []) then rgb_colour text
+    else None
 functional_colour _ = None
 
 -- `transparent`, a keyword, `#rgb`, `#rrggbb` or `rgb(r, g, b)`
@@ -115,4 +118,5 @@ colour_of text =
 unfoldable pub colour_text : Colour → List ℕ
 colour_text c =
     if c.clear then codes "rgba(0, 0, 0, 0)"
-    else codes "rgb(" ++ (decimal c.red ++ (codes ", " ++ (decimal c.green ++ (codes ", " ++ (decimal c.blue ++ codes ")")))))
+    else codes "rgb(" ++ (decimal c.red ++ (codes ", " ++ (decimal c.green
+    ++ (codes ", " ++ (decimal c.blue ++ codes ")")))))

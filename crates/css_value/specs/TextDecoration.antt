@@ -74,4 +74,5 @@ words_or_none (word ∷ more) = join_with_byte 32 (word ∷ more)
 -- the words of the lines that are drawn, in this order and joined by one space, or `none`
 unfoldable pub text_decoration_text : TextDecoration → List ℕ
 text_decoration_text d =
-    words_or_none (drawn d.underline line.Underline ++ (drawn d.overline line.Overline ++ drawn d.line_through line.LineThrough))
+    words_or_none (drawn d.underline line.Underline ++ (drawn d.overline line.Overline
+    ++ drawn d.line_through line.LineThrough))

@@ -38,7 +38,8 @@ impl Model for Declarations {
 
 // Gives a name a value in a map.
 fn put(map: &mut DeclarationMap, name: Vec<char>, value: Vec<char>) -> Result<(), AllocError>
-    ensures ok { OnOk result (declarations_of map.new.entries ≡ set_in (declarations_of map.old.entries) name.items value.items) }
+    ensures ok { OnOk result (declarations_of map.new.entries
+        ≡ set_in (declarations_of map.old.entries) name.items value.items) }
     ensures err { OnErr result (declarations_of map.new.entries ≡ declarations_of map.old.entries) }
 {
     map.insert(name, value)?;
@@ -56,8 +57,12 @@ fn has_name(map: &DeclarationMap, place: usize, name: &[u8]) -> bool
 
 // The place of a name in a map.
 fn place_of(map: &DeclarationMap, name: &[u8]) -> Option<usize>
-    ensures value { MatchOption result (value_of (declarations_of map.now.entries) name.now ≡ None) (λ place. value_of (declarations_of map.now.entries) name.now ≡ option_map (λ e. e.1.items) (slice_get map.now.entries place)) }
-    ensures left { MatchOption result (unset_in (declarations_of map.now.entries) name.now ≡ declarations_of map.now.entries) (λ place. unset_in (declarations_of map.now.entries) name.now ≡ declarations_of (remove map.now.entries place)) }
+    ensures value { MatchOption result (value_of (declarations_of map.now.entries) name.now ≡ None)
+        (λ place. value_of (declarations_of map.now.entries) name.now
+        ≡ option_map (λ e. e.1.items) (slice_get map.now.entries place)) }
+    ensures left { MatchOption result (unset_in (declarations_of map.now.entries) name.now
+        ≡ declarations_of map.now.entries) (λ place. unset_in (declarations_of map.now.entries) name.now
+        ≡ declarations_of (remove map.now.entries place)) }
 {
     for place in 0..map.len() {
         if has_name(map, place, name) {
@@ -92,7 +97,10 @@ fn push_declaration(
     value: &[char],
     is_first: bool,
 ) -> Result<(), AllocError>
-    ensures { OnOk result (text.new.items ≡ text.old.items ++ (gap is_first ++ (text_of (record { name = name.now; value = value.now }) ++ 59 ∷ []))) }
+    ensures { OnOk result (text.new.items ≡ text.old.items ++ (gap is_first ++ (text_of (record {
+      name = name.now;
+      value = value.now;
+    }) ++ 59 ∷ []))) }
 {
     if !is_first {
         text.push(' ')?;

@@ -82,7 +82,8 @@ fn split_word(text: &[char]) -> (&[char], &[char])
 
 // The first word of a text, and the text after it.
 fn first_word(text: &[char]) -> Option<(&[char], &[char])>
-    ensures words { MatchOption result (spec.words text.now ≡ []) (λ r. spec.words text.now ≡ r.0.now ∷ spec.words r.1.now) }
+    ensures words { MatchOption result (spec.words text.now ≡ [])
+        (λ r. spec.words text.now ≡ r.0.now ∷ spec.words r.1.now) }
     ensures nonempty { IfSome result (λ r. is_empty r.0.now ≡ false) }
     ensures shorter { IfSome result (λ r. length r.1.now < length text.now) }
 {
@@ -185,7 +186,8 @@ pub fn without_line(
     line: DecorationLine,
 ) -> Result<Vec<char>, AllocError>
     ensures text { IfOk result (λ left. left.items ≡ spec.without_line text.now line) }
-    ensures others { IfOk result (λ left. spec.words left.items ≡ filter (λ word. not (bytes_eq (spec.line_word line) word)) (spec.words text.now)) }
+    ensures others { IfOk result (λ left. spec.words left.items
+        ≡ filter (λ word. not (bytes_eq (spec.line_word line) word)) (spec.words text.now)) }
 {
     let mut left = Vec::new(alloc);
     let mut rest = text;

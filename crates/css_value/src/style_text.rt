@@ -157,7 +157,8 @@ pub(crate) fn is_named(text: &[char], name: &[u8]) -> bool
 // The length of the first piece of a text: up to its first `;` outside quotes and parentheses.
 pub(crate) fn piece_len(text: &[char]) -> usize
     ensures within { result ≤ length text.now }
-    ensures cut { result < length text.now → spec.pieces spec.outside text.now ≡ take result text.now ∷ spec.pieces spec.outside (drop (result + 1) text.now) }
+    ensures cut { result < length text.now → spec.pieces spec.outside text.now
+        ≡ take result text.now ∷ spec.pieces spec.outside (drop (result + 1) text.now) }
     ensures whole { length text.now ≤ result → spec.pieces spec.outside text.now ≡ text.now ∷ [] }
 {
     let mut nesting = Nesting::outside();
@@ -205,7 +206,10 @@ pub(crate) struct Stated<'a> {
 #[tactic(auto, unfolding(crate::specs::StyleText::declaration_of, crate::specs::StyleText::named))]
 // What a piece declares.
 pub(crate) fn declared_in(piece: &[char]) -> Option<Stated<'_>>
-    ensures { option_map (λ d. record { name = spec.lowered d.name.now; value = d.value.now }) result ≡ spec.declaration_of piece.now }
+    ensures { option_map (λ d. record {
+      name = spec.lowered d.name.now;
+      value = d.value.now;
+    }) result ≡ spec.declaration_of piece.now }
 {
     if !is_closed(piece) {
         return None;
@@ -236,7 +240,10 @@ fn split_piece(text: &[char]) -> (&[char], &[char])
 
 // The first declaration of a text, and the text after its piece.
 pub(crate) fn first_stated(text: &[char]) -> Option<(Stated<'_>, &[char])>
-    ensures stated { MatchOption result (spec.stated text.now ≡ []) (λ r. spec.stated text.now ≡ record { name = spec.lowered r.0.name.now; value = r.0.value.now } ∷ spec.stated r.1.now) }
+    ensures stated { MatchOption result (spec.stated text.now ≡ []) (λ r. spec.stated text.now ≡ record {
+      name = spec.lowered r.0.name.now;
+      value = r.0.value.now;
+    } ∷ spec.stated r.1.now) }
     ensures shorter { IfSome result (λ r. length r.1.now < length text.now) }
 {
     let mut rest = text;

@@ -15,7 +15,8 @@ pub(crate) fn chars_of(alloc: Global, name: &[u8]) -> Result<Vec<char>, AllocErr
 /// A weight as a number. One from 100 to 900 by hundreds is read back.
 pub fn print_font_weight(alloc: Global, weight: u16) -> Result<Vec<char>, AllocError>
     ensures text { IfOk result (λ text. text.items ≡ decimal weight) }
-    ensures read_back { IsTrue (spec.is_weight weight) → IfOk result (λ text. spec.font_weight_of text.items ≡ Some weight) }
+    ensures read_back { IsTrue (spec.is_weight weight) → IfOk result
+        (λ text. spec.font_weight_of text.items ≡ Some weight) }
 {
     let text = format!(in alloc; "{weight}")?;
     chars_of(alloc, text.as_bytes())

@@ -11,7 +11,8 @@ use Rattle.dom_model.specs.Forest.Forest.{Nil, Tree}
 
 -- the value of contenteditable, in lower case; None where there is no such attribute
 abbrev pub contenteditable : Content → Option (List ℕ)
-contenteditable (Element name attributes) = option_map (λ value. map to_ascii_lowercase value) (value_of attributes (codes "contenteditable"))
+contenteditable (Element name attributes) = option_map (λ value. map to_ascii_lowercase value)
+    (value_of attributes (codes "contenteditable"))
 contenteditable _ = None
 
 -- the true state: the value is empty or "true"; the false state: it is "false"; any other value is as

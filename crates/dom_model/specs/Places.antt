@@ -49,5 +49,6 @@ module _ {C : Type 0} where
   abbrev pub first_of_two : Forest C → ℕ → ℕ → Option ℕ
   first_of_two Nil a b = None
   first_of_two (Tree m c ks rest) a b =
-      if nat_lt 0 (count_of (Tree m c ks Nil) a) && nat_lt 0 (count_of (Tree m c ks Nil) b) then first_among (preorder (Tree m c ks Nil)) a b
+      if nat_lt 0 (count_of (Tree m c ks Nil) a) && nat_lt 0 (count_of (Tree m c ks Nil) b)
+      then first_among (preorder (Tree m c ks Nil)) a b
       else first_of_two rest a b

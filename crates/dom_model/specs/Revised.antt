@@ -10,4 +10,8 @@ module _ {C : Type 0} where
 
   -- what is seen of k afterwards
   abbrev pub revised_seen : ℕ → (C → C) → ℕ → Seen C → Seen C
-  revised_seen l g k s = record { parent = s.parent; content = if l == k then g s.content else s.content; children = s.children }
+  revised_seen l g k s = record {
+    parent = s.parent;
+    content = if l == k then g s.content else s.content;
+    children = s.children;
+  }

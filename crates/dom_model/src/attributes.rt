@@ -58,7 +58,10 @@ fn take(map: &mut IndexMap<Vec<u8>, Chars>, name: &[u8]) -> bool
 // The name and the value at a place of a map that has so many.
 fn entry_at<'a>(map: &'a IndexMap<Vec<u8>, Chars>, place: usize) -> (&'a [u8], &'a Chars)
     requires { place < length map.now.entries }
-    ensures { slice_get (attributes_of map.now.entries) place ≡ Some (record { name = result.0.now; value = result.1.now }) }
+    ensures { slice_get (attributes_of map.now.entries) place ≡ Some (record {
+      name = result.0.now;
+      value = result.1.now;
+    }) }
 {
     match map.get_index(place) {
         Some((name, value)) => (name.as_slice(), value),
@@ -135,7 +138,10 @@ impl Attributes {
 
     /// The name and the value at a place of the list.
     pub fn at(&self, place: usize) -> Option<(&[u8], &Chars)>
-        ensures { option_map (λ pair. record { name = pair.0.now; value = pair.1.now }) result ≡ slice_get self.now place }
+        ensures { option_map (λ pair. record {
+          name = pair.0.now;
+          value = pair.1.now;
+        }) result ≡ slice_get self.now place }
     {
         match &self.list {
             None => None,

@@ -102,7 +102,8 @@ pub fn move_all_before(doc: &mut Doc, list: &[NodeRef], other: NodeRef) -> Resul
     Ok(())
 }
 
-/// Moves each node of a list to just after another one, the last one first, so that they stand in the order of the list.
+/// Moves each node of a list to just after another one, the last one first, so that they stand in the order of the
+/// list.
 #[tactic(auto, using(edit_model::proofs::Steps::backs, edit_model::proofs::Steps::exits), unfolding(edit_model::specs::Moves::move_all_after))]
 pub fn move_all_after(doc: &mut Doc, list: &[NodeRef], other: NodeRef) -> Result<(), EditFault>
     requires open { IsOpen doc.old }
@@ -133,7 +134,8 @@ pub fn move_first(doc: &mut Doc, parent: NodeRef, node: NodeRef) -> Result<(), E
     Ok(())
 }
 
-/// Moves each node of a list to the front of another one, the last one first, so that they stand in the order of the list.
+/// Moves each node of a list to the front of another one, the last one first, so that they stand in the order of
+/// the list.
 #[tactic(auto, using(edit_model::proofs::Steps::backs, edit_model::proofs::Steps::exits), unfolding(edit_model::specs::Moves::move_all_first))]
 pub fn move_all_first(doc: &mut Doc, list: &[NodeRef], parent: NodeRef) -> Result<(), EditFault>
     requires open { IsOpen doc.old }

@@ -28,7 +28,8 @@ pub fn children_before(
 ) -> Result<Vec<NodeRef>, AllocError>
     requires { Holds doc.now node }
     ensures held { IfOk result (λ list. EachHeld doc.now list.items) }
-    ensures children { IfOk result (λ list. labels_of list.items ≡ until end.label (children_of doc.now.state.trees node.label)) }
+    ensures children { IfOk result (λ list. labels_of list.items
+        ≡ until end.label (children_of doc.now.state.trees node.label)) }
 {
     doc.valid();
     let mut list = Vec::new(alloc);
@@ -80,7 +81,8 @@ pub fn members(
 ) -> Result<Vec<NodeRef>, AllocError>
     requires { EachHeld doc.now list.now }
     ensures held { IfOk result (λ kept. EachHeld doc.now kept.items) }
-    ensures gives { IfOk result (λ kept. labels_of kept.items ≡ members doc.now.state parent.label (labels_of list.now)) }
+    ensures gives { IfOk result (λ kept. labels_of kept.items
+        ≡ members doc.now.state parent.label (labels_of list.now)) }
 {
     let mut kept = Vec::new(alloc);
     for member in list {

@@ -1,7 +1,8 @@
 //! edit_bench: makes an edit in a page, time and again, so that a script can measure what one time costs.
 //!
 //! `edit_bench ACT LABEL ROUNDS` reads a page from standard input, whose first node is an editing host. In each round a command
-//! begins, does the act to the node of that label, and is committed and undone. It prints how many edits all rounds made.
+//! begins, does the act to the node of that label, and is committed and undone. It prints how many edits all rounds
+//! made.
 //!
 //! | ACT | Does |
 //! |---|---|

@@ -19,9 +19,10 @@ pub record MakesNothing (t u : Trail) (c d : Command) : Type 0 where
   pub history : u ≡ with_log t (committed t.log)
   pub command : d ≡ c
 
--- Steps were noted. They make an entry, or join the resumed one, with the roots of the loose trees that the command detached;
--- what redo would take goes, and the oldest entry where there are too many.
-pub record MakesEntry (f : Forest Content) (after : Places) (counts : Counts) (t u : Trail) (c d : Command) (out : Option EntrySnapshot) : Type 0 where
+-- Steps were noted. They make an entry, or join the resumed one, with the roots of the loose trees that the command
+-- detached; what redo would take goes, and the oldest entry where there are too many.
+pub record MakesEntry (f : Forest Content) (after : Places) (counts : Counts) (t u : Trail) (c d : Command)
+    (out : Option EntrySnapshot) : Type 0 where
   pub some : 0 < length (noted t.log.open_entry)
   pub log : u.log ≡ committed t.log
   pub future : u.future ≡ []

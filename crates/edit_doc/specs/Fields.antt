@@ -1,4 +1,5 @@
--- What calls do to the fields of a running command and of what stands beside entries. No public clause cites this module.
+-- What calls do to the fields of a running command and of what stands beside entries. No public clause cites this
+-- module.
 use Rattle.std.specs.Prelude.{◌≡◌, ℕ, ◌+◌, ◌≤◌, min, if◌then◌else◌, Bool, true, false, ◌||◌, ◌&&◌, not, nat_le, List, [], ◌∷◌, take, drop, slice_get, Option, None}
 use Rattle.dom_model.specs.declared.Content.{Content}
 use Rattle.dom_model.specs.Forest.{Forest, depth_of, tree_of}
@@ -21,7 +22,8 @@ use Rattle.edit_doc.specs.declared.history.Way.{Way}
 use Rattle.edit_doc.specs.declared.history.Way.TheVariants.{Back, Forth}
 
 -- what a command keeps as it begins
-pub record IsKept (points : LivePoints) (overrides : List Setting) (flags : Flags) (counts : Counts) (k : Kept) : Type 0 where
+pub record IsKept (points : LivePoints) (overrides : List Setting) (flags : Flags) (counts : Counts)
+    (k : Kept) : Type 0 where
   pub shown : shown points.names k.places ≡ points
   pub over : IsOver points.names k.places
   pub overrides_are : k.overrides ≡ overrides
@@ -94,16 +96,21 @@ joined_sides s p counts = record s {
   depth_after = counts.depth;
 }
 
--- The command's entry is the first, in place of the one that it resumed, with these detached trees. Where there are too many
--- the oldest goes out.
-abbrev pub EntersIn : Bool → Sides → List NodeRef → Places → Counts → ℕ → List EntrySnapshot → List EntrySnapshot → Option EntrySnapshot → Type 0
-EntersIn false s detached p counts room us new out = (b : EntrySnapshot) × (b.sides ≡ s) × (b.detached.items ≡ detached) × (new ≡ take room (b ∷ us)) × (out ≡ slice_get (b ∷ us) room)
+-- The command's entry is the first, in place of the one that it resumed, with these detached trees. Where there are
+-- too many the oldest goes out.
+abbrev pub EntersIn : Bool → Sides → List NodeRef → Places → Counts → ℕ → List EntrySnapshot
+    → List EntrySnapshot → Option EntrySnapshot → Type 0
+EntersIn false s detached p counts room us new out = (b : EntrySnapshot) × (b.sides ≡ s)
+    × (b.detached.items ≡ detached) × (new ≡ take room (b ∷ us)) × (out ≡ slice_get (b ∷ us) room)
 EntersIn true s detached p counts room [] new out = ⊥
 EntersIn true s detached p counts room (b ∷ bs) [] out = ⊥
-EntersIn true s detached p counts room (b ∷ bs) (b' ∷ bs') out = (bs' ≡ bs) × ((b'.sides ≡ joined_sides b.sides p counts) × ((b'.detached.items ≡ detached) × (out ≡ None)))
+EntersIn true s detached p counts room (b ∷ bs) (b' ∷ bs') out = (bs' ≡ bs)
+    × ((b'.sides ≡ joined_sides b.sides p counts) × ((b'.detached.items ≡ detached) × (out ≡ None)))
 
-abbrev pub Enters : Command → List NodeRef → Places → Counts → ℕ → List EntrySnapshot → List EntrySnapshot → Option EntrySnapshot → Type 0
-Enters c detached p counts room us new out = EntersIn c.resumed (made_sides c p counts) detached p counts room us new out
+abbrev pub Enters : Command → List NodeRef → Places → Counts → ℕ → List EntrySnapshot → List EntrySnapshot
+    → Option EntrySnapshot → Type 0
+Enters c detached p counts room us new out = EntersIn c.resumed (made_sides c p counts) detached p counts room
+    us new out
 
 -- a number of the document, with that of a tree if that comes into it
 abbrev pub with_more : Bool → ℕ → ℕ → ℕ
@@ -113,8 +120,8 @@ with_more enters n more = if enters then n + more else n
 abbrev pub comes_in : Forest Content → ℕ → ℕ → Bool
 comes_in f n p = not (is_in_document f n) && is_in_document f p
 
--- the bound on the depth is no less than before, and no less than how deep the tree of n is below p if it comes to stand
--- there in the document
+-- the bound on the depth is no less than before, and no less than how deep the tree of n is below p if it comes to
+-- stand there in the document
 pub record IsRaised (f : Forest Content) (p n : ℕ) (there : Bool) (old new : ℕ) : Type 0 where
   pub stays : old ≤ new
   pub reach : there ≡ true → min (depth_of f p + levels (tree_of f n)) 4294967295 ≤ new

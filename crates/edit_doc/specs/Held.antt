@@ -25,7 +25,8 @@ pub record Finds (d : Whole) (o : Option NodeRef) (l : Option ℕ) : Type 0 wher
   pub is : label_of o ≡ l
   pub held : IfHeld d o
 
--- what an editing call keeps, also where it gives up: what was held is held, the history, the cap, and how the command began
+-- what an editing call keeps, also where it gives up: what was held is held, the history, the cap, and how the
+-- command began
 pub record Keeps (old new : Whole) : Type 0 where
   pub held : (r : NodeRef) → Holds old r → Holds new r
   pub history : new.history ≡ old.history

@@ -1,7 +1,7 @@
 -- How the fields of a document under edits give its state and its history. No public clause cites this module.
 --
--- The history is computed: undoing the noted steps of the open entry gives the forest as the command began, and from there
--- undoing, or redoing, an entry at a time gives the forest at each kept place of the history.
+-- The history is computed: undoing the noted steps of the open entry gives the forest as the command began, and
+-- from there undoing, or redoing, an entry at a time gives the forest at each kept place of the history.
 use Rattle.std.specs.Prelude.{ℕ, Bool, false, true, ◌&&◌, nat_lt, nat_le, if◌then◌else◌, List, [], ◌∷◌, map, Option, Some, None}
 use Rattle.dom_model.specs.declared.Content.{Content}
 use Rattle.dom_model.specs.Change.{Change}

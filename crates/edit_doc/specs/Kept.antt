@@ -10,8 +10,8 @@ use Rattle.forest_changes.specs.Named.{named_in}
 use Rattle.edit_model.specs.History.{Entry, document_of}
 use Rattle.edit_doc.specs.Whole.{Whole}
 
--- the changes, which take back the edits of the entry, lead from the forest with the document after it to one with the document
--- before it
+-- the changes, which take back the edits of the entry, lead from the forest with the document after it to one with
+-- the document before it
 pub record LeadsBack (f : Forest Content) (xs : List Change) (e : Entry) : Type 0 where
   pub fits : FitsBack applied Fits xs f
   pub own : inverses_back applied inverse xs f ≡ e.edits
@@ -49,8 +49,8 @@ pub record AreInTree (f : Forest Content) (r l m : ℕ) : Type 0 where
   pub has : IsWithin f r l
   pub has_too : IsWithin f r m
 
--- The forest has the nodes that are held, the changes lead from it through the history, and each node is in the document
--- or in a tree with a node that one of the changes names.
+-- The forest has the nodes that are held, the changes lead from it through the history, and each node is in the
+-- document or in a tree with a node that one of the changes names.
 pub record IsNeeded (d : Whole) (f : Forest Content) (undone redone : List (List Change)) : Type 0 where
   pub forest : IsForest f
   pub document : document_of f ≡ d.state.trees
@@ -58,7 +58,9 @@ pub record IsNeeded (d : Whole) (f : Forest Content) (undone redone : List (List
   pub slotted : (l : ℕ) → 0 < count_of f l → slice_index_or d.held (slot_of d.held l) None ≡ Some l
   pub undo : LeadAllBack f undone d.history.undo
   pub redo : LeadAllForth f redone d.history.redo
-  pub needed : (l : ℕ) → 0 < count_of f l → IsWithin f 0 l ⊎ ((r : ℕ) × (m : ℕ) × AreInTree f r l m × (IsNamed undone m ⊎ IsNamed redone m))
+  pub needed : (l : ℕ) → 0 < count_of f l → IsWithin f 0 l ⊎ ((r : ℕ) × (m : ℕ) × AreInTree f r l m
+      × (IsNamed undone m ⊎ IsNamed redone m))
 
 abbrev pub HoldsOnlyNeeded : Whole → Type 0
-HoldsOnlyNeeded d = (f : Forest Content) × (undone : List (List Change)) × (redone : List (List Change)) × IsNeeded d f undone redone
+HoldsOnlyNeeded d = (f : Forest Content) × (undone : List (List Change)) × (redone : List (List Change))
+    × IsNeeded d f undone redone

@@ -13,7 +13,8 @@ use Rattle.edit_doc.specs.declared.logged.LoggedEdit.{LoggedEdit}
 use Rattle.edit_doc.specs.declared.logged.LoggedEdit.TheVariants.{Remove, Insert, Move, Words, Attributes}
 use Rattle.edit_doc.specs.declared.logged.MadeNode.{MadeNode}
 
--- the nodes that the commands of an entry made and its edits name, each as made, and its edits, from the first to the last
+-- the nodes that the commands of an entry made and its edits name, each as made, and its edits, from the first to
+-- the last
 pub record Logged : Type 0 where
   pub made : List MadeNode
   pub edits : List LoggedEdit
@@ -56,15 +57,19 @@ node_at f l = option_map_or (λ c. (l, c) ∷ []) (content_of f l) []
 abbrev pub TellNamed : ℕ → List ℕ → List Bool → Type 0
 TellNamed first ls marks = (i : ℕ) → i < length marks → slice_index_or marks i false ≡ has_label ls (first + i)
 
--- These are the entries that undo and redo would take, and all else but the document and the points and overrides at it is as
--- it was.
+-- These are the entries that undo and redo would take, and all else but the document and the points and overrides
+-- at it is as it was.
 pub record HasMoved (old new : Whole) (us rs : List Entry) : Type 0 where
   pub undo : new.history.undo ≡ us
   pub redo : new.history.redo ≡ rs
   pub rest : new ≡ record old {
     state = record old.state {
       trees = new.state.trees;
-      points = record old.state.points { selection = new.state.points.selection; scratch = new.state.points.scratch; marks = new.state.points.marks };
+      points = record old.state.points {
+        selection = new.state.points.selection;
+        scratch = new.state.points.scratch;
+        marks = new.state.points.marks;
+      };
       overrides = new.state.overrides;
     };
     history = record old.history { undo = us; redo = rs };

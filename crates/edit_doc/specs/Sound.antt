@@ -81,11 +81,12 @@ EntriesOff l f (e ∷ es) = Each (IsOff f l) (named_in (changes_of e)) × Entrie
 abbrev pub AreNeeded : ℕ → Forest Content → List (List Step) → List (List Step) → Type 0
 AreNeeded start f es fs = (l : ℕ) → 0 < l → l < start → 0 < times (tops f) l → EntriesOff l f es → EntriesOff l f fs → ⊥
 
--- An entry that leads from one forest to another. Its steps name only nodes that its commands saw, on both sides: those of
--- the document before it, and those that they made, with labels below `high`, the first that a later entry can have; and so
--- do those that the steps turn into. The trees that they didn't see are still loose after it, and so are those that it
--- left loose.
-pub record IsSnapshot (names : List (List ℕ)) (before after : Forest Content) (e : List Step) (turns : List Change) (b : EntrySnapshot) (detached : List NodeRef) (high start : ℕ) : Type 0 where
+-- An entry that leads from one forest to another. Its steps name only nodes that its commands saw, on both sides:
+-- those of the document before it, and those that they made, with labels below `high`, the first that a later entry
+-- can have; and so do those that the steps turn into. The trees that they didn't see are still loose after it, and
+-- so are those that it left loose.
+pub record IsSnapshot (names : List (List ℕ)) (before after : Forest Content) (e : List Step)
+    (turns : List Change) (b : EntrySnapshot) (detached : List NodeRef) (high start : ℕ) : Type 0 where
   pub was : IsSide names before b.sides.before b.sides.nodes_before b.sides.chars_before b.sides.depth_before
   pub is : IsSide names after b.sides.after b.sides.nodes_after b.sides.chars_after b.sides.depth_after
   pub some_label : 0 < b.sides.first_label
@@ -98,7 +99,9 @@ pub record IsSnapshot (names : List (List ℕ)) (before after : Forest Content) 
   pub names_old : Each (λ l. l < high) (named_in (changes_of e))
   pub turns_old : Each (λ l. l < high) (named_in turns)
   pub detached_loose : Each (λ l. (0 < l) × ((l < high) × (parent_of after l ≡ None))) (labels_of detached)
-  pub detached_all : (l : ℕ) → 0 < l → 0 < times (tops after) l → (Each (IsOff after l) (named_in (changes_of e)) → Each (IsOff after l) (named_in turns) → ⊥) → has_label (labels_of detached) l ≡ true
+  pub detached_all : (l : ℕ) → 0 < l → 0 < times (tops after) l
+      → (Each (IsOff after l) (named_in (changes_of e)) → Each (IsOff after l) (named_in turns) → ⊥)
+      → has_label (labels_of detached) l ≡ true
 
 -- ---- the history over a forest
 
@@ -124,8 +127,8 @@ abbrev pub turned : Way → List Step → Forest Content → List Change
 turned Back e f = inverses_back applied inverse (changes_of e) f
 turned Forth e f = inverses_forth applied inverse (changes_of e) f
 
--- The labels of an entry are below those of the later entries: going back, below the bound that the entry before gave, and
--- going forth, below the first of the entry that follows.
+-- The labels of an entry are below those of the later entries: going back, below the bound that the entry before
+-- gave, and going forth, below the first of the entry that follows.
 abbrev pub bound_of : Way → ℕ → ℕ → List EntrySnapshot → ℕ
 bound_of Back high start bs = high
 bound_of Forth high start bs = next_first start bs
@@ -135,19 +138,23 @@ next_bound Back high b = b.sides.first_label
 next_bound Forth high b = high
 
 -- the entries lie that way from the forest on, each with its snapshot
-abbrev pub Lies : Way → List (Option ℕ) → List (List ℕ) → Bool → Command → ℕ → Forest Content → List (List Step) → List EntrySnapshot → Type 0
+abbrev pub Lies : Way → List (Option ℕ) → List (List ℕ) → Bool → Command → ℕ → Forest Content → List (List Step)
+    → List EntrySnapshot → Type 0
 Lies w held names resumed c high f [] [] = Unit {0}
 Lies w held names resumed c high f [] (b ∷ bs) = ⊥
 Lies w held names resumed c high f (e ∷ es) [] = ⊥
 Lies w held names resumed c high f (e ∷ es) (b ∷ bs) =
     CanGo w held e f
-    × (IsSnapshot names (older w f (led w e f)) (newer w f (led w e f)) e (turned w e f) b (detached_of resumed c b) (bound_of w high c.start bs) c.start
+    × (IsSnapshot names (older w f (led w e f)) (newer w f (led w e f)) e (turned w e f) b
+    (detached_of resumed c b) (bound_of w high c.start bs) c.start
     × Lies w held names false c (next_bound w high b) (led w e f) es bs)
 
-abbrev pub UndoSound : List (Option ℕ) → List (List ℕ) → Bool → Command → ℕ → Forest Content → List (List Step) → List EntrySnapshot → Type 0
+abbrev pub UndoSound : List (Option ℕ) → List (List ℕ) → Bool → Command → ℕ → Forest Content → List (List Step)
+    → List EntrySnapshot → Type 0
 UndoSound = Lies Back
 
-abbrev pub RedoSound : List (Option ℕ) → List (List ℕ) → Command → Forest Content → List (List Step) → List EntrySnapshot → Type 0
+abbrev pub RedoSound : List (Option ℕ) → List (List ℕ) → Command → Forest Content → List (List Step)
+    → List EntrySnapshot → Type 0
 RedoSound held names c f es bs = Lies Forth held names false c 0 f es bs
 
 -- ---- the running command
@@ -163,7 +170,8 @@ pub record IsIdle (c : Command) (points : LivePoints) (next : ℕ) : Type 0 wher
   pub scratch : points.scratch ≡ None
 
 -- what a command keeps of its begin is as it was, and what it changes is seen
-pub record IsRunning (a : Arena) (names : List (List ℕ)) (c : Command) (xs : List Step) (g : Forest Content) : Type 0 where
+pub record IsRunning (a : Arena) (names : List (List ℕ)) (c : Command) (xs : List Step)
+    (g : Forest Content) : Type 0 where
   pub kept : IsSide names g c.kept.places c.kept.counts.nodes c.kept.counts.chars c.kept.counts.depth
   pub settings : length c.kept.overrides ≡ 32
   pub made : AreAlone g c.start a.next
@@ -172,10 +180,13 @@ pub record IsRunning (a : Arena) (names : List (List ℕ)) (c : Command) (xs : L
   pub marks : length c.named.items + c.start ≡ a.next
   pub marked : Each (IsMarked c) (named_in (changes_of xs))
   pub marked_inverse : Each (IsMarked c) (named_in (inverses_back applied inverse (changes_of xs) a.trees))
-  pub named_all : (l : ℕ) → has_named c l ≡ true → (has_label (named_in (changes_of xs)) l ≡ true) ⊎ (has_label (named_in (inverses_back applied inverse (changes_of xs) a.trees)) l ≡ true)
+  pub named_all : (l : ℕ) → has_named c l ≡ true → (has_label (named_in (changes_of xs)) l ≡ true)
+      ⊎ (has_label (named_in (inverses_back applied inverse (changes_of xs) a.trees)) l ≡ true)
   pub detached_before : c.detached_before ≤ length c.detached.items
-  pub detached_seen : Each (λ l. 0 < count_of (pruned (is_hidden g c.start) a.trees) l) (labels_of (drop c.detached_before c.detached.items))
-  pub newly_detached : (l : ℕ) → 0 < l → 0 < times (tops (pruned (is_hidden g c.start) a.trees)) l → has_label (labels_of (drop c.detached_before c.detached.items)) l ≡ true
+  pub detached_seen : Each (λ l. 0 < count_of (pruned (is_hidden g c.start) a.trees) l)
+      (labels_of (drop c.detached_before c.detached.items))
+  pub newly_detached : (l : ℕ) → 0 < l → 0 < times (tops (pruned (is_hidden g c.start) a.trees)) l
+      → has_label (labels_of (drop c.detached_before c.detached.items)) l ≡ true
 
 abbrev pub OpenSound : Arena → LivePoints → Command → Forest Content → Open Step → Type 0
 OpenSound a points c g Closed = IsIdle c points a.next
@@ -186,10 +197,12 @@ OpenSound a points c g o = IsRunning a points.names c (noted o) g
 pub record IsSoundDoc (t : Live) (c : Command) (h : Trail) : Type 0 where
   pub valid : IsValid (state_of t c h.log)
   pub some_label : 0 < c.start
-  pub hidden : (l : ℕ) → is_hidden (begun_forest h.log t.arena.trees) c.start l ≡ true → 0 < times (tops t.arena.trees) l
+  pub hidden : (l : ℕ) → is_hidden (begun_forest h.log t.arena.trees) c.start l ≡ true
+      → 0 < times (tops t.arena.trees) l
   pub running : OpenSound t.arena t.points c (begun_forest h.log t.arena.trees) h.log.open_entry
   pub resumed : c.resumed ≡ is_resumed h.log.open_entry
   pub host : IfSome c.host (λ r. RefIn t.arena.held r × (0 < count_of (seen_trees h.log c.start t.arena.trees) r.label))
-  pub undo : UndoSound t.arena.held t.points.names c.resumed c (next_first c.start h.future) (begun_forest h.log t.arena.trees) h.log.undo h.past
+  pub undo : UndoSound t.arena.held t.points.names c.resumed c (next_first c.start h.future)
+      (begun_forest h.log t.arena.trees) h.log.undo h.past
   pub redo : RedoSound t.arena.held t.points.names c (begun_forest h.log t.arena.trees) h.log.redo h.future
   pub needed : AreNeeded c.start (begun_forest h.log t.arena.trees) h.log.undo h.log.redo

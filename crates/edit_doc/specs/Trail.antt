@@ -1,5 +1,5 @@
--- The value of the history of a document: the log of the steps, and a snapshot beside each of its entries. No public clause
--- cites this module.
+-- The value of the history of a document: the log of the steps, and a snapshot beside each of its entries. No
+-- public clause cites this module.
 use Rattle.std.specs.Prelude.{◌≡◌, ℕ, List, [], ◌++◌, length, take, drop}
 use Rattle.dom_model.specs.ArenaState.{ArenaState as Arena}
 use Rattle.undo_log.specs.Log.{Log, IsLog, FitsUndo, FitsRedo, empty, with_step, undone, redone, undone_state, redone_state}

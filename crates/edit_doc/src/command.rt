@@ -12,8 +12,8 @@ use live_range::{Places, Points};
 use node_arena::NodeRef;
 use std::alloc::Global;
 
-/// Where the points stand just before and just after the commands of an entry, the next label as the first of them began,
-/// and the numbers of the document on both sides.
+/// Where the points stand just before and just after the commands of an entry, the next label as the first of them
+/// began, and the numbers of the document on both sides.
 #[derive(Clone, Copy)]
 pub struct Sides {
     pub before: Places,
@@ -57,8 +57,8 @@ impl Sides {
     }
 }
 
-// What is kept beside an entry: its sides, and the roots of the trees that its commands detached, which go when the entry
-// does.
+// What is kept beside an entry: its sides, and the roots of the trees that its commands detached, which go when the
+// entry does.
 #[derive(Drop)]
 pub(crate) struct EntrySnapshot {
     pub(crate) sides: Sides,

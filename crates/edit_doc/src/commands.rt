@@ -17,8 +17,8 @@ use std::sync::ledger::Ledger;
 use step_count::Steps;
 
 impl Doc {
-    /// Begins a command with this affected editing host. A keeping command removes no image, no rule and no characters but
-    /// tab, LF, CR and space.
+    /// Begins a command with this affected editing host. A keeping command removes no image, no rule and no
+    /// characters but tab, LF, CR and space.
     pub fn begin(&mut self, host: Option<NodeRef>, keeping: bool) -> Result<(), AllocError>
         requires closed { IsClosed self.old }
         requires host_held { IfHeld self.old host }
@@ -38,8 +38,10 @@ impl Doc {
     pub fn resume(&mut self, host: Option<NodeRef>) -> Result<bool, AllocError>
         requires closed { IsClosed self.old }
         requires host_held { IfHeld self.old host }
-        ensures answer { IfOk result (λ b. IsTrue b ↔ ((0 < length self.old.history.undo) × (self.old.history.redo ≡ []))) }
-        ensures begun { IfOk result (λ b. self.new ≡ (if b then opened (label_of host) false true self.old else self.old)) }
+        ensures answer { IfOk result
+            (λ b. IsTrue b ↔ ((0 < length self.old.history.undo) × (self.old.history.redo ≡ []))) }
+        ensures begun { IfOk result
+            (λ b. self.new ≡ (if b then opened (label_of host) false true self.old else self.old)) }
         ensures err { OnErr result (self.new ≡ self.old) }
     {
         self.tree.nodes.arena.valid();
@@ -55,7 +57,8 @@ impl Doc {
         Ok(true)
     }
 
-    /// Ends the command. Loose trees and the scratch pair go; with an edit the history has an entry for it, or a longer one.
+    /// Ends the command. Loose trees and the scratch pair go; with an edit the history has an entry for it, or a
+    /// longer one.
     pub fn commit(&mut self) -> Committed
         requires open { IsOpen self.old }
         ensures answer { (result ≡ Committed.Entry) ↔ (0 < length self.old.state.edits) }
@@ -123,7 +126,10 @@ impl Doc {
     pub fn undo<L: Ledger>(&mut self, steps: &mut Steps<L>) -> bool
         requires closed { IsClosed self.old }
         ensures answer { IsTrue result ↔ (0 < length self.old.history.undo) }
-        ensures doc { self.new ≡ record self.old { state = undone_state self.old.history self.old.state; history = undone_history self.old.history } }
+        ensures doc { self.new ≡ record self.old {
+          state = undone_state self.old.history self.old.state;
+          history = undone_history self.old.history;
+        } }
         ensures count { steps.new ≡ steps.old + first_edits self.old.history.undo }
     {
         self.turn(Way::Back, steps)
@@ -133,7 +139,10 @@ impl Doc {
     pub fn redo<L: Ledger>(&mut self, steps: &mut Steps<L>) -> bool
         requires closed { IsClosed self.old }
         ensures answer { IsTrue result ↔ (0 < length self.old.history.redo) }
-        ensures doc { self.new ≡ record self.old { state = redone_state self.old.history self.old.state; history = redone_history self.old.history } }
+        ensures doc { self.new ≡ record self.old {
+          state = redone_state self.old.history self.old.state;
+          history = redone_history self.old.history;
+        } }
         ensures count { steps.new ≡ steps.old + first_edits self.old.history.redo }
     {
         self.turn(Way::Forth, steps)

@@ -18,8 +18,8 @@ use node_arena::has_name;
 use std::alloc::AllocError;
 
 impl Doc {
-    /// Splits a text at an offset (DOM Standard, "split a Text node") and answers the new text with the tail. A node without
-    /// a parent stays as it is and is the answer.
+    /// Splits a text at an offset (DOM Standard, "split a Text node") and answers the new text with the tail. A
+    /// node without a parent stays as it is and is the answer.
     #[tactic(auto, using(edit_model::proofs::Steps::exits), unfolding(edit_model::specs::Compositions::split_words))]
     pub fn split_words(&mut self, node: NodeRef, at: u32) -> Result<NodeRef, EditFault>
         requires open { IsOpen self.old }
@@ -34,8 +34,8 @@ impl Doc {
         }
     }
 
-    /// Sets the tag name of an element (HTML Editing APIs) and answers the element that has it: a new one in its place, or
-    /// the element itself where it has the name, no parent, or isn't editable.
+    /// Sets the tag name of an element (HTML Editing APIs) and answers the element that has it: a new one in its
+    /// place, or the element itself where it has the name, no parent, or isn't editable.
     #[tactic(auto, using(edit_model::proofs::Steps::exits), unfolding(edit_model::specs::Compositions::set_tag_name))]
     pub fn set_tag_name(&mut self, node: NodeRef, name: &Name) -> Result<NodeRef, EditFault>
         requires open { IsOpen self.old }
@@ -81,7 +81,9 @@ impl Doc {
     fn send_points(&mut self, after: Point, node: NodeRef, at: u32, tail: NodeRef, inserted: bool)
         requires node_held { Holds self.old node }
         requires tail_held { Holds self.old tail }
-        ensures sent { (i : ℕ) → after.offset ≡ i + 1 → self.new ≡ with_state self.old (final (points_sent after.label i node.label at tail.label inserted) self.old.state) }
+        ensures sent { (i : ℕ) → after.offset ≡ i + 1 → self.new
+            ≡ with_state self.old (final (points_sent after.label i node.label at tail.label inserted)
+            self.old.state) }
         ensures keeps { Keeps self.old self.new }
     {
         if inserted {
@@ -96,7 +98,8 @@ impl Doc {
         requires open { IsOpen self.old }
         requires parent_held { Holds self.old parent }
         requires node_held { Holds self.old node }
-        ensures gives { GivesNode result self.old.state self.new.state (split_under parent.label self.old.state node.label at) }
+        ensures gives { GivesNode result self.old.state self.new.state
+            (split_under parent.label self.old.state node.label at) }
         ensures held { IfOk result (λ r. Holds self.new r) }
         ensures keeps { Keeps self.old self.new }
     {
@@ -129,7 +132,8 @@ impl Doc {
         Ok(list)
     }
 
-    /// Moves each node of a list, in its order, to the end of another one. A node that may not go there stays where it is.
+    /// Moves each node of a list, in its order, to the end of another one. A node that may not go there stays where
+    /// it is.
     #[tactic(auto, using(edit_model::proofs::Steps::eachs, edit_model::proofs::Steps::exits), unfolding(edit_model::specs::Moves::move_each_last))]
     pub fn move_each_last(&mut self, list: &[NodeRef], to: NodeRef) -> Result<(), EditFault>
         requires open { IsOpen self.old }
@@ -156,7 +160,8 @@ impl Doc {
         requires parent_held { Holds self.old parent }
         requires node_held { Holds self.old node }
         requires element { is_element_at self.old.state.trees node.label ≡ true }
-        ensures gives { GivesNode result self.old.state self.new.state (renamed parent.label self.old.state node.label name.now) }
+        ensures gives { GivesNode result self.old.state self.new.state
+            (renamed parent.label self.old.state node.label name.now) }
         ensures held { IfOk result (λ r. Holds self.new r) }
         ensures keeps { Keeps self.old self.new }
     {

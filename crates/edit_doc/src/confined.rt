@@ -82,7 +82,9 @@ impl Doc {
         requires parent_held { Holds self.now parent }
         requires before_held { IfHeld self.now before }
         requires node_held { Holds self.now node }
-        ensures { result ≡ (is_parent_at self.now.state.trees parent.label && (not (is_within self.now.state.trees node.label parent.label) && is_place self.now.state.trees parent.label (label_of before) node.label)) }
+        ensures { result ≡ (is_parent_at self.now.state.trees parent.label
+            && (not (is_within self.now.state.trees node.label parent.label)
+            && is_place self.now.state.trees parent.label (label_of before) node.label)) }
     {
         self.is_parent(parent)
             && self.is_place(parent, before, node)

@@ -26,8 +26,8 @@ pub(crate) struct CountedArena {
 }
 
 impl CountedArena {
-    // Makes a change, with the numbers after it, and notes the step that takes it back. Where there is no memory for the
-    // note the change is taken back.
+    // Makes a change, with the numbers after it, and notes the step that takes it back. Where there is no memory
+    // for the note the change is taken back.
     pub(crate) fn change(
         &mut self,
         history: &mut History,

@@ -52,8 +52,10 @@ impl Doc {
         requires parent_held { Holds self.old parent }
         requires before_held { IfHeld self.old before }
         requires node_held { Holds self.old node }
-        requires possible { is_made_edit (Insert parent.label (label_of before) node.label) (freed self.old.state) ≡ true }
-        ensures linked { OnOk result (self.new.state ≡ applied (Insert parent.label (label_of before) node.label) self.old.state) }
+        requires possible { is_made_edit (Insert parent.label (label_of before) node.label)
+            (freed self.old.state) ≡ true }
+        ensures linked { OnOk result (self.new.state ≡ applied
+            (Insert parent.label (label_of before) node.label) self.old.state) }
         ensures fault { IfErr result (λ fault. fault ≡ EditFault.Memory) }
         ensures keeps { Keeps self.old self.new }
         ensures err { OnErr result (self.new ≡ self.old) }
@@ -135,8 +137,8 @@ impl Doc {
         Ok(())
     }
 
-    /// Moves the tree of a node under a parent, before one of its children or at the end, with the points in it. Answers
-    /// whether it was moved.
+    /// Moves the tree of a node under a parent, before one of its children or at the end, with the points in it.
+    /// Answers whether it was moved.
     pub fn move_keeping(
         &mut self,
         node: NodeRef,
@@ -229,8 +231,8 @@ impl Doc {
         Ok(true)
     }
 
-    /// Sets an attribute of an element: one that is there keeps its place, a new one goes last. Answers whether the list
-    /// changed.
+    /// Sets an attribute of an element: one that is there keeps its place, a new one goes last. Answers whether the
+    /// list changed.
     pub fn set_attribute(
         &mut self,
         node: NodeRef,

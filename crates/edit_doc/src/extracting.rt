@@ -47,7 +47,10 @@ impl Doc {
     fn has_tail(&self, node: NodeRef, end: NodeRef) -> bool
         requires node_held { Holds self.now node }
         requires end_held { Holds self.now end }
-        ensures { result ≡ (is_editable_for self.now.state end.label && (is_in_document self.now.state.trees end.label && (is_editable_for self.now.state node.label && (is_parent_at self.now.state.trees node.label && is_within self.now.state.trees end.label node.label)))) }
+        ensures { result ≡ (is_editable_for self.now.state end.label
+            && (is_in_document self.now.state.trees end.label
+            && (is_editable_for self.now.state node.label && (is_parent_at self.now.state.trees node.label
+            && is_within self.now.state.trees end.label node.label)))) }
     {
         if !self.is_editable_for(end) {
             return false;
@@ -65,7 +68,10 @@ impl Doc {
     fn takes_tail(&self, end: NodeRef, target: NodeRef) -> bool
         requires end_held { Holds self.now end }
         requires target_held { Holds self.now target }
-        ensures { result ≡ (is_made self.now.state target.label && (is_in_document self.now.state.trees target.label && (is_parent_at self.now.state.trees target.label && not (is_within self.now.state.trees end.label target.label)))) }
+        ensures { result ≡ (is_made self.now.state target.label
+            && (is_in_document self.now.state.trees target.label
+            && (is_parent_at self.now.state.trees target.label
+            && not (is_within self.now.state.trees end.label target.label)))) }
     {
         if !self.is_made(target) {
             return false;
@@ -105,7 +111,8 @@ impl Doc {
         requires end_held { Holds self.old end }
         requires target_held { Holds self.old target }
         requires possible { are_possible (tail_at self.old.state from end.label target.label) self.old.state ≡ true }
-        ensures steps { MakesSteps result self.old.state self.new.state (tail_at self.old.state from end.label target.label) }
+        ensures steps { MakesSteps result self.old.state self.new.state
+            (tail_at self.old.state from end.label target.label) }
         ensures keeps { Keeps self.old self.new }
     {
         self.valid();
@@ -129,7 +136,8 @@ impl Doc {
         requires open { IsOpen self.old }
         requires held { Holds self.old node }
         requires element { is_element_at self.old.state.trees node.label ≡ true }
-        ensures steps { MakesSteps result self.old.state self.new.state (Copy (copy_of self.old.state.trees node.label) ∷ []) }
+        ensures steps { MakesSteps result self.old.state self.new.state
+            (Copy (copy_of self.old.state.trees node.label) ∷ []) }
         ensures label { IfOk result (λ r. r.label ≡ self.old.state.next) }
         ensures held { IfOk result (λ r. Holds self.new r) }
         ensures keeps { Keeps self.old self.new }
@@ -146,7 +154,8 @@ impl Doc {
         requires list_held { EachHeld self.old list.now }
         requires target_held { Holds self.old target }
         requires possible { are_possible (carried target.label (drop from (labels_of list.now))) self.old.state ≡ true }
-        ensures steps { MakesSteps result self.old.state self.new.state (carried target.label (drop from (labels_of list.now))) }
+        ensures steps { MakesSteps result self.old.state self.new.state
+            (carried target.label (drop from (labels_of list.now))) }
         ensures keeps { Keeps self.old self.new }
     {
         for i in from as usize..list.len() {

@@ -278,7 +278,8 @@ fn keep_entry(
     counts: Counts,
 ) -> Option<EntrySnapshot>
     requires { command.old.resumed ≡ true → 0 < length past.old.items }
-    ensures entered { Enters command.old command.old.detached.items after counts past.old.capacity past.old.items past.new.items result }
+    ensures entered { Enters command.old command.old.detached.items after counts past.old.capacity
+        past.old.items past.new.items result }
     ensures capacity { past.new.capacity ≡ past.old.capacity }
     ensures command { command.new ≡ record command.old { detached = command.new.detached } }
 {

@@ -65,8 +65,8 @@ pub struct MadeNode {
     pub content: Content,
 }
 
-/// An entry of the history: the nodes that its commands made and its edits name, by rising label, and its edits in their
-/// order.
+/// An entry of the history: the nodes that its commands made and its edits name, by rising label, and its edits in
+/// their order.
 #[derive(Drop)]
 pub struct LoggedEntry {
     made: Vec<MadeNode>,
@@ -105,8 +105,8 @@ impl LoggedEntry {
 }
 
 impl Doc {
-    /// The entries before the cursor, from the oldest to the newest. They are undone to read the whole contents that their
-    /// edits give, and redone; where the memory runs out too.
+    /// The entries before the cursor, from the oldest to the newest. They are undone to read the whole contents
+    /// that their edits give, and redone; where the memory runs out too.
     pub fn logged(&mut self, alloc: Global) -> Result<Vec<LoggedEntry>, AllocError>
         requires closed { IsClosed self.old }
         ensures ok { IfOk result (λ entries. entries.items ≡ map logged_entry (reverse self.old.history.undo)) }
@@ -165,7 +165,8 @@ impl Doc {
         requires closed { IsClosed self.old }
         requires all { self.old.history.undo ≡ [] }
         requires within { count ≤ length self.old.history.redo }
-        ensures moved { HasMoved self.old self.new (reverse (take count self.old.history.redo)) (drop count self.old.history.redo) }
+        ensures moved { HasMoved self.old self.new (reverse (take count self.old.history.redo))
+            (drop count self.old.history.redo) }
         ensures read { IfOk result (λ entries. entries.items ≡ map logged_entry (take count self.old.history.redo)) }
     {
         let mut entries = Ok(Vec::new(alloc));
@@ -187,7 +188,8 @@ impl Doc {
     ) -> Result<Vec<LoggedEntry>, AllocError>
         requires closed { IsClosed self.now }
         requires more { 0 < length self.now.history.redo }
-        ensures { IfOk result (λ entries. entries.items ≡ before.items ++ map logged_entry (take 1 self.now.history.redo)) }
+        ensures { IfOk result (λ entries. entries.items ≡ before.items
+            ++ map logged_entry (take 1 self.now.history.redo)) }
     {
         let mut entries = before;
         entries.push(self.next_logged(alloc)?)?;
@@ -215,7 +217,11 @@ impl Doc {
         requires placed { IsPlaced self.old.state.trees (shown self.old.state.points.names kept.places) }
         requires resting { kept.places.scratch ≡ None }
         requires settings { length kept.overrides ≡ 32 }
-        ensures { self.new ≡ with_state self.old (record self.old.state { points = shown self.old.state.points.names kept.places; overrides = kept.overrides; flags = kept.flags }) }
+        ensures { self.new ≡ with_state self.old (record self.old.state {
+          points = shown self.old.state.points.names kept.places;
+          overrides = kept.overrides;
+          flags = kept.flags;
+        }) }
     {
         let mut kept = kept;
         self.tree.points.set_places(&kept.places);
@@ -236,7 +242,8 @@ fn read_entry(
     requires fresh { AreFresh arena.now.trees first }
     requires within { Each (λ l. l < end) (named_in (changes_of steps.now)) }
     requires held { Each (Holds arena.now) (nodes_in steps.now) }
-    ensures { IfOk result (λ entry. entry ≡ logged_with (content_of arena.now.trees) (used (changes_of steps.now) (roots_from first arena.now.trees)) (changes_of steps.now)) }
+    ensures { IfOk result (λ entry. entry ≡ logged_with (content_of arena.now.trees)
+        (used (changes_of steps.now) (roots_from first arena.now.trees)) (changes_of steps.now)) }
 {
     Ok(LoggedEntry {
         made: made_nodes(alloc, arena, steps, first, end)?,
@@ -246,7 +253,8 @@ fn read_entry(
 
 fn read_edits(alloc: Global, arena: &Arena, steps: &[Step]) -> Result<Vec<LoggedEdit>, AllocError>
     requires { Each (Holds arena.now) (nodes_in steps.now) }
-    ensures { IfOk result (λ edits. edits.items ≡ map (logged_edit (content_of arena.now.trees)) (changes_of steps.now)) }
+    ensures { IfOk result (λ edits. edits.items ≡ map (logged_edit (content_of arena.now.trees))
+        (changes_of steps.now)) }
 {
     let mut edits = Vec::with_capacity(alloc, steps.len())?;
     for step in steps {
@@ -335,7 +343,8 @@ fn made_nodes(
     requires order { first ≤ end }
     requires fresh { AreFresh arena.now.trees first }
     requires within { Each (λ l. l < end) (named_in (changes_of steps.now)) }
-    ensures { IfOk result (λ nodes. nodes.items ≡ map made_node (used (changes_of steps.now) (roots_from first arena.now.trees))) }
+    ensures { IfOk result (λ nodes. nodes.items ≡ map made_node
+        (used (changes_of steps.now) (roots_from first arena.now.trees))) }
 {
     arena.valid();
     let marks = mark_named(alloc, steps, first, end)?;
@@ -380,7 +389,8 @@ fn mark_named(alloc: Global, steps: &[Step], first: u32, end: u32) -> Result<Vec
 fn mark_step(marks: &mut Vec<bool>, first: u32, step: &Step)
     requires { Each (λ l. l < length marks.old.items + first) (named (change_of step.now)) }
     ensures count { length marks.new.items ≡ length marks.old.items }
-    ensures marked { (ls : List ℕ) → TellNamed first ls marks.old.items → TellNamed first (ls ++ named (change_of step.now)) marks.new.items }
+    ensures marked { (ls : List ℕ) → TellNamed first ls marks.old.items
+        → TellNamed first (ls ++ named (change_of step.now)) marks.new.items }
 {
     match step {
         Step::Unlink { node } => mark(marks, first, node.label),
@@ -409,7 +419,8 @@ fn mark_place(
 )
     requires { Each (λ l. l < length marks.old.items + first) (place_labels node parent before) }
     ensures count { length marks.new.items ≡ length marks.old.items }
-    ensures marked { (ls : List ℕ) → TellNamed first ls marks.old.items → TellNamed first (ls ++ place_labels node parent before) marks.new.items }
+    ensures marked { (ls : List ℕ) → TellNamed first ls marks.old.items
+        → TellNamed first (ls ++ place_labels node parent before) marks.new.items }
 {
     mark(marks, first, node.label);
     mark(marks, first, parent.label);
@@ -423,7 +434,8 @@ fn mark_place(
 fn mark(marks: &mut Vec<bool>, first: u32, label: u32)
     requires { label < length marks.old.items + first }
     ensures count { length marks.new.items ≡ length marks.old.items }
-    ensures marked { (ls : List ℕ) → TellNamed first ls marks.old.items → TellNamed first (ls ++ label ∷ []) marks.new.items }
+    ensures marked { (ls : List ℕ) → TellNamed first ls marks.old.items
+        → TellNamed first (ls ++ label ∷ []) marks.new.items }
 {
     if label >= first {
         marks[(label - first) as usize] = true;

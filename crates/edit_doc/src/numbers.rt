@@ -39,9 +39,12 @@ pub(crate) fn counts_with(
     requires held { Holds arena.now node }
     requires parent_held { Holds arena.now parent }
     requires nodes { with_more enters counts.nodes (total (λ _ _. 1) (tree_of arena.now.trees node.label)) < 2 ^ 32 }
-    requires chars { with_more enters counts.chars (total (λ _ c. words_length c) (tree_of arena.now.trees node.label)) < 2 ^ 64 }
-    ensures nodes { result.nodes ≡ with_more enters counts.nodes (total (λ _ _. 1) (tree_of arena.now.trees node.label)) }
-    ensures chars { result.chars ≡ with_more enters counts.chars (total (λ _ c. words_length c) (tree_of arena.now.trees node.label)) }
+    requires chars { with_more enters counts.chars (total (λ _ c. words_length c)
+        (tree_of arena.now.trees node.label)) < 2 ^ 64 }
+    ensures nodes { result.nodes ≡ with_more enters counts.nodes
+        (total (λ _ _. 1) (tree_of arena.now.trees node.label)) }
+    ensures chars { result.chars ≡ with_more enters counts.chars
+        (total (λ _ c. words_length c) (tree_of arena.now.trees node.label)) }
     ensures depth { IsRaised arena.now.trees parent.label node.label enters counts.depth result.depth }
 {
     let mut counts = counts;
@@ -76,12 +79,18 @@ fn depth_moved(arena: &Arena, depth: u32, node: NodeRef, parent: NodeRef) -> u32
 pub(crate) fn counts_moved(arena: &Arena, counts: Counts, node: NodeRef, parent: NodeRef) -> Counts
     requires node_held { Holds arena.now node }
     requires parent_held { Holds arena.now parent }
-    requires nodes { with_more (comes_in arena.now.trees node.label parent.label) counts.nodes (total (λ _ _. 1) (tree_of arena.now.trees node.label)) < 2 ^ 32 }
-    requires chars { with_more (comes_in arena.now.trees node.label parent.label) counts.chars (total (λ _ c. words_length c) (tree_of arena.now.trees node.label)) < 2 ^ 64 }
-    requires stands { is_in_document arena.now.trees node.label ≡ true → levels (tree_of arena.now.trees node.label) + depth_of arena.now.trees node.label ≤ counts.depth + 1 }
-    ensures nodes { result.nodes ≡ with_more (comes_in arena.now.trees node.label parent.label) counts.nodes (total (λ _ _. 1) (tree_of arena.now.trees node.label)) }
-    ensures chars { result.chars ≡ with_more (comes_in arena.now.trees node.label parent.label) counts.chars (total (λ _ c. words_length c) (tree_of arena.now.trees node.label)) }
-    ensures depth { IsRaised arena.now.trees parent.label node.label (is_in_document arena.now.trees parent.label) counts.depth result.depth }
+    requires nodes { with_more (comes_in arena.now.trees node.label parent.label) counts.nodes
+        (total (λ _ _. 1) (tree_of arena.now.trees node.label)) < 2 ^ 32 }
+    requires chars { with_more (comes_in arena.now.trees node.label parent.label) counts.chars
+        (total (λ _ c. words_length c) (tree_of arena.now.trees node.label)) < 2 ^ 64 }
+    requires stands { is_in_document arena.now.trees node.label ≡ true
+        → levels (tree_of arena.now.trees node.label) + depth_of arena.now.trees node.label ≤ counts.depth + 1 }
+    ensures nodes { result.nodes ≡ with_more (comes_in arena.now.trees node.label parent.label) counts.nodes
+        (total (λ _ _. 1) (tree_of arena.now.trees node.label)) }
+    ensures chars { result.chars ≡ with_more (comes_in arena.now.trees node.label parent.label) counts.chars
+        (total (λ _ c. words_length c) (tree_of arena.now.trees node.label)) }
+    ensures depth { IsRaised arena.now.trees parent.label node.label
+        (is_in_document arena.now.trees parent.label) counts.depth result.depth }
 {
     if !is_in_document(arena, node) {
         let enters = is_in_document(arena, parent);

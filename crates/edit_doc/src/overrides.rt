@@ -81,7 +81,8 @@ impl Overrides {
     // Unsets each where the change moved the active range.
     pub(crate) fn settle(&mut self, arena: &Arena, points: &Points, watch: Option<Watch>)
         requires { IfSome points.now.selection (IsPlacedPair arena.now.trees) }
-        ensures { (f : Forest Content) (before : LivePoints) → Watches f before self.old watch → self.new ≡ settled f before arena.now.trees points.now self.old }
+        ensures { (f : Forest Content) (before : LivePoints) → Watches f before self.old watch → self.new
+            ≡ settled f before arena.now.trees points.now self.old }
     {
         unset_overrides_if_range_changed(arena, points, &mut self.list, watch);
     }

@@ -28,8 +28,8 @@ impl Doc {
         self.history.valid();
     }
 
-    /// Which nodes are held outside commands, for proofs: each is in the document, or in a loose tree with a node that a
-    /// change of an entry of the history names. It does nothing.
+    /// Which nodes are held outside commands, for proofs: each is in the document, or in a loose tree with a node
+    /// that a change of an entry of the history names. It does nothing.
     pub fn kept_nodes(&self)
         requires closed { IsClosed self.now }
         ensures { HoldsOnlyNeeded self.now }
@@ -38,8 +38,9 @@ impl Doc {
         self.tree.nodes.arena.slotted();
     }
 
-    /// How the entries before the cursor led from the page to the document, for proofs: the edits of each fit the document
-    /// before it, beside the nodes that its commands made, and give the document after it. It does nothing.
+    /// How the entries before the cursor led from the page to the document, for proofs: the edits of each fit the
+    /// document before it, beside the nodes that its commands made, and give the document after it. It does
+    /// nothing.
     pub fn led_onward(&self)
         requires closed { IsClosed self.now }
         ensures { HasLedOnward self.now }

@@ -78,11 +78,13 @@ impl Doc {
         }
     }
 
-    /// Each kept point just before a node, at its index in its parent, grows by 1 and so stands after it, where the parent is
-    /// in the document. The index is counted only where a kept point stands at the parent.
+    /// Each kept point just before a node, at its index in its parent, grows by 1 and so stands after it, where the
+    /// parent is in the document. The index is counted only where a kept point stands at the parent.
     pub fn grow_before(&mut self, node: NodeRef)
         requires { Holds self.old node }
-        ensures grown { IfSome (parent_of self.old.state.trees node.label) (λ p. self.new ≡ with_state self.old (acted (Grow (record { label = p; offset = index_of self.old.state.trees node.label })) self.old.state)) }
+        ensures grown { IfSome (parent_of self.old.state.trees node.label)
+            (λ p. self.new ≡ with_state self.old (acted (Grow
+            (record { label = p; offset = index_of self.old.state.trees node.label })) self.old.state)) }
         ensures alone { IsNone (parent_of self.old.state.trees node.label) → self.new ≡ self.old }
         ensures keeps { Keeps self.old self.new }
     {
@@ -112,8 +114,11 @@ impl Doc {
     pub fn set_mark(&mut self, name: &[u8], pair: Pair) -> Result<(), MarkFault>
         requires closed { IsClosed self.old }
         requires placed { IsPlacedPair self.old.state.trees pair }
-        ensures set { OnOk result (self.new ≡ with_state self.old (record self.old.state { points = with_mark name.now pair self.old.state.points })) }
-        ensures too_many { (result ≡ Err MarkFault.TooManyMarks) ↔ ((length self.old.state.points.marks ≡ 16) × (has_mark name.now self.old.state.points ≡ false)) }
+        ensures set { OnOk result (self.new ≡ with_state self.old (record self.old.state {
+          points = with_mark name.now pair self.old.state.points;
+        })) }
+        ensures too_many { (result ≡ Err MarkFault.TooManyMarks)
+            ↔ ((length self.old.state.points.marks ≡ 16) × (has_mark name.now self.old.state.points ≡ false)) }
         ensures err { OnErr result (self.new ≡ self.old) }
     {
         self.tree.points.set_mark(name, pair)
@@ -122,7 +127,9 @@ impl Doc {
     /// Takes the name's mark out, and answers whether there was one.
     pub fn unset_mark(&mut self, name: &[u8]) -> bool
         ensures answer { result ≡ has_mark name.now self.old.state.points }
-        ensures unset { self.new ≡ with_state self.old (record self.old.state { points = without_mark name.now self.old.state.points }) }
+        ensures unset { self.new ≡ with_state self.old (record self.old.state {
+          points = without_mark name.now self.old.state.points;
+        }) }
     {
         self.tree.points.unset_mark(name)
     }

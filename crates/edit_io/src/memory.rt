@@ -26,12 +26,15 @@ impl Source for MemorySource {
         requires { 0 < length buf.old }
         ensures fails { IsErr result ↔ IsTrue (fails_at self.old.failing.items self.old.calls) }
         ensures calls { self.new.calls ≡ next_call self.old.calls }
-        ensures given { IfOk result (λ n. n ≡ min (min self.old.piece (length buf.old)) (vec_len self.old.bytes - self.old.at)) }
+        ensures given { IfOk result (λ n. n ≡ min (min self.old.piece (length buf.old))
+            (vec_len self.old.bytes - self.old.at)) }
         ensures moved { IfOk result (λ n. self.new.at ≡ self.old.at + n) }
         ensures stays { OnErr result (self.new.at ≡ self.old.at) }
-        ensures written { IfOk result (λ n. buf.new ≡ take n (drop self.old.at self.old.bytes.items) ++ drop n buf.old) }
+        ensures written { IfOk result (λ n. buf.new ≡ take n (drop self.old.at self.old.bytes.items)
+            ++ drop n buf.old) }
         ensures untouched { OnErr result (buf.new ≡ buf.old) }
-        ensures same { (self.new.bytes ≡ self.old.bytes) × (self.new.piece ≡ self.old.piece) × (self.new.failing ≡ self.old.failing) }
+        ensures same { (self.new.bytes ≡ self.old.bytes) × (self.new.piece ≡ self.old.piece)
+            × (self.new.failing ≡ self.old.failing) }
     {
         let call = self.calls;
         self.calls = call.saturating_add(1);

@@ -101,7 +101,8 @@ fn read_piece<I: Source>(
     ensures end { IfOk result (λ n. n ≡ 0 → IsAtEnd (I.left input.new)) }
     ensures failed { IfErr result (λ e. e ≡ ReadAllFault.Failed → Rose (I.faults input.old) (I.faults input.new)) }
     ensures given { OnErr result (GivesAtMost (I.left input.old) (I.left input.new) (room + 1)) }
-    ensures too_long { IfErr result (λ e. e ≡ ReadAllFault.TooLong → GivesMore (I.left input.old) (I.left input.new) room) }
+    ensures too_long { IfErr result (λ e. e ≡ ReadAllFault.TooLong
+        → GivesMore (I.left input.old) (I.left input.new) room) }
     ensures counted { I.faults input.old ≤ I.faults input.new }
 {
     let wanted = room.min(buffer.len() - 1) + 1;

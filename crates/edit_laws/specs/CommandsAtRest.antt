@@ -1,4 +1,5 @@
--- What a command leaves, seen from outside commands: the document before it, and the document once its loose trees are dropped.
+-- What a command leaves, seen from outside commands: the document before it, and the document once its loose trees
+-- are dropped.
 use Rattle.std.specs.Prelude.{◌≡◌, ℕ, Bool, true, Option, Some}
 use Rattle.std.specs.List.{AllZip}
 use Rattle.dom_model.specs.Editing.{is_host}

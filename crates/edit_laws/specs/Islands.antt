@@ -16,8 +16,9 @@ pub record StaysBelow (before after : Forest Content) (host l : ℕ) : Type 0 wh
   pub inside : IsWithin after host l
   pub same : tree_of after l ≡ tree_of before l
 
--- On the way from the state in which a command began to another one the command removed a tree that holds l below its root,
--- and the root was then editable for the host or made by the command. The removal is one of the command's list of edits.
+-- On the way from the state in which a command began to another one the command removed a tree that holds l below
+-- its root, and the root was then editable for the host or made by the command. The removal is one of the command's
+-- list of edits.
 pub record IsTakenOut (began now : State) (l : ℕ) : Type 0 where
   pub root : ℕ
   pub then_at : State
@@ -32,4 +33,5 @@ pub record IsTakenOut (began now : State) (l : ℕ) : Type 0 where
 
 -- in the document with an equal tree below the host, or out of it and taken out by a removal
 abbrev pub IslandKept : (began now : State) (before after : Forest Content) (host l : ℕ) → Type 0
-IslandKept began now before after host l = StaysBelow before after host l ⊎ ((IsWithin after 0 l → ⊥) × IsTakenOut began now l)
+IslandKept began now before after host l = StaysBelow before after host l
+    ⊎ ((IsWithin after 0 l → ⊥) × IsTakenOut began now l)

@@ -29,7 +29,8 @@ QuietActionsKeep = (a : Action) → IsQuiet a → (s : State) → IsKeeping s �
 -- and so does the insertion of a tree that bears nothing
 abbrev pub BareInsertsKeep : Type 0
 BareInsertsKeep =
-    (p : ℕ) (b : Option ℕ) (n : ℕ) (s : State) → IsKeeping s → leaves (tree_of s.trees n) ≡ [] → KeepsOrder s (acted (Change (Insert p b n)) s)
+    (p : ℕ) (b : Option ℕ) (n : ℕ) (s : State) → IsKeeping s → leaves (tree_of s.trees n) ≡ []
+    → KeepsOrder s (acted (Change (Insert p b n)) s)
 
 -- ---- the certificate, closed under the ways in which runs are composed
 
@@ -40,23 +41,28 @@ abbrev pub OrderPreservingAnswers : Type 0 → Type 0
 OrderPreservingAnswers A = (a : A) → OrderPreserving (answer a)
 
 abbrev pub OrderPreservingFollows : Type 0 → Type 0 → Type 0
-OrderPreservingFollows A B = (m : Run A) (k : A → Run B) → OrderPreserving m → ((a : A) → OrderPreserving (k a)) → OrderPreserving (m >>= k)
+OrderPreservingFollows A B = (m : Run A) (k : A → Run B) → OrderPreserving m → ((a : A) → OrderPreserving (k a))
+    → OrderPreserving (m >>= k)
 
 abbrev pub OrderPreservingLooks : Type 0 → Type 0
 OrderPreservingLooks A = (k : State → Run A) → ((s : State) → OrderPreserving (k s)) → OrderPreserving (look k)
 
 abbrev pub OrderPreservingChooses : Type 0 → Type 0
-OrderPreservingChooses A = (b : Bool) (m n : Run A) → OrderPreserving m → OrderPreserving n → OrderPreserving (if b then m else n)
+OrderPreservingChooses A = (b : Bool) (m n : Run A) → OrderPreserving m → OrderPreserving n
+    → OrderPreserving (if b then m else n)
 
 abbrev pub OrderPreservingGiven : Type 0 → Type 0 → Type 0
-OrderPreservingGiven A B = (o : Option A) (n : Run B) (f : A → Run B) → OrderPreserving n → ((a : A) → OrderPreserving (f a)) → OrderPreserving (given o n f)
+OrderPreservingGiven A B = (o : Option A) (n : Run B) (f : A → Run B) → OrderPreserving n
+    → ((a : A) → OrderPreserving (f a)) → OrderPreserving (given o n f)
 
 abbrev pub OrderPreservingForEach : Type 0 → Type 0
-OrderPreservingForEach A = (xs : List A) (f : A → Run (Unit {0})) → ((x : A) → OrderPreserving (f x)) → OrderPreserving (for_each xs f)
+OrderPreservingForEach A = (xs : List A) (f : A → Run (Unit {0})) → ((x : A) → OrderPreserving (f x))
+    → OrderPreserving (for_each xs f)
 
 abbrev pub OrderPreservingWhile : Type 0 → Type 0
 OrderPreservingWhile A =
-    (bound : ℕ) (test : State → A → Bool) (body : A → Run A) (a : A) → ((a : A) → OrderPreserving (body a)) → OrderPreserving (while_at_most bound test body a)
+    (bound : ℕ) (test : State → A → Bool) (body : A → Run A) (a : A) → ((a : A) → OrderPreserving (body a))
+    → OrderPreserving (while_at_most bound test body a)
 
 -- ---- new elements
 
@@ -65,18 +71,23 @@ abbrev pub OrderPreservingWithInserts : Type 0
 OrderPreservingWithInserts = (p : ℕ) (b : Option ℕ) (x : ℕ) → OrderPreservingWith x (insert p b x)
 
 abbrev pub OrderPreservingWithFollows : Type 0 → Type 0 → Type 0
-OrderPreservingWithFollows A B = (x : ℕ) (m : Run A) (k : A → Run B) → OrderPreservingWith x m → ((a : A) → OrderPreserving (k a)) → OrderPreservingWith x (m >>= k)
+OrderPreservingWithFollows A B = (x : ℕ) (m : Run A) (k : A → Run B) → OrderPreservingWith x m
+    → ((a : A) → OrderPreserving (k a)) → OrderPreservingWith x (m >>= k)
 
 abbrev pub OrderPreservingWithLooks : Type 0 → Type 0
-OrderPreservingWithLooks A = (x : ℕ) (k : State → Run A) → ((s : State) → OrderPreservingWith x (k s)) → OrderPreservingWith x (look k)
+OrderPreservingWithLooks A = (x : ℕ) (k : State → Run A) → ((s : State) → OrderPreservingWith x (k s))
+    → OrderPreservingWith x (look k)
 
 abbrev pub OrderPreservingWithChooses : Type 0 → Type 0
-OrderPreservingWithChooses A = (x : ℕ) (b : Bool) (m n : Run A) → OrderPreservingWith x m → OrderPreservingWith x n → OrderPreservingWith x (if b then m else n)
+OrderPreservingWithChooses A = (x : ℕ) (b : Bool) (m n : Run A) → OrderPreservingWith x m
+    → OrderPreservingWith x n → OrderPreservingWith x (if b then m else n)
 
 abbrev pub OrderPreservingWithGiven : Type 0 → Type 0 → Type 0
-OrderPreservingWithGiven A B = (x : ℕ) (o : Option A) (n : Run B) (f : A → Run B) → OrderPreservingWith x n → ((a : A) → OrderPreservingWith x (f a)) → OrderPreservingWith x (given o n f)
+OrderPreservingWithGiven A B = (x : ℕ) (o : Option A) (n : Run B) (f : A → Run B) → OrderPreservingWith x n
+    → ((a : A) → OrderPreservingWith x (f a)) → OrderPreservingWith x (given o n f)
 
 -- a new element that is neither img nor hr bears nothing
 abbrev pub OrderPreservingNewElements : Type 0 → Type 0
 OrderPreservingNewElements A =
-    (name : List ℕ) (attributes : List Attribute) (k : ℕ → Run A) → is_thing name ≡ false → ((x : ℕ) → OrderPreservingWith x (k x)) → OrderPreserving (make_element name attributes >>= k)
+    (name : List ℕ) (attributes : List Attribute) (k : ℕ → Run A) → is_thing name ≡ false
+    → ((x : ℕ) → OrderPreservingWith x (k x)) → OrderPreserving (make_element name attributes >>= k)

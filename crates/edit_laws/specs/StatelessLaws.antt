@@ -26,19 +26,22 @@ abbrev pub StatelessChooses : Type 0 → Type 0
 StatelessChooses A = (b : Bool) (m n : Run A) → Stateless m → Stateless n → Stateless (if b then m else n)
 
 abbrev pub StatelessGiven : Type 0 → Type 0 → Type 0
-StatelessGiven A B = (o : Option A) (n : Run B) (f : A → Run B) → Stateless n → ((a : A) → Stateless (f a)) → Stateless (given o n f)
+StatelessGiven A B = (o : Option A) (n : Run B) (f : A → Run B) → Stateless n → ((a : A) → Stateless (f a))
+    → Stateless (given o n f)
 
 abbrev pub StatelessForEach : Type 0 → Type 0
 StatelessForEach A = (xs : List A) (f : A → Run (Unit {0})) → ((x : A) → Stateless (f x)) → Stateless (for_each xs f)
 
 abbrev pub StatelessWhile : Type 0 → Type 0
 StatelessWhile A =
-    (bound : ℕ) (test : State → A → Bool) (body : A → Run A) (a : A) → ((a : A) → Stateless (body a)) → Stateless (while_at_most bound test body a)
+    (bound : ℕ) (test : State → A → Bool) (body : A → Run A) (a : A) → ((a : A) → Stateless (body a))
+    → Stateless (while_at_most bound test body a)
 
 -- an element made with the attributes of a node that is editable for the host
 abbrev pub StatelessCopies : Type 0
 StatelessCopies =
-    (s : State) (e : ℕ) (name : List ℕ) → IsValid s → is_editable_for s e ≡ true → Stateless (make_element name (attribute_list_of s.trees e))
+    (s : State) (e : ℕ) (name : List ℕ) → IsValid s → is_editable_for s e ≡ true
+    → Stateless (make_element name (attribute_list_of s.trees e))
 
 abbrev pub UnwrapsStateless : Type 0
 UnwrapsStateless = (e : ℕ) → Stateless (unwrap e)

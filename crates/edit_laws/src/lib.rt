@@ -1,5 +1,6 @@
-//! The laws of order: what algorithms that keep contents make of the characters, images and rules of a document. And what
-//! a command leaves, seen from outside commands: what lies outside its host, the marks there, and the islands.
+//! The laws of order: what algorithms that keep contents make of the characters, images and rules of a document.
+//! And what a command leaves, seen from outside commands: what lies outside its host, the marks there, and the
+//! islands.
 #![tactic(auto)]
 
 mod commands;

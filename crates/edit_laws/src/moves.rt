@@ -1,5 +1,5 @@
-//! The laws of order of loops of moves, each the contract of a function that does nothing. Of a loop all moves are made or
-//! none, and the order is kept either way.
+//! The laws of order of loops of moves, each the contract of a function that does nothing. Of a loop all moves are
+//! made or none, and the order is kept either way.
 
 ghost use Rattle.edit_laws.specs.MoveLaws.{FirstChildrenGoBefore, LastChildrenGoAfter, FirstChildrenGoOver, NextSiblingsGoIn, PreviousSiblingsGoIn, NextGoesOver, NextTakesIn, NodesChangePlaces, MovesOutAreLeftOut, ChildrenPart, ChildrenStay};
 

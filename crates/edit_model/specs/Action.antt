@@ -56,11 +56,17 @@ with_scratch pair s = record s { points = record s.points { scratch = pair } }
 
 unfoldable pub selected : Point → Point → State → State
 selected anchor focus s =
-    if may_select s anchor && may_select s focus then with_selection (Some (record { anchor = anchor; focus = focus })) s else s
+    if may_select s anchor && may_select s focus then with_selection (Some (record {
+      anchor = anchor;
+      focus = focus;
+    })) s else s
 
 abbrev pub extended_from : Option Pair → Point → State → State
 extended_from None focus s = s
-extended_from (Some pair) focus s = if may_select s focus then with_selection (Some (record { anchor = pair.anchor; focus = focus })) s else s
+extended_from (Some pair) focus s = if may_select s focus then with_selection (Some (record {
+  anchor = pair.anchor;
+  focus = focus;
+})) s else s
 
 unfoldable pub extended : Point → State → State
 extended focus s = extended_from s.points.selection focus s
@@ -71,15 +77,16 @@ grown at s = if may_grow s at then changed s s.trees (mapped (range.Grown at) s.
 
 -- the points of a text past an offset go to another text (the points of its parent are not moved by this)
 unfoldable pub sent : ℕ → ℕ → ℕ → State → State
-sent node at tail s = if may_send s node at tail then changed s s.trees (mapped (range.Split node at tail node 0) s.points) else s
+sent node at tail s = if may_send s node at tail then changed s s.trees
+    (mapped (range.Split node at tail node 0) s.points) else s
 
 unfoldable pub scratched : Pair → State → State
 scratched pair s = if may_select s pair.anchor && may_select s pair.focus then with_scratch (Some pair) s else s
 
 -- ---- extracting a tail
 
--- the state after an edit that is made without its test: the trees allow each edit of a tail, and the parents are open, but
--- what is removed need not be editable
+-- the state after an edit that is made without its test: the trees allow each edit of a tail, and the parents are
+-- open, but what is removed need not be editable
 unfoldable pub applied : Edit → State → State
 applied e s = with_change (change_of e s.trees) (changed s (trees_after e s.trees) (points_after e s.trees s.points))
 
@@ -94,11 +101,16 @@ stepped_all (x ∷ xs) s = stepped_all xs (stepped x s)
 unfoldable pub tail_of : State → Point → ℕ → ℕ → List Step
 tail_of s from end target = tail_steps (document_size s.trees) s.trees from end target s.next
 
--- The point's node can have children, and is `end` or stands below it; both are editable, in the document. The target was made
--- by the command, stands in the document, can have children, and is neither `end` nor below it. The command isn't a keeping one.
+-- The point's node can have children, and is `end` or stands below it; both are editable, in the document. The
+-- target was made by the command, stands in the document, can have children, and is neither `end` nor below it. The
+-- command isn't a keeping one.
 unfoldable pub may_extract : State → Point → ℕ → ℕ → Bool
 may_extract s from end target =
-    not s.keeping && (is_editable_for s end && (is_in_document s.trees end && (is_editable_for s from.label && (is_parent_at s.trees from.label && (is_within s.trees end from.label && (is_made s target && (is_in_document s.trees target && (is_parent_at s.trees target && not (is_within s.trees end target)))))))))
+    not s.keeping && (is_editable_for s end && (is_in_document s.trees end
+    && (is_editable_for s from.label && (is_parent_at s.trees from.label
+    && (is_within s.trees end from.label && (is_made s target
+    && (is_in_document s.trees target && (is_parent_at s.trees target
+    && not (is_within s.trees end target)))))))))
 
 -- The steps are one action, since between them nodes of the document stand in loose trees, and islands among them.
 unfoldable pub extracted : Point → ℕ → ℕ → State → State

@@ -1,5 +1,5 @@
--- Compositions of edits that the DOM and editing standards name: splitting a text, and setting the tag name of an element.
--- The steps are those of docs/ALGORITHMS.md.
+-- Compositions of edits that the DOM and editing standards name: splitting a text, and setting the tag name of an
+-- element. The steps are those of docs/ALGORITHMS.md.
 use Rattle.std.specs.Prelude.{ℕ, ◌+◌, ◌-◌, Bool, ◌||◌, not, List, [], length, drop, Some, None, if◌then◌else◌, unwrap_or}
 use Rattle.dom_model.specs.declared.attributes.Attribute.{Attribute}
 use Rattle.dom_model.specs.Contents.{chars_of, name_of, attributes_of, has_name}
@@ -52,8 +52,8 @@ renamed p s e name = do
   remove e
   answer x
 
--- set the tag name, step 1, and then from 2 on: answers the element that has the name, a new one in the place of e, with
--- its attributes and children; e itself where it has the name, no parent, or isn't editable
+-- set the tag name, step 1, and then from 2 on: answers the element that has the name, a new one in the place of e,
+-- with its attributes and children; e itself where it has the name, no parent, or isn't editable
 unfoldable pub set_tag_name : ℕ → List ℕ → Run ℕ
 set_tag_name e name = look λ s.
     given (parent_of s.trees e) (answer e) λ p.

@@ -53,7 +53,8 @@ stands_so f n o p (Some b) = o == p && is_label (next_of f n) b
 -- n, which has no parent and isn't the document, goes into p, which is open and no part of it
 unfoldable pub may_insert : State → ℕ → Option ℕ → ℕ → Bool
 may_insert s p b n =
-    is_there s.trees n && (not (n == 0) && (is_none (parent_of s.trees n) && (is_parent_at s.trees p && (not (is_within s.trees n p) && (is_place s.trees p b n && is_open s p)))))
+    is_there s.trees n && (not (n == 0) && (is_none (parent_of s.trees n)
+    && (is_parent_at s.trees p && (not (is_within s.trees n p) && (is_place s.trees p b n && is_open s p)))))
 
 -- n leaves its parent o, which is open; a keeping command removes nothing that is kept
 abbrev pub may_leave : State → ℕ → Option ℕ → Bool
@@ -69,7 +70,9 @@ may_remove s n = may_leave s n (parent_of s.trees n)
 abbrev pub may_go : State → ℕ → Option ℕ → ℕ → Option ℕ → Bool
 may_go s n None p b = false
 may_go s n (Some o) p b =
-    is_open s o && (is_open s p && (is_parent_at s.trees p && (not (is_within s.trees n p) && (is_place s.trees p b n && ((not (is_in_document s.trees n) || is_in_document s.trees p) && not (stands_so s.trees n o p b))))))
+    is_open s o && (is_open s p && (is_parent_at s.trees p && (not (is_within s.trees n p)
+    && (is_place s.trees p b n && ((not (is_in_document s.trees n) || is_in_document s.trees p)
+    && not (stands_so s.trees n o p b))))))
 
 unfoldable pub may_move : State → ℕ → ℕ → Option ℕ → Bool
 may_move s n p b = may_go s n (parent_of s.trees n) p b
@@ -81,7 +84,8 @@ spliced chars at count put = take at chars ++ (put ++ drop (at + count) chars)
 -- the data of a text change, within its length, to other data of at most 4,294,967,295 characters
 abbrev pub may_change : Option Content → ℕ → ℕ → List ℕ → Bool
 may_change (Some (Words chars)) at count put =
-    nat_le (at + count) (length chars) && (nat_lt (length (spliced chars at count put)) (2 ^ 32) && not (bytes_eq (spliced chars at count put) chars))
+    nat_le (at + count) (length chars) && (nat_lt (length (spliced chars at count put)) (2 ^ 32)
+    && not (bytes_eq (spliced chars at count put) chars))
 may_change _ at count put = false
 
 unfoldable pub may_replace : State → ℕ → ℕ → ℕ → List ℕ → Bool
@@ -92,10 +96,12 @@ has_value list name value = option_map_or (λ own. bytes_eq own value) (value_of
 
 -- an attribute is set to another value, and unset where it is there
 unfoldable pub may_set : State → ℕ → List ℕ → List ℕ → Bool
-may_set s n name value = is_own s n && option_map_or (λ list. not (has_value list name value)) (attributes_of s.trees n) false
+may_set s n name value = is_own s n && option_map_or (λ list. not (has_value list name value))
+    (attributes_of s.trees n) false
 
 unfoldable pub may_unset : State → ℕ → List ℕ → Bool
-may_unset s n name = is_own s n && option_map_or (λ list. option_map_or (λ _. true) (value_of list name) false) (attributes_of s.trees n) false
+may_unset s n name = is_own s n && option_map_or (λ list. option_map_or (λ _. true) (value_of list name) false)
+    (attributes_of s.trees n) false
 
 -- ---- which selecting steps are made
 
@@ -107,8 +113,9 @@ may_select s p = is_placed s.trees p
 unfoldable pub may_grow : State → Point → Bool
 may_grow s p = is_open s p.label && (is_in_document s.trees p.label && nat_lt p.offset (length_of s.trees p.label))
 
--- the points of a text, which is editable or made by the running command, past an offset go to another text of the document
--- that reaches as far
+-- the points of a text, which is editable or made by the running command, past an offset go to another text of the
+-- document that reaches as far
 unfoldable pub may_send : State → ℕ → ℕ → ℕ → Bool
 may_send s n at tail =
-    is_own s n && (is_in_document s.trees tail && (not (n == tail) && nat_le (length_of s.trees n) (at + length_of s.trees tail)))
+    is_own s n && (is_in_document s.trees tail && (not (n == tail)
+    && nat_le (length_of s.trees n) (at + length_of s.trees tail)))

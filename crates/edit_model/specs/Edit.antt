@@ -18,8 +18,9 @@ use Rattle.edit_model.specs.State.{State}
 use Rattle.edit_model.specs.Overrides.{no_overrides}
 use Rattle.edit_model.specs.Confined.{spliced, may_insert, may_remove, may_move, may_replace, may_set, may_unset}
 
--- Where `before` is None the place is the end of the parent. A node is inserted that has no parent, a tree is removed and
--- becomes loose, a node moves with the points in it; characters of a text are replaced, an attribute is set or unset.
+-- Where `before` is None the place is the end of the parent. A node is inserted that has no parent, a tree is
+-- removed and becomes loose, a node moves with the points in it; characters of a text are replaced, an attribute is
+-- set or unset.
 pub data Edit : Type 0 where
   Insert : (parent : ℕ) (before : Option ℕ) (node : ℕ) → Edit
   Remove : (node : ℕ) → Edit
@@ -62,7 +63,8 @@ parent_or_0 f n = unwrap_or (parent_of f n) 0
 
 unfoldable pub points_after : Edit → Forest Content → LivePoints → LivePoints
 points_after (Insert p b n) f points = mapped (range.Insert p (index_before f p b)) points
-points_after (Remove n) f points = mapped (range.Remove (preorder (tree_of f n)) (parent_or_0 f n) (index_of f n)) points
+points_after (Remove n) f points = mapped (range.Remove (preorder (tree_of f n)) (parent_or_0 f n)
+    (index_of f n)) points
 points_after (Move n p b) f points =
     mapped
     (range.Move
@@ -78,7 +80,8 @@ points_after (Unset n name) f points = points
 -- overrides are unset where the active range has another start or end, or came or went
 unfoldable pub overrides_after : State → Forest Content → LivePoints → List Setting
 overrides_after s trees points =
-    if range_changed (is_before s.trees) (is_before trees) s.points.selection points.selection then no_overrides else s.overrides
+    if range_changed (is_before s.trees) (is_before trees) s.points.selection points.selection then no_overrides
+    else s.overrides
 
 -- the state with other trees and points
 unfoldable pub changed : State → Forest Content → LivePoints → State
@@ -106,4 +109,5 @@ unfoldable pub with_change : Change → State → State
 with_change x s = record s { edits = s.edits ++ x ∷ [] }
 
 unfoldable pub edited : Edit → State → State
-edited e s = if is_made_edit e s then with_change (change_of e s.trees) (changed s (trees_after e s.trees) (points_after e s.trees s.points)) else s
+edited e s = if is_made_edit e s then with_change (change_of e s.trees)
+    (changed s (trees_after e s.trees) (points_after e s.trees s.points)) else s

@@ -27,7 +27,8 @@ steps_reach (Do e ∷ xs) s = max (edit_reach e s.trees) (steps_reach xs (steppe
 
 abbrev pub reach : Action → State → ℕ
 reach (Change e) s = edit_reach e s.trees
-reach (Extract from end target) s = if may_extract s from end target then steps_reach (tail_of s from end target) s else 0
+reach (Extract from end target) s = if may_extract s from end target
+    then steps_reach (tail_of s from end target) s else 0
 reach _ s = 0
 
 -- the deepest reach of the actions on the way

@@ -14,16 +14,16 @@ pub record View : Type 0 where
   pub selection : Option Pair
   pub marks : List (List ℕ × Pair)
 
--- the views before and after a command, or several that share the entry, the edits between them, and those of the nodes made
--- that an edit names, each with its content as made
+-- the views before and after a command, or several that share the entry, the edits between them, and those of the
+-- nodes made that an edit names, each with its content as made
 pub record Entry : Type 0 where
   pub before : View
   pub after : View
   pub edits : List Change
   pub made : List (ℕ × Content)
 
--- the entries that undo would take, the next one first, those that redo would take, the next one first, how many may be kept,
--- and whether one was ever dropped as the oldest
+-- the entries that undo would take, the next one first, those that redo would take, the next one first, how many
+-- may be kept, and whether one was ever dropped as the oldest
 pub record History : Type 0 where
   pub undo : List Entry
   pub redo : List Entry
@@ -74,12 +74,21 @@ entry_of began s = record { before = view_of began; after = view_of s; edits = s
 -- what a commit leaves of the history: an entry for a command with an edit, in place of those after the cursor, without
 -- the oldest where there are too many
 unfoldable pub with_entry : Entry → History → History
-with_entry e h = record h { undo = take h.depth (e ∷ h.undo); redo = []; dropped = h.dropped || nat_le h.depth (length h.undo) }
+with_entry e h = record h {
+  undo = take h.depth (e ∷ h.undo);
+  redo = [];
+  dropped = h.dropped || nat_le h.depth (length h.undo);
+}
 
 -- the last entry with more edits
 abbrev pub joined_in : State → List Entry → List Entry
 joined_in s [] = []
-joined_in s (e ∷ es) = record { before = e.before; after = view_of s; edits = e.edits ++ s.edits; made = e.made ++ used s.edits s.made } ∷ es
+joined_in s (e ∷ es) = record {
+  before = e.before;
+  after = view_of s;
+  edits = e.edits ++ s.edits;
+  made = e.made ++ used s.edits s.made;
+} ∷ es
 
 unfoldable pub joined : State → History → History
 joined s h = record h { undo = joined_in s h.undo }

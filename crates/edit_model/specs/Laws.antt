@@ -34,7 +34,8 @@ CapStaysPassed = (s t : State) → Reaches s t → IsPastCap s → IsPastCap t
 
 -- a command has the changes of the edits that were made on the way, in order, one for each
 abbrev pub EditsAreListed : Type 0
-EditsAreListed = (s t : State) (r : Reaches s t) → (t.edits ≡ s.edits ++ changes_on r) × (length (changes_on r) ≡ length (edits_on r))
+EditsAreListed = (s t : State) (r : Reaches s t) → (t.edits ≡ s.edits ++ changes_on r)
+    × (length (changes_on r) ≡ length (edits_on r))
 
 -- and it has the nodes that were made on the way
 abbrev pub NodesAreListed : Type 0
@@ -42,7 +43,8 @@ NodesAreListed = (s t : State) (r : Reaches s t) → t.made ≡ s.made ++ nodes_
 
 -- one way after another makes the edits of both
 abbrev pub EditsFollow : Type 0
-EditsFollow = (s t u : State) (p : Reaches s t) (q : Reaches t u) → edits_on (reaches_trans p q) ≡ edits_on p ++ edits_on q
+EditsFollow = (s t u : State) (p : Reaches s t) (q : Reaches t u) → edits_on (reaches_trans p q) ≡ edits_on p
+    ++ edits_on q
 
 -- ---- valid states
 
@@ -58,7 +60,8 @@ OutsideStays = (s t : State) → Reaches s t → IsValid s → IsConfined s → 
 -- so it is with a command that begins in a valid state, whatever its host
 abbrev pub CommandsAreConfined : Type 0
 CommandsAreConfined =
-    (s t : State) (host : Option ℕ) (keeping : Bool) → IsValid s → Reaches (begun host keeping s) t → outside_by host t.trees ≡ outside_by host s.trees
+    (s t : State) (host : Option ℕ) (keeping : Bool) → IsValid s → Reaches (begun host keeping s) t
+    → outside_by host t.trees ≡ outside_by host s.trees
 
 -- the name of a mark stays, and so do its points where both stand apart from the host
 abbrev pub KeepsMark : Option ℕ → Forest Content → List ℕ × Pair → List ℕ × Pair → Type 0
@@ -66,13 +69,15 @@ KeepsMark host f m n = (n.0 ≡ m.0) × (IsApart host f m.1.anchor.label → IsA
 
 -- the marks stay in their order, and one that stands apart stays where it is
 abbrev pub MarksStay : Type 0
-MarksStay = (s t : State) → Reaches s t → IsValid s → IsConfined s → AllZip (KeepsMark s.host s.trees) s.points.marks t.points.marks
+MarksStay = (s t : State) → Reaches s t → IsValid s → IsConfined s
+    → AllZip (KeepsMark s.host s.trees) s.points.marks t.points.marks
 
--- a removal, at the state where it is made, of a tree that holds l below its root; the root is editable, made by the command or
--- a br
+-- a removal, at the state where it is made, of a tree that holds l below its root; the root is editable, made by
+-- the command or a br
 abbrev pub TakesOut : Action → State → ℕ → Type 0
 TakesOut (Change (Remove n)) s l =
-    (is_made_edit (Remove n) s ≡ true) × (IsWithin s.trees n l × ((n ≢ l) × ((is_own s n || is_break s.trees n) ≡ true)))
+    (is_made_edit (Remove n) s ≡ true) × (IsWithin s.trees n l
+    × ((n ≢ l) × ((is_own s n || is_break s.trees n) ≡ true)))
 TakesOut _ s l = ⊥
 
 -- some action on the way is such a removal
@@ -80,19 +85,22 @@ abbrev pub TakesOutOn : {s t : State} → Reaches s t → ℕ → Type 0
 TakesOutOn here l = ⊥
 TakesOutOn (onward {t = t} q a) l = TakesOutOn q l ⊎ TakesOut a t l
 
--- an island of the host as the command begins keeps its tree; while it is in the document it is below the host; and it leaves the
--- document only with a tree that holds it
+-- an island of the host as the command begins keeps its tree; while it is in the document it is below the host; and
+-- it leaves the document only with a tree that holds it
 abbrev pub IslandsStay : Type 0
 IslandsStay =
-    (s t : State) (h : ℕ) (keeping : Bool) → IsValid s → is_host s.trees h ≡ true → (r : Reaches (begun (Some h) keeping s) t)
+    (s t : State) (h : ℕ) (keeping : Bool) → IsValid s → is_host s.trees h ≡ true
+    → (r : Reaches (begun (Some h) keeping s) t)
     → (l : ℕ) → is_island s.trees h l ≡ true
-    → (tree_of t.trees l ≡ tree_of s.trees l) × ((IsWithin t.trees 0 l → IsWithin t.trees h l) × (IsWithin s.trees 0 l → IsWithin t.trees 0 l ⊎ TakesOutOn r l))
+    → (tree_of t.trees l ≡ tree_of s.trees l) × ((IsWithin t.trees 0 l → IsWithin t.trees h l)
+    × (IsWithin s.trees 0 l → IsWithin t.trees 0 l ⊎ TakesOutOn r l))
 
 -- an action that gives no node a state of contenteditable and takes none away
 abbrev pub LeavesStates : Action → Type 0
 LeavesStates (Change (Set n name value)) = bytes_eq name (codes "contenteditable") ≡ false
 LeavesStates (Change (Unset n name)) = bytes_eq name (codes "contenteditable") ≡ false
-LeavesStates (MakeElement name attributes) = (is_true_state (Element name attributes) || is_false_state (Element name attributes)) ≡ false
+LeavesStates (MakeElement name attributes) = (is_true_state (Element name attributes)
+    || is_false_state (Element name attributes)) ≡ false
 LeavesStates _ = Unit {0}
 
 -- each action on the way is such
@@ -102,7 +110,8 @@ LeavesStatesOn (onward {t = t} q a) = LeavesStatesOn q × LeavesStates a
 
 -- the same as `TakesOut`, of a root that is editable or made by the command
 abbrev pub TakesOwn : Action → State → ℕ → Type 0
-TakesOwn (Change (Remove n)) s l = (is_made_edit (Remove n) s ≡ true) × (IsWithin s.trees n l × ((n ≢ l) × (is_own s n ≡ true)))
+TakesOwn (Change (Remove n)) s l = (is_made_edit (Remove n) s ≡ true)
+    × (IsWithin s.trees n l × ((n ≢ l) × (is_own s n ≡ true)))
 TakesOwn _ s l = ⊥
 
 abbrev pub TakesOwnOn : {s t : State} → Reaches s t → ℕ → Type 0
@@ -112,7 +121,8 @@ TakesOwnOn (onward {t = t} q a) l = TakesOwnOn q l ⊎ TakesOwn a t l
 -- so an island leaves the document where no state of contenteditable is given or taken on the way
 abbrev pub IslandsLeave : Type 0
 IslandsLeave =
-    (s t : State) (h : ℕ) (keeping : Bool) → IsValid s → is_host s.trees h ≡ true → (r : Reaches (begun (Some h) keeping s) t) → LeavesStatesOn r
+    (s t : State) (h : ℕ) (keeping : Bool) → IsValid s → is_host s.trees h ≡ true
+    → (r : Reaches (begun (Some h) keeping s) t) → LeavesStatesOn r
     → (l : ℕ) → is_island s.trees h l ≡ true → IsWithin s.trees 0 l → IsWithin t.trees 0 l ⊎ TakesOwnOn r l
 
 -- ---- the extraction of a tail
@@ -120,7 +130,8 @@ IslandsLeave =
 -- the trees allow each step of a tail where it is taken
 abbrev pub TailsArePossible : Type 0
 TailsArePossible =
-    (s : State) (from : Point) (end target : ℕ) → IsValid s → may_extract s from end target ≡ true → are_possible (tail_of s from end target) s ≡ true
+    (s : State) (from : Point) (end target : ℕ) → IsValid s → may_extract s from end target ≡ true
+    → are_possible (tail_of s from end target) s ≡ true
 
 -- its steps end by themselves: they are the same however much deeper they might nest
 abbrev pub TailsEnd : Type 0
@@ -130,7 +141,8 @@ TailsEnd =
 
 -- and no node of the document leaves it
 abbrev pub TailsStay : Type 0
-TailsStay = (s : State) (from : Point) (end target l : ℕ) → IsValid s → IsWithin s.trees 0 l → IsWithin (acted (Extract from end target) s).trees 0 l
+TailsStay = (s : State) (from : Point) (end target l : ℕ) → IsValid s → IsWithin s.trees 0 l
+    → IsWithin (acted (Extract from end target) s).trees 0 l
 
 -- ---- keeping commands
 

@@ -27,7 +27,8 @@ move_first p n = look λ s. move n p (first_of s.trees p) >> done
 abbrev pub move_last : ℕ → ℕ → Run (Unit {0})
 move_last p n = move n p None >> done
 
--- the nodes of a list go there: where each comes to stand behind the ones that went before, in order, else in reverse order
+-- the nodes of a list go there: where each comes to stand behind the ones that went before, in order, else in
+-- reverse order
 unfoldable pub move_all_before : List ℕ → ℕ → Run (Unit {0})
 move_all_before list o = for_each list (move_before o)
 

@@ -11,7 +11,8 @@ use Rattle.dom_model.specs.Contents.{is_break}
 -- the forest without the children of a label
 unfoldable pub hollowed : Forest Content → ℕ → Forest Content
 hollowed Nil h = Nil
-hollowed (Tree m c ks rest) h = if m == h then Tree m c Nil (hollowed rest h) else Tree m c (hollowed ks h) (hollowed rest h)
+hollowed (Tree m c ks rest) h = if m == h then Tree m c Nil (hollowed rest h)
+    else Tree m c (hollowed ks h) (hollowed rest h)
 
 -- the document without the children of the host; without a host, the whole document
 abbrev pub outside_by : Option ℕ → Forest Content → Forest Content

@@ -34,7 +34,8 @@ edits_in (Do e ∷ xs) = e ∷ edits_in xs
 -- the edits that an action makes, in order: none or one, or those of a tail
 abbrev pub edits_of : Action → State → List Edit
 edits_of (Change e) s = if is_made_edit e s then e ∷ [] else []
-edits_of (Extract from end target) s = if may_extract s from end target then edits_in (tail_of s from end target) else []
+edits_of (Extract from end target) s = if may_extract s from end target
+    then edits_in (tail_of s from end target) else []
 edits_of _ s = []
 
 -- the edits made on the way, in order
@@ -50,7 +51,8 @@ changes_in (Do e ∷ xs) s = change_of e s.trees ∷ changes_in xs (stepped (Do 
 
 abbrev pub changes_of : Action → State → List forest.Change
 changes_of (Change e) s = if is_made_edit e s then change_of e s.trees ∷ [] else []
-changes_of (Extract from end target) s = if may_extract s from end target then changes_in (tail_of s from end target) s else []
+changes_of (Extract from end target) s = if may_extract s from end target
+    then changes_in (tail_of s from end target) s else []
 changes_of _ s = []
 
 unfoldable pub changes_on : {s t : State} → Reaches s t → List forest.Change
@@ -66,7 +68,8 @@ nodes_in (Do e ∷ xs) s = nodes_in xs (stepped (Do e) s)
 abbrev pub nodes_of : Action → State → List (ℕ × Content)
 nodes_of (MakeElement name attributes) s = (s.next, Element name attributes) ∷ []
 nodes_of (MakeWords chars) s = (s.next, words_content chars) ∷ []
-nodes_of (Extract from end target) s = if may_extract s from end target then nodes_in (tail_of s from end target) s else []
+nodes_of (Extract from end target) s = if may_extract s from end target
+    then nodes_in (tail_of s from end target) s else []
 nodes_of _ s = []
 
 unfoldable pub nodes_on : {s t : State} → Reaches s t → List (ℕ × Content)

@@ -1,4 +1,5 @@
--- What is looked at before an edit, by which the points and the overrides follow it. No public clause cites this module.
+-- What is looked at before an edit, by which the points and the overrides follow it. No public clause cites this
+-- module.
 use Rattle.std.specs.Prelude.{◌≡◌, ◌≢◌, ℕ, ◌≤◌, true, false, List, length, take, Option, Some, None, IfSome, if◌then◌else◌}
 use Rattle.std.specs.Option.{option_map}
 use Rattle.dom_model.specs.declared.Content.{Content}
@@ -33,13 +34,14 @@ settled f points g after overrides =
 
 -- ---- points
 
--- Of each label at which a point stands the list tells whether it is in the tree of n; without a place, none is, and none
--- is the parent
+-- Of each label at which a point stands the list tells whether it is in the tree of n; without a place, none is,
+-- and none is the parent
 pub record IsRemoval (f : Forest Content) (points : LivePoints) (n p : ℕ) (r : Removal) : Type 0 where
   pub few : r.count ≤ 36
   pub tells : TellsAlike points (take r.count r.gone) (preorder (tree_of f n))
   pub place : IfSome r.place (λ at. (at.label ≡ p) × (at.offset ≡ index_of f n))
-  pub apart : r.place ≡ None → (l : ℕ) → has_label (labels_of points) l ≡ true → (has_label (preorder (tree_of f n)) l ≡ false) × (l ≢ p)
+  pub apart : r.place ≡ None → (l : ℕ) → has_label (labels_of points) l ≡ true
+      → (has_label (preorder (tree_of f n)) l ≡ false) × (l ≢ p)
 
 -- where n stands, or else no point stands at its parent nor at the other
 abbrev pub IsFrom : Forest Content → LivePoints → ℕ → ℕ → ℕ → Option Point → Type 0

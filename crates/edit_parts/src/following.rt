@@ -74,7 +74,8 @@ impl Removal {
     /// The points follow the removal.
     pub fn adjust(&self, points: &mut Points)
         requires { self.now.count ≤ 36 }
-        ensures { (f : Forest Content) (n p : ℕ) → IsRemoval f points.old n p self.now → points.new ≡ mapped (Remove (preorder (tree_of f n)) p (index_of f n)) points.old }
+        ensures { (f : Forest Content) (n p : ℕ) → IsRemoval f points.old n p self.now → points.new
+            ≡ mapped (Remove (preorder (tree_of f n)) p (index_of f n)) points.old }
     {
         if let Some(place) = self.place {
             points.removed(&self.gone[..self.count], place.label, place.offset);
@@ -123,8 +124,14 @@ pub fn adjust_moved(
     node: NodeRef,
 )
     requires held { Holds arena.now node }
-    requires fits { IfSome from (λ at. Fits (Move at (record { label = parent.label; offset = index_of arena.now.trees node.label })) points.old) }
-    ensures moved { IfSome from (λ at. points.new ≡ mapped (Move at (record { label = parent.label; offset = index_of arena.now.trees node.label })) points.old) }
+    requires fits { IfSome from (λ at. Fits (Move at (record {
+      label = parent.label;
+      offset = index_of arena.now.trees node.label;
+    })) points.old) }
+    ensures moved { IfSome from (λ at. points.new ≡ mapped (Move at (record {
+      label = parent.label;
+      offset = index_of arena.now.trees node.label;
+    })) points.old) }
     ensures none { IsNone from → points.new ≡ points.old }
 {
     if let Some(from) = from {

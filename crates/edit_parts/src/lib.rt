@@ -1,6 +1,6 @@
-//! The parts of a document under edits that look at its trees and its live points alone: the numbers of a tree and what it
-//! bears, the contents that edits make of others, how the points follow an edit, and the overrides, which are unset where
-//! the active range changes.
+//! The parts of a document under edits that look at its trees and its live points alone: the numbers of a tree and
+//! what it bears, the contents that edits make of others, how the points follow an edit, and the overrides, which
+//! are unset where the active range changes.
 #![tactic(auto)]
 
 mod following;

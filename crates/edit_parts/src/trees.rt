@@ -26,8 +26,11 @@ pub(crate) struct Place {
 fn after(arena: &Arena, top: NodeRef, place: Place) -> Option<Place>
     requires top_held { Holds arena.now top }
     requires inside { IsIn arena.now top place }
-    ensures found { IfSome result (λ next. IsIn arena.now top next × ((w : ℕ → Content → ℕ) → total_after w arena.now.trees place.node.label ≡ total_from w arena.now.trees next.node.label)) }
-    ensures none { (result ≡ None) → (w : ℕ → Content → ℕ) → total_after w arena.now.trees place.node.label ≡ total_after w arena.now.trees top.label }
+    ensures found { IfSome result (λ next. IsIn arena.now top next
+        × ((w : ℕ → Content → ℕ) → total_after w arena.now.trees place.node.label
+        ≡ total_from w arena.now.trees next.node.label)) }
+    ensures none { (result ≡ None) → (w : ℕ → Content → ℕ) → total_after w arena.now.trees place.node.label
+        ≡ total_after w arena.now.trees top.label }
 {
     arena.valid();
     let mut at = place;

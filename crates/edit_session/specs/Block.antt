@@ -40,9 +40,11 @@ NoneIs word lines = All (λ line. line ≢ word) lines
 
 abbrev pub IsBlock : List (List ℕ) → Block → Type 0
 IsBlock lines NoOpening = (line word : List ℕ) (rest : List (List ℕ)) → lines ≡ line ∷ rest → ¬ (IsOpening line word)
-IsBlock lines NoClosing = (line word : List ℕ) × (rest : List (List ℕ)) × (lines ≡ line ∷ rest) × IsOpening line word × NoneIs word rest
+IsBlock lines NoClosing = (line word : List ℕ) × (rest : List (List ℕ)) × (lines ≡ line ∷ rest)
+    × IsOpening line word × NoneIs word rest
 IsBlock lines (Whole page acts) =
-    (line word : List ℕ) × (before : List (List ℕ)) × (lines ≡ line ∷ (before ++ word ∷ acts)) × IsOpening line word × NoneIs word before
+    (line word : List ℕ) × (before : List (List ℕ)) × (lines ≡ line ∷ (before ++ word ∷ acts))
+    × IsOpening line word × NoneIs word before
     × (page ≡ join_with_byte 10 before)
 
 -- ---- the block that lines begin with, computed
@@ -63,7 +65,10 @@ with_line line cut = record cut { before = line ∷ cut.before }
 abbrev pub cut_at : List ℕ → List (List ℕ) → Option Cut
 cut_at word [] = None
 cut_at word (line ∷ lines) =
-    if bytes_eq line word then Some (record { before = []; after = lines }) else option_map (with_line line) (cut_at word lines)
+    if bytes_eq line word then Some (record {
+      before = [];
+      after = lines;
+    }) else option_map (with_line line) (cut_at word lines)
 
 abbrev pub block_cut : Option Cut → Block
 block_cut None = NoClosing

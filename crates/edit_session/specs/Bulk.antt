@@ -23,7 +23,8 @@ abbrev pub select_line : ℕ → List ℕ
 select_line count = select_text (count - 1) (length (item_text count))
 
 abbrev pub bulk_acts : ℕ → List ℕ
-bulk_acts count = select_line count ++ codes "exec bold\nstat\nexec bold\nstat\nexec indent\nstat\nundo 3\nstat\nredo 3\nstat\n"
+bulk_acts count = select_line count
+    ++ codes "exec bold\nstat\nexec bold\nstat\nexec indent\nstat\nundo 3\nstat\nredo 3\nstat\n"
 
 unfoldable pub bulk_text : ℕ → List ℕ
 bulk_text count = codes "page <<END\n" ++ bulk_page count ++ codes "\nEND\n" ++ bulk_acts count

@@ -8,9 +8,11 @@ use Rattle.edit_session.specs.Transcript.{Transcript, refused, word_of, transcri
 use Rattle.edit_session.specs.declared.session.Status.{Status}
 use Rattle.edit_session.specs.declared.session.Status.TheVariants.{Done, Usage, ReadFault, WriteFault, Memory, PageRefused, TooLong, StepRefused}
 
--- The status and what a sink took, where this was to be answered: a prefix of the text, all of it with the status that was to be
--- answered, and any other status for a cause. A sink's count of faults is looked at before and after.
-pub record Follows (want : Transcript) (before after : Option (List ℕ)) (count count_after : ℕ) (status : Status) : Type 0 where
+-- The status and what a sink took, where this was to be answered: a prefix of the text, all of it with the status
+-- that was to be answered, and any other status for a cause. A sink's count of faults is looked at before and
+-- after.
+pub record Follows (want : Transcript) (before after : Option (List ℕ)) (count count_after : ℕ)
+    (status : Status) : Type 0 where
   pub written : TakesPrefix before after want.text
   pub whole : status ≡ want.status → after ≡ with_end before want.text
   pub cause : (status ≡ want.status) ⊎ (((status ≡ WriteFault) × Rose count count_after) ⊎ (status ≡ Memory))
@@ -71,7 +73,8 @@ WriteFailed status writes writes_after = (status ≡ WriteFault) × Rose writes 
 -- transcript's status. Any other status has its cause: a read that failed, a write that failed, or no memory. Nothing
 -- comes in the place of Usage; and no failed write in the place of TooLong, with which nothing is written.
 pub record RunFollows
-    (want : Transcript) (before after : Option (List ℕ)) (reads reads_after writes writes_after : ℕ) (status : Status) : Type 0 where
+    (want : Transcript) (before after : Option (List ℕ)) (reads reads_after writes writes_after : ℕ)
+    (status : Status) : Type 0 where
   pub written : TakesPrefix before after want.text
   pub whole : status ≡ want.status → after ≡ with_end before want.text
   pub cause : (status ≡ want.status)

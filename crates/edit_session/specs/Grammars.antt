@@ -16,4 +16,5 @@ pub record RestsOnGrammars : Type 0 where
   pub pages : (cap : ℕ) (bytes : List ℕ) (reading : Reading)
       → (page_reading depth_limit cap bytes ≡ reading) ↔ IsReading depth_limit cap bytes reading
   pub acts : (line : List ℕ) (meaning : Line) → (line_of line ≡ meaning) ↔ IsLine line meaning
-  pub steps : (line : List ℕ) (step : StepLine) → (step_in line ≡ Some step) ↔ (IsStepLine step × (line_text step ≡ line))
+  pub steps : (line : List ℕ) (step : StepLine) → (step_in line ≡ Some step)
+      ↔ (IsStepLine step × (line_text step ≡ line))

@@ -130,7 +130,8 @@ line_reply denied e line =
 -- each line is answered by the editor that the earlier lines left
 unfoldable pub replies_to : List (List ℕ) → Editing → List (List ℕ) → List ℕ
 replies_to denied e [] = []
-replies_to denied e (line ∷ lines) = (line_reply denied e line).text ++ replies_to denied (line_reply denied e line).after lines
+replies_to denied e (line ∷ lines) = (line_reply denied e line).text
+    ++ replies_to denied (line_reply denied e line).after lines
 
 -- the name of a command in an act is one of letters, digits and `-`
 abbrev pub IsNamed : Act → Type 0

@@ -1,4 +1,5 @@
--- The words of the command line, after the program's name: `check`, `replay`, `bulk` and a number, or `run` and its options.
+-- The words of the command line, after the program's name: `check`, `replay`, `bulk` and a number, or `run` and its
+-- options.
 use Rattle.std.specs.Prelude.{◌≡◌, ◌⊎◌, ℕ, Bool, true, false, ◌&&◌, nat_lt, nat_le, nat_eq, List, [], ◌∷◌, ◌++◌, length, drop, codes, bytes_eq, Option, Some, None, is_some, unwrap_or, if◌then◌else◌}
 use denote.Ref.{Bor}
 use Rattle.std.specs.Option.{option_map, option_and_then, option_map_or}
@@ -12,7 +13,8 @@ use Rattle.edit_session.specs.declared.words.Setting.TheVariants.{Cap, Undo, Den
 use Rattle.edit_session.specs.declared.words.Options.{Options}
 use Rattle.edit_session.specs.declared.words.Limits as read_limits
 
--- What bounds a session: labels stay below the cap, so many entries are kept for undo, and these names of commands are denied.
+-- What bounds a session: labels stay below the cap, so many entries are kept for undo, and these names of commands
+-- are denied.
 pub record Limits : Type 0 where
   pub cap : ℕ
   pub undo : ℕ
@@ -53,7 +55,8 @@ usual_undo = 100
 
 -- a number from 1 to the greatest; numbers are those of acts
 abbrev pub amount_of : ℕ → List ℕ → Option ℕ
-amount_of greatest text = option_and_then (λ n. if nat_lt 0 n && nat_le n greatest then Some n else None) (number_of text)
+amount_of greatest text = option_and_then (λ n. if nat_lt 0 n && nat_le n greatest then Some n else None)
+    (number_of text)
 
 -- an option with its value
 pub data Choice : Type 0 where

@@ -43,8 +43,10 @@ fn mark(
     anchor: &Place,
     focus: &Place,
 ) -> Result<&'static [u8], AllocError>
-    ensures text { IfOk result (λ text. text.now ≡ (mark_reply editor.old name.now (pair_at editor.old.state.trees anchor.now focus.now)).text) }
-    ensures after { OnOk result (editor.new ≡ (mark_reply editor.old name.now (pair_at editor.old.state.trees anchor.now focus.now)).after) }
+    ensures text { IfOk result (λ text. text.now ≡ (mark_reply editor.old name.now
+        (pair_at editor.old.state.trees anchor.now focus.now)).text) }
+    ensures after { OnOk result (editor.new ≡ (mark_reply editor.old name.now
+        (pair_at editor.old.state.trees anchor.now focus.now)).after) }
 {
     match editor.mark(name, anchor, focus) {
         Ok(()) => Ok(b"ok\n"),
@@ -73,8 +75,10 @@ fn exec(
     value: &Chars,
 ) -> Result<&'static [u8], AllocError>
     requires { is_name name.now ≡ true }
-    ensures text { IfOk result (λ text. text.now ≡ (exec_reply editor.old (gated_outcome gate.now editor.old name.now value.now)).text) }
-    ensures after { OnOk result (editor.new ≡ (exec_reply editor.old (gated_outcome gate.now editor.old name.now value.now)).after) }
+    ensures text { IfOk result (λ text. text.now ≡ (exec_reply editor.old
+        (gated_outcome gate.now editor.old name.now value.now)).text) }
+    ensures after { OnOk result (editor.new ≡ (exec_reply editor.old
+        (gated_outcome gate.now editor.old name.now value.now)).after) }
 {
     match editor.exec_gated(alloc, gate, text_of(name), value.as_slice()) {
         Ok(Answer::Yes) => Ok(b"true\n"),
@@ -230,7 +234,8 @@ fn answer_act(
     }
 }
 
-/// Answers a line of a session, in which a command that the gate denies is refused. An empty line is no act, and has an empty reply.
+/// Answers a line of a session, in which a command that the gate denies is refused. An empty line is no act, and
+/// has an empty reply.
 #[tactic(auto, unfolding(crate::specs::Replies::line_reply))]
 pub fn answer_line(
     alloc: Global,

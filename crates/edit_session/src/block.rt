@@ -30,7 +30,8 @@ fn first_newline(text: &[u8]) -> Option<usize>
 pub fn line_end(text: &[u8]) -> usize
     ensures value { result ≡ end_of text.now }
     ensures within { result ≤ length text.now }
-    ensures line { 0 < length text.now → lines_of text.now ≡ take result text.now ∷ lines_of (drop (result + 1) text.now) }
+    ensures line { 0 < length text.now → lines_of text.now ≡ take result text.now ∷ lines_of
+        (drop (result + 1) text.now) }
 {
     match first_newline(text) {
         Some(at) => at,

@@ -57,7 +57,8 @@ fn replay_line(
     requires entries { tally.entries < 2 ^ 32 }
     requires steps { tally.steps < 2 ^ 32 }
     requires short { length line.now < 2 ^ 32 }
-    ensures told { ReplaysLine result (labelled arena.new) (line_replayed line.now (replayed tally (labelled arena.old))) }
+    ensures told { ReplaysLine result (labelled arena.new) (line_replayed line.now
+        (replayed tally (labelled arena.old))) }
     ensures entries { IfOk result (λ t. t.entries ≤ tally.entries + 1) }
     ensures steps { IfOk result (λ t. t.steps ≤ tally.steps + 1) }
 {

@@ -71,7 +71,8 @@ fn document_line(alloc: Global, nodes: u32, chars: u64, next: u32) -> Result<Str
 
 // Appends the line with the numbers of the document.
 fn push_numbers(alloc: Global, text: &mut Vec<u8>, arena: &Arena) -> Result<(), AllocError>
-    ensures { OnOk result (text.new.items ≡ text.old.items ++ document_line (node_count arena.now.trees) (char_count arena.now.trees) arena.now.next) }
+    ensures { OnOk result (text.new.items ≡ text.old.items ++ document_line (node_count arena.now.trees)
+        (char_count arena.now.trees) arena.now.next) }
 {
     let (nodes, chars) = (arena.node_count(), arena.char_count());
     let line = document_line(alloc, nodes, chars, arena.next_label())?;

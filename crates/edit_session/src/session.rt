@@ -199,7 +199,8 @@ fn edit_page<O: Sink>(
 ) -> Status
     requires depth { 0 < limits.undo }
     requires loose { HasNoLoose arena }
-    ensures { Follows (transcript_of Status.Done (replies_to (denied_in limits.entry.denied) (new_editing arena limits.entry.undo) (lines_of acts.now)))
+    ensures { Follows (transcript_of Status.Done (replies_to (denied_in limits.entry.denied)
+        (new_editing arena limits.entry.undo) (lines_of acts.now)))
         (O.taken output.old) (O.taken output.new) (O.faults output.old) (O.faults output.new) result }
 {
     match make_gate(alloc, limits.denied) {
@@ -265,7 +266,8 @@ fn tell_refusal<O: Sink>(alloc: Global, output: &mut O, refusal: Refusal) -> Sta
 
 fn refuse_step<O: Sink>(alloc: Global, output: &mut O, refusal: Refusal) -> Status
     ensures { (want : Result Replayed Refusal) → IsFault refusal refusal.fault want
-        → Follows (replay_ended want) (O.taken output.old) (O.taken output.new) (O.faults output.old) (O.faults output.new) result }
+        → Follows (replay_ended want) (O.taken output.old) (O.taken output.new) (O.faults output.old)
+        (O.faults output.new) result }
 {
     match refusal.fault {
         StepFault::Memory => Status::Memory,
@@ -336,7 +338,8 @@ fn obey<O: Sink>(alloc: Global, order: Order, input: &[u8], output: &mut O) -> S
     }
 }
 
-/// Runs the program over the words after its name: reads all of the input, where the order reads it, and writes the transcript.
+/// Runs the program over the words after its name: reads all of the input, where the order reads it, and writes the
+/// transcript.
 #[tactic(auto, using(crate::proofs::Grammars::rests))]
 pub fn run_session<I: Source, O: Sink>(
     alloc: Global,
@@ -349,7 +352,8 @@ pub fn run_session<I: Source, O: Sink>(
     ensures unread { result ≡ Status.Usage → (input.new ≡ input.old) × (output.new ≡ output.old) }
 
     // An order that reads no input leaves it as it is.
-    ensures untouched { (order : asked.Order) → order_of (map string_bytes words.now) ≡ Some order → reads_input order ≡ false → input.new ≡ input.old }
+    ensures untouched { (order : asked.Order) → order_of (map string_bytes words.now) ≡ Some order
+        → reads_input order ≡ false → input.new ≡ input.old }
 
     // Where the source shows its bytes, what is written is a prefix of their transcript, all of it with the
     // transcript's status, and any other status has its cause.

@@ -23,8 +23,8 @@ pub enum Order<'a> {
     Bulk(u32),
 }
 
-/// What bounds a session: labels stay below `cap`, `undo` entries are kept for undo, and the commands are denied whose names
-/// `denied` lists, with a comma between.
+/// What bounds a session: labels stay below `cap`, `undo` entries are kept for undo, and the commands are denied
+/// whose names `denied` lists, with a comma between.
 #[derive(Clone, Copy, PartialEq, Eq, Debug)]
 pub struct Limits<'a> {
     pub cap: u32,
@@ -142,7 +142,8 @@ fn setting_named(word: &str) -> Option<Setting>
 
 // The options with what the text of its value chooses for one of them.
 fn choose<'a>(options: Options<'a>, setting: Setting, text: &'a str) -> Option<Options<'a>>
-    ensures { option_map given_in result ≡ option_map (with_choice (given_in options.entry)) (choice_of setting text.now) }
+    ensures { option_map given_in result ≡ option_map (with_choice (given_in options.entry))
+        (choice_of setting text.now) }
 {
     match setting {
         Setting::Cap => Some(Options {
@@ -245,8 +246,10 @@ fn plain_order<'a>(word: &str, words: &'a [String]) -> Option<Order<'a>>
 #[tactic(auto, using(crate::proofs::WordsLemmas::grammar_of, crate::proofs::WordsLemmas::one_order))]
 pub fn read_words(words: &[String]) -> Option<Order<'_>>
     ensures computed { option_map order_in result ≡ order_of (map string_bytes words.now) }
-    ensures grammar { (o : grammar.Order) → (option_map order_in result ≡ Some o) ↔ IsOrder (map string_bytes words.now) o }
-    ensures one_order { (o p : grammar.Order) → IsOrder (map string_bytes words.now) o → IsOrder (map string_bytes words.now) p → o ≡ p }
+    ensures grammar { (o : grammar.Order) → (option_map order_in result ≡ Some o)
+        ↔ IsOrder (map string_bytes words.now) o }
+    ensures one_order { (o p : grammar.Order) → IsOrder (map string_bytes words.now) o
+        → IsOrder (map string_bytes words.now) p → o ≡ p }
 {
     match words {
         [first, rest @ ..] if first.as_str() == "run" => {

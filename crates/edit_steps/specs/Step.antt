@@ -33,9 +33,11 @@ step_applied x a = record a { trees = applied (change_of x) a.trees }
 
 -- the step that takes it back
 unfoldable pub step_inverse : Step → ArenaState → Step
-step_inverse (Unlink n) a = Link n (ref_at a (unwrap_or (parent_of a.trees n.label) 0)) (option_map (ref_at a) (next_of a.trees n.label))
+step_inverse (Unlink n) a = Link n (ref_at a (unwrap_or (parent_of a.trees n.label) 0))
+    (option_map (ref_at a) (next_of a.trees n.label))
 step_inverse (Link n p b) a = Unlink n
-step_inverse (Place n p b) a = Place n (ref_at a (unwrap_or (parent_of a.trees n.label) 0)) (option_map (ref_at a) (next_of a.trees n.label))
+step_inverse (Place n p b) a = Place n (ref_at a (unwrap_or (parent_of a.trees n.label) 0))
+    (option_map (ref_at a) (next_of a.trees n.label))
 step_inverse (Words n words) a = Words n (unwrap_or (chars_of a.trees n.label) words)
 step_inverse (Attributes n list) a = Attributes n (unwrap_or (attributes_of a.trees n.label) list)
 
@@ -62,12 +64,14 @@ pub record StepFits (x : Step) (a : ArenaState) : Type 0 where
 pub record GoBack (xs : List Step) (a : ArenaState) : Type 0 where
   pub fits : FitsBack applied Fits (changes_of xs) a.trees
   pub state : back step_applied xs a ≡ record a { trees = back applied (changes_of xs) a.trees }
-  pub turns : changes_of (inverses_back step_applied step_inverse xs a) ≡ inverses_back applied inverse (changes_of xs) a.trees
+  pub turns : changes_of (inverses_back step_applied step_inverse xs a)
+      ≡ inverses_back applied inverse (changes_of xs) a.trees
   pub held : Each (Holds a) (nodes_in (inverses_back step_applied step_inverse xs a))
 
 -- and from the first to the last
 pub record GoForth (xs : List Step) (a : ArenaState) : Type 0 where
   pub fits : FitsForth applied Fits (changes_of xs) a.trees
   pub state : forth step_applied xs a ≡ record a { trees = forth applied (changes_of xs) a.trees }
-  pub turns : changes_of (inverses_forth step_applied step_inverse xs a) ≡ inverses_forth applied inverse (changes_of xs) a.trees
+  pub turns : changes_of (inverses_forth step_applied step_inverse xs a)
+      ≡ inverses_forth applied inverse (changes_of xs) a.trees
   pub held : Each (Holds a) (nodes_in (inverses_forth step_applied step_inverse xs a))

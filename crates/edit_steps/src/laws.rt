@@ -1,5 +1,5 @@
-//! That steps are changes of the forest of an arena (crate `forest_changes`, which says what changes do). Each law is the
-//! contract of a function that does nothing.
+//! That steps are changes of the forest of an arena (crate `forest_changes`, which says what changes do). Each law
+//! is the contract of a function that does nothing.
 
 ghost use Rattle.std.specs.Prelude.{◌≡◌, ℕ, List, map};
 ghost use Rattle.dom_model.specs.ArenaState.{ArenaState, IsSlotted};
@@ -26,6 +26,8 @@ pub fn steps_go_on()
 
 /// Steps fit an arena where their changes fit its forest and it holds the nodes that they name.
 pub fn steps_fit()
-    ensures back { (xs : List Step) (a : ArenaState) → IsSlotted a → Each (Holds a) (nodes_in xs) → FitsBack applied Fits (changes_of xs) a.trees → FitsBack step_applied StepFits xs a }
-    ensures forth { (xs : List Step) (a : ArenaState) → IsSlotted a → Each (Holds a) (nodes_in xs) → FitsForth applied Fits (changes_of xs) a.trees → FitsForth step_applied StepFits xs a }
+    ensures back { (xs : List Step) (a : ArenaState) → IsSlotted a → Each (Holds a) (nodes_in xs)
+        → FitsBack applied Fits (changes_of xs) a.trees → FitsBack step_applied StepFits xs a }
+    ensures forth { (xs : List Step) (a : ArenaState) → IsSlotted a → Each (Holds a) (nodes_in xs)
+        → FitsForth applied Fits (changes_of xs) a.trees → FitsForth step_applied StepFits xs a }
 {}

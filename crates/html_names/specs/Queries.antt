@@ -14,4 +14,5 @@ query_word Value = codes "value"
 
 -- the question that a word names
 abbrev pub query_kind_of : List ℕ → Option QueryKind
-query_kind_of word = find (λ kind. bytes_eq (query_word kind) word) (Enabled ∷ Indeterm ∷ State ∷ Supported ∷ Value ∷ [])
+query_kind_of word = find (λ kind. bytes_eq (query_word kind) word)
+    (Enabled ∷ Indeterm ∷ State ∷ Supported ∷ Value ∷ [])

@@ -132,7 +132,8 @@ impl Command {
     /// The command that a text names, without regard to ASCII case; `None` where it names none.
     pub fn named(text: &str) -> Option<Command>
         ensures value { result ≡ commands.command_named text.now }
-        ensures its_name { IfSome result (λ command. IsTrue (str_eq_ignore_ascii_case (commands.command_name command) text.now)) }
+        ensures its_name { IfSome result (λ command. IsTrue (str_eq_ignore_ascii_case
+            (commands.command_name command) text.now)) }
     {
         for command in Command::all() {
             if command.name().eq_ignore_ascii_case(text) {

@@ -39,7 +39,8 @@ fn push_if_link(list: &mut Vec<NodeRef>, doc: &Doc, node: NodeRef) -> Result<(),
     requires node_held { Holds doc.now node }
     requires each_held { EachHeld doc.now list.old.items }
     ensures held { EachHeld doc.now list.new.items }
-    ensures ok { OnOk result (labels_of list.new.items ≡ labels_of list.old.items ++ filter (is_link doc.now.state.trees) (node.label ∷ [])) }
+    ensures ok { OnOk result (labels_of list.new.items ≡ labels_of list.old.items
+        ++ filter (is_link doc.now.state.trees) (node.label ∷ [])) }
 {
     if is_link(doc, node) {
         list.push(node)?;
@@ -52,7 +53,9 @@ fn push_above(list: &mut Vec<NodeRef>, doc: &Doc, node: NodeRef) -> Result<(), A
     requires node_held { Holds doc.now node }
     requires each_held { EachHeld doc.now list.old.items }
     ensures held { EachHeld doc.now list.new.items }
-    ensures ok { OnOk result (labels_of list.new.items ≡ labels_of list.old.items ++ filter (is_link doc.now.state.trees) (reverse (map (λ k. k.label) (lineage doc.now.state.trees node.label)))) }
+    ensures ok { OnOk result (labels_of list.new.items ≡ labels_of list.old.items
+        ++ filter (is_link doc.now.state.trees) (reverse (map (λ k. k.label)
+        (lineage doc.now.state.trees node.label)))) }
 {
     doc.valid();
     match doc.parent(node) {
@@ -89,7 +92,8 @@ pub(crate) fn links_above(
 fn links_among(alloc: Global, doc: &Doc, list: &[NodeRef]) -> Result<Vec<NodeRef>, AllocError>
     requires { EachHeld doc.now list.now }
     ensures held { IfOk result (λ kept. EachHeld doc.now kept.items) }
-    ensures links { IfOk result (λ kept. labels_of kept.items ≡ filter (is_link doc.now.state.trees) (labels_of list.now)) }
+    ensures links { IfOk result (λ kept. labels_of kept.items
+        ≡ filter (is_link doc.now.state.trees) (labels_of list.now)) }
 {
     let mut kept = Vec::new(alloc);
     for node in list {
@@ -124,7 +128,8 @@ fn not_above(
     requires list_held { EachHeld doc.now list.now }
     requires below_held { Holds doc.now below }
     ensures held { IfOk result (λ kept. EachHeld doc.now kept.items) }
-    ensures nodes { IfOk result (λ kept. labels_of kept.items ≡ filter (λ l. not (is_ancestor doc.now.state.trees l below.label)) (labels_of list.now)) }
+    ensures nodes { IfOk result (λ kept. labels_of kept.items
+        ≡ filter (λ l. not (is_ancestor doc.now.state.trees l below.label)) (labels_of list.now)) }
 {
     let mut kept = Vec::new(alloc);
     for node in list {
@@ -145,13 +150,16 @@ fn links_beside(
     requires node_held { Holds doc.now node }
     requires other_held { Holds doc.now other }
     ensures held { IfOk result (λ list. EachHeld doc.now list.items) }
-    ensures links { IfOk result (λ list. labels_of list.items ≡ filter (λ l. not (is_ancestor doc.now.state.trees l other.label)) (links_above doc.now.state.trees node.label)) }
+    ensures links { IfOk result (λ list. labels_of list.items
+        ≡ filter (λ l. not (is_ancestor doc.now.state.trees l other.label))
+        (links_above doc.now.state.trees node.label)) }
 {
     let above = links_above(alloc, doc, node)?;
     not_above(alloc, doc, &above, other)
 }
 
-// Appends the nodes in a list from a place on for as long as each stands above a node. It answers at which place it stopped.
+// Appends the nodes in a list from a place on for as long as each stands above a node. It answers at which place it
+// stopped.
 fn push_around(
     list: &mut Vec<NodeRef>,
     doc: &Doc,
@@ -165,8 +173,10 @@ fn push_around(
     requires from { from ≤ length above.now }
     ensures held { EachHeld doc.now list.new.items }
     ensures stop { IfOk result (λ at. at ≤ length above.now) }
-    ensures around { OnOk result (labels_of list.new.items ≡ labels_of list.old.items ++ around doc.now.state.trees (labels_of (drop from above.now)) node.label) }
-    ensures beyond { IfOk result (λ at. labels_of (drop at above.now) ≡ beyond doc.now.state.trees (labels_of (drop from above.now)) node.label) }
+    ensures around { OnOk result (labels_of list.new.items ≡ labels_of list.old.items
+        ++ around doc.now.state.trees (labels_of (drop from above.now)) node.label) }
+    ensures beyond { IfOk result (λ at. labels_of (drop at above.now)
+        ≡ beyond doc.now.state.trees (labels_of (drop from above.now)) node.label) }
 {
     let mut at = from;
     while at < above.len() {
@@ -179,8 +189,8 @@ fn push_around(
     Ok(at)
 }
 
-// Appends two lists in tree order: each node of the first, which are ancestors of one node, before the first node of the
-// second that it stands above.
+// Appends two lists in tree order: each node of the first, which are ancestors of one node, before the first node
+// of the second that it stands above.
 fn push_merged(
     list: &mut Vec<NodeRef>,
     doc: &Doc,
@@ -191,7 +201,8 @@ fn push_merged(
     requires inside_held { EachHeld doc.now inside.now }
     requires each_held { EachHeld doc.now list.old.items }
     ensures held { EachHeld doc.now list.new.items }
-    ensures ok { OnOk result (labels_of list.new.items ≡ labels_of list.old.items ++ merged doc.now.state.trees (labels_of above.now) (labels_of inside.now)) }
+    ensures ok { OnOk result (labels_of list.new.items ≡ labels_of list.old.items
+        ++ merged doc.now.state.trees (labels_of above.now) (labels_of inside.now)) }
 {
     let mut at = 0;
     for node in inside {
@@ -202,8 +213,8 @@ fn push_merged(
     Ok(())
 }
 
-/// The links that unlink is for, in tree order: those around the start of the range, and with those that it contains those around
-/// its end alone. It looks at the nodes from the start to the end and those above them.
+/// The links that unlink is for, in tree order: those around the start of the range, and with those that it
+/// contains those around its end alone. It looks at the nodes from the start to the end and those above them.
 #[tactic(auto, using(edit_actions::proofs::Placed::placed_here))]
 pub(crate) fn links_of(alloc: Global, doc: &Doc, pair: Pair) -> Result<Vec<NodeRef>, AllocError>
     requires { IsPlacedPair doc.now.state.trees pair }

@@ -274,7 +274,8 @@ fn outdent_through(
     requires open { IsOpen doc.old }
     requires passed_held { EachHeld doc.old passed.items }
     requires end_held { Holds doc.old end }
-    ensures gives { Gives result doc.old.state doc.new.state (outdent_through node.label (labels_of passed.items) end.label) }
+    ensures gives { Gives result doc.old.state doc.new.state
+        (outdent_through node.label (labels_of passed.items) end.label) }
     ensures keeps { Keeps doc.old doc.new }
 {
     let way = with_end(passed, end)?;
@@ -338,9 +339,9 @@ fn keeps_place(doc: &Doc, node: NodeRef) -> bool
     !is_indentation(doc, node) && !is_list(doc, node) && !is_indented(doc, node)
 }
 
-/// Outdents a node: an indentation element goes, or is one no more; a list in none gives way to its items; any other node
-/// comes out of the indentation element around it, in which what stands beside it is indented again. A node that isn't editable
-/// stays as it is.
+/// Outdents a node: an indentation element goes, or is one no more; a list in none gives way to its items; any
+/// other node comes out of the indentation element around it, in which what stands beside it is indented again. A
+/// node that isn't editable stays as it is.
 #[tactic(auto, using(edit_model::proofs::Steps::steps, edit_model::proofs::Steps::exits), unfolding(crate::specs::Outdenting::outdent_node))]
 pub fn outdent_node(alloc: Global, doc: &mut Doc, node: NodeRef) -> Result<(), EditFault>
     requires open { IsOpen doc.old }

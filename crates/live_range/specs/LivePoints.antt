@@ -69,7 +69,10 @@ with_value_at (m ∷ ms) (suc k) pair = m ∷ with_value_at ms k pair
 
 -- the points with a mark set: one of that name keeps its place, and a new one goes last
 abbrev pub with_mark : List ℕ → Pair → LivePoints → LivePoints
-with_mark name pair s = record s { marks = insert_entry bytes_eq s.marks name pair; names = insert_key bytes_eq s.names name }
+with_mark name pair s = record s {
+  marks = insert_entry bytes_eq s.marks name pair;
+  names = insert_key bytes_eq s.names name;
+}
 
 -- the points without the mark of that name
 abbrev pub without_mark : List ℕ → LivePoints → LivePoints

@@ -27,11 +27,17 @@ with_pair (m ∷ ms) (suc k) pair = m ∷ with_pair ms k pair
 
 -- the labels at the places, in the order of the points
 abbrev pub place_labels : Places → List ℕ
-place_labels p = (option_labels p.selection ++ option_labels p.scratch) ++ flat_map (λ m. pair_labels m.pair) (marks_of p)
+place_labels p = (option_labels p.selection ++ option_labels p.scratch)
+    ++ flat_map (λ m. pair_labels m.pair) (marks_of p)
 
 -- the points at the places, with the names
 abbrev pub shown : List (List ℕ) → Places → LivePoints
-shown names p = record { selection = p.selection; scratch = p.scratch; marks = map (named names) (marks_of p); names = names }
+shown names p = record {
+  selection = p.selection;
+  scratch = p.scratch;
+  marks = map (named names) (marks_of p);
+  names = names;
+}
 
 -- at most 16 marks are in use, each has a name of the list, and no two have the same
 pub record IsOver (names : List (List ℕ)) (p : Places) : Type 0 where

@@ -34,7 +34,8 @@ after_replacement at taken put offset =
 abbrev pub after_loss : Point → Point → Point → Point
 after_loss from to p =
     if p.offset == from.offset then to
-    else (if p.offset == from.offset + 1 then with_offset to (to.offset + 1) else with_offset p (after_removal from.offset p.offset))
+    else (if p.offset == from.offset + 1 then with_offset to (to.offset + 1)
+    else with_offset p (after_removal from.offset p.offset))
 
 -- whether the label is listed
 abbrev pub has_label : List ℕ → ℕ → Bool
@@ -48,7 +49,8 @@ adjusted (Remove tree parent index) p =
     else (if p.label == parent then with_offset p (after_removal index p.offset) else p)
 adjusted (Move from to) p =
     if from.label == to.label
-    then (if p.label == from.label then with_offset p (after_insert to.offset (after_removal from.offset p.offset)) else p)
+    then (if p.label == from.label then with_offset p (after_insert to.offset
+    (after_removal from.offset p.offset)) else p)
     else (if p.label == from.label then after_loss from to p
     else (if p.label == to.label then with_offset p (after_insert to.offset p.offset) else p))
 adjusted (Replace node at taken put) p =

@@ -244,7 +244,8 @@ impl Adjustment<'_> {
 
     // The rows at the nodes that the edit names.
     fn rows(&self, nodes: &Nodes) -> RowSet
-        ensures { (r : ℕ) → has_row result r ≡ list_any (λ l. listed_at nodes.now l r) (named_nodes (edit_of self.now)) }
+        ensures { (r : ℕ) → has_row result r ≡ list_any (λ l. listed_at nodes.now l r)
+            (named_nodes (edit_of self.now)) }
     {
         match self {
             Adjustment::Insert { parent, .. } => nodes.at(*parent),
@@ -273,7 +274,8 @@ impl Adjustment<'_> {
         ensures marks { marks_of places.new ≡ map (at_place (adjusted_pair (edit_of self.now))) (marks_of places.old) }
         ensures count { places.new.count ≡ places.old.count }
         ensures listed { Lists places.new nodes.new }
-        ensures steps { steps.new ≡ steps.old + count_by (has_label (named_nodes (edit_of self.now))) (place_labels places.old) }
+        ensures steps { steps.new ≡ steps.old + count_by (has_label (named_nodes (edit_of self.now)))
+            (place_labels places.old) }
     {
         let mut rest = self.rows(nodes);
         while let Some(row) = rest.first() {

@@ -10,7 +10,8 @@ use crate::places::{Pair, Places, Point};
 fn enter_pair(nodes: &mut Nodes, number: u8, pair: Pair)
     requires number { number < 32 }
     requires room { length nodes.old + 2 ≤ 128 }
-    ensures listed { (l r : ℕ) → listed_at nodes.new l r ≡ (if l == pair.focus.label && r == 2 * number + 1 then true else if l == pair.anchor.label && r == 2 * number then true else listed_at nodes.old l r) }
+    ensures listed { (l r : ℕ) → listed_at nodes.new l r ≡ (if l == pair.focus.label && r == 2 * number + 1
+        then true else if l == pair.anchor.label && r == 2 * number then true else listed_at nodes.old l r) }
     ensures labels { length nodes.new ≤ length nodes.old + 2 }
 {
     nodes.enter(pair.anchor.label, 2 * number);
@@ -19,7 +20,9 @@ fn enter_pair(nodes: &mut Nodes, number: u8, pair: Pair)
 
 fn leave_pair(nodes: &mut Nodes, number: u8, pair: Pair)
     requires { number < 32 }
-    ensures listed { (l r : ℕ) → r < 64 → listed_at nodes.new l r ≡ (if l == pair.focus.label && r == 2 * number + 1 then false else if l == pair.anchor.label && r == 2 * number then false else listed_at nodes.old l r) }
+    ensures listed { (l r : ℕ) → r < 64 → listed_at nodes.new l r
+        ≡ (if l == pair.focus.label && r == 2 * number + 1 then false else if l == pair.anchor.label
+        && r == 2 * number then false else listed_at nodes.old l r) }
     ensures labels { length nodes.new ≡ length nodes.old }
 {
     nodes.leave(pair.anchor.label, 2 * number);
@@ -45,7 +48,8 @@ pub(crate) fn list_all(nodes: &mut Nodes, places: &Places)
 pub(crate) fn list_pair(nodes: &mut Nodes, places: &Places, number: u8, was: Option<Pair>)
     requires few { places.now.count ≤ 16 }
     requires number { number < 32 }
-    ensures listed { (before : Places) → Lists before nodes.old → pair_at before number ≡ was → ((k : ℕ) → (k == number) ≡ false → pair_at places.now k ≡ pair_at before k) → Lists places.now nodes.new }
+    ensures listed { (before : Places) → Lists before nodes.old → pair_at before number ≡ was
+        → ((k : ℕ) → (k == number) ≡ false → pair_at places.now k ≡ pair_at before k) → Lists places.now nodes.new }
     ensures labels { length nodes.new ≤ length nodes.old + 2 }
 {
     if !nodes.has_room(2) {

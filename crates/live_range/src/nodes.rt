@@ -7,8 +7,8 @@ use indexmap::IndexMap;
 use std::alloc::{AllocError, Global};
 use std::marker::Model;
 
-// A label whose rows have all left keeps its place in the map, since the map doesn't say that a removal gives room back.
-// When a label more than this many is met, the rows are listed anew, at most 36 labels.
+// A label whose rows have all left keeps its place in the map, since the map doesn't say that a removal gives room
+// back. When a label more than this many is met, the rows are listed anew, at most 36 labels.
 const MOST_LABELS: usize = 128;
 
 #[derive(Drop)]
@@ -65,7 +65,8 @@ impl Nodes {
     pub(crate) fn enter(&mut self, label: u32, row: u8)
         requires row { row < 64 }
         requires room { length self.old < 128 }
-        ensures at { (l r : ℕ) → listed_at self.new l r ≡ (if l == label && r == row then true else listed_at self.old l r) }
+        ensures at { (l r : ℕ) → listed_at self.new l r ≡ (if l == label && r == row then true
+            else listed_at self.old l r) }
         ensures labels { length self.new ≤ length self.old + 1 }
     {
         match self.rows.get_mut(&label) {
@@ -79,7 +80,8 @@ impl Nodes {
     // Lists the row at the label no more.
     pub(crate) fn leave(&mut self, label: u32, row: u8)
         requires { row < 64 }
-        ensures at { (l r : ℕ) → r < 64 → listed_at self.new l r ≡ (if l == label && r == row then false else listed_at self.old l r) }
+        ensures at { (l r : ℕ) → r < 64 → listed_at self.new l r
+            ≡ (if l == label && r == row then false else listed_at self.old l r) }
         ensures labels { length self.new ≡ length self.old }
     {
         if let Some(rows) = self.rows.get_mut(&label) {

@@ -192,7 +192,10 @@ impl Points {
 
     fn add_mark(&mut self, name: &[u8], pair: Pair) -> Result<(), MarkFault>
         requires { has_mark name.now self.old ≡ false }
-        ensures added { OnOk result (self.new ≡ record self.old { marks = self.old.marks ++ (name.now, pair) ∷ []; names = insert_key bytes_eq self.old.names name.now }) }
+        ensures added { OnOk result (self.new ≡ record self.old {
+          marks = self.old.marks ++ (name.now, pair) ∷ [];
+          names = insert_key bytes_eq self.old.names name.now;
+        }) }
         ensures too_many { (result ≡ Err MarkFault.TooManyMarks) ↔ (length self.old.marks ≡ 16) }
         ensures err { OnErr result (self.new ≡ self.old) }
     {
@@ -209,7 +212,8 @@ impl Points {
     /// Gives the name to the pair. A mark of that name keeps its place, and a new one goes last.
     pub fn set_mark(&mut self, name: &[u8], pair: Pair) -> Result<(), MarkFault>
         ensures set { OnOk result (self.new ≡ with_mark name.now pair self.old) }
-        ensures too_many { (result ≡ Err MarkFault.TooManyMarks) ↔ ((length self.old.marks ≡ 16) × (has_mark name.now self.old ≡ false)) }
+        ensures too_many { (result ≡ Err MarkFault.TooManyMarks)
+            ↔ ((length self.old.marks ≡ 16) × (has_mark name.now self.old ≡ false)) }
         ensures err { OnErr result (self.new ≡ self.old) }
     {
         self.valid();
@@ -301,10 +305,11 @@ impl Points {
         self.adjust(&Adjustment::Insert { parent, index });
     }
 
-    /// A tree was taken out of `parent` at `index`. Of each label at which a point stands `gone` has to tell whether it is
-    /// of that tree; other labels may be in it or not.
+    /// A tree was taken out of `parent` at `index`. Of each label at which a point stands `gone` has to tell
+    /// whether it is of that tree; other labels may be in it or not.
     pub fn removed(&mut self, gone: &[u32], parent: u32, index: u32)
-        ensures { (tree : List ℕ) → TellsAlike self.old gone.now tree → self.new ≡ mapped (Remove tree parent index) self.old }
+        ensures { (tree : List ℕ) → TellsAlike self.old gone.now tree → self.new
+            ≡ mapped (Remove tree parent index) self.old }
     {
         self.adjust(&Adjustment::Remove {
             gone,
@@ -335,8 +340,8 @@ impl Points {
         });
     }
 
-    /// The characters of the text `node` past `at` went to the new text `tail` (DOM Standard, "split a Text node"), which
-    /// stands right after `node` in `parent`. `index` is that of `node`.
+    /// The characters of the text `node` past `at` went to the new text `tail` (DOM Standard, "split a Text node"),
+    /// which stands right after `node` in `parent`. `index` is that of `node`.
     pub fn split(&mut self, node: u32, at: u32, tail: u32, parent: u32, index: u32)
         requires { Fits (Split node at tail parent index) self.old }
         ensures { self.new ≡ mapped (Split node at tail parent index) self.old }

@@ -1,5 +1,5 @@
-//! mail_host: the smallest host of the editor. It opens a mail, formats a part of it, asks what a toolbar would show, undoes, and
-//! prints the mail as HTML after each step.
+//! mail_host: the smallest host of the editor. It opens a mail, formats a part of it, asks what a toolbar would
+//! show, undoes, and prints the mail as HTML after each step.
 //!
 //! A real host gets its selection and its commands from its user; in this one they are written down.
 #![tactic(auto)]

@@ -48,9 +48,11 @@ prev_changed slots parent (Some at) to = change slots at.slot (with_prev to)
 -- the slots after a node is put between two neighbours
 abbrev pub linked_slots : List (Option Node) → NodeRef → Option NodeRef → Option NodeRef → NodeRef → List (Option Node)
 linked_slots slots parent prior before node =
-    prev_changed (next_changed (change slots node.slot (placed (Some parent) prior before)) parent prior (Some node)) parent before (Some node)
+    prev_changed (next_changed (change slots node.slot (placed (Some parent) prior before)) parent prior
+    (Some node)) parent before (Some node)
 
 -- the slots after a node is taken out from between two neighbours
-abbrev pub unlinked_slots : List (Option Node) → NodeRef → Option NodeRef → Option NodeRef → NodeRef → List (Option Node)
+abbrev pub unlinked_slots : List (Option Node) → NodeRef → Option NodeRef → Option NodeRef → NodeRef
+    → List (Option Node)
 unlinked_slots slots parent prior after node =
     prev_changed (next_changed (change slots node.slot (placed None None None)) parent prior after) parent after prior

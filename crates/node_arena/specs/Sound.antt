@@ -10,8 +10,10 @@ use Rattle.node_arena.specs.Nodes.{node_for, label_in, trees_of}
 pub record IsSoundArena (slots : List (Option Node)) (next cap : ℕ) : Type 0 where
   pub trees : Forest Content
   pub at : ℕ → ℕ
-  pub stored : (l : ℕ) (s : Seen Content) → seek None trees l ≡ Some s → slice_index_or slots (at l) None ≡ Some (node_for trees at l s)
-  pub back : (slot : ℕ) (n : Node) → slice_index_or slots slot None ≡ Some n → (0 < count_of trees n.label) × (slot ≡ at n.label)
+  pub stored : (l : ℕ) (s : Seen Content) → seek None trees l ≡ Some s → slice_index_or slots (at l) None
+      ≡ Some (node_for trees at l s)
+  pub back : (slot : ℕ) (n : Node) → slice_index_or slots slot None ≡ Some n → (0 < count_of trees n.label)
+      × (slot ≡ at n.label)
   pub distinct : IsDistinct trees
   pub rising : RisesFrom 0 trees
   pub below : (l : ℕ) → 0 < count_of trees l → l < next

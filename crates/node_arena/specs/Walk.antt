@@ -16,8 +16,10 @@ pub record IsPlace (s : ArenaState) (p : Place) : Type 0 where
 -- the walk goes from a place to the next: the sums from the first on are its own share and those from the next on
 pub record Goes (s : ArenaState) (from to : Place) : Type 0 where
   pub place : IsPlace s to
-  pub weighs : (w : ℕ → Content → ℕ) (c : Content) → content_of s.trees from.node.label ≡ Some c → total_from w s.trees from.node.label ≡ w from.node.label c + total_from w s.trees to.node.label
+  pub weighs : (w : ℕ → Content → ℕ) (c : Content) → content_of s.trees from.node.label ≡ Some c
+      → total_from w s.trees from.node.label ≡ w from.node.label c + total_from w s.trees to.node.label
 
 -- the walk stops at a place: after it come only the loose trees
 pub record Stops (s : ArenaState) (at : Place) : Type 0 where
-  pub weighs : (w : ℕ → Content → ℕ) (c : Content) → content_of s.trees at.node.label ≡ Some c → total_from w s.trees at.node.label ≡ w at.node.label c + total_after w s.trees 0
+  pub weighs : (w : ℕ → Content → ℕ) (c : Content) → content_of s.trees at.node.label ≡ Some c
+      → total_from w s.trees at.node.label ≡ w at.node.label c + total_after w s.trees 0

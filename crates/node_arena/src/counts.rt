@@ -33,8 +33,11 @@ impl Arena {
     // The first place in tree order that is not in the tree of a node.
     fn after(&self, place: Place) -> Option<Place>
         requires { IsPlace self.now place }
-        ensures found { IfSome result (λ next. IsPlace self.now next × ((w : ℕ → Content → ℕ) → total_after w self.now.trees place.node.label ≡ total_from w self.now.trees next.node.label)) }
-        ensures none { (result ≡ None) → (w : ℕ → Content → ℕ) → total_after w self.now.trees place.node.label ≡ total_after w self.now.trees 0 }
+        ensures found { IfSome result (λ next. IsPlace self.now next
+            × ((w : ℕ → Content → ℕ) → total_after w self.now.trees place.node.label
+            ≡ total_from w self.now.trees next.node.label)) }
+        ensures none { (result ≡ None) → (w : ℕ → Content → ℕ) → total_after w self.now.trees place.node.label
+            ≡ total_after w self.now.trees 0 }
     {
         self.valid();
         let mut at = place;

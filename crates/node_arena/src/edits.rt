@@ -36,7 +36,9 @@ impl Arena {
         requires before_held { IfSome before (λ r. Holds self.old r) }
         requires node_held { Holds self.old node }
         requires can { CanLink self.old.trees parent.label (label before) node.label }
-        ensures linked { self.new ≡ record self.old { trees = link self.old.trees parent.label (label before) node.label } }
+        ensures linked { self.new ≡ record self.old {
+          trees = link self.old.trees parent.label (label before) node.label;
+        } }
         ensures steps { steps.new ≤ steps.old + 8 }
     {
         link_in(&mut self.nodes, parent, before, node, steps);
@@ -62,7 +64,9 @@ impl Arena {
         requires held { Holds self.old node }
         requires chars { has_chars_at self.old.trees node.label ≡ true }
         requires short { length words.old < 2 ^ 32 }
-        ensures state { self.new ≡ record self.old { trees = revised self.old.trees node.label (with_chars words.old) } }
+        ensures state { self.new ≡ record self.old {
+          trees = revised self.old.trees node.label (with_chars words.old);
+        } }
         ensures words { chars_of self.old.trees node.label ≡ Some words.new }
     {
         swap_chars_at(&mut self.nodes, node.slot, words);
@@ -72,7 +76,9 @@ impl Arena {
     pub fn swap_attributes(&mut self, node: NodeRef, list: &mut Attributes)
         requires held { Holds self.old node }
         requires element { is_element_at self.old.trees node.label ≡ true }
-        ensures state { self.new ≡ record self.old { trees = revised self.old.trees node.label (with_attributes list.old) } }
+        ensures state { self.new ≡ record self.old {
+          trees = revised self.old.trees node.label (with_attributes list.old);
+        } }
         ensures list { attributes_of self.old.trees node.label ≡ Some list.new }
     {
         swap_attributes_at(&mut self.nodes, node.slot, list);
@@ -163,8 +169,8 @@ impl Arena {
         self.next = label;
     }
 
-    /// Sets the next label on. The labels before it that were not drawn yet never name a node. It takes memory for the place
-    /// of each of them; without that nothing changes.
+    /// Sets the next label on. The labels before it that were not drawn yet never name a node. It takes memory for
+    /// the place of each of them; without that nothing changes.
     pub fn skip_to(&mut self, label: u32) -> Result<(), AllocError>
         requires low { self.old.next ≤ label }
         requires high { label ≤ self.old.cap }
@@ -222,7 +228,9 @@ fn swap_chars(content: &mut Content, words: &mut Chars)
 
 fn swap_chars_at(nodes: &mut Slab<Node>, slot: u32, words: &mut Chars)
     requires { option_map_or (λ n. has_chars n.content) (get nodes.old slot) false ≡ true }
-    ensures nodes { nodes.new ≡ record nodes.old { slots = change nodes.old.slots slot (with_content (with_chars words.old)) } }
+    ensures nodes { nodes.new ≡ record nodes.old {
+      slots = change nodes.old.slots slot (with_content (with_chars words.old));
+    } }
     ensures words { option_and_then (λ n. chars_in n.content) (get nodes.old slot) ≡ Some words.new }
 {
     swap_chars(&mut nodes[slot as usize].content, words);
@@ -241,7 +249,9 @@ fn swap_list(content: &mut Content, list: &mut Attributes)
 
 fn swap_attributes_at(nodes: &mut Slab<Node>, slot: u32, list: &mut Attributes)
     requires { option_map_or (λ n. is_element n.content) (get nodes.old slot) false ≡ true }
-    ensures nodes { nodes.new ≡ record nodes.old { slots = change nodes.old.slots slot (with_content (with_attributes list.old)) } }
+    ensures nodes { nodes.new ≡ record nodes.old {
+      slots = change nodes.old.slots slot (with_content (with_attributes list.old));
+    } }
     ensures list { option_and_then (λ n. attributes_in n.content) (get nodes.old slot) ≡ Some list.new }
 {
     swap_list(&mut nodes[slot as usize].content, list);

@@ -124,7 +124,9 @@ pub(crate) fn link_in<L: Ledger>(
     requires before { IfSome before (λ r. IsSome (get nodes.old r.slot)) }
     requires node { IsSome (get nodes.old node.slot) }
     requires prior { IfSome (prior_link nodes.old.slots parent before) (λ r. IsSome (get nodes.old r.slot)) }
-    ensures nodes { nodes.new ≡ record nodes.old { slots = linked_slots nodes.old.slots parent (prior_link nodes.old.slots parent before) before node } }
+    ensures nodes { nodes.new ≡ record nodes.old {
+      slots = linked_slots nodes.old.slots parent (prior_link nodes.old.slots parent before) before node;
+    } }
     ensures steps { steps.new ≤ steps.old + 8 }
 {
     let prior = prior_node(nodes, parent, before, steps);

@@ -114,8 +114,8 @@ impl Arena {
         at
     }
 
-    // Whether the first of two children of one parent comes before the second. It goes on from both at once, to the front and
-    // to the end, until one of them meets the other or an end.
+    // Whether the first of two children of one parent comes before the second. It goes on from both at once, to the
+    // front and to the end, until one of them meets the other or an end.
     fn is_earlier_child(&self, x: NodeRef, y: NodeRef, parent: NodeRef) -> bool
         requires first_held { Holds self.now x }
         requires second_held { Holds self.now y }

@@ -25,7 +25,8 @@ module _ {C : Type 0} where
   abbrev pub path_in : Forest C → ℕ → Option (List ℕ)
   path_in Nil l = None
   path_in (Tree m c ks rest) l =
-      if m == l then Some (0 ∷ []) else either (option_map (λ is. 0 ∷ is) (path_in ks l)) (option_map stepped (path_in rest l))
+      if m == l then Some (0 ∷ []) else either (option_map (λ is. 0 ∷ is) (path_in ks l))
+      (option_map stepped (path_in rest l))
 
   -- the label of the node at a path from the document, the first tree, whose own path is empty
   abbrev pub label_by : Forest C → List ℕ → Option ℕ

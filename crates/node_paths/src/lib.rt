@@ -16,7 +16,8 @@ use std::alloc::{AllocError, Global};
 fn child_at(arena: &Arena, node: NodeRef, index: u32) -> Option<NodeRef>
     requires { Holds arena.now node }
     ensures held { IfSome result (λ r. Holds arena.now r) }
-    ensures way { (rest : List ℕ) → node_below arena.now.trees node.label (index ∷ rest) ≡ option_and_then (λ l. node_below arena.now.trees l rest) (label result) }
+    ensures way { (rest : List ℕ) → node_below arena.now.trees node.label (index ∷ rest)
+        ≡ option_and_then (λ l. node_below arena.now.trees l rest) (label result) }
 {
     arena.valid();
     let mut left = index;

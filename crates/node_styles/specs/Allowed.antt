@@ -27,8 +27,8 @@ are_spaces chars = list_all is_space chars
 abbrev pub has_name : (List ℕ → Bool) → Content → Bool
 has_name test c = option_map_or test (name_in c) false
 
--- by the parent and its ancestors, a name may not stand there: a link in a link, a block in inline contents, a heading in
--- a heading
+-- by the parent and its ancestors, a name may not stand there: a link in a link, a block in inline contents, a
+-- heading in a heading
 unfoldable pub is_barred : List ℕ → Forest Content → ℕ → Bool
 is_barred child f parent =
     (bytes_eq child (codes "a") && has_in_lineage (is_named (codes "a")) f parent)
@@ -38,7 +38,8 @@ is_barred child f parent =
 -- an element of this name may stand in a node: in no Document, Words or Remark, where nothing bars it, and where the
 -- names allow it
 unfoldable pub name_allowed_in : List ℕ → Forest Content → ℕ → Bool
-name_allowed_in child f parent = option_map_or (λ name. not (is_barred child f parent) && allowed_child child name) (name_of f parent) false
+name_allowed_in child f parent = option_map_or (λ name. not (is_barred child f parent)
+    && allowed_child child name) (name_of f parent) false
 
 -- a node may stand in an element of this name
 abbrev pub content_allowed_in_name : Content → List ℕ → Bool

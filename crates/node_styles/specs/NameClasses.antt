@@ -1,5 +1,5 @@
--- Elements by their names, and what their styles set (HTML Editing APIs, "single-line container", "indentation element",
--- "simple indentation element", "removeFormat candidate").
+-- Elements by their names, and what their styles set (HTML Editing APIs, "single-line container", "indentation
+-- element", "simple indentation element", "removeFormat candidate").
 use Rattle.std.specs.Prelude.{ℕ, Bool, false, ◌&&◌, ◌||◌, List, is_some, bytes_eq, codes}
 use Rattle.std.specs.List.{list_any, list_all}
 use Rattle.std.specs.Option.{option_map_or}
@@ -42,10 +42,12 @@ is_indentation f l = option_map_or is_indentation_content (content_of f l) false
 -- dir, or a style that sets nothing but margins, paddings and borders
 unfoldable pub is_plain_attribute : Attribute → Bool
 is_plain_attribute a =
-    bytes_eq a.name (codes "dir") || (bytes_eq a.name (codes "style") && sets_only BoxNames (names_of (declarations_in a.value)))
+    bytes_eq a.name (codes "dir") || (bytes_eq a.name (codes "style")
+    && sets_only BoxNames (names_of (declarations_in a.value)))
 
 unfoldable pub is_simple_indentation_content : Content → Bool
-is_simple_indentation_content c = is_indentation_content c && option_map_or (list_all is_plain_attribute) (attributes_in c) false
+is_simple_indentation_content c = is_indentation_content c && option_map_or (list_all is_plain_attribute)
+    (attributes_in c) false
 
 unfoldable pub is_simple_indentation : Forest Content → ℕ → Bool
 is_simple_indentation f l = option_map_or is_simple_indentation_content (content_of f l) false

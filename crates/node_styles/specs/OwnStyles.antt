@@ -33,11 +33,13 @@ is_named name c = option_map_or (λ own. bytes_eq own name) (name_in c) false
 
 -- what the style attribute declares of a property, valid or not
 unfoldable pub declared : Content → List ℕ → Option (List ℕ)
-declared c name = option_and_then (λ text. declarations.value_of (declarations.declarations_in text) name) (attribute c (codes "style"))
+declared c name = option_and_then (λ text. declarations.value_of (declarations.declarations_in text) name)
+    (attribute c (codes "style"))
 
 -- the default by the element's name
 unfoldable pub defaulted : Content → Property → Option (List ℕ)
-defaulted c property = option_and_then (λ name. default_of name (is_some (attribute c (codes "href"))) property) (name_in c)
+defaulted c property = option_and_then (λ name. default_of name (is_some (attribute c (codes "href"))) property)
+    (name_in c)
 
 -- what a font's attribute gives
 abbrev pub font_attribute : Content → List ℕ → Option (List ℕ)
@@ -84,12 +86,14 @@ size_hint c = option_map pixels_of (option_and_then legacy_size_of (font_attribu
 
 unfoldable pub align_hint : Content → Option TextAlign
 align_hint c =
-    if option_map_or (is_one_of aligned_names) (name_in c) false then option_and_then hinted_alignment (attribute c (codes "align"))
+    if option_map_or (is_one_of aligned_names) (name_in c) false
+    then option_and_then hinted_alignment (attribute c (codes "align"))
     else None
 
 -- the valid value of the style, else the hint, else the default
 abbrev pub own : {V : Type 0} → (List ℕ → Option V) → List ℕ → Option V → Property → Content → Option V
-own read name hint p c = option_or (option_and_then read (declared c name)) (option_or hint (option_and_then read (defaulted c p)))
+own read name hint p c = option_or (option_and_then read (declared c name))
+    (option_or hint (option_and_then read (defaulted c p)))
 
 unfoldable pub own_display : Content → Option Display
 own_display c = own display_of (codes "display") None property.Display c

@@ -28,7 +28,8 @@ kept own initial f l = unwrap_or (option_and_then own (content_of f l)) initial
 
 -- a property that is: the own value of the nearest inclusive ancestor that has one
 abbrev pub inherited : {V : Type 0} → (Content → Option V) → V → Forest Content → ℕ → V
-inherited own initial f l = unwrap_or (option_and_then (λ k. own k.content) (nearest (λ c. is_some (own c)) f l)) initial
+inherited own initial f l = unwrap_or (option_and_then (λ k. own k.content)
+    (nearest (λ c. is_some (own c)) f l)) initial
 
 unfoldable pub display : Forest Content → ℕ → Display
 display f l = kept own_display display_values.Inline f l

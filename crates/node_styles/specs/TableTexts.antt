@@ -16,5 +16,9 @@ pixels_of text =
 abbrev pub lines_of : List ℕ → Option TextDecoration
 lines_of text =
     if bytes_eq text (codes "underline") then Some (record { underline = true; overline = false; line_through = false })
-    else (if bytes_eq text (codes "line-through") then Some (record { underline = false; overline = false; line_through = true })
+    else (if bytes_eq text (codes "line-through") then Some (record {
+      underline = false;
+      overline = false;
+      line_through = true;
+    })
     else None)

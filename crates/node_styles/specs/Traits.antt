@@ -35,7 +35,8 @@ has_trait InlineContents c = has_name has_inline_contents c
 has_trait Heading c = has_name is_heading c
 
 -- r names the nearest of a label's lineage that passes a test
-pub record IsNearest (test : Content → Bool) (holds : NodeRef → Type 0) (f : Forest Content) (l : ℕ) (r : NodeRef) : Type 0 where
+pub record IsNearest (test : Content → Bool) (holds : NodeRef → Type 0) (f : Forest Content) (l : ℕ)
+    (r : NodeRef) : Type 0 where
   pub held : holds r
   pub content : Content
   pub at : content_of f r.label ≡ Some content

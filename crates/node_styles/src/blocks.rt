@@ -117,8 +117,8 @@ fn is_whitespace_under<N: Nodes>(nodes: &N, parent: Option<NodeRef>, chars: &[ch
     }
 }
 
-/// Whether a node is a whitespace node: Words that is empty, or that has only tabs, LF, CR and spaces where its parent's
-/// `white-space` is `normal` or `nowrap`, or only tabs, CR and spaces where it is `pre-line`.
+/// Whether a node is a whitespace node: Words that is empty, or that has only tabs, LF, CR and spaces where its
+/// parent's `white-space` is `normal` or `nowrap`, or only tabs, CR and spaces where it is `pre-line`.
 #[tactic(auto, unfolding(crate::specs::Blocks::is_whitespace))]
 pub fn is_whitespace<N: Nodes>(nodes: &N, node: NodeRef) -> bool
     requires { N.holds nodes.now node }

@@ -80,7 +80,8 @@ fn has_heading_name(content: &Content) -> bool
 /// The innermost of a node and its ancestors that passes a test.
 pub fn nearest<N: Nodes, T: Test>(nodes: &N, node: NodeRef, wanted: &T) -> Option<NodeRef>
     requires { N.holds nodes.now node }
-    ensures found { IfSome result (λ r. IsNearest (T.test wanted.now) (N.holds nodes.now) (N.trees nodes.now) node.label r) }
+    ensures found { IfSome result (λ r. IsNearest (T.test wanted.now) (N.holds nodes.now) (N.trees nodes.now)
+        node.label r) }
     ensures none { IfNone result (line.nearest (T.test wanted.now) (N.trees nodes.now) node.label ≡ None) }
 {
     nodes.valid();

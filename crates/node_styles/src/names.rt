@@ -109,8 +109,8 @@ fn has_plain_attributes(content: &Content) -> bool
     }
 }
 
-/// Whether a node is a simple indentation element: an indentation element whose attributes are only `dir` and a style that
-/// sets nothing but margins, paddings and borders.
+/// Whether a node is a simple indentation element: an indentation element whose attributes are only `dir` and a
+/// style that sets nothing but margins, paddings and borders.
 #[tactic(auto, unfolding(crate::specs::NameClasses::is_simple_indentation, crate::specs::NameClasses::is_simple_indentation_content))]
 pub fn is_simple_indentation<N: Nodes>(nodes: &N, node: NodeRef) -> bool
     requires { N.holds nodes.now node }

@@ -174,7 +174,8 @@ pub enum Family<'a> {
 
 #[tactic(auto, using(crate::proofs::Defaults::family_default))]
 fn default_font_family<'a>(content: &Content) -> Option<Family<'a>>
-    ensures { option_map family_text result ≡ option_and_then own.family_of (own.defaulted content.now property.FontFamily) }
+    ensures { option_map family_text result ≡ option_and_then own.family_of
+        (own.defaulted content.now property.FontFamily) }
 {
     defaulted(content, Property::FontFamily).map(|_| Family::Monospace)
 }
@@ -189,7 +190,8 @@ fn stated_font_family(content: &Content) -> Option<&[char]>
 
 // The family that the style or a hint gives.
 fn written_font_family(content: &Content) -> Option<&[char]>
-    ensures { option_copied result ≡ option_or (option_and_then own.family_of (own.declared content.now (codes "font-family"))) (own.family_hint content.now) }
+    ensures { option_copied result ≡ option_or (option_and_then own.family_of
+        (own.declared content.now (codes "font-family"))) (own.family_hint content.now) }
 {
     stated_font_family(content).or_else(|| family_hint(content))
 }
@@ -229,7 +231,8 @@ fn default_font_size(content: &Content) -> Option<u16>
 
 // The size that a hint or the table gives.
 fn presented_font_size(content: &Content) -> Option<u16>
-    ensures { result ≡ option_or (own.size_hint content.now) (option_and_then values.font_size_of (own.defaulted content.now property.FontSize)) }
+    ensures { result ≡ option_or (own.size_hint content.now)
+        (option_and_then values.font_size_of (own.defaulted content.now property.FontSize)) }
 {
     size_hint(content).or_else(|| default_font_size(content))
 }
@@ -257,7 +260,8 @@ fn default_color(content: &Content) -> Option<Colour>
 }
 
 fn presented_color(content: &Content) -> Option<Colour>
-    ensures { result ≡ option_or (own.color_hint content.now) (option_and_then colour_of (own.defaulted content.now property.Color)) }
+    ensures { result ≡ option_or (own.color_hint content.now)
+        (option_and_then colour_of (own.defaulted content.now property.Color)) }
 {
     color_hint(content).or_else(|| default_color(content))
 }
@@ -338,7 +342,8 @@ fn default_text_align(content: &Content) -> Option<TextAlign>
 }
 
 fn presented_text_align(content: &Content) -> Option<TextAlign>
-    ensures { result ≡ option_or (own.align_hint content.now) (option_and_then values.text_align_of (own.defaulted content.now property.TextAlign)) }
+    ensures { result ≡ option_or (own.align_hint content.now)
+        (option_and_then values.text_align_of (own.defaulted content.now property.TextAlign)) }
 {
     align_hint(content).or_else(|| default_text_align(content))
 }

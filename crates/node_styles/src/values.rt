@@ -43,7 +43,8 @@ const NO_LINES: TextDecoration = TextDecoration {
 // The content of the innermost of a node and its ancestors that gives the property a value.
 fn owner<N: Nodes>(nodes: &N, node: NodeRef, property: Property) -> Option<&Content>
     requires { N.holds nodes.now node }
-    ensures { option_map (λ content. content.now) result ≡ option_map (λ k. k.content) (nearest (has_own property) (N.trees nodes.now) node.label) }
+    ensures { option_map (λ content. content.now) result ≡ option_map (λ k. k.content)
+        (nearest (has_own property) (N.trees nodes.now) node.label) }
 {
     match nearest(nodes, node, &Trait::Own(property)) {
         Some(owner) => Some(nodes.content(owner)),
@@ -172,8 +173,8 @@ fn print_font_family(alloc: Global, family: Family) -> Result<Vec<char>, AllocEr
     }
 }
 
-/// The resolved value of a property as a text: a weight as a number, a size as `Npx`, a colour as `rgb(r, g, b)` or, for
-/// `transparent`, as `rgba(0, 0, 0, 0)`.
+/// The resolved value of a property as a text: a weight as a number, a size as `Npx`, a colour as `rgb(r, g, b)`
+/// or, for `transparent`, as `rgba(0, 0, 0, 0)`.
 #[tactic(auto, unfolding(crate::specs::Resolved::resolved))]
 pub fn resolved<N: Nodes>(
     alloc: Global,

@@ -38,4 +38,5 @@ is_empty_words _ = false
 unfoldable pub is_collapsed_whitespace : Forest Content → ℕ → Bool
 is_collapsed_whitespace f l =
     is_whitespace f l
-    && (option_map_or is_empty_words (content_of f l) false || is_hidden f l || collapses_at f (nodes_before f l) || collapses_at f (nodes_after f l))
+    && (option_map_or is_empty_words (content_of f l) false || is_hidden f l
+    || collapses_at f (nodes_before f l) || collapses_at f (nodes_after f l))

@@ -29,12 +29,14 @@ pub record StandsAt (f : Forest Content) (at : Gap) (place : line_breaks.Place) 
   pub node : place.node ≡ at.node.label
   pub before : label at.before ≡ child_before f at.node.label place.offset
   pub after : label at.after ≡ child_at f at.node.label place.offset
-  pub ends : (is_none (label at.before) || is_none (label at.after)) ≡ ((place.offset == 0) || (place.offset == length_of f at.node.label))
+  pub ends : (is_none (label at.before) || is_none (label at.after))
+      ≡ ((place.offset == 0) || (place.offset == length_of f at.node.label))
 
 -- a turn comes to this
 abbrev pub Comes : (NodeRef → Type 0) → Forest Content → Turn → line_breaks.Turn → Type 0
 Comes holds f (Answer b) turn = turn ≡ line_breaks.Turn.Answer b
-Comes holds f (GoOn at) turn = (place : line_breaks.Place) × (turn ≡ line_breaks.Turn.GoOn place) × HoldsGap holds at × StandsAt f at place
+Comes holds f (GoOn at) turn = (place : line_breaks.Place) × (turn ≡ line_breaks.Turn.GoOn place)
+    × HoldsGap holds at × StandsAt f at place
 
 -- a place is at an end of a tree, or beside a visible block or after a visible br
 abbrev pub meets_boundary : Forest Content → Gap → Bool

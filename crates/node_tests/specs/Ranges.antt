@@ -13,7 +13,8 @@ use Rattle.point_order.specs.PointOrder.{is_before, is_within}
 -- the node begins after the start and ends before the end
 unfoldable pub is_contained : Forest Content → Point → Point → ℕ → Bool
 is_contained f start end l =
-    is_before f start (record { label = l; offset = 0 }) && is_before f (record { label = l; offset = length_of f l }) end
+    is_before f start (record { label = l; offset = 0 }) && is_before f
+    (record { label = l; offset = length_of f l }) end
 
 -- Words at an end of the range of which a part lies in it
 unfoldable pub is_partial : Forest Content → Point → Point → ℕ → Bool
@@ -39,8 +40,8 @@ abbrev pub has_trees : Forest Content → Bool
 has_trees Nil = false
 has_trees (Tree l c ks rest) = true
 
--- each root of these trees is contained, is partial, or has children which all are so in their turn, while no end of the
--- range cuts Words below it
+-- each root of these trees is contained, is partial, or has children which all are so in their turn, while no end
+-- of the range cuts Words below it
 abbrev pub all_effective : Forest Content → Point → Point → Forest Content → Bool
 all_effective f start end Nil = true
 all_effective f start end (Tree l c ks rest) =

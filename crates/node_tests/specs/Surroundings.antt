@@ -1,5 +1,5 @@
--- What stands round a node in its nearest block: the nodes before and after it in tree order, and the trees that lie wholly
--- before and after it.
+-- What stands round a node in its nearest block: the nodes before and after it in tree order, and the trees that
+-- lie wholly before and after it.
 use Rattle.std.specs.Prelude.{ℕ, List, [], ◌∷◌, Option, Some, None, if◌then◌else◌, ◌==◌, nat_lt}
 use Rattle.dom_model.specs.declared.Content.{Content}
 use Rattle.dom_model.specs.Forest.{Forest, join, count_of, preorder, tree_of}

@@ -12,7 +12,8 @@ use Rattle.node_tests.specs.SolidNeighbours.{is_extraneous_break}
 
 -- a block, Words that is no collapsed whitespace, an image, or a br that isn't extraneous
 unfoldable pub shows : Forest Content → ℕ → Bool
-shows f l = is_block f l || (is_words f l && not (is_collapsed_whitespace f l)) || is_image f l || (is_break f l && not (is_extraneous_break f l))
+shows f l = is_block f l || (is_words f l && not (is_collapsed_whitespace f l)) || is_image f l
+    || (is_break f l && not (is_extraneous_break f l))
 
 -- the node itself has display none
 unfoldable pub is_boxless : Forest Content → ℕ → Bool

@@ -53,7 +53,8 @@ fn end_of<N: Nodes>(nodes: &N, node: NodeRef, side: Side) -> Gap
 // Out of a node, to the place beside it.
 fn out_of<N: Nodes>(nodes: &N, node: NodeRef, side: Side) -> Turn
     requires { N.holds nodes.now node }
-    ensures { Comes (N.holds nodes.now) (N.trees nodes.now) result (line_breaks.out_of side (N.trees nodes.now) node.label) }
+    ensures { Comes (N.holds nodes.now) (N.trees nodes.now) result
+        (line_breaks.out_of side (N.trees nodes.now) node.label) }
 {
     nodes.valid();
     match nodes.parent(node) {
@@ -86,7 +87,8 @@ fn beside(at: Gap, side: Side) -> Option<NodeRef>
 // Whether a place is at an end of a tree.
 fn is_tree_end<N: Nodes>(nodes: &N, at: Gap) -> bool
     requires { HoldsGap (N.holds nodes.now) at }
-    ensures { result ≡ (is_none (parent_of (N.trees nodes.now) at.node.label) && (is_none (label at.before) || is_none (label at.after))) }
+    ensures { result ≡ (is_none (parent_of (N.trees nodes.now) at.node.label)
+        && (is_none (label at.before) || is_none (label at.after))) }
 {
     is_root(nodes, at.node) && (is_nothing(at.before) || is_nothing(at.after))
 }
@@ -102,7 +104,8 @@ fn is_boundary<N: Nodes>(nodes: &N, at: Gap) -> bool
 // A turn of the walk to a side.
 fn turn_to<N: Nodes>(nodes: &N, at: Gap, side: Side) -> Turn
     requires { HoldsGap (N.holds nodes.now) at }
-    ensures { (place : line_breaks.Place) → StandsAt (N.trees nodes.now) at place → Comes (N.holds nodes.now) (N.trees nodes.now) result (line_breaks.turn_to side (N.trees nodes.now) place) }
+    ensures { (place : line_breaks.Place) → StandsAt (N.trees nodes.now) at place
+        → Comes (N.holds nodes.now) (N.trees nodes.now) result (line_breaks.turn_to side (N.trees nodes.now) place) }
 {
     if is_boundary(nodes, at) {
         return Turn::Answer(true);
@@ -114,11 +117,14 @@ fn turn_to<N: Nodes>(nodes: &N, at: Gap, side: Side) -> Turn
     }
 }
 
-// So many turns that a walk from a node which takes more is cut short. In the document a walk passes the start or the end of a
-// node at each turn, so it ends by itself; only outside it do the nodes and characters of the document have to be counted.
+// So many turns that a walk from a node which takes more is cut short. In the document a walk passes the start or
+// the end of a node at each turn, so it ends by itself; only outside it do the nodes and characters of the document
+// have to be counted.
 fn turns<N: Nodes>(nodes: &N, node: NodeRef) -> u128
     requires { N.holds nodes.now node }
-    ensures { (side : sides.Side) → line_breaks.walk (line_breaks.turn_to side (N.trees nodes.now)) result (line_breaks.end_of side (N.trees nodes.now) node.label) ≡ line_breaks.meets_break side (N.trees nodes.now) node.label }
+    ensures { (side : sides.Side) → line_breaks.walk (line_breaks.turn_to side (N.trees nodes.now)) result
+        (line_breaks.end_of side (N.trees nodes.now) node.label)
+        ≡ line_breaks.meets_break side (N.trees nodes.now) node.label }
 {
     nodes.valid();
     if nodes.is_within(nodes.document(), node) {

@@ -98,7 +98,8 @@ fn is_block_edge(met: Neighbour) -> bool
 // Whether a node has no siblings.
 fn is_alone<N: Nodes>(nodes: &N, node: NodeRef) -> bool
     requires { N.holds nodes.now node }
-    ensures { result ≡ (is_none (prev_of (N.trees nodes.now) node.label) && is_none (next_of (N.trees nodes.now) node.label)) }
+    ensures { result ≡ (is_none (prev_of (N.trees nodes.now) node.label)
+        && is_none (next_of (N.trees nodes.now) node.label)) }
 {
     is_nothing(nodes.prev(node)) && is_nothing(nodes.next(node))
 }

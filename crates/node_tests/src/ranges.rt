@@ -91,7 +91,8 @@ fn is_effective<N: Nodes>(nodes: &N, node: NodeRef, range: (Point, Point)) -> bo
     requires start_held { 0 < count_of (N.trees nodes.now) range.0.label }
     requires end_held { 0 < count_of (N.trees nodes.now) range.1.label }
     requires ordered { is_before (N.trees nodes.now) range.0 range.1 ≡ Bool.true }
-    ensures { result ≡ ranges.all_effective (N.trees nodes.now) range.0 range.1 (tree_of (N.trees nodes.now) node.label) }
+    ensures { result ≡ ranges.all_effective (N.trees nodes.now) range.0 range.1
+        (tree_of (N.trees nodes.now) node.label) }
 {
     nodes.valid();
     if is_touched(nodes, node, range) {

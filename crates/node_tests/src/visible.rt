@@ -60,8 +60,8 @@ fn has_no_box<N: Nodes>(nodes: &N, node: NodeRef) -> bool
     is_no_box(display(nodes, node))
 }
 
-/// Whether a node is visible: it or a node below it is a block node, Words that is no collapsed whitespace, an image or a br
-/// that isn't extraneous, and no `display: none` hides that.
+/// Whether a node is visible: it or a node below it is a block node, Words that is no collapsed whitespace, an
+/// image or a br that isn't extraneous, and no `display: none` hides that.
 #[tactic(auto, unfolding(crate::specs::Visible::is_visible))]
 pub fn is_visible<N: Nodes>(nodes: &N, node: NodeRef) -> bool
     requires { N.holds nodes.now node }

@@ -14,7 +14,8 @@ use node_styles::{is_hidden, is_whitespace};
 // met after what it holds.
 fn collapses_before<N: Nodes>(nodes: &N, node: NodeRef) -> bool
     requires { N.holds nodes.now node }
-    ensures { result ≡ whitespace.collapses_at (N.trees nodes.now) (before.nodes_before (N.trees nodes.now) node.label) }
+    ensures { result ≡ whitespace.collapses_at (N.trees nodes.now)
+        (before.nodes_before (N.trees nodes.now) node.label) }
 {
     nodes.valid();
     let mut at = node;

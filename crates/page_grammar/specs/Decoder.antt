@@ -22,8 +22,10 @@ lead b =
     if nat_lt b 128 then Whole b
     else (if nat_lt b 194 then Bad
     else (if nat_lt b 224 then Part (pending (b - 192) 0 128 191)
-    else (if nat_lt b 240 then Part (pending (b - 224) 1 (if b == 224 then 160 else 128) (if b == 237 then 159 else 191))
-    else (if nat_lt b 245 then Part (pending (b - 240) 2 (if b == 240 then 144 else 128) (if b == 244 then 143 else 191)) else Bad))))
+    else (if nat_lt b 240 then Part (pending (b - 224) 1 (if b == 224 then 160 else 128)
+    (if b == 237 then 159 else 191))
+    else (if nat_lt b 245 then Part (pending (b - 240) 2 (if b == 240 then 144 else 128)
+    (if b == 244 then 143 else 191)) else Bad))))
 
 abbrev pub joined : (bits after : ℕ) → Decoded
 joined v zero = Whole v

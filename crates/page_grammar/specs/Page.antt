@@ -14,7 +14,8 @@ pub data Siblings : Type 0 where
   Nil : Siblings
   TextNode : (label : ℕ) (text : List ℕ) (rest : Siblings) → Siblings
   CommentNode : (label : ℕ) (text : List ℕ) (rest : Siblings) → Siblings
-  ElementNode : (label : ℕ) (name : List ℕ) (attributes : List Attribute) (children : Siblings) (rest : Siblings) → Siblings
+  ElementNode : (label : ℕ) (name : List ℕ) (attributes : List Attribute) (children : Siblings)
+      (rest : Siblings) → Siblings
 
 -- how many nodes there are
 abbrev pub size : Siblings → ℕ
@@ -80,8 +81,10 @@ HexadecimalDigits (d ∷ ds) = (is_hex d ≡ true) × HexadecimalDigits ds
 abbrev pub IsBody : List ℕ → ℕ → Type 0
 IsBody w x =
     IsEntity entities w x
-    ⊎ (((ds : List ℕ) × (w ≡ 35 ∷ ds) × (0 < length ds) × DecimalDigits ds × (value_from 10 0 ds ≡ x) × (is_referable x ≡ true))
-    ⊎ ((h : ℕ) × (ds : List ℕ) × (w ≡ 35 ∷ h ∷ ds) × (lower h ≡ 120) × (0 < length ds) × HexadecimalDigits ds × (value_from 16 0 ds ≡ x) × (is_referable x ≡ true)))
+    ⊎ (((ds : List ℕ) × (w ≡ 35 ∷ ds) × (0 < length ds) × DecimalDigits ds × (value_from 10 0 ds ≡ x)
+    × (is_referable x ≡ true))
+    ⊎ ((h : ℕ) × (ds : List ℕ) × (w ≡ 35 ∷ h ∷ ds) × (lower h ≡ 120) × (0 < length ds) × HexadecimalDigits ds
+    × (value_from 16 0 ds ≡ x) × (is_referable x ≡ true)))
 
 -- a character as itself, if it isn't the end of what it stands in, or as a reference
 abbrev pub OneChar : (stop : ℕ) → ℕ → List ℕ → List ℕ → Type 0
@@ -94,15 +97,18 @@ Text stop (x ∷ xs) s r = (m : List ℕ) × OneChar stop x s m × Text stop xs 
 -- names are lowered
 abbrev pub NameChars : List ℕ → List ℕ → List ℕ → Type 0
 NameChars [] s r = s ≡ r
-NameChars (x ∷ xs) s r = (b : ℕ) × (m : List ℕ) × (s ≡ b ∷ m) × (lower b ≡ x) × (is_name_char b ≡ true) × NameChars xs m r
+NameChars (x ∷ xs) s r = (b : ℕ) × (m : List ℕ) × (s ≡ b ∷ m) × (lower b ≡ x) × (is_name_char b ≡ true)
+    × NameChars xs m r
 
 abbrev pub ElementName : List ℕ → List ℕ → List ℕ → Type 0
 ElementName [] s r = ⊥
-ElementName (x ∷ xs) s r = (b : ℕ) × (m : List ℕ) × (s ≡ b ∷ m) × (lower b ≡ x) × (is_letter b ≡ true) × NameChars xs m r
+ElementName (x ∷ xs) s r = (b : ℕ) × (m : List ℕ) × (s ≡ b ∷ m) × (lower b ≡ x) × (is_letter b ≡ true)
+    × NameChars xs m r
 
 abbrev pub AttributeNameChars : List ℕ → List ℕ → List ℕ → Type 0
 AttributeNameChars [] s r = s ≡ r
-AttributeNameChars (x ∷ xs) s r = (b : ℕ) × (m : List ℕ) × (s ≡ b ∷ m) × (lower b ≡ x) × (is_attribute_name_char b ≡ true) × AttributeNameChars xs m r
+AttributeNameChars (x ∷ xs) s r = (b : ℕ) × (m : List ℕ) × (s ≡ b ∷ m) × (lower b ≡ x)
+    × (is_attribute_name_char b ≡ true) × AttributeNameChars xs m r
 
 -- whether one of these attributes has the name
 abbrev pub has_attribute : List Attribute → List ℕ → Bool
@@ -120,7 +126,8 @@ abbrev pub Attributes : List Attribute → List Attribute → List ℕ → List 
 Attributes seen [] s r = s ≡ r
 Attributes seen (t ∷ ts) s r =
     (n : ℕ) × (a : List ℕ) × (b : List ℕ) × (m : List ℕ)
-    × Spaces (suc n) s a × (0 < length t.name) × AttributeNameChars t.name a b × (has_attribute seen t.name ≡ false) × AttributeValue t.value b m
+    × Spaces (suc n) s a × (0 < length t.name) × AttributeNameChars t.name a b
+    × (has_attribute seen t.name ≡ false) × AttributeValue t.value b m
     × Attributes (seen ++ t ∷ []) ts m r
 
 -- the end of a start tag
@@ -159,7 +166,8 @@ Content d c n Nil s r = s ≡ r
 Content d c n (TextNode l t f) s r =
     (m : List ℕ) × (l ≡ n) × (n < c) × (0 < d) × (0 < length t) × NotText f × Text 60 t s m × Content d c (suc n) f m r
 Content d c n (CommentNode l t f) s r =
-    (a : List ℕ) × (m : List ℕ) × (l ≡ n) × (n < c) × (0 < d) × (s ≡ 60 ∷ 33 ∷ 45 ∷ 45 ∷ a) × CommentText t a m × Content d c (suc n) f m r
+    (a : List ℕ) × (m : List ℕ) × (l ≡ n) × (n < c) × (0 < d) × (s ≡ 60 ∷ 33 ∷ 45 ∷ 45 ∷ a) × CommentText t a m
+    × Content d c (suc n) f m r
 Content d c n (ElementNode l w ts k f) s r =
     (a : List ℕ) × (b : List ℕ) × (m : List ℕ) × (l ≡ n) × (n < c) × (0 < d)
     × StartTag w ts s a

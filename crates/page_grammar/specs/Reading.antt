@@ -14,7 +14,8 @@ pub record OpenElement : Type 0 where
   pub attributes : List Attribute
   pub before : Siblings
 
--- A tree as far as it is told: the open elements, innermost first, what is finished in the innermost one, and the next label.
+-- A tree as far as it is told: the open elements, innermost first, what is finished in the innermost one, and the
+-- next label.
 pub record Growing : Type 0 where
   pub opened : List OpenElement
   pub here : Siblings
@@ -29,13 +30,20 @@ joined (ElementNode l w ts k f) g = ElementNode l w ts k (joined f g)
 
 abbrev pub close_innermost : List OpenElement → Growing → Growing
 close_innermost [] g = g
-close_innermost (e ∷ es) g = record g { opened = es; here = joined e.before (ElementNode e.label e.name e.attributes g.here Nil) }
+close_innermost (e ∷ es) g = record g {
+  opened = es;
+  here = joined e.before (ElementNode e.label e.name e.attributes g.here Nil);
+}
 
 abbrev pub grow : Event → Growing → Growing
 grow (TextEvent t) g = record g { here = joined g.here (TextNode g.next t Nil); next = suc g.next }
 grow (CommentEvent t) g = record g { here = joined g.here (CommentNode g.next t Nil); next = suc g.next }
 grow (OpenEvent w ts) g =
-    record g { opened = record { label = g.next; name = w; attributes = ts; before = g.here } ∷ g.opened; here = Nil; next = suc g.next }
+    record g {
+      opened = record { label = g.next; name = w; attributes = ts; before = g.here } ∷ g.opened;
+      here = Nil;
+      next = suc g.next;
+    }
 grow CloseEvent g = close_innermost g.opened g
 
 abbrev pub grow_all : List Event → Growing → Growing

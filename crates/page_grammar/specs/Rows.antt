@@ -102,7 +102,8 @@ IsFirst holds (y ∷ ys) x = (holds y × (x ≡ y)) ⊎ ((holds y → ⊥) × Is
 abbrev pub IsAccepted : (d c : ℕ) → List ℕ → Type 0
 IsAccepted d c s = IsPageBytes d c s × (length s ≤ page_limit)
 
--- The place: where there are too many bytes it is their limit, else the length of the longest prefix that begins some page.
+-- The place: where there are too many bytes it is their limit, else the length of the longest prefix that begins
+-- some page.
 pub record IsPlaceOf (d c : ℕ) (s : List ℕ) (k : ℕ) : Type 0 where
   pub too_long : page_limit < length s → k ≡ page_limit
   pub longest : length s ≤ page_limit → IsBytePlace d c s k

@@ -25,7 +25,10 @@ tail (x ∷ xs) = xs
 
 -- a node without children at the end of the innermost open element
 abbrev pub with_last : TreeConstruction → Content → TreeConstruction
-with_last p c = record p { trees = put_under p.trees (innermost p.opened) None (Tree p.next c Nil Nil); next = suc p.next }
+with_last p c = record p {
+  trees = put_under p.trees (innermost p.opened) None (Tree p.next c Nil Nil);
+  next = suc p.next;
+}
 
 abbrev pub plant : Event → TreeConstruction → TreeConstruction
 plant (TextEvent t) p = with_last p (Words t)

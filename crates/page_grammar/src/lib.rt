@@ -1,9 +1,10 @@
 //! What a page is: which bytes stand for which children, and where and why other bytes are refused.
 //!
-//! The definitions stand in specs/: the relation between characters and children (`Page`), the same of bytes (`Bytes`), a machine that
-//! decides it (`Machine`, `Decoder`, `Reader`), the fault that it computes (`Kind`), what that fault means (`Rows`), what reading a page
-//! tells (`Reading`), and the document that it makes (`Nodes`, `TreeConstruction`). Each function of this file has an empty body: its contract
-//! is a law about the definitions. The module `classes` has the tests of characters that readers of tags share.
+//! The definitions stand in specs/: the relation between characters and children (`Page`), the same of bytes
+//! (`Bytes`), a machine that decides it (`Machine`, `Decoder`, `Reader`), the fault that it computes (`Kind`), what
+//! that fault means (`Rows`), what reading a page tells (`Reading`), and the document that it makes (`Nodes`,
+//! `TreeConstruction`). Each function of this file has an empty body: its contract is a law about the definitions.
+//! The module `classes` has the tests of characters that readers of tags share.
 #![tactic(auto)]
 
 ghost use Rattle.std.specs.Prelude.{◌≡◌, ◌≤◌, ◌<◌, ◌↔◌, ◌++◌, ℕ, true, List, [], ◌∷◌, Option, Some, None, length, codes};
@@ -22,12 +23,14 @@ pub mod classes;
 
 /// The machine reads each page to its end, and tells its children.
 pub fn pages_are_read()
-    ensures { (d c : ℕ) (s : List ℕ) (f : Siblings) → Page d c s f → (m : Machine) × (run c (start d) s ≡ Some m) × IsEnd m × (told m ≡ events f) }
+    ensures { (d c : ℕ) (s : List ℕ) (f : Siblings) → Page d c s f → (m : Machine)
+        × (run c (start d) s ≡ Some m) × IsEnd m × (told m ≡ events f) }
 {}
 
 /// What the machine reads to its end is a page, whose children it has told.
 pub fn what_is_read_is_a_page()
-    ensures { (d c : ℕ) (s : List ℕ) (m : Machine) → run c (start d) s ≡ Some m → IsEnd m → (f : Siblings) × Page d c s f × (told m ≡ events f) }
+    ensures { (d c : ℕ) (s : List ℕ) (m : Machine) → run c (start d) s ≡ Some m → IsEnd m → (f : Siblings)
+        × Page d c s f × (told m ≡ events f) }
 {}
 
 /// The machine only adds to what it has told, and doesn't look at it.
@@ -41,10 +44,12 @@ pub fn one_tree()
     ensures { (d c : ℕ) (s : List ℕ) (f g : Siblings) → PageBytes d c s f → PageBytes d c s g → f ≡ g }
 {}
 
-/// Its labels are those from 1 on, in tree order. So a tree in which some label isn't below `k` has a node whose label is `k`, unless `k` is 0.
+/// Its labels are those from 1 on, in tree order. So a tree in which some label isn't below `k` has a node whose
+/// label is `k`, unless `k` is 0.
 pub fn labels_in_tree_order()
     ensures drawn { (d c : ℕ) (s : List ℕ) (f : Siblings) → PageBytes d c s f → labels f ≡ range_with_len 1 (size f) }
-    ensures reached { (d c k : ℕ) (s : List ℕ) (f : Siblings) → PageBytes d c s f → ReachesLabel k f ↔ ((0 < size f) × (k ≤ size f)) }
+    ensures reached { (d c k : ℕ) (s : List ℕ) (f : Siblings) → PageBytes d c s f → ReachesLabel k f
+        ↔ ((0 < size f) × (k ≤ size f)) }
 {}
 
 /// What begins a page within the limits begins one within wider limits.
@@ -60,16 +65,19 @@ pub fn reads_what_begins_a_page()
 
 /// After whole characters a fault is what the machine that has read them meets in the rest.
 pub fn faults_after_characters()
-    ensures { (d c : ℕ) (cs rest : List ℕ) (m : Machine) → scalars cs ≡ true → run c (start d) cs ≡ Some m → text_fault d c (encodes cs ++ rest) ≡ refusal c m (length (encodes cs)) rest }
+    ensures { (d c : ℕ) (cs rest : List ℕ) (m : Machine) → scalars cs ≡ true → run c (start d) cs ≡ Some m
+        → text_fault d c (encodes cs ++ rest) ≡ refusal c m (length (encodes cs)) rest }
 {}
 
 /// Where the machine refuses the next character, that character decides the place and the kind.
 pub fn fault_at_a_refused_character()
-    ensures { (c : ℕ) (m : Machine) (n x : ℕ) (more : List ℕ) → scalar x ≡ true → step c m x ≡ None → refusal c m n (encode x ++ more) ≡ Some (refused_place c m n x, kind_at m x) }
+    ensures { (c : ℕ) (m : Machine) (n x : ℕ) (more : List ℕ) → scalar x ≡ true → step c m x ≡ None
+        → refusal c m n (encode x ++ more) ≡ Some (refused_place c m n x, kind_at m x) }
 {}
 
-/// The fault that is computed is the page's: there is none exactly where the bytes are a page within depth, cap and length; else its
-/// place is the longest prefix that begins some page, and its kind the first row of the table that holds there.
+/// The fault that is computed is the page's: there is none exactly where the bytes are a page within depth, cap and
+/// length; else its place is the longest prefix that begins some page, and its kind the first row of the table that
+/// holds there.
 pub fn the_fault_is_the_pages()
     ensures { (d c : ℕ) (s : List ℕ) → IsFault d c s (page_fault d c s) }
 {}
@@ -79,19 +87,26 @@ pub fn no_other_fault()
     ensures { (d c : ℕ) (s : List ℕ) (fault : Option (ℕ × Kind)) → IsFault d c s fault → fault ≡ page_fault d c s }
 {}
 
-/// What reading a page is computed to tell: its children, or the place and the kind of its fault, and nothing else is so.
+/// What reading a page is computed to tell: its children, or the place and the kind of its fault, and nothing else
+/// is so.
 pub fn the_reading_is_the_pages()
     ensures is { (d c : ℕ) (s : List ℕ) → IsReading d c s (page_reading d c s) }
     ensures only { (d c : ℕ) (s : List ℕ) (reading : Reading) → IsReading d c s reading → reading ≡ page_reading d c s }
 {}
 
-/// What a reader of bytes finds is the reading of the whole: where there are too many bytes, where it can't read one, and where the bytes
-/// end before the page or with it.
+/// What a reader of bytes finds is the reading of the whole: where there are too many bytes, where it can't read
+/// one, and where the bytes end before the page or with it.
 pub fn a_reader_finds_the_reading()
-    ensures too_long { (d c : ℕ) (s : List ℕ) → page_limit < length s → page_reading d c s ≡ Refused page_limit TooLong }
-    ensures stopped { (d c : ℕ) (p : List ℕ) (b : ℕ) (t : List ℕ) (r : Reader) → length (p ++ b ∷ t) ≤ page_limit → read_bytes c (begin d) p ≡ Some r → read_byte c r b ≡ None → page_reading d c (p ++ b ∷ t) ≡ Refused (length p) (kind_of_byte r b) }
-    ensures unclosed { (d c : ℕ) (s : List ℕ) (r : Reader) → length s ≤ page_limit → read_bytes c (begin d) s ≡ Some r → (r.part ≡ None → IsEnd r.machine → ⊥) → page_reading d c s ≡ Refused (length s) Unclosed }
-    ensures ended { (d c : ℕ) (s : List ℕ) (r : Reader) → length s ≤ page_limit → read_bytes c (begin d) s ≡ Some r → r.part ≡ None → IsEnd r.machine → (f : Siblings) × (page_reading d c s ≡ Children f) × PageBytes d c s f × (told r.machine ≡ events f) }
+    ensures too_long { (d c : ℕ) (s : List ℕ) → page_limit < length s → page_reading d c s
+        ≡ Refused page_limit TooLong }
+    ensures stopped { (d c : ℕ) (p : List ℕ) (b : ℕ) (t : List ℕ) (r : Reader)
+        → length (p ++ b ∷ t) ≤ page_limit → read_bytes c (begin d) p ≡ Some r → read_byte c r b ≡ None
+        → page_reading d c (p ++ b ∷ t) ≡ Refused (length p) (kind_of_byte r b) }
+    ensures unclosed { (d c : ℕ) (s : List ℕ) (r : Reader) → length s ≤ page_limit → read_bytes c (begin d) s
+        ≡ Some r → (r.part ≡ None → IsEnd r.machine → ⊥) → page_reading d c s ≡ Refused (length s) Unclosed }
+    ensures ended { (d c : ℕ) (s : List ℕ) (r : Reader) → length s ≤ page_limit → read_bytes c (begin d) s
+        ≡ Some r → r.part ≡ None → IsEnd r.machine → (f : Siblings) × (page_reading d c s ≡ Children f)
+        × PageBytes d c s f × (told r.machine ≡ events f) }
 {}
 
 /// A document to which each told node is added at the end of the innermost open element ends as the page's.
@@ -136,7 +151,8 @@ pub fn worked_faults()
     ensures full { page_fault 200 3 (codes "<p>x</p><p></p>") ≡ Some (8, Full) }
     ensures full_text { page_fault 200 2 (codes "<p>x</p>") ≡ Some (3, Full) }
     ensures page { page_fault 200 2000000 (codes "<scripty A = 'x>&lt;' b></scriptY ><!--a-->b--><br/>") ≡ None }
-    ensures wide_page { page_fault 200 2000000 (codes "<p " ++ 195 ∷ 169 ∷ codes ">" ++ 240 ∷ 159 ∷ 152 ∷ 128 ∷ codes "</p>") ≡ None }
+    ensures wide_page { page_fault 200 2000000 (codes "<p " ++ 195 ∷ 169 ∷ codes ">"
+        ++ 240 ∷ 159 ∷ 152 ∷ 128 ∷ codes "</p>") ≡ None }
     ensures at_depth { page_fault 2 2000000 (codes "<b><b></b></b>") ≡ None }
     ensures at_cap { page_fault 200 4 (codes "<p>x</p><br>") ≡ None }
 {}

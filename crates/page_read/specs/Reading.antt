@@ -31,9 +31,11 @@ told_in (Some r) = r.machine.out
 abbrev pub Takes : Option PageKind → (byte : ℕ) → (old new : Reader) → Type 0
 Takes None b old new =
     (quieted (readers.read_byte old.scanner.arena.cap (reader_of old) b) ≡ Some (reader_of new))
-    × (construction_of new ≡ plant_all (told_in (readers.read_byte old.scanner.arena.cap (reader_of old) b)) (construction_of old))
+    × (construction_of new ≡ plant_all (told_in (readers.read_byte old.scanner.arena.cap (reader_of old) b))
+    (construction_of old))
 Takes (Some kind) b old new =
-    (readers.read_byte old.scanner.arena.cap (reader_of old) b ≡ None) × (kind_of kind ≡ Some (kind_of_byte (reader_of old) b))
+    (readers.read_byte old.scanner.arena.cap (reader_of old) b ≡ None)
+    × (kind_of kind ≡ Some (kind_of_byte (reader_of old) b))
 
 -- what holds of the reader between bytes
 pub record IsHeld (r : Reader) (c : ℕ) : Type 0 where

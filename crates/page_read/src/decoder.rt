@@ -5,8 +5,8 @@ ghost use Rattle.std.specs.Option.{option_map};
 ghost use Rattle.page_grammar.specs.Decoder as decoder;
 ghost use Rattle.page_read.specs.Decoding.{pending_of, decoded_of, IsSoundPending, IsSoundDecoded};
 
-/// A character of which some bytes have come: its bits so far, how many bytes follow the next one, and the bounds of the
-/// next one (Encoding Standard, "UTF-8 decoder").
+/// A character of which some bytes have come: its bits so far, how many bytes follow the next one, and the bounds
+/// of the next one (Encoding Standard, "UTF-8 decoder").
 #[derive(Drop, Clone, Copy)]
 pub(crate) struct Pending {
     bits: u32,

@@ -1,4 +1,5 @@
--- The HTML text of trees, in bytes (HTML Standard, "Serializing HTML fragments", for the elements that a page may have).
+-- The HTML text of trees, in bytes (HTML Standard, "Serializing HTML fragments", for the elements that a page may
+-- have).
 use Rattle.std.specs.Prelude.{ℕ, List, [], ◌++◌, if◌then◌else◌, ◌==◌, codes, encode_utf8, encode_utf8_all}
 use Rattle.std.specs.List.{flat_map}
 use Rattle.dom_model.specs.declared.attributes.Attribute.{Attribute}

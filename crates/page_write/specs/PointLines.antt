@@ -15,10 +15,12 @@ point_text f p = node_text f p.label ++ codes ":" ++ decimal p.offset
 
 abbrev pub selection_lines : Forest Content → Option Pair → List ℕ
 selection_lines f None = codes "none\n"
-selection_lines f (Some pair) = codes "anchor " ++ point_text f pair.anchor ++ codes "\nfocus " ++ point_text f pair.focus ++ codes "\n"
+selection_lines f (Some pair) = codes "anchor " ++ point_text f pair.anchor ++ codes "\nfocus "
+    ++ point_text f pair.focus ++ codes "\n"
 
 abbrev pub mark_line : Forest Content → List ℕ × Pair → List ℕ
-mark_line f m = codes "mark " ++ m.0 ++ codes " " ++ point_text f m.1.anchor ++ codes " " ++ point_text f m.1.focus ++ codes "\n"
+mark_line f m = codes "mark " ++ m.0 ++ codes " " ++ point_text f m.1.anchor ++ codes " "
+    ++ point_text f m.1.focus ++ codes "\n"
 
 unfoldable pub mark_lines : Forest Content → List (List ℕ × Pair) → List ℕ
 mark_lines f marks = flat_map (mark_line f) marks

@@ -57,7 +57,10 @@ fn push_value(bytes: &mut Vec<u8>, value: &[char]) -> Result<(), AllocError>
 }
 
 fn push_attribute(bytes: &mut Vec<u8>, name: &[u8], value: &[char]) -> Result<(), AllocError>
-    ensures ok { OnOk result (bytes.new.items ≡ bytes.old.items ++ attribute_html (record { name = name.now; value = value.now })) }
+    ensures ok { OnOk result (bytes.new.items ≡ bytes.old.items ++ attribute_html (record {
+      name = name.now;
+      value = value.now;
+    })) }
 {
     bytes.extend_from_slice(b" ")?;
     bytes.extend_from_slice(name)?;
@@ -68,7 +71,8 @@ fn push_attribute(bytes: &mut Vec<u8>, name: &[u8], value: &[char]) -> Result<()
 }
 
 fn push_attribute_at(bytes: &mut Vec<u8>, list: &Attributes, place: usize) -> Result<(), AllocError>
-    ensures ok { OnOk result ((a : Attribute) → slice_get list.now place ≡ Some a → bytes.new.items ≡ bytes.old.items ++ attribute_html a) }
+    ensures ok { OnOk result ((a : Attribute) → slice_get list.now place ≡ Some a → bytes.new.items
+        ≡ bytes.old.items ++ attribute_html a) }
 {
     match list.at(place) {
         Some((name, value)) => push_attribute(bytes, name, value.as_slice()),

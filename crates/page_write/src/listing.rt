@@ -41,7 +41,8 @@ fn push_escaped_between(
     text: &Chars,
     after: &[u8],
 ) -> Result<(), AllocError>
-    ensures ok { OnOk result (bytes.new.items ≡ bytes.old.items ++ (before.now ++ escaped_bytes text.now ++ after.now)) }
+    ensures ok { OnOk result (bytes.new.items ≡ bytes.old.items
+        ++ (before.now ++ escaped_bytes text.now ++ after.now)) }
 {
     bytes.extend_from_slice(before)?;
     push_escaped(bytes, text.as_slice())?;
@@ -82,7 +83,8 @@ fn push_line(
     level: usize,
     content: &Content,
 ) -> Result<(), AllocError>
-    ensures ok { OnOk result (bytes.new.items ≡ bytes.old.items ++ (indent level ++ node_line content.now ++ codes "\n")) }
+    ensures ok { OnOk result (bytes.new.items ≡ bytes.old.items
+        ++ (indent level ++ node_line content.now ++ codes "\n")) }
 {
     push_indent(bytes, level)?;
     push_node_line(alloc, bytes, content)?;
@@ -101,7 +103,8 @@ fn push_lines(
     requires held { IfSome first (λ r. Holds arena.now r) }
     requires inner { IsInner arena.now.trees (label first) }
     requires room { level + total (λ _ _. 1) (onward_at arena.now.trees (label first)) < 2 ^ 64 }
-    ensures ok { OnOk result (bytes.new.items ≡ bytes.old.items ++ lines_of level (onward_at arena.now.trees (label first))) }
+    ensures ok { OnOk result (bytes.new.items ≡ bytes.old.items
+        ++ lines_of level (onward_at arena.now.trees (label first))) }
 {
     arena.valid();
     let mut at = first;
@@ -113,9 +116,10 @@ fn push_lines(
     Ok(())
 }
 
-/// The document as a listing, in UTF-8: a line for each node below the Document in tree order, indented by two spaces for
-/// each level below the first. An element's line is its start tag, with LF, CR and tab as `\n`, `\r` and `\t`; a text
-/// stands in quotes and a comment between `<!--` and `-->`, each escaped. Its calls go as deep as the tree.
+/// The document as a listing, in UTF-8: a line for each node below the Document in tree order, indented by two
+/// spaces for each level below the first. An element's line is its start tag, with LF, CR and tab as `\n`, `\r` and
+/// `\t`; a text stands in quotes and a comment between `<!--` and `-->`, each escaped. Its calls go as deep as the
+/// tree.
 pub fn write_tree(alloc: Global, arena: &Arena) -> Result<Vec<u8>, AllocError>
     ensures { IfOk result (λ bytes. bytes.items ≡ document_lines arena.now.trees) }
 {

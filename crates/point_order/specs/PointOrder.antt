@@ -1,4 +1,5 @@
--- Which of two points comes first (DOM Standard, "boundary point position"), and whether a point stands in the document.
+-- Which of two points comes first (DOM Standard, "boundary point position"), and whether a point stands in the
+-- document.
 use Rattle.std.specs.Prelude.{ℕ, Bool, not, ◌&&◌, ◌==◌, nat_lt, nat_le, Option, Some, None, if◌then◌else◌, find}
 use Rattle.dom_model.specs.declared.Content.{Content}
 use Rattle.dom_model.specs.Forest.{Forest, is_label, count_of, tree_of, children_of}

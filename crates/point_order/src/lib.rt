@@ -1,7 +1,7 @@
 //! The order of points in a tree, and whether a point stands in the document.
 //!
-//! A point is a node, named by its label, and an offset in it. Which of two comes first is the DOM Standard's position of
-//! one boundary point relative to another.
+//! A point is a node, named by its label, and an offset in it. Which of two comes first is the DOM Standard's
+//! position of one boundary point relative to another.
 #![tactic(auto)]
 
 ghost use Rattle.std.specs.Prelude.{◌≡◌, ◌<◌, length, nat_le};

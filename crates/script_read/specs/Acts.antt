@@ -67,7 +67,8 @@ IsPath text (n ∷ ns) = (texts : List (List ℕ)) × (text ≡ join_with_byte 4
 
 -- a path, `:` and an offset
 abbrev pub IsPoint : List ℕ → Place → Type 0
-IsPoint text place = (path offset : List ℕ) × (text ≡ path ++ 58 ∷ offset) × IsPath path place.path × IsNumber offset place.offset
+IsPoint text place = (path offset : List ℕ) × (text ≡ path ++ 58 ∷ offset) × IsPath path place.path
+    × IsNumber offset place.offset
 
 -- ---- values and texts
 
@@ -102,8 +103,8 @@ meaning (Scalar digits) = digits_value 16 digits
 abbrev pub is_hex_digit : ℕ → Bool
 is_hex_digit c = is_digit c 16
 
--- a character but `\` stands for itself, and 1 to 6 hexadecimal digits for a scalar value; a printed text has two escapes
--- more than a value
+-- a character but `\` stands for itself, and 1 to 6 hexadecimal digits for a scalar value; a printed text has two
+-- escapes more than a value
 abbrev pub IsPiece : (printed : Bool) → Piece → Type 0
 IsPiece printed (Itself c) = IsScalar c × (c ≢ 92)
 IsPiece printed LineFeed = Unit {0}
@@ -111,7 +112,8 @@ IsPiece printed Tab = Unit {0}
 IsPiece printed Backslash = Unit {0}
 IsPiece printed Quote = printed ≡ true
 IsPiece printed Return = printed ≡ true
-IsPiece printed (Scalar digits) = (0 < length digits) × (length digits ≤ 6) × (list_all is_hex_digit digits ≡ true) × IsScalar (digits_value 16 digits)
+IsPiece printed (Scalar digits) = (0 < length digits) × (length digits ≤ 6)
+    × (list_all is_hex_digit digits ≡ true) × IsScalar (digits_value 16 digits)
 
 abbrev pub ArePieces : (printed : Bool) → List Piece → Type 0
 ArePieces printed [] = Unit {0}
@@ -142,15 +144,18 @@ Spells line (Select anchor focus) =
     (a f : List ℕ) × (line ≡ spaced (codes "select" ∷ a ∷ f ∷ [])) × IsPoint a anchor × IsPoint f focus
 Spells line Unselect = line ≡ codes "unselect"
 Spells line (Mark name anchor focus) =
-    (a f : List ℕ) × (line ≡ spaced (codes "mark" ∷ name ∷ a ∷ f ∷ [])) × IsName name × IsPoint a anchor × IsPoint f focus
+    (a f : List ℕ) × (line ≡ spaced (codes "mark" ∷ name ∷ a ∷ f ∷ [])) × IsName name × IsPoint a anchor
+    × IsPoint f focus
 Spells line (Unmark name) = (line ≡ spaced (codes "unmark" ∷ name ∷ [])) × IsName name
 Spells line (Exec name value) =
     IsName name
     × (((line ≡ spaced (codes "exec" ∷ name ∷ [])) × (value ≡ []))
     ⊎ ((bytes : List ℕ) × (line ≡ spaced (codes "exec" ∷ name ∷ bytes ∷ [])) × IsValue bytes value))
 Spells line (Query kind name) = (line ≡ spaced (codes "query" ∷ query_word kind ∷ name ∷ [])) × IsName name
-Spells line (Undo count) = (digits : List ℕ) × (line ≡ spaced (codes "undo" ∷ digits ∷ [])) × IsNumber digits count × (0 < count)
-Spells line (Redo count) = (digits : List ℕ) × (line ≡ spaced (codes "redo" ∷ digits ∷ [])) × IsNumber digits count × (0 < count)
+Spells line (Undo count) = (digits : List ℕ) × (line ≡ spaced (codes "undo" ∷ digits ∷ []))
+    × IsNumber digits count × (0 < count)
+Spells line (Redo count) = (digits : List ℕ) × (line ≡ spaced (codes "redo" ∷ digits ∷ []))
+    × IsNumber digits count × (0 < count)
 Spells line (Probe path) = (text : List ℕ) × (line ≡ spaced (codes "probe" ∷ text ∷ [])) × IsPath text path
 Spells line Html = line ≡ codes "html"
 Spells line Tree = line ≡ codes "tree"
@@ -170,4 +175,5 @@ IsUnknown line = (length line ≤ line_limit) × ((verb : Verb) → ¬ (BeginsWi
 
 -- the line isn't too long, its first word is an act's, and it spells no act
 abbrev pub IsOutside : List ℕ → Type 0
-IsOutside line = (length line ≤ line_limit) × ((verb : Verb) × BeginsWith line verb) × ((act : Act) → ¬ (Spells line act))
+IsOutside line = (length line ≤ line_limit) × ((verb : Verb) × BeginsWith line verb)
+    × ((act : Act) → ¬ (Spells line act))

@@ -1,7 +1,8 @@
 //! A counter of steps that contracts see and that takes no bytes and no time when the program runs.
 //!
-//! A call that promises a bound on what it touches takes `steps: &mut Steps<L>` and says by how much the count rises. The
-//! only way to raise the count is `tick`. A caller that counts nothing passes [`Steps::open`] of a `Blank` of its own.
+//! A call that promises a bound on what it touches takes `steps: &mut Steps<L>` and says by how much the count
+//! rises. The only way to raise the count is `tick`. A caller that counts nothing passes [`Steps::open`] of a
+//! `Blank` of its own.
 #![tactic(auto)]
 
 ghost use Rattle.std.specs.Prelude.{◌≡◌, ◌+◌, ◌<◌};

@@ -153,7 +153,8 @@ fn has_name(names: &[&[u8]], name: &[u8]) -> bool
 
 // The value of the first row that has the name.
 fn value_of(rows: &[NamedRow], name: &[u8]) -> Option<Row>
-    ensures { option_map (λ row. row.text.now) result ≡ defaults.value_of (map (λ row. (row.0.now, map (λ known. known.now) row.1.now)) rows.now) name.now }
+    ensures { option_map (λ row. row.text.now) result ≡ defaults.value_of
+        (map (λ row. (row.0.now, map (λ known. known.now) row.1.now)) rows.now) name.now }
 {
     for row in rows {
         if has_name(row.1, name) {

@@ -60,7 +60,8 @@ is_heading_at s c = option_map_or names.is_heading (name_of s.trees c) false
 unfoldable pub name_after : State → ℕ → List ℕ
 name_after s c =
     if is_heading_at s c then container_name s.flags.paragraphs
-    else (if has_name s.trees c (codes "dt") then codes "dd" else (if has_name s.trees c (codes "dd") then codes "dt" else tag_of s.trees c))
+    else (if has_name s.trees c (codes "dt") then codes "dd"
+    else (if has_name s.trees c (codes "dd") then codes "dt" else tag_of s.trees c))
 
 unfoldable pub second_name : State → Point → ℕ → List ℕ
 second_name s q c = if ends_line s q c then name_after s c else tag_of s.trees c

@@ -78,7 +78,12 @@ module _ {T : Type 0} where
   abbrev pub committed_with : Log T → Open T → Log T
   committed_with l Closed = l
   committed_with l (Begun []) = record l { open_entry = Closed }
-  committed_with l (Begun (x ∷ xs)) = record l { undo = take l.depth ((x ∷ xs) ∷ l.undo); redo = []; open_entry = Closed; dropped = l.dropped || nat_le l.depth (length l.undo) }
+  committed_with l (Begun (x ∷ xs)) = record l {
+    undo = take l.depth ((x ∷ xs) ∷ l.undo);
+    redo = [];
+    open_entry = Closed;
+    dropped = l.dropped || nat_le l.depth (length l.undo);
+  }
   committed_with l (Resumed xs) = record l { undo = joined l.undo xs; open_entry = Closed }
 
   abbrev pub committed : Log T → Log T
@@ -155,13 +160,15 @@ module _ {T : Type 0} where
   of_open_parts-open_parts (Resumed xs) = refl
 
   abbrev pub open_code : Coded T → Coded (Open T)
-  open_code c = code_by (Option (Bool × List T)) (coded_option (coded× coded_bool (coded_list c))) open_parts of_open_parts of_open_parts-open_parts
+  open_code c = code_by (Option (Bool × List T)) (coded_option (coded× coded_bool (coded_list c))) open_parts
+      of_open_parts of_open_parts-open_parts
 
   abbrev pub log_code : Coded T → Coded (Log T)
   log_code c =
       code_by
       (List (List T) × (List (List T) × (Open T × (ℕ × Bool))))
-      (coded× (coded_list (coded_list c)) (coded× (coded_list (coded_list c)) (coded× (open_code c) (coded× coded_ℕ coded_bool))))
+      (coded× (coded_list (coded_list c)) (coded× (coded_list (coded_list c))
+      (coded× (open_code c) (coded× coded_ℕ coded_bool))))
       (λ l. (l.undo, (l.redo, (l.open_entry, (l.depth, l.dropped)))))
       (λ p. record { undo = p.0; redo = p.1.0; open_entry = p.1.1.0; depth = p.1.1.1.0; dropped = p.1.1.1.1 })
       (λ _. refl)

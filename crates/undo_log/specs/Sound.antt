@@ -38,8 +38,20 @@ module _ {T : Type 0} where
   entry_of o = entry_with o.noted o.kept
 
   abbrev pub shown_with : List (List T) → List (List T) → List T → Option (List T) → ℕ → Bool → Log T
-  shown_with us rs xs None n dropped = record { undo = us; redo = rs; open_entry = Begun xs; depth = n; dropped = dropped }
-  shown_with us rs xs (Some e) n dropped = record { undo = e ∷ us; redo = rs; open_entry = Resumed xs; depth = n; dropped = dropped }
+  shown_with us rs xs None n dropped = record {
+    undo = us;
+    redo = rs;
+    open_entry = Begun xs;
+    depth = n;
+    dropped = dropped;
+  }
+  shown_with us rs xs (Some e) n dropped = record {
+    undo = e ∷ us;
+    redo = rs;
+    open_entry = Resumed xs;
+    depth = n;
+    dropped = dropped;
+  }
 
   abbrev pub shown : List (List T) → List (List T) → Option (Opened T) → ℕ → Bool → Log T
   shown us rs None n dropped = record { undo = us; redo = rs; open_entry = Closed; depth = n; dropped = dropped }

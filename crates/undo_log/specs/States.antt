@@ -75,14 +75,16 @@ module _ {T S : Type 0} (applied : T → S → S) where
   abbrev pub entries_committed : Log T → Open T → List (List T)
   entries_committed l Closed = entries l
   entries_committed l (Begun []) = entries l
-  entries_committed l (Begun (x ∷ xs)) = let all = take (cursor l) (entries l) ++ (x ∷ xs) ∷ [] in drop (length all - l.depth) all
+  entries_committed l (Begun (x ∷ xs)) = let all = take (cursor l) (entries l)
+      ++ (x ∷ xs) ∷ [] in drop (length all - l.depth) all
   entries_committed l (Resumed xs) = reverse (joined l.undo xs)
 
   -- the kept states after a commit at the state s
   abbrev pub states_committed : Log T → Open T → List S → S → List S
   states_committed l Closed ss s = ss
   states_committed l (Begun []) ss s = ss
-  states_committed l (Begun (x ∷ xs)) ss s = let all = take (cursor l + 1) ss ++ s ∷ [] in drop (length all - (l.depth + 1)) all
+  states_committed l (Begun (x ∷ xs)) ss s = let all = take (cursor l + 1) ss
+      ++ s ∷ [] in drop (length all - (l.depth + 1)) all
   states_committed l (Resumed xs) ss s = take (cursor l) ss ++ s ∷ []
 
   module _ (inverse : T → S → T) where
@@ -135,7 +137,8 @@ module _ {T S : Type 0} (applied : T → S → S) where
     -- an entry that is taken out takes the newest state, or the oldest, with it
     pub record Drops (l : Log T) (s : S) : Type 0 where
       pub newest_follows : Follows (without_newest l) s
-      pub newest_states : 0 < length l.redo → kept_states (without_newest l) s ≡ take (length (kept_states l s) - 1) (kept_states l s)
+      pub newest_states : 0 < length l.redo → kept_states (without_newest l) s
+          ≡ take (length (kept_states l s) - 1) (kept_states l s)
       pub oldest_follows : Follows (without_oldest l) s
       pub oldest_states : 0 < length l.undo → kept_states (without_oldest l) s ≡ drop 1 (kept_states l s)
 
@@ -150,8 +153,10 @@ module _ {T S : Type 0} (applied : T → S → S) (inverse : T → S → T) (fit
   -- with the log as it was
   pub record Returns (l : Log T) (s : S) : Type 0 where
     pub undo_gives : undone_state applied (committed l).undo s ≡ before_entry applied l s
-    pub redo_gives : redone_state applied (undone applied inverse (committed l) s).redo (undone_state applied (committed l).undo s) ≡ s
-    pub log_again : redone applied inverse (undone applied inverse (committed l) s) (undone_state applied (committed l).undo s) ≡ committed l
+    pub redo_gives : redone_state applied (undone applied inverse (committed l) s).redo
+        (undone_state applied (committed l).undo s) ≡ s
+    pub log_again : redone applied inverse (undone applied inverse (committed l) s)
+        (undone_state applied (committed l).undo s) ≡ committed l
 
   -- A command: the log `opened` has an entry open since the state s, with no step noted, and then come the
   -- edits. Abandon gives the state s and the log `closed`; undo after a commit gives the state `before`,
@@ -160,6 +165,8 @@ module _ {T S : Type 0} (applied : T → S → S) (inverse : T → S → T) (fit
     pub follows : Follows applied fits (noted_all opened es) (state_after s es)
     pub abandon_state : start applied (noted_all opened es) (state_after s es) ≡ s
     pub abandon_log : abandoned (noted_all opened es) ≡ closed
-    pub undo_state : 0 < length es → undone_state applied (committed (noted_all opened es)).undo (state_after s es) ≡ before
+    pub undo_state : 0 < length es → undone_state applied (committed (noted_all opened es)).undo
+        (state_after s es) ≡ before
     pub redo_state : 0 < length es →
-        redone_state applied (undone applied inverse (committed (noted_all opened es)) (state_after s es)).redo (undone_state applied (committed (noted_all opened es)).undo (state_after s es)) ≡ state_after s es
+        redone_state applied (undone applied inverse (committed (noted_all opened es)) (state_after s es)).redo
+        (undone_state applied (committed (noted_all opened es)).undo (state_after s es)) ≡ state_after s es

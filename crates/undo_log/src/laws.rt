@@ -19,7 +19,8 @@ pub fn turns<T, S>()
 where
     T: Invertible<S>,
     ensures back { (xs : List T) (s : S) → FitsBack T.applied T.fits xs s → TurnsBack T.applied T.inverse T.fits xs s }
-    ensures forth { (xs : List T) (s : S) → FitsForth T.applied T.fits xs s → TurnsForth T.applied T.inverse T.fits xs s }
+    ensures forth { (xs : List T) (s : S) → FitsForth T.applied T.fits xs s
+        → TurnsForth T.applied T.inverse T.fits xs s }
 {}
 
 /// A new log keeps the state at hand, whichever it is.
@@ -45,10 +46,13 @@ where
 pub fn notes<T, S>()
 where
     T: Invertible<S>,
-    ensures edit { (l : Log T) (s t : S) (x : T) → IsTrue (is_open l.open_entry) → Follows T.applied T.fits l s → T.fits x t → T.applied x t ≡ s →
+    ensures edit { (l : Log T) (s t : S) (x : T) → IsTrue (is_open l.open_entry) → Follows T.applied T.fits l s
+        → T.fits x t → T.applied x t ≡ s →
         Keeps T.applied T.fits l s (with_step l x) t × (start T.applied (with_step l x) t ≡ start T.applied l s) }
-    ensures applied { (l : Log T) (s : S) (x : T) → IsTrue (is_open l.open_entry) → Follows T.applied T.fits l s → T.fits x s →
-        Keeps T.applied T.fits l s (with_step l (T.inverse x s)) (T.applied x s) × (start T.applied (with_step l (T.inverse x s)) (T.applied x s) ≡ start T.applied l s) }
+    ensures applied { (l : Log T) (s : S) (x : T) → IsTrue (is_open l.open_entry) → Follows T.applied T.fits l s
+        → T.fits x s →
+        Keeps T.applied T.fits l s (with_step l (T.inverse x s)) (T.applied x s)
+        × (start T.applied (with_step l (T.inverse x s)) (T.applied x s) ≡ start T.applied l s) }
 {}
 
 /// A commit keeps the states up to the one at which the entry started, and the one at hand; the oldest
@@ -72,10 +76,13 @@ where
 pub fn commands<T, S>()
 where
     T: Invertible<S>,
-    ensures begin { (l : Log T) (s : S) (es : List (LogEdit T S)) → IsLog l → l.open_entry ≡ Closed → Follows T.applied T.fits l s → TakenBack T.applied T.fits s es →
+    ensures begin { (l : Log T) (s : S) (es : List (LogEdit T S)) → IsLog l → l.open_entry ≡ Closed
+        → Follows T.applied T.fits l s → TakenBack T.applied T.fits s es →
         Command T.applied T.inverse T.fits l (begun l) s s es }
-    ensures resume { (l : Log T) (s : S) (es : List (LogEdit T S)) → IsLog l → l.open_entry ≡ Closed → 0 < length l.undo → l.redo ≡ [] →
-        Follows T.applied T.fits l s → TakenBack T.applied T.fits s es → Command T.applied T.inverse T.fits l (resumed l) (undone_state T.applied l.undo s) s es }
+    ensures resume { (l : Log T) (s : S) (es : List (LogEdit T S)) → IsLog l → l.open_entry ≡ Closed
+        → 0 < length l.undo → l.redo ≡ [] →
+        Follows T.applied T.fits l s → TakenBack T.applied T.fits s es
+        → Command T.applied T.inverse T.fits l (resumed l) (undone_state T.applied l.undo s) s es }
 {}
 
 /// Right after a commit with a step, undo gives the state at begin, or for an entry that was resumed the
@@ -83,14 +90,16 @@ where
 pub fn returns<T, S>()
 where
     T: Invertible<S>,
-    ensures { (l : Log T) (s : S) → IsLog l → 0 < length (noted l.open_entry) → Follows T.applied T.fits l s → Returns T.applied T.inverse T.fits l s }
+    ensures { (l : Log T) (s : S) → IsLog l → 0 < length (noted l.open_entry) → Follows T.applied T.fits l s
+        → Returns T.applied T.inverse T.fits l s }
 {}
 
 /// Any list of calls of undo and redo keeps the states, and leads to the one where the cursor then is.
 pub fn walks<T, S>()
 where
     T: Invertible<S>,
-    ensures { (moves : List Move) (l : Log T) (s : S) → l.open_entry ≡ Closed → Follows T.applied T.fits l s → Walks T.applied T.inverse T.fits moves l s }
+    ensures { (moves : List Move) (l : Log T) (s : S) → l.open_entry ≡ Closed → Follows T.applied T.fits l s
+        → Walks T.applied T.inverse T.fits moves l s }
 {}
 
 /// An entry that is taken out at either end takes the state past it along, and no other.

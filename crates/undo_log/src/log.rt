@@ -142,7 +142,8 @@ impl<T: Drop> UndoLog<T> {
         requires fit { FitsBack T.applied T.fits (noted self.old.open_entry) state.old }
         ensures log { self.new ≡ abandoned self.old }
         ensures state { state.new ≡ start T.applied self.old state.old }
-        ensures kept { Follows T.applied T.fits self.old state.old → Keeps T.applied T.fits self.old state.old self.new state.new }
+        ensures kept { Follows T.applied T.fits self.old state.old
+            → Keeps T.applied T.fits self.old state.old self.new state.new }
     {
         let Some(open) = self.open_entry.take() else {
             unreachable!()
@@ -162,7 +163,8 @@ impl<T: Drop> UndoLog<T> {
         ensures log { self.new ≡ undone T.applied T.inverse self.old state.old }
         ensures state { state.new ≡ undone_state T.applied self.old.undo state.old }
         ensures count { steps.new ≡ steps.old + first_length self.old.undo }
-        ensures kept { Follows T.applied T.fits self.old state.old → Keeps T.applied T.fits self.old state.old self.new state.new }
+        ensures kept { Follows T.applied T.fits self.old state.old
+            → Keeps T.applied T.fits self.old state.old self.new state.new }
     {
         let Some(mut entry) = self.undo.pop_front() else {
             return false;
@@ -182,7 +184,8 @@ impl<T: Drop> UndoLog<T> {
         ensures log { self.new ≡ redone T.applied T.inverse self.old state.old }
         ensures state { state.new ≡ redone_state T.applied self.old.redo state.old }
         ensures count { steps.new ≡ steps.old + first_length self.old.redo }
-        ensures kept { Follows T.applied T.fits self.old state.old → Keeps T.applied T.fits self.old state.old self.new state.new }
+        ensures kept { Follows T.applied T.fits self.old state.old
+            → Keeps T.applied T.fits self.old state.old self.new state.new }
     {
         let Some(mut entry) = self.redo.pop_front() else {
             return false;

@@ -43,7 +43,8 @@ pub(crate) fn can_hold(arena: &Arena, parent: NodeRef) -> bool
 
 /// Whether a node is a child of another, or there is none.
 pub(crate) fn is_child(arena: &Arena, parent: NodeRef, child: Option<NodeRef>) -> bool
-    ensures { IsTrue result → IfSome child (λ b. Holds arena.now b × (parent_of arena.now.trees b.label ≡ Some parent.label)) }
+    ensures { IsTrue result → IfSome child (λ b. Holds arena.now b
+        × (parent_of arena.now.trees b.label ≡ Some parent.label)) }
 {
     match child {
         None => true,
@@ -95,8 +96,8 @@ pub(crate) trait Trial {
     fn run(&self, alloc: Global, arena: &mut Arena) -> Result<Self::Found, Fail>;
 }
 
-/// What a trial finds in an arena with room for so many nodes beside the document. Arenas are let go here alone, since the
-/// proof of that takes long, and again on each way out of the function that owns one.
+/// What a trial finds in an arena with room for so many nodes beside the document. Arenas are let go here alone,
+/// since the proof of that takes long, and again on each way out of the function that owns one.
 pub(crate) fn found<T: Trial>(alloc: Global, room: u16, trial: &T) -> Result<T::Found, Fail> {
     let mut arena = Arena::new(alloc, room as u32 + 1)?;
     trial.run(alloc, &mut arena)

@@ -1,5 +1,5 @@
-//! Deleting: each row of a table is what an editing host holds, where the caret or the ends of a range stand by labels (1 is the
-//! host), where they stand after it, and what the host then holds.
+//! Deleting: each row of a table is what an editing host holds, where the caret or the ends of a range stand by
+//! labels (1 is the host), where they stand after it, and what the host then holds.
 
 ghost use Rattle.edit_doc.specs.Whole.{IsOpen};
 

@@ -1,5 +1,5 @@
-//! Values that are cleared, forced, pushed down, restored and set on the selection: each row of a table is what an editing host
-//! holds, what is done to a node of it by its label (1 is the host), and what the host then holds.
+//! Values that are cleared, forced, pushed down, restored and set on the selection: each row of a table is what an
+//! editing host holds, what is done to a node of it by its label (1 is the host), and what the host then holds.
 
 mod ends;
 mod locked;

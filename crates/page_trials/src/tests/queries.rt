@@ -9,8 +9,8 @@ use std::alloc::{AllocError, Global};
 use std::test::Fail;
 use trial_pages::{Trial, begin, chars, found, page_of, point};
 
-// What an editing host of the label 1 holds, the ends of a range, a command, and its answers: whether it is indeterminate, its
-// state and its value.
+// What an editing host of the label 1 holds, the ends of a range, a command, and its answers: whether it is
+// indeterminate, its state and its value.
 struct Question(
     &'static str,
     (u32, u32),

@@ -324,8 +324,8 @@ fn is_edited(doc: &Doc, is: &str) -> bool
     is.starts_with(EDITED) && has_lengths(doc, 1, 0, 20) && three_deep
 }
 
-// Whether the edits are made, in one command or in two of which the second joins the entry of the first, and undo and redo
-// lead between what is shown before and after them.
+// Whether the edits are made, in one command or in two of which the second joins the entry of the first, and undo
+// and redo lead between what is shown before and after them.
 #[derive(Clone, Copy)]
 struct Undone {
     resumes: bool,

@@ -67,8 +67,8 @@ fn blocks_start_and_end(rt: HostRuntime) -> Result<(), Fail> {
     check_pages(rt.alloc(), &POINTS)
 }
 
-// A start and an end, each the label of a node and an offset, and the labels of the nodes that the range contains, and contains
-// in effect.
+// A start and an end, each the label of a node and an offset, and the labels of the nodes that the range contains,
+// and contains in effect.
 type Row = ((u32, u32), (u32, u32), &'static [u32], &'static [u32]);
 
 struct Ranges(&'static [Row]);
