@@ -152,8 +152,8 @@ fn named_in(table: &[NamedColour], text: &[char]) -> Option<Colour>
     None
 }
 
-#[tactic(auto, unfolding(crate::specs::Colours::named_colour))]
 // The colour of a keyword, in any case.
+#[tactic(auto, unfolding(crate::specs::Colours::named_colour))]
 fn named_colour(text: &[char]) -> Option<Colour>
     ensures { result ≡ spec.named_colour text.now }
 {
@@ -202,8 +202,8 @@ fn are_digits(text: &[char]) -> bool
     text.iter().all(|c| c.is_ascii_hexdigit())
 }
 
-#[tactic(auto, unfolding(crate::specs::Colours::hex_colour))]
 // The colour of the digits after a `#`.
+#[tactic(auto, unfolding(crate::specs::Colours::hex_colour))]
 fn hex_colour(digits: &[char]) -> Option<Colour>
     ensures { result ≡ spec.hex_colour digits.now }
 {
@@ -226,8 +226,8 @@ fn split_first(text: &[char], stop: char) -> Option<(&[char], &[char])>
     None
 }
 
-#[tactic(auto, unfolding(crate::specs::Colours::channel))]
 // The number to 255 before the first character of this code, and the text after it.
+#[tactic(auto, unfolding(crate::specs::Colours::channel))]
 fn channel(text: &[char], stop: char) -> Option<(u8, &[char])>
     ensures { option_map (λ p. (p.0, p.1.now)) result ≡ spec.channel stop text.now }
 {
@@ -250,8 +250,8 @@ fn after_space(text: &[char]) -> &[char]
     }
 }
 
-#[tactic(auto, unfolding(crate::specs::Colours::rgb_colour))]
 // The colour of `r, g, b)`.
+#[tactic(auto, unfolding(crate::specs::Colours::rgb_colour))]
 fn rgb_colour(text: &[char]) -> Option<Colour>
     ensures { result ≡ spec.rgb_colour text.now }
 {

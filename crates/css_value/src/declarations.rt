@@ -79,8 +79,8 @@ fn lowered(alloc: Global, text: &[char]) -> Result<Vec<char>, AllocError>
     text.iter().map(|c| c.to_ascii_lowercase()).collect(alloc)
 }
 
-#[tactic(auto, unfolding(crate::specs::DeclarationList::text_of))]
 // Appends `name: value`.
+#[tactic(auto, unfolding(crate::specs::DeclarationList::text_of))]
 fn push_text(text: &mut Vec<char>, name: &[char], value: &[char]) -> Result<(), AllocError>
     ensures { OnOk result (text.new.items ≡ text.old.items ++ text_of (record { name = name.now; value = value.now })) }
 {

@@ -40,8 +40,8 @@ impl DecorationLine {
 }
 
 impl TextDecoration {
-    #[tactic(auto, unfolding(crate::specs::TextDecoration::text_decoration_text, crate::specs::TextDecoration::text_decoration_of, crate::specs::TextDecoration::lines_in, crate::specs::TextDecoration::are_lines, crate::specs::TextDecoration::has_line, crate::specs::TextDecoration::words))]
     /// The words of the lines that are drawn, in this order and joined by one space, or `none`.
+    #[tactic(auto, unfolding(crate::specs::TextDecoration::text_decoration_text, crate::specs::TextDecoration::text_decoration_of, crate::specs::TextDecoration::lines_in, crate::specs::TextDecoration::are_lines, crate::specs::TextDecoration::has_line, crate::specs::TextDecoration::words))]
     pub fn keywords(self) -> &'static [u8]
         ensures keywords { result.now ≡ spec.text_decoration_text self }
         ensures read_back { spec.text_decoration_of result.now ≡ Some self }
@@ -94,8 +94,8 @@ fn first_word(text: &[char]) -> Option<(&[char], &[char])>
     Some(split_word(rest))
 }
 
-#[tactic(auto, unfolding(crate::specs::TextDecoration::has_line))]
 /// Whether a line's word is among the words of a value of `text-decoration`, whether that is valid or not.
+#[tactic(auto, unfolding(crate::specs::TextDecoration::has_line))]
 pub fn has_line(text: &[char], line: DecorationLine) -> bool
     ensures { result ≡ spec.has_line text.now line }
 {
@@ -132,8 +132,8 @@ fn all_name_lines(text: &[char]) -> bool
     true
 }
 
-#[tactic(auto, unfolding(crate::specs::TextDecoration::are_lines))]
 // Whether there are words, and each names a line.
+#[tactic(auto, unfolding(crate::specs::TextDecoration::are_lines))]
 fn are_lines(text: &[char]) -> bool
     ensures { result ≡ spec.are_lines (spec.words text.now) }
 {
@@ -143,9 +143,9 @@ fn are_lines(text: &[char]) -> bool
     }
 }
 
-#[tactic(auto, unfolding(crate::specs::TextDecoration::text_decoration_of, crate::specs::TextDecoration::lines_in))]
 /// The value of `text-decoration` that a text is: `none`, or one or more of the words `underline`, `overline` and
 /// `line-through`, in any order and as often as they come, parted by spaces.
+#[tactic(auto, unfolding(crate::specs::TextDecoration::text_decoration_of, crate::specs::TextDecoration::lines_in))]
 pub fn read_text_decoration(text: &[char]) -> Option<TextDecoration>
     ensures { result ≡ spec.text_decoration_of text.now }
 {
@@ -177,9 +177,9 @@ fn push_word(text: &mut Vec<char>, word: &[char]) -> Result<(), AllocError>
     Ok(())
 }
 
-#[tactic(auto, unfolding(crate::specs::TextDecoration::without_line))]
 /// A value of `text-decoration`, valid or not, without a line's word: the other words in their order, joined by one
 /// space. It is empty exactly where no other word is there.
+#[tactic(auto, unfolding(crate::specs::TextDecoration::without_line))]
 pub fn without_line(
     alloc: Global,
     text: &[char],

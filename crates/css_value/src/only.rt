@@ -121,9 +121,9 @@ fn sets_box_names(text: &[char]) -> bool
     all_box_names(text)
 }
 
+/// Whether the declarations that reading a style text gives are none, exactly that one, box names alone, or exactly
+/// one. It takes no memory.
 #[tactic(auto, unfolding(crate::specs::OnlyGroup::sets_only))]
-/// Whether the declarations that reading a style text gives are none, exactly that one, box names alone, or exactly one.
-/// It takes no memory.
 pub fn sets_only(text: &[char], group: Only) -> bool
     ensures { result ≡ names.sets_only group (names_of (declarations_in text.now)) }
 {

@@ -3,9 +3,9 @@
 ghost use Rattle.std.specs.Prelude.{◌≡◌, ◌≤◌, IfSome};
 ghost use Rattle.css_value.specs.Numbers as spec;
 
+/// The legacy font size, 1 to 7, of a size in pixels: the sizes are 10, 13, 16, 18, 24, 32 and 48 pixels, and a
+/// size in the middle between two belongs to the greater (the editing APIs' "legacy font size for").
 #[tactic(auto, unfolding(crate::specs::Numbers::legacy_size))]
-/// The legacy font size, 1 to 7, of a size in pixels: the sizes are 10, 13, 16, 18, 24, 32 and 48 pixels, and a size in the
-/// middle between two belongs to the greater (the editing APIs' "legacy font size for").
 pub fn legacy_size(px: u32) -> u8
     ensures { result ≡ spec.legacy_size px }
 {
@@ -38,8 +38,8 @@ fn is_trim(text: &[char]) -> bool
     }
 }
 
-#[tactic(auto, unfolding(crate::specs::Numbers::number_up_to))]
 // The number of a text of digits without leading zeros, where it is at most this.
+#[tactic(auto, unfolding(crate::specs::Numbers::number_up_to))]
 pub(crate) fn number(text: &[char], most: u16) -> Option<u16>
     ensures number { result ≡ spec.number_up_to most text.now }
     ensures small { IfSome result (λ n. n ≤ most) }

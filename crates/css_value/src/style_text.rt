@@ -37,16 +37,16 @@ impl Nesting {
         self.quote.is_none() && self.depth == 0
     }
 
-    #[tactic(auto, unfolding(crate::specs::StyleText::is_cut))]
     // Whether a piece ends at this character.
+    #[tactic(auto, unfolding(crate::specs::StyleText::is_cut))]
     fn is_cut(&self, c: char) -> bool
         ensures { result ≡ spec.is_cut self.now c }
     {
         c == ';' && self.is_outside()
     }
 
-    #[tactic(auto, unfolding(crate::specs::StyleText::after))]
     // Goes past a character.
+    #[tactic(auto, unfolding(crate::specs::StyleText::after))]
     fn pass(&mut self, c: char)
         requires { self.old.depth < usize.MAX }
         ensures after { self.new ≡ spec.after self.old c }
@@ -101,8 +101,8 @@ fn trim_end(text: &[char]) -> &[char]
     &[]
 }
 
-#[tactic(auto, unfolding(crate::specs::StyleText::trimmed))]
 /// The text without the spaces at both ends: tab, LF, FF, CR and space.
+#[tactic(auto, unfolding(crate::specs::StyleText::trimmed))]
 pub fn trimmed(text: &[char]) -> &[char]
     ensures { result.now ≡ spec.trimmed text.now }
 {
@@ -171,8 +171,8 @@ pub(crate) fn piece_len(text: &[char]) -> usize
     text.len()
 }
 
-#[tactic(auto, unfolding(crate::specs::StyleText::is_closed))]
 // Whether each quote and each parenthesis of a piece is closed in it.
+#[tactic(auto, unfolding(crate::specs::StyleText::is_closed))]
 fn is_closed(piece: &[char]) -> bool
     ensures { result ≡ spec.is_closed piece.now }
 {
@@ -203,8 +203,8 @@ pub(crate) struct Stated<'a> {
     pub value: &'a [char],
 }
 
-#[tactic(auto, unfolding(crate::specs::StyleText::declaration_of, crate::specs::StyleText::named))]
 // What a piece declares.
+#[tactic(auto, unfolding(crate::specs::StyleText::declaration_of, crate::specs::StyleText::named))]
 pub(crate) fn declared_in(piece: &[char]) -> Option<Stated<'_>>
     ensures { option_map (λ d. record {
       name = spec.lowered d.name.now;

@@ -22,8 +22,8 @@ pub fn print_font_weight(alloc: Global, weight: u16) -> Result<Vec<char>, AllocE
     chars_of(alloc, text.as_bytes())
 }
 
-#[tactic(auto, unfolding(crate::specs::Values::pixels_text))]
 /// A size in pixels as `Npx`. One to 9999 is read back.
+#[tactic(auto, unfolding(crate::specs::Values::pixels_text))]
 pub fn print_font_size(alloc: Global, px: u16) -> Result<Vec<char>, AllocError>
     ensures text { IfOk result (λ text. text.items ≡ spec.pixels_text px) }
     ensures read_back { px ≤ 9999 → IfOk result (λ text. spec.font_size_of text.items ≡ Some px) }

@@ -22,8 +22,8 @@ pub enum Display {
 }
 
 impl Display {
-    #[tactic(auto, unfolding(crate::specs::Values::display_of))]
     /// The keyword of the value.
+    #[tactic(auto, unfolding(crate::specs::Values::display_of))]
     pub fn keyword(self) -> &'static [u8]
         ensures keyword { result.now ≡ spec.display_keyword self }
         ensures read_back { spec.display_of result.now ≡ Some self }
@@ -59,8 +59,8 @@ pub enum WhiteSpace {
 }
 
 impl WhiteSpace {
-    #[tactic(auto, unfolding(crate::specs::Values::white_space_of))]
     /// The keyword of the value.
+    #[tactic(auto, unfolding(crate::specs::Values::white_space_of))]
     pub fn keyword(self) -> &'static [u8]
         ensures keyword { result.now ≡ spec.white_space_keyword self }
         ensures read_back { spec.white_space_of result.now ≡ Some self }
@@ -92,8 +92,8 @@ pub enum FontStyle {
 }
 
 impl FontStyle {
-    #[tactic(auto, unfolding(crate::specs::Values::font_style_of))]
     /// The keyword of the value.
+    #[tactic(auto, unfolding(crate::specs::Values::font_style_of))]
     pub fn keyword(self) -> &'static [u8]
         ensures keyword { result.now ≡ spec.font_style_keyword self }
         ensures read_back { spec.font_style_of result.now ≡ Some self }
@@ -124,8 +124,8 @@ pub enum TextAlign {
 }
 
 impl TextAlign {
-    #[tactic(auto, unfolding(crate::specs::Values::text_align_of))]
     /// The keyword of the value.
+    #[tactic(auto, unfolding(crate::specs::Values::text_align_of))]
     pub fn keyword(self) -> &'static [u8]
         ensures keyword { result.now ≡ spec.text_align_keyword self }
         ensures read_back { spec.text_align_of result.now ≡ Some self }
@@ -147,8 +147,8 @@ impl TextAlign {
     }
 }
 
-#[tactic(auto, unfolding(crate::specs::Values::display_of))]
 /// The value of `display` that a text is.
+#[tactic(auto, unfolding(crate::specs::Values::display_of))]
 pub fn read_display(text: &[char]) -> Option<Display>
     ensures { result ≡ spec.display_of text.now }
 {
@@ -171,8 +171,8 @@ pub fn read_display(text: &[char]) -> Option<Display>
     }
 }
 
-#[tactic(auto, unfolding(crate::specs::Values::white_space_of))]
 /// The value of `white-space` that a text is.
+#[tactic(auto, unfolding(crate::specs::Values::white_space_of))]
 pub fn read_white_space(text: &[char]) -> Option<WhiteSpace>
     ensures { result ≡ spec.white_space_of text.now }
 {
@@ -191,8 +191,8 @@ pub fn read_white_space(text: &[char]) -> Option<WhiteSpace>
     }
 }
 
-#[tactic(auto, unfolding(crate::specs::Values::font_style_of))]
 /// The value of `font-style` that a text is.
+#[tactic(auto, unfolding(crate::specs::Values::font_style_of))]
 pub fn read_font_style(text: &[char]) -> Option<FontStyle>
     ensures { result ≡ spec.font_style_of text.now }
 {
@@ -207,8 +207,8 @@ pub fn read_font_style(text: &[char]) -> Option<FontStyle>
     }
 }
 
-#[tactic(auto, unfolding(crate::specs::Values::text_align_of))]
 /// The value of `text-align` that a text is; `start` is left and `end` is right.
+#[tactic(auto, unfolding(crate::specs::Values::text_align_of))]
 pub fn read_text_align(text: &[char]) -> Option<TextAlign>
     ensures { result ≡ spec.text_align_of text.now }
 {
@@ -225,8 +225,8 @@ pub fn read_text_align(text: &[char]) -> Option<TextAlign>
     }
 }
 
-#[tactic(auto, unfolding(crate::specs::Values::font_weight_of))]
 /// The weight that a value of `font-weight` gives, 100 to 900: `normal` is 400 and `bold` 700.
+#[tactic(auto, unfolding(crate::specs::Values::font_weight_of))]
 pub fn read_font_weight(text: &[char]) -> Option<u16>
     ensures value { result ≡ spec.font_weight_of text.now }
     ensures hundreds { IfSome result (λ weight. IsTrue (spec.is_weight weight)) }
@@ -277,8 +277,8 @@ pub fn keyword_size(text: &[char]) -> Option<u16>
     }
 }
 
-#[tactic(auto, unfolding(crate::specs::Values::font_size_of))]
 /// The size in pixels that a value of `font-size` gives: whole `Npx` to 9999 without leading zeros, or a keyword.
+#[tactic(auto, unfolding(crate::specs::Values::font_size_of))]
 pub fn read_font_size(text: &[char]) -> Option<u16>
     ensures { result ≡ spec.font_size_of text.now }
 {

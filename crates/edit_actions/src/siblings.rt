@@ -44,8 +44,8 @@ pub fn children_before(
     Ok(list)
 }
 
-#[tactic(auto, using(edit_model::proofs::Steps::labels_of_drop, edit_model::proofs::Steps::labels_of_end))]
 /// Whether a node is in a list.
+#[tactic(auto, using(edit_model::proofs::Steps::labels_of_drop, edit_model::proofs::Steps::labels_of_end))]
 pub fn is_among(list: &[NodeRef], node: NodeRef) -> bool
     ensures { result ≡ is_among node.label (labels_of list.now) }
 {

@@ -27,8 +27,8 @@ use list_toggle::toggle_lists;
 use std::alloc::{AllocError, Global};
 use text_commands::{delete, insert_paragraph, insert_text};
 
-#[tactic(auto, using(edit_model::proofs::Steps::actions), unfolding(crate::specs::Commands::set_css_styling))]
 // styleWithCSS and useCSS, step 1.
+#[tactic(auto, using(edit_model::proofs::Steps::actions), unfolding(crate::specs::Commands::set_css_styling))]
 fn set_css_styling(doc: &mut Doc, on: bool) -> Result<bool, EditFault>
     requires open { IsOpen doc.old }
     ensures gives { Gives result doc.old.state doc.new.state (set_css_styling on) }

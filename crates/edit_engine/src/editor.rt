@@ -225,8 +225,8 @@ impl Editor {
         taken
     }
 
-    #[tactic(auto, unfolding(crate::specs::Views::stat_line))]
     /// What is printed of the editor, in whole lines. A path that names no node is refused before any memory is taken.
+    #[tactic(auto, unfolding(crate::specs::Views::stat_line))]
     pub fn view(&self, alloc: Global, kind: &ViewKind) -> Result<Vec<u8>, ViewFault>
         ensures text { IfOk result (λ text. view_text self.now kind.now ≡ Some text.items) }
         ensures bad_place { (result ≡ Err ViewFault.BadPlace) ↔ (view_text self.now kind.now ≡ None) }

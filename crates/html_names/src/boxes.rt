@@ -47,24 +47,24 @@ static BOX_NAMES: [&[u8]; 30] = [
     b"border-left-color",
 ];
 
-#[tactic(auto, unfolding(crate::specs::BoxNames::is_margin_name, crate::specs::BoxNames::margin_names))]
 /// Whether the property sets a margin: `margin` or that of one side.
+#[tactic(auto, unfolding(crate::specs::BoxNames::is_margin_name, crate::specs::BoxNames::margin_names))]
 pub fn is_margin_name(property: &[u8]) -> bool
     ensures { result ≡ properties.is_margin_name property.now }
 {
     is_one_of(&MARGIN_NAMES, property)
 }
 
-#[tactic(auto, unfolding(crate::specs::BoxNames::is_box_name, crate::specs::BoxNames::box_names, crate::specs::BoxNames::margin_names))]
 /// Whether the property sets a margin, a padding or a border.
+#[tactic(auto, unfolding(crate::specs::BoxNames::is_box_name, crate::specs::BoxNames::box_names, crate::specs::BoxNames::margin_names))]
 pub fn is_box_name(property: &[u8]) -> bool
     ensures { result ≡ properties.is_box_name property.now }
 {
     is_one_of(&BOX_NAMES, property)
 }
 
-#[tactic(auto, unfolding(crate::specs::BoxNames::box_names, crate::specs::BoxNames::margin_names))]
 /// The properties that set a margin, a padding or a border, in the order in which a command takes them away.
+#[tactic(auto, unfolding(crate::specs::BoxNames::box_names, crate::specs::BoxNames::margin_names))]
 pub fn box_names() -> &'static [&'static [u8]]
     ensures { map (λ row. row.now) result.now ≡ properties.box_names }
 {

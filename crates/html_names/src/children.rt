@@ -66,8 +66,8 @@ static BOUND_NAMES: [&[u8]; 17] = [
     b"li",
 ];
 
-#[tactic(auto, unfolding(crate::specs::AllowedChildren::listed_children, crate::specs::AllowedChildren::contents))]
 // Whether a parent that lists its children lists this one; `None` where the parent lists none.
+#[tactic(auto, unfolding(crate::specs::AllowedChildren::listed_children, crate::specs::AllowedChildren::contents))]
 fn is_listed(child: &[u8], parent: &[u8]) -> Option<bool>
     ensures { result ≡ option_map (λ row. is_one_of row.1 child.now) (children.listed_children parent.now) }
 {
@@ -102,8 +102,8 @@ fn are_both(child: &[u8], parent: &[u8], name: &[u8]) -> bool
     child == name && parent == name
 }
 
-#[tactic(auto, unfolding(crate::specs::AllowedChildren::is_kept_out))]
 // Whether the child may not stand in the parent, where neither is bound to certain places.
+#[tactic(auto, unfolding(crate::specs::AllowedChildren::is_kept_out))]
 fn is_kept_out(child: &[u8], parent: &[u8]) -> bool
     ensures { result ≡ children.is_kept_out child.now parent.now }
 {
@@ -113,9 +113,9 @@ fn is_kept_out(child: &[u8], parent: &[u8]) -> bool
         || (is_prohibited_child(child) && has_inline_contents(parent))
 }
 
+/// Whether an element of the name `child` is an allowed child of the name `parent` (HTML Editing APIs, "allowed
+/// child"), whatever stands above the parent.
 #[tactic(auto, unfolding(crate::specs::AllowedChildren::allowed_child, crate::specs::AllowedChildren::bound_names))]
-/// Whether an element of the name `child` is an allowed child of the name `parent` (HTML Editing APIs, "allowed child"),
-/// whatever stands above the parent.
 pub fn allowed_child(child: &[u8], parent: &[u8]) -> bool
     ensures { result ≡ children.allowed_child child.now parent.now }
 {

@@ -44,8 +44,8 @@ pub enum Command {
 }
 
 impl Command {
-    #[tactic(auto, unfolding(crate::specs::Commands::all_commands))]
     /// The commands, each once.
+    #[tactic(auto, unfolding(crate::specs::Commands::all_commands))]
     pub fn all() -> array::IntoIter<Command, 32>
         ensures { array_into_iter_items result ≡ commands.all_commands }
     {
@@ -86,8 +86,8 @@ impl Command {
         .into_iter()
     }
 
-    #[tactic(auto, unfolding(crate::specs::Commands::command_name, crate::specs::Commands::command_named, crate::specs::Commands::all_commands))]
     /// The name of the command, in lower case. It names this command and no other.
+    #[tactic(auto, unfolding(crate::specs::Commands::command_name, crate::specs::Commands::command_named, crate::specs::Commands::all_commands))]
     pub fn name(self) -> &'static str
         ensures name { result.now ≡ commands.command_name self }
         ensures read_back { commands.command_named result.now ≡ Some self }
@@ -128,8 +128,8 @@ impl Command {
         }
     }
 
-    #[tactic(auto, unfolding(crate::specs::Commands::command_named))]
     /// The command that a text names, without regard to ASCII case; `None` where it names none.
+    #[tactic(auto, unfolding(crate::specs::Commands::command_named))]
     pub fn named(text: &str) -> Option<Command>
         ensures value { result ≡ commands.command_named text.now }
         ensures its_name { IfSome result (λ command. IsTrue (str_eq_ignore_ascii_case

@@ -105,75 +105,75 @@ pub(crate) fn is_one_of(table: &[&[u8]], name: &[u8]) -> bool
     table.iter().any(|row| *row == name)
 }
 
-#[tactic(auto, unfolding(crate::specs::ElementNames::is_void, crate::specs::ElementNames::void_names))]
 /// Whether an element of this name has no content and no end tag (HTML Standard, "Void elements").
+#[tactic(auto, unfolding(crate::specs::ElementNames::is_void, crate::specs::ElementNames::void_names))]
 pub fn is_void(name: &[u8]) -> bool
     ensures { result ≡ names.is_void name.now }
 {
     is_one_of(&VOID_NAMES, name)
 }
 
-#[tactic(auto, unfolding(crate::specs::ElementNames::is_supported, crate::specs::ElementNames::refused_names))]
 /// Whether an element of this name may stand in a page. Refused are the elements whose content isn't markup (`script`,
 /// `style`, `textarea`, `title`, `xmp`, `plaintext`, `iframe`, `noscript`), `template`, and the roots of other languages
 /// (`svg`, `math`).
+#[tactic(auto, unfolding(crate::specs::ElementNames::is_supported, crate::specs::ElementNames::refused_names))]
 pub fn is_supported(name: &[u8]) -> bool
     ensures { result ≡ names.is_supported name.now }
 {
     !is_one_of(&REFUSED_NAMES, name)
 }
 
-#[tactic(auto, unfolding(crate::specs::ElementNames::is_prohibited_child, crate::specs::ElementNames::prohibited_child_names))]
 /// Whether an element of this name may not stand in a paragraph (HTML Editing APIs, "prohibited paragraph child name").
+#[tactic(auto, unfolding(crate::specs::ElementNames::is_prohibited_child, crate::specs::ElementNames::prohibited_child_names))]
 pub fn is_prohibited_child(name: &[u8]) -> bool
     ensures { result ≡ names.is_prohibited_child name.now }
 {
     is_one_of(&PROHIBITED_CHILD_NAMES, name)
 }
 
-#[tactic(auto, unfolding(crate::specs::ElementNames::has_inline_contents, crate::specs::ElementNames::inline_contents_names))]
 /// Whether an element of this name holds inline contents alone (HTML Editing APIs, "name of an element with inline
 /// contents").
+#[tactic(auto, unfolding(crate::specs::ElementNames::has_inline_contents, crate::specs::ElementNames::inline_contents_names))]
 pub fn has_inline_contents(name: &[u8]) -> bool
     ensures { result ≡ names.has_inline_contents name.now }
 {
     is_one_of(&INLINE_CONTENTS_NAMES, name)
 }
 
-#[tactic(auto, unfolding(crate::specs::ElementNames::is_heading, crate::specs::ElementNames::heading_names))]
 /// Whether the name is that of a heading, `h1` to `h6`.
+#[tactic(auto, unfolding(crate::specs::ElementNames::is_heading, crate::specs::ElementNames::heading_names))]
 pub fn is_heading(name: &[u8]) -> bool
     ensures { result ≡ names.is_heading name.now }
 {
     is_one_of(&HEADING_NAMES, name)
 }
 
-#[tactic(auto, unfolding(crate::specs::ElementNames::is_non_list_single_line_container, crate::specs::ElementNames::non_list_container_names))]
 /// Whether the name is that of a non-list single-line container (HTML Editing APIs).
+#[tactic(auto, unfolding(crate::specs::ElementNames::is_non_list_single_line_container, crate::specs::ElementNames::non_list_container_names))]
 pub fn is_non_list_single_line_container(name: &[u8]) -> bool
     ensures { result ≡ names.is_non_list_single_line_container name.now }
 {
     is_one_of(&NON_LIST_CONTAINER_NAMES, name)
 }
 
-#[tactic(auto, unfolding(crate::specs::ElementNames::is_single_line_container, crate::specs::ElementNames::list_container_names))]
 /// Whether the name is that of a single-line container: a non-list one, `li`, `dt` or `dd` (HTML Editing APIs).
+#[tactic(auto, unfolding(crate::specs::ElementNames::is_single_line_container, crate::specs::ElementNames::list_container_names))]
 pub fn is_single_line_container(name: &[u8]) -> bool
     ensures { result ≡ names.is_single_line_container name.now }
 {
     is_non_list_single_line_container(name) || is_one_of(&LIST_CONTAINER_NAMES, name)
 }
 
-#[tactic(auto, unfolding(crate::specs::ElementNames::is_formattable_block, crate::specs::ElementNames::formattable_block_names))]
 /// Whether the name is a formattable block name (HTML Editing APIs), one that the command formatBlock takes.
+#[tactic(auto, unfolding(crate::specs::ElementNames::is_formattable_block, crate::specs::ElementNames::formattable_block_names))]
 pub fn is_formattable_block(name: &[u8]) -> bool
     ensures { result ≡ names.is_formattable_block name.now }
 {
     is_one_of(&FORMATTABLE_BLOCK_NAMES, name)
 }
 
-#[tactic(auto, unfolding(crate::specs::ElementNames::is_remove_format_candidate, crate::specs::ElementNames::format_names))]
 /// Whether an editable element of this name is a removeFormat candidate (HTML Editing APIs).
+#[tactic(auto, unfolding(crate::specs::ElementNames::is_remove_format_candidate, crate::specs::ElementNames::format_names))]
 pub fn is_remove_format_candidate(name: &[u8]) -> bool
     ensures { result ≡ names.is_remove_format_candidate name.now }
 {

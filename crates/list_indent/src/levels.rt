@@ -154,8 +154,8 @@ fn part_level(
     part_around(alloc, doc, element, child)
 }
 
-#[tactic(auto, using(crate::proofs::Downward::befores))]
 // The member before an index.
+#[tactic(auto, using(crate::proofs::Downward::befores))]
 fn member_before(list: &[NodeRef], index: usize) -> Option<NodeRef>
     requires { index ≤ length list.now }
     ensures { label_of result ≡ first_in (reverse (labels_of (take index list.now))) }

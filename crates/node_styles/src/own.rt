@@ -53,8 +53,8 @@ pub fn declared<'a>(content: &'a Content, name: &[u8]) -> Option<&'a [char]>
     find(attribute(content, b"style")?, name)
 }
 
-#[tactic(auto, unfolding(crate::specs::OwnStyles::defaulted))]
 // The text of the default by the element's name.
+#[tactic(auto, unfolding(crate::specs::OwnStyles::defaulted))]
 fn defaulted(content: &Content, property: Property) -> Option<&'static str>
     ensures { option_copied result ≡ own.defaulted content.now property }
 {

@@ -42,8 +42,8 @@ pub fn child_before<N: Nodes>(nodes: &N, node: NodeRef, offset: u32) -> Option<N
     }
 }
 
-#[tactic(auto, unfolding(crate::specs::BlockPoints::starts_after))]
 /// Whether a block or a line starts after this node, if there is one.
+#[tactic(auto, unfolding(crate::specs::BlockPoints::starts_after))]
 pub fn starts_after<N: Nodes>(nodes: &N, node: Option<NodeRef>) -> bool
     requires { IfSome node (N.holds nodes.now) }
     ensures { result ≡ points.starts_after (N.trees nodes.now) (label node) }
@@ -56,8 +56,8 @@ pub fn starts_after<N: Nodes>(nodes: &N, node: Option<NodeRef>) -> bool
     }
 }
 
-#[tactic(auto, unfolding(crate::specs::BlockPoints::ends_before))]
 /// Whether a block ends before this node, if there is one.
+#[tactic(auto, unfolding(crate::specs::BlockPoints::ends_before))]
 pub fn ends_before<N: Nodes>(nodes: &N, node: Option<NodeRef>) -> bool
     requires { IfSome node (N.holds nodes.now) }
     ensures { result ≡ points.ends_before (N.trees nodes.now) (label node) }
@@ -121,8 +121,8 @@ pub fn is_block_end<N: Nodes>(nodes: &N, at: Point) -> bool
     }
 }
 
-#[tactic(auto, unfolding(crate::specs::BlockPoints::is_block_boundary))]
 /// Whether a point is a block start point or a block end point.
+#[tactic(auto, unfolding(crate::specs::BlockPoints::is_block_boundary))]
 pub fn is_block_boundary<N: Nodes>(nodes: &N, at: Point) -> bool
     requires { 0 < count_of (N.trees nodes.now) at.label }
     ensures { result ≡ points.is_block_boundary (N.trees nodes.now) at.label at.offset }

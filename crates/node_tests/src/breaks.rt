@@ -151,8 +151,8 @@ fn meets_break<N: Nodes>(nodes: &N, node: NodeRef, side: Side) -> bool
     true
 }
 
-#[tactic(auto, unfolding(crate::specs::LineBreaks::follows_break))]
 /// Whether a node follows a line break: from its start back, a block boundary comes before anything visible.
+#[tactic(auto, unfolding(crate::specs::LineBreaks::follows_break))]
 pub fn follows_break<N: Nodes>(nodes: &N, node: NodeRef) -> bool
     requires { N.holds nodes.now node }
     ensures { result ≡ line_breaks.follows_break (N.trees nodes.now) node.label }
@@ -160,8 +160,8 @@ pub fn follows_break<N: Nodes>(nodes: &N, node: NodeRef) -> bool
     meets_break(nodes, node, Side::Before)
 }
 
-#[tactic(auto, unfolding(crate::specs::LineBreaks::precedes_break))]
 /// Whether a node precedes a line break: from its end on, a block boundary comes before anything visible.
+#[tactic(auto, unfolding(crate::specs::LineBreaks::precedes_break))]
 pub fn precedes_break<N: Nodes>(nodes: &N, node: NodeRef) -> bool
     requires { N.holds nodes.now node }
     ensures { result ≡ line_breaks.precedes_break (N.trees nodes.now) node.label }

@@ -123,9 +123,9 @@ fn is_sole_in_item<N: Nodes>(nodes: &N, node: NodeRef) -> bool
     }
 }
 
+/// Whether a node is an extraneous line break: a br after Words or an image and before the edge of a block, other
+/// than the sole child of an li.
 #[tactic(auto, unfolding(crate::specs::SolidNeighbours::is_extraneous_break))]
-/// Whether a node is an extraneous line break: a br after Words or an image and before the edge of a block, other than the
-/// sole child of an li.
 pub fn is_extraneous_break<N: Nodes>(nodes: &N, node: NodeRef) -> bool
     requires { N.holds nodes.now node }
     ensures { result ≡ neighbours.is_extraneous_break (N.trees nodes.now) node.label }
@@ -136,8 +136,8 @@ pub fn is_extraneous_break<N: Nodes>(nodes: &N, node: NodeRef) -> bool
         && !is_sole_in_item(nodes, node)
 }
 
-#[tactic(auto, unfolding(crate::specs::SolidNeighbours::is_collapsed_break))]
 /// Whether a node is a collapsed line break: a br after the edge of a block or a br, and before the edge of a block.
+#[tactic(auto, unfolding(crate::specs::SolidNeighbours::is_collapsed_break))]
 pub fn is_collapsed_break<N: Nodes>(nodes: &N, node: NodeRef) -> bool
     requires { N.holds nodes.now node }
     ensures { result ≡ neighbours.is_collapsed_break (N.trees nodes.now) node.label }

@@ -10,8 +10,8 @@ use live_range::Point;
 use node_arena::{NodeRef, Nodes};
 use point_order::{comes_before, is_within, node_of};
 
-#[tactic(auto, unfolding(crate::specs::Ranges::is_contained))]
 /// Whether a range contains a node: the node begins after the start and ends before the end.
+#[tactic(auto, unfolding(crate::specs::Ranges::is_contained))]
 pub fn is_contained<N: Nodes>(nodes: &N, node: NodeRef, range: (Point, Point)) -> bool
     requires node_held { N.holds nodes.now node }
     requires start_held { 0 < count_of (N.trees nodes.now) range.0.label }
@@ -30,8 +30,8 @@ pub fn is_contained<N: Nodes>(nodes: &N, node: NodeRef, range: (Point, Point)) -
     comes_before(nodes, range.0, front) && comes_before(nodes, back, range.1)
 }
 
-#[tactic(auto, unfolding(crate::specs::Ranges::is_partial))]
 // Whether a node is Words at an end of the range, of which a part lies in the range.
+#[tactic(auto, unfolding(crate::specs::Ranges::is_partial))]
 pub(crate) fn is_partial<N: Nodes>(nodes: &N, node: NodeRef, range: (Point, Point)) -> bool
     requires { N.holds nodes.now node }
     ensures { result ≡ ranges.is_partial (N.trees nodes.now) range.0 range.1 node.label }
@@ -113,10 +113,10 @@ fn is_effective<N: Nodes>(nodes: &N, node: NodeRef, range: (Point, Point)) -> bo
     }
 }
 
+/// Whether a range effectively contains a node: it contains it, or the node is Words of which a part lies in the
+/// range, or the node has children that are all effectively contained while no end of the range cuts Words below
+/// it. A collapsed range does so with no node.
 #[tactic(auto, unfolding(crate::specs::Ranges::is_effectively_contained))]
-/// Whether a range effectively contains a node: it contains it, or the node is Words of which a part lies in the range, or
-/// the node has children that are all effectively contained while no end of the range cuts Words below it. A collapsed
-/// range does so with no node.
 pub fn is_effectively_contained<N: Nodes>(nodes: &N, node: NodeRef, range: (Point, Point)) -> bool
     requires node_held { N.holds nodes.now node }
     requires start_held { 0 < count_of (N.trees nodes.now) range.0.label }

@@ -11,8 +11,8 @@ use css_value::Display;
 use node_arena::{NodeRef, Nodes, is_break, is_image};
 use node_styles::{display, is_block, is_editable, is_hidden};
 
-#[tactic(auto, unfolding(crate::specs::Visible::shows))]
 // Whether a node itself is seen, where no display none hides it.
+#[tactic(auto, unfolding(crate::specs::Visible::shows))]
 fn shows<N: Nodes>(nodes: &N, node: NodeRef) -> bool
     requires { N.holds nodes.now node }
     ensures { result ≡ visible.shows (N.trees nodes.now) node.label }
@@ -70,8 +70,8 @@ pub fn is_visible<N: Nodes>(nodes: &N, node: NodeRef) -> bool
     !is_hidden(nodes, node) && shows_inside(nodes, node)
 }
 
-#[tactic(auto, unfolding(crate::specs::Visible::is_formattable))]
 /// Whether a node is formattable: editable with `host` as its editing host, visible, and Words, an img or a br.
+#[tactic(auto, unfolding(crate::specs::Visible::is_formattable))]
 pub fn is_formattable<N: Nodes>(nodes: &N, host: NodeRef, node: NodeRef) -> bool
     requires host_held { N.holds nodes.now host }
     requires node_held { N.holds nodes.now node }

@@ -28,8 +28,8 @@ fn read_indexes(alloc: Global, text: &[u8]) -> Result<Path, LineFault>
     Ok(Path::from_vec(items))
 }
 
-#[tactic(auto, unfolding(crate::specs::Reading::path_of))]
 /// A path: `.` for the document, and else the indexes of children with a `/` between.
+#[tactic(auto, unfolding(crate::specs::Reading::path_of))]
 pub fn read_path(alloc: Global, text: &[u8]) -> Result<Path, LineFault>
     ensures { Reads result (path_of text.now) }
 {
@@ -39,8 +39,8 @@ pub fn read_path(alloc: Global, text: &[u8]) -> Result<Path, LineFault>
     }
 }
 
-#[tactic(auto, unfolding(crate::specs::Reading::point_of))]
 /// A point: a path, `:` and an offset.
+#[tactic(auto, unfolding(crate::specs::Reading::point_of))]
 pub fn read_point(alloc: Global, text: &[u8]) -> Result<Place, LineFault>
     ensures { Reads result (point_of text.now) }
 {

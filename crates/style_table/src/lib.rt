@@ -172,9 +172,9 @@ fn is_link(name: &[u8], has_href: bool) -> bool
     has_href && name == b"a".as_slice()
 }
 
-#[tactic(auto, unfolding(crate::specs::DefaultStyles::default_of, crate::specs::DefaultStyles::default_color, crate::specs::DefaultStyles::default_text_decoration))]
 /// The default of a property for an element of this name, in lower case; `has_href` says whether the element has the
 /// attribute `href`. `None` where the table has no row.
+#[tactic(auto, unfolding(crate::specs::DefaultStyles::default_of, crate::specs::DefaultStyles::default_color, crate::specs::DefaultStyles::default_text_decoration))]
 pub fn default_of(name: &[u8], has_href: bool, property: Property) -> Option<Row>
     ensures { option_map (λ row. row.text.now) result ≡ defaults.default_of name.now has_href property }
 {
