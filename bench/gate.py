@@ -1,12 +1,12 @@
 #!/usr/bin/env python3
-"""Tells what the gate costs: bench/gate.py [WORD..]
+"""Prints what the gate costs: bench/gate.py [WORD..]
 
 Runs `rt ci`, and prints for each crate the seconds of processor that its proofs, its tests and its must-fail edits took,
-and the sum, and then the minutes from the begin to the end. The words are handed on: with some toolchains `rt ci` takes
+and the sum, and then the minutes from the start to the end. The words are handed on: with some toolchains `rt ci` takes
 the names of crates, keeps what an earlier run on the machine proved, and proves it again with `--anew`.
 
 The seconds are read from /proc, of each process of the prover and of those that it started, five times a second: what
-one took after it was last read is left out.
+one of them took after it was last read is left out.
 """
 import contextlib
 import os

@@ -12,7 +12,8 @@ trap 'rm -rf "$work"' EXIT
 ran=0
 faulty=0
 
-# A bad access gives the status 99; memory that is left is told, and counts at status 0.
+# A bad access gives the status 99. Memory that is left is reported, and counts only where the program ended with
+# status 0.
 look() { # INPUT WORD..
   local input=$1 status=0
   shift

@@ -19,8 +19,8 @@ ratio() { awk -v a="$1" -v b="$2" 'BEGIN { print a / b }'; }
 
 # ---- the acts of one session, each by itself
 
-# The acts of the session to come, and the words by which each is told; an act without words is run and not
-# told.
+# The acts of the session to come, and the words under which each is reported; an act without words is run and
+# not reported.
 begin_acts() { : > "$work/acts"; : > "$work/words"; act '' unselect; }
 
 act() { # WORDS ACT
@@ -30,8 +30,8 @@ act() { # WORDS ACT
 
 # Runs these acts over the page in $work/page, and writes a line for each act with words: the words, a tab, its
 # instructions. Callgrind parts its counts where a reply is written, so each reply but the last has to be one
-# line. The first act has the reading of the page in its count. An undo of nothing isn't told, nor is the redo
-# after it; any other act that is refused or answers false ends the bench.
+# line. The first act has the reading of the page in its count. An undo of nothing isn't reported, nor is the
+# redo after it; any other act that is refused or answers false ends the bench.
 run_acts() { # COSTS PROGRAM WORD..
   local costs=$1
   shift
@@ -50,7 +50,7 @@ run_acts() { # COSTS PROGRAM WORD..
     { print $2 "\t" $4 }' > "$costs" || exit 2
 }
 
-# A line for each act that all files of costs tell, in one order: its words, the costs, the growth from the
+# A line for each act that all files of costs have, in one order: its words, the costs, the growth from the
 # first file to the last, and the most that it should be.
 growths() { # MOST COSTS..
   local most=$1

@@ -26,8 +26,9 @@
  *
  * WHAT THE CALLER OWES. Nothing checks these:
  * - A hedit_editor is {NULL}, or as the last call left it. One whose pointer is made up, is
- *   copied and then used beside the copy, or comes from another process can't be told from a good
- *   one: the behaviour is undefined, as with a freed FILE *. A closed one is told: HEDIT_CLOSED.
+ *   copied and then used beside the copy, or comes from another process can't be distinguished
+ *   from a good one: the behaviour is undefined, as with a freed FILE *. A closed one is noticed:
+ *   HEDIT_CLOSED.
  * - One call at a time for an editor, and its calls come from one thread. Different editors don't
  *   share anything.
  * - malloc, realloc and free come from one allocator, and malloc and realloc align a block to

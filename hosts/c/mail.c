@@ -56,7 +56,7 @@ static int is_on(hedit_editor *editor, const char *button) {
     return flag != 0;
 }
 
-/* The page as HTML, which the caller frees: the first call tells how long it is. */
+/* The page as HTML, which the caller frees: the first call gives its length. */
 static char *html(hedit_editor *editor, size_t *length) {
     uint8_t none[1];
     uint32_t status = hedit_view(editor, HEDIT_HTML, none, 0, length);
