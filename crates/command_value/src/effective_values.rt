@@ -22,7 +22,8 @@ use html_names::Command;
 use node_arena::{Content, Kind, NodeRef, Nodes};
 use node_styles::{
     Family, Test, attribute, background_color, color, font_family, font_size, font_style,
-    font_weight, has_in_lineage, is_block_content, is_element_named, nearest, own_text_decoration,
+    font_weight, has_in_lineage, is_block_content, is_element, is_element_named, nearest,
+    own_text_decoration,
 };
 use std::alloc::{AllocError, Global};
 
@@ -71,13 +72,6 @@ impl Test for LineTest {
             },
         }
     }
-}
-
-fn is_element<N: Nodes>(nodes: &N, node: NodeRef) -> bool
-    requires { N.holds nodes.now node }
-    ensures { result ≡ is_element_at (N.trees nodes.now) node.label }
-{
-    matches!(nodes.kind(node), Kind::Element)
 }
 
 // The node where it is an element, else its parent where that is one.

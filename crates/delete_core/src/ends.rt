@@ -14,7 +14,7 @@ use crate::whitespace::canonicalize;
 use dom_model::Content;
 use edit_actions::{ends_of, is_same};
 use edit_doc::{Doc, EditFault, NodeRef, Point};
-use node_tests::{has_name, is_block, name_allowed_in};
+use node_tests::{has_name, is_block, is_words, name_allowed_in};
 use std::alloc::Global;
 use wrap_split::turn_bound;
 
@@ -71,18 +71,6 @@ pub fn canonicalize_end(alloc: Global, doc: &mut Doc, fix: bool) -> Result<(), E
     };
     let (_, end) = ends_of(doc, pair);
     canonicalize(alloc, doc, end, fix)
-}
-
-/// Whether a node is a text.
-#[tactic(auto, unfolding(node_tests::specs::CollapsedWhitespace::is_words))]
-pub fn is_words(doc: &Doc, node: NodeRef) -> bool
-    requires { Holds doc.now node }
-    ensures { result ≡ is_words doc.now.state.trees node.label }
-{
-    match doc.content(node) {
-        Content::Words(_) => true,
-        _ => false,
-    }
 }
 
 /// Step 2: from the start of a text to before it.

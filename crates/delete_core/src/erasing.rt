@@ -8,14 +8,13 @@ ghost use Rattle.edit_doc.specs.Held.{Holds, IfHeld, EachHeld, Finds, Keeps};
 ghost use Rattle.wrap_split.specs.Wrap as wrap;
 ghost use Rattle.delete_core.specs.Erasing.{is_own_text, erase_within, cut_after, cut_before, is_table_part, is_removable, removable_nodes, own_block, shows_child, is_hollow, fill_hollow, removed_up, is_strippable, strip_empty, strip_from, remove_under, remove_node, remove_nodes};
 
-use crate::ends::{is_cell, is_words, settle};
+use crate::ends::{is_cell, settle};
 use crate::whitespace::canonicalize;
 use block_extend::{Choice, gather_in};
 use edit_actions::ends_of;
 use edit_doc::{Doc, EditFault, NodeList, NodeRef, Point};
-use inline_value::is_inside;
 use node_styles::nearest_block;
-use node_tests::{has_name, is_block, is_visible, is_within};
+use node_tests::{has_name, is_block, is_visible, is_within, is_words};
 use std::alloc::{AllocError, Global};
 use wrap_split::{append_break, turn_bound};
 
@@ -168,7 +167,7 @@ fn fill_hollow(alloc: Global, doc: &mut Doc, node: NodeRef) -> Result<(), EditFa
     ensures gives { Gives result doc.old.state doc.new.state (fill_hollow node.label) }
     ensures keeps { Keeps doc.old doc.new }
 {
-    if is_inside(doc, node) && is_hollow(doc, node) {
+    if doc.is_inside(node) && is_hollow(doc, node) {
         append_break(alloc, doc, node)?;
     }
     Ok(())

@@ -7,7 +7,6 @@ ghost use Rattle.edit_doc.specs.Held.{Holds, Finds, Keeps};
 ghost use Rattle.delete_core.specs.Merging.{is_list_before, joins_next, list_to_join, join_lists_at, join_next, join_lists};
 
 use edit_doc::{Doc, EditFault, NodeRef};
-use inline_value::is_inside;
 use node_arena::Nodes;
 use node_tests::has_name;
 use wrap_split::turn_bound;
@@ -21,7 +20,7 @@ fn is_list_before(doc: &Doc, name: &[u8], node: NodeRef) -> bool
         return false;
     }
     match doc.next(node) {
-        Some(next) => is_inside(doc, next) && has_name(doc, next, name),
+        Some(next) => doc.is_inside(next) && has_name(doc, next, name),
         None => false,
     }
 }
@@ -32,7 +31,7 @@ fn joins_next(doc: &Doc, node: NodeRef) -> bool
     requires { Holds doc.now node }
     ensures { result ≡ joins_next doc.now.state node.label }
 {
-    is_inside(doc, node) && (is_list_before(doc, b"ol", node) || is_list_before(doc, b"ul", node))
+    doc.is_inside(node) && (is_list_before(doc, b"ol", node) || is_list_before(doc, b"ul", node))
 }
 
 // The deepest such list that a node is or stands in.

@@ -13,7 +13,7 @@ use crate::inner::merge_inner;
 use crate::lists::join_lists;
 use crate::outer::{merge_beside, merge_outer};
 use edit_doc::{Doc, EditFault, NodeRef};
-use inline_value::{Values, is_inside, restore_values};
+use inline_value::{Values, restore_values};
 use node_tests::{is_ancestor, is_block_prop};
 use std::alloc::Global;
 use wrap_split::{append_break, breaks_at_end};
@@ -110,7 +110,7 @@ fn are_mergeable(doc: &Doc, block: NodeRef, other: NodeRef) -> bool
     requires other_held { Holds doc.now other }
     ensures { result ≡ are_mergeable doc.now.state block.label other.label }
 {
-    is_inside(doc, block) && is_inside(doc, other) && block.label != other.label
+    doc.is_inside(block) && doc.is_inside(other) && block.label != other.label
 }
 
 // Step 9, and then from 10 on, of two blocks.

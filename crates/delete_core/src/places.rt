@@ -8,7 +8,6 @@ ghost use Rattle.node_tests.specs.BlockPoints as points;
 ghost use Rattle.delete_core.specs.Places.{start_in, end_in, before_in, after_in, before_node, after_node, if_inside, comes_before};
 
 use edit_doc::{Doc, NodeRef, Point};
-use inline_value::is_inside;
 use node_arena::Nodes;
 
 /// A node, if there is one, that is inside.
@@ -17,7 +16,7 @@ pub(crate) fn if_inside(doc: &Doc, node: Option<NodeRef>) -> Option<NodeRef>
     ensures { Finds doc.now result (if_inside doc.now.state (label_of node)) }
 {
     let node = node?;
-    if is_inside(doc, node) {
+    if doc.is_inside(node) {
         Some(node)
     } else {
         None

@@ -10,7 +10,6 @@ use crate::scanning::scan_blanks;
 use crate::stepping::start_of_blanks;
 use crate::trimming::trimmed_if;
 use edit_doc::{Doc, EditFault, Point};
-use inline_value::is_inside;
 use std::alloc::Global;
 
 // Canonicalize whitespace, steps 3 to 7.
@@ -37,7 +36,7 @@ pub fn canonicalize(alloc: Global, doc: &mut Doc, at: Point, fix: bool) -> Resul
     let Some(node) = doc.find(at.label) else {
         return Ok(());
     };
-    if !is_inside(doc, node) {
+    if !doc.is_inside(node) {
         return Ok(());
     }
     let start = start_of_blanks(doc, at);

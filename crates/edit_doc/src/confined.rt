@@ -24,8 +24,8 @@ impl Doc {
         }
     }
 
-    // The affected host, or editable with it as its host.
-    fn is_inside(&self, node: NodeRef) -> bool
+    /// Whether a node is the affected editing host of the running command, or editable with it as its host.
+    pub fn is_inside(&self, node: NodeRef) -> bool
         requires { Holds self.now node }
         ensures { result ≡ is_inside self.now.state node.label }
     {

@@ -15,9 +15,8 @@ ghost use Rattle.node_arena.specs.Kinds.{kind_of};
 ghost use Rattle.point_order.specs.PointOrder.{is_before, is_placed};
 
 use crate::{Arena, Attributes, Chars, Counts, Doc, Kind, Name, NodeRef, Point};
-use edit_parts::root_of;
 use node_arena::Content;
-use point_order::comes_before;
+use point_order::{comes_before, root_of};
 
 impl Doc {
     /// What holds of every document under edits, for proofs. It does nothing.

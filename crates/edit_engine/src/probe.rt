@@ -12,7 +12,7 @@ use edit_doc::{Doc, Kind, NodeRef};
 use escaped_text::push_chars;
 use node_paths::push_path;
 use node_tests::{
-    editing_host, is_block, is_block_prop, is_collapsed_break, is_collapsed_whitespace,
+    editing_host, is_block, is_block_prop, is_collapsed_break, is_collapsed_whitespace, is_element,
     is_extraneous_break, is_visible, is_whitespace, resolved,
 };
 use std::alloc::{AllocError, Global};
@@ -89,13 +89,6 @@ fn push_break_tests(bytes: &mut Vec<u8>, doc: &Doc, node: NodeRef) -> Result<(),
     push_test(bytes, b" collapsed-break", is_collapsed_break(doc, node))?;
     push_test(bytes, b" prop", is_block_prop(doc, node))?;
     Ok(())
-}
-
-fn is_element(doc: &Doc, node: NodeRef) -> bool
-    requires { Holds doc.now node }
-    ensures { result ≡ is_element_at doc.now.state.trees node.label }
-{
-    matches!(doc.kind(node), Kind::Element)
 }
 
 #[tactic(auto, unfolding(crate::specs::Probe::style_text))]

@@ -1,5 +1,7 @@
 //! What a command finds set, and why an edit is refused.
 
+ghost use Rattle.std.specs.Prelude.{◌≡◌};
+
 use dom_model::Chars;
 use std::alloc::AllocError;
 use std::error::Error;
@@ -16,6 +18,21 @@ pub enum Setting {
     Text { value: Chars },
     /// No override.
     Absent,
+}
+
+impl Clone for Setting {
+    ghost is_clone = { λ a b. b ≡ a };
+
+    fn clone(&self) -> Result<Setting, AllocError> {
+        Ok(match self {
+            Setting::On => Setting::On,
+            Setting::Off => Setting::Off,
+            Setting::Text { value } => Setting::Text {
+                value: value.clone()?,
+            },
+            Setting::Absent => Setting::Absent,
+        })
+    }
 }
 
 /// Flags of the document that commands read and three commands set.

@@ -49,26 +49,13 @@ pub fn no_overrides(alloc: Global) -> Result<Vec<Setting>, AllocError>
     Ok(list)
 }
 
-fn copy_setting(setting: &Setting) -> Result<Setting, AllocError>
-    ensures { IfOk result (λ copied. copied ≡ setting.now) }
-{
-    Ok(match setting {
-        Setting::On => Setting::On,
-        Setting::Off => Setting::Off,
-        Setting::Text { value } => Setting::Text {
-            value: value.clone()?,
-        },
-        Setting::Absent => Setting::Absent,
-    })
-}
-
 /// A copy of the overrides.
 pub fn copy_overrides(alloc: Global, overrides: &[Setting]) -> Result<Vec<Setting>, AllocError>
     ensures { IfOk result (λ list. list.items ≡ overrides.now) }
 {
     let mut list = Vec::with_capacity(alloc, overrides.len())?;
     for setting in overrides {
-        list.push(copy_setting(setting)?)?;
+        list.push(setting.clone()?)?;
     }
     Ok(list)
 }

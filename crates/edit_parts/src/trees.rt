@@ -71,21 +71,6 @@ fn following(arena: &Arena, top: NodeRef, place: Place) -> Option<Place>
     }
 }
 
-/// The root of the tree in which a node is.
-pub fn root_of(arena: &Arena, node: NodeRef) -> NodeRef
-    requires { Holds arena.now node }
-    ensures held { Holds arena.now result }
-    ensures root { parent_of arena.now.trees result.label ≡ None }
-    ensures above { IsWithin arena.now.trees result.label node.label }
-{
-    arena.valid();
-    let mut at = node;
-    while let Some(parent) = arena.parent(at) {
-        at = parent;
-    }
-    at
-}
-
 /// Whether a node is in the document and not in a loose tree.
 pub fn is_in_document(arena: &Arena, node: NodeRef) -> bool
     requires { Holds arena.now node }

@@ -13,7 +13,6 @@ ghost use Rattle.inline_value.specs.Ancestors.{is_prohibited, has_place, is_misp
 
 use crate::recording::{record_values, restore_values};
 use dom_model::{Attributes, Content, Name};
-use edit_actions::is_same;
 use edit_doc::{Doc, EditFault, NodeList, NodeRef};
 use html_names::is_prohibited_child;
 use node_tests::{allowed_in, has_name, name_allowed_in};
@@ -37,15 +36,6 @@ pub fn is_prohibited(doc: &Doc, node: NodeRef) -> bool
     }
 }
 
-/// Whether a node is the affected host of the running command, or editable.
-#[tactic(auto, unfolding(edit_model::specs::Confined::is_inside))]
-pub fn is_inside(doc: &Doc, node: NodeRef) -> bool
-    requires { Holds doc.now node }
-    ensures { result ≡ confined.is_inside doc.now.state node.label }
-{
-    is_same(doc.host(), node) || doc.is_editable_for(node)
-}
-
 // Whether an ancestor is inside, and a node may stand in it.
 fn takes(doc: &Doc, node: NodeRef, ancestor: NodeRef) -> bool
     requires node_held { Holds doc.now node }
@@ -53,7 +43,7 @@ fn takes(doc: &Doc, node: NodeRef, ancestor: NodeRef) -> bool
     ensures { result ≡ (confined.is_inside doc.now.state ancestor.label
         && allowed.allowed_in doc.now.state.trees node.label ancestor.label) }
 {
-    is_inside(doc, ancestor) && allowed_in(doc, node, ancestor)
+    doc.is_inside(ancestor) && allowed_in(doc, node, ancestor)
 }
 
 /// Whether a node may stand in one of its ancestors that are inside.

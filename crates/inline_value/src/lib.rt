@@ -18,7 +18,7 @@ mod styling;
 mod wrappers;
 
 pub use ancestors::{
-    container_name, fix_ancestors, has_place, is_description, is_inside, is_prohibited, split_out,
+    container_name, fix_ancestors, has_place, is_description, is_prohibited, split_out,
 };
 pub use clearing::clear_value;
 pub use edit_doc::{Doc, EditFault, NodeList, NodeRef};
@@ -27,6 +27,6 @@ pub use overrides::{Override, Overrides, record_overrides, record_states};
 pub use pushing::push_down;
 pub use recording::{Value, Values, record_values, restore_values};
 pub use reordering::reorder;
-pub use selections::{editable_in_range, is_element, set_value, split_ends};
+pub use selections::{editable_in_range, set_value, split_ends};
 pub use styling::{set_style, unset_style};
 pub use wrappers::bare;

@@ -86,20 +86,6 @@ impl Overrides {
 
 // ---- the overrides that are set
 
-// A copy of a setting.
-fn copy_of(setting: &Setting) -> Result<Setting, AllocError>
-    ensures { IfOk result (λ copy. copy ≡ setting.now) }
-{
-    Ok(match setting {
-        Setting::On => Setting::On,
-        Setting::Off => Setting::Off,
-        Setting::Text { value } => Setting::Text {
-            value: value.clone()?,
-        },
-        Setting::Absent => Setting::Absent,
-    })
-}
-
 fn is_set(setting: &Setting) -> bool
     ensures { result ≡ is_set setting.now }
 {
@@ -112,7 +98,7 @@ fn push_override(doc: &Doc, command: Command, found: &mut Vec<Override>) -> Resu
 {
     let setting = doc.setting(command);
     if is_set(setting) {
-        let setting = copy_of(setting)?;
+        let setting = setting.clone()?;
         found.push(Override { command, setting })?;
     }
     Ok(())

@@ -25,7 +25,7 @@ use edit_actions::ends_of;
 use edit_doc::{Doc, EditFault, Kind, NodeRef, Pair, Point, Setting};
 use edit_query::first_formattable;
 use html_names::{Command, activated_values};
-use node_tests::effective_nodes;
+use node_tests::{effective_nodes, is_element};
 use point_order::{comes_before, node_of};
 use std::alloc::{AllocError, Global};
 
@@ -187,14 +187,6 @@ fn editable_of(alloc: Global, doc: &Doc, list: &[NodeRef]) -> Result<Vec<NodeRef
         }
     }
     Ok(kept)
-}
-
-/// Whether a node is an element.
-pub fn is_element(doc: &Doc, node: NodeRef) -> bool
-    requires { Holds doc.now node }
-    ensures { result ≡ is_element_at doc.now.state.trees node.label }
-{
-    doc.kind(node) == Kind::Element
 }
 
 // Of a list, the elements.

@@ -14,8 +14,8 @@ use crate::levels::part_levels;
 use crate::lists::{is_in_list, is_list};
 use edit_doc::{Doc, EditFault, Name, NodeRef};
 use html_names::box_names;
-use inline_value::{fix_ancestors, is_element, record_values, restore_values, unset_style};
-use node_tests::{is_indentation, is_simple_indentation};
+use inline_value::{fix_ancestors, record_values, restore_values, unset_style};
+use node_tests::{is_element, is_indentation, is_simple_indentation};
 use std::alloc::{AllocError, Global};
 use wrap_split::{is_without_attributes, remove_keeping_children};
 

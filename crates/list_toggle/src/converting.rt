@@ -10,7 +10,8 @@ ghost use Rattle.list_toggle.specs.Converting as convert;
 use crate::ranges::other_lists;
 use edit_doc::{Doc, EditFault, Name, NodeList, NodeRef};
 use edit_query::{is_list_of, list_name};
-use inline_value::{is_element, record_values, restore_values};
+use inline_value::{record_values, restore_values};
+use node_tests::is_element;
 use std::alloc::Global;
 use wrap_split::{NamedSibling, NothingMade, WrapRule, split_parent, wrap};
 

@@ -1,6 +1,7 @@
 //! Walks from a node up through its ancestors, and the editing hosts on them.
 
 ghost use Rattle.std.specs.Prelude.{◌≡◌, Bool, Some, None, IfSome, IfNone};
+ghost use Rattle.dom_model.specs.Contents.{is_element_at};
 ghost use Rattle.dom_model.specs.Editing as editing;
 ghost use Rattle.dom_model.specs.Forest.{content_of};
 ghost use Rattle.std.specs.Option.{option_map_or};
@@ -13,7 +14,7 @@ ghost use Rattle.node_styles.specs.Traits.{has_trait, IsNearest};
 use crate::blocks::{has_no_box, is_block_content};
 use crate::own::{has_own, is_element_named};
 use html_names::{has_inline_contents, is_heading};
-use node_arena::{Content, NodeRef, Nodes};
+use node_arena::{Content, Kind, NodeRef, Nodes};
 use style_table::Property;
 
 /// A test of the content of nodes.
@@ -110,6 +111,14 @@ pub fn is_named<N: Nodes>(nodes: &N, node: NodeRef, name: &[u8]) -> bool
     ensures { result ≡ option_map_or (own.is_named name.now) (content_of (N.trees nodes.now) node.label) Bool.false }
 {
     is_element_named(nodes.content(node), name)
+}
+
+/// Whether a node is an element.
+pub fn is_element<N: Nodes>(nodes: &N, node: NodeRef) -> bool
+    requires { N.holds nodes.now node }
+    ensures { result ≡ is_element_at (N.trees nodes.now) node.label }
+{
+    matches!(nodes.kind(node), Kind::Element)
 }
 
 /// Whether a node is an editing host.

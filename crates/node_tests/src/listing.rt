@@ -14,7 +14,7 @@ use crate::neighbours::is_nothing;
 use crate::ranges::{end_cuts, is_partial, start_cuts};
 use live_range::Point;
 use node_arena::{NodeList, NodeRef, Nodes};
-use point_order::{comes_before, node_of};
+use point_order::{comes_before, node_of, root_of};
 use std::alloc::{AllocError, Global};
 
 /// Which nodes of a range are listed.
@@ -389,21 +389,6 @@ fn root_sides(lines: &Lines) -> Sides
         start_left: lines.start.len(),
         end_left: lines.end.len(),
     }
-}
-
-// The root of the tree of a node.
-fn root_of<N: Nodes>(nodes: &N, node: NodeRef) -> NodeRef
-    requires { N.holds nodes.now node }
-    ensures held { N.holds nodes.now result }
-    ensures root { parent_of (N.trees nodes.now) result.label ≡ None }
-    ensures within { IsWithin (N.trees nodes.now) result.label node.label }
-{
-    nodes.valid();
-    let mut at = node;
-    while let Some(parent) = nodes.parent(at) {
-        at = parent;
-    }
-    at
 }
 
 // The nodes on the way up from a node to a child of one above it.

@@ -22,7 +22,7 @@ pub(crate) enum Neighbour {
 
 /// Whether a node is Words.
 #[tactic(auto, unfolding(crate::specs::CollapsedWhitespace::is_words))]
-pub(crate) fn is_words<N: Nodes>(nodes: &N, node: NodeRef) -> bool
+pub fn is_words<N: Nodes>(nodes: &N, node: NodeRef) -> bool
     requires { N.holds nodes.now node }
     ensures { result ≡ whitespace.is_words (N.trees nodes.now) node.label }
 {

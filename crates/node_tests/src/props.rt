@@ -1,23 +1,12 @@
 //! Collapsed block props.
 
 ghost use Rattle.std.specs.Prelude.{◌≡◌, ◌||◌};
-ghost use Rattle.dom_model.specs.Contents.{is_element_at};
 ghost use Rattle.node_tests.specs.BlockProps as props;
 
 use crate::neighbours::{is_collapsed_break, is_extraneous_break};
 use crate::visible::is_visible;
-use node_arena::{Kind, NodeRef, Nodes};
-use node_styles::is_block;
-
-fn is_element<N: Nodes>(nodes: &N, node: NodeRef) -> bool
-    requires { N.holds nodes.now node }
-    ensures { result ≡ is_element_at (N.trees nodes.now) node.label }
-{
-    match nodes.kind(node) {
-        Kind::Element => true,
-        _ => false,
-    }
-}
+use node_arena::{NodeRef, Nodes};
+use node_styles::{is_block, is_element};
 
 // Whether a node is a collapsed line break that isn't extraneous.
 #[tactic(auto, unfolding(crate::specs::BlockProps::is_break_prop))]

@@ -4,9 +4,9 @@
 //! position of one boundary point relative to another.
 #![tactic(auto)]
 
-ghost use Rattle.std.specs.Prelude.{◌≡◌, ◌<◌, length, nat_le};
+ghost use Rattle.std.specs.Prelude.{◌≡◌, ◌<◌, None, length, nat_le};
 ghost use Rattle.dom_model.specs.Contents.{length_of};
-ghost use Rattle.dom_model.specs.Forest.{children_of, count_of};
+ghost use Rattle.dom_model.specs.Forest.{IsWithin, children_of, count_of, parent_of};
 ghost use Rattle.node_arena.specs.Reads.{Names};
 ghost use Rattle.point_order.specs.PointOrder.{child_toward, is_ancestor, is_before, is_earlier, is_in_document, is_placed, is_within};
 
@@ -101,6 +101,21 @@ pub fn is_in_document<N: Nodes>(nodes: &N, label: u32) -> bool
         Some(node) => nodes.is_within(nodes.document(), node),
         None => false,
     }
+}
+
+/// The root of the tree in which a node is.
+pub fn root_of<N: Nodes>(nodes: &N, node: NodeRef) -> NodeRef
+    requires { N.holds nodes.now node }
+    ensures held { N.holds nodes.now result }
+    ensures root { parent_of (N.trees nodes.now) result.label ≡ None }
+    ensures within { IsWithin (N.trees nodes.now) result.label node.label }
+{
+    nodes.valid();
+    let mut at = node;
+    while let Some(parent) = nodes.parent(at) {
+        at = parent;
+    }
+    at
 }
 
 // Whether a node has at least this many children. It takes a step for each, and none for those after them.

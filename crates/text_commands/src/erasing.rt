@@ -8,9 +8,9 @@ ghost use Rattle.edit_doc.specs.Held.{Holds, IfHeld, Keeps};
 ghost use Rattle.text_commands.specs.Delete as command;
 
 use crate::places::one_before;
-use delete_core::{child_before, is_words, select};
+use delete_core::{child_before, select};
 use edit_doc::{Doc, EditFault, NodeRef, Pair, Point};
-use node_tests::{has_name, is_block, is_break, is_image};
+use node_tests::{has_name, is_block, is_break, is_image, is_words};
 use std::alloc::Global;
 use text_insertion::erase;
 

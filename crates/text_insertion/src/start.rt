@@ -8,12 +8,12 @@ ghost use Rattle.edit_doc.specs.Whole.{IsOpen};
 ghost use Rattle.edit_doc.specs.Held.{Holds, Keeps};
 ghost use Rattle.text_insertion.specs.Start as start;
 
-use delete_core::{child_at, delete_selection, is_words};
+use delete_core::{child_at, delete_selection};
 use dom_model::Content;
 use edit_actions::ends_of;
 use edit_doc::{Doc, EditFault, NodeRef, Point};
 use inline_commands::restore_states;
-use inline_value::is_inside;
+use node_tests::is_words;
 use point_order::node_of;
 use std::alloc::Global;
 
@@ -36,7 +36,7 @@ pub fn start_inside(doc: &Doc) -> Option<Point>
     ensures there { IfSome result (λ at. 0 < count_of doc.now.state.trees at.label) }
 {
     let at = active_start(doc)?;
-    if is_inside(doc, node_of(doc, at)) {
+    if doc.is_inside(node_of(doc, at)) {
         Some(at)
     } else {
         None

@@ -11,13 +11,13 @@ ghost use Rattle.text_insertion.specs.Typing as typing;
 use crate::paragraph::insert_paragraph;
 use crate::start::{active_start, erase, insert_at_start, start_inside};
 use delete_core::{
-    canonicalize, canonicalize_end, canonicalize_start, child_at, child_before, end_in, is_words,
-    select, settle, start_in,
+    canonicalize, canonicalize_end, canonicalize_start, child_at, child_before, end_in, select,
+    settle, start_in,
 };
 use edit_doc::{Doc, EditFault, NodeRef, Point};
 use inline_commands::restore_states;
 use inline_value::{Overrides, record_overrides};
-use node_tests::is_collapsed_break;
+use node_tests::{is_collapsed_break, is_words};
 use point_order::node_of;
 use std::alloc::{AllocError, Global};
 

@@ -7,13 +7,13 @@ use super::trees::{Trial, element, found, name, put, words};
 use edit_model::{EditFault, Setting};
 use edit_parts::{
     Counts, add_counts, adjust_inserted, adjust_moved, bears_nothing, copy_overrides, fault_of,
-    has_value, is_in_document, moving_from, no_overrides, place_of, removal_of, replaced, root_of,
+    has_value, is_in_document, moving_from, no_overrides, place_of, removal_of, replaced,
     stands_at, tail_of, take_counts, tree_counts, unset_overrides_if_range_changed, watch_range,
 };
 use html_names::Command;
 use live_range::{Pair, Point, Points};
 use node_arena::{Arena, Attributes, Chars, Content, MakeFault, NodeRef};
-use point_order::is_placed;
+use point_order::{is_placed, root_of};
 use std::alloc::{AllocError, Global};
 use std::marker::Brand;
 use std::sync::ledger::{Blank, Ledger};

@@ -1,6 +1,6 @@
 use Rattle.std.proofs.Common.{sym, arith}
 use Rattle.dom_model.proofs.Within.{within_self, within_up, depth_of-parent}
-use Rattle.node_tests.proofs.listing.root_of.Goals as goal
+use Rattle.point_order.proofs.root_of.Goals as goal
 
 pub loop-parent-init : goal.loop-parent-init
 loop-parent-init g c =

@@ -1,5 +1,5 @@
 use Rattle.dom_model.specs.Forest.{IsWithin, depth_of}
-use Rattle.node_tests.proofs.listing.root_of.Given as goal
+use Rattle.point_order.proofs.root_of.Given as goal
 
 abbrev pub invariant-loop-parent : goal.invariant-loop-parent
 invariant-loop-parent g l = record {
