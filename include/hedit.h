@@ -49,8 +49,11 @@ extern "C" {
 enum hedit_status {
     HEDIT_DONE = 0,            /* it was done; where the call answers, the answer is true */
     HEDIT_NO = 1,              /* the answer is false */
+    HEDIT_USAGE = 2,           /* the words are not in the program's grammar; of a session alone */
     HEDIT_MEMORY = 5,          /* malloc gave nothing */
     HEDIT_PAGE_REFUSED = 6,    /* the bytes are no page */
+    HEDIT_TOO_LONG = 7,        /* the input has more than 8,388,608 bytes; of a session alone */
+    HEDIT_STEP_REFUSED = 8,    /* a line of a log that is replayed is refused; of a session alone */
     HEDIT_TOO_SMALL = 9,       /* the buffer is too small; *length is what it needs */
     HEDIT_FULL = 10,           /* the command would have made a node whose number reaches the cap */
     HEDIT_DEEP = 11,           /* the document is deeper than 250 */
@@ -150,7 +153,8 @@ enum hedit_view_kind {
     HEDIT_HTML = 0,   /* the page as HTML, with a line feed at the end */
     HEDIT_TREE = 1,   /* a line for each node */
     HEDIT_POINTS = 2, /* the selection and the marks */
-    HEDIT_NUMBERS = 3 /* nodes, characters, the next node's number, steps to undo and to redo */
+    HEDIT_NUMBERS = 3 /* nodes, characters, the next node's number, the edits of the step that undo
+                       * would take, steps to undo and to redo */
 };
 
 /* Gives what is printed of the editor. HEDIT_DONE, HEDIT_TOO_SMALL, HEDIT_MEMORY,
@@ -160,13 +164,13 @@ uint32_t hedit_view(hedit_editor *editor, uint32_t kind, uint8_t *buffer, size_t
 
 /* Runs a session, as `hedit run` does over its standard input, and gives the transcript. The
  * status is the number that the program exits with: HEDIT_DONE, HEDIT_MEMORY, HEDIT_PAGE_REFUSED,
- * where the transcript is the line that says so, or 7 for an input of more than 8,388,608 bytes;
- * or HEDIT_TOO_SMALL. It needs no editor. */
+ * where the transcript is the line that says so, HEDIT_TOO_LONG; or HEDIT_TOO_SMALL. It needs no
+ * editor. */
 uint32_t hedit_session(const uint8_t *input, size_t input_length, uint8_t *output,
                        size_t capacity, size_t *written);
 
-/* The same with the words of a command line, as "run\n--undo\n9\n": each line is a word. 2 where
- * they are not in the program's grammar, and 8 where a line of a log that is replayed is refused. */
+/* The same with the words of a command line, as "run\n--undo\n9\n": each line is a word. Also
+ * HEDIT_USAGE and HEDIT_STEP_REFUSED. */
 uint32_t hedit_session_with_words(const uint8_t *words, size_t words_length, const uint8_t *input,
                                   size_t input_length, uint8_t *output, size_t capacity,
                                   size_t *written);

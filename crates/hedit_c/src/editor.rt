@@ -15,7 +15,7 @@ mod answers;
 mod handle;
 mod opening;
 mod raw_box;
-mod status;
+pub(crate) mod status;
 #[cfg(test)]
 mod tests;
 mod texts;

@@ -6,12 +6,10 @@ ghost use Rattle.edit_session.specs.Grammars.{RestsOnGrammars};
 ghost use Rattle.hedit_c.specs.Session.{reply, reply_to, nothing_written, Replies, Ran};
 ghost use Rattle.hedit_c.specs.Session.{number_of, memory_number, run_words, words_in};
 
+use crate::editor::status::Status as CallStatus;
 use edit_io::{SliceSource, SureSink};
 use edit_session::{Status, after_line, line_end, run_session};
 use std::alloc::{AllocError, Global};
-
-// The status where the transcript is longer than the buffer.
-const TOO_SMALL: u32 = 9;
 
 // How a run ended, and what it wrote.
 #[derive(Drop)]
@@ -44,14 +42,14 @@ fn run_text(alloc: Global, words: &[String], input: &[u8]) -> Run
     }
 }
 
-// Puts the text at the front of the buffer, or only tells its length where there is no room for it.
+// Puts the text at the front of the buffer, or only gives its length where there is no room for it.
 fn put(status: Status, text: &[u8], output: &mut [u8], written: &mut usize) -> u32
     ensures { reply result output.new written.new
         ≡ reply_to (transcript_of status text.now) output.old }
 {
     *written = text.len();
     if output.len() < text.len() {
-        return TOO_SMALL;
+        return CallStatus::TooSmall.number();
     }
     output[..text.len()].copy_from_slice(text);
     number(status)
@@ -116,8 +114,9 @@ fn read_words(alloc: Global, text: &[u8]) -> Result<Vec<String>, AllocError>
 
 /// Runs a session without options over its text, as `hedit run` does over standard input.
 ///
-/// The status is the number that the program exits with. It is 9 where the transcript is longer
-/// than the buffer: then nothing is lost, and `written` is the length that is needed.
+/// The status is the number that the program exits with. It is that of `TooSmall`, 9, where the
+/// transcript is longer than the buffer: then nothing is lost, and `written` is the length that is
+/// needed.
 #[unsafe(no_mangle)]
 #[tactic(auto, using(edit_session::proofs::Grammars::rests))]
 pub extern "C" fn hedit_session(

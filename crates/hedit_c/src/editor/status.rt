@@ -15,7 +15,7 @@ pub enum Status {
     Memory = 5,
     /// The bytes are no page.
     PageRefused = 6,
-    /// The buffer is too small for the text. The length that it needs is told.
+    /// The buffer is too small for the text. The call gives the length that it needs.
     TooSmall = 9,
     /// The command would have drawn a label that isn't below the cap.
     Full = 10,

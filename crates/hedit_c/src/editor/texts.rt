@@ -15,7 +15,7 @@ pub(crate) fn place_of(alloc: Global, path: &[u32], offset: u32) -> Result<Place
     Ok(Place { path, offset })
 }
 
-/// Puts a text at the front of a buffer, or only tells its length where there is no room for it.
+/// Puts a text at the front of a buffer, or only gives its length where there is no room for it.
 pub(crate) fn put(text: &[u8], buffer: &mut [u8], length: &mut usize) -> Status
     ensures { Puts result text.now buffer.old buffer.new length.new }
 {
