@@ -10,7 +10,7 @@ const TWO: &str = "<p>out</p><div contenteditable=\"true\"><p>in</p></div>";
 
 const PLAIN: &str = "<div contenteditable=\"true\"><p>x</p></div>";
 
-static EDITED: [Row; 8] = [
+static EDITED: [Row; 9] = [
     // a link with nothing but href goes, and its caret stays in the text; undo brings both back
     Row(
         "run",
@@ -24,6 +24,13 @@ static EDITED: [Row; 8] = [
         CLASSED,
         "select 0/0/0/0:1 0/0/0/0:1\nexec UnLink\nhtml\nstat\nundo 1\nhtml\n",
         "ok\ntrue\n<div contenteditable=\"true\"><p><a class=\"c\">x</a></p></div>\nnodes 5 chars 1 next 5 edits 1 undo 1 redo 0\nundo 1\n<div contenteditable=\"true\"><p><a href=\"u\" class=\"c\">x</a></p></div>\n",
+    ),
+    // a link in a link: four edits, though three changes would lead from the one page to the other
+    Row(
+        "run",
+        "<div contenteditable=\"true\"><p><a href=\"u\"><a href=\"v\">x</a></a></p></div>",
+        "select 0/0/0/0/0:1 0/0/0/0/0:1\nexec unlink\nhtml\nstat\nundo 1\nhtml\nstat\n",
+        "ok\ntrue\n<div contenteditable=\"true\"><p>x</p></div>\nnodes 4 chars 1 next 6 edits 4 undo 1 redo 0\nundo 1\n<div contenteditable=\"true\"><p><a href=\"u\"><a href=\"v\">x</a></a></p></div>\nnodes 6 chars 1 next 6 edits 0 undo 0 redo 1\n",
     ),
     // a range that begins outside the editing host: nothing is enabled
     Row(
