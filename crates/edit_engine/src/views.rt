@@ -74,7 +74,7 @@ pub(crate) fn stat_line(alloc: Global, doc: &Doc) -> Result<Vec<u8>, AllocError>
     let next = doc.arena().next_label();
     let first = document_numbers(alloc, counts.nodes, counts.chars, next)?;
     let second = history_numbers(alloc, doc.edits(), doc.undo_len(), doc.redo_len())?;
-    let mut text = first.as_bytes().to_vec(alloc)?;
+    let mut text = first.into_bytes();
     text.extend_from_slice(second.as_bytes())?;
     Ok(text)
 }

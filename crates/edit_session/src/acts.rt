@@ -145,7 +145,7 @@ fn answer_undo(alloc: Global, editor: &mut Editor, count: u32) -> Result<Vec<u8>
     ensures after { OnOk result (editor.new ≡ (undo_reply editor.old count).after) }
 {
     let taken = turn_through(editor, Turn::Undo, count);
-    undo_text(alloc, taken)?.as_bytes().to_vec(alloc)
+    Ok(undo_text(alloc, taken)?.into_bytes())
 }
 
 #[tactic(auto, unfolding(crate::specs::Replies::redo_reply))]
@@ -154,7 +154,7 @@ fn answer_redo(alloc: Global, editor: &mut Editor, count: u32) -> Result<Vec<u8>
     ensures after { OnOk result (editor.new ≡ (redo_reply editor.old count).after) }
 {
     let taken = turn_through(editor, Turn::Redo, count);
-    redo_text(alloc, taken)?.as_bytes().to_vec(alloc)
+    Ok(redo_text(alloc, taken)?.into_bytes())
 }
 
 fn view(alloc: Global, editor: &Editor, kind: &ViewKind) -> Result<Vec<u8>, AllocError>

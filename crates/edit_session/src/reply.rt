@@ -83,7 +83,7 @@ fn push_numbers(alloc: Global, text: &mut Vec<u8>, arena: &Arena) -> Result<(), 
 pub fn replayed_text(alloc: Global, arena: &Arena, tally: Tally) -> Result<Vec<u8>, AllocError>
     ensures { IfOk result (λ text. text.items ≡ replayed_text tally arena.now.trees arena.now.next) }
 {
-    let mut text = tally_text(alloc, tally)?.as_bytes().to_vec(alloc)?;
+    let mut text = tally_text(alloc, tally)?.into_bytes();
     push_numbers(alloc, &mut text, arena)?;
     text.extend_from_slice(&write_html(alloc, arena)?)?;
     text.push(b'\n')?;

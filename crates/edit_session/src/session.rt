@@ -24,7 +24,7 @@ use crate::bulk::bulk_text;
 use crate::denials::read_names;
 use crate::replay::{Refusal, Tally, replay_lines};
 use crate::reply::{numbers, refusal, replayed_text, step_refusal};
-use crate::words::{Limits, Order, read_words, usual_limits};
+use crate::words::{GREATEST_CAP, Limits, Order, read_words, usual_limits};
 use command_gate::{Gate, NameList, Policy};
 use edit_engine::Editor;
 use edit_io::{ReadAllFault, Sink, SinkFault, Source, read_all, write_all};
@@ -32,6 +32,9 @@ use node_arena::Arena;
 use page_read::{PageFault, PageKind, read_page};
 use std::alloc::{AllocError, Global};
 use step_text::StepFault;
+
+// How many bytes an input may have.
+const INPUT_LIMIT: usize = 8_388_608;
 
 /// How a run ended. The number is the exit status of the program.
 #[derive(Clone, Copy, PartialEq, Eq, Debug)]
@@ -104,7 +107,7 @@ fn check<O: Sink>(alloc: Global, input: &[u8], output: &mut O) -> Status
     ensures { Follows (checked (page_reading 200 2000000 input.now))
         (O.taken output.old) (O.taken output.new) (O.faults output.old) (O.faults output.new) result }
 {
-    match read_page(alloc, input, 2000000) {
+    match read_page(alloc, input, GREATEST_CAP) {
         Ok(arena) => accept(alloc, &arena, output),
         Err(fault) => refuse_page(alloc, output, fault),
     }
@@ -253,7 +256,7 @@ fn run_bulk<O: Sink>(alloc: Global, count: u32, output: &mut O) -> Status
     }
 }
 
-// Refuses a step line for another fault than want of memory.
+// Refuses a step line for another fault than that memory is out.
 fn tell_refusal<O: Sink>(alloc: Global, output: &mut O, refusal: Refusal) -> Status
     ensures { Follows (step_refused refusal)
         (O.taken output.old) (O.taken output.new) (O.faults output.old) (O.faults output.new) result }
@@ -304,7 +307,7 @@ fn replay_page<O: Sink>(alloc: Global, page: &[u8], steps: &[u8], output: &mut O
     ensures { Follows (replayed_on (lines_of steps.now) (page_reading 200 2000000 page.now))
         (O.taken output.old) (O.taken output.new) (O.faults output.old) (O.faults output.new) result }
 {
-    match read_page(alloc, page, 2000000) {
+    match read_page(alloc, page, GREATEST_CAP) {
         Ok(arena) => replay_steps(alloc, arena, steps, output),
         Err(fault) => refuse_page(alloc, output, fault),
     }
@@ -380,7 +383,7 @@ pub fn run_session<I: Source, O: Sink>(
     if !order.reads_input() {
         return obey(alloc, order, &[], output);
     }
-    match read_all(alloc, input, 8388608) {
+    match read_all(alloc, input, INPUT_LIMIT) {
         Ok(bytes) => obey(alloc, order, &bytes, output),
         Err(ReadAllFault::Failed) => Status::ReadFault,
         Err(ReadAllFault::TooLong) => Status::TooLong,

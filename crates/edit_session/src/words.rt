@@ -48,7 +48,8 @@ pub struct Options<'a> {
     pub deny: Option<&'a str>,
 }
 
-const GREATEST_CAP: u32 = 2_000_000;
+// The cap of labels where none is given, and the greatest.
+pub(crate) const GREATEST_CAP: u32 = 2_000_000;
 
 const GREATEST_UNDO: u32 = 1000;
 

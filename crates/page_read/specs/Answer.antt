@@ -18,7 +18,7 @@ abbrev pub IsFaultAnswer : (c : ℕ) → List ℕ → PageFault → Option Kind 
 IsFaultAnswer c s fault None = fault ≡ fault_of_memory
 IsFaultAnswer c s fault (Some kind) = page_reading 200 c s ≡ Refused fault.at kind
 
--- the tree of a page, its fault, or want of memory
+-- the tree of a page, its fault, or that memory is out
 abbrev pub IsAnswer : (c : ℕ) → List ℕ → Result ArenaState PageFault → Type 0
 IsAnswer c s (Ok a) = (f : Siblings) × (page_reading 200 c s ≡ Children f) × IsDocument a c f
 IsAnswer c s (Err fault) = IsFaultAnswer c s fault (kind_of fault.kind)

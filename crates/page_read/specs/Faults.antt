@@ -5,7 +5,7 @@ use Rattle.page_read.specs.declared.faults.PageFault.{PageFault}
 use Rattle.page_read.specs.declared.faults.PageKind.{PageKind}
 use Rattle.page_read.specs.declared.faults.PageKind.TheVariants.{NotUtf8, BadTag, Unclosed, StrayEnd, BadAttribute, RepeatedAttribute, UnknownReference, UnsupportedElement, TooDeep, TooLong, Full, Memory}
 
--- the kind in the table; want of memory is none
+-- the kind in the table, which has none for memory that is out
 abbrev pub kind_of : PageKind → Option kinds.Kind
 kind_of NotUtf8 = Some kinds.NotUtf8
 kind_of BadTag = Some kinds.BadTag

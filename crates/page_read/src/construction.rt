@@ -47,7 +47,7 @@ pub(crate) fn append_words(
     ensures { OnOk result (Appends arena.old arena.new parent.label (Words words)) }
 {
     arena.valid();
-    if words.len() > 4294967295 {
+    if words.len() > u32::MAX as usize {
         return Err(AllocError);
     }
     let Ok(node) = arena.make_words(words) else {
@@ -68,7 +68,7 @@ pub(crate) fn append_remark(
     ensures { OnOk result (Appends arena.old arena.new parent.label (Remark words)) }
 {
     arena.valid();
-    if words.len() > 4294967295 {
+    if words.len() > u32::MAX as usize {
         return Err(AllocError);
     }
     let Ok(node) = arena.make_remark(words) else {

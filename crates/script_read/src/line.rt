@@ -15,6 +15,9 @@ use dom_model::{Chars, Name};
 use html_names::QueryKind;
 use std::alloc::Global;
 
+// How many bytes a line may have.
+const LINE_LIMIT: usize = 8192;
+
 fn read_name(alloc: Global, text: &[u8]) -> Result<Name, LineFault>
     ensures { Reads result (name_of text.now) }
 {
@@ -185,7 +188,7 @@ fn read_short(alloc: Global, line: &[u8]) -> Result<Act, LineFault>
 fn read(alloc: Global, line: &[u8]) -> Result<Act, LineFault>
     ensures { GivesAct result (line_of line.now) }
 {
-    if line.len() > 8192 {
+    if line.len() > LINE_LIMIT {
         return Err(LineFault::LongLine);
     }
     read_short(alloc, line)
