@@ -7,17 +7,17 @@ pub fn format_block_keeps_order()
     ensures { BlocksKeepOrder }
 {}
 
-/// It gives no node a state of contenteditable, and takes none away.
+/// Formatting blocks gives no node a state of contenteditable, and takes none away.
 pub fn format_block_is_stateless()
     ensures { BlocksAreStateless }
 {}
 
-/// Justifying keeps the order.
+/// Justifying keeps the order of characters, images and rules.
 pub fn justify_keeps_order()
     ensures { JustifyingKeepsOrder }
 {}
 
-/// It gives and takes no state of contenteditable.
+/// Justifying gives no node a state of contenteditable, and takes none away.
 pub fn justify_is_stateless()
     ensures { JustifyingIsStateless }
 {}

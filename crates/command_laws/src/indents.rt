@@ -7,17 +7,17 @@ pub fn indent_keeps_order()
     ensures { IndentKeepsOrder }
 {}
 
-/// It gives no node a state of contenteditable, and takes none away.
+/// Indent gives no node a state of contenteditable, and takes none away.
 pub fn indent_is_stateless()
     ensures { IndentIsStateless }
 {}
 
-/// Outdent keeps the order.
+/// Outdent keeps the order of characters, images and rules.
 pub fn outdent_keeps_order()
     ensures { OutdentKeepsOrder }
 {}
 
-/// It gives and takes no state of contenteditable.
+/// Outdent gives no node a state of contenteditable, and takes none away.
 pub fn outdent_is_stateless()
     ensures { OutdentIsStateless }
 {}

@@ -7,77 +7,77 @@ pub fn toggle_style_keeps_order()
     ensures { StylesKeepOrder }
 {}
 
-/// They give no node a state of contenteditable, and take none away.
+/// Bold, italic, underline and strikethrough give no node a state of contenteditable, and take none away.
 pub fn toggle_style_is_stateless()
     ensures { StylesAreStateless }
 {}
 
-/// Subscript and superscript keep the order.
+/// Subscript and superscript keep the order of characters, images and rules.
 pub fn toggle_script_keeps_order()
     ensures { ScriptsKeepOrder }
 {}
 
-/// They give and take no state of contenteditable.
+/// Subscript and superscript give no node a state of contenteditable, and take none away.
 pub fn toggle_script_is_stateless()
     ensures { ScriptsAreStateless }
 {}
 
-/// Making links keeps the order.
+/// Making links keeps the order of characters, images and rules.
 pub fn create_link_keeps_order()
     ensures { LinkingKeepsOrder }
 {}
 
-/// It gives and takes no state of contenteditable.
+/// Making links gives no node a state of contenteditable, and takes none away.
 pub fn create_link_is_stateless()
     ensures { LinkingIsStateless }
 {}
 
-/// Unlink keeps the order.
+/// Unlink keeps the order of characters, images and rules.
 pub fn unlink_keeps_order()
     ensures { UnlinkKeepsOrder }
 {}
 
-/// It gives and takes no state of contenteditable.
+/// Unlink gives no node a state of contenteditable, and takes none away.
 pub fn unlink_is_stateless()
     ensures { UnlinkIsStateless }
 {}
 
-/// Removing the format keeps the order.
+/// Removing the format keeps the order of characters, images and rules.
 pub fn remove_format_keeps_order()
     ensures { FormatGoesInOrder }
 {}
 
-/// It gives and takes no state of contenteditable.
+/// Removing the format gives no node a state of contenteditable, and takes none away.
 pub fn remove_format_is_stateless()
     ensures { FormatGoesStateless }
 {}
 
-/// Fonts, sizes and colours keep the order.
+/// Fonts, sizes and colours keep the order of characters, images and rules.
 pub fn apply_value_keeps_order()
     ensures { ValuesKeepOrder }
 {}
 
-/// They give and take no state of contenteditable.
+/// Fonts, sizes and colours give no node a state of contenteditable, and take none away.
 pub fn apply_value_is_stateless()
     ensures { ValuesAreStateless }
 {}
 
-/// Fixing disallowed ancestors keeps the order.
+/// Fixing disallowed ancestors keeps the order of characters, images and rules.
 pub fn fix_ancestors_keeps_order()
     ensures { AncestorsAreFixedInOrder }
 {}
 
-/// It gives and takes no state of contenteditable.
+/// Fixing disallowed ancestors gives no node a state of contenteditable, and takes none away.
 pub fn fix_ancestors_is_stateless()
     ensures { AncestorsAreFixedStateless }
 {}
 
-/// Restoring states and values keeps the order.
+/// Restoring states and values keeps the order of characters, images and rules.
 pub fn restore_states_keeps_order()
     ensures { StatesComeBackInOrder }
 {}
 
-/// It gives and takes no state of contenteditable.
+/// Restoring states and values gives no node a state of contenteditable, and takes none away.
 pub fn restore_states_is_stateless()
     ensures { StatesComeBackStateless }
 {}

@@ -7,7 +7,7 @@ pub fn toggle_lists_keeps_order()
     ensures { ListTogglesKeepOrder }
 {}
 
-/// It gives no node a state of contenteditable, and takes none away.
+/// Toggling lists gives no node a state of contenteditable, and takes none away.
 pub fn toggle_lists_is_stateless()
     ensures { ListTogglesAreStateless }
 {}

@@ -2,17 +2,18 @@
 
 ghost use Rattle.command_laws.specs.SplitLaws.{ParentsSplit, ParentOfOneSplits, NodesGoAndChildrenStay, SplitsStateless};
 
-/// Splitting the parent of a list keeps the order, where the list has consecutive children of a node,
+/// Splitting the parent of a list keeps the order of characters, images and rules, where the list has consecutive
+/// children of a node.
 pub fn parents_split()
     ensures { ParentsSplit }
 {}
 
-/// and where it has one node.
+/// Splitting the parent of one node keeps that order.
 pub fn parent_of_one_splits()
     ensures { ParentOfOneSplits }
 {}
 
-/// Removing a node while its children stay keeps the order.
+/// Removing a node while its children stay keeps that order.
 pub fn nodes_go_and_children_stay()
     ensures { NodesGoAndChildrenStay }
 {}

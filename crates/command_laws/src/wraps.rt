@@ -2,18 +2,18 @@
 
 ghost use Rattle.command_laws.specs.WrapLaws.{ListsWrap, TakenWrap, OneWraps, WrapsStateless};
 
-/// Wrapping a list keeps the order, where the list has consecutive children of a node, and neither a name that a
-/// criterion wants nor that of a new element is img or hr,
+/// Wrapping a list keeps the order of characters, images and rules, where the list has consecutive children of a node,
+/// and neither a name that a criterion wants nor that of a new element is img or hr.
 pub fn lists_wrap()
     ensures { ListsWrap }
 {}
 
-/// where the nodes that are taken of it are such children,
+/// Wrapping a list keeps that order, where the nodes that are taken of it are consecutive children of a node.
 pub fn taken_wrap()
     ensures { TakenWrap }
 {}
 
-/// and where it has one node.
+/// Wrapping one node keeps that order.
 pub fn one_wraps()
     ensures { OneWraps }
 {}

@@ -97,7 +97,7 @@ impl History {
         self.log.resume()
     }
 
-    // Notes a step in the open entry, or hands it back for want of memory.
+    // Notes a step in the open entry, or hands it back where memory is out.
     pub(crate) fn note(&mut self, step: Step) -> Result<(), Step>
         requires { IsTrue (is_open self.old.log.open_entry) }
         ensures ok { OnOk result (self.new ≡ with_note self.old step) }

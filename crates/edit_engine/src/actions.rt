@@ -21,7 +21,7 @@ use inline_commands::{
     apply_value, create_link, remove_format, restore_states, toggle_script, toggle_style, unlink,
 };
 use inline_value::{Overrides, record_overrides};
-use insert_objects::{insert_image, insert_line_break, insert_rule};
+use insert_objects::{insert_horizontal_rule, insert_image, insert_line_break};
 use list_indent::{indent, outdent};
 use list_toggle::toggle_lists;
 use std::alloc::{AllocError, Global};
@@ -94,7 +94,7 @@ fn act(alloc: Global, doc: &mut Doc, command: Command, value: &[char]) -> Result
         Command::InsertOrderedList => toggle_lists(alloc, doc, true),
         Command::InsertUnorderedList => toggle_lists(alloc, doc, false),
         Command::InsertLineBreak => insert_line_break(alloc, doc),
-        Command::InsertHorizontalRule => insert_rule(alloc, doc),
+        Command::InsertHorizontalRule => insert_horizontal_rule(alloc, doc),
         Command::InsertImage => insert_image(alloc, doc, value),
         Command::StyleWithCss => set_css_styling(doc, !is_value(value, b"false")),
         Command::UseCss => set_css_styling(doc, is_value(value, b"false")),

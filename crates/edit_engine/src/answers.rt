@@ -15,7 +15,7 @@ pub enum Answer {
     No,
 }
 
-/// Why a command was taken back.
+/// Why a command was not made. The editor is as before.
 #[derive(Clone, Copy, PartialEq, Eq, Debug)]
 pub enum ExecFault {
     /// It would have drawn a label that isn't below the cap.
@@ -30,7 +30,7 @@ impl fmt::Display for ExecFault {
     fn fmt<W: fmt::Write>(&self, f: &mut fmt::Formatter<W>) -> fmt::Result {
         f.write_str(match self {
             ExecFault::Full => "no label is left below the cap",
-            ExecFault::Deep => "the document would be too deep",
+            ExecFault::Deep => "the document is too deep",
             ExecFault::Memory => "out of memory",
         })
     }
@@ -63,7 +63,7 @@ impl From<EditFault> for ExecFault {
     }
 }
 
-/// Why the log of an editor was not told.
+/// Why the log of an editor was not printed.
 #[derive(Clone, Copy, PartialEq, Eq, Debug)]
 pub enum LogFault {
     /// An entry was dropped as the oldest since the editor was made.

@@ -112,7 +112,7 @@ impl Sink for MemorySink {
     }
 }
 
-/// Takes whatever it is given, and never fails but for want of memory.
+/// Takes whatever it is given, and fails only where memory is out.
 #[derive(Drop)]
 pub struct SureSink {
     pub taken: Vec<u8>,

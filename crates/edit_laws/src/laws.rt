@@ -37,57 +37,58 @@ pub fn order_preserving_follows<A, B>()
     ensures { OrderPreservingFollows A B }
 {}
 
-/// So are order-preserving runs that are chosen by what the state now is,
+/// Order-preserving runs that are chosen by what the state now is are an order-preserving run.
 pub fn order_preserving_looks<A>()
     ensures { OrderPreservingLooks A }
 {}
 
-/// by a test,
+/// Of two order-preserving runs the one that a test chooses is order-preserving.
 pub fn order_preserving_chooses<A>()
     ensures { OrderPreservingChooses A }
 {}
 
-/// or by what is there,
+/// Of order-preserving runs the one that is chosen by what is there is order-preserving.
 pub fn order_preserving_given<A, B>()
     ensures { OrderPreservingGiven A B }
 {}
 
-/// and loops of order-preserving runs over a list
+/// A loop of order-preserving runs over a list is order-preserving.
 pub fn order_preserving_for_each<A>()
     ensures { OrderPreservingForEach A }
 {}
 
-/// or while a test holds.
+/// A loop of order-preserving runs while a test holds is order-preserving.
 pub fn order_preserving_while<A>()
     ensures { OrderPreservingWhile A }
 {}
 
-/// A node whose tree bears nothing is inserted,
+/// Inserting a node is order-preserving with that node: from each state where its tree bears nothing.
 pub fn order_preserving_with_inserts()
     ensures { OrderPreservingWithInserts }
 {}
 
-/// and order-preserving runs follow,
+/// A run that is order-preserving with a node, and that order-preserving runs follow, is order-preserving with it.
 pub fn order_preserving_with_follows<A, B>()
     ensures { OrderPreservingWithFollows A B }
 {}
 
-/// at a place that the state tells,
+/// Runs that are order-preserving with a node, chosen by what the state now is, are one that is so.
 pub fn order_preserving_with_looks<A>()
     ensures { OrderPreservingWithLooks A }
 {}
 
-/// by a test,
+/// Of two runs that are order-preserving with a node the one that a test chooses is so.
 pub fn order_preserving_with_chooses<A>()
     ensures { OrderPreservingWithChooses A }
 {}
 
-/// or by what is there:
+/// Of runs that are order-preserving with a node the one that is chosen by what is there is so.
 pub fn order_preserving_with_given<A, B>()
     ensures { OrderPreservingWithGiven A B }
 {}
 
-/// so a run that makes an element which is neither img nor hr, and inserts it, is order-preserving.
+/// Making an element that is neither img nor hr, followed by runs that are order-preserving with it, is
+/// order-preserving.
 pub fn order_preserving_new_elements<A>()
     ensures { OrderPreservingNewElements A }
 {}

@@ -8,37 +8,37 @@ pub fn stateless_acts<A>()
     ensures { StatelessActs A }
 {}
 
-/// So is an answer,
+/// An answer is stateless.
 pub fn stateless_answers<A>()
     ensures { StatelessAnswers A }
 {}
 
-/// a stateless run that stateless runs follow,
+/// A stateless run followed by stateless runs is stateless.
 pub fn stateless_follows<A, B>()
     ensures { StatelessFollows A B }
 {}
 
-/// stateless runs that are chosen by what the state now is,
+/// Stateless runs that are chosen by what the state now is are a stateless run.
 pub fn stateless_looks<A>()
     ensures { StatelessLooks A }
 {}
 
-/// by a test,
+/// Of two stateless runs the one that a test chooses is stateless.
 pub fn stateless_chooses<A>()
     ensures { StatelessChooses A }
 {}
 
-/// or by what is there,
+/// Of stateless runs the one that is chosen by what is there is stateless.
 pub fn stateless_given<A, B>()
     ensures { StatelessGiven A B }
 {}
 
-/// and loops of stateless runs over a list
+/// A loop of stateless runs over a list is stateless.
 pub fn stateless_for_each<A>()
     ensures { StatelessForEach A }
 {}
 
-/// or while a test holds.
+/// A loop of stateless runs while a test holds is stateless.
 pub fn stateless_while<A>()
     ensures { StatelessWhile A }
 {}
@@ -53,12 +53,12 @@ pub fn unwraps_stateless()
     ensures { UnwrapsStateless }
 {}
 
-/// Setting a tag name is stateless,
+/// Setting a tag name is stateless.
 pub fn tag_names_stateless()
     ensures { TagNamesStateless }
 {}
 
-/// and so is splitting a text.
+/// Splitting a text is stateless.
 pub fn split_texts_stateless()
     ensures { SplitTextsStateless }
 {}

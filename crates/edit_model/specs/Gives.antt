@@ -15,7 +15,7 @@ abbrev pub label_of : Option NodeRef → Option ℕ
 label_of None = None
 label_of (Some r) = Some r.label
 
--- what a fault means: Full comes where the run ends past the cap, and want of memory at any time
+-- what a fault means: Full comes where the run ends past the cap, and Memory may come at any time
 abbrev pub Fails : EditFault → State → Type 0
 Fails Full s = IsPastCap s
 Fails Memory s = Unit {0}

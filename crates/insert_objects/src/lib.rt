@@ -12,4 +12,4 @@ mod rule;
 
 pub use image::insert_image;
 pub use line_break::insert_line_break;
-pub use rule::insert_rule;
+pub use rule::insert_horizontal_rule;

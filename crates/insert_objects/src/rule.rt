@@ -118,7 +118,7 @@ fn put_rule(alloc: Global, doc: &mut Doc) -> Result<bool, EditFault>
 /// stands in its place, with the caret after it. Where it may not stand in a block, as in a
 /// paragraph, this is parted around it. It answers true.
 #[tactic(auto, using(edit_model::proofs::Steps::steps, edit_model::proofs::Steps::exits), unfolding(crate::specs::Rule::insert_horizontal_rule))]
-pub fn insert_rule(alloc: Global, doc: &mut Doc) -> Result<bool, EditFault>
+pub fn insert_horizontal_rule(alloc: Global, doc: &mut Doc) -> Result<bool, EditFault>
     requires open { IsOpen doc.old }
     ensures gives { Gives result doc.old.state doc.new.state command.insert_horizontal_rule }
     ensures keeps { Keeps doc.old doc.new }

@@ -12,7 +12,7 @@ fn prints<F: Display>(alloc: Global, fault: &F, want: &str) -> Result<bool, Fail
 fn faults_of_calls(rt: HostRuntime) -> Result<(), Fail> {
     let cases = [
         (ExecFault::Full, "no label is left below the cap"),
-        (ExecFault::Deep, "the document would be too deep"),
+        (ExecFault::Deep, "the document is too deep"),
         (ExecFault::Memory, "out of memory"),
     ];
     for (fault, want) in cases {

@@ -1,5 +1,6 @@
-//! Commands on text, as actions on a document under edits: between a command's begin and its end.
-//! Each answers whether the command was taken (HTML Editing APIs, "action").
+//! The command delete, as an action on a document under edits: between a command's begin and its end. It answers
+//! whether the command was taken (HTML Editing APIs, "action"). The actions of insertText and insertParagraph are
+//! handed on from `text_insertion`.
 //!
 //! Each call is proved to make one run of elementary edits, which its definition composes step by step.
 #![tactic(auto)]

@@ -97,7 +97,7 @@ impl<T: Drop> UndoLog<T> {
         true
     }
 
-    /// Notes a step in the open entry, or hands it back for want of memory.
+    /// Notes a step in the open entry, or hands it back where memory is out.
     pub fn note(&mut self, step: T) -> Result<(), T>
         requires { IsTrue (is_open self.old.open_entry) }
         ensures ok { OnOk result (self.new ≡ with_step self.old step) }

@@ -87,7 +87,7 @@ abbrev pub seen : Option Blank → Option (List ℕ × List Attribute)
 seen None = None
 seen (Some b) = Some (b.name, b.attributes)
 
--- what the recipe makes, or want of memory
+-- what the recipe makes, or that memory is out
 abbrev pub IsMade : Result (Option Blank) AllocError → Recipe → Type 0
 IsMade (Ok b) r = seen b ≡ blank_of r
 IsMade (Err e) r = Unit {0}

@@ -6,7 +6,7 @@ ghost use Rattle.edit_doc.specs.Whole.{IsOpen};
 
 use Object::{Image, LineBreak, Refused, Rule};
 use edit_doc::Doc;
-use insert_objects::{insert_image, insert_line_break, insert_rule};
+use insert_objects::{insert_horizontal_rule, insert_image, insert_line_break};
 use std::alloc::Global;
 use std::test::Fail;
 use trial_pages::{Act, At, Row, chars, check_rows, point, selects};
@@ -27,7 +27,7 @@ fn takes(alloc: Global, doc: &mut Doc, object: Object) -> Result<bool, Fail>
 {
     let answer = match object {
         LineBreak => insert_line_break(alloc, doc)?,
-        Rule => insert_rule(alloc, doc)?,
+        Rule => insert_horizontal_rule(alloc, doc)?,
         Image(address) => {
             let address = chars(alloc, address)?;
             insert_image(alloc, doc, &address)?
