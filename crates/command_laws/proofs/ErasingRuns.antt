@@ -5,7 +5,7 @@ use Rattle.edit_laws.specs.Stateless.{Stateless}
 use Rattle.edit_laws.proofs.StatelessRuns.{stateless_parts, stateless_answer}
 use Rattle.inline_value.specs.Recording.{Recorded}
 use Rattle.delete_core.specs.Deletion.{erase_across, erase, delete_recorded, delete_selected, delete_range, delete_between, delete_selection}
-use Rattle.delete_core.specs.Ends.{settle, canonicalize_start, canonicalize_end}
+use Rattle.delete_core.specs.Ends.{collapse_selection, canonicalize_start, canonicalize_end}
 use Rattle.delete_core.specs.Erasing.{erase_within, cut_after, cut_before, fill_hollow, removed_up, strip_empty, strip_from, remove_under, remove_node, remove_nodes}
 use Rattle.delete_core.specs.Merging.{drop_prop, drop_sole, part_lines, remove_own, drop_parted, drop_soles, drop_block, split_line, split_out, drop_break_before, take_out_line, take_line, merge_content, merge_inner, drop_last_break, take_following, merge_outer, drop_emptied, take_children, merge_beside, merged, join_lists_at, join_next, join_once, join_lists, fill_empty, finish, finish_if, merge, merge_both, merge_if}
 use Rattle.delete_core.specs.Whitespace.{scan_blank, scan_char, scan_turn, scan_blanks, trim_char, trim_turn, trimmed, trimmed_if, put_space, lay_char, lay_out, lay_text, lay_turn, lay_all, laid_between, canonicalize_from, canonicalize}
@@ -94,15 +94,15 @@ pub stateless_canonicalize_end : (fix : Bool) → Stateless (canonicalize_end fi
 unfolding canonicalize_end
 stateless_canonicalize_end fix = search (stateless_parts, stateless_canonicalize)
 
-pub stateless_settle : (backward : Bool) → Stateless (settle backward)
-unfolding settle
-stateless_settle backward = search stateless_parts
+pub stateless_collapse_selection : (backward : Bool) → Stateless (collapse_selection backward)
+unfolding collapse_selection
+stateless_collapse_selection backward = search stateless_parts
 
 -- ---- what a deletion removes
 
 stateless_erase_within : (backward : Bool) (p q : Point) → Stateless (erase_within backward p q)
 unfolding erase_within
-stateless_erase_within backward p q = search (stateless_parts, stateless_canonicalize, stateless_settle)
+stateless_erase_within backward p q = search (stateless_parts, stateless_canonicalize, stateless_collapse_selection)
 
 stateless_cut_after : (p : Point) → Stateless (cut_after p)
 unfolding cut_after
@@ -264,11 +264,11 @@ stateless_merge b c = search (stateless_parts, stateless_drop_prop, stateless_me
 
 stateless_merge_both : (backward : Bool) (b c : ℕ) → Stateless (merge_both backward b c)
 unfolding merge_both
-stateless_merge_both backward b c = search (stateless_parts, stateless_merge, stateless_settle)
+stateless_merge_both backward b c = search (stateless_parts, stateless_merge, stateless_collapse_selection)
 
 stateless_merge_if : (merging backward : Bool) (b c : Option ℕ) → Stateless (merge_if merging backward b c)
 unfolding merge_if
-stateless_merge_if merging backward b c = search (stateless_parts, stateless_merge_both, stateless_settle)
+stateless_merge_if merging backward b c = search (stateless_parts, stateless_merge_both, stateless_collapse_selection)
 
 -- ---- deleting the selection
 
@@ -291,7 +291,7 @@ stateless_delete_selected m p q = search (stateless_parts, stateless_delete_reco
 
 stateless_delete_range : (m : _) (p q : Point) → Stateless (delete_range m p q)
 unfolding delete_range
-stateless_delete_range m p q = search (stateless_parts, stateless_delete_selected, stateless_settle)
+stateless_delete_range m p q = search (stateless_parts, stateless_delete_selected, stateless_collapse_selection)
 
 stateless_delete_between : (m : _) → Stateless (delete_between m)
 unfolding delete_between

@@ -29,7 +29,7 @@ use Rattle.edit_laws.proofs.Around.{Spot, spot_other, spot_as, spot_distinct, sp
 use Rattle.edit_laws.proofs.Patterns.{count-join, join-assoc, take_last, put_after_node, put_first_below, drop_leaves, front_leaves}
 use Rattle.edit_laws.proofs.Slides.{document_distinct, Slide, slide, parent_other}
 use Rattle.edit_laws.proofs.Lifting.{node_found}
-use Rattle.edit_laws.proofs.Turned.{next_is, first_is, final_move_first}
+use Rattle.edit_laws.proofs.ReversedBefore.{next_is, first_is, final_move_first}
 use Rattle.edit_laws.proofs.Seats.{Seat, seat, parts_of, headed}
 use Rattle.edit_laws.proofs.Loose.{IsLoose, none_there, loose_parent, still_first}
 use Rattle.edit_laws.proofs.MoveLaws.{headed_first}

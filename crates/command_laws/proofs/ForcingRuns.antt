@@ -28,7 +28,7 @@ use Rattle.edit_laws.proofs.OrderPreserving.{order_preserving, order_preserving_
 use Rattle.wrap_split.specs.declared.rule.Criterion.TheVariants.{SameValue}
 use Rattle.wrap_split.specs.declared.rule.Recipe.TheVariants.{Nothing as NoNode}
 use Rattle.wrap_split.specs.Wrap.{wrap}
-use Rattle.inline_value.specs.Forcing.{lacks, reorder_prev, reorder_next, joined, rename_link, rename_links, clear_way, make_wrapper, style_by, style_wrapper, taken_back, settled, put_in, wrapped, unless_alike, force_node, force_self, heirs, force_child, force_heirs, forced, force_value, force}
+use Rattle.inline_value.specs.Forcing.{lacks, reorder_prev, reorder_next, joined, rename_link, rename_links, clear_way, make_wrapper, style_by, style_wrapper, taken_back, confirm_value, put_in, wrapped, unless_alike, force_node, force_self, heirs, force_child, force_heirs, forced, force_value, force}
 use Rattle.inline_value.specs.Wrappers.{wrapper_for}
 use Rattle.command_laws.proofs.Criteria.{named_bare}
 use Rattle.command_laws.proofs.Fits.{Fit, fit, fits, fit_answer, fit_bind, fit_look, fit_if, fit_each}
@@ -120,9 +120,9 @@ shaping_style_wrapper command v p = search (shaping, shaping_style_by)
 
 -- ---- the node goes in, and comes out again where it hasn't taken the value
 
-settled_keeps : (command : Command) (v : List ℕ) (n p : ℕ) (s : State) → IsKeeping s → Held s p n → KeepsOrder s (final (settled command v n p) s)
-unfolding settled taken_back
-settled_keeps command v n p s is held = rw final-look (by_test (lacks s n command v))
+confirm_value_keeps : (command : Command) (v : List ℕ) (n p : ℕ) (s : State) → IsKeeping s → Held s p n → KeepsOrder s (final (confirm_value command v n p) s)
+unfolding confirm_value taken_back
+confirm_value_keeps command v n p s is held = rw final-look (by_test (lacks s n command v))
   where
     rest : OrderPreserving (remove p >>= (λ _. answer true))
     rest = order_preserving_bind (remove p) (λ _. answer true) (order_preserving_remove p) (λ _. order_preserving_answer true)
@@ -147,7 +147,7 @@ put_in_keeps command v n s is name attributes plain =
     rw (final-bind, final-bind, final-bind)
     (keeps_trans put.0
     (keeps_trans ((order_preserving_style_wrapper command v p).keeps s2 is2)
-    (keeps_trans into.0 (settled_keeps command v n p s4 (keeping_final (move_last p n) s3 is3) into.1))))
+    (keeps_trans into.0 (confirm_value_keeps command v n p s4 (keeping_final (move_last p n) s3 is3) into.1))))
 
 order_preserving_wrapped : (command : Command) (v : List ℕ) (n : ℕ) → OrderPreserving (wrapped command v n)
 unfolding wrapped make_wrapper
@@ -221,13 +221,13 @@ stateless_taken_back : (n p : ℕ) → Stateless (taken_back n p)
 unfolding taken_back
 stateless_taken_back n p = search (stateless_parts, stateless_moves)
 
-stateless_settled : (command : Command) (v : List ℕ) (n p : ℕ) → Stateless (settled command v n p)
-unfolding settled
-stateless_settled command v n p = search (stateless_parts, stateless_taken_back)
+stateless_confirm_value : (command : Command) (v : List ℕ) (n p : ℕ) → Stateless (confirm_value command v n p)
+unfolding confirm_value
+stateless_confirm_value command v n p = search (stateless_parts, stateless_taken_back)
 
 stateless_put_in : (command : Command) (v : List ℕ) (n p : ℕ) → Stateless (put_in command v n p)
 unfolding put_in
-stateless_put_in command v n p = search (stateless_parts, stateless_moves, stateless_style_wrapper, stateless_settled)
+stateless_put_in command v n p = search (stateless_parts, stateless_moves, stateless_style_wrapper, stateless_confirm_value)
 
 stateless_wrapped : (command : Command) (v : List ℕ) (n : ℕ) → Stateless (wrapped command v n)
 unfolding wrapped

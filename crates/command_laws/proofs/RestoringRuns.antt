@@ -8,7 +8,7 @@ use Rattle.edit_model.specs.declared.settings.Setting.TheVariants.{On, Off, Text
 use Rattle.edit_laws.specs.Stateless.{Stateless}
 use Rattle.edit_laws.specs.OrderPreserving.{OrderPreserving}
 use Rattle.inline_value.specs.declared.overrides.Override as overrides
-use Rattle.inline_commands.specs.RestoringStates.{override_by, set_override, turn_round, turned, restore_on, restore_off, restore_shown, restore_link, restore_size, restore_text, restore_setting, restore_entry, restore_states}
+use Rattle.inline_commands.specs.RestoringStates.{override_by, set_override, turn_round, toggle_state, restore_on, restore_off, restore_shown, restore_link, restore_size, restore_text, restore_setting, restore_entry, restore_states}
 use Rattle.command_laws.proofs.Fits.{Fit, fits, fit_answer, fit_perform}
 use Rattle.command_laws.proofs.LinkingRuns.{fit_create_link}
 use Rattle.command_laws.proofs.TogglingRuns.{fit_toggle_style, fit_toggle_script, fit_apply_value}
@@ -57,8 +57,8 @@ fit_turn command.InsertLineBreak = fit_toggle_style command.InsertLineBreak
 fit_turn command.InsertHorizontalRule = fit_toggle_style command.InsertHorizontalRule
 fit_turn command.InsertImage = fit_toggle_style command.InsertImage
 
-fit_turned : (c : Command) → Fit (turned c)
-unfolding turned
+fit_turned : (c : Command) → Fit (toggle_state c)
+unfolding toggle_state
 fit_turned c = search (fits, fit_turn)
 
 fit_on : (c : Command) → Fit (restore_on c)

@@ -26,7 +26,7 @@ use Rattle.text_insertion.specs.Typing.{put_in_text, drop_sole_break, select_who
 use Rattle.command_laws.proofs.AncestorRuns.{stateless_fix_ancestors}
 use Rattle.command_laws.proofs.Criteria.{first_part}
 use Rattle.command_laws.proofs.DeleteRuns.{stateless_rename_stray, stateless_erase}
-use Rattle.command_laws.proofs.ErasingRuns.{stateless_canonicalize, stateless_canonicalize_start, stateless_canonicalize_end, stateless_settle, stateless_fill_empty}
+use Rattle.command_laws.proofs.ErasingRuns.{stateless_canonicalize, stateless_canonicalize_start, stateless_canonicalize_end, stateless_collapse_selection, stateless_fill_empty}
 use Rattle.command_laws.proofs.NewWraps.{IsNew, new_parts, new_wrap}
 use Rattle.command_laws.proofs.NoStates.{HasNoState, editable_unstated, made_unstated, unstated_without_id}
 use Rattle.command_laws.proofs.RestoringRuns.{stateless_restore_states}
@@ -250,7 +250,7 @@ stateless_put_char c = search (stateless_parts, stateless_put_at)
 
 stateless_close_text : Stateless close_text
 unfolding close_text
-stateless_close_text = search (stateless_parts, stateless_canonicalize_start, stateless_canonicalize_end, stateless_settle)
+stateless_close_text = search (stateless_parts, stateless_canonicalize_start, stateless_canonicalize_end, stateless_collapse_selection)
 
 stateless_type_with : (c : ℕ) (p : Point) (overrides : List Override) → Stateless (type_with c p overrides)
 unfolding type_with

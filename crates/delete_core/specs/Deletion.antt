@@ -11,7 +11,7 @@ use Rattle.inline_value.specs.Overrides.{states_of}
 use Rattle.delete_core.specs.declared.deletion.Manner.{Manner}
 use Rattle.delete_core.specs.Places.{comes_before}
 use Rattle.delete_core.specs.Equivalent.{last_equivalent, first_equivalent}
-use Rattle.delete_core.specs.Ends.{settle, canonicalize_start, canonicalize_end, out_of_start, out_of_end, block_of_end}
+use Rattle.delete_core.specs.Ends.{collapse_selection, canonicalize_start, canonicalize_end, out_of_start, out_of_end, block_of_end}
 use Rattle.delete_core.specs.Erasing.{is_own_text, erase_within, cut_after, cut_before, remove_nodes}
 use Rattle.delete_core.specs.Merging.{merge_if}
 
@@ -42,7 +42,7 @@ delete_selected m p q = select p q >> delete_recorded m p q
 unfoldable pub delete_range : Manner → Point → Point → Run (List Override)
 delete_range m p q = look λ s.
     if comes_before s.trees p q then delete_selected m (out_of_start s.trees p) (out_of_end s.trees q)
-    else (settle m.backward >> answer [])
+    else (collapse_selection m.backward >> answer [])
 
 unfoldable pub delete_between : Manner → Run (List Override)
 delete_between m = look λ s. given s.points.selection (answer []) λ pair.

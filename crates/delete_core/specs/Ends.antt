@@ -20,8 +20,8 @@ use Rattle.delete_core.specs.Whitespace.{canonicalize}
 abbrev pub end_for : Bool → Forest Content → Pair → Point
 end_for backward f pair = if backward then end_of f pair else start_of f pair
 
-unfoldable pub settle : Bool → Run (Unit {0})
-settle backward = look λ s. given s.points.selection done λ pair. collapse (end_for backward s.trees pair)
+unfoldable pub collapse_selection : Bool → Run (Unit {0})
+collapse_selection backward = look λ s. given s.points.selection done λ pair. collapse (end_for backward s.trees pair)
 
 -- delete the selection, steps 1 and 8: the whitespace at the start and at the end of the active range
 unfoldable pub canonicalize_start : Bool → Run (Unit {0})

@@ -19,7 +19,7 @@ use Rattle.edit_actions.specs.ActiveRange.{start_of, end_of}
 use Rattle.block_extend.specs.Gather.{gathered}
 use Rattle.wrap_split.specs.Wrap.{append_break}
 use Rattle.wrap_split.specs.Walks.{turn_bound}
-use Rattle.delete_core.specs.Ends.{settle, is_cell}
+use Rattle.delete_core.specs.Ends.{collapse_selection, is_cell}
 use Rattle.delete_core.specs.Whitespace.{canonicalize}
 
 unfoldable pub is_own_text : State → ℕ → Bool
@@ -30,7 +30,7 @@ unfoldable pub erase_within : Bool → Point → Point → Run (Unit {0})
 erase_within backward p q = do
   replace p.label p.offset (q.offset - p.offset) []
   canonicalize false p
-  settle backward
+  collapse_selection backward
 
 -- ---- step 6, and step 8: the texts at the ends
 

@@ -21,7 +21,7 @@ use Rattle.inline_value.specs.Recording.{Recorded, values_of, restore_values}
 use Rattle.wrap_split.specs.Breaks.{breaks_at_end}
 use Rattle.wrap_split.specs.Split.{is_void_thing, split_parent}
 use Rattle.wrap_split.specs.Wrap.{append_break, is_inline, list_on}
-use Rattle.delete_core.specs.Ends.{settle}
+use Rattle.delete_core.specs.Ends.{collapse_selection}
 use Rattle.delete_core.specs.Erasing.{removed_up}
 use Rattle.delete_core.specs.Places.{at, end_in}
 
@@ -228,10 +228,10 @@ unfoldable pub are_mergeable : State → ℕ → ℕ → Bool
 are_mergeable s b c = is_inside s b && (is_inside s c && not (b == c))
 
 unfoldable pub merge_both : Bool → ℕ → ℕ → Run (Unit {0})
-merge_both backward b c = look λ s. if are_mergeable s b c then merge b c else settle backward
+merge_both backward b c = look λ s. if are_mergeable s b c then merge b c else collapse_selection backward
 
 -- the same, of blocks that there may be
 unfoldable pub merge_if : Bool → Bool → Option ℕ → Option ℕ → Run (Unit {0})
 merge_if merging backward b c =
-    if merging then (given b (settle backward) λ x. given c (settle backward) (merge_both backward x))
-    else settle backward
+    if merging then (given b (collapse_selection backward) λ x. given c (collapse_selection backward) (merge_both backward x))
+    else collapse_selection backward

@@ -9,7 +9,8 @@ ghost use Rattle.delete_core.specs.Stretches.{StretchHeld};
 ghost use Rattle.delete_core.specs.Deletion.{erase_across, erase, delete_recorded, delete_selected, delete_range, delete_between, delete_selection};
 
 use crate::ends::{
-    block_of_end, canonicalize_end, canonicalize_start, out_of_end, out_of_start, select, settle,
+    block_of_end, canonicalize_end, canonicalize_start, collapse_selection, out_of_end,
+    out_of_start, select,
 };
 use crate::equivalent::{first_equivalent, last_equivalent};
 use crate::erasing::{cut_after, cut_before, erase_within, is_own_text, remove_nodes};
@@ -156,7 +157,7 @@ fn delete_range(
     ensures keeps { Keeps doc.old doc.new }
 {
     if !comes_before(doc, start, end) {
-        settle(doc, manner.backward)?;
+        collapse_selection(doc, manner.backward)?;
         return Ok(Overrides::new(alloc));
     }
     let first = out_of_start(doc, node_of(doc, start), start);

@@ -7,7 +7,7 @@ ghost use Rattle.edit_model.specs.Action.{Select, acted};
 ghost use Rattle.edit_doc.specs.Whole.{IsOpen, with_state};
 ghost use Rattle.edit_doc.specs.Held.{Holds, Finds, Keeps};
 ghost use Rattle.node_tests.specs.CollapsedWhitespace.{is_words};
-ghost use Rattle.delete_core.specs.Ends.{settle, canonicalize_start, canonicalize_end, out_of_start, out_of_end, up_inline, top_inline, is_cell, may_merge, block_of_end};
+ghost use Rattle.delete_core.specs.Ends.{collapse_selection, canonicalize_start, canonicalize_end, out_of_start, out_of_end, up_inline, top_inline, is_cell, may_merge, block_of_end};
 
 use crate::places::{after_node, before_node, if_inside};
 use crate::whitespace::canonicalize;
@@ -27,10 +27,10 @@ pub fn select(doc: &mut Doc, anchor: Point, focus: Point)
 }
 
 /// Collapses the active range to its start, or to its end where `backward` is on.
-#[tactic(auto, using(edit_model::proofs::Steps::actions), unfolding(crate::specs::Ends::settle))]
-pub fn settle(doc: &mut Doc, backward: bool) -> Result<(), EditFault>
+#[tactic(auto, using(edit_model::proofs::Steps::actions), unfolding(crate::specs::Ends::collapse_selection))]
+pub fn collapse_selection(doc: &mut Doc, backward: bool) -> Result<(), EditFault>
     requires open { IsOpen doc.old }
-    ensures gives { Gives result doc.old.state doc.new.state (settle backward) }
+    ensures gives { Gives result doc.old.state doc.new.state (collapse_selection backward) }
     ensures keeps { Keeps doc.old doc.new }
 {
     doc.valid();

@@ -8,7 +8,7 @@ ghost use Rattle.edit_doc.specs.Held.{Holds, IfHeld, EachHeld, Finds, Keeps};
 ghost use Rattle.wrap_split.specs.Wrap as wrap;
 ghost use Rattle.delete_core.specs.Erasing.{is_own_text, erase_within, cut_after, cut_before, is_table_part, is_removable, removable_nodes, own_block, shows_child, is_hollow, fill_hollow, removed_up, is_strippable, strip_empty, strip_from, remove_under, remove_node, remove_nodes};
 
-use crate::ends::{is_cell, settle};
+use crate::ends::{collapse_selection, is_cell};
 use crate::whitespace::canonicalize;
 use block_extend::{Choice, gather_in};
 use edit_actions::ends_of;
@@ -46,7 +46,7 @@ pub(crate) fn erase_within(
     let count = end.offset.saturating_sub(start.offset);
     doc.replace_words(node, start.offset, count, &[])?;
     canonicalize(alloc, doc, start, false)?;
-    settle(doc, backward)
+    collapse_selection(doc, backward)
 }
 
 /// Step 6: deletes what stands in an editable text from an offset on.

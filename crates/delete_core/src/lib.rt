@@ -24,7 +24,7 @@ mod whitespace;
 
 pub use deletion::delete_selection;
 pub use edit_doc::{Doc, EditFault, Point};
-pub use ends::{canonicalize_end, canonicalize_start, select, settle};
+pub use ends::{canonicalize_end, canonicalize_start, collapse_selection, select};
 pub use equivalent::{first_equivalent, last_equivalent};
 pub use erasing::shows_child;
 pub use inline_value::Overrides;

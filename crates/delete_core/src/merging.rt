@@ -8,7 +8,7 @@ ghost use Rattle.inline_value.specs.Records.{entries_of, nodes_of};
 ghost use Rattle.delete_core.specs.Merging.{drop_prop, merged, fill_empty, finish, finish_if, merge, are_mergeable, merge_both, merge_if};
 ghost use Rattle.delete_core.specs.Values.{ValuesHeld, recorded_in};
 
-use crate::ends::settle;
+use crate::ends::collapse_selection;
 use crate::inner::merge_inner;
 use crate::lists::join_lists;
 use crate::outer::{merge_beside, merge_outer};
@@ -131,7 +131,7 @@ fn merge_both(
     if are_mergeable(doc, block, other) {
         merge(alloc, doc, block, other)
     } else {
-        settle(doc, backward)
+        collapse_selection(doc, backward)
     }
 }
 
@@ -152,13 +152,13 @@ pub(crate) fn merge_if(
     ensures keeps { Keeps doc.old doc.new }
 {
     if !merging {
-        return settle(doc, backward);
+        return collapse_selection(doc, backward);
     }
     let Some(block) = blocks.0 else {
-        return settle(doc, backward);
+        return collapse_selection(doc, backward);
     };
     let Some(other) = blocks.1 else {
-        return settle(doc, backward);
+        return collapse_selection(doc, backward);
     };
     merge_both(alloc, doc, backward, block, other)
 }

@@ -27,7 +27,7 @@ use Rattle.point_order.specs.PointOrder.{is_before}
 use Rattle.forest_changes.specs.Change.{SetAttributes, applied, inverse}
 use Rattle.forest_changes.proofs.Twice.{forest_of}
 use Rattle.forest_changes.proofs.PrunedChanges.{content_of-pruned}
-use Rattle.edit_steps.specs.declared.step.Step.TheVariants.{Attributes}
+use Rattle.edit_steps.specs.declared.step.Step.TheVariants as step
 use Rattle.edit_steps.specs.Step.{StepFits, change_of, step_applied, step_inverse}
 use Rattle.edit_model.specs.State.{State}
 use Rattle.edit_model.specs.Edit.{Edit, Set, Unset, is_made_edit, change_of as edit_change, trees_after, points_after, overrides_after, with_set, with_unset}
@@ -139,14 +139,14 @@ follows c d n list f m = record {
 
 module _ (d : Inside) (law : IsArena d.tree.nodes.arena) (slotted : IsSlotted d.tree.nodes.arena) (ok : Ok d) (node : NodeRef) (held : RefIn d.tree.nodes.arena.held node) (here : IsSeen d node.label)
     (tag : List ℕ) (own list : List Attribute) (content : content_of d.tree.nodes.arena.trees node.label ≡ Some (Element tag own)) where
-  pub redress_fits : StepFits (Attributes node list) d.tree.nodes.arena
+  pub redress_fits : StepFits (step.SetAttributes node list) d.tree.nodes.arena
   redress_fits = record {
     fits = record { forest = forest_of d.tree.nodes.arena law; here = ap (λ o. option_map_or is_element o false) content };
     slotted = slotted;
     held = (held, tt);
   }
 
-  pub counted_redressed : IsCounted (step_applied (Attributes node list) d.tree.nodes.arena).trees d.tree.nodes.counts
+  pub counted_redressed : IsCounted (step_applied (step.SetAttributes node list) d.tree.nodes.arena).trees d.tree.nodes.counts
   unfolding step_applied applied
   counted_redressed = record {
     nodes = d.tree.nodes.counted.nodes ∙ sym (nodes-redressed d.tree.nodes.arena.trees node.label list);
@@ -168,11 +168,11 @@ module _ (d : Inside) (law : IsArena d.tree.nodes.arena) (slotted : IsSlotted d.
 
   module _ (c : Command) (m : Marks (node.label ∷ []) d.command c) where
     redresses : (e : Edit) (h : Content → Content) →
-        change_of (Attributes node list) ≡ edit_change e g →
+        change_of (step.SetAttributes node list) ≡ edit_change e g →
         revised g node.label (with_attributes list) ≡ trees_after e g →
         d.tree.points ≡ points_after e g d.tree.points →
         d.tree.overrides ≡ overrides_after (seen d).state (trees_after e g) (points_after e g d.tree.points) →
-        Makes d e (Attributes node list) d.tree.points d.tree.overrides c
+        Makes d e (step.SetAttributes node list) d.tree.points d.tree.overrides c
     unfolding applied
     redresses e h change trees points overrides = record {
       fits = redress_fits;
@@ -185,11 +185,11 @@ module _ (d : Inside) (law : IsArena d.tree.nodes.arena) (slotted : IsSlotted d.
       overrides_are = overrides;
     }
 
-    pub sets : (name value : List ℕ) → list ≡ set_in own name value → Makes d (Set node.label name value) (Attributes node list) d.tree.points d.tree.overrides c
+    pub sets : (name value : List ℕ) → list ≡ set_in own name value → Makes d (Set node.label name value) (step.SetAttributes node list) d.tree.points d.tree.overrides c
     unfolding trees_after points_after edit_change
     sets name value is = redresses (Set node.label name value) (with_set name value) (ap (SetAttributes node.label) (is ∙ ap (λ o. set_in (unwrap_or o []) name value) own_here)) (trees_same (with_set name value) (ap (Element tag) is)) refl (sym (overrides-revised (seen d).state node.label (with_set name value)))
 
-    pub unsets : (name : List ℕ) → list ≡ unset_in own name → Makes d (Unset node.label name) (Attributes node list) d.tree.points d.tree.overrides c
+    pub unsets : (name : List ℕ) → list ≡ unset_in own name → Makes d (Unset node.label name) (step.SetAttributes node list) d.tree.points d.tree.overrides c
     unfolding trees_after points_after edit_change
     unsets name is = redresses (Unset node.label name) (with_unset name) (ap (SetAttributes node.label) (is ∙ ap (λ o. unset_in (unwrap_or o []) name) own_here)) (trees_same (with_unset name) (ap (Element tag) is)) refl (sym (overrides-revised (seen d).state node.label (with_unset name)))
 
@@ -219,15 +219,15 @@ module _ (d : Inside) (v : Whole) (is : seen d ≡ v) (law : IsArena d.tree.node
   unfolding is_made_edit may_set
   not_set_here name value same = rw (own_seen, same) (and_false (is_own v.state node.label))
 
-  module _ (list : List Attribute) (c : Command) (m : Marks (node.label ∷ []) d.command c) (arena : Arena) (trail : Trail) (arena_is : arena ≡ step_applied (Attributes node list) d.tree.nodes.arena) (trail_is : trail ≡ with_note d.history (step_inverse (Attributes node list) d.tree.nodes.arena)) where
+  module _ (list : List Attribute) (c : Command) (m : Marks (node.label ∷ []) d.command c) (arena : Arena) (trail : Trail) (arena_is : arena ≡ step_applied (step.SetAttributes node list) d.tree.nodes.arena) (trail_is : trail ≡ with_note d.history (step_inverse (step.SetAttributes node list) d.tree.nodes.arena)) where
     pub unset_done : (name : List ℕ) → list ≡ unset_in own name → is_made_edit (Unset node.label name) v.state ≡ true → Done d v (Unset node.label name) arena d.tree.points d.tree.overrides c trail
     unset_done name same may =
-        edit_called d v is law now_open ok (Unset node.label name) (Attributes node list) d.tree.points d.tree.overrides c may
+        edit_called d v is law now_open ok (Unset node.label name) (step.SetAttributes node list) d.tree.points d.tree.overrides c may
         (unsets d law slotted ok node held_here.slot held_here.here tag own list content c m name same) arena trail arena_is trail_is
 
     pub set_done : (name value : List ℕ) → list ≡ set_in own name value → is_made_edit (Set node.label name value) v.state ≡ true → Done d v (Set node.label name value) arena d.tree.points d.tree.overrides c trail
     set_done name value same may =
-        edit_called d v is law now_open ok (Set node.label name value) (Attributes node list) d.tree.points d.tree.overrides c may
+        edit_called d v is law now_open ok (Set node.label name value) (step.SetAttributes node list) d.tree.points d.tree.overrides c may
         (sets d law slotted ok node held_here.slot held_here.here tag own list content c m name value same) arena trail arena_is trail_is
 
 -- where the node isn't the command's own, or no element, nothing is done

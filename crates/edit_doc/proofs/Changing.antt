@@ -128,7 +128,7 @@ module _ (held : List (Option ℕ)) (names : List (List ℕ)) (c d : Command) (s
   undo_carried r high f (e ∷ es) (b ∷ bs) same h =
       let ts = inverses_back applied inverse (changes_of e) f in
       let own : IsSnapshot names (forest_before e f) f e ts b (detached_of r d b) high d.start = subst (λ ls. IsSnapshot names (forest_before e f) f e ts b ls high d.start) (same b) (subst (λ n. IsSnapshot names (forest_before e f) f e ts b (detached_of r c b) high n) start h.1.0) in
-      (h.0, (own, undo_carried false b.sides.first_label (forest_before e f) es bs (λ _. refl) h.1.1))
+      (h.0, (own, undo_carried false b.span.first_label (forest_before e f) es bs (λ _. refl) h.1.1))
 
 -- ---- what the fields of the command become
 

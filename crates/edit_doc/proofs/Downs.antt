@@ -24,7 +24,7 @@ use Rattle.edit_doc.specs.declared.command.Command.{Command}
 use Rattle.edit_doc.specs.declared.history.Way.{Way}
 use Rattle.edit_doc.specs.History.{forest_before, forest_after, edits_before, roots_from, is_hidden, view_at, led, older, newer, edits_of, entries, other}
 use Rattle.edit_doc.specs.declared.history.Way.TheVariants.{Back, Forth}
-use Rattle.edit_doc.specs.Sound.{RefIn, EachHeldIn, IsSide, AreFresh, IsOff, IsSnapshot, detached_of, Lies, FitsWay, turned, bound_of, next_bound}
+use Rattle.edit_doc.specs.Sound.{RefIn, EachHeldIn, IsSide, AreFresh, IsOff, IsSnapshot, detached_of, Lies, FitsWay, changes_along, bound_of, next_bound}
 use Rattle.edit_doc.proofs.HiddenTrees.{hidden_is, is_hidden_from, pruned_more, both_detached, tops_detached, tops_stay, loose_detached, model_forest, document-pruned, placed-pruned, node_count-pruned, char_count-pruned, page_depth-pruned}
 use Rattle.edit_doc.proofs.MadeNodes.{listed_has, used-pruned}
 
@@ -91,7 +91,7 @@ turned_ends P Forth here there x = x
 
 -- what an entry names is there where one is
 pub names_here : (w : Way) (names : List (List ℕ)) (f g : Forest Content) (e : List Step) (ts : List Change) (b : EntrySnapshot) (ds : List NodeRef) (high start : ℕ) →
-    IsSnapshot names (older w f g) (newer w f g) e ts b ds high start → Each (IsLeft (is_hidden (older w f g) b.sides.first_label) f) (named_in (changes_of e))
+    IsSnapshot names (older w f g) (newer w f g) e ts b ds high start → Each (IsLeft (is_hidden (older w f g) b.span.first_label) f) (named_in (changes_of e))
 names_here Back names f g e ts b ds high start h = h.names_there
 names_here Forth names f g e ts b ds high start h = h.names_seen
 
@@ -132,20 +132,20 @@ snapshot-pruned : (k : ℕ → Bool) → k 0 ≡ false → (names : List (List �
     Each (IsLeft k before) (named_in (changes_of e)) → Each (IsLeft k after) (named_in (changes_of e)) →
     IsSnapshot names before after e ts b detached high start → IsSnapshot names (pruned k before) (pruned k after) e ts b detached high start
 snapshot-pruned k keeps names before after e ts b detached high start is bound is' bound' seen there h = record {
-  was = side-pruned k keeps names before b.sides.before b.sides.nodes_before b.sides.chars_before b.sides.depth_before is bound h.was;
-  is = side-pruned k keeps names after b.sides.after b.sides.nodes_after b.sides.chars_after b.sides.depth_after is' bound' h.is;
+  was = side-pruned k keeps names before b.span.before b.span.nodes_before b.span.chars_before b.span.depth_before is bound h.was;
+  is = side-pruned k keeps names after b.span.after b.span.nodes_after b.span.chars_after b.span.depth_after is' bound' h.is;
   some_label = h.some_label;
-  fresh = fresh-pruned k before b.sides.first_label is.distinct h.fresh;
+  fresh = fresh-pruned k before b.span.first_label is.distinct h.fresh;
   drawn = h.drawn;
   known = h.known;
   hidden = λ l t. (
-      let u = hidden_is (pruned k before) b.sides.first_label l t in
+      let u = hidden_is (pruned k before) b.span.first_label l t in
       let w = tops_detached k before l u.root in
-      let x = h.hidden l (is_hidden_from before b.sides.first_label l (record { inner = u.inner; old = u.old; root = w.0 })) in
+      let x = h.hidden l (is_hidden_from before b.span.first_label l (record { inner = u.inner; old = u.old; root = w.0 })) in
       let y = tops_stay k after l w.1 in
       omega arith);
-  names_seen = each_both (IsLeft k before) (IsLeft (is_hidden before b.sides.first_label) before) (IsLeft (is_hidden (pruned k before) b.sides.first_label) (pruned k before)) (named_in (changes_of e)) (λ l. seen_detached k before before b.sides.first_label l is.distinct) seen h.names_seen;
-  names_there = each_both (IsLeft k after) (IsLeft (is_hidden before b.sides.first_label) after) (IsLeft (is_hidden (pruned k before) b.sides.first_label) (pruned k after)) (named_in (changes_of e)) (λ l. seen_detached k before after b.sides.first_label l is'.distinct) there h.names_there;
+  names_seen = each_both (IsLeft k before) (IsLeft (is_hidden before b.span.first_label) before) (IsLeft (is_hidden (pruned k before) b.span.first_label) (pruned k before)) (named_in (changes_of e)) (λ l. seen_detached k before before b.span.first_label l is.distinct) seen h.names_seen;
+  names_there = each_both (IsLeft k after) (IsLeft (is_hidden before b.span.first_label) after) (IsLeft (is_hidden (pruned k before) b.span.first_label) (pruned k after)) (named_in (changes_of e)) (λ l. seen_detached k before after b.span.first_label l is'.distinct) there h.names_there;
   names_old = h.names_old;
   turns_old = h.turns_old;
   detached_loose = each_of (λ l. (0 < l) × ((l < high) × (parent_of after l ≡ None))) (λ l. (0 < l) × ((l < high) × (parent_of (pruned k after) l ≡ None))) (labels_of detached) (λ l t. (t.0, (t.1.0, loose_detached k after l is'.distinct t.1.1))) h.detached_loose;
@@ -195,9 +195,9 @@ module _ (k : ℕ → Bool) where
   pub record LedDown (w : Way) (e : List Step) (f : Forest Content) : Type 0 where
     pub fits : FitsWay w e (pruned k f)
     pub same : pruned k (led w e f) ≡ led w e (pruned k f)
-    pub turns : turned w e (pruned k f) ≡ turned w e f
+    pub turns : changes_along w e (pruned k f) ≡ changes_along w e f
     pub edits : edits_of w e (pruned k f) ≡ edits_of w e f
-    pub names : Each (IsLeft k f) (named_in (turned w e f))
+    pub names : Each (IsLeft k f) (named_in (changes_along w e f))
     pub there : Each (IsLeft k (led w e f)) (named_in (changes_of e))
     pub prunes : Prunes k (led w e f)
     pub stays : (l : ℕ) → count_of (pruned k (led w e f)) l ≡ count_of (pruned k f) l
@@ -229,14 +229,14 @@ module _ (k : ℕ → Bool) where
         let is' = led_forest w e f h.0.0 is in
         let bound' = led_bounded w e f h.0.0 bound in
         let snap : Forest Content → Forest Content → List Change → Type 0 = λ t u ts. IsSnapshot names t u e ts b (detached_of r c b) (bound_of w high c.start bs) c.start in
-        let own : snap (pruned k (older w f g)) (pruned k (newer w f g)) (turned w e f) = snapshot-pruned k prunes.document names (older w f g) (newer w f g) e (turned w e f) b (detached_of r c b) (bound_of w high c.start bs) c.start
+        let own : snap (pruned k (older w f g)) (pruned k (newer w f g)) (changes_along w e f) = snapshot-pruned k prunes.document names (older w f g) (newer w f g) e (changes_along w e f) b (detached_of r c b) (bound_of w high c.start bs) c.start
         (at_older (λ t _. IsForest t) w f g f g is is') (at_older (λ t _. Bounded t) w f g f g bound bound') (at_newer (λ t _. IsForest t) w f g f g is is') (at_newer (λ t _. Bounded t) w f g f g bound bound')
         (at_older (λ t _. Each (IsLeft k t) (named_in (changes_of e))) w f g f g detached.0 d.there) (at_newer (λ t _. Each (IsLeft k t) (named_in (changes_of e))) w f g f g detached.0 d.there) h.1.0 in
-        let ends = ends_of (pruned k) (λ t u. snap t u (turned w e f)) w f g own in
+        let ends = ends_of (pruned k) (λ t u. snap t u (changes_along w e f)) w f g own in
         let rest = lies-pruned w false (next_bound w high b) g es bs d.prunes is' bound' (keeps_moved f g d.stays old new keeps) (entries_moved f g d.stays es detached.1) h.1.1 in (
           (d.fits, held_detached k f old new keeps e detached.0 h.0.1),
           (
-            subst (λ t. snap (older w (pruned k f) t) (newer w (pruned k f) t) (turned w e (pruned k f))) d.same (subst (snap (older w (pruned k f) (pruned k g)) (newer w (pruned k f) (pruned k g))) (sym d.turns) ends),
+            subst (λ t. snap (older w (pruned k f) t) (newer w (pruned k f) t) (changes_along w e (pruned k f))) d.same (subst (snap (older w (pruned k f) (pruned k g)) (newer w (pruned k f) (pruned k g))) (sym d.turns) ends),
             subst (λ t. Lies w new names false c (next_bound w high b) t es bs) d.same rest,
           ),
         )
@@ -255,8 +255,8 @@ module _ (k : ℕ → Bool) where
         let bound' = led_bounded w e f h.0.0 bound in
         let here : (p : Places) → view_at names (pruned k f) p ≡ view_at names f p = λ p. view-pruned f p prunes is bound in
         let there : (p : Places) → view_at names g' p ≡ view_at names g p = λ p. ap (λ t. view_at names t p) (sym d.same) ∙ view-pruned g p d.prunes is' bound' in
-        let was = at_older (λ t u. view_at names t b.sides.before ≡ view_at names u b.sides.before) w (pruned k f) g' f g (here b.sides.before) (there b.sides.before) in
-        let now = at_newer (λ t u. view_at names t b.sides.after ≡ view_at names u b.sides.after) w (pruned k f) g' f g (here b.sides.after) (there b.sides.after) in
-        let used_is = used_down w b.sides.first_label e f prunes detached.0 d in
+        let was = at_older (λ t u. view_at names t b.span.before ≡ view_at names u b.span.before) w (pruned k f) g' f g (here b.span.before) (there b.span.before) in
+        let now = at_newer (λ t u. view_at names t b.span.after ≡ view_at names u b.span.after) w (pruned k f) g' f g (here b.span.after) (there b.span.after) in
+        let used_is = used_down w b.span.first_label e f prunes detached.0 d in
         let rest = ap (λ t. entries w names t es bs) (sym d.same) ∙ entries-pruned w false (next_bound w high b) g es bs d.prunes is' bound' (entries_moved f g d.stays es detached.1) h.1.1 in
         λ i. record { before = was i; after = now i; edits = d.edits i; made = used_is i } ∷ rest i

@@ -15,7 +15,7 @@ use Rattle.node_arena.specs.declared.NodeRef.{NodeRef}
 use Rattle.edit_doc.specs.declared.Doc.TheInside.{Inside}
 use Rattle.edit_doc.specs.declared.command.EntrySnapshot.{EntrySnapshot}
 use Rattle.edit_doc.specs.declared.command.Command.{Command}
-use Rattle.edit_doc.specs.Fields.{made_sides}
+use Rattle.edit_doc.specs.Fields.{made_span}
 use Rattle.edit_doc.specs.GivingUp.{loose_roots}
 use Rattle.edit_model.specs.History.{used}
 use Rattle.edit_doc.specs.History.{edits_before, roots_from, forest_before, is_hidden, view_at, undo_entries}
@@ -35,13 +35,13 @@ undo-take held names c zero high f es bs h = tt
 undo-take held names c (suc n) high f [] [] h = tt
 undo-take held names c (suc n) high f [] (b ∷ bs) h = absurd h
 undo-take held names c (suc n) high f (e ∷ es) [] h = absurd h
-undo-take held names c (suc n) high f (e ∷ es) (b ∷ bs) h = (h.0, (h.1.0, undo-take held names c n b.sides.first_label (forest_before e f) es bs h.1.1))
+undo-take held names c (suc n) high f (e ∷ es) (b ∷ bs) h = (h.0, (h.1.0, undo-take held names c n b.span.first_label (forest_before e f) es bs h.1.1))
 
 pub undo_entries-take : (names : List (List ℕ)) (n : ℕ) (f : Forest Content) (es : List (List Step)) (bs : List EntrySnapshot) → undo_entries names f (take n es) (take n bs) ≡ take n (undo_entries names f es bs)
 undo_entries-take names zero f es bs = refl
 undo_entries-take names (suc n) f [] bs = refl
 undo_entries-take names (suc n) f (e ∷ es) [] = refl
-undo_entries-take names (suc n) f (e ∷ es) (b ∷ bs) = ap (λ r. record { before = view_at names (forest_before e f) b.sides.before; after = view_at names f b.sides.after; edits = edits_before e f; made = used (edits_before e f) (roots_from b.sides.first_label (forest_before e f)) } ∷ r) (undo_entries-take names n (forest_before e f) es bs)
+undo_entries-take names (suc n) f (e ∷ es) (b ∷ bs) = ap (λ r. record { before = view_at names (forest_before e f) b.span.before; after = view_at names f b.span.after; edits = edits_before e f; made = used (edits_before e f) (roots_from b.span.first_label (forest_before e f)) } ∷ r) (undo_entries-take names n (forest_before e f) es bs)
 
 module _ (d : Inside) (ending : Ending d) where
   abbrev steps : List Step
@@ -54,7 +54,7 @@ module _ (d : Inside) (ending : Ending d) where
   below_next ls h = each_of (IsLeft (is_hidden before d.command.start) d.tree.nodes.arena.trees) (λ l. l < d.tree.nodes.arena.next) ls (λ l t. ending.during.law.below l (let le = count_of-pruned (is_hidden before d.command.start) d.tree.nodes.arena.trees l in omega (arith, le, t))) h
 
   -- an entry that the command began
-  pub made_snapshot : (b : EntrySnapshot) (detached : List NodeRef) → detached ≡ loose_roots d.tree.nodes.arena.trees d.command.detached.items → b.sides ≡ made_sides d.command ending.places d.tree.nodes.counts →
+  pub made_snapshot : (b : EntrySnapshot) (detached : List NodeRef) → detached ≡ loose_roots d.tree.nodes.arena.trees d.command.detached.items → b.span ≡ made_span d.command ending.places d.tree.nodes.counts →
       IsSnapshot d.tree.points.names before d.tree.nodes.arena.trees steps (inverses_back applied inverse (changes_of steps) d.tree.nodes.arena.trees) b detached d.tree.nodes.arena.next d.tree.nodes.arena.next
   made_snapshot b detached none same =
       let f = d.tree.nodes.arena.trees in
@@ -62,7 +62,7 @@ module _ (d : Inside) (ending : Ending d) where
       let k = is_hidden before d.command.start in
       let ts = inverses_back applied inverse (changes_of steps) f in
       let gd : GoBackDown k (changes_of steps) f = back_down k (changes_of steps) f (prunes_after before f d.command.start (forest_of d.tree.nodes.arena ending.during.law) ending.during.ok.hidden) r.can.0 r.names_there in
-      let b1 : EntrySnapshot = record b { sides = made_sides d.command ending.places d.tree.nodes.counts } in
+      let b1 : EntrySnapshot = record b { span = made_span d.command ending.places d.tree.nodes.counts } in
       let roots = loose_roots f d.command.detached.items in
       let own : IsSnapshot d.tree.points.names before f steps ts b1 roots d.tree.nodes.arena.next d.tree.nodes.arena.next = record {
         was = r.kept;

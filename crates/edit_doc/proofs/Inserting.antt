@@ -19,7 +19,7 @@ use Rattle.forest_changes.specs.Down.{IsLeft}
 use Rattle.forest_changes.proofs.PrunedChanges.{CanPut-pruned}
 use Rattle.forest_changes.proofs.Twice.{forest_of}
 use Rattle.edit_steps.specs.declared.step.Step.{Step}
-use Rattle.edit_steps.specs.declared.step.Step.TheVariants.{Link}
+use Rattle.edit_steps.specs.declared.step.Step.TheVariants as step
 use Rattle.edit_steps.specs.Step.{StepFits, change_of, step_applied, step_inverse}
 use Rattle.edit_model.specs.declared.settings.Setting.{Setting}
 use Rattle.edit_model.specs.State.{State}
@@ -31,7 +31,7 @@ use Rattle.edit_model.specs.Possible.{freed}
 use Rattle.edit_model.proofs.ValidParts.{valid_freed}
 use Rattle.edit_model.proofs.Fitting.{fits-insert}
 use Rattle.edit_model.proofs.Tests.{Inserts, inserts}
-use Rattle.edit_parts.specs.Following.{settled}
+use Rattle.edit_parts.specs.Following.{unset_if_range_changed}
 use Rattle.edit_parts.specs.declared.Counts.{Counts}
 use Rattle.edit_doc.specs.declared.Doc.TheInside.{Inside}
 use Rattle.edit_doc.specs.declared.command.Command.{Command}
@@ -81,7 +81,7 @@ module _ (d : Inside) (v : Whole) (is : seen d ≡ v) (law : IsArena d.tree.node
   n = node.label
 
   abbrev x : Step
-  x = Link node parent before
+  x = step.Insert node parent before
 
   made : is_made_edit (Insert p b n) (freed v.state) ≡ true
   made = subst (λ o. is_made_edit (Insert p o n) (freed v.state) ≡ true) (sym (labels_same before)) may
@@ -99,7 +99,7 @@ module _ (d : Inside) (v : Whole) (is : seen d ≡ v) (law : IsArena d.tree.node
   can : CanPut f p b n
   can = CanPut-pruned (out_of d) f p b n (forest_of d.tree.nodes.arena law) told.can
 
-  pub fits : StepFits (Link node parent before) d.tree.nodes.arena
+  pub fits : StepFits (step.Insert node parent before) d.tree.nodes.arena
   fits = link_fits d v is law slotted node parent before node_held parent_held before_held told.can bears
 
   index_is : index_of (link f p b n) n ≡ index_before g p b
@@ -146,7 +146,7 @@ module _ (d : Inside) (v : Whole) (is : seen d ≡ v) (law : IsArena d.tree.node
   seen_place : Each (IsLeft (out_of d) d.tree.nodes.arena.trees) (named (change_of x))
   seen_place = place_seen d v is law slotted node parent before node_held parent_held before_held
 
-  module _ (arena : Arena) (arena_is : arena ≡ step_applied (Link node parent before) d.tree.nodes.arena) where
+  module _ (arena : Arena) (arena_is : arena ≡ step_applied (step.Insert node parent before) d.tree.nodes.arena) where
     trees_here : arena.trees ≡ link f p b n
     unfolding step_applied applied
     trees_here = ap (λ (a : Arena). a.trees) arena_is
@@ -169,7 +169,7 @@ module _ (d : Inside) (v : Whole) (is : seen d ≡ v) (law : IsArena d.tree.node
       unfolding applied
       placed = subst (λ t. IsPlaced t points) (sym trees_here) (subst (IsPlaced (link f p b n)) (sym points_here) (points_next d v is law now_open ok (Insert p b n) x fits seen_place made trees_is))
 
-      module _ (overrides : List Setting) (overrides_are : overrides ≡ settled f d.tree.points arena.trees points d.tree.overrides) (c : Command) (m : Marks (place_labels node parent before) d.command c) (trail : Trail) (trail_is : trail ≡ with_note d.history (step_inverse x d.tree.nodes.arena)) where
+      module _ (overrides : List Setting) (overrides_are : overrides ≡ unset_if_range_changed f d.tree.points arena.trees points d.tree.overrides) (c : Command) (m : Marks (place_labels node parent before) d.command c) (trail : Trail) (trail_is : trail ≡ with_note d.history (step_inverse x d.tree.nodes.arena)) where
         makes : Makes d (Insert p b n) x points overrides c
         unfolding applied edit_change
         makes = record {
@@ -180,7 +180,7 @@ module _ (d : Inside) (v : Whole) (is : seen d ≡ v) (law : IsArena d.tree.node
           change = refl;
           trees = trees_is;
           points_are = points_here;
-          overrides_are = overrides_are ∙ ((λ i. settled f d.tree.points (trees_here i) (points_here i) d.tree.overrides) ∙ settled_after d v is law now_open ok (Insert p b n) x fits seen_place made trees_is);
+          overrides_are = overrides_are ∙ ((λ i. unset_if_range_changed f d.tree.points (trees_here i) (points_here i) d.tree.overrides) ∙ settled_after d v is law now_open ok (Insert p b n) x fits seen_place made trees_is);
         }
 
         pub link_done : Applied d v (Insert p (label_of before) n) arena points overrides c trail

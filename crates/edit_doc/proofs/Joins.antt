@@ -22,9 +22,9 @@ use Rattle.edit_model.specs.State.{State}
 use Rattle.edit_model.specs.History.{used, joined_in, joined as joined_history, recorded, rested}
 use Rattle.edit_doc.specs.declared.Doc.TheInside.{Inside}
 use Rattle.edit_doc.specs.declared.command.EntrySnapshot.{EntrySnapshot}
-use Rattle.edit_doc.specs.declared.command.Sides.{Sides}
+use Rattle.edit_doc.specs.declared.command.EntrySpan.{EntrySpan}
 use Rattle.edit_doc.specs.declared.command.Command.{Command}
-use Rattle.edit_doc.specs.Fields.{IsEnded, EntersIn, Enters, made_sides, joined_sides}
+use Rattle.edit_doc.specs.Fields.{IsEnded, EntersIn, Enters, made_span, joined_span}
 use Rattle.edit_doc.specs.GivingUp.{loose_roots}
 use Rattle.edit_doc.specs.Whole.{Whole, history_committed, committed_history}
 use Rattle.edit_doc.specs.History.{forest_before, edits_before, roots_from, is_hidden, begun_forest, state_of, began_with, history_of, undo_entries, redo_entries, view_at}
@@ -102,7 +102,7 @@ module _ (d : Inside) (ending : Ending d) (c : Command) (ended : IsEnded d.tree.
   -- the entry that the command resumed, with its steps
   module _ (e : List Step) (b b' : EntrySnapshot) (detached : List NodeRef) (up : ℕ) (le : up ≤ d.command.start) (can : CanGoBack d.tree.nodes.arena.held e begun)
       (was : IsSnapshot d.tree.points.names (forest_before e begun) begun e (inverses_back applied inverse (changes_of e) begun) b detached up d.command.start)
-      (same : b'.sides ≡ joined_sides b.sides ending.places d.tree.nodes.counts) (detached_is : b'.detached.items ≡ detached_now) (taken : detached ≡ take d.command.detached_before d.command.detached.items) where
+      (same : b'.span ≡ joined_span b.span ending.places d.tree.nodes.counts) (detached_is : b'.detached.items ≡ detached_now) (taken : detached ≡ take d.command.detached_before d.command.detached.items) where
     abbrev both : List Step
     both = e ++ steps
 
@@ -113,18 +113,18 @@ module _ (d : Inside) (ending : Ending d) (c : Command) (ended : IsEnded d.tree.
     can_both = can_join d.tree.nodes.arena.held e steps now (run d ending.during).can can
 
     abbrev k : ℕ → Bool
-    k = is_hidden first b.sides.first_label
+    k = is_hidden first b.span.first_label
 
     abbrev hid : ℕ → Bool
     hid = is_hidden begun d.command.start
 
-    first_low : b.sides.first_label ≤ d.command.start
+    first_low : b.span.first_label ≤ d.command.start
     first_low = (let t = was.drawn in omega arith)
 
     -- what the entry's commands didn't see, the last of them didn't see
     hidden_more : (l : ℕ) → k l ≡ true → is_hidden begun d.command.start l ≡ true
     hidden_more l t =
-        let h = hidden_is first b.sides.first_label l t in
+        let h = hidden_is first b.span.first_label l t in
         is_hidden_from begun d.command.start l (record { inner = h.inner; old = (let o = h.old in let low = first_low in omega (arith, o, low)); root = was.hidden l t })
 
     roots : (l : ℕ) → k l ≡ true → 0 < times (tops now) l
@@ -134,13 +134,13 @@ module _ (d : Inside) (ending : Ending d) (c : Command) (ended : IsEnded d.tree.
     last_there = each_of (IsLeft (is_hidden begun d.command.start) now) (IsLeft k now) (named_in (changes_of steps)) (λ l t. (let m = pruned_more (is_hidden begun d.command.start) k now l hidden_more in omega (arith, m, t))) (run d ending.during).names_there
 
     last_down : GoBackDown k (changes_of steps) now
-    last_down = back_down k (changes_of steps) now (prunes_after first now b.sides.first_label (forest_of d.tree.nodes.arena ending.during.law) roots) (run d ending.during).can.0 last_there
+    last_down = back_down k (changes_of steps) now (prunes_after first now b.span.first_label (forest_of d.tree.nodes.arena ending.during.law) roots) (run d ending.during).can.0 last_there
 
     there : Each (IsLeft k now) (named_in (changes_of both))
     there = each_named (IsLeft k now) e steps (each_of (IsLeft k begun) (IsLeft k now) (named_in (changes_of e)) (λ l t. (let s = last_down.stays l in omega (arith, s, t))) was.names_there) last_there
 
     down : GoBackDown k (changes_of both) now
-    down = back_down k (changes_of both) now (prunes_after first now b.sides.first_label (forest_of d.tree.nodes.arena ending.during.law) roots) can_both.0 there
+    down = back_down k (changes_of both) now (prunes_after first now b.span.first_label (forest_of d.tree.nodes.arena ending.during.law) roots) can_both.0 there
 
     below : (ls : List ℕ) → Each (IsLeft k now) ls → Each (λ l. l < d.tree.nodes.arena.next) ls
     below ls h = each_of (IsLeft k now) (λ l. l < d.tree.nodes.arena.next) ls (λ l t. ending.during.law.below l (let m = count_of-pruned k now l in omega (arith, m, t))) h
@@ -148,7 +148,7 @@ module _ (d : Inside) (ending : Ending d) (c : Command) (ended : IsEnded d.tree.
     abbrev turns : List Change
     turns = inverses_back applied inverse (changes_of both) now
 
-    own : IsSnapshot d.tree.points.names first now both turns (record b { sides = joined_sides b.sides ending.places d.tree.nodes.counts }) detached_now d.tree.nodes.arena.next d.tree.nodes.arena.next
+    own : IsSnapshot d.tree.points.names first now both turns (record b { span = joined_span b.span ending.places d.tree.nodes.counts }) detached_now d.tree.nodes.arena.next d.tree.nodes.arena.next
     own = record {
       was = was.was;
       is = record {
@@ -189,12 +189,12 @@ module _ (d : Inside) (ending : Ending d) (c : Command) (ended : IsEnded d.tree.
         subst (λ n. IsSnapshot d.tree.points.names (forest_before both now) now both turns b' b'.detached.items d.tree.nodes.arena.next n) (sym ended.start)
         (subst (λ h. IsSnapshot d.tree.points.names h now both turns b' b'.detached.items d.tree.nodes.arena.next d.tree.nodes.arena.next) (sym (before_join e steps now))
         (subst (λ ls. IsSnapshot d.tree.points.names first now both turns b' ls d.tree.nodes.arena.next d.tree.nodes.arena.next) (sym detached_is)
-        (snapshot_of d.tree.points.names first now both turns (record b { sides = joined_sides b.sides ending.places d.tree.nodes.counts }) b' detached_now d.tree.nodes.arena.next d.tree.nodes.arena.next (sym same) own)))
+        (snapshot_of d.tree.points.names first now both turns (record b { span = joined_span b.span ending.places d.tree.nodes.counts }) b' detached_now d.tree.nodes.arena.next d.tree.nodes.arena.next (sym same) own)))
 
   start_le : d.command.start ≤ c.start
   start_le = (let s = ended.start in let t = ending.during.ok.valid.started in omega (arith, s, t))
 
-  joined_undo : (up room : ℕ) (s : Sides) (es : List (List Step)) (bs new : List EntrySnapshot) (out : Option EntrySnapshot) → up ≤ d.command.start → EntersIn true s detached_now ending.places d.tree.nodes.counts room bs new out →
+  joined_undo : (up room : ℕ) (s : EntrySpan) (es : List (List Step)) (bs new : List EntrySnapshot) (out : Option EntrySnapshot) → up ≤ d.command.start → EntersIn true s detached_now ending.places d.tree.nodes.counts room bs new out →
       UndoSound d.tree.nodes.arena.held d.tree.points.names true d.command up begun es bs → UndoSound d.tree.nodes.arena.held d.tree.points.names false c d.tree.nodes.arena.next now (joined es steps) new
   joined_undo up room s es [] new out le enters h = absurd enters
   joined_undo up room s es (b ∷ bs) [] out le enters h = absurd enters
@@ -202,15 +202,15 @@ module _ (d : Inside) (ending : Ending d) (c : Command) (ended : IsEnded d.tree.
   joined_undo up room s (e ∷ es) (b ∷ bs) (b' ∷ bs') out le enters h =
       let same = enters.1.0 in
       let first : Forest Content = forest_before e begun in
-      let low : b.sides.first_label ≤ d.command.start = (let t = h.1.0.drawn in omega arith) in
-      let rest : UndoSound d.tree.nodes.arena.held d.tree.points.names false c b.sides.first_label first es bs = undo_later d.tree.nodes.arena.held d.tree.points.names d.command c start_le b.sides.first_label b.sides.first_label first es bs (omega arith) (let t = start_le in omega arith) h.1.1 in
+      let low : b.span.first_label ≤ d.command.start = (let t = h.1.0.drawn in omega arith) in
+      let rest : UndoSound d.tree.nodes.arena.held d.tree.points.names false c b.span.first_label first es bs = undo_later d.tree.nodes.arena.held d.tree.points.names d.command c start_le b.span.first_label b.span.first_label first es bs (omega arith) (let t = start_le in omega arith) h.1.1 in
       let detached = take d.command.detached_before d.command.detached.items in (
         can_both e b b' detached up le h.0 h.1.0 same enters.1.1.0 refl,
         (
           joined_snapshot e b b' detached up le h.0 h.1.0 same enters.1.1.0 refl,
-          subst (λ (t : Sides). UndoSound d.tree.nodes.arena.held d.tree.points.names false c t.first_label (forest_before (e ++ steps) now) es bs') (sym same)
-              (subst (λ t. UndoSound d.tree.nodes.arena.held d.tree.points.names false c b.sides.first_label t es bs') (sym (before_join e steps now))
-              (subst (λ cs. UndoSound d.tree.nodes.arena.held d.tree.points.names false c b.sides.first_label first es cs) (sym enters.0) rest)),
+          subst (λ (t : EntrySpan). UndoSound d.tree.nodes.arena.held d.tree.points.names false c t.first_label (forest_before (e ++ steps) now) es bs') (sym same)
+              (subst (λ t. UndoSound d.tree.nodes.arena.held d.tree.points.names false c b.span.first_label t es bs') (sym (before_join e steps now))
+              (subst (λ cs. UndoSound d.tree.nodes.arena.held d.tree.points.names false c b.span.first_label first es cs) (sym enters.0) rest)),
         ),
       )
 
@@ -248,7 +248,7 @@ module _ (d : Inside) (ending : Ending d) (c : Command) (ended : IsEnded d.tree.
         let gd : GoBackDown k (changes_of steps) now = back_down k (changes_of steps) now prunes r.can.0 r.names_there in
         prunes.out l (listed_has (IsLeft k now) (named_in ys) l gd.names t)
 
-    named_before : (l : ℕ) → 0 < times (tops G) l → b.sides.first_label ≤ l → l < d.command.start → has_label (named_in ys) l ≡ true → has_label (named_in ts) l ≡ true
+    named_before : (l : ℕ) → 0 < times (tops G) l → b.span.first_label ≤ l → l < d.command.start → has_label (named_in ys) l ≡ true → has_label (named_in ts) l ≡ true
     named_before l top from lt t = elim (true_or_false (has_label (named_in ts) l)) [
       | inl own ↦ own
       | inr off ↦ absurd (
@@ -257,24 +257,24 @@ module _ (d : Inside) (ending : Ending d) (c : Command) (ended : IsEnded d.tree.
           let u : true ≡ false = sym hid ∙ seen_last l t in cc)
     ]
 
-    pub joined_nodes : used (edits_before (e ++ steps) now) (roots_from b.sides.first_label (forest_before (e ++ steps) now)) ≡ used ts (roots_from b.sides.first_label G) ++ used ys (roots_from d.command.start begun)
+    pub joined_nodes : used (edits_before (e ++ steps) now) (roots_from b.span.first_label (forest_before (e ++ steps) now)) ≡ used ts (roots_from b.span.first_label G) ++ used ys (roots_from d.command.start begun)
     joined_nodes =
-        let first : b.sides.first_label ≤ d.command.start = (let t = was.drawn in omega (arith, t, le)) in
-        (λ i. used (edits-join e steps now i) (roots_from b.sides.first_label (before_join e steps now i)))
-        ∙ (used-join ts ys b.sides.first_label d.command.start first old_edits 0 G (back_forest (changes_of e) begun can.0 (forest_g d ending.during)).rising named_before
-        ∙ ap (λ r. used ts (roots_from b.sides.first_label G) ++ used ys r) (roots-back d.command.start (changes_of e) begun old_steps))
+        let first : b.span.first_label ≤ d.command.start = (let t = was.drawn in omega (arith, t, le)) in
+        (λ i. used (edits-join e steps now i) (roots_from b.span.first_label (before_join e steps now i)))
+        ∙ (used-join ts ys b.span.first_label d.command.start first old_edits 0 G (back_forest (changes_of e) begun can.0 (forest_g d ending.during)).rising named_before
+        ∙ ap (λ r. used ts (roots_from b.span.first_label G) ++ used ys r) (roots-back d.command.start (changes_of e) begun old_steps))
 
-  joined_entries : (up room : ℕ) (s : Sides) (es : List (List Step)) (bs new : List EntrySnapshot) (out : Option EntrySnapshot) → up ≤ d.command.start → EntersIn true s detached_now ending.places d.tree.nodes.counts room bs new out →
+  joined_entries : (up room : ℕ) (s : EntrySpan) (es : List (List Step)) (bs new : List EntrySnapshot) (out : Option EntrySnapshot) → up ≤ d.command.start → EntersIn true s detached_now ending.places d.tree.nodes.counts room bs new out →
       UndoSound d.tree.nodes.arena.held d.tree.points.names true d.command up begun es bs →
       undo_entries d.tree.points.names now (joined es steps) new ≡ joined_in (state_now d ending) (undo_entries d.tree.points.names begun es bs)
   joined_entries up room s es [] new out le enters h = absurd enters
   joined_entries up room s es (b ∷ bs) [] out le enters h = absurd enters
   joined_entries up room s [] (b ∷ bs) (b' ∷ bs') out le enters h = refl
   joined_entries up room s (e ∷ es) (b ∷ bs) (b' ∷ bs') out le enters h =
-      let first_is : b'.sides.first_label ≡ b.sides.first_label = ap (λ (t : Sides). t.first_label) enters.1.0 in
+      let first_is : b'.span.first_label ≡ b.span.first_label = ap (λ (t : EntrySpan). t.first_label) enters.1.0 in
       let nodes = ap (λ n. used (edits_before (e ++ steps) now) (roots_from n (forest_before (e ++ steps) now))) first_is ∙ joined_nodes e b (take d.command.detached_before d.command.detached.items) up le h.0 h.1.0 in
       let join = before_join e steps now in
-      let after = ap (λ (t : Sides). view_at d.tree.points.names now t.after) enters.1.0 ∙ view_now d ending in
+      let after = ap (λ (t : EntrySpan). view_at d.tree.points.names now t.after) enters.1.0 ∙ view_now d ending in
       λ i. record {
         before = view_at d.tree.points.names (join i) (enters.1.0 i).before;
         after = after i;
@@ -283,13 +283,13 @@ module _ (d : Inside) (ending : Ending d) (c : Command) (ended : IsEnded d.tree.
       } ∷ undo_entries d.tree.points.names (join i) es (enters.0 i)
 
   module _ (resumed : is_resumed d.history.log.open_entry ≡ true) (us : List EntrySnapshot) (out : Option EntrySnapshot) (enters : Enters d.command (loose_roots d.tree.nodes.arena.trees d.command.detached.items) ending.places d.tree.nodes.counts d.history.log.depth d.history.past us out) where
-    pub entering : EntersIn true (made_sides d.command ending.places d.tree.nodes.counts) detached_now ending.places d.tree.nodes.counts d.history.log.depth d.history.past us out
-    entering = subst (λ r. EntersIn r (made_sides d.command ending.places d.tree.nodes.counts) detached_now ending.places d.tree.nodes.counts d.history.log.depth d.history.past us out) (ending.during.ok.resumed ∙ resumed) enters
+    pub entering : EntersIn true (made_span d.command ending.places d.tree.nodes.counts) detached_now ending.places d.tree.nodes.counts d.history.log.depth d.history.past us out
+    entering = subst (λ r. EntersIn r (made_span d.command ending.places d.tree.nodes.counts) detached_now ending.places d.tree.nodes.counts d.history.log.depth d.history.past us out) (ending.during.ok.resumed ∙ resumed) enters
 
     pub joined_sound : UndoSound d.tree.nodes.arena.held d.tree.points.names false c d.tree.nodes.arena.next now (joined d.history.log.undo steps) us
     joined_sound =
         let up = high d ending in
-        joined_undo up d.history.log.depth (made_sides d.command ending.places d.tree.nodes.counts) d.history.log.undo d.history.past us out (high_le d ending) entering
+        joined_undo up d.history.log.depth (made_span d.command ending.places d.tree.nodes.counts) d.history.log.undo d.history.past us out (high_le d ending) entering
         (subst (λ r. UndoSound d.tree.nodes.arena.held d.tree.points.names r d.command up begun d.history.log.undo d.history.past) (ending.during.ok.resumed ∙ resumed) ending.during.ok.undo)
 
     pub joined_history_is : d.history.log.redo ≡ [] → 0 < length steps → (v : Whole) → seen d ≡ v →
@@ -297,7 +297,7 @@ module _ (d : Inside) (ending : Ending d) (c : Command) (ended : IsEnded d.tree.
     unfolding history_committed
     joined_history_is nothing some v sees =
         (λ i. record {
-          undo = joined_entries (high d ending) d.history.log.depth (made_sides d.command ending.places d.tree.nodes.counts) d.history.log.undo d.history.past us out (high_le d ending) entering
+          undo = joined_entries (high d ending) d.history.log.depth (made_span d.command ending.places d.tree.nodes.counts) d.history.log.undo d.history.past us out (high_le d ending) entering
               (subst (λ r. UndoSound d.tree.nodes.arena.held d.tree.points.names r d.command (high d ending) begun d.history.log.undo d.history.past) (ending.during.ok.resumed ∙ resumed) ending.during.ok.undo) i;
           redo = (ap (λ es. redo_entries d.tree.points.names now es []) nothing ∙ sym (ap (λ es. redo_entries d.tree.points.names begun es d.history.future) nothing)) i;
           depth = d.history.log.depth;

@@ -55,7 +55,7 @@ module _ (held : List (Option ℕ)) (names : List (List ℕ)) (c : Command) wher
   lead_back : (r : Bool) (high : ℕ) (f : Forest Content) (es : List (List Step)) (bs : List EntrySnapshot) → UndoSound held names r c high f es bs → LeadAllBack f (map changes_of es) (undo_entries names f es bs)
   lead_back r high f [] bs h = tt
   lead_back r high f (e ∷ es) [] h = absurd h
-  lead_back r high f (e ∷ es) (b ∷ bs) h = (record { fits = h.0.0; own = refl; after = refl; before = refl }, lead_back false b.sides.first_label (forest_before e f) es bs h.1.1)
+  lead_back r high f (e ∷ es) (b ∷ bs) h = (record { fits = h.0.0; own = refl; after = refl; before = refl }, lead_back false b.span.first_label (forest_before e f) es bs h.1.1)
 
   lead_forth : (f : Forest Content) (es : List (List Step)) (bs : List EntrySnapshot) → RedoSound held names c f es bs → LeadAllForth f (map changes_of es) (redo_entries names f es bs)
   lead_forth f [] bs h = tt

@@ -106,8 +106,8 @@ module _ (held : List (Option ℕ)) (names : List (List ℕ)) (c d : Command) (l
   undo_later high up f [] (b ∷ bs) more known h = absurd h
   undo_later high up f (e ∷ es) [] more known h = absurd h
   undo_later high up f (e ∷ es) (b ∷ bs) more known h =
-      let first : b.sides.first_label ≤ d.start = (let t = h.1.0.drawn in omega arith) in
-      (h.0, (snapshot_later names (forest_before e f) f e (inverses_back applied inverse (changes_of e) f) b b.detached.items high c.start up d.start h.1.0 more known, undo_later b.sides.first_label b.sides.first_label (forest_before e f) es bs (omega arith) first h.1.1))
+      let first : b.span.first_label ≤ d.start = (let t = h.1.0.drawn in omega arith) in
+      (h.0, (snapshot_later names (forest_before e f) f e (inverses_back applied inverse (changes_of e) f) b b.detached.items high c.start up d.start h.1.0 more known, undo_later b.span.first_label b.span.first_label (forest_before e f) es bs (omega arith) first h.1.1))
 
   next_first_later : (bs : List EntrySnapshot) → next_first c.start bs ≤ next_first d.start bs
   next_first_later [] = le

@@ -61,22 +61,22 @@ module _ (names : List (List ℕ)) where
   -- an entry as the history shows it
   abbrev shown : List Step → Forest Content → EntrySnapshot → Entry
   shown e f b = record {
-    before = view_at names (forest_before e f) b.sides.before;
-    after = view_at names f b.sides.after;
+    before = view_at names (forest_before e f) b.span.before;
+    after = view_at names f b.span.after;
     edits = edits_before e f;
-    made = used (edits_before e f) (roots_from b.sides.first_label (forest_before e f));
+    made = used (edits_before e f) (roots_from b.span.first_label (forest_before e f));
   }
 
   record Leads (e : List Step) (f : Forest Content) (b : EntrySnapshot) (high : ℕ) : Type 0 where
     forest : IsForest (forest_before e f)
-    old : IsBelow (document_of (forest_before e f)) b.sides.first_label
-    onward : LeadsOnward b.sides.first_label (document_of (forest_before e f)) (shown e f b)
-    past : next_past b.sides.first_label (shown e f b).made ≤ high
+    old : IsBelow (document_of (forest_before e f)) b.span.first_label
+    onward : LeadsOnward b.span.first_label (document_of (forest_before e f)) (shown e f b)
+    past : next_past b.span.first_label (shown e f b).made ≤ high
 
   entry_leads : (e : List Step) (f : Forest Content) (b : EntrySnapshot) (detached : List NodeRef) (high start : ℕ) → IsForest f → FitsBack applied Fits (changes_of e) f
       → IsSnapshot names (forest_before e f) f e (inverses_back applied inverse (changes_of e) f) b detached high start → Leads e f b high
   entry_leads e f b detached high start is fits snapshot =
-      let first = b.sides.first_label in
+      let first = b.span.first_label in
       let ys = changes_of e in
       let xs = inverses_back applied inverse ys f in
       let g = back applied ys f in
@@ -140,8 +140,8 @@ module _ (names : List (List ℕ)) where
     undo_leads r high f (e ∷ es) [] h is bounded low = absurd h
     undo_leads r high f (e ∷ es) (b ∷ bs) h is bounded low =
         let l = entry_leads e f b (detached_of r c b) high c.start is h.0.0 h.1.0 in
-        one_more (undo_entries names (forest_before e f) es bs) (shown e f b) (document_of (forest_before e f)) b.sides.first_label high
-        (undo_leads false b.sides.first_label (forest_before e f) es bs h.1.1 l.forest (back_bounded e f h.0.0 bounded) l.old) l.onward l.past
+        one_more (undo_entries names (forest_before e f) es bs) (shown e f b) (document_of (forest_before e f)) b.span.first_label high
+        (undo_leads false b.span.first_label (forest_before e f) es bs h.1.1 l.forest (back_bounded e f h.0.0 bounded) l.old) l.onward l.past
 
     -- the document has labels below those of the entries that redo would take
     record Old (f : Forest Content) (bs : List EntrySnapshot) : Type 0 where
@@ -156,7 +156,7 @@ module _ (names : List (List ℕ)) where
         let s = h.1.0 in
         let drawn = s.drawn in
         let known = s.known in
-        record { below = document_old f b.sides.first_label is s.some_label s.fresh; known = omega arith }
+        record { below = document_old f b.span.first_label is s.some_label s.fresh; known = omega arith }
 
 module _ (d : Inside) (law : IsArena d.tree.nodes.arena) (closed : d.history.log.open_entry ≡ Closed) (ok : Ok d) where
   abbrev f : Forest Content

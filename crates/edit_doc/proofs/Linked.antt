@@ -14,7 +14,7 @@ use Rattle.forest_changes.specs.Named.{Each, listed}
 use Rattle.forest_changes.specs.Down.{IsLeft}
 use Rattle.forest_changes.proofs.PrunedChanges.{CanPut-pruned}
 use Rattle.forest_changes.proofs.Twice.{forest_of}
-use Rattle.edit_steps.specs.declared.step.Step.TheVariants.{Link}
+use Rattle.edit_steps.specs.declared.step.Step.TheVariants as step
 use Rattle.edit_steps.specs.Step.{StepFits}
 use Rattle.edit_model.specs.Gives.{label_of}
 use Rattle.edit_doc.specs.declared.Doc.TheInside.{Inside}
@@ -61,7 +61,7 @@ module _ (d : Inside) (v : Whole) (is : seen d ≡ v) (law : IsArena d.tree.node
   pub place_seen : Each (IsLeft (out_of d) d.tree.nodes.arena.trees) (node.label ∷ parent.label ∷ listed (label before))
   place_seen = ((held_seen d v is node node_held).here, ((held_seen d v is parent parent_held).here, (before_parts before before_held).1))
 
-  pub link_fits : CanPut (pruned (out_of d) d.tree.nodes.arena.trees) parent.label (label before) node.label → is_parent_at d.tree.nodes.arena.trees parent.label ≡ true → StepFits (Link node parent before) d.tree.nodes.arena
+  pub link_fits : CanPut (pruned (out_of d) d.tree.nodes.arena.trees) parent.label (label before) node.label → is_parent_at d.tree.nodes.arena.trees parent.label ≡ true → StepFits (step.Insert node parent before) d.tree.nodes.arena
   link_fits can bears = record {
     fits = record { forest = forest_of d.tree.nodes.arena law; here = record { place = CanPut-pruned (out_of d) d.tree.nodes.arena.trees parent.label (label before) node.label (forest_of d.tree.nodes.arena law) can; parent = bears } };
     slotted = slotted;

@@ -51,17 +51,17 @@ module _ (d : Inside) (v : Whole) (sees : seen d ≡ v) (law : IsArena d.tree.no
   next_in (x ∷ es) (y ∷ bs) h is e at =
       let here : Some x ≡ Some e = at in
       let same : x ≡ e = cc in
-      subst (λ z. Next z y.sides.first_label (next_first d.command.start bs)) same own
+      subst (λ z. Next z y.span.first_label (next_first d.command.start bs)) same own
     where
-      own : Next x y.sides.first_label (next_first d.command.start bs)
+      own : Next x y.span.first_label (next_first d.command.start bs)
       own = record {
         order = h.1.0.drawn;
         fresh = h.1.0.fresh;
         within = h.1.0.names_old;
         held = h.0.1;
         value = λ entry eq. (
-            let made = used (changes_of x) (roots_from y.sides.first_label f) in
-            let seen = contents_seen f (forest_of d.tree.nodes.arena law) d.tree.nodes.arena.next y.sides.first_label law.below h.1.0.fresh (changes_of x) h.1.0.names_seen in
+            let made = used (changes_of x) (roots_from y.span.first_label f) in
+            let seen = contents_seen f (forest_of d.tree.nodes.arena law) d.tree.nodes.arena.next y.span.first_label law.below h.1.0.fresh (changes_of x) h.1.0.names_seen in
             ap (λ es. option_map logged_entry (slice_get es 0)) is
             ∙ ap Some (ap (λ es. record { made = map made_node made; edits = es }) (edits_same _ (content_of f) (changes_of x) seen) ∙ sym eq));
       }

@@ -206,7 +206,7 @@ edit_same A B (Remove n) h = refl
 edit_same A B (Insert n p b) h = refl
 edit_same A B (Move n p b) h = refl
 edit_same A B (SetText n words) h = refl
-edit_same A B (SetAttributes n list) h = ap (λ o. LoggedEdit.Attributes n (element_name o) list) h.0
+edit_same A B (SetAttributes n list) h = ap (λ o. LoggedEdit.SetAttributes n (element_name o) list) h.0
 
 -- edits where each node that is named has the same content
 pub edits_same : (A B : ℕ → Option Content) (xs : List Change) → Each (λ l. A l ≡ B l) (named_in xs) → map (logged_edit A) xs ≡ map (logged_edit B) xs

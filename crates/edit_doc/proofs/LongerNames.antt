@@ -27,7 +27,7 @@ use Rattle.edit_doc.specs.Whole.{Whole, with_state}
 use Rattle.edit_doc.specs.declared.history.Way.{Way}
 use Rattle.edit_doc.specs.History.{roots_from, begun_forest, begun_state, began_with, seen_trees, state_of, view_at, history_of, whole_of, led, older, newer, edits_of, entries}
 use Rattle.edit_doc.specs.declared.history.Way.TheVariants.{Back, Forth}
-use Rattle.edit_doc.specs.Sound.{IsSide, IsSnapshot, detached_of, next_first, OpenSound, IsSoundDoc, Lies, turned, bound_of, next_bound}
+use Rattle.edit_doc.specs.Sound.{IsSide, IsSnapshot, detached_of, next_first, OpenSound, IsSoundDoc, Lies, changes_along, bound_of, next_bound}
 use Rattle.edit_doc.specs.Live.{live}
 use Rattle.edit_doc.proofs.Inner.{seen, Ok}
 
@@ -87,8 +87,8 @@ module _ (old new : List (List ℕ)) (h : AreLonger old new) where
   snapshot_longer : (before after : Forest Content) (e : List Step) (ts : List Change) (b : EntrySnapshot) (detached : List NodeRef) (high start : ℕ) →
       IsSnapshot old before after e ts b detached high start → IsSnapshot new before after e ts b detached high start
   snapshot_longer before after e ts b detached high start s = record {
-    was = side_longer before b.sides.before b.sides.nodes_before b.sides.chars_before b.sides.depth_before s.was;
-    is = side_longer after b.sides.after b.sides.nodes_after b.sides.chars_after b.sides.depth_after s.is;
+    was = side_longer before b.span.before b.span.nodes_before b.span.chars_before b.span.depth_before s.was;
+    is = side_longer after b.span.after b.span.nodes_after b.span.chars_after b.span.depth_after s.is;
     some_label = s.some_label;
     fresh = s.fresh;
     drawn = s.drawn;
@@ -114,17 +114,17 @@ module _ (old new : List (List ℕ)) (h : AreLonger old new) where
     lies_longer w r high f (e ∷ es) [] s = absurd s
     lies_longer w r high f (e ∷ es) (b ∷ bs) s =
         let g = led w e f in
-        (s.0, (snapshot_longer (older w f g) (newer w f g) e (turned w e f) b (detached_of r c b) (bound_of w high c.start bs) c.start s.1.0, lies_longer w false (next_bound w high b) g es bs s.1.1))
+        (s.0, (snapshot_longer (older w f g) (newer w f g) e (changes_along w e f) b (detached_of r c b) (bound_of w high c.start bs) c.start s.1.0, lies_longer w false (next_bound w high b) g es bs s.1.1))
 
     entries_same : (w : Way) (r : Bool) (high : ℕ) (f : Forest Content) (es : List (List Step)) (bs : List EntrySnapshot) → Lies w held old r c high f es bs → entries w new f es bs ≡ entries w old f es bs
     entries_same w r high f [] bs s = refl
     entries_same w r high f (e ∷ es) [] s = refl
     entries_same w r high f (e ∷ es) (b ∷ bs) s =
         let g = led w e f in
-        let was = view_same (older w f g) b.sides.before s.1.0.was.over in
-        let is = view_same (newer w f g) b.sides.after s.1.0.is.over in
+        let was = view_same (older w f g) b.span.before s.1.0.was.over in
+        let is = view_same (newer w f g) b.span.after s.1.0.is.over in
         let rest = entries_same w false (next_bound w high b) g es bs s.1.1 in
-        λ i. record { before = was i; after = is i; edits = edits_of w e f; made = used (edits_of w e f) (roots_from b.sides.first_label (older w f g)) } ∷ rest i
+        λ i. record { before = was i; after = is i; edits = edits_of w e f; made = used (edits_of w e f) (roots_from b.span.first_label (older w f g)) } ∷ rest i
 
 -- ---- a mark is set
 

@@ -29,7 +29,7 @@ use Rattle.forest_changes.specs.Down.{IsLeft}
 use Rattle.forest_changes.proofs.DownChange.{IsForest-pruned, up as goes_up}
 use Rattle.forest_changes.proofs.Twice.{forest_of}
 use Rattle.edit_steps.specs.declared.step.Step.{Step}
-use Rattle.edit_steps.specs.declared.step.Step.TheVariants.{Place}
+use Rattle.edit_steps.specs.declared.step.Step.TheVariants as step
 use Rattle.edit_steps.specs.Step.{StepFits, change_of, step_applied, step_inverse}
 use Rattle.edit_model.specs.declared.settings.Setting.{Setting}
 use Rattle.edit_model.specs.State.{State}
@@ -42,7 +42,7 @@ use Rattle.edit_model.proofs.Forests.{can_go, forest-unlink, parent_at-unlink}
 use Rattle.edit_model.proofs.Made.{parent_is}
 use Rattle.edit_model.proofs.Tests.{Goes, goes, parent_there}
 use Rattle.edit_parts.proofs.Points.{mapped_same}
-use Rattle.edit_parts.specs.Following.{settled, IsFrom}
+use Rattle.edit_parts.specs.Following.{unset_if_range_changed, IsFrom}
 use Rattle.edit_parts.specs.declared.Counts.{Counts}
 use Rattle.edit_doc.specs.declared.Doc.TheInside.{Inside}
 use Rattle.edit_doc.specs.declared.command.Command.{Command}
@@ -200,7 +200,7 @@ module _ (d : Inside) (v : Whole) (is : seen d ≡ v) (law : IsArena d.tree.node
   n = node.label
 
   abbrev x : Step
-  x = Place node parent before
+  x = step.Move node parent before
 
   may_here : may_move v.state n p b ≡ true
   unfolding may_move
@@ -246,7 +246,7 @@ module _ (d : Inside) (v : Whole) (is : seen d ≡ v) (law : IsArena d.tree.node
   inside : is_in_document f n ≡ true → is_in_document f p ≡ true
   inside h = sym (document_seen (shows_of d law (seen d) refl) p) ∙ told.inside (document_seen (shows_of d law (seen d) refl) n ∙ h)
 
-  pub fits : StepFits (Place node parent before) d.tree.nodes.arena
+  pub fits : StepFits (step.Move node parent before) d.tree.nodes.arena
   fits = record { fits = fits_here; slotted = slotted; held = place_held d v is law slotted node parent before node_held parent_held before_held }
 
   seen_place : Each (IsLeft (out_of d) d.tree.nodes.arena.trees) (named (change_of x))
@@ -328,7 +328,7 @@ module _ (d : Inside) (v : Whole) (is : seen d ≡ v) (law : IsArena d.tree.node
   start_index : index_of f n ≡ index_of g n
   start_index = sym (index_seen (shows_of d law (seen d) refl) node node_here)
 
-  module _ (arena : Arena) (arena_is : arena ≡ step_applied (Place node parent before) d.tree.nodes.arena) where
+  module _ (arena : Arena) (arena_is : arena ≡ step_applied (step.Move node parent before) d.tree.nodes.arena) where
     trees_here : arena.trees ≡ link (unlink f n) p b n
     unfolding step_applied applied
     trees_here = ap (λ (a : Arena). a.trees) arena_is
@@ -366,7 +366,7 @@ module _ (d : Inside) (v : Whole) (is : seen d ≡ v) (law : IsArena d.tree.node
       unfolding applied
       placed = subst (λ t. IsPlaced t points) (sym trees_here) (subst (IsPlaced (link (unlink f n) p b n)) (sym points_here) (points_next d v is law now_open ok (Move n p b) x fits seen_place (freed_edit (Move n p b) v.state made) trees_is))
 
-      module _ (overrides : List Setting) (overrides_are : overrides ≡ settled f d.tree.points arena.trees points d.tree.overrides)
+      module _ (overrides : List Setting) (overrides_are : overrides ≡ unset_if_range_changed f d.tree.points arena.trees points d.tree.overrides)
           (next : Option NodeRef) (next_is : label next ≡ next_of f n) (mid c : Command) (m : Marks (place_labels node from next) d.command mid) (k : Marks (place_labels node parent before) mid c) (trail : Trail) (trail_is : trail ≡ with_note d.history (step_inverse x d.tree.nodes.arena)) where
         makes : Makes d (Move n p b) x points overrides c
         unfolding applied edit_change
@@ -378,7 +378,7 @@ module _ (d : Inside) (v : Whole) (is : seen d ≡ v) (law : IsArena d.tree.node
           change = refl;
           trees = trees_is;
           points_are = points_here;
-          overrides_are = overrides_are ∙ ((λ i. settled f d.tree.points (trees_here i) (points_here i) d.tree.overrides) ∙ settled_after d v is law now_open ok (Move n p b) x fits seen_place (freed_edit (Move n p b) v.state made) trees_is);
+          overrides_are = overrides_are ∙ ((λ i. unset_if_range_changed f d.tree.points (trees_here i) (points_here i) d.tree.overrides) ∙ settled_after d v is law now_open ok (Move n p b) x fits seen_place (freed_edit (Move n p b) v.state made) trees_is);
         }
 
         pub move_done : Done d v (Move n p (label_of before)) arena points overrides c trail

@@ -64,8 +64,8 @@ module _ (held : List (Option ℕ)) (names : List (List ℕ)) (c : Command) wher
   nearly (suc n) high f (e ∷ es) (b ∷ bs) is s few l inner top unlisted off missed =
       let h = forest_before e f in
       let ch = changes_of e in
-      let ps : Passes l f h (inverses_back applied inverse ch f) = passes_back l ch f is inner top s.0.0 (each_here (is_hidden h b.sides.first_label) f (named_in ch) s.1.0.names_there) off.0 in
-      nearly n b.sides.first_label h es bs (back_forest ch f s.0.0 is) s.1.1 (omega (arith, few)) l inner ps.top unlisted (entries_moved l f h ps.same (take n es) off.1)
+      let ps : Passes l f h (inverses_back applied inverse ch f) = passes_back l ch f is inner top s.0.0 (each_here (is_hidden h b.span.first_label) f (named_in ch) s.1.0.names_there) off.0 in
+      nearly n b.span.first_label h es bs (back_forest ch f s.0.0 is) s.1.1 (omega (arith, few)) l inner ps.top unlisted (entries_moved l f h ps.same (take n es) off.1)
       (λ x. missed (off.0, entries_moved l h f (λ m. sym (ps.same m)) es x))
 
   -- the entries that redo would take didn't see older trees
@@ -75,8 +75,8 @@ module _ (held : List (Option ℕ)) (names : List (List ℕ)) (c : Command) wher
   redo_off f (e ∷ es) (b ∷ bs) is s l inner old top =
       let h = forest_after e f in
       let ch = changes_of e in
-      let hid = is_hidden f b.sides.first_label in
-      let t : hid l ≡ true = is_hidden_from f b.sides.first_label l (record { inner = inner; old = old; root = top }) in
+      let hid = is_hidden f b.span.first_label in
+      let t : hid l ≡ true = is_hidden_from f b.span.first_label l (record { inner = inner; old = old; root = top }) in
       let own : Each (IsOff f l) (named_in ch) = each_off hid f l is.distinct top t (named_in ch) s.1.0.names_seen in
       let ps : Passes l f h (inverses_forth applied inverse ch f) = passes_forth l ch f is inner top s.0.0 (each_here hid f (named_in ch) s.1.0.names_seen) own in
       let drawn = s.1.0.drawn in

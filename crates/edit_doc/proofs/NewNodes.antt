@@ -59,7 +59,7 @@ use Rattle.edit_doc.specs.Marks.{IsMarked, has_named, NotesMade}
 use Rattle.edit_doc.specs.declared.history.Way.{Way}
 use Rattle.edit_doc.specs.History.{edits_before, roots_from, forest_before, begun_forest, is_hidden, seen_trees, state_of, begun_state, began_with, view_at, history_of, whole_of, led, older, newer, edits_of, entries}
 use Rattle.edit_doc.specs.declared.history.Way.TheVariants.{Back, Forth}
-use Rattle.edit_doc.specs.Sound.{RefIn, EachHeldIn, IsSide, AreFresh, IsOff, AreNeeded, AreAlone, IsSnapshot, IsRunning, OpenSound, UndoSound, RedoSound, detached_of, next_first, IsSoundDoc, Lies, FitsWay, turned, bound_of, next_bound}
+use Rattle.edit_doc.specs.Sound.{RefIn, EachHeldIn, IsSide, AreFresh, IsOff, AreNeeded, AreAlone, IsSnapshot, IsRunning, OpenSound, UndoSound, RedoSound, detached_of, next_first, IsSoundDoc, Lies, FitsWay, changes_along, bound_of, next_bound}
 use Rattle.edit_doc.specs.Trail.{Trail}
 use Rattle.edit_doc.specs.Live.{Live, live}
 use Rattle.edit_doc.specs.Counted.{IsCounted}
@@ -190,17 +190,17 @@ module _ (l : ℕ) (c : Content) where
       IsForest before → IsBelow before l → IsForest after → IsBelow after l →
       IsSnapshot names before after e ts b detached high start → IsSnapshot names (with_leaf before l c) (with_leaf after l c) e ts b detached high start
   snapshot_leaf names before after e ts b detached high start le is low is' low' h =
-      let first : b.sides.first_label ≤ l = (let x = h.drawn in let y = h.known in omega (arith, x, y, le)) in
+      let first : b.span.first_label ≤ l = (let x = h.drawn in let y = h.known in omega (arith, x, y, le)) in
       record {
-        was = side_leaf before is low names b.sides.before b.sides.nodes_before b.sides.chars_before b.sides.depth_before h.was;
-        is = side_leaf after is' low' names b.sides.after b.sides.nodes_after b.sides.chars_after b.sides.depth_after h.is;
+        was = side_leaf before is low names b.span.before b.span.nodes_before b.span.chars_before b.span.depth_before h.was;
+        is = side_leaf after is' low' names b.span.after b.span.nodes_after b.span.chars_after b.span.depth_after h.is;
         some_label = h.some_label;
-        fresh = fresh_leaf before b.sides.first_label low h.fresh;
+        fresh = fresh_leaf before b.span.first_label low h.fresh;
         drawn = h.drawn;
         known = h.known;
-        hidden = λ j t. (let x = h.hidden j (sym (hidden_leaf before b.sides.first_label j first) ∙ t) in omega (arith, x, times-with_leaf after j));
-        names_seen = each_detached before before b.sides.first_label (named_in (changes_of e)) first h.names_seen;
-        names_there = each_detached before after b.sides.first_label (named_in (changes_of e)) first h.names_there;
+        hidden = λ j t. (let x = h.hidden j (sym (hidden_leaf before b.span.first_label j first) ∙ t) in omega (arith, x, times-with_leaf after j));
+        names_seen = each_detached before before b.span.first_label (named_in (changes_of e)) first h.names_seen;
+        names_there = each_detached before after b.span.first_label (named_in (changes_of e)) first h.names_there;
         names_old = h.names_old;
         turns_old = h.turns_old;
         detached_loose = each_of (λ j. (0 < j) × ((j < high) × (parent_of after j ≡ None))) (λ j. (0 < j) × ((j < high) × (parent_of (with_leaf after l c) j ≡ None))) (labels_of detached)
@@ -243,7 +243,7 @@ module _ (l : ℕ) (c : Content) where
       fits : FitsWay w e (with_leaf f l c)
       same : led w e (with_leaf f l c) ≡ with_leaf (led w e f) l c
       below : IsBelow (led w e f) l
-      turns : turned w e (with_leaf f l c) ≡ turned w e f
+      turns : changes_along w e (with_leaf f l c) ≡ changes_along w e f
       edits : edits_of w e (with_leaf f l c) ≡ edits_of w e f
 
     led_beside : (w : Way) (e : List Step) (f : Forest Content) → IsForest f → IsBelow f l → FitsWay w e f → LedBeside w e f
@@ -261,7 +261,7 @@ module _ (l : ℕ) (c : Content) where
     used_beside Forth first e f bb off = used-leaf (changes_of e) first l c f off
 
     edits_old : (w : Way) (names : List (List ℕ)) (before after : Forest Content) (e : List Step) (f : Forest Content) (b : EntrySnapshot) (ds : List NodeRef) (high start : ℕ) →
-        IsSnapshot names before after e (turned w e f) b ds high start → Each (λ j. j < high) (named_in (edits_of w e f))
+        IsSnapshot names before after e (changes_along w e f) b ds high start → Each (λ j. j < high) (named_in (edits_of w e f))
     edits_old Back names before after e f b ds high start h = h.turns_old
     edits_old Forth names before after e f b ds high start h = h.names_old
 
@@ -281,13 +281,13 @@ module _ (l : ℕ) (c : Content) where
           let bb = led_beside w e f is low h.0.0 in
           let is' = led_forest w e f h.0.0 is in
           let snap : Forest Content → Forest Content → List Change → Type 0 = λ t u ts. IsSnapshot names t u e ts b (detached_of r d b) (bound_of w high d.start bs) d.start in
-          let own : snap (with_leaf (older w f g) l c) (with_leaf (newer w f g) l c) (turned w e f) = snapshot_leaf names (older w f g) (newer w f g) e (turned w e f) b (detached_of r d b) (bound_of w high d.start bs) d.start le
+          let own : snap (with_leaf (older w f g) l c) (with_leaf (newer w f g) l c) (changes_along w e f) = snapshot_leaf names (older w f g) (newer w f g) e (changes_along w e f) b (detached_of r d b) (bound_of w high d.start bs) d.start le
           (at_older (λ t _. IsForest t) w f g f g is is') (at_older (λ t _. IsBelow t l) w f g f g low bb.below) (at_newer (λ t _. IsForest t) w f g f g is is') (at_newer (λ t _. IsBelow t l) w f g f g low bb.below) h.1.0 in
-          let ends = ends_of (λ t. with_leaf t l c) (λ t u. snap t u (turned w e f)) w f g own in
+          let ends = ends_of (λ t. with_leaf t l c) (λ t u. snap t u (changes_along w e f)) w f g own in
           let rest = lies_leaf w false (next_bound w high b) g es bs is' bb.below h.1.1 in (
             (bb.fits, held_more e h.0.1),
             (
-              subst (λ t. snap (older w x t) (newer w x t) (turned w e x)) (sym bb.same) (subst (snap (older w x (with_leaf g l c)) (newer w x (with_leaf g l c))) (sym bb.turns) ends),
+              subst (λ t. snap (older w x t) (newer w x t) (changes_along w e x)) (sym bb.same) (subst (snap (older w x (with_leaf g l c)) (newer w x (with_leaf g l c))) (sym bb.turns) ends),
               subst (λ t. Lies w new names false d (next_bound w high b) t es bs) (sym bb.same) rest,
             ),
           )
@@ -301,11 +301,11 @@ module _ (l : ℕ) (c : Content) where
           let bb = led_beside w e f is low h.0.0 in
           let is' = led_forest w e f h.0.0 is in
           let there : (p : Places) → view_at names (led w e x) p ≡ view_at names g p = λ p. ap (λ t. view_at names t p) bb.same ∙ view_leaf g is' bb.below names p in
-          let was = at_older (λ t u. view_at names t b.sides.before ≡ view_at names u b.sides.before) w x (led w e x) f g (view_leaf f is low names b.sides.before) (there b.sides.before) in
-          let now = at_newer (λ t u. view_at names t b.sides.after ≡ view_at names u b.sides.after) w x (led w e x) f g (view_leaf f is low names b.sides.after) (there b.sides.after) in
+          let was = at_older (λ t u. view_at names t b.span.before ≡ view_at names u b.span.before) w x (led w e x) f g (view_leaf f is low names b.span.before) (there b.span.before) in
+          let now = at_newer (λ t u. view_at names t b.span.after ≡ view_at names u b.span.after) w x (led w e x) f g (view_leaf f is low names b.span.after) (there b.span.after) in
           let rest = ap (λ t. entries w names t es bs) bb.same ∙ entries_leaf w false (next_bound w high b) g es bs is' bb.below h.1.1 in
           let off = not_named (bound_of w high d.start bs) l (named_in (edits_of w e f)) (edits_old w names (older w f g) (newer w f g) e f b (detached_of r d b) (bound_of w high d.start bs) d.start h.1.0) (let u = h.1.0.known in omega (arith, u, le)) in
-          let used_is = used_beside w b.sides.first_label e f bb off in
+          let used_is = used_beside w b.span.first_label e f bb off in
           λ i. record { before = was i; after = now i; edits = bb.edits i; made = used_is i } ∷ rest i
 
 -- ---- the fields of a command

@@ -22,10 +22,10 @@ use Rattle.edit_steps.specs.Step.{changes_of}
 use Rattle.edit_model.specs.Gives.{labels_of}
 use Rattle.edit_doc.specs.declared.Doc.TheInside.{Inside}
 use Rattle.edit_doc.specs.declared.command.EntrySnapshot.{EntrySnapshot}
-use Rattle.edit_doc.specs.declared.command.Sides.{Sides}
+use Rattle.edit_doc.specs.declared.command.EntrySpan.{EntrySpan}
 use Rattle.edit_doc.specs.declared.command.Command.{Command}
 use Rattle.node_arena.specs.declared.NodeRef.{NodeRef}
-use Rattle.edit_doc.specs.Fields.{EntersIn, made_sides}
+use Rattle.edit_doc.specs.Fields.{EntersIn, made_span}
 use Rattle.edit_doc.specs.GivingUp.{GivesUp, loose_roots, has_detached}
 use Rattle.edit_doc.specs.History.{forest_before, is_hidden}
 use Rattle.edit_doc.specs.Sound.{UndoSound}
@@ -91,18 +91,18 @@ module _ (held : List (Option ℕ)) (names : List (List ℕ)) (c : Command) wher
       let k : ℕ → Bool = has_detached (slice_get bs n) in
       let g = forest_before e f in
       let is' = back_forest (changes_of e) f s.0.0 is in
-      let ih = outgone n b.sides.first_label g es bs is' s.1.1 in
+      let ih = outgone n b.span.first_label g es bs is' s.1.1 in
       let same : (l : ℕ) → count_of g l ≡ count_of f l = λ l. back_labels (changes_of e) f l s.0.0 in
-      let hid : (l : ℕ) → k l ≡ true → 0 < count_of f l → is_hidden g b.sides.first_label l ≡ true = λ l t here. (
+      let hid : (l : ℕ) → k l ≡ true → 0 < count_of f l → is_hidden g b.span.first_label l ≡ true = λ l t here. (
       let u = ih.loose l t in
       let s' = same l in
-      is_hidden_from g b.sides.first_label l (record { inner = u.0; old = u.1.0; root = root_is_top g l is'.distinct (omega (arith, s', here)) u.1.1 })) in
+      is_hidden_from g b.span.first_label l (record { inner = u.0; old = u.1.0; root = root_is_top g l is'.distinct (omega (arith, s', here)) u.1.1 })) in
       let roots : (l : ℕ) → k l ≡ true → parent_of f l ≡ None = λ l t. by_count f l (λ here. top_loose f l is.distinct (s.1.0.hidden l (hid l t here))) (count_of f l) refl in
       let zero_out : k 0 ≡ false = elim (true_or_false (k 0)) [ inl t ↦ absurd (let u = (ih.loose 0 t).0 in omega (arith, u)) | inr t ↦ t ] in
       let prunes = prunes_roots k f is zero_out roots in
       let own : Each (IsLeft k f) (named_in (changes_of e)) =
-      each_of (IsLeft (is_hidden g b.sides.first_label) f) (IsLeft k f) (named_in (changes_of e)) (λ m t. (
-      let more = pruned_fewer (is_hidden g b.sides.first_label) k f m (λ l top u. hid l u (omega (arith, top, times-tops f l))) in
+      each_of (IsLeft (is_hidden g b.span.first_label) f) (IsLeft k f) (named_in (changes_of e)) (λ m t. (
+      let more = pruned_fewer (is_hidden g b.span.first_label) k f m (λ l top u. hid l u (omega (arith, top, times-tops f l))) in
       omega (arith, more, t))) s.1.0.names_there in
       let down : GoBackDown k (changes_of e) f = back_down k (changes_of e) f prunes s.0.0 own in
       record {
@@ -126,14 +126,14 @@ module _ (d : Inside) (enters : Entering d) where
   none_out : GoesOut None
   none_out = record { inner = λ l t. absurd (cc); loose = λ l t. absurd (cc); detached = entries_none (unnamed d enters.ending.during) f (committed d.history.log).undo (kept_detached d enters.ending.during enters.some) }
 
-  joined_out : (s : Sides) (detached : List NodeRef) (room : ℕ) (bs new : List EntrySnapshot) (o : Option EntrySnapshot) → EntersIn true s detached enters.ending.places d.tree.nodes.counts room bs new o → o ≡ None
+  joined_out : (s : EntrySpan) (detached : List NodeRef) (room : ℕ) (bs new : List EntrySnapshot) (o : Option EntrySnapshot) → EntersIn true s detached enters.ending.places d.tree.nodes.counts room bs new o → o ≡ None
   joined_out s detached room [] new o h = absurd h
   joined_out s detached room (b ∷ bs) [] o h = absurd h
   joined_out s detached room (b ∷ bs) (b' ∷ bs') o h = h.1.1.1
 
   goes_out : GoesOut enters.out
   goes_out = elim (true_or_false (is_resumed d.history.log.open_entry)) [
-    | inl r ↦ subst GoesOut (sym (joined_out (made_sides d.command enters.ending.places d.tree.nodes.counts) (loose_roots f d.command.detached.items) d.history.log.depth d.history.past enters.past enters.out (subst (λ b. EntersIn b (made_sides d.command enters.ending.places d.tree.nodes.counts) (loose_roots f d.command.detached.items) enters.ending.places d.tree.nodes.counts d.history.log.depth d.history.past enters.past enters.out) (enters.ending.during.ok.resumed ∙ r) enters.entered))) none_out
+    | inl r ↦ subst GoesOut (sym (joined_out (made_span d.command enters.ending.places d.tree.nodes.counts) (loose_roots f d.command.detached.items) d.history.log.depth d.history.past enters.past enters.out (subst (λ b. EntersIn b (made_span d.command enters.ending.places d.tree.nodes.counts) (loose_roots f d.command.detached.items) enters.ending.places d.tree.nodes.counts d.history.log.depth d.history.past enters.past enters.out) (enters.ending.during.ok.resumed ∙ r) enters.entered))) none_out
     | inr r ↦ (
         let c : Command = record d.command { start = d.tree.nodes.arena.next } in
         let h = entering d enters.ending r c refl enters.past enters.out enters.entered in

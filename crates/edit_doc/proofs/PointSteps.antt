@@ -19,7 +19,7 @@ use Rattle.edit_model.proofs.Points.{Places, mapped_placed}
 use Rattle.edit_doc.specs.declared.Doc.TheInside.{Inside}
 use Rattle.edit_doc.specs.Live.{Live, live}
 use Rattle.edit_parts.specs.declared.overrides.Watch.{Watch}
-use Rattle.edit_parts.specs.Following.{Watches, settled}
+use Rattle.edit_parts.specs.Following.{Watches, unset_if_range_changed}
 use Rattle.edit_doc.specs.Whole.{Whole, with_state}
 use Rattle.edit_doc.specs.History.{seen_trees, whole_of}
 use Rattle.edit_doc.specs.Sound.{IsSoundDoc}
@@ -44,15 +44,15 @@ module _ (d : Inside) (law : IsArena d.tree.nodes.arena) (ok : Ok d) where
     points = moved_to d.tree.points selection scratch marks
 
     abbrev overrides : List Setting
-    overrides = settled d.tree.nodes.arena.trees d.tree.points d.tree.nodes.arena.trees points d.tree.overrides
+    overrides = unset_if_range_changed d.tree.nodes.arena.trees d.tree.points d.tree.nodes.arena.trees points d.tree.overrides
 
     pub placed_then : IsPlaced d.tree.nodes.arena.trees points
     placed_then = placed-whole d.tree.nodes.arena.trees d.tree.nodes.arena.next (arena_forest d.tree.nodes.arena law) (out_of d) refl points placed
 
     -- what settling writes
     pub settled_items : (new : List Setting) (n : LivePoints) (w : Option Watch) → n ≡ points → Watches d.tree.nodes.arena.trees d.tree.points d.tree.overrides w →
-        ((g : Forest Content) (b : LivePoints) → Watches g b d.tree.overrides w → new ≡ settled g b d.tree.nodes.arena.trees n d.tree.overrides) → new ≡ overrides
-    settled_items new n w en watches settles = settles d.tree.nodes.arena.trees d.tree.points watches ∙ ap (λ q. settled d.tree.nodes.arena.trees d.tree.points d.tree.nodes.arena.trees q d.tree.overrides) en
+        ((g : Forest Content) (b : LivePoints) → Watches g b d.tree.overrides w → new ≡ unset_if_range_changed g b d.tree.nodes.arena.trees n d.tree.overrides) → new ≡ overrides
+    settled_items new n w en watches settles = settles d.tree.nodes.arena.trees d.tree.points watches ∙ ap (λ q. unset_if_range_changed d.tree.nodes.arena.trees d.tree.points d.tree.nodes.arena.trees q d.tree.overrides) en
 
     pub step_ok : (d.history.log.open_entry ≡ Closed → scratch ≡ None) → IsSoundDoc (record (live d.tree) { points = points; overrides = overrides }) d.command d.history
     step_ok none = other_ok d ok selection scratch marks overrides d.tree.flags placed (settled_length (range_changed (is_before d.tree.nodes.arena.trees) (is_before d.tree.nodes.arena.trees) d.tree.points.selection selection) d.tree.overrides ok.valid.settings) none
@@ -87,11 +87,11 @@ module _ (d : Inside) (law : IsArena d.tree.nodes.arena) (ok : Ok d) where
 
     -- what settling leaves then
     module _ (n : LivePoints) (n_is : n ≡ mapped e d.tree.points) (w : Option Watch) (new : List Setting) (watches : Watches d.tree.nodes.arena.trees d.tree.points d.tree.overrides w)
-        (settles : (g : Forest Content) (b : LivePoints) → Watches g b d.tree.overrides w → new ≡ settled g b d.tree.nodes.arena.trees n d.tree.overrides) where
+        (settles : (g : Forest Content) (b : LivePoints) → Watches g b d.tree.overrides w → new ≡ unset_if_range_changed g b d.tree.nodes.arena.trees n d.tree.overrides) where
       abbrev after : Live
       after = record (live d.tree) { points = n; overrides = new }
 
-      after_is : after ≡ record (live d.tree) { points = mapped e d.tree.points; overrides = settled d.tree.nodes.arena.trees d.tree.points d.tree.nodes.arena.trees (mapped e d.tree.points) d.tree.overrides }
+      after_is : after ≡ record (live d.tree) { points = mapped e d.tree.points; overrides = unset_if_range_changed d.tree.nodes.arena.trees d.tree.points d.tree.nodes.arena.trees (mapped e d.tree.points) d.tree.overrides }
       after_is = λ i. record (live d.tree) { points = n_is i; overrides = settled_items chosen kept marks stand new n w n_is watches settles i }
 
       pub mapped_ok : IsSoundDoc after d.command d.history

@@ -18,9 +18,9 @@ use Rattle.edit_model.specs.History.{document_of, rested, recorded, with_entry, 
 use Rattle.edit_model.proofs.Documents.{document_shape}
 use Rattle.edit_doc.specs.declared.Doc.TheInside.{Inside}
 use Rattle.edit_doc.specs.declared.command.EntrySnapshot.{EntrySnapshot}
-use Rattle.edit_doc.specs.declared.command.Sides.{Sides}
+use Rattle.edit_doc.specs.declared.command.EntrySpan.{EntrySpan}
 use Rattle.edit_doc.specs.declared.command.Command.{Command}
-use Rattle.edit_doc.specs.Fields.{IsEnded, EntersIn, Enters, made_sides}
+use Rattle.edit_doc.specs.Fields.{IsEnded, EntersIn, Enters, made_span}
 use Rattle.edit_doc.specs.GivingUp.{loose_roots}
 use Rattle.node_arena.specs.declared.NodeRef.{NodeRef}
 use Rattle.edit_doc.specs.Whole.{Whole, history_committed, committed_history}
@@ -157,7 +157,7 @@ module _ (d : Inside) (ending : Ending d) where
     start_le : d.command.start ≤ c.start
     start_le = (let s = starts in let t = ending.during.ok.valid.started in omega (arith, s, t))
 
-    pub with_first : (b : EntrySnapshot) → b.sides ≡ made_sides d.command ending.places d.tree.nodes.counts → b.detached.items ≡ roots →
+    pub with_first : (b : EntrySnapshot) → b.span ≡ made_span d.command ending.places d.tree.nodes.counts → b.detached.items ≡ roots →
         UndoSound d.tree.nodes.arena.held d.tree.points.names false c d.tree.nodes.arena.next d.tree.nodes.arena.trees (steps ∷ d.history.log.undo) (b ∷ d.history.past)
     with_first b same none =
         let f = d.tree.nodes.arena.trees in
@@ -166,12 +166,12 @@ module _ (d : Inside) (ending : Ending d) where
           (run d ending.during).can,
           (
             subst (λ n. IsSnapshot d.tree.points.names before f steps ts b b.detached.items d.tree.nodes.arena.next n) (sym starts) (made_snapshot d ending b b.detached.items none same),
-            subst (λ (s : Sides). UndoSound d.tree.nodes.arena.held d.tree.points.names false c s.first_label before d.history.log.undo d.history.past) (sym same) rest,
+            subst (λ (s : EntrySpan). UndoSound d.tree.nodes.arena.held d.tree.points.names false c s.first_label before d.history.log.undo d.history.past) (sym same) rest,
           ),
         )
 
-    pub entering : Enters d.command roots ending.places d.tree.nodes.counts d.history.log.depth d.history.past us out → EntersIn false (made_sides d.command ending.places d.tree.nodes.counts) roots ending.places d.tree.nodes.counts d.history.log.depth d.history.past us out
-    entering h = subst (λ r. EntersIn r (made_sides d.command ending.places d.tree.nodes.counts) roots ending.places d.tree.nodes.counts d.history.log.depth d.history.past us out) (ending.during.ok.resumed ∙ begun) h
+    pub entering : Enters d.command roots ending.places d.tree.nodes.counts d.history.log.depth d.history.past us out → EntersIn false (made_span d.command ending.places d.tree.nodes.counts) roots ending.places d.tree.nodes.counts d.history.log.depth d.history.past us out
+    entering h = subst (λ r. EntersIn r (made_span d.command ending.places d.tree.nodes.counts) roots ending.places d.tree.nodes.counts d.history.log.depth d.history.past us out) (ending.during.ok.resumed ∙ begun) h
 
     module _ (enters : Enters d.command roots ending.places d.tree.nodes.counts d.history.log.depth d.history.past us out) where
       pub begun_sound : UndoSound d.tree.nodes.arena.held d.tree.points.names false c d.tree.nodes.arena.next d.tree.nodes.arena.trees (take d.history.log.depth (steps ∷ d.history.log.undo)) us
@@ -188,9 +188,9 @@ module _ (d : Inside) (ending : Ending d) where
           let f = d.tree.nodes.arena.trees in
           let h = entering enters in
           let is : us ≡ take d.history.log.depth (h.0 ∷ d.history.past) = h.3 in
-          let was = ap (λ (s : Sides). view_at d.tree.points.names before s.before) h.1 ∙ view_before in
-          let now = ap (λ (s : Sides). view_at d.tree.points.names f s.after) h.1 ∙ view_now in
-          let made_is = ap (λ (s : Sides). used (edits_before steps f) (roots_from s.first_label before)) h.1 in
+          let was = ap (λ (s : EntrySpan). view_at d.tree.points.names before s.before) h.1 ∙ view_before in
+          let now = ap (λ (s : EntrySpan). view_at d.tree.points.names f s.after) h.1 ∙ view_now in
+          let made_is = ap (λ (s : EntrySpan). used (edits_before steps f) (roots_from s.first_label before)) h.1 in
           let entries : undo_entries d.tree.points.names f (take d.history.log.depth (steps ∷ d.history.log.undo)) us ≡ take d.history.log.depth (entry_of state_before state_now ∷ undo_entries d.tree.points.names before d.history.log.undo d.history.past) =
           ap (undo_entries d.tree.points.names f (take d.history.log.depth (steps ∷ d.history.log.undo))) is
           ∙ (undo_entries-take d.tree.points.names d.history.log.depth f (steps ∷ d.history.log.undo) (h.0 ∷ d.history.past)

@@ -17,7 +17,7 @@ use Rattle.dom_model.specs.Change as change
 use Rattle.forest_changes.specs.Named.{Each, named, listed}
 use Rattle.forest_changes.specs.Down.{IsLeft}
 use Rattle.forest_changes.proofs.Twice.{forest_of}
-use Rattle.edit_steps.specs.declared.step.Step.TheVariants.{Unlink}
+use Rattle.edit_steps.specs.declared.step.Step.TheVariants as step
 use Rattle.edit_steps.specs.Step.{StepFits, change_of, step_applied, step_inverse}
 use Rattle.edit_model.specs.declared.settings.Setting.{Setting}
 use Rattle.edit_model.specs.Edit.{Remove, is_made_edit, change_of as edit_change, trees_after, points_after}
@@ -103,17 +103,17 @@ module _ (d : Inside) (law : IsArena d.tree.nodes.arena) (v : Whole) (is : seen 
       abbrev g : Forest Content
       g = pruned (out_of d) d.tree.nodes.arena.trees
 
-      pub fits : StepFits (Unlink node) d.tree.nodes.arena
+      pub fits : StepFits (step.Remove node) d.tree.nodes.arena
       fits = record {
         fits = record { forest = forest_of d.tree.nodes.arena law; here = subst IsSome (sym up) refl };
         slotted = slotted;
         held = ((held_seen d v is node holds).slot, tt);
       }
 
-      pub detached : Each (IsLeft (out_of d) d.tree.nodes.arena.trees) (named (change_of (Unlink node)))
+      pub detached : Each (IsLeft (out_of d) d.tree.nodes.arena.trees) (named (change_of (step.Remove node)))
       detached = ((held_seen d v is node holds).here, tt)
 
-      pub trees : applied (change_of (Unlink node)) g ≡ trees_after (Remove node.label) g
+      pub trees : applied (change_of (step.Remove node)) g ≡ trees_after (Remove node.label) g
       unfolding applied trees_after
       trees = refl
 
@@ -140,15 +140,15 @@ module _ (d : Inside) (law : IsArena d.tree.nodes.arena) (v : Whole) (is : seen 
           inner_child zero child = absurd (let t : None ≡ Some parent.label = sym law.root ∙ child in cc)
           inner_child (suc l) child = omega arith
 
-      pub counted_unlinked : (counts : Counts) → counts.nodes ≡ node_count (unlink f node.label) → counts.chars ≡ char_count (unlink f node.label) → counts.depth ≡ d.tree.nodes.counts.depth → IsCounted (step_applied (Unlink node) d.tree.nodes.arena).trees counts
+      pub counted_unlinked : (counts : Counts) → counts.nodes ≡ node_count (unlink f node.label) → counts.chars ≡ char_count (unlink f node.label) → counts.depth ≡ d.tree.nodes.counts.depth → IsCounted (step_applied (step.Remove node) d.tree.nodes.arena).trees counts
       unfolding step_applied
       counted_unlinked counts nodes chars depth = record { nodes = nodes ∙ ap node_count unlinked; chars = chars ∙ ap char_count unlinked; depth = depth_is counts.depth depth }
 
       module _ (points : LivePoints) (overrides : List Setting) (b c : Command) (o : Option NodeRef) (next : label_of o ≡ next_of d.tree.nodes.arena.trees node.label)
           (same : record b { detached = d.command.detached } ≡ d.command) (pushed : b.detached.items ≡ d.command.detached.items ++ node ∷ []) (m : Marks (place_labels node parent o) b c)
           (points_is : points ≡ mapped (range.Remove (preorder (tree_of d.tree.nodes.arena.trees node.label)) parent.label (index_of d.tree.nodes.arena.trees node.label)) d.tree.points)
-          (overrides_is : overrides ≡ overrides_next d v is law now_open ok (Remove node.label) (Unlink node) fits detached may trees) where
-        removes : Makes d (Remove node.label) (Unlink node) points overrides c
+          (overrides_is : overrides ≡ overrides_next d v is law now_open ok (Remove node.label) (step.Remove node) fits detached may trees) where
+        removes : Makes d (Remove node.label) (step.Remove node) points overrides c
         unfolding edit_change
         removes = record {
           fits = fits;
@@ -158,9 +158,9 @@ module _ (d : Inside) (law : IsArena d.tree.nodes.arena) (v : Whole) (is : seen 
           change = refl;
           trees = trees;
           points_are = points_is ∙ points_are;
-          overrides_are = overrides_is ∙ overrides_are d v is law now_open ok (Remove node.label) (Unlink node) fits detached may trees;
+          overrides_are = overrides_is ∙ overrides_are d v is law now_open ok (Remove node.label) (step.Remove node) fits detached may trees;
         }
 
-        pub unlink_done : (arena : Arena) (trail : Trail) → arena ≡ step_applied (Unlink node) d.tree.nodes.arena → trail ≡ with_note d.history (step_inverse (Unlink node) d.tree.nodes.arena) → Applied d v (Remove node.label) arena points overrides c trail
+        pub unlink_done : (arena : Arena) (trail : Trail) → arena ≡ step_applied (step.Remove node) d.tree.nodes.arena → trail ≡ with_note d.history (step_inverse (step.Remove node) d.tree.nodes.arena) → Applied d v (Remove node.label) arena points overrides c trail
         unlink_done arena trail arena_is trail_is =
-            edit_linked d v is law now_open ok (Remove node.label) (Unlink node) points overrides c may removes arena trail arena_is trail_is
+            edit_linked d v is law now_open ok (Remove node.label) (step.Remove node) points overrides c may removes arena trail arena_is trail_is

@@ -21,7 +21,7 @@ use Rattle.forest_changes.specs.Named.{Each, named}
 use Rattle.forest_changes.specs.Down.{IsLeft}
 use Rattle.forest_changes.proofs.Twice.{forest_of}
 use Rattle.forest_changes.proofs.PrunedChanges.{content_of-pruned}
-use Rattle.edit_steps.specs.declared.step.Step.TheVariants.{Words as Rewords}
+use Rattle.edit_steps.specs.declared.step.Step.TheVariants as step
 use Rattle.edit_steps.specs.Step.{StepFits, change_of, step_applied, step_inverse}
 use Rattle.edit_model.specs.declared.settings.Setting.{Setting}
 use Rattle.edit_model.specs.State.{State}
@@ -104,17 +104,17 @@ module _ (d : Inside) (law : IsArena d.tree.nodes.arena) (v : Whole) (is : seen 
     same : with_chars words con ≡ with_replaced at count put con
     same = ap (with_chars words) con_is ∙ words_are
 
-    pub fits : StepFits (Rewords node words) d.tree.nodes.arena
+    pub fits : StepFits (step.SetText node words) d.tree.nodes.arena
     fits = record {
       fits = record { forest = forest_of d.tree.nodes.arena law; here = (ap (λ o. option_map_or has_chars o false) (content ∙ ap Some con_is), short) };
       slotted = slotted;
       held = ((held_seen d v is node holds).slot, tt);
     }
 
-    pub detached : Each (IsLeft (out_of d) d.tree.nodes.arena.trees) (named (change_of (Rewords node words)))
+    pub detached : Each (IsLeft (out_of d) d.tree.nodes.arena.trees) (named (change_of (step.SetText node words)))
     detached = ((held_seen d v is node holds).here, tt)
 
-    pub trees : applied (change_of (Rewords node words)) g ≡ trees_after (Replace node.label at count put) g
+    pub trees : applied (change_of (step.SetText node words)) g ≡ trees_after (Replace node.label at count put) g
     unfolding applied trees_after
     trees = revised_same g node.label (with_chars words) (with_replaced at count put) con (IsDistinct-pruned (out_of d) d.tree.nodes.arena.trees law.distinct)
         (content_of-pruned (out_of d) d.tree.nodes.arena.trees node.label (forest_of d.tree.nodes.arena law) (held_seen d v is node holds).here ∙ content) same
@@ -126,7 +126,7 @@ module _ (d : Inside) (law : IsArena d.tree.nodes.arena) (v : Whole) (is : seen 
         let own_is : words ≡ spliced t.chars at count put = cc in
         own_is ∙ sym (ap (λ o. spliced (unwrap_or (option_and_then chars_in o) []) at count put) seen_here)
 
-    change_is : change_of (Rewords node words) ≡ edit_change (Replace node.label at count put) g
+    change_is : change_of (step.SetText node words) ≡ edit_change (Replace node.label at count put) g
     unfolding edit_change
     change_is = ap (SetText node.label) words_same
 
@@ -142,7 +142,7 @@ module _ (d : Inside) (law : IsArena d.tree.nodes.arena) (v : Whole) (is : seen 
     unfolding applied
     chars_same = ap char_count (sym (revised_same d.tree.nodes.arena.trees node.label (with_chars words) (with_replaced at count put) con law.distinct content same))
 
-    pub counted_replaced : (chars : ℕ) → chars ≡ char_count (revised d.tree.nodes.arena.trees node.label (with_replaced at count put)) → IsCounted (step_applied (Rewords node words) d.tree.nodes.arena).trees (record d.tree.nodes.counts { chars = chars })
+    pub counted_replaced : (chars : ℕ) → chars ≡ char_count (revised d.tree.nodes.arena.trees node.label (with_replaced at count put)) → IsCounted (step_applied (step.SetText node words) d.tree.nodes.arena).trees (record d.tree.nodes.counts { chars = chars })
     unfolding step_applied
     counted_replaced chars is = record {
       nodes = d.tree.nodes.counted.nodes ∙ sym nodes_same;
@@ -156,8 +156,8 @@ module _ (d : Inside) (law : IsArena d.tree.nodes.arena) (v : Whole) (is : seen 
 
     module _ (points : LivePoints) (overrides : List Setting) (c : Command) (m : Marks (node.label ∷ []) d.command c)
         (points_is : points ≡ mapped (range.Replace node.label at count (length put)) d.tree.points)
-        (overrides_is : overrides ≡ overrides_next d v is law now_open ok (Replace node.label at count put) (Rewords node words) fits detached (freed_edit (Replace node.label at count put) v.state (may_replace_here own change)) trees) where
-      replaces : Makes d (Replace node.label at count put) (Rewords node words) points overrides c
+        (overrides_is : overrides ≡ overrides_next d v is law now_open ok (Replace node.label at count put) (step.SetText node words) fits detached (freed_edit (Replace node.label at count put) v.state (may_replace_here own change)) trees) where
+      replaces : Makes d (Replace node.label at count put) (step.SetText node words) points overrides c
       replaces = record {
         fits = fits;
         seen = detached;
@@ -166,12 +166,12 @@ module _ (d : Inside) (law : IsArena d.tree.nodes.arena) (v : Whole) (is : seen 
         change = change_is;
         trees = trees;
         points_are = points_is ∙ points_are;
-        overrides_are = overrides_is ∙ overrides_are d v is law now_open ok (Replace node.label at count put) (Rewords node words) fits detached (freed_edit (Replace node.label at count put) v.state (may_replace_here own change)) trees;
+        overrides_are = overrides_is ∙ overrides_are d v is law now_open ok (Replace node.label at count put) (step.SetText node words) fits detached (freed_edit (Replace node.label at count put) v.state (may_replace_here own change)) trees;
       }
 
-      pub replace_done : (arena : Arena) (trail : Trail) → arena ≡ step_applied (Rewords node words) d.tree.nodes.arena → trail ≡ with_note d.history (step_inverse (Rewords node words) d.tree.nodes.arena) → Done d v (Replace node.label at count put) arena points overrides c trail
+      pub replace_done : (arena : Arena) (trail : Trail) → arena ≡ step_applied (step.SetText node words) d.tree.nodes.arena → trail ≡ with_note d.history (step_inverse (step.SetText node words) d.tree.nodes.arena) → Done d v (Replace node.label at count put) arena points overrides c trail
       replace_done arena trail arena_is trail_is =
-          edit_called d v is law now_open ok (Replace node.label at count put) (Rewords node words) points overrides c (may_replace_here own change) replaces arena trail arena_is trail_is
+          edit_called d v is law now_open ok (Replace node.label at count put) (step.SetText node words) points overrides c (may_replace_here own change) replaces arena trail arena_is trail_is
 
 pub not_own_replace : (s : State) (n at count : ℕ) (put : List ℕ) → is_own s n ≡ false → is_made_edit (Replace n at count put) s ≡ false
 unfolding is_made_edit may_replace

@@ -52,18 +52,18 @@ swapped_undo held names c m r le same all high f (e ∷ es) (b ∷ bs) new known
     let b' : EntrySnapshot = record b { detached = c.detached } in
     let detached : b.detached.items ≡ take r.detached_before r.detached.items = sym (take_all r.detached_before r.detached.items all ∙ (same ∙ ap (λ (x : Command). x.detached.items) h.1)) in
     let own = snapshot_of names (forest_before e f) f e ts b b' b.detached.items high r.start refl (snapshot_later names (forest_before e f) f e ts b b.detached.items high c.start high r.start u.1.0 (omega arith) known) in
-    let first : b.sides.first_label ≤ r.start = (let t = u.1.0.drawn in omega arith) in
+    let first : b.span.first_label ≤ r.start = (let t = u.1.0.drawn in omega arith) in
     subst (λ ns. UndoSound held names true r high f (e ∷ es) ns) (sym h.0) (
       u.0,
       (
         subst (λ ls. IsSnapshot names (forest_before e f) f e ts b' ls high r.start) detached own,
-        undo_later held names c r le b.sides.first_label b.sides.first_label (forest_before e f) es bs (omega arith) first u.1.1,
+        undo_later held names c r le b.span.first_label b.span.first_label (forest_before e f) es bs (omega arith) first u.1.1,
       ),
     )
 
 module _ (d : Inside) (law : IsArena d.tree.nodes.arena) (closed : d.history.log.open_entry ≡ Closed) (ok : Ok d) where
-  pub some_sides : 0 < length d.history.log.undo → 0 < length d.history.past
-  some_sides h =
+  pub some_span : 0 < length d.history.log.undo → 0 < length d.history.past
+  some_span h =
       let r = rest d law closed ok in
       let n = sides_length d.tree.nodes.arena.held d.tree.points.names d.command Back false (next_first d.command.start d.history.future) d.tree.nodes.arena.trees d.history.log.undo d.history.past r.undo in
       omega (arith, n, h)

@@ -33,7 +33,7 @@ use Rattle.edit_model.specs.Valid.{IsPlaced}
 use Rattle.edit_model.specs.History.{History, used, document_of}
 use Rattle.edit_doc.specs.declared.Doc.TheInside.{Inside}
 use Rattle.edit_doc.specs.declared.command.EntrySnapshot.{EntrySnapshot}
-use Rattle.edit_doc.specs.declared.command.Sides.{Sides}
+use Rattle.edit_doc.specs.declared.command.EntrySpan.{EntrySpan}
 use Rattle.edit_doc.specs.declared.command.Command.{Command}
 use Rattle.edit_doc.specs.Fields.{IsEnded, ForgetsIn, Forgets}
 use Rattle.edit_doc.specs.Whole.{Whole, state_rolled_back, rolled_to}
@@ -41,7 +41,7 @@ use Rattle.edit_doc.specs.Held.{KeepsThere}
 use Rattle.edit_doc.specs.declared.history.Way.{Way}
 use Rattle.edit_doc.specs.History.{edits_before, roots_from, forest_before, is_hidden, view_at, begun_forest, state_of, begun_state, began_with, history_of, undo_entries, redo_entries, whole_of, led, older}
 use Rattle.edit_doc.specs.declared.history.Way.TheVariants.{Back, Forth}
-use Rattle.edit_doc.specs.Sound.{RefIn, AreFresh, AreAlone, IsSide, IsSnapshot, IsRunning, OpenSound, UndoSound, RedoSound, EntriesOff, AreNeeded, next_first, IsSoundDoc, Lies, turned, bound_of, next_bound, detached_of}
+use Rattle.edit_doc.specs.Sound.{RefIn, AreFresh, AreAlone, IsSide, IsSnapshot, IsRunning, OpenSound, UndoSound, RedoSound, EntriesOff, AreNeeded, next_first, IsSoundDoc, Lies, changes_along, bound_of, next_bound, detached_of}
 use Rattle.edit_doc.specs.Trail.{trail_of, IsTrail, Trail}
 use Rattle.edit_doc.specs.Live.{Live, live_of}
 use Rattle.edit_doc.specs.Counted.{IsCounted}
@@ -54,19 +54,19 @@ use Rattle.edit_doc.proofs.Rests.{AtRest, rest_sound, rest_state, none_noted}
 
 -- ---- an entry's detached trees
 
--- an entry depends on the sides alone
+-- an entry depends on the span alone
 pub snapshot_of : (names : List (List ℕ)) (before after : Forest Content) (e : List Step) (ts : List Change) (b c : EntrySnapshot) (detached : List NodeRef) (high start : ℕ) →
-    b.sides ≡ c.sides → IsSnapshot names before after e ts b detached high start → IsSnapshot names before after e ts c detached high start
+    b.span ≡ c.span → IsSnapshot names before after e ts b detached high start → IsSnapshot names before after e ts c detached high start
 snapshot_of names before after e ts b c detached high start same h = record {
-  was = subst (λ (s : Sides). IsSide names before s.before s.nodes_before s.chars_before s.depth_before) same h.was;
-  is = subst (λ (s : Sides). IsSide names after s.after s.nodes_after s.chars_after s.depth_after) same h.is;
-  some_label = subst (λ (s : Sides). 0 < s.first_label) same h.some_label;
-  fresh = subst (λ (s : Sides). AreFresh before s.first_label) same h.fresh;
-  drawn = subst (λ (s : Sides). s.first_label ≤ high) same h.drawn;
+  was = subst (λ (s : EntrySpan). IsSide names before s.before s.nodes_before s.chars_before s.depth_before) same h.was;
+  is = subst (λ (s : EntrySpan). IsSide names after s.after s.nodes_after s.chars_after s.depth_after) same h.is;
+  some_label = subst (λ (s : EntrySpan). 0 < s.first_label) same h.some_label;
+  fresh = subst (λ (s : EntrySpan). AreFresh before s.first_label) same h.fresh;
+  drawn = subst (λ (s : EntrySpan). s.first_label ≤ high) same h.drawn;
   known = h.known;
-  hidden = subst (λ (s : Sides). (l : ℕ) → is_hidden before s.first_label l ≡ true → 0 < times (tops after) l) same h.hidden;
-  names_seen = subst (λ (s : Sides). Each (IsLeft (is_hidden before s.first_label) before) (named_in (changes_of e))) same h.names_seen;
-  names_there = subst (λ (s : Sides). Each (IsLeft (is_hidden before s.first_label) after) (named_in (changes_of e))) same h.names_there;
+  hidden = subst (λ (s : EntrySpan). (l : ℕ) → is_hidden before s.first_label l ≡ true → 0 < times (tops after) l) same h.hidden;
+  names_seen = subst (λ (s : EntrySpan). Each (IsLeft (is_hidden before s.first_label) before) (named_in (changes_of e))) same h.names_seen;
+  names_there = subst (λ (s : EntrySpan). Each (IsLeft (is_hidden before s.first_label) after) (named_in (changes_of e))) same h.names_there;
   names_old = h.names_old;
   turns_old = h.turns_old;
   detached_loose = h.detached_loose;
@@ -84,7 +84,7 @@ module _ (held : List (Option ℕ)) (names : List (List ℕ)) (c : Command) wher
         h.0,
         (
           snapshot_of names (forest_before x f) f x ts b b' b'.detached.items high c.start (sym e.1.0) (subst (λ ls. IsSnapshot names (forest_before x f) f x ts b ls high c.start) (sym e.1.1) h.1.0),
-          subst (λ (s : Sides). UndoSound held names false c s.first_label (forest_before x f) es bs') (sym e.1.0) (subst (λ cs. UndoSound held names false c b.sides.first_label (forest_before x f) es cs) (sym e.0) h.1.1),
+          subst (λ (s : EntrySpan). UndoSound held names false c s.first_label (forest_before x f) es bs') (sym e.1.0) (subst (λ cs. UndoSound held names false c b.span.first_label (forest_before x f) es cs) (sym e.0) h.1.1),
         ),
       )
 
@@ -124,8 +124,8 @@ module _ (k : ℕ → Bool) (f0 : Forest Content) (held : List (Option ℕ)) (na
   lies_detached w r high f (e ∷ es) [] same h = absurd h
   lies_detached w r high f (e ∷ es) (b ∷ bs) same h =
       let g = led w e f in (
-        here_detached f same (is_hidden (older w f g) b.sides.first_label) (bound_of w high c.start bs) h.1.0.known (named_in (changes_of e))
-            (names_here w names f g e (turned w e f) b (detached_of r c b) (bound_of w high c.start bs) c.start h.1.0) h.1.0.names_old,
+        here_detached f same (is_hidden (older w f g) b.span.first_label) (bound_of w high c.start bs) h.1.0.known (named_in (changes_of e))
+            (names_here w names f g e (changes_along w e f) b (detached_of r c b) (bound_of w high c.start bs) c.start h.1.0) h.1.0.names_old,
         lies_detached w false (next_bound w high b) g es bs (λ l. led_labels w e f l h.0.0 ∙ same l) h.1.1,
       )
 

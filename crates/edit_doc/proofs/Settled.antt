@@ -15,7 +15,7 @@ use Rattle.edit_model.specs.Edit.{overrides_after}
 use Rattle.edit_model.specs.Valid.{IsPlaced, IsPlacedPair}
 use Rattle.edit_model.specs.Overrides.{no_overrides}
 use Rattle.edit_model.proofs.Points.{placed_is}
-use Rattle.edit_parts.specs.Following.{settled}
+use Rattle.edit_parts.specs.Following.{unset_if_range_changed}
 use Rattle.edit_doc.proofs.Ordered.{before-detached}
 
 -- a point of what is left stands at a node that is left
@@ -36,7 +36,7 @@ module _ (k : ℕ → Bool) where
       λ i. range_changed (λ _ _. a i) (λ _ _. b i) (Some p) (Some q)
 
   -- what `unset_overrides_if_range_changed` leaves is what the definitions say of what is seen
-  pub settled_seen : (f g : Forest Content) (s : State) (after : LivePoints) → IsDistinct f → IsDistinct g → s.trees ≡ pruned k f → IsPlaced (pruned k f) s.points → IsPlaced (pruned k g) after → settled f s.points g after s.overrides ≡ overrides_after s (pruned k g) after
+  pub settled_seen : (f g : Forest Content) (s : State) (after : LivePoints) → IsDistinct f → IsDistinct g → s.trees ≡ pruned k f → IsPlaced (pruned k f) s.points → IsPlaced (pruned k g) after → unset_if_range_changed f s.points g after s.overrides ≡ overrides_after s (pruned k g) after
   unfolding overrides_after
   settled_seen f g s after once once' trees was is =
       ap (λ b. if b then no_overrides else s.overrides)

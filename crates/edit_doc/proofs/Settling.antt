@@ -18,7 +18,7 @@ use Rattle.edit_model.specs.Possible.{freed}
 use Rattle.edit_model.proofs.Made.{made_placed}
 use Rattle.edit_model.proofs.ValidParts.{valid_freed}
 use Rattle.edit_parts.specs.declared.overrides.Watch.{Watch}
-use Rattle.edit_parts.specs.Following.{Watches, settled}
+use Rattle.edit_parts.specs.Following.{Watches, unset_if_range_changed}
 use Rattle.edit_doc.specs.declared.Doc.TheInside.{Inside}
 use Rattle.edit_doc.specs.Whole.{Whole, IsOpen}
 use Rattle.edit_doc.specs.Live.{live}
@@ -64,7 +64,7 @@ module _ (d : Inside) (v : Whole) (is : seen d ≡ v) (law : IsArena d.tree.node
   points_next = placed-whole g d.tree.nodes.arena.next forest_next (out_of d) refl after placed_seen
 
   abbrev pub overrides_next : List Setting
-  overrides_next = settled d.tree.nodes.arena.trees d.tree.points (applied (change_of x) d.tree.nodes.arena.trees) (points_after e (pruned (out_of d) d.tree.nodes.arena.trees) d.tree.points) d.tree.overrides
+  overrides_next = unset_if_range_changed d.tree.nodes.arena.trees d.tree.points (applied (change_of x) d.tree.nodes.arena.trees) (points_after e (pruned (out_of d) d.tree.nodes.arena.trees) d.tree.points) d.tree.overrides
 
   pub overrides_are : overrides_next ≡ overrides_after (seen_of d).state (trees_after e (pruned (out_of d) f)) after
   overrides_are =
@@ -73,9 +73,9 @@ module _ (d : Inside) (v : Whole) (is : seen d ≡ v) (law : IsArena d.tree.node
 
   -- what settling writes
   pub settled_items : (new : List Setting) (n : LivePoints) (a : Arena) (w : Option Watch) → n ≡ after → a ≡ step_applied x d.tree.nodes.arena →
-      Watches d.tree.nodes.arena.trees d.tree.points d.tree.overrides w → ((h : Forest Content) (b : LivePoints) → Watches h b d.tree.overrides w → new ≡ settled h b a.trees n d.tree.overrides) → new ≡ overrides_next
+      Watches d.tree.nodes.arena.trees d.tree.points d.tree.overrides w → ((h : Forest Content) (b : LivePoints) → Watches h b d.tree.overrides w → new ≡ unset_if_range_changed h b a.trees n d.tree.overrides) → new ≡ overrides_next
   unfolding step_applied
-  settled_items new n a w en ea watches settles = settles f d.tree.points watches ∙ (λ i. settled f d.tree.points (ea i).trees (en i) d.tree.overrides)
+  settled_items new n a w en ea watches settles = settles f d.tree.points watches ∙ (λ i. unset_if_range_changed f d.tree.points (ea i).trees (en i) d.tree.overrides)
 
   pub placed_called : (n : LivePoints) (a : Arena) → n ≡ after → a ≡ step_applied x d.tree.nodes.arena → IsPlaced a.trees n
   unfolding step_applied

@@ -25,13 +25,13 @@ use Rattle.edit_model.specs.History.{History, used, at_view, undone_state as und
 use Rattle.node_arena.specs.declared.NodeRef.{NodeRef}
 use Rattle.edit_doc.specs.declared.Doc.TheInside.{Inside}
 use Rattle.edit_doc.specs.declared.command.EntrySnapshot.{EntrySnapshot}
-use Rattle.edit_doc.specs.declared.command.Sides.{Sides}
+use Rattle.edit_doc.specs.declared.command.EntrySpan.{EntrySpan}
 use Rattle.edit_doc.specs.Trail.{Trail, IsTrail, trail_of, FitsAlong, steps_along, snapshots_along, arena_along, trail_along}
 use Rattle.edit_doc.specs.Whole.{Whole, first_edits}
 use Rattle.edit_doc.specs.declared.history.Way.{Way}
 use Rattle.edit_doc.specs.History.{roots_from, forest_before, forest_after, is_hidden, undo_entries, redo_entries, history_of, whole_of, view_at, led, older, newer, other, entries_along, whole_along}
 use Rattle.edit_doc.specs.declared.history.Way.TheVariants.{Back, Forth}
-use Rattle.edit_doc.specs.Sound.{IsOff, EntriesOff, AreNeeded, IsSide, IsSnapshot, UndoSound, RedoSound, next_first, IsSoundDoc, CanGo, Lies, turned}
+use Rattle.edit_doc.specs.Sound.{IsOff, EntriesOff, AreNeeded, IsSide, IsSnapshot, UndoSound, RedoSound, next_first, IsSoundDoc, CanGo, Lies, changes_along}
 use Rattle.edit_doc.specs.Live.{live, live_of}
 use Rattle.edit_doc.specs.Fields.{places_along, counts_along}
 use Rattle.edit_doc.proofs.HiddenTrees.{hidden_is, top_loose}
@@ -63,8 +63,8 @@ record Turns (w : Way) (e t : List Step) (a : Arena) : Type 0 where
   arena : step_led w e a ≡ record a { trees = led w e a.trees }
   can : CanGo (other w) a.held t (led w e a.trees)
   again : led (other w) t (led w e a.trees) ≡ a.trees
-  steps : turned (other w) t (led w e a.trees) ≡ changes_of e
-  own : changes_of t ≡ turned w e a.trees
+  steps : changes_along (other w) t (led w e a.trees) ≡ changes_of e
+  own : changes_of t ≡ changes_along w e a.trees
 
 turns_of : (w : Way) (e : List Step) (a : Arena) → IsSlotted a → CanGo w a.held e a.trees → Turns w e (step_turned w e a) a
 turns_of Back e a slotted can =
@@ -91,22 +91,22 @@ turns_of Forth e a slotted can =
     }
 
 module _ (a : Arena) (is : IsForest a.trees) (slotted : IsSlotted a) (names : List (List ℕ)) (e : List Step) (b : EntrySnapshot) (detached : List NodeRef) (high start : ℕ) where
-  prunes_here : (w : Way) (ts : List Change) → IsSnapshot names (older w a.trees (led w e a.trees)) (newer w a.trees (led w e a.trees)) e ts b detached high start → Prunes (is_hidden (older w a.trees (led w e a.trees)) b.sides.first_label) a.trees
-  prunes_here Back ts h = prunes_after (forest_before e a.trees) a.trees b.sides.first_label is h.hidden
-  prunes_here Forth ts h = prunes_before a.trees b.sides.first_label is
+  prunes_here : (w : Way) (ts : List Change) → IsSnapshot names (older w a.trees (led w e a.trees)) (newer w a.trees (led w e a.trees)) e ts b detached high start → Prunes (is_hidden (older w a.trees (led w e a.trees)) b.span.first_label) a.trees
+  prunes_here Back ts h = prunes_after (forest_before e a.trees) a.trees b.span.first_label is h.hidden
+  prunes_here Forth ts h = prunes_before a.trees b.span.first_label is
 
   -- an entry that is taken one way can be taken the other
-  taken : (w : Way) → CanGo w a.held e a.trees → IsSnapshot names (older w a.trees (led w e a.trees)) (newer w a.trees (led w e a.trees)) e (turned w e a.trees) b detached high start →
+  taken : (w : Way) → CanGo w a.held e a.trees → IsSnapshot names (older w a.trees (led w e a.trees)) (newer w a.trees (led w e a.trees)) e (changes_along w e a.trees) b detached high start →
       let t = step_turned w e a in
       let g = led w e a.trees in
-      Turns w e t a × IsSnapshot names (older (other w) g (led (other w) t g)) (newer (other w) g (led (other w) t g)) t (turned (other w) t g) b detached high start
+      Turns w e t a × IsSnapshot names (older (other w) g (led (other w) t g)) (newer (other w) g (led (other w) t g)) t (changes_along (other w) t g) b detached high start
   taken w can h =
       let f = a.trees in
       let g = led w e f in
       let t = step_turned w e a in
       let ts = turns_of w e a slotted can in
-      let k = is_hidden (older w f g) b.sides.first_label in
-      let d = led_down k w e f (prunes_here w (turned w e f) h) can.0 (names_here w names f g e (turned w e f) b detached high start h) in
+      let k = is_hidden (older w f g) b.span.first_label in
+      let d = led_down k w e f (prunes_here w (changes_along w e f) h) can.0 (names_here w names f g e (changes_along w e f) b detached high start h) in
       let here : Each (IsLeft k f) (named_in (changes_of t)) = subst (λ xs. Each (IsLeft k f) (named_in xs)) (sym ts.own) d.names in
       let there : Each (IsLeft k g) (named_in (changes_of t)) = each_of (IsLeft k f) (IsLeft k g) (named_in (changes_of t)) (λ l s. (let u = d.stays l in omega arith)) here in
       let own : IsSnapshot names (older w f g) (newer w f g) t (changes_of e) b detached high start = record {
@@ -126,7 +126,7 @@ module _ (a : Arena) (is : IsForest a.trees) (slotted : IsSlotted a) (names : Li
       } in
       let turn = turned_ends (λ x y. IsSnapshot names x y t (changes_of e) b detached high start) w f g own in (
         ts,
-        subst (λ x. IsSnapshot names (older (other w) g x) (newer (other w) g x) t (turned (other w) t g) b detached high start) (sym ts.again)
+        subst (λ x. IsSnapshot names (older (other w) g x) (newer (other w) g x) t (changes_along (other w) t g) b detached high start) (sym ts.again)
             (subst (λ xs. IsSnapshot names (older (other w) g f) (newer (other w) g f) t xs b detached high start) (sym ts.steps) turn),
       )
 
@@ -143,13 +143,13 @@ pub unset_length : length no_overrides ≡ 32
 unfolding no_overrides
 unset_length = refl
 
--- the sides of the first snapshot, if there is one
-abbrev first_sides : List EntrySnapshot → Option Sides
-first_sides bs = option_map (λ (b : EntrySnapshot). b.sides) (slice_get bs 0)
+-- the span of the first snapshot, if there is one
+abbrev first_span : List EntrySnapshot → Option EntrySpan
+first_span bs = option_map (λ (b : EntrySnapshot). b.span) (slice_get bs 0)
 
-no_first : (bs : List EntrySnapshot) → None ≡ first_sides bs → bs ≡ []
+no_first : (bs : List EntrySnapshot) → None ≡ first_span bs → bs ≡ []
 no_first [] e = refl
-no_first (b ∷ bs) e = absurd (let e' : None ≡ Some b.sides = e in cc)
+no_first (b ∷ bs) e = absurd (let e' : None ≡ Some b.span = e in cc)
 
 none_long : {A : Type 0} (xs : List A) → length xs ≡ 0 → xs ≡ []
 none_long [] e = refl
@@ -184,17 +184,17 @@ module _ (d : Inside) (v : Whole) (sees : seen d ≡ v) (law : IsArena d.tree.no
   pub fits : (w : Way) → FitsAlong w (steps_along w d.history) d.tree.nodes.arena
   fits w = fits_of w (high w) (steps_along w d.history) (snapshots_along w d.history) (lies w)
 
-  abbrev IsLedSide : Way → List (List Step) → Sides → Type 0
+  abbrev IsLedSide : Way → List (List Step) → EntrySpan → Type 0
   IsLedSide w es s = IsSide d.tree.points.names (arena_along w es d.tree.nodes.arena).trees (places_along w s) (counts_along w s).nodes (counts_along w s).chars (counts_along w s).depth
 
-  side_of : (w : Way) (n : ℕ) (es : List (List Step)) (bs : List EntrySnapshot) → LiesHere w n es bs → FitsAlong w es d.tree.nodes.arena → (s : Sides) → Some s ≡ first_sides bs → IsLedSide w es s
+  side_of : (w : Way) (n : ℕ) (es : List (List Step)) (bs : List EntrySnapshot) → LiesHere w n es bs → FitsAlong w es d.tree.nodes.arena → (s : EntrySpan) → Some s ≡ first_span bs → IsLedSide w es s
   side_of w n es [] h fit s first = absurd (let first' : Some s ≡ None = first in cc)
   side_of w n [] (b ∷ bs) h fit s first = absurd h
-  side_of Back n (e ∷ es) (b ∷ bs) h fit s first = rw (some_eq s b.sides first, (go_back e d.tree.nodes.arena fit).state) h.1.0.was
-  side_of Forth n (e ∷ es) (b ∷ bs) h fit s first = rw (some_eq s b.sides first, (go_forth e d.tree.nodes.arena fit).state) h.1.0.is
+  side_of Back n (e ∷ es) (b ∷ bs) h fit s first = rw (some_eq s b.span first, (go_back e d.tree.nodes.arena fit).state) h.1.0.was
+  side_of Forth n (e ∷ es) (b ∷ bs) h fit s first = rw (some_eq s b.span first, (go_forth e d.tree.nodes.arena fit).state) h.1.0.is
 
   -- the document to which the first of them leads
-  pub side : (w : Way) (s : Sides) → Some s ≡ first_sides (snapshots_along w d.history) → IsLedSide w (steps_along w d.history) s
+  pub side : (w : Way) (s : EntrySpan) → Some s ≡ first_span (snapshots_along w d.history) → IsLedSide w (steps_along w d.history) s
   side w = side_of w (high w) (steps_along w d.history) (snapshots_along w d.history) (lies w) (fits w)
 
   pub edits : (w : Way) → first_length (steps_along w d.history) ≡ first_edits (entries_along w v)
@@ -274,7 +274,7 @@ module _ (d : Inside) (v : Whole) (sees : seen d ≡ v) (law : IsArena d.tree.no
 
   undo_go : (e : List Step) (es : List (List Step)) (b : EntrySnapshot) (bs : List EntrySnapshot) → d.history.log.undo ≡ e ∷ es → d.history.past ≡ b ∷ bs →
       IsArena (record d.tree.nodes.arena { trees = forest_before e d.tree.nodes.arena.trees }) →
-      Turned (record d.tree.nodes.arena { trees = forest_before e d.tree.nodes.arena.trees }) (shown d.tree.points.names b.sides.before)
+      Turned (record d.tree.nodes.arena { trees = forest_before e d.tree.nodes.arena.trees }) (shown d.tree.points.names b.span.before)
       (trail_of (record d.history.log { undo = es; redo = inverses_back step_applied step_inverse e d.tree.nodes.arena ∷ d.history.log.redo }) bs (b ∷ d.history.future))
       (whole_along Back (seen d))
   unfolding undone_doc undone_history at_view
@@ -291,7 +291,7 @@ module _ (d : Inside) (v : Whole) (sees : seen d ≡ v) (law : IsArena d.tree.no
       let trail' : Trail = trail_of (record d.history.log { undo = es; redo = t ∷ d.history.log.redo }) bs (b ∷ d.history.future) in
       let needed : AreNeeded d.command.start g es (t ∷ d.history.log.redo) = λ l inner old top off_undo off_redo. (
       let ch = changes_of t in
-      let ps : Passes l g (forest_after t g) (inverses_forth applied inverse ch g) = passes_forth l ch g (forest_of a' law') inner top tb.can.0 (each_here (is_hidden g b.sides.first_label) g (named_in ch) taking.1.names_seen) off_redo.0 in
+      let ps : Passes l g (forest_after t g) (inverses_forth applied inverse ch g) = passes_forth l ch g (forest_of a' law') inner top tb.can.0 (each_here (is_hidden g b.span.first_label) g (named_in ch) taking.1.names_seen) off_redo.0 in
       let top' : 0 < times (tops f) l = subst (λ h. 0 < times (tops h) l) tb.again ps.top in
       let same : (m : ℕ) → count_of (tree_of f l) m ≡ count_of (tree_of g l) m = λ m. subst (λ h. count_of (tree_of h l) m ≡ count_of (tree_of g l) m) tb.again (ps.same m) in
       let own : Each (IsOff f l) (named_in (changes_of e)) = off_moved l g f same (named_in (changes_of e)) (subst (λ xs. Each (IsOff g l) (named_in xs)) tb.steps ps.turns) in
@@ -301,16 +301,16 @@ module _ (d : Inside) (v : Whole) (sees : seen d ≡ v) (law : IsArena d.tree.no
       let history : history_of d.tree.points.names g trail' ≡ undone_history w.history = λ i. record {
         undo = undo_entries d.tree.points.names g es bs;
         redo = record {
-          before = view_at d.tree.points.names g b.sides.before;
-          after = view_at d.tree.points.names (tb.again i) b.sides.after;
+          before = view_at d.tree.points.names g b.span.before;
+          after = view_at d.tree.points.names (tb.again i) b.span.after;
           edits = tb.own i;
-          made = used (tb.own i) (roots_from b.sides.first_label g);
+          made = used (tb.own i) (roots_from b.span.first_label g);
         } ∷ redo_entries d.tree.points.names (tb.again i) d.history.log.redo d.history.future;
         depth = d.history.log.depth;
         dropped = d.history.log.dropped;
       } in
-      subst (Turned a' (shown d.tree.points.names b.sides.before) trail') (ap (whole_along Back) (sym (resting_is ∙ was)))
-      (stands g law' b.sides.before b.sides.nodes_before b.sides.chars_before b.sides.depth_before h.1.0.was trail' closed h.1.1
+      subst (Turned a' (shown d.tree.points.names b.span.before) trail') (ap (whole_along Back) (sym (resting_is ∙ was)))
+      (stands g law' b.span.before b.span.nodes_before b.span.chars_before b.span.depth_before h.1.0.was trail' closed h.1.1
       (tb.can, (taking.1, subst (λ x. RedoSound d.tree.nodes.arena.held d.tree.points.names d.command x d.history.log.redo d.history.future) (sym tb.again) at_rest.redo)) needed
       (undone_history w.history) history)
 
@@ -318,7 +318,7 @@ module _ (d : Inside) (v : Whole) (sees : seen d ≡ v) (law : IsArena d.tree.no
 
   redo_go : (e : List Step) (es : List (List Step)) (b : EntrySnapshot) (bs : List EntrySnapshot) → d.history.log.redo ≡ e ∷ es → d.history.future ≡ b ∷ bs →
       IsArena (record d.tree.nodes.arena { trees = forest_after e d.tree.nodes.arena.trees }) →
-      Turned (record d.tree.nodes.arena { trees = forest_after e d.tree.nodes.arena.trees }) (shown d.tree.points.names b.sides.after)
+      Turned (record d.tree.nodes.arena { trees = forest_after e d.tree.nodes.arena.trees }) (shown d.tree.points.names b.span.after)
       (trail_of (record d.history.log { undo = inverses_forth step_applied step_inverse e d.tree.nodes.arena ∷ d.history.log.undo; redo = es }) (b ∷ d.history.past) bs)
       (whole_along Forth (seen d))
   unfolding redone_doc redone_history at_view
@@ -328,7 +328,7 @@ module _ (d : Inside) (v : Whole) (sees : seen d ≡ v) (law : IsArena d.tree.no
       let high = next_first d.command.start bs in
       let h : RedoSound d.tree.nodes.arena.held d.tree.points.names d.command f (e ∷ es) (b ∷ bs) =
       subst (λ xs. RedoSound d.tree.nodes.arena.held d.tree.points.names d.command f xs (b ∷ bs)) eu (subst (λ xs. RedoSound d.tree.nodes.arena.held d.tree.points.names d.command f d.history.log.redo xs) su at_rest.redo) in
-      let under : UndoSound d.tree.nodes.arena.held d.tree.points.names false d.command b.sides.first_label f d.history.log.undo d.history.past =
+      let under : UndoSound d.tree.nodes.arena.held d.tree.points.names false d.command b.span.first_label f d.history.log.undo d.history.past =
       subst (λ xs. UndoSound d.tree.nodes.arena.held d.tree.points.names false d.command (next_first d.command.start xs) f d.history.log.undo d.history.past) su at_rest.undo in
       let t = inverses_forth step_applied step_inverse e d.tree.nodes.arena in
       let taking = taken d.tree.nodes.arena (forest_of d.tree.nodes.arena law) slotted d.tree.points.names e b b.detached.items high d.command.start Forth h.0 h.1.0 in
@@ -337,7 +337,7 @@ module _ (d : Inside) (v : Whole) (sees : seen d ≡ v) (law : IsArena d.tree.no
       let trail' : Trail = trail_of (record d.history.log { undo = t ∷ d.history.log.undo; redo = es }) (b ∷ d.history.past) bs in
       let needed : AreNeeded d.command.start g (t ∷ d.history.log.undo) es = λ l inner old top off_undo off_redo. (
       let ch = changes_of t in
-      let ps : Passes l g (forest_before t g) (inverses_back applied inverse ch g) = passes_back l ch g (forest_of a' law') inner top tb.can.0 (each_here (is_hidden (forest_before t g) b.sides.first_label) g (named_in ch) taking.1.names_there) off_undo.0 in
+      let ps : Passes l g (forest_before t g) (inverses_back applied inverse ch g) = passes_back l ch g (forest_of a' law') inner top tb.can.0 (each_here (is_hidden (forest_before t g) b.span.first_label) g (named_in ch) taking.1.names_there) off_undo.0 in
       let top' : 0 < times (tops f) l = subst (λ h. 0 < times (tops h) l) tb.again ps.top in
       let same : (m : ℕ) → count_of (tree_of f l) m ≡ count_of (tree_of g l) m = λ m. subst (λ h. count_of (tree_of h l) m ≡ count_of (tree_of g l) m) tb.again (ps.same m) in
       let own : Each (IsOff f l) (named_in (changes_of e)) = off_moved l g f same (named_in (changes_of e)) (subst (λ xs. Each (IsOff g l) (named_in xs)) tb.steps ps.turns) in
@@ -346,66 +346,66 @@ module _ (d : Inside) (v : Whole) (sees : seen d ≡ v) (law : IsArena d.tree.no
       let was : resting_with d.history ≡ w = (λ i. resting_with (trail_of (record d.history.log { redo = eu i }) d.history.past (su i))) in
       let history : history_of d.tree.points.names g trail' ≡ redone_history w.history = λ i. record {
         undo = record {
-          before = view_at d.tree.points.names (tb.again i) b.sides.before;
-          after = view_at d.tree.points.names g b.sides.after;
+          before = view_at d.tree.points.names (tb.again i) b.span.before;
+          after = view_at d.tree.points.names g b.span.after;
           edits = tb.steps i;
-          made = used (tb.steps i) (roots_from b.sides.first_label (tb.again i));
+          made = used (tb.steps i) (roots_from b.span.first_label (tb.again i));
         } ∷ undo_entries d.tree.points.names (tb.again i) d.history.log.undo d.history.past;
         redo = redo_entries d.tree.points.names g es bs;
         depth = d.history.log.depth;
         dropped = d.history.log.dropped;
       } in
-      subst (Turned a' (shown d.tree.points.names b.sides.after) trail') (ap (whole_along Forth) (sym (resting_is ∙ was)))
-      (stands g law' b.sides.after b.sides.nodes_after b.sides.chars_after b.sides.depth_after h.1.0.is trail' closed
-      (tb.can, (taking.1, subst (λ x. UndoSound d.tree.nodes.arena.held d.tree.points.names false d.command b.sides.first_label x d.history.log.undo d.history.past) (sym tb.again) under)) h.1.1 needed
+      subst (Turned a' (shown d.tree.points.names b.span.after) trail') (ap (whole_along Forth) (sym (resting_is ∙ was)))
+      (stands g law' b.span.after b.span.nodes_after b.span.chars_after b.span.depth_after h.1.0.is trail' closed
+      (tb.can, (taking.1, subst (λ x. UndoSound d.tree.nodes.arena.held d.tree.points.names false d.command b.span.first_label x d.history.log.undo d.history.past) (sym tb.again) under)) h.1.1 needed
       (redone_history w.history) history)
 
   -- ---- what the calls give
 
-  some_entries : (s : Sides) (bs : List EntrySnapshot) → Some s ≡ first_sides bs → 0 < length bs
+  some_entries : (s : EntrySpan) (bs : List EntrySnapshot) → Some s ≡ first_span bs → 0 < length bs
   some_entries s [] e = absurd (let e' : Some s ≡ None = e in cc)
   some_entries s (b ∷ bs) e = omega arith
 
-  undo_done : (a : Arena) (points : LivePoints) (trail : Trail) (s : Sides) → Some s ≡ first_sides d.history.past → IsArena a →
+  undo_done : (a : Arena) (points : LivePoints) (trail : Trail) (s : EntrySpan) → Some s ≡ first_span d.history.past → IsArena a →
       a ≡ undone_state step_applied d.history.log.undo d.tree.nodes.arena → trail ≡ trail_along Back d.history d.tree.nodes.arena → points ≡ shown d.tree.points.names s.before →
       Turned a points trail (whole_along Back v)
   undo_done a points trail s first law' ea et ep =
       let more = some_entries s d.history.past first in
       let u = uncons d.history.log.undo (let n = beside.past in omega (arith, more, n)) in
       let w = uncons d.history.past more in
-      let same : s ≡ w.0.sides = some_eq s w.0.sides (first ∙ ap first_sides w.2) in
+      let same : s ≡ w.0.span = some_eq s w.0.span (first ∙ ap first_span w.2) in
       let fits : FitsUndo step_applied StepFits (u.0 ∷ u.1) d.tree.nodes.arena = subst (λ xs. FitsUndo step_applied StepFits xs d.tree.nodes.arena) u.2 (fits Back) in
       let ea' : a ≡ record d.tree.nodes.arena { trees = forest_before u.0 d.tree.nodes.arena.trees } = ea ∙ (ap (λ xs. undone_state step_applied xs d.tree.nodes.arena) u.2 ∙ (go_back u.0 d.tree.nodes.arena fits).state) in
       let et' : trail ≡ trail_of (record d.history.log { undo = u.1; redo = inverses_back step_applied step_inverse u.0 d.tree.nodes.arena ∷ d.history.log.redo }) w.1 (w.0 ∷ d.history.future) =
       et ∙ (λ i. trail_of (undone_with step_applied step_inverse d.history.log (u.2 i) d.tree.nodes.arena) (drop 1 (w.2 i)) (take 1 (w.2 i) ++ d.history.future)) in
-      let ep' : points ≡ shown d.tree.points.names w.0.sides.before = ep ∙ ap (λ (o : Sides). shown d.tree.points.names o.before) same in
+      let ep' : points ≡ shown d.tree.points.names w.0.span.before = ep ∙ ap (λ (o : EntrySpan). shown d.tree.points.names o.before) same in
       let r = undo_go u.0 u.1 w.0 w.1 u.2 w.2 (subst IsArena ea' law') in
       subst (λ (x : Whole). Turned a points trail (whole_along Back x)) sees (rw (ea', et', ep') r)
 
-  redo_done : (a : Arena) (points : LivePoints) (trail : Trail) (s : Sides) → Some s ≡ first_sides d.history.future → IsArena a →
+  redo_done : (a : Arena) (points : LivePoints) (trail : Trail) (s : EntrySpan) → Some s ≡ first_span d.history.future → IsArena a →
       a ≡ redone_state step_applied d.history.log.redo d.tree.nodes.arena → trail ≡ trail_along Forth d.history d.tree.nodes.arena → points ≡ shown d.tree.points.names s.after →
       Turned a points trail (whole_along Forth v)
   redo_done a points trail s first law' ea et ep =
       let more = some_entries s d.history.future first in
       let u = uncons d.history.log.redo (let n = beside.future in omega (arith, more, n)) in
       let w = uncons d.history.future more in
-      let same : s ≡ w.0.sides = some_eq s w.0.sides (first ∙ ap first_sides w.2) in
+      let same : s ≡ w.0.span = some_eq s w.0.span (first ∙ ap first_span w.2) in
       let fits : FitsRedo step_applied StepFits (u.0 ∷ u.1) d.tree.nodes.arena = subst (λ xs. FitsRedo step_applied StepFits xs d.tree.nodes.arena) u.2 (fits Forth) in
       let ea' : a ≡ record d.tree.nodes.arena { trees = forest_after u.0 d.tree.nodes.arena.trees } = ea ∙ (ap (λ xs. redone_state step_applied xs d.tree.nodes.arena) u.2 ∙ (go_forth u.0 d.tree.nodes.arena fits).state) in
       let et' : trail ≡ trail_of (record d.history.log { undo = inverses_forth step_applied step_inverse u.0 d.tree.nodes.arena ∷ d.history.log.undo; redo = u.1 }) (w.0 ∷ d.history.past) w.1 =
       et ∙ (λ i. trail_of (redone_with step_applied step_inverse d.history.log (u.2 i) d.tree.nodes.arena) (take 1 (w.2 i) ++ d.history.past) (drop 1 (w.2 i))) in
-      let ep' : points ≡ shown d.tree.points.names w.0.sides.after = ep ∙ ap (λ (o : Sides). shown d.tree.points.names o.after) same in
+      let ep' : points ≡ shown d.tree.points.names w.0.span.after = ep ∙ ap (λ (o : EntrySpan). shown d.tree.points.names o.after) same in
       let r = redo_go u.0 u.1 w.0 w.1 u.2 w.2 (subst IsArena ea' law') in
       subst (λ (x : Whole). Turned a points trail (whole_along Forth x)) sees (rw (ea', et', ep') r)
 
-  pub turn_done : (w : Way) (a : Arena) (points : LivePoints) (trail : Trail) (s : Sides) → Some s ≡ first_sides (snapshots_along w d.history) → IsArena a →
+  pub turn_done : (w : Way) (a : Arena) (points : LivePoints) (trail : Trail) (s : EntrySpan) → Some s ≡ first_span (snapshots_along w d.history) → IsArena a →
       a ≡ arena_along w (steps_along w d.history) d.tree.nodes.arena → trail ≡ trail_along w d.history d.tree.nodes.arena → points ≡ shown d.tree.points.names (places_along w s) →
       Turned a points trail (whole_along w v)
   turn_done Back = undo_done
   turn_done Forth = redo_done
 
   -- where no entry lies that way
-  pub nil : (w : Way) → None ≡ first_sides (snapshots_along w d.history) → entries_along w v ≡ []
+  pub nil : (w : Way) → None ≡ first_span (snapshots_along w d.history) → entries_along w v ≡ []
   nil Back none = none_long v.history.undo (sym (undo_count d v sees ok) ∙ (sym beside.past ∙ ap length (no_first d.history.past none)))
   nil Forth none = none_long v.history.redo (sym (redo_count d v sees ok) ∙ (sym beside.future ∙ ap length (no_first d.history.future none)))
 

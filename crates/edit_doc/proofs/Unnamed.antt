@@ -196,13 +196,13 @@ module _ (d : Inside) (during : Opened d) where
   entries_below r high h (e ∷ es) [] le same s = absurd s
   entries_below r high h (e ∷ es) (b ∷ bs) le same s = (
     old_detached (named_in (changes_of e)) s.1.0.names_there s.1.0.names_old,
-    entries_below false b.sides.first_label (forest_before e h) es bs (let t = s.1.0.drawn in omega (arith, t, le)) (λ l. back_labels (changes_of e) h l s.0.0 ∙ same l) s.1.1,
+    entries_below false b.span.first_label (forest_before e h) es bs (let t = s.1.0.drawn in omega (arith, t, le)) (λ l. back_labels (changes_of e) h l s.0.0 ∙ same l) s.1.1,
   )
     where
-      old_detached : (ls : List ℕ) → Each (IsLeft (is_hidden (forest_before e h) b.sides.first_label) h) ls → Each (λ l. l < high) ls → Each (IsLeft unnamed f) ls
+      old_detached : (ls : List ℕ) → Each (IsLeft (is_hidden (forest_before e h) b.span.first_label) h) ls → Each (λ l. l < high) ls → Each (IsLeft unnamed f) ls
       old_detached [] a c = tt
       old_detached (m ∷ ms) a c = (
-        detached_now unnamed (λ l t. t) m (older m (let lt = c.0 in omega (arith, lt, le)), (let s' = same m in let detached = a.0 in let some = count_of-pruned (is_hidden (forest_before e h) b.sides.first_label) h m in omega (arith, s', detached, some))),
+        detached_now unnamed (λ l t. t) m (older m (let lt = c.0 in omega (arith, lt, le)), (let s' = same m in let detached = a.0 in let some = count_of-pruned (is_hidden (forest_before e h) b.span.first_label) h m in omega (arith, s', detached, some))),
         old_detached ms a.1 c.1,
       )
         where

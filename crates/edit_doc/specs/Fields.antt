@@ -15,7 +15,7 @@ use Rattle.edit_model.specs.declared.settings.Flags.{Flags}
 use Rattle.edit_model.specs.Gives.{labels_of}
 use Rattle.edit_parts.specs.declared.Counts.{Counts}
 use Rattle.edit_doc.specs.declared.command.EntrySnapshot.{EntrySnapshot}
-use Rattle.edit_doc.specs.declared.command.Sides.{Sides}
+use Rattle.edit_doc.specs.declared.command.EntrySpan.{EntrySpan}
 use Rattle.edit_doc.specs.declared.command.Kept.{Kept}
 use Rattle.edit_doc.specs.declared.command.Command.{Command}
 use Rattle.edit_doc.specs.declared.history.Way.{Way}
@@ -56,7 +56,7 @@ abbrev pub ForgetsIn : Bool → List EntrySnapshot → List EntrySnapshot → Li
 ForgetsIn false us new ls = new ≡ us
 ForgetsIn true [] new ls = ⊥
 ForgetsIn true (b ∷ bs) [] ls = ⊥
-ForgetsIn true (b ∷ bs) (b' ∷ bs') ls = (bs' ≡ bs) × ((b'.sides ≡ b.sides) × (b'.detached.items ≡ ls))
+ForgetsIn true (b ∷ bs) (b' ∷ bs') ls = (bs' ≡ bs) × ((b'.span ≡ b.span) × (b'.detached.items ≡ ls))
 
 abbrev pub Forgets : List EntrySnapshot → List EntrySnapshot → Command → Type 0
 Forgets us new c = ForgetsIn c.resumed us new (take c.detached_before c.detached.items)
@@ -66,17 +66,17 @@ abbrev pub has_newly_detached : Command → ℕ → Bool
 has_newly_detached c l = nat_le c.start l || has_label (labels_of (drop c.detached_before c.detached.items)) l
 
 -- the places and the numbers to which an entry leads
-abbrev pub places_along : Way → Sides → Places
+abbrev pub places_along : Way → EntrySpan → Places
 places_along Back s = s.before
 places_along Forth s = s.after
 
-abbrev pub counts_along : Way → Sides → Counts
+abbrev pub counts_along : Way → EntrySpan → Counts
 counts_along Back s = record { nodes = s.nodes_before; chars = s.chars_before; depth = s.depth_before }
 counts_along Forth s = record { nodes = s.nodes_after; chars = s.chars_after; depth = s.depth_after }
 
--- the sides of an entry that a command makes, and of one that it joins
-abbrev pub made_sides : Command → Places → Counts → Sides
-made_sides c p counts = record {
+-- the span of an entry that a command makes, and of one that it joins
+abbrev pub made_span : Command → Places → Counts → EntrySpan
+made_span c p counts = record {
   before = c.kept.places;
   after = p;
   first_label = c.start;
@@ -88,8 +88,8 @@ made_sides c p counts = record {
   depth_after = counts.depth;
 }
 
-abbrev pub joined_sides : Sides → Places → Counts → Sides
-joined_sides s p counts = record s {
+abbrev pub joined_span : EntrySpan → Places → Counts → EntrySpan
+joined_span s p counts = record s {
   after = p;
   nodes_after = counts.nodes;
   chars_after = counts.chars;
@@ -98,18 +98,18 @@ joined_sides s p counts = record s {
 
 -- The command's entry is the first, in place of the one that it resumed, with these detached trees. Where there are
 -- too many the oldest goes out.
-abbrev pub EntersIn : Bool → Sides → List NodeRef → Places → Counts → ℕ → List EntrySnapshot
+abbrev pub EntersIn : Bool → EntrySpan → List NodeRef → Places → Counts → ℕ → List EntrySnapshot
     → List EntrySnapshot → Option EntrySnapshot → Type 0
-EntersIn false s detached p counts room us new out = (b : EntrySnapshot) × (b.sides ≡ s)
+EntersIn false s detached p counts room us new out = (b : EntrySnapshot) × (b.span ≡ s)
     × (b.detached.items ≡ detached) × (new ≡ take room (b ∷ us)) × (out ≡ slice_get (b ∷ us) room)
 EntersIn true s detached p counts room [] new out = ⊥
 EntersIn true s detached p counts room (b ∷ bs) [] out = ⊥
 EntersIn true s detached p counts room (b ∷ bs) (b' ∷ bs') out = (bs' ≡ bs)
-    × ((b'.sides ≡ joined_sides b.sides p counts) × ((b'.detached.items ≡ detached) × (out ≡ None)))
+    × ((b'.span ≡ joined_span b.span p counts) × ((b'.detached.items ≡ detached) × (out ≡ None)))
 
 abbrev pub Enters : Command → List NodeRef → Places → Counts → ℕ → List EntrySnapshot → List EntrySnapshot
     → Option EntrySnapshot → Type 0
-Enters c detached p counts room us new out = EntersIn c.resumed (made_sides c p counts) detached p counts room
+Enters c detached p counts room us new out = EntersIn c.resumed (made_span c p counts) detached p counts room
     us new out
 
 -- a number of the document, with that of a tree if that comes into it

@@ -131,10 +131,10 @@ entries w names f [] bs = []
 entries w names f (e ∷ es) [] = []
 entries w names f (e ∷ es) (b ∷ bs) =
     record {
-      before = view_at names (older w f (led w e f)) b.sides.before;
-      after = view_at names (newer w f (led w e f)) b.sides.after;
+      before = view_at names (older w f (led w e f)) b.span.before;
+      after = view_at names (newer w f (led w e f)) b.span.after;
       edits = edits_of w e f;
-      made = used (edits_of w e f) (roots_from b.sides.first_label (older w f (led w e f)));
+      made = used (edits_of w e f) (roots_from b.span.first_label (older w f (led w e f)));
     } ∷ entries w names (led w e f) es bs
 
 abbrev pub undo_entries : List (List ℕ) → Forest Content → List (List Step) → List EntrySnapshot → List Entry

@@ -10,7 +10,7 @@ use Rattle.live_range.specs.PointsEdit.{has_label}
 use Rattle.edit_model.specs.History.{Entry}
 use Rattle.edit_doc.specs.Whole.{Whole}
 use Rattle.edit_doc.specs.declared.logged.LoggedEdit.{LoggedEdit}
-use Rattle.edit_doc.specs.declared.logged.LoggedEdit.TheVariants.{Remove, Insert, Move, Words, Attributes}
+use Rattle.edit_doc.specs.declared.logged.LoggedEdit.TheVariants.{Remove, Insert, Move, SetText, SetAttributes}
 use Rattle.edit_doc.specs.declared.logged.MadeNode.{MadeNode}
 
 -- the nodes that the commands of an entry made and its edits name, each as made, and its edits, from the first to
@@ -37,8 +37,8 @@ abbrev pub logged_edit : (ℕ → Option Content) → Change → LoggedEdit
 logged_edit content (change.Remove n) = Remove n
 logged_edit content (change.Insert n p b) = Insert n p b
 logged_edit content (change.Move n p b) = Move n p b
-logged_edit content (change.SetText n words) = Words n words
-logged_edit content (change.SetAttributes n list) = Attributes n (element_name (content n)) list
+logged_edit content (change.SetText n words) = SetText n words
+logged_edit content (change.SetAttributes n list) = SetAttributes n (element_name (content n)) list
 
 abbrev pub made_node : ℕ × Content → MadeNode
 made_node n = record { label = n.0; content = n.1 }

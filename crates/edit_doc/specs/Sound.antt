@@ -46,7 +46,7 @@ CanGoBack held xs f = FitsBack applied Fits (changes_of xs) f × EachHeldIn held
 abbrev pub CanGoForth : List (Option ℕ) → List Step → Forest Content → Type 0
 CanGoForth held xs f = FitsForth applied Fits (changes_of xs) f × EachHeldIn held xs
 
--- ---- the sides of an entry
+-- ---- the span of an entry
 
 -- the places are those of points that stand in the document of a forest, the scratch pair isn't there, and the numbers
 -- are those of the document, which is no deeper than the last
@@ -87,15 +87,15 @@ AreNeeded start f es fs = (l : ℕ) → 0 < l → l < start → 0 < times (tops 
 -- so are those that it left loose.
 pub record IsSnapshot (names : List (List ℕ)) (before after : Forest Content) (e : List Step)
     (turns : List Change) (b : EntrySnapshot) (detached : List NodeRef) (high start : ℕ) : Type 0 where
-  pub was : IsSide names before b.sides.before b.sides.nodes_before b.sides.chars_before b.sides.depth_before
-  pub is : IsSide names after b.sides.after b.sides.nodes_after b.sides.chars_after b.sides.depth_after
-  pub some_label : 0 < b.sides.first_label
-  pub fresh : AreFresh before b.sides.first_label
-  pub drawn : b.sides.first_label ≤ high
+  pub was : IsSide names before b.span.before b.span.nodes_before b.span.chars_before b.span.depth_before
+  pub is : IsSide names after b.span.after b.span.nodes_after b.span.chars_after b.span.depth_after
+  pub some_label : 0 < b.span.first_label
+  pub fresh : AreFresh before b.span.first_label
+  pub drawn : b.span.first_label ≤ high
   pub known : high ≤ start
-  pub hidden : (l : ℕ) → is_hidden before b.sides.first_label l ≡ true → 0 < times (tops after) l
-  pub names_seen : Each (IsLeft (is_hidden before b.sides.first_label) before) (named_in (changes_of e))
-  pub names_there : Each (IsLeft (is_hidden before b.sides.first_label) after) (named_in (changes_of e))
+  pub hidden : (l : ℕ) → is_hidden before b.span.first_label l ≡ true → 0 < times (tops after) l
+  pub names_seen : Each (IsLeft (is_hidden before b.span.first_label) before) (named_in (changes_of e))
+  pub names_there : Each (IsLeft (is_hidden before b.span.first_label) after) (named_in (changes_of e))
   pub names_old : Each (λ l. l < high) (named_in (changes_of e))
   pub turns_old : Each (λ l. l < high) (named_in turns)
   pub detached_loose : Each (λ l. (0 < l) × ((l < high) × (parent_of after l ≡ None))) (labels_of detached)
@@ -113,7 +113,7 @@ detached_of true c b = take c.detached_before c.detached.items
 -- the first label of the entries that redo would take; without any, the next one as the running command began
 abbrev pub next_first : ℕ → List EntrySnapshot → ℕ
 next_first start [] = start
-next_first start (b ∷ bs) = b.sides.first_label
+next_first start (b ∷ bs) = b.span.first_label
 
 -- the steps fit that way, and name nodes that are held; and what they turn into
 abbrev pub FitsWay : Way → List Step → Forest Content → Type 0
@@ -123,9 +123,9 @@ FitsWay Forth e f = FitsForth applied Fits (changes_of e) f
 abbrev pub CanGo : Way → List (Option ℕ) → List Step → Forest Content → Type 0
 CanGo w held e f = FitsWay w e f × EachHeldIn held e
 
-abbrev pub turned : Way → List Step → Forest Content → List Change
-turned Back e f = inverses_back applied inverse (changes_of e) f
-turned Forth e f = inverses_forth applied inverse (changes_of e) f
+abbrev pub changes_along : Way → List Step → Forest Content → List Change
+changes_along Back e f = inverses_back applied inverse (changes_of e) f
+changes_along Forth e f = inverses_forth applied inverse (changes_of e) f
 
 -- The labels of an entry are below those of the later entries: going back, below the bound that the entry before
 -- gave, and going forth, below the first of the entry that follows.
@@ -134,7 +134,7 @@ bound_of Back high start bs = high
 bound_of Forth high start bs = next_first start bs
 
 abbrev pub next_bound : Way → ℕ → EntrySnapshot → ℕ
-next_bound Back high b = b.sides.first_label
+next_bound Back high b = b.span.first_label
 next_bound Forth high b = high
 
 -- the entries lie that way from the forest on, each with its snapshot
@@ -145,7 +145,7 @@ Lies w held names resumed c high f [] (b ∷ bs) = ⊥
 Lies w held names resumed c high f (e ∷ es) [] = ⊥
 Lies w held names resumed c high f (e ∷ es) (b ∷ bs) =
     CanGo w held e f
-    × (IsSnapshot names (older w f (led w e f)) (newer w f (led w e f)) e (turned w e f) b
+    × (IsSnapshot names (older w f (led w e f)) (newer w f (led w e f)) e (changes_along w e f) b
     (detached_of resumed c b) (bound_of w high c.start bs) c.start
     × Lies w held names false c (next_bound w high b) (led w e f) es bs)
 

@@ -1,7 +1,7 @@
 //! What is kept of the running command, and beside each entry of the log.
 
 ghost use Rattle.std.specs.Prelude.{◌≡◌, ℕ, ◌<◌, [], ◌∷◌, vec_len, vec_capacity};
-ghost use Rattle.edit_doc.specs.Fields.{IsEnded, AreResting, places_along, counts_along, has_newly_detached, made_sides, joined_sides};
+ghost use Rattle.edit_doc.specs.Fields.{IsEnded, AreResting, places_along, counts_along, has_newly_detached, made_span, joined_span};
 ghost use Rattle.edit_doc.specs.Marks.{Marks, AreMarkable, NotesMade, place_labels};
 
 use crate::Counts;
@@ -15,7 +15,7 @@ use std::alloc::Global;
 /// Where the points stand just before and just after the commands of an entry, the next label as the first of them
 /// began, and the numbers of the document on both sides.
 #[derive(Clone, Copy)]
-pub struct Sides {
+pub struct EntrySpan {
     pub before: Places,
     pub after: Places,
     pub first_label: u32,
@@ -27,7 +27,7 @@ pub struct Sides {
     pub depth_after: u32,
 }
 
-impl Sides {
+impl EntrySpan {
     // The places to which the way leads.
     pub(crate) fn places(&self, way: Way) -> &Places
         ensures { result.now ≡ places_along way self.now }
@@ -57,11 +57,11 @@ impl Sides {
     }
 }
 
-// What is kept beside an entry: its sides, and the roots of the trees that its commands detached, which go when the
+// What is kept beside an entry: its span, and the roots of the trees that its commands detached, which go when the
 // entry does.
 #[derive(Drop)]
 pub(crate) struct EntrySnapshot {
-    pub(crate) sides: Sides,
+    pub(crate) span: EntrySpan,
     pub(crate) detached: Vec<NodeRef>,
 }
 
@@ -169,11 +169,11 @@ impl Command {
 
     // What stands beside the entry of the command.
     pub(crate) fn snapshot(&self, alloc: Global, after: Places, counts: Counts) -> EntrySnapshot
-        ensures sides { result.sides ≡ made_sides self.now after counts }
+        ensures span { result.span ≡ made_span self.now after counts }
         ensures detached { result.detached.items ≡ [] }
     {
         EntrySnapshot {
-            sides: Sides {
+            span: EntrySpan {
                 before: self.kept.places,
                 after,
                 first_label: self.start,
@@ -192,13 +192,13 @@ impl Command {
 impl EntrySnapshot {
     // Another command joined the entry.
     pub(crate) fn join(&mut self, after: Places, counts: Counts)
-        ensures sides { self.new.sides ≡ joined_sides self.old.sides after counts }
+        ensures span { self.new.span ≡ joined_span self.old.span after counts }
         ensures detached { self.new.detached.items ≡ [] }
     {
-        self.sides.after = after;
-        self.sides.nodes_after = counts.nodes;
-        self.sides.chars_after = counts.chars;
-        self.sides.depth_after = counts.depth;
+        self.span.after = after;
+        self.span.nodes_after = counts.nodes;
+        self.span.chars_after = counts.chars;
+        self.span.depth_after = counts.depth;
         self.detached.clear();
     }
 }

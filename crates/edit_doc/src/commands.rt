@@ -158,11 +158,11 @@ impl Doc {
         self.history.valid();
         self.tree.nodes.arena.valid();
         self.tree.nodes.arena.slotted();
-        let Some(sides) = self.history.first_sides(way) else {
+        let Some(span) = self.history.first_span(way) else {
             return false;
         };
-        let counts = sides.counts(way);
-        self.tree.points.set_places(sides.places(way));
+        let counts = span.counts(way);
+        self.tree.points.set_places(span.places(way));
         self.tree.nodes.turn(way, &mut self.history, counts, steps);
         self.tree.nodes.arena.valid();
         self.tree.overrides.unset();

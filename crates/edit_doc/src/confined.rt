@@ -8,7 +8,7 @@ ghost use Rattle.edit_doc.specs.Held.{Holds, IfHeld};
 ghost use Rattle.point_order.specs.PointOrder.{is_within};
 
 use crate::{Doc, Kind, NodeRef, Point};
-use edit_parts::{bears_nothing, is_in_document};
+use edit_parts::{has_no_kept_leaves, is_in_document};
 use node_arena::is_break;
 
 impl Doc {
@@ -114,7 +114,7 @@ impl Doc {
     {
         self.is_open(parent)
             && (self.is_own(node) || is_break(self, node))
-            && (!self.command.keeping || bears_nothing(self.nodes(), node))
+            && (!self.command.keeping || has_no_kept_leaves(self.nodes(), node))
     }
 
     // Whether the node, a child of `from`, stands before `before` in the parent already.

@@ -71,7 +71,7 @@ impl Doc {
             parent,
             enters,
         );
-        let link = Step::Link {
+        let link = Step::Insert {
             node,
             parent,
             before,
@@ -82,7 +82,7 @@ impl Doc {
         adjust_inserted(&nodes.arena, &mut self.tree.points, parent, node);
         self.tree
             .overrides
-            .settle(&nodes.arena, &self.tree.points, watch);
+            .unset_if_range_changed(&nodes.arena, &self.tree.points, watch);
         Ok(())
     }
 
@@ -126,14 +126,14 @@ impl Doc {
         let next = nodes.arena.next(node);
         self.tree
             .nodes
-            .change(&mut self.history, Step::Unlink { node }, counts)?;
+            .change(&mut self.history, Step::Remove { node }, counts)?;
         let _ = self.command.detached.push(node);
         self.command.name_place(node, parent, next);
         removal.adjust(&mut self.tree.points);
         let nodes = &self.tree.nodes;
         self.tree
             .overrides
-            .settle(&nodes.arena, &self.tree.points, watch);
+            .unset_if_range_changed(&nodes.arena, &self.tree.points, watch);
         Ok(())
     }
 
@@ -166,7 +166,7 @@ impl Doc {
         let place = moving_from(&nodes.arena, &self.tree.points, node, from, parent);
         let counts = counts_moved(&nodes.arena, nodes.counts, node, parent);
         let next = nodes.arena.next(node);
-        let step = Step::Place {
+        let step = Step::Move {
             node,
             parent,
             before,
@@ -178,7 +178,7 @@ impl Doc {
         adjust_moved(&nodes.arena, &mut self.tree.points, place, parent, node);
         self.tree
             .overrides
-            .settle(&nodes.arena, &self.tree.points, watch);
+            .unset_if_range_changed(&nodes.arena, &self.tree.points, watch);
         Ok(true)
     }
 
@@ -214,7 +214,7 @@ impl Doc {
             count,
             put,
         );
-        let step = Step::Words { node, words };
+        let step = Step::SetText { node, words };
         let counts = Counts {
             chars,
             ..self.tree.nodes.counts
@@ -227,7 +227,7 @@ impl Doc {
         let nodes = &self.tree.nodes;
         self.tree
             .overrides
-            .settle(&nodes.arena, &self.tree.points, watch);
+            .unset_if_range_changed(&nodes.arena, &self.tree.points, watch);
         Ok(true)
     }
 
@@ -258,7 +258,7 @@ impl Doc {
         }
         let mut list = attributes.copy()?;
         list.set(name, value)?;
-        let step = Step::Attributes { node, list };
+        let step = Step::SetAttributes { node, list };
         let counts = self.tree.nodes.counts;
         self.tree.nodes.change(&mut self.history, step, counts)?;
         self.command.name(node);
@@ -286,7 +286,7 @@ impl Doc {
         }
         let mut list = attributes.copy()?;
         list.unset(name.as_slice());
-        let step = Step::Attributes { node, list };
+        let step = Step::SetAttributes { node, list };
         let counts = self.tree.nodes.counts;
         self.tree.nodes.change(&mut self.history, step, counts)?;
         self.command.name(node);

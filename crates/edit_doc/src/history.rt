@@ -13,7 +13,7 @@ ghost use Rattle.edit_doc.specs.Trail.{IsTrail, FitsAlong, first_trail, with_not
 ghost use Rattle.edit_doc.specs.Closing.{Closes};
 
 use crate::Counts;
-use crate::command::{Command, EntrySnapshot, Sides};
+use crate::command::{Command, EntrySnapshot, EntrySpan};
 use crate::giving_up::keep_loose;
 use circular_buffer::HeapCircularBuffer;
 use edit_steps::Step;
@@ -221,16 +221,16 @@ impl History {
         self.log.next_entry()
     }
 
-    // The sides of the first entry that way. None where there is none.
-    pub(crate) fn first_sides(&self, way: Way) -> Option<&Sides>
-        ensures { option_copied result ≡ option_map (λ b. b.sides) (slice_get (snapshots_along way self.now) 0) }
+    // The span of the first entry that way. None where there is none.
+    pub(crate) fn first_span(&self, way: Way) -> Option<&EntrySpan>
+        ensures { option_copied result ≡ option_map (λ b. b.span) (slice_get (snapshots_along way self.now) 0) }
     {
         let first = match way {
             Way::Back => self.past.front(),
             Way::Forth => self.future.front(),
         };
         match first {
-            Some(snapshot) => Some(&snapshot.sides),
+            Some(snapshot) => Some(&snapshot.span),
             None => None,
         }
     }
@@ -240,7 +240,7 @@ impl History {
         ensures { result ≡ next_first start self.now.future }
     {
         match self.future.front() {
-            Some(snapshot) => snapshot.sides.first_label,
+            Some(snapshot) => snapshot.span.first_label,
             None => start,
         }
     }
@@ -250,7 +250,7 @@ impl History {
         ensures { result ≡ next_first start (drop 1 self.now.future) }
     {
         match self.future.get(1) {
-            Some(snapshot) => snapshot.sides.first_label,
+            Some(snapshot) => snapshot.span.first_label,
             None => start,
         }
     }

@@ -28,7 +28,7 @@ mod reads;
 mod selecting;
 mod tree;
 
-pub use command::Sides;
+pub use command::EntrySpan;
 use command::{Command, Kept};
 use counted_arena::CountedArena;
 pub use dom_model::{Attributes, Chars, Name};

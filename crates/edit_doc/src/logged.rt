@@ -33,7 +33,7 @@ pub enum LoggedEdit {
     Remove {
         node: u32,
     },
-    /// A loose tree is linked under a parent, before one of its children or at the end.
+    /// A loose tree is inserted under a parent, before one of its children or at the end.
     Insert {
         node: u32,
         parent: u32,
@@ -46,12 +46,12 @@ pub enum LoggedEdit {
         before: Option<u32>,
     },
     /// A Text or Comment node is given other characters.
-    Words {
+    SetText {
         node: u32,
         words: Chars,
     },
     /// An element, told by its name, is given another attribute list.
-    Attributes {
+    SetAttributes {
         node: u32,
         name: Name,
         attributes: Attributes,
@@ -268,8 +268,8 @@ fn read_edit(alloc: Global, arena: &Arena, step: &Step) -> Result<LoggedEdit, Al
     ensures { IfOk result (λ edit. edit ≡ logged_edit (content_of arena.now.trees) (change_of step.now)) }
 {
     Ok(match step {
-        Step::Unlink { node } => LoggedEdit::Remove { node: node.label },
-        Step::Link {
+        Step::Remove { node } => LoggedEdit::Remove { node: node.label },
+        Step::Insert {
             node,
             parent,
             before,
@@ -278,7 +278,7 @@ fn read_edit(alloc: Global, arena: &Arena, step: &Step) -> Result<LoggedEdit, Al
             parent: parent.label,
             before: label_of(*before),
         },
-        Step::Place {
+        Step::Move {
             node,
             parent,
             before,
@@ -287,11 +287,11 @@ fn read_edit(alloc: Global, arena: &Arena, step: &Step) -> Result<LoggedEdit, Al
             parent: parent.label,
             before: label_of(*before),
         },
-        Step::Words { node, words } => LoggedEdit::Words {
+        Step::SetText { node, words } => LoggedEdit::SetText {
             node: node.label,
             words: words.clone()?,
         },
-        Step::Attributes { node, list } => LoggedEdit::Attributes {
+        Step::SetAttributes { node, list } => LoggedEdit::SetAttributes {
             node: node.label,
             name: copy_name(alloc, arena.content(*node))?,
             attributes: list.copy()?,
@@ -393,19 +393,19 @@ fn mark_step(marks: &mut Vec<bool>, first: u32, step: &Step)
         → TellNamed first (ls ++ named (change_of step.now)) marks.new.items }
 {
     match step {
-        Step::Unlink { node } => mark(marks, first, node.label),
-        Step::Link {
+        Step::Remove { node } => mark(marks, first, node.label),
+        Step::Insert {
             node,
             parent,
             before,
         } => mark_place(marks, first, *node, *parent, *before),
-        Step::Place {
+        Step::Move {
             node,
             parent,
             before,
         } => mark_place(marks, first, *node, *parent, *before),
-        Step::Words { node, .. } => mark(marks, first, node.label),
-        Step::Attributes { node, .. } => mark(marks, first, node.label),
+        Step::SetText { node, .. } => mark(marks, first, node.label),
+        Step::SetAttributes { node, .. } => mark(marks, first, node.label),
     }
 }
 

@@ -6,7 +6,7 @@ ghost use Rattle.dom_model.specs.Forest.{Forest};
 ghost use Rattle.live_range.specs.LivePoints.{LivePoints};
 ghost use Rattle.edit_model.specs.Overrides.{no_overrides, setting_of, with_setting};
 ghost use Rattle.edit_model.specs.Valid.{IsPlacedPair};
-ghost use Rattle.edit_parts.specs.Following.{Watches, settled};
+ghost use Rattle.edit_parts.specs.Following.{Watches, unset_if_range_changed};
 
 use crate::{Arena, Points, Setting};
 use edit_parts::{Watch, place_of, unset_overrides_if_range_changed, watch_range};
@@ -79,10 +79,15 @@ impl Overrides {
     }
 
     // Unsets each where the change moved the active range.
-    pub(crate) fn settle(&mut self, arena: &Arena, points: &Points, watch: Option<Watch>)
+    pub(crate) fn unset_if_range_changed(
+        &mut self,
+        arena: &Arena,
+        points: &Points,
+        watch: Option<Watch>,
+    )
         requires { IfSome points.now.selection (IsPlacedPair arena.now.trees) }
         ensures { (f : Forest Content) (before : LivePoints) → Watches f before self.old watch → self.new
-            ≡ settled f before arena.now.trees points.now self.old }
+            ≡ unset_if_range_changed f before arena.now.trees points.now self.old }
     {
         unset_overrides_if_range_changed(arena, points, &mut self.list, watch);
     }

@@ -74,7 +74,7 @@ impl Doc {
             let nodes = &self.tree.nodes;
             self.tree
                 .overrides
-                .settle(&nodes.arena, &self.tree.points, watch);
+                .unset_if_range_changed(&nodes.arena, &self.tree.points, watch);
         }
     }
 
@@ -180,7 +180,7 @@ impl Doc {
         let nodes = &self.tree.nodes;
         self.tree
             .overrides
-            .settle(&nodes.arena, &self.tree.points, watch);
+            .unset_if_range_changed(&nodes.arena, &self.tree.points, watch);
     }
 
     // The points of a text past an offset go to another text.
@@ -199,7 +199,7 @@ impl Doc {
             let nodes = &self.tree.nodes;
             self.tree
                 .overrides
-                .settle(&nodes.arena, &self.tree.points, watch);
+                .unset_if_range_changed(&nodes.arena, &self.tree.points, watch);
         }
     }
 }

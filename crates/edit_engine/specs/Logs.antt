@@ -27,8 +27,8 @@ abbrev pub edit_step : LoggedEdit → StepLine
 edit_step (edits.Remove node) = steps.Remove node
 edit_step (edits.Insert node parent before) = steps.Insert node parent before
 edit_step (edits.Move node parent before) = steps.Move node parent before
-edit_step (edits.Words node words) = steps.Words node words
-edit_step (edits.Attributes node name attributes) = steps.Tag node name attributes
+edit_step (edits.SetText node words) = steps.Words node words
+edit_step (edits.SetAttributes node name attributes) = steps.Tag node name attributes
 
 -- an entry: the nodes that were made, and then the edits
 unfoldable pub entry_steps : Logged → List StepLine

@@ -53,8 +53,8 @@ fn step_of(edit: LoggedEdit) -> StepLine
             parent,
             before,
         },
-        LoggedEdit::Words { node, words } => StepLine::Words { label: node, words },
-        LoggedEdit::Attributes {
+        LoggedEdit::SetText { node, words } => StepLine::Words { label: node, words },
+        LoggedEdit::SetAttributes {
             node,
             name,
             attributes,

@@ -25,7 +25,7 @@ use Rattle.edit_laws.proofs.Around.{Spot, spot_other, spot_distinct, spot_put_to
 use Rattle.edit_laws.proofs.Patterns.{put_after_node}
 use Rattle.edit_laws.proofs.Slides.{document_distinct}
 use Rattle.edit_laws.proofs.Handing.{final_move_last}
-use Rattle.edit_laws.proofs.Turned.{next_is, enter}
+use Rattle.edit_laws.proofs.ReversedBefore.{next_is, enter}
 use Rattle.edit_laws.proofs.Seats.{Seat, seat}
 use Rattle.edit_laws.proofs.Loose.{IsLoose, none_there, still_last}
 

@@ -31,7 +31,7 @@ use Rattle.edit_laws.proofs.Patterns.{join-assoc}
 use Rattle.edit_laws.proofs.Slides.{each_stays}
 use Rattle.edit_laws.proofs.Lifting.{node_found, node_parent, lift_open, lift_all, final_move_before, move_stays, tops-join, Ends, all_went, some_stay}
 use Rattle.edit_laws.proofs.Handing.{final_move_last, hand_all}
-use Rattle.edit_laws.proofs.Turned.{next_is}
+use Rattle.edit_laws.proofs.ReversedBefore.{next_is}
 use Rattle.edit_laws.proofs.Seats.{Seat, seat, parts_of}
 use Rattle.edit_laws.proofs.Loose.{IsLoose, none_there, loose_parent, still_each, still_last, still_before}
 use Rattle.edit_laws.proofs.MoveLaws.{headed_first}

@@ -7,7 +7,7 @@ use Rattle.dom_model.specs.declared.Content.{Content}
 use Rattle.dom_model.specs.Forest.{Forest, is_label, join, tree_of, without, put_before, put_under}
 use Rattle.dom_model.specs.Forest.Forest.{Nil, Tree}
 use Rattle.dom_model.specs.Revised.{revised}
-use Rattle.edit_model.specs.Kept.{borne_by, leaves, is_kept, kept_leaves, is_empty, bears_nothing}
+use Rattle.edit_model.specs.Kept.{borne_by, leaves, is_kept, kept_leaves, is_empty, has_no_kept_leaves}
 use Rattle.edit_model.proofs.Bearing.{bears-Tree}
 use Rattle.edit_laws.specs.Order.{Subsequence}
 use Rattle.edit_laws.proofs.Subsequences.{subsequence_refl, subsequence_append, subsequence_nothing}
@@ -46,37 +46,37 @@ pub nothing_is : {A : Type 0} (xs : List A) → is_empty xs ≡ true → xs ≡ 
 nothing_is [] h = refl
 nothing_is (x ∷ xs) h = absurd (let h' = h in cc)
 
-pub none_kept : (f : Forest Content) → bears_nothing f ≡ true → kept_leaves f ≡ []
-unfolding bears_nothing
+pub none_kept : (f : Forest Content) → has_no_kept_leaves f ≡ true → kept_leaves f ≡ []
+unfolding has_no_kept_leaves
 none_kept f h = nothing_is (kept_leaves f) h
 
-bears-Nil : bears_nothing Nil ≡ true
-unfolding bears_nothing kept_leaves leaves
+bears-Nil : has_no_kept_leaves Nil ≡ true
+unfolding has_no_kept_leaves kept_leaves leaves
 bears-Nil = refl
 
-pub bears-join : (f g : Forest Content) → bears_nothing (join f g) ≡ (bears_nothing f && bears_nothing g)
+pub bears-join : (f g : Forest Content) → has_no_kept_leaves (join f g) ≡ (has_no_kept_leaves f && has_no_kept_leaves g)
 bears-join Nil g = rw bears-Nil refl
 bears-join (Tree m c ks rest) g =
     bears-Tree m c ks (join rest g)
-    ∙ (ap (λ b. is_empty (filter is_kept (borne_by m c)) && (bears_nothing ks && b)) (bears-join rest g)
-    ∙ (by (is_empty (filter is_kept (borne_by m c))) (bears_nothing ks) ∙ ap (λ b. b && bears_nothing g) (sym (bears-Tree m c ks rest))))
+    ∙ (ap (λ b. is_empty (filter is_kept (borne_by m c)) && (has_no_kept_leaves ks && b)) (bears-join rest g)
+    ∙ (by (is_empty (filter is_kept (borne_by m c))) (has_no_kept_leaves ks) ∙ ap (λ b. b && has_no_kept_leaves g) (sym (bears-Tree m c ks rest))))
   where
-    by : (a b : Bool) → (a && (b && (bears_nothing rest && bears_nothing g))) ≡ ((a && (b && bears_nothing rest)) && bears_nothing g)
+    by : (a b : Bool) → (a && (b && (has_no_kept_leaves rest && has_no_kept_leaves g))) ≡ ((a && (b && has_no_kept_leaves rest)) && has_no_kept_leaves g)
     by true true = refl
     by true false = refl
     by false b = refl
 
-pub kept-without : (f : Forest Content) (n : ℕ) → bears_nothing (tree_of f n) ≡ true → kept_leaves (without f n) ≡ kept_leaves f
+pub kept-without : (f : Forest Content) (n : ℕ) → has_no_kept_leaves (tree_of f n) ≡ true → kept_leaves (without f n) ≡ kept_leaves f
 kept-without Nil n h = refl
 kept-without (Tree m c ks rest) n h = by_label (kept-without ks n) (kept-without rest n) (eqb m n) h
   where
-    by_label : (bears_nothing (tree_of ks n) ≡ true → kept_leaves (without ks n) ≡ kept_leaves ks) → (bears_nothing (tree_of rest n) ≡ true → kept_leaves (without rest n) ≡ kept_leaves rest) → (v : Bool) → bears_nothing (cond v (Tree m c ks Nil) (join (tree_of ks n) (tree_of rest n))) ≡ true → kept_leaves (cond v rest (Tree m c (without ks n) (without rest n))) ≡ kept_leaves (Tree m c ks rest)
+    by_label : (has_no_kept_leaves (tree_of ks n) ≡ true → kept_leaves (without ks n) ≡ kept_leaves ks) → (has_no_kept_leaves (tree_of rest n) ≡ true → kept_leaves (without rest n) ≡ kept_leaves rest) → (v : Bool) → has_no_kept_leaves (cond v (Tree m c ks Nil) (join (tree_of ks n) (tree_of rest n))) ≡ true → kept_leaves (cond v rest (Tree m c (without ks n) (without rest n))) ≡ kept_leaves (Tree m c ks rest)
     by_label kids others true k =
         let parts = and_parts (is_empty (filter is_kept (borne_by m c))) _ (sym (bears-Tree m c ks Nil) ∙ k) in
-        let deeper = and_parts (bears_nothing ks) (bears_nothing Nil) parts.1 in
+        let deeper = and_parts (has_no_kept_leaves ks) (has_no_kept_leaves Nil) parts.1 in
         sym (kept-Tree m c ks rest ∙ rw (nothing_is (filter is_kept (borne_by m c)) parts.0, none_kept ks deeper.0) refl)
     by_label kids others false k =
-        let parts = and_parts (bears_nothing (tree_of ks n)) (bears_nothing (tree_of rest n)) (sym (bears-join (tree_of ks n) (tree_of rest n)) ∙ k) in
+        let parts = and_parts (has_no_kept_leaves (tree_of ks n)) (has_no_kept_leaves (tree_of rest n)) (sym (bears-join (tree_of ks n) (tree_of rest n)) ∙ k) in
         kept-Tree m c (without ks n) (without rest n)
         ∙ (rw (kids parts.0, others parts.1) refl ∙ sym (kept-Tree m c ks rest))
 

@@ -7,7 +7,7 @@ pub mod Patterns
 pub mod Slides
 pub mod Lifting
 pub mod Handing
-pub mod Turned
+pub mod ReversedBefore
 pub mod Seats
 pub mod Loose
 pub mod MoveLaws

@@ -20,7 +20,7 @@ use Rattle.edit_laws.proofs.QuietActions.{keeping_final}
 use Rattle.edit_laws.proofs.Slides.{document_moved}
 use Rattle.edit_laws.proofs.Lifting.{final_move_before}
 use Rattle.edit_laws.proofs.Handing.{final_move_last}
-use Rattle.edit_laws.proofs.Turned.{final_move_after, final_move_first}
+use Rattle.edit_laws.proofs.ReversedBefore.{final_move_after, final_move_first}
 
 -- the node isn't in the document
 abbrev pub IsLoose : State → ℕ → Type 0

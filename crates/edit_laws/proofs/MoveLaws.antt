@@ -26,27 +26,27 @@ use Rattle.edit_laws.proofs.Patterns.{count-join, join-assoc, take_one}
 use Rattle.edit_laws.proofs.Slides.{document_distinct, each_stays}
 use Rattle.edit_laws.proofs.Lifting.{node_found, lift_all, final_move_before}
 use Rattle.edit_laws.proofs.Handing.{owner_children, below_inside, final_move_last, hand_all, take_all}
-use Rattle.edit_laws.proofs.Turned.{turned, next_is, drop_all, front_all, swap, enter}
+use Rattle.edit_laws.proofs.ReversedBefore.{reversed_before, next_is, drop_all, front_all, swap, enter}
 use Rattle.edit_laws.proofs.Seats.{Seat, seat, parts_of, Headed, headed}
 use Rattle.edit_laws.proofs.Loose.{IsLoose, none_there, loose_parent, still_each, still_last, still_first, still_before, still_after, before_root, after_root}
 
 -- ---- lists of trees from the end
 
-pub turned_twice : (r g h : Forest Content) → turned (turned r g) h ≡ turned g (join r h)
-turned_twice Nil g h = refl
-turned_twice (Tree n d j rest) g h = turned_twice rest (Tree n d j g) h
+pub reversed_before_twice : (r g h : Forest Content) → reversed_before (reversed_before r g) h ≡ reversed_before g (join r h)
+reversed_before_twice Nil g h = refl
+reversed_before_twice (Tree n d j rest) g h = reversed_before_twice rest (Tree n d j g) h
 
-pub tops-turned : (r g : Forest Content) → tops (turned r g) ≡ reverse (tops r) ++ tops g
-tops-turned Nil g = refl
-tops-turned (Tree n d j rest) g =
-    tops-turned rest (Tree n d j g)
+pub tops-reversed_before : (r g : Forest Content) → tops (reversed_before r g) ≡ reverse (tops r) ++ tops g
+tops-reversed_before Nil g = refl
+tops-reversed_before (Tree n d j rest) g =
+    tops-reversed_before rest (Tree n d j g)
     ∙ sym (ap (λ l. l ++ tops g) (reverse-append (n ∷ []) (tops rest)) ∙ append_assoc (reverse (tops rest)) (n ∷ []) (tops g))
 
-turned_back : (f : Forest Content) → turned (turned f Nil) Nil ≡ f
-turned_back f = turned_twice f Nil Nil ∙ join-Nil f
+reversed_before_back : (f : Forest Content) → reversed_before (reversed_before f Nil) Nil ≡ f
+reversed_before_back f = reversed_before_twice f Nil Nil ∙ join-Nil f
 
-backwards : (f : Forest Content) (list : List ℕ) → tops f ≡ list → tops (turned f Nil) ≡ reverse list
-backwards f list e = tops-turned f Nil ∙ (append-nil (reverse (tops f)) ∙ ap reverse e)
+backwards : (f : Forest Content) (list : List ℕ) → tops f ≡ list → tops (reversed_before f Nil) ≡ reverse list
+backwards f list e = tops-reversed_before f Nil ∙ (append-nil (reverse (tops f)) ∙ ap reverse e)
 
 pub headed_first : (f : Forest Content) (o : ℕ) → first_in (tops f) ≡ Some o → Headed f o (tops (rest_in f))
 headed_first Nil o e = absurd (let e' = e in cc)
@@ -110,9 +110,9 @@ module _ (s : State) (is : IsKeeping s) where
       seated : (q : ℕ) → Seat s o q → KeepsOrder s (final (for_each (reverse list) (move_after o)) s)
       seated q w =
           let p = parts_of w.kids front list (sym w.children ∙ kids) in
-          let r = turned p.second Nil in
-          let same : w.kids ≡ join p.first (turned r Nil) = p.is ∙ ap (join p.first) (sym (turned_back p.second)) in
-          let spot = spot_as (document_of s.trees) q (join w.pre (Tree o w.content w.kids w.post)) (join w.pre (Tree o w.content (join p.first (turned r Nil)) w.post)) (ap (λ k. join w.pre (Tree o w.content k w.post)) same) w.spot in
+          let r = reversed_before p.second Nil in
+          let same : w.kids ≡ join p.first (reversed_before r Nil) = p.is ∙ ap (join p.first) (sym (reversed_before_back p.second)) in
+          let spot = spot_as (document_of s.trees) q (join w.pre (Tree o w.content w.kids w.post)) (join w.pre (Tree o w.content (join p.first (reversed_before r Nil)) w.post)) (ap (λ k. join w.pre (Tree o w.content k w.post)) same) w.spot in
           subst (λ l. KeepsOrder s (final (for_each l (move_after o)) s)) (backwards p.second list p.seconds) (drop_all r s is q w.pre o w.content p.first w.post spot).keeps
 
       by_count : (q : ℕ) → parent_of s.trees o ≡ Some q → (k : ℕ) → count_of (document_of s.trees) q ≡ k → KeepsOrder s (final (for_each (reverse list) (move_after o)) s)
@@ -181,12 +181,12 @@ module _ (s : State) (is : IsKeeping s) where
           let a = parts_of place.0 before (list ++ p ∷ after) (sym (owner_children s is.valid q place.0 place.1) ∙ kids) in
           let b = parts_of a.second list (p ∷ after) a.seconds in
           let h = headed b.second p after b.seconds in
-          let r = turned b.first Nil in
-          let same : place.0 ≡ join a.first (join (turned r Nil) (Tree p h.content h.kids h.post)) =
-          a.is ∙ (ap (join a.first) b.is ∙ (ap (λ k. join a.first (join b.first k)) h.is ∙ ap (λ k. join a.first (join k (Tree p h.content h.kids h.post))) (sym (turned_back b.first)))) in
-          let spot = spot_as (document_of s.trees) q place.0 (join a.first (join (turned r Nil) (Tree p h.content h.kids h.post))) same place.1 in
-          let deeper = spot_as (document_of s.trees) q _ (join (join a.first (turned r Nil)) (Tree p h.content h.kids h.post)) (sym (join-assoc a.first (turned r Nil) (Tree p h.content h.kids h.post))) spot in
-          let found = node_found s is.valid q (join a.first (turned r Nil)) p h.content h.kids h.post deeper in
+          let r = reversed_before b.first Nil in
+          let same : place.0 ≡ join a.first (join (reversed_before r Nil) (Tree p h.content h.kids h.post)) =
+          a.is ∙ (ap (join a.first) b.is ∙ (ap (λ k. join a.first (join b.first k)) h.is ∙ ap (λ k. join a.first (join k (Tree p h.content h.kids h.post))) (sym (reversed_before_back b.first)))) in
+          let spot = spot_as (document_of s.trees) q place.0 (join a.first (join (reversed_before r Nil) (Tree p h.content h.kids h.post))) same place.1 in
+          let deeper = spot_as (document_of s.trees) q _ (join (join a.first (reversed_before r Nil)) (Tree p h.content h.kids h.post)) (sym (join-assoc a.first (reversed_before r Nil) (Tree p h.content h.kids h.post))) spot in
+          let found = node_found s is.valid q (join a.first (reversed_before r Nil)) p h.content h.kids h.post deeper in
           let plain = bare h.content (ap (option_map (λ (y : Seen Content). y.content)) found) in
           subst (λ l. KeepsOrder s (final (for_each l (move_first p)) s)) (backwards b.first list b.firsts) (front_all r s is q a.first p h.content h.kids h.post plain spot).keeps
 

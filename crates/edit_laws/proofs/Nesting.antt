@@ -36,7 +36,7 @@ use Rattle.edit_laws.proofs.Around.{spot_as}
 use Rattle.edit_laws.proofs.Slides.{Slide}
 use Rattle.edit_laws.proofs.Lifting.{node_found}
 use Rattle.edit_laws.proofs.Handing.{final_move_last, take}
-use Rattle.edit_laws.proofs.Turned.{next_is}
+use Rattle.edit_laws.proofs.ReversedBefore.{next_is}
 use Rattle.edit_laws.proofs.Seats.{Seat, seat}
 use Rattle.edit_laws.proofs.Loose.{IsLoose, none_there, loose_parent, still_last, still_before}
 use Rattle.edit_laws.proofs.MoveLaws.{headed_first, go_before, go_past}

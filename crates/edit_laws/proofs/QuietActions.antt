@@ -7,7 +7,7 @@ use Rattle.dom_model.specs.Forest.{Forest, tree_of}
 use Rattle.dom_model.specs.Forest.Forest.{Tree}
 use Rattle.dom_model.proofs.Links.{join-Nil}
 use Rattle.edit_model.specs.State.{State}
-use Rattle.edit_model.specs.Kept.{borne_by, leaves, bears_nothing}
+use Rattle.edit_model.specs.Kept.{borne_by, leaves, has_no_kept_leaves}
 use Rattle.edit_model.specs.Edit.{Edit, Insert, Remove, Move, Replace, Set, Unset, is_made_edit, trees_after, with_set, with_unset, changed, edited}
 use Rattle.edit_model.specs.Action as action
 use Rattle.edit_model.specs.Action.{Action, made, words_content, extended, extracted, acted}
@@ -51,16 +51,16 @@ same_document s t e = subst (λ g. KeepsLeaves (tree_of s.trees 0) g) (sym e) (k
 -- ---- edits
 
 -- what the document has of a tree bears nothing where the tree doesn't
-part_bears_nothing : (f : Forest Content) (next n : ℕ) → IsForest f next → 0 < n → bears_nothing (tree_of f n) ≡ true → bears_nothing (tree_of (tree_of f 0) n) ≡ true
-part_bears_nothing f next n is inner h =
+part_has_no_kept_leaves : (f : Forest Content) (next n : ℕ) → IsForest f next → 0 < n → has_no_kept_leaves (tree_of f n) ≡ true → has_no_kept_leaves (tree_of (tree_of f 0) n) ≡ true
+part_has_no_kept_leaves f next n is inner h =
     let d = document_shape f next is in
-    subst (λ g. bears_nothing (tree_of g n) ≡ true → bears_nothing (tree_of (tree_of g 0) n) ≡ true) (sym d.3) (at_tree d.0 d.1 d.2) h
+    subst (λ g. has_no_kept_leaves (tree_of g n) ≡ true → has_no_kept_leaves (tree_of (tree_of g 0) n) ≡ true) (sym d.3) (at_tree d.0 d.1 d.2) h
   where
-    at_tree : (c : Content) (ks rest : Forest Content) → bears_nothing (tree_of (Tree 0 c ks rest) n) ≡ true → bears_nothing (tree_of (tree_of (Tree 0 c ks rest) 0) n) ≡ true
+    at_tree : (c : Content) (ks rest : Forest Content) → has_no_kept_leaves (tree_of (Tree 0 c ks rest) n) ≡ true → has_no_kept_leaves (tree_of (tree_of (Tree 0 c ks rest) 0) n) ≡ true
     at_tree c ks rest k =
         let off : eqb 0 n ≡ false = ne_eqb 0 n (λ e. omega (arith, inner, e)) in
         let k' = rw off at k in
-        rw (off, join-Nil (tree_of ks n)) (and_parts (bears_nothing (tree_of ks n)) (bears_nothing (tree_of rest n)) (sym (bears-join (tree_of ks n) (tree_of rest n)) ∙ k')).0
+        rw (off, join-Nil (tree_of ks n)) (and_parts (has_no_kept_leaves (tree_of ks n)) (has_no_kept_leaves (tree_of rest n)) (sym (bears-join (tree_of ks n) (tree_of rest n)) ∙ k')).0
 
 pub bears-set : (name value : List ℕ) (l : ℕ) (c : Content) → borne_by l (with_set name value c) ≡ borne_by l c
 unfolding borne_by
@@ -87,12 +87,12 @@ pub remove_keeps : (n : ℕ) (s : State) → IsKeeping s → KeepsOrder s (edite
 unfolding is_made_edit trees_after
 remove_keeps n s is = by_made (Remove n) s (λ may. (
     let t = removes s n may in
-    let nothing = nothing_kept s.keeping (bears_nothing (tree_of s.trees n)) t.nothing is.keeping in
+    let nothing = nothing_kept s.keeping (has_no_kept_leaves (tree_of s.trees n)) t.nothing is.keeping in
     let inner = inner_child s.trees s.next is.valid.forest t.from n t.child in
     let e = document-unlink s.trees s.next is.valid.forest t.from n t.child in
     subst (KeepsLeaves (tree_of s.trees 0)) (sym e) (record {
       in_order = ordered-without (tree_of s.trees 0) n;
-      whole = kept-without (tree_of s.trees 0) n (part_bears_nothing s.trees s.next n is.valid.forest inner nothing);
+      whole = kept-without (tree_of s.trees 0) n (part_has_no_kept_leaves s.trees s.next n is.valid.forest inner nothing);
     })))
 
 set_keeps : (n : ℕ) (name value : List ℕ) (s : State) → IsKeeping s → KeepsOrder s (edited (Set n name value) s)

@@ -44,7 +44,7 @@ use Rattle.edit_laws.proofs.Around.{off_by, self_one, Around, Here, Below, Past,
 use Rattle.edit_laws.proofs.Patterns.{other_label, count-join, without-join, put_after_node}
 use Rattle.edit_laws.proofs.Slides.{document_distinct}
 use Rattle.edit_laws.proofs.Lifting.{node_found, node_once}
-use Rattle.edit_laws.proofs.Turned.{next_is}
+use Rattle.edit_laws.proofs.ReversedBefore.{next_is}
 use Rattle.edit_laws.proofs.Seats.{Seat, seat}
 use Rattle.edit_laws.proofs.Loose.{IsLoose, loose_parent}
 use Rattle.edit_laws.proofs.Renaming.{made_trees, new_absent, new_tree, new_other}

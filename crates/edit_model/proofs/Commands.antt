@@ -4,7 +4,7 @@ use Rattle.dom_model.specs.declared.Content.{Content}
 use Rattle.dom_model.specs.Forest.{Forest, count_of, tree_of}
 use Rattle.dom_model.proofs.Totals.{total-without}
 use Rattle.edit_model.specs.State.{State}
-use Rattle.edit_model.specs.Kept.{bears_nothing}
+use Rattle.edit_model.specs.Kept.{has_no_kept_leaves}
 use Rattle.edit_model.specs.Edit.{Edit, Insert, Remove, Move, Replace, Set, Unset, is_made_edit}
 use Rattle.edit_model.specs.Action as action
 use Rattle.edit_model.specs.Action.{Action}
@@ -46,7 +46,7 @@ nothing_kept false nothing h e = absurd (true≢false (sym e))
 
 takes_by : (e : Edit) (s : State) → s.keeping ≡ true → TakesNothing (action.Change e) s
 unfolding is_made_edit
-takes_by (Remove n) s keeps = λ may. nothing_kept s.keeping (bears_nothing (tree_of s.trees n)) (removes s n may).nothing keeps
+takes_by (Remove n) s keeps = λ may. nothing_kept s.keeping (has_no_kept_leaves (tree_of s.trees n)) (removes s n may).nothing keeps
 takes_by (Insert p b n) s keeps = tt
 takes_by (Move n p b) s keeps = tt
 takes_by (Replace n at count put) s keeps = tt

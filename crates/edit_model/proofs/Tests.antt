@@ -10,7 +10,7 @@ use Rattle.dom_model.specs.Forest.{Forest, Seen, seek, is_label, count_of, tree_
 use Rattle.dom_model.proofs.Links.{found_count}
 use Rattle.point_order.specs.PointOrder.{is_within, is_in_document}
 use Rattle.edit_model.specs.State.{State}
-use Rattle.edit_model.specs.Kept.{bears_nothing}
+use Rattle.edit_model.specs.Kept.{has_no_kept_leaves}
 use Rattle.edit_model.specs.Confined.{is_open, is_own, is_there, is_place, stands_so, may_insert, may_leave, may_remove, may_go, may_move, spliced, may_change, may_replace, may_set, may_unset}
 
 -- ---- small tests
@@ -93,7 +93,7 @@ pub record Removes (s : State) (n : ℕ) : Type 0 where
   pub child : parent_of s.trees n ≡ Some from
   pub allowed : is_open s from ≡ true
   pub own : (is_own s n || is_break s.trees n) ≡ true
-  pub nothing : (not s.keeping || bears_nothing (tree_of s.trees n)) ≡ true
+  pub nothing : (not s.keeping || has_no_kept_leaves (tree_of s.trees n)) ≡ true
 
 pub removes : (s : State) (n : ℕ) → may_remove s n ≡ true → Removes s n
 unfolding may_remove
@@ -103,7 +103,7 @@ removes s n h = by_parent (parent_of s.trees n) refl h
     by_parent None e h = absurd (true≢false (sym h))
     by_parent (Some q) e h =
         let h1 = and_parts (is_open s q) _ h in
-        let h2 = and_parts (is_own s n || is_break s.trees n) (not s.keeping || bears_nothing (tree_of s.trees n)) h1.1 in
+        let h2 = and_parts (is_own s n || is_break s.trees n) (not s.keeping || has_no_kept_leaves (tree_of s.trees n)) h1.1 in
         record { from = q; child = e; allowed = h1.0; own = h2.0; nothing = h2.1 }
 
 -- ---- a move

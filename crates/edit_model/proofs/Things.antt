@@ -13,7 +13,7 @@ use Rattle.dom_model.proofs.Stands.{Stands-count, Stands-tree_of, seek_Stands}
 use Rattle.dom_model.proofs.Kept.{content_of-link, content_of-unlink, content_of-with_leaf_other}
 use Rattle.dom_model.proofs.Revising.{content_of-revised}
 use Rattle.edit_model.specs.State.{State}
-use Rattle.edit_model.specs.Kept.{is_thing, borne_by, is_kept, is_empty, bears_nothing}
+use Rattle.edit_model.specs.Kept.{is_thing, borne_by, is_kept, is_empty, has_no_kept_leaves}
 use Rattle.edit_model.specs.Edit.{Edit, Insert, Remove, Move, Replace, Set, Unset, is_made_edit, trees_after, changed, with_replaced, with_set, with_unset}
 use Rattle.edit_model.specs.Action as action
 use Rattle.edit_model.specs.Action.{Action, made, words_content, extended, acted}
@@ -73,7 +73,7 @@ element_borne l name (Element own attributes) e thing none =
     let none' = rw thing' at none in
     true≢false (sym none')
 
-thing_in_tree : (f : Forest Content) (n l : ℕ) (name : List ℕ) → IsDistinct f → IsWithin f n l → name_of f l ≡ Some name → is_thing name ≡ true → bears_nothing (tree_of f n) ≡ true → ⊥
+thing_in_tree : (f : Forest Content) (n l : ℕ) (name : List ℕ) → IsDistinct f → IsWithin f n l → name_of f l ≡ Some name → is_thing name ≡ true → has_no_kept_leaves (tree_of f n) ≡ true → ⊥
 thing_in_tree f n l name once within named thing nothing =
     let t = Stands-count None (tree_of f n) l within in
     let none = bears_each None (tree_of f n) l t.0 nothing t.1 in
@@ -97,7 +97,7 @@ module _ (l : ℕ) (name : List ℕ) (thing : is_thing name ≡ true) where
       let t = removes s n may in
       elim (none_or_some (count_of (tree_of s.trees n) l)) [
         | inl off ↦ (within-unlink s.trees s.next is.forest t.from n l t.child off h.0, ap (option_and_then name_in) (content_of-unlink s.trees t.from n l is.forest.distinct t.child) ∙ h.1)
-        | inr within ↦ absurd (thing_in_tree s.trees n l name is.forest.distinct within h.1 thing (nothing_kept s.keeping (bears_nothing (tree_of s.trees n)) t.nothing keeps))
+        | inr within ↦ absurd (thing_in_tree s.trees n l name is.forest.distinct within h.1 thing (nothing_kept s.keeping (has_no_kept_leaves (tree_of s.trees n)) t.nothing keeps))
       ]
   there_after (Move n p b) s is keeps may h =
       let t = goes s n p b may in

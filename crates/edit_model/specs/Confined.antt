@@ -11,7 +11,7 @@ use Rattle.dom_model.specs.Forest.{Forest, is_label, count_of, tree_of, parent_o
 use Rattle.live_range.specs.declared.places.Point.{Point}
 use Rattle.point_order.specs.PointOrder.{is_within, is_in_document, is_placed}
 use Rattle.edit_model.specs.State.{State}
-use Rattle.edit_model.specs.Kept.{bears_nothing}
+use Rattle.edit_model.specs.Kept.{has_no_kept_leaves}
 
 -- ---- where a node stands
 
@@ -60,7 +60,7 @@ may_insert s p b n =
 abbrev pub may_leave : State → ℕ → Option ℕ → Bool
 may_leave s n None = false
 may_leave s n (Some o) =
-    is_open s o && ((is_own s n || is_break s.trees n) && (not s.keeping || bears_nothing (tree_of s.trees n)))
+    is_open s o && ((is_own s n || is_break s.trees n) && (not s.keeping || has_no_kept_leaves (tree_of s.trees n)))
 
 unfoldable pub may_remove : State → ℕ → Bool
 may_remove s n = may_leave s n (parent_of s.trees n)

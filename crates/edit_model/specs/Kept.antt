@@ -40,5 +40,5 @@ is_empty [] = true
 is_empty (x ∷ xs) = false
 
 -- a forest bears nothing that is kept
-unfoldable pub bears_nothing : Forest Content → Bool
-bears_nothing f = is_empty (kept_leaves f)
+unfoldable pub has_no_kept_leaves : Forest Content → Bool
+has_no_kept_leaves f = is_empty (kept_leaves f)

@@ -9,7 +9,7 @@ use Rattle.dom_model.specs.Forest.{Forest, tree_of, IsWithin}
 use Rattle.live_range.specs.declared.places.Pair.{Pair}
 use Rattle.live_range.specs.declared.places.Point.{Point}
 use Rattle.edit_model.specs.State.{State, IsPastCap}
-use Rattle.edit_model.specs.Kept.{bears_nothing, is_thing}
+use Rattle.edit_model.specs.Kept.{has_no_kept_leaves, is_thing}
 use Rattle.edit_model.specs.Confined.{is_own}
 use Rattle.edit_model.specs.Edit.{Remove, Set, Unset, is_made_edit}
 use Rattle.edit_model.specs.Tail.{tail_steps, document_size}
@@ -148,7 +148,7 @@ TailsStay = (s : State) (from : Point) (end target l : ℕ) → IsValid s → Is
 
 -- an action that removes a tree removes one that bears nothing that is kept
 abbrev pub TakesNothing : Action → State → Type 0
-TakesNothing (Change (Remove n)) s = is_made_edit (Remove n) s ≡ true → bears_nothing (tree_of s.trees n) ≡ true
+TakesNothing (Change (Remove n)) s = is_made_edit (Remove n) s ≡ true → has_no_kept_leaves (tree_of s.trees n) ≡ true
 TakesNothing _ s = Unit {0}
 
 -- each action on the way does

@@ -6,7 +6,7 @@ use Rattle.dom_model.specs.ArenaState.{ArenaState, IsValid}
 use Rattle.dom_model.specs.Forest.{Forest, total, tree_of, content_of, count_of}
 use Rattle.dom_model.specs.Forest.Forest.{Nil, Tree}
 use Rattle.dom_model.specs.TreeOrder.{total_from, total_after}
-use Rattle.edit_model.specs.Kept.{Leaf, bears_nothing, borne_by, is_empty, is_kept, kept_leaves, leaves}
+use Rattle.edit_model.specs.Kept.{Leaf, has_no_kept_leaves, borne_by, is_empty, is_kept, kept_leaves, leaves}
 use Rattle.node_arena.specs.declared.NodeRef.{NodeRef}
 use Rattle.node_arena.specs.Held.{Holds}
 use Rattle.edit_parts.specs.declared.trees.Place.{Place}
@@ -55,17 +55,17 @@ sum_tells (Tree l c ks rest) =
     rw (empty_append (borne_by l c) (leaves ks ++ leaves rest), empty_append (leaves ks) (leaves rest))
     (both (weight l c) (total weight ks + total weight rest) _ _ (own_tells l c) (both (total weight ks) (total weight rest) _ _ (sum_tells ks) (sum_tells rest)))
 
-pub none_in : (g : Forest Content) → total weight g ≡ 0 → true ≡ bears_nothing g
-unfolding bears_nothing kept_leaves
+pub none_in : (g : Forest Content) → total weight g ≡ 0 → true ≡ has_no_kept_leaves g
+unfolding has_no_kept_leaves kept_leaves
 none_in g e = elim (sum_tells g) [ inl (_, t) ↦ sym t | inr (h, _) ↦ absurd (omega (arith, e, h)) ]
 
-pub some_in : (g : Forest Content) → 0 < total weight g → false ≡ bears_nothing g
-unfolding bears_nothing kept_leaves
+pub some_in : (g : Forest Content) → 0 < total weight g → false ≡ has_no_kept_leaves g
+unfolding has_no_kept_leaves kept_leaves
 some_in g h = elim (sum_tells g) [ inl (e, _) ↦ absurd (omega (arith, e, h)) | inr (_, t) ↦ sym t ]
 
 module _ (s : ArenaState) (law : IsValid s) (top : NodeRef) (top_held : Holds s top) where
   -- a node of the tree bears something
-  pub bearing : (at : Place) (c : Content) → IsIn s top at → content_of s.trees at.node.label ≡ Some c → weight at.node.label c ≡ 1 → total_from weight s.trees at.node.label ≡ total_from weight s.trees top.label → false ≡ bears_nothing (tree_of s.trees top.label)
+  pub bearing : (at : Place) (c : Content) → IsIn s top at → content_of s.trees at.node.label ≡ Some c → weight at.node.label c ≡ 1 → total_from weight s.trees at.node.label ≡ total_from weight s.trees top.label → false ≡ has_no_kept_leaves (tree_of s.trees top.label)
   bearing at c place e one same =
       let f = s.trees in
       let there = law.here at.node.slot at.node.label place.held in
@@ -73,7 +73,7 @@ module _ (s : ArenaState) (law : IsValid s) (top : NodeRef) (top_held : Holds s 
       some_in (tree_of f top.label) (omega (arith, one, same, own_share f law.distinct weight at.node.label c there e, within_after f law.distinct weight top.label at.node.label top_there place.inside, tree_total f law.distinct weight top.label top_there))
 
   -- no node of the tree bears anything
-  pub bearing_none : (at : Place) → IsIn s top at → Stops s top at → ((c : Content) → content_of s.trees at.node.label ≡ Some c → weight at.node.label c ≡ 0) → total_from weight s.trees at.node.label ≡ total_from weight s.trees top.label → true ≡ bears_nothing (tree_of s.trees top.label)
+  pub bearing_none : (at : Place) → IsIn s top at → Stops s top at → ((c : Content) → content_of s.trees at.node.label ≡ Some c → weight at.node.label c ≡ 0) → total_from weight s.trees at.node.label ≡ total_from weight s.trees top.label → true ≡ has_no_kept_leaves (tree_of s.trees top.label)
   bearing_none at place stop none same =
       let f = s.trees in
       let c = content s law top top_held at place in

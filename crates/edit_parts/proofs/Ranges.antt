@@ -15,7 +15,7 @@ use Rattle.edit_model.specs.declared.settings.Setting.{Setting}
 use Rattle.edit_model.specs.Overrides.{no_overrides}
 use Rattle.edit_parts.specs.declared.overrides.ActiveRange.{ActiveRange}
 use Rattle.edit_parts.specs.declared.overrides.Watch.{Watch}
-use Rattle.edit_parts.specs.Following.{Watches, range_in, settled}
+use Rattle.edit_parts.specs.Following.{Watches, range_in, unset_if_range_changed}
 
 both_true : (a b : Bool) → (a && b) ≡ true → a ≡ true
 both_true true b e = refl
@@ -71,20 +71,20 @@ changed_tells f g (Some p) (Some q) =
     ]
 
 -- where the range has changed the overrides are unset
-pub settled_changed : (f g : Forest Content) (before after : LivePoints) (overrides : List Setting) → range_in f before.selection ≢ range_in g after.selection → no_overrides ≡ settled f before g after overrides
+pub settled_changed : (f g : Forest Content) (before after : LivePoints) (overrides : List Setting) → range_in f before.selection ≢ range_in g after.selection → no_overrides ≡ unset_if_range_changed f before g after overrides
 settled_changed f g before after overrides off = elim (changed_tells f g before.selection after.selection) [
   | inl (_, e) ↦ absurd (off e)
   | inr (t, _) ↦ rw t refl
 ]
 
-pub settled_same : (f g : Forest Content) (before after : LivePoints) (overrides : List Setting) → range_in f before.selection ≡ range_in g after.selection → overrides ≡ settled f before g after overrides
+pub settled_same : (f g : Forest Content) (before after : LivePoints) (overrides : List Setting) → range_in f before.selection ≡ range_in g after.selection → overrides ≡ unset_if_range_changed f before g after overrides
 settled_same f g before after overrides e = elim (changed_tells f g before.selection after.selection) [
   | inl (t, _) ↦ rw t refl
   | inr (_, off) ↦ absurd (off e)
 ]
 
 -- where no override is set none is unset
-pub settled_none : (f g : Forest Content) (before after : LivePoints) (overrides : List Setting) → overrides ≡ no_overrides → overrides ≡ settled f before g after overrides
+pub settled_none : (f g : Forest Content) (before after : LivePoints) (overrides : List Setting) → overrides ≡ no_overrides → overrides ≡ unset_if_range_changed f before g after overrides
 settled_none f g before after overrides e = by (range_changed (is_before f) (is_before g) before.selection after.selection)
   where
     by : (b : Bool) → overrides ≡ cond b no_overrides overrides

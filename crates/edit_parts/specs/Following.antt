@@ -28,8 +28,8 @@ Watches f points overrides None = overrides ≡ no_overrides
 Watches f points overrides (Some w) = w.range ≡ range_in f points.selection
 
 -- the overrides after a step from one forest and its selection to another
-abbrev pub settled : Forest Content → LivePoints → Forest Content → LivePoints → List Setting → List Setting
-settled f points g after overrides =
+abbrev pub unset_if_range_changed : Forest Content → LivePoints → Forest Content → LivePoints → List Setting → List Setting
+unset_if_range_changed f points g after overrides =
     if range_changed (is_before f) (is_before g) points.selection after.selection then no_overrides else overrides
 
 -- ---- points

@@ -17,7 +17,7 @@ pub use overrides::{
     unset_overrides_if_range_changed, watch_range,
 };
 pub use texts::{fault_of, has_value, replaced, tail_of};
-pub use trees::{bears_nothing, is_in_document, tree_counts};
+pub use trees::{has_no_kept_leaves, is_in_document, tree_counts};
 
 /// How many nodes and characters a tree has; only the characters of texts count. `depth` is its height: how deep its
 /// deepest node is below its root. Of a document under edits it is a bound on that.

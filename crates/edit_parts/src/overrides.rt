@@ -5,7 +5,7 @@ ghost use Rattle.dom_model.specs.declared.Content.{Content};
 ghost use Rattle.dom_model.specs.Forest.{Forest};
 ghost use Rattle.edit_model.specs.Valid.{IsPlacedPair};
 ghost use Rattle.edit_model.specs.Overrides.{no_overrides, place_of};
-ghost use Rattle.edit_parts.specs.Following.{Watches, range_in, settled};
+ghost use Rattle.edit_parts.specs.Following.{Watches, range_in, unset_if_range_changed};
 ghost use Rattle.live_range.specs.LivePoints.{LivePoints};
 
 use edit_model::Setting;
@@ -124,7 +124,7 @@ pub fn unset_overrides_if_range_changed(
     requires settings { length overrides.old ≡ 32 }
     requires placed { IfSome points.now.selection (IsPlacedPair arena.now.trees) }
     ensures { (f : Forest Content) (before : LivePoints) → Watches f before overrides.old watch → overrides.new
-        ≡ settled f before arena.now.trees points.now overrides.old }
+        ≡ unset_if_range_changed f before arena.now.trees points.now overrides.old }
 {
     if let Some(watch) = watch {
         if active_range(arena, points) != watch.range {

@@ -7,7 +7,7 @@ ghost use Rattle.dom_model.specs.Contents.{words_length};
 ghost use Rattle.dom_model.specs.Forest.{total, tree_of, parent_of, IsWithin};
 ghost use Rattle.dom_model.specs.Places.{levels};
 ghost use Rattle.dom_model.specs.TreeOrder.{total_from, total_after};
-ghost use Rattle.edit_model.specs.Kept.{bears_nothing, borne_by, is_blank, is_empty, is_kept, is_thing};
+ghost use Rattle.edit_model.specs.Kept.{has_no_kept_leaves, borne_by, is_blank, is_empty, is_kept, is_thing};
 ghost use Rattle.edit_parts.specs.Walk.{IsIn, Goes, Stops};
 ghost use Rattle.node_arena.specs.Held.{Holds};
 ghost use Rattle.point_order.specs.PointOrder.{is_in_document};
@@ -151,9 +151,9 @@ fn bears(content: &Content) -> bool
 }
 
 /// Whether the tree of a node has no image, no rule, and no characters but tab, LF, CR and space.
-pub fn bears_nothing(arena: &Arena, top: NodeRef) -> bool
+pub fn has_no_kept_leaves(arena: &Arena, top: NodeRef) -> bool
     requires { Holds arena.now top }
-    ensures { result ≡ bears_nothing (tree_of arena.now.trees top.label) }
+    ensures { result ≡ has_no_kept_leaves (tree_of arena.now.trees top.label) }
 {
     arena.valid();
     let mut at = Place {

@@ -10,7 +10,7 @@ use Rattle.forest_changes.specs.Change.{Fits, applied, inverse}
 use Rattle.forest_changes.specs.Named.{named, listed, Each}
 use Rattle.forest_changes.proofs.ChangeLists.{each_join, each_first, each_rest}
 use Rattle.edit_steps.specs.declared.step.Step.{Step}
-use Rattle.edit_steps.specs.declared.step.Step.TheVariants.{Unlink, Link, Place, Words, Attributes}
+use Rattle.edit_steps.specs.declared.step.Step.TheVariants as step
 use Rattle.edit_steps.specs.Step.{change_of, changes_of, step_applied, step_inverse, nodes_of, nodes_in, StepFits, GoBack, GoForth}
 use Rattle.edit_steps.specs.StepLaws.{change_of-inverse, slotted-applied, held-inverse}
 
@@ -19,11 +19,11 @@ labels_listed None = refl
 labels_listed (Some r) = refl
 
 pub named_labels : (x : Step) → map (λ (r : NodeRef). r.label) (nodes_of x) ≡ named (change_of x)
-named_labels (Unlink n) = refl
-named_labels (Link n p b) = ap (λ ls. n.label ∷ p.label ∷ ls) (labels_listed b)
-named_labels (Place n p b) = ap (λ ls. n.label ∷ p.label ∷ ls) (labels_listed b)
-named_labels (Words n words) = refl
-named_labels (Attributes n list) = refl
+named_labels (step.Remove n) = refl
+named_labels (step.Insert n p b) = ap (λ ls. n.label ∷ p.label ∷ ls) (labels_listed b)
+named_labels (step.Move n p b) = ap (λ ls. n.label ∷ p.label ∷ ls) (labels_listed b)
+named_labels (step.SetText n words) = refl
+named_labels (step.SetAttributes n list) = refl
 
 -- which nodes are held doesn't depend on the forest
 same_held : (a : ArenaState) (f : Forest Content) (rs : List NodeRef) → Each (Holds (record a { trees = f })) rs → Each (Holds a) rs

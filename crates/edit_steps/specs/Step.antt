@@ -10,15 +10,15 @@ use Rattle.undo_log.specs.Turning.{back, forth, inverses_back, inverses_forth, F
 use Rattle.forest_changes.specs.Change.{Change, Remove, Insert, Move, SetText, SetAttributes, Fits, applied, inverse}
 use Rattle.forest_changes.specs.Named.{listed, Each}
 use Rattle.edit_steps.specs.declared.step.Step.{Step}
-use Rattle.edit_steps.specs.declared.step.Step.TheVariants.{Unlink, Link, Place, Words, Attributes}
+use Rattle.edit_steps.specs.declared.step.Step.TheVariants as step
 
 -- the change of labels that a step is
 abbrev pub change_of : Step → Change
-change_of (Unlink n) = Remove n.label
-change_of (Link n p b) = Insert n.label p.label (label b)
-change_of (Place n p b) = Move n.label p.label (label b)
-change_of (Words n words) = SetText n.label words
-change_of (Attributes n list) = SetAttributes n.label list
+change_of (step.Remove n) = Remove n.label
+change_of (step.Insert n p b) = Insert n.label p.label (label b)
+change_of (step.Move n p b) = Move n.label p.label (label b)
+change_of (step.SetText n words) = SetText n.label words
+change_of (step.SetAttributes n list) = SetAttributes n.label list
 
 abbrev pub changes_of : List Step → List Change
 changes_of xs = map change_of xs
@@ -33,21 +33,21 @@ step_applied x a = record a { trees = applied (change_of x) a.trees }
 
 -- the step that takes it back
 unfoldable pub step_inverse : Step → ArenaState → Step
-step_inverse (Unlink n) a = Link n (ref_at a (unwrap_or (parent_of a.trees n.label) 0))
+step_inverse (step.Remove n) a = step.Insert n (ref_at a (unwrap_or (parent_of a.trees n.label) 0))
     (option_map (ref_at a) (next_of a.trees n.label))
-step_inverse (Link n p b) a = Unlink n
-step_inverse (Place n p b) a = Place n (ref_at a (unwrap_or (parent_of a.trees n.label) 0))
+step_inverse (step.Insert n p b) a = step.Remove n
+step_inverse (step.Move n p b) a = step.Move n (ref_at a (unwrap_or (parent_of a.trees n.label) 0))
     (option_map (ref_at a) (next_of a.trees n.label))
-step_inverse (Words n words) a = Words n (unwrap_or (chars_of a.trees n.label) words)
-step_inverse (Attributes n list) a = Attributes n (unwrap_or (attributes_of a.trees n.label) list)
+step_inverse (step.SetText n words) a = step.SetText n (unwrap_or (chars_of a.trees n.label) words)
+step_inverse (step.SetAttributes n list) a = step.SetAttributes n (unwrap_or (attributes_of a.trees n.label) list)
 
 -- the nodes that a step names
 abbrev pub nodes_of : Step → List NodeRef
-nodes_of (Unlink n) = n ∷ []
-nodes_of (Link n p b) = n ∷ p ∷ listed b
-nodes_of (Place n p b) = n ∷ p ∷ listed b
-nodes_of (Words n words) = n ∷ []
-nodes_of (Attributes n list) = n ∷ []
+nodes_of (step.Remove n) = n ∷ []
+nodes_of (step.Insert n p b) = n ∷ p ∷ listed b
+nodes_of (step.Move n p b) = n ∷ p ∷ listed b
+nodes_of (step.SetText n words) = n ∷ []
+nodes_of (step.SetAttributes n list) = n ∷ []
 
 abbrev pub nodes_in : List Step → List NodeRef
 nodes_in [] = []

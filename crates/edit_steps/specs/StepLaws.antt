@@ -10,7 +10,7 @@ use Rattle.dom_model.specs.ArenaState.{ArenaState, IsSlotted}
 use Rattle.forest_changes.specs.Change.{Insert, Move, SetText, SetAttributes, applied, inverse}
 use Rattle.forest_changes.proofs.Twice.{turns, given_parent, count_of-applied}
 use Rattle.edit_steps.specs.declared.step.Step.{Step}
-use Rattle.edit_steps.specs.declared.step.Step.TheVariants.{Unlink, Link, Place, Words, Attributes}
+use Rattle.edit_steps.specs.declared.step.Step.TheVariants as step
 use Rattle.edit_steps.specs.Step.{change_of, ref_at, step_applied, step_inverse, nodes_of, StepFits}
 use Rattle.forest_changes.specs.Named.{listed, Each}
 use Rattle.forest_changes.proofs.DownChange.{each_listed}
@@ -21,11 +21,11 @@ label-ref a (Some l) = refl
 
 pub change_of-inverse : (x : Step) (a : ArenaState) → change_of (step_inverse x a) ≡ inverse (change_of x) a.trees
 unfolding step_inverse inverse
-change_of-inverse (Unlink n) a = ap (Insert n.label (unwrap_or (parent_of a.trees n.label) 0)) (label-ref a (next_of a.trees n.label))
-change_of-inverse (Link n p b) a = refl
-change_of-inverse (Words n words) a = refl
-change_of-inverse (Attributes n list) a = refl
-change_of-inverse (Place n p b) a = ap (Move n.label (unwrap_or (parent_of a.trees n.label) 0)) (label-ref a (next_of a.trees n.label))
+change_of-inverse (step.Remove n) a = ap (Insert n.label (unwrap_or (parent_of a.trees n.label) 0)) (label-ref a (next_of a.trees n.label))
+change_of-inverse (step.Insert n p b) a = refl
+change_of-inverse (step.SetText n words) a = refl
+change_of-inverse (step.SetAttributes n list) a = refl
+change_of-inverse (step.Move n p b) a = ap (Move n.label (unwrap_or (parent_of a.trees n.label) 0)) (label-ref a (next_of a.trees n.label))
 
 -- a held reference is the one to its label
 pub ref_is : (a : ArenaState) → IsSlotted a → (r : NodeRef) → Holds a r → ref_at a r.label ≡ r
@@ -49,15 +49,15 @@ slotted-applied x a h = record {
 
 pub held-inverse : (x : Step) (a : ArenaState) → StepFits x a → Each (Holds a) (nodes_of (step_inverse x a))
 unfolding step_inverse
-held-inverse (Unlink n) a h =
+held-inverse (step.Remove n) a h =
     let p = unwrap_or (parent_of a.trees n.label) 0 in
     let child = given_parent a.trees n.label h.fits.here in
     let c = parent_count a.trees n.label p h.fits.forest.distinct child in
     (h.held.0, (h.slotted.kept p c.1, held_next a h.slotted (next_of a.trees n.label) (next_here a.trees n.label h.fits.forest.distinct)))
-held-inverse (Link n p b) a h = (h.held.0, tt)
-held-inverse (Words n words) a h = h.held
-held-inverse (Attributes n list) a h = h.held
-held-inverse (Place n p b) a h =
+held-inverse (step.Insert n p b) a h = (h.held.0, tt)
+held-inverse (step.SetText n words) a h = h.held
+held-inverse (step.SetAttributes n list) a h = h.held
+held-inverse (step.Move n p b) a h =
     let q = unwrap_or (parent_of a.trees n.label) 0 in
     let child = given_parent a.trees n.label h.fits.here.0 in
     let c = parent_count a.trees n.label q h.fits.forest.distinct child in
@@ -90,20 +90,20 @@ attach_parts n p q b c e = (cc, cc)
 shift_parts : (n p q : ℕ) (b c : Option ℕ) → (Move n p b) ≡ Move n q c → (p ≡ q) × (b ≡ c)
 shift_parts n p q b c e = (cc, cc)
 
-rewrite_parts : (n : ℕ) (ws vs : List ℕ) → SetText n ws ≡ SetText n vs → (r : NodeRef) → Words r ws ≡ Words r vs
-rewrite_parts n ws vs e r = (let same : ws ≡ vs = cc in ap (Words r) same)
+rewrite_parts : (n : ℕ) (ws vs : List ℕ) → SetText n ws ≡ SetText n vs → (r : NodeRef) → step.SetText r ws ≡ step.SetText r vs
+rewrite_parts n ws vs e r = (let same : ws ≡ vs = cc in ap (step.SetText r) same)
 
-redress_parts : (n : ℕ) (ws vs : List Attribute) → SetAttributes n ws ≡ SetAttributes n vs → (r : NodeRef) → Attributes r ws ≡ Attributes r vs
-redress_parts n ws vs e r = (let same : ws ≡ vs = cc in ap (Attributes r) same)
+redress_parts : (n : ℕ) (ws vs : List Attribute) → SetAttributes n ws ≡ SetAttributes n vs → (r : NodeRef) → step.SetAttributes r ws ≡ step.SetAttributes r vs
+redress_parts n ws vs e r = (let same : ws ≡ vs = cc in ap (step.SetAttributes r) same)
 
 pub step_step_again : (x : Step) (a : ArenaState) → StepFits x a → step_inverse (step_inverse x a) (step_applied x a) ≡ x
 unfolding step_applied step_inverse inverse applied
-step_step_again (Unlink n) a h = refl
-step_step_again (Link n p b) a h =
-    let t = attach_parts n.label _ _ _ _ (turns (change_of (Link n p b)) a.trees h.fits).same in
-    λ i. Link n ((ap (ref_at a) t.0 ∙ ref_is a h.slotted p h.held.1.0) i) ((ap (option_map (ref_at a)) t.1 ∙ refs_are a h.slotted b (each_listed (Holds a) b h.held.1.1)) i)
-step_step_again (Place n p b) a h =
-    let t = shift_parts n.label _ _ _ _ (turns (change_of (Place n p b)) a.trees h.fits).same in
-    λ i. Place n ((ap (ref_at a) t.0 ∙ ref_is a h.slotted p h.held.1.0) i) ((ap (option_map (ref_at a)) t.1 ∙ refs_are a h.slotted b (each_listed (Holds a) b h.held.1.1)) i)
-step_step_again (Words n words) a h = rewrite_parts n.label _ _ (turns (change_of (Words n words)) a.trees h.fits).same n
-step_step_again (Attributes n list) a h = redress_parts n.label _ _ (turns (change_of (Attributes n list)) a.trees h.fits).same n
+step_step_again (step.Remove n) a h = refl
+step_step_again (step.Insert n p b) a h =
+    let t = attach_parts n.label _ _ _ _ (turns (change_of (step.Insert n p b)) a.trees h.fits).same in
+    λ i. step.Insert n ((ap (ref_at a) t.0 ∙ ref_is a h.slotted p h.held.1.0) i) ((ap (option_map (ref_at a)) t.1 ∙ refs_are a h.slotted b (each_listed (Holds a) b h.held.1.1)) i)
+step_step_again (step.Move n p b) a h =
+    let t = shift_parts n.label _ _ _ _ (turns (change_of (step.Move n p b)) a.trees h.fits).same in
+    λ i. step.Move n ((ap (ref_at a) t.0 ∙ ref_is a h.slotted p h.held.1.0) i) ((ap (option_map (ref_at a)) t.1 ∙ refs_are a h.slotted b (each_listed (Holds a) b h.held.1.1)) i)
+step_step_again (step.SetText n words) a h = rewrite_parts n.label _ _ (turns (change_of (step.SetText n words)) a.trees h.fits).same n
+step_step_again (step.SetAttributes n list) a h = redress_parts n.label _ _ (turns (change_of (step.SetAttributes n list)) a.trees h.fits).same n

@@ -9,33 +9,33 @@ use std::sync::ledger::{Blank, Ledger};
 use step_count::Steps;
 use undo_log::Invertible;
 
-/// An edit of an arena that takes another one back. Unlink becomes Link and the reverse; Place exchanges the place of
-/// the node with the one that it has, and Words and Attributes exchange the contents.
+/// An edit of an arena that takes another one back. Remove becomes Insert and the reverse; Move exchanges the place of
+/// the node with the one that it has, and SetText and SetAttributes exchange the contents.
 #[derive(Drop)]
 pub enum Step {
     /// Makes the tree of a node loose.
-    Unlink {
+    Remove {
         node: NodeRef,
     },
-    /// Links a loose tree under a parent, before one of its children or at the end.
-    Link {
+    /// Inserts a loose tree under a parent, before one of its children or at the end.
+    Insert {
         node: NodeRef,
         parent: NodeRef,
         before: Option<NodeRef>,
     },
     /// Moves the tree of a node to another place.
-    Place {
+    Move {
         node: NodeRef,
         parent: NodeRef,
         before: Option<NodeRef>,
     },
     /// Gives a Text or Comment node other characters.
-    Words {
+    SetText {
         node: NodeRef,
         words: Chars,
     },
     /// Gives an element another attribute list.
-    Attributes {
+    SetAttributes {
         node: NodeRef,
         list: Attributes,
     },
@@ -59,38 +59,38 @@ impl Invertible<Arena> for Step {
     #[tactic(auto, unfolding(crate::specs::Step::step_applied, crate::specs::Step::step_inverse, forest_changes::specs::Change::applied))]
     fn apply(&mut self, arena: &mut Arena) {
         match self {
-            Step::Unlink { node } => *self = unlinked::<Brand>(arena, *node, Blank::new(1)),
-            Step::Link {
+            Step::Remove { node } => *self = removed::<Brand>(arena, *node, Blank::new(1)),
+            Step::Insert {
                 node,
                 parent,
                 before,
-            } => *self = linked::<Brand>(arena, *node, *parent, *before, Blank::new(1)),
-            Step::Place {
+            } => *self = inserted::<Brand>(arena, *node, *parent, *before, Blank::new(1)),
+            Step::Move {
                 node,
                 parent,
                 before,
-            } => *self = placed::<Brand>(arena, *node, *parent, *before, Blank::new(1)),
-            Step::Words { node, words } => arena.swap_words(*node, words),
-            Step::Attributes { node, list } => arena.swap_attributes(*node, list),
+            } => *self = moved::<Brand>(arena, *node, *parent, *before, Blank::new(1)),
+            Step::SetText { node, words } => arena.swap_words(*node, words),
+            Step::SetAttributes { node, list } => arena.swap_attributes(*node, list),
         }
     }
 }
 
 // Makes the tree of a node loose, and tells how to link it where it was.
 #[tactic(auto, unfolding(crate::specs::Step::step_applied, crate::specs::Step::step_inverse, forest_changes::specs::Change::applied))]
-fn unlinked<L: Ledger>(arena: &mut Arena, node: NodeRef, blank: Blank) -> Step
+fn removed<L: Ledger>(arena: &mut Arena, node: NodeRef, blank: Blank) -> Step
     requires name { blank.name ≡ L.name }
     requires parts { blank.parts ≡ L.parts }
     requires some { 0 < blank.parts }
-    requires fits { StepFits (Step.Unlink node) arena.old }
-    ensures arena { arena.new ≡ step_applied (Step.Unlink node) arena.old }
-    ensures step { result ≡ step_inverse (Step.Unlink node) arena.old }
+    requires fits { StepFits (Step.Remove node) arena.old }
+    ensures arena { arena.new ≡ step_applied (Step.Remove node) arena.old }
+    ensures step { result ≡ step_inverse (Step.Remove node) arena.old }
 {
     let mut steps = Steps::<L>::open(blank);
     let parent = arena.parent(node).unwrap();
     let before = arena.next(node);
     arena.unlink(node, &mut steps);
-    Step::Link {
+    Step::Insert {
         node,
         parent,
         before,
@@ -99,7 +99,7 @@ fn unlinked<L: Ledger>(arena: &mut Arena, node: NodeRef, blank: Blank) -> Step
 
 // Links a loose tree, and tells how to make it loose again.
 #[tactic(auto, unfolding(crate::specs::Step::step_applied, crate::specs::Step::step_inverse, forest_changes::specs::Change::applied))]
-fn linked<L: Ledger>(
+fn inserted<L: Ledger>(
     arena: &mut Arena,
     node: NodeRef,
     parent: NodeRef,
@@ -109,18 +109,18 @@ fn linked<L: Ledger>(
     requires name { blank.name ≡ L.name }
     requires parts { blank.parts ≡ L.parts }
     requires some { 0 < blank.parts }
-    requires fits { StepFits (Step.Link node parent before) arena.old }
-    ensures arena { arena.new ≡ step_applied (Step.Link node parent before) arena.old }
-    ensures step { result ≡ step_inverse (Step.Link node parent before) arena.old }
+    requires fits { StepFits (Step.Insert node parent before) arena.old }
+    ensures arena { arena.new ≡ step_applied (Step.Insert node parent before) arena.old }
+    ensures step { result ≡ step_inverse (Step.Insert node parent before) arena.old }
 {
     let mut steps = Steps::<L>::open(blank);
     arena.link(parent, before, node, &mut steps);
-    Step::Unlink { node }
+    Step::Remove { node }
 }
 
 // Moves the tree of a node, and tells how to move it back.
 #[tactic(auto, unfolding(crate::specs::Step::step_applied, crate::specs::Step::step_inverse, forest_changes::specs::Change::applied))]
-fn placed<L: Ledger>(
+fn moved<L: Ledger>(
     arena: &mut Arena,
     node: NodeRef,
     parent: NodeRef,
@@ -130,16 +130,16 @@ fn placed<L: Ledger>(
     requires name { blank.name ≡ L.name }
     requires parts { blank.parts ≡ L.parts }
     requires some { 0 < blank.parts }
-    requires fits { StepFits (Step.Place node parent before) arena.old }
-    ensures arena { arena.new ≡ step_applied (Step.Place node parent before) arena.old }
-    ensures step { result ≡ step_inverse (Step.Place node parent before) arena.old }
+    requires fits { StepFits (Step.Move node parent before) arena.old }
+    ensures arena { arena.new ≡ step_applied (Step.Move node parent before) arena.old }
+    ensures step { result ≡ step_inverse (Step.Move node parent before) arena.old }
 {
     let mut steps = Steps::<L>::open(blank);
     let old_parent = arena.parent(node).unwrap();
     let old_before = arena.next(node);
     arena.unlink(node, &mut steps);
     arena.link(parent, before, node, &mut steps);
-    Step::Place {
+    Step::Move {
         node,
         parent: old_parent,
         before: old_before,

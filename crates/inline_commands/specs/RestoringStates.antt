@@ -31,20 +31,20 @@ set_override o = override_by o.command o.setting
 
 -- ---- with one
 
--- restore states and values, step 3: a state that differs is turned round
+-- restore states and values, step 3: a state that differs is toggled
 abbrev pub turn_round : Command → Run Bool
 turn_round command.Subscript = toggle_script command.Subscript
 turn_round command.Superscript = toggle_script command.Superscript
 turn_round c = toggle_style c
 
-unfoldable pub turned : Command → Run (Unit {0})
-turned c = turn_round c >> done
+unfoldable pub toggle_state : Command → Run (Unit {0})
+toggle_state c = turn_round c >> done
 
 unfoldable pub restore_on : Command → Run (Unit {0})
-restore_on c = look λ s. if state_of s s.host c then done else turned c
+restore_on c = look λ s. if state_of s s.host c then done else toggle_state c
 
 unfoldable pub restore_off : Command → Run (Unit {0})
-restore_off c = look λ s. if state_of s s.host c then turned c else done
+restore_off c = look λ s. if state_of s s.host c then toggle_state c else done
 
 -- restore states and values, step 4: a font or a colour that isn't equivalent to the command's value
 unfoldable pub restore_shown : Command → List ℕ → Run (Unit {0})

@@ -6,7 +6,7 @@ ghost use Rattle.edit_model.specs.Run.{for_each};
 ghost use Rattle.edit_doc.specs.Held.{Keeps};
 ghost use Rattle.edit_doc.specs.Whole.{IsOpen};
 ghost use Rattle.edit_query.specs.Formattable as formattable;
-ghost use Rattle.inline_commands.specs.RestoringStates.{set_override, turned, restore_on, restore_off, restore_shown, differs_at, is_other_value, restore_link, restore_size, restore_text, restore_entry, restore_states};
+ghost use Rattle.inline_commands.specs.RestoringStates.{set_override, toggle_state, restore_on, restore_off, restore_shown, differs_at, is_other_value, restore_link, restore_size, restore_text, restore_entry, restore_states};
 
 use crate::linking::create_link;
 use crate::toggling::{toggle_script, toggle_style};
@@ -51,10 +51,10 @@ fn set_overrides(doc: &mut Doc, list: &[Override]) -> Result<(), EditFault>
 }
 
 // Restore states and values, step 3: the action of the command.
-#[tactic(auto, using(edit_model::proofs::Steps::steps, edit_model::proofs::Steps::exits), unfolding(crate::specs::RestoringStates::turned))]
-fn turn_round(alloc: Global, doc: &mut Doc, command: Command) -> Result<(), EditFault>
+#[tactic(auto, using(edit_model::proofs::Steps::steps, edit_model::proofs::Steps::exits), unfolding(crate::specs::RestoringStates::toggle_state))]
+fn toggle_state(alloc: Global, doc: &mut Doc, command: Command) -> Result<(), EditFault>
     requires open { IsOpen doc.old }
-    ensures gives { Gives result doc.old.state doc.new.state (turned command) }
+    ensures gives { Gives result doc.old.state doc.new.state (toggle_state command) }
     ensures keeps { Keeps doc.old doc.new }
 {
     match command {
@@ -74,7 +74,7 @@ fn restore_on(alloc: Global, doc: &mut Doc, command: Command) -> Result<(), Edit
     if query_state(alloc, doc, doc.host(), command)? {
         return Ok(());
     }
-    turn_round(alloc, doc, command)
+    toggle_state(alloc, doc, command)
 }
 
 // Restore states and values, step 3: of false.
@@ -85,7 +85,7 @@ fn restore_off(alloc: Global, doc: &mut Doc, command: Command) -> Result<(), Edi
     ensures keeps { Keeps doc.old doc.new }
 {
     if query_state(alloc, doc, doc.host(), command)? {
-        return turn_round(alloc, doc, command);
+        return toggle_state(alloc, doc, command);
     }
     Ok(())
 }

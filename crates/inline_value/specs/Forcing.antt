@@ -110,8 +110,8 @@ abbrev pub lacks : State → ℕ → Command → List ℕ → Bool
 lacks s n command v = is_element_at s.trees n && not (has_alike s n command (Some v))
 
 -- force the value, step 9: an element that hasn't taken the value
-unfoldable pub settled : Command → List ℕ → ℕ → ℕ → Run Bool
-settled command v n p = look λ s. if lacks s n command v then taken_back n p else answer false
+unfoldable pub confirm_value : Command → List ℕ → ℕ → ℕ → Run Bool
+confirm_value command v n p = look λ s. if lacks s n command v then taken_back n p else answer false
 
 -- force the value, steps 6 to 9
 unfoldable pub put_in : Command → List ℕ → ℕ → ℕ → Run Bool
@@ -119,7 +119,7 @@ put_in command v n p = do
   insert_before n p
   style_wrapper command v p
   move_last p n
-  settled command v n p
+  confirm_value command v n p
 
 -- force the value, steps 5 to 9
 unfoldable pub wrapped : Command → List ℕ → ℕ → Run Bool

@@ -274,8 +274,8 @@ fn lacks(doc: &Doc, value: &[char], node: NodeRef, command: Command) -> bool
 
 // Force the value, step 9: an element that hasn't taken the value comes out again. Answers whether its children are to
 // be given it.
-#[tactic(auto, using(edit_model::proofs::Steps::steps, edit_model::proofs::Steps::exits), unfolding(crate::specs::Forcing::settled))]
-fn settle(
+#[tactic(auto, using(edit_model::proofs::Steps::steps, edit_model::proofs::Steps::exits), unfolding(crate::specs::Forcing::confirm_value))]
+fn confirm_value(
     doc: &mut Doc,
     value: &[char],
     node: NodeRef,
@@ -285,7 +285,7 @@ fn settle(
     requires open { IsOpen doc.old }
     requires node_held { Holds doc.old node }
     requires made_held { Holds doc.old made }
-    ensures gives { Gives result doc.old.state doc.new.state (spec.settled command value.now node.label made.label) }
+    ensures gives { Gives result doc.old.state doc.new.state (spec.confirm_value command value.now node.label made.label) }
     ensures keeps { Keeps doc.old doc.new }
 {
     if lacks(doc, value, node, command) {
@@ -314,7 +314,7 @@ fn put_in(
     insert_before(doc, node, made)?; // step 6
     style_wrapper(alloc, doc, value, made, command)?; // step 7
     doc.move_keeping(node, made, None)?; // step 8
-    settle(doc, value, node, made, command) // step 9
+    confirm_value(doc, value, node, made, command) // step 9
 }
 
 // Force the value, steps 5 to 9.

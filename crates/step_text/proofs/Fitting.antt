@@ -165,9 +165,9 @@ module _ (a : ArenaState) (law : IsValid a) (slotted : IsSlotted a) where
   here : (l : ℕ) → is_there a.trees l ≡ true → 0 < count_of a.trees l
   here l h = ltb-true 0 (count_of a.trees l) h
 
-  pub remove_step : (l : ℕ) (r : NodeRef) → r.label ≡ l → Holds a r → is_there a.trees l ≡ true → is_some (parent_of a.trees r.label) ≡ true → IsStepOf (Remove l) a (step.Unlink r)
+  pub remove_step : (l : ℕ) (r : NodeRef) → r.label ≡ l → Holds a r → is_there a.trees l ≡ true → is_some (parent_of a.trees r.label) ≡ true → IsStepOf (Remove l) a (step.Remove r)
   unfolding has_labels has_place has_room trees_after
-  remove_step l r same held there child = subst (λ k. is_there a.trees k ≡ true → IsStepOf (Remove k) a (step.Unlink r)) same
+  remove_step l r same held there child = subst (λ k. is_there a.trees k ≡ true → IsStepOf (Remove k) a (step.Remove r)) same
       (λ there. record {
         fine = fine (Remove r.label) (labelled a) there child refl;
         fits = record { fits = record { forest = forest_of a law; here = child }; slotted = slotted; held = (held, tt) };
@@ -175,9 +175,9 @@ module _ (a : ArenaState) (law : IsValid a) (slotted : IsSlotted a) where
         next = refl;
       }) there
 
-  pub words_step : (l : ℕ) (r : NodeRef) (words : List ℕ) → r.label ≡ l → Holds a r → is_there a.trees l ≡ true → is_text_at a.trees r.label ≡ true → length words < 2 ^ 32 → IsStepOf (Words l words) a (step.Words r words)
+  pub words_step : (l : ℕ) (r : NodeRef) (words : List ℕ) → r.label ≡ l → Holds a r → is_there a.trees l ≡ true → is_text_at a.trees r.label ≡ true → length words < 2 ^ 32 → IsStepOf (Words l words) a (step.SetText r words)
   unfolding has_labels has_place has_room trees_after
-  words_step l r words same held there text short = subst (λ k. is_there a.trees k ≡ true → IsStepOf (Words k words) a (step.Words r words)) same
+  words_step l r words same held there text short = subst (λ k. is_there a.trees k ≡ true → IsStepOf (Words k words) a (step.SetText r words)) same
       (λ there. record {
         fine = fine (Words r.label words) (labelled a) there text refl;
         fits = record { fits = record { forest = forest_of a law; here = (has_text (content_of a.trees r.label) text, short) }; slotted = slotted; held = (held, tt) };
@@ -185,9 +185,9 @@ module _ (a : ArenaState) (law : IsValid a) (slotted : IsSlotted a) where
         next = refl;
       }) there
 
-  pub tag_step : (l : ℕ) (r : NodeRef) (name : List ℕ) (list : List Attribute) → r.label ≡ l → Holds a r → is_there a.trees l ≡ true → has_name a.trees r.label name ≡ true → IsStepOf (Tag l name list) a (step.Attributes r list)
+  pub tag_step : (l : ℕ) (r : NodeRef) (name : List ℕ) (list : List Attribute) → r.label ≡ l → Holds a r → is_there a.trees l ≡ true → has_name a.trees r.label name ≡ true → IsStepOf (Tag l name list) a (step.SetAttributes r list)
   unfolding has_labels has_place has_room trees_after
-  tag_step l r name list same held there named = subst (λ k. is_there a.trees k ≡ true → IsStepOf (Tag k name list) a (step.Attributes r list)) same
+  tag_step l r name list same held there named = subst (λ k. is_there a.trees k ≡ true → IsStepOf (Tag k name list) a (step.SetAttributes r list)) same
       (λ there. record {
         fine = fine (Tag r.label name list) (labelled a) there named refl;
         fits = record { fits = record { forest = forest_of a law; here = has_tag (content_of a.trees r.label) _ named }; slotted = slotted; held = (held, tt) };

@@ -52,8 +52,8 @@ line_to Child l p b = Move l p b
 
 -- the step of the arena
 abbrev pub step_to : Origin → Placing → Step
-step_to Loose at = step.Link at.node at.parent at.before
-step_to Child at = step.Place at.node at.parent at.before
+step_to Loose at = step.Insert at.node at.parent at.before
+step_to Child at = step.Move at.node at.parent at.before
 
 -- the nodes of these labels
 pub record Places (a : ArenaState) (l p : ℕ) (b : Option ℕ) (found : Placing) : Type 0 where

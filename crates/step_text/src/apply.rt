@@ -281,12 +281,12 @@ fn step_to(origin: Origin, at: Placing) -> Step
         before,
     } = at;
     match origin {
-        Origin::Loose => Step::Link {
+        Origin::Loose => Step::Insert {
             node,
             parent,
             before,
         },
-        Origin::Child => Step::Place {
+        Origin::Child => Step::Move {
             node,
             parent,
             before,
@@ -326,7 +326,7 @@ fn removal(arena: &Arena, label: u32) -> Result<Step, StepFault>
     if !has_parent(arena, node) {
         return Err(StepFault::BadPlace);
     }
-    Ok(Step::Unlink { node })
+    Ok(Step::Remove { node })
 }
 
 // The step that gives a text other characters.
@@ -340,7 +340,7 @@ fn rewriting(arena: &Arena, label: u32, words: Chars) -> Result<Step, StepFault>
     if !is_text(arena, node) {
         return Err(StepFault::BadPlace);
     }
-    Ok(Step::Words { node, words })
+    Ok(Step::SetText { node, words })
 }
 
 // The step that gives an element of this name other attributes.
@@ -358,7 +358,7 @@ fn redressing(
     if !is_named(arena, node, &name) {
         return Err(StepFault::BadPlace);
     }
-    Ok(Step::Attributes {
+    Ok(Step::SetAttributes {
         node,
         list: attributes,
     })

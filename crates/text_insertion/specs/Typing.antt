@@ -13,7 +13,7 @@ use Rattle.edit_model.specs.Run.{Run, ◌>>=◌, ◌>>◌, answer, done, look, g
 use Rattle.inline_commands.specs.RestoringStates.{restore_states}
 use Rattle.inline_value.specs.declared.overrides.Override.{Override}
 use Rattle.inline_value.specs.Overrides.{overrides_of}
-use Rattle.delete_core.specs.Ends.{settle, canonicalize_start, canonicalize_end}
+use Rattle.delete_core.specs.Ends.{collapse_selection, canonicalize_start, canonicalize_end}
 use Rattle.delete_core.specs.Places.{at, start_in, end_in}
 use Rattle.delete_core.specs.Whitespace.{canonicalize}
 use Rattle.text_insertion.specs.Paragraph.{insert_paragraph}
@@ -66,7 +66,7 @@ unfoldable pub close_text : Run (Unit {0})
 close_text = do
   canonicalize_start false
   canonicalize_end false
-  settle true
+  collapse_selection true
 
 -- steps 4 to 7, with the overrides that were set
 unfoldable pub type_with : ℕ → Point → List Override → Run (Unit {0})

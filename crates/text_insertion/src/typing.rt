@@ -11,8 +11,8 @@ ghost use Rattle.text_insertion.specs.Typing as typing;
 use crate::paragraph::insert_paragraph;
 use crate::start::{active_start, erase, insert_at_start, start_inside};
 use delete_core::{
-    canonicalize, canonicalize_end, canonicalize_start, child_at, child_before, end_in, select,
-    settle, start_in,
+    canonicalize, canonicalize_end, canonicalize_start, child_at, child_before, collapse_selection,
+    end_in, select, start_in,
 };
 use edit_doc::{Doc, EditFault, NodeRef, Point};
 use inline_commands::restore_states;
@@ -168,7 +168,7 @@ fn close_text(alloc: Global, doc: &mut Doc) -> Result<(), EditFault>
 {
     canonicalize_start(alloc, doc, false)?;
     canonicalize_end(alloc, doc, false)?;
-    settle(doc, true)
+    collapse_selection(doc, true)
 }
 
 // Steps 4 to 7, with the overrides that were set.

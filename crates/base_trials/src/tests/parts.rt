@@ -6,9 +6,10 @@ ghost use Rattle.edit_model.specs.Valid.{IsPlacedPair};
 use super::trees::{Trial, element, found, name, put, words};
 use edit_model::{EditFault, Setting};
 use edit_parts::{
-    Counts, add_counts, adjust_inserted, adjust_moved, bears_nothing, copy_overrides, fault_of,
-    has_value, is_in_document, moving_from, no_overrides, place_of, removal_of, replaced,
-    stands_at, tail_of, take_counts, tree_counts, unset_overrides_if_range_changed, watch_range,
+    Counts, add_counts, adjust_inserted, adjust_moved, copy_overrides, fault_of,
+    has_no_kept_leaves, has_value, is_in_document, moving_from, no_overrides, place_of, removal_of,
+    replaced, stands_at, tail_of, take_counts, tree_counts, unset_overrides_if_range_changed,
+    watch_range,
 };
 use html_names::Command;
 use live_range::{Pair, Point, Points};
@@ -26,7 +27,7 @@ fn shown(arena: &Arena, node: NodeRef) -> Option<(u32, u64, bool, bool, u32)> {
         return None;
     }
     let counts = tree_counts(arena, node);
-    let bare = bears_nothing(arena, node);
+    let bare = has_no_kept_leaves(arena, node);
     let root = root_of(arena, node);
     Some((
         counts.nodes,

@@ -19,7 +19,7 @@ fn once<T: Invertible<S>, S>(step: &mut T, state: &mut S)
 }
 
 fn can_unlink(arena: &Arena, node: NodeRef) -> bool
-    ensures { IsTrue result → StepFits (Step.Unlink node) arena.now }
+    ensures { IsTrue result → StepFits (Step.Remove node) arena.now }
 {
     arena.valid();
     arena.slotted();
@@ -28,7 +28,7 @@ fn can_unlink(arena: &Arena, node: NodeRef) -> bool
 
 // Only places at the end, so that nothing is asked of a sibling.
 fn can_link(arena: &Arena, node: NodeRef, parent: NodeRef) -> bool
-    ensures { IsTrue result → StepFits (Step.Link node parent None) arena.now }
+    ensures { IsTrue result → StepFits (Step.Insert node parent None) arena.now }
 {
     arena.valid();
     arena.slotted();
@@ -39,7 +39,7 @@ fn can_link(arena: &Arena, node: NodeRef, parent: NodeRef) -> bool
 }
 
 fn can_place(arena: &Arena, node: NodeRef, parent: NodeRef) -> bool
-    ensures { IsTrue result → StepFits (Step.Place node parent None) arena.now }
+    ensures { IsTrue result → StepFits (Step.Move node parent None) arena.now }
 {
     arena.valid();
     arena.slotted();
@@ -53,7 +53,7 @@ fn can_place(arena: &Arena, node: NodeRef, parent: NodeRef) -> bool
 }
 
 fn can_write(arena: &Arena, node: NodeRef, words: &Chars) -> bool
-    ensures { IsTrue result → StepFits (Step.Words node words.now) arena.now }
+    ensures { IsTrue result → StepFits (Step.SetText node words.now) arena.now }
 {
     arena.valid();
     arena.slotted();
@@ -61,7 +61,7 @@ fn can_write(arena: &Arena, node: NodeRef, words: &Chars) -> bool
 }
 
 fn can_dress(arena: &Arena, node: NodeRef, list: &Attributes) -> bool
-    ensures { IsTrue result → StepFits (Step.Attributes node list.now) arena.now }
+    ensures { IsTrue result → StepFits (Step.SetAttributes node list.now) arena.now }
 {
     arena.valid();
     arena.slotted();
@@ -96,14 +96,14 @@ fn link(arena: &mut Arena, node: NodeRef, parent: NodeRef) -> bool {
     if !can_link(arena, node, parent) {
         return false;
     }
-    let mut step = Step::Link {
+    let mut step = Step::Insert {
         node,
         parent,
         before: None,
     };
     once(&mut step, arena);
     match step {
-        Step::Unlink { node: same } => same == node,
+        Step::Remove { node: same } => same == node,
         _ => false,
     }
 }
@@ -124,7 +124,7 @@ fn unlinks_and_links_where_it_was(alloc: Global, arena: &mut Arena) -> Result<bo
     if !can_unlink(arena, a) {
         return Ok(false);
     }
-    let mut step = Step::Unlink { node: a };
+    let mut step = Step::Remove { node: a };
     once(&mut step, arena);
     let unlinked = shown(arena, a) == Some((None, None));
     once(&mut step, arena);
@@ -136,7 +136,7 @@ fn places_and_places_back(alloc: Global, arena: &mut Arena) -> Result<bool, Fail
     if !can_place(arena, a, b) {
         return Ok(false);
     }
-    let mut step = Step::Place {
+    let mut step = Step::Move {
         node: a,
         parent: b,
         before: None,
@@ -153,7 +153,7 @@ fn exchanges_words(alloc: Global, arena: &mut Arena) -> Result<bool, Fail> {
     if !can_write(arena, text, &words) {
         return Ok(false);
     }
-    let mut step = Step::Words { node: text, words };
+    let mut step = Step::SetText { node: text, words };
     once(&mut step, arena);
     let exchanged = text_length(arena, text) == Some(3);
     once(&mut step, arena);
@@ -167,7 +167,7 @@ fn exchanges_attributes(alloc: Global, arena: &mut Arena) -> Result<bool, Fail> 
     if !can_dress(arena, a, &list) {
         return Ok(false);
     }
-    let mut step = Step::Attributes { node: a, list };
+    let mut step = Step::SetAttributes { node: a, list };
     once(&mut step, arena);
     let exchanged = first_name(arena, a) == Some(b'q');
     once(&mut step, arena);

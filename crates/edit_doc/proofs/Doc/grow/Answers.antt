@@ -20,22 +20,22 @@ grown-requires c =
     let low = c.valid.ensures.small in
     fits-grow (seen c.self.inside).state c.args.at c.self.invariant.valid (omega (arith, capped, low)) may
 
-pub settle-requires : goal.settle-requires
-settle-requires c =
+pub unset_if_range_changed-requires : goal.unset_if_range_changed-requires
+unset_if_range_changed-requires c =
     let may = ap (λ (w : Whole). may_grow w.state c.args.at) c.self.view_is ∙ (sym c.may_grow.ensures ∙ c.if-may_grow.true) in
     rw c.grown.ensures (mapped_then c.self.inside c.valid.ensures c.self.invariant (range.Grown c.args.at) (places-grow (seen c.self.inside).state c.args.at c.self.invariant.valid may)).selection
 
-goes : (c : goal.After-settle) → Places (range.Grown c.args.at) (seen c.self.inside).state.trees (seen c.self.inside).state.trees
+goes : (c : goal.After-unset_if_range_changed) → Places (range.Grown c.args.at) (seen c.self.inside).state.trees (seen c.self.inside).state.trees
 goes c = places-grow (seen c.self.inside).state c.args.at c.self.invariant.valid (ap (λ (w : Whole). may_grow w.state c.args.at) c.self.view_is ∙ (sym c.may_grow.ensures ∙ c.if-may_grow.true))
 
 pub invariant_of-self : goal.invariant_of-self
-invariant_of-self c = mapped_ok c.self.inside c.valid.ensures c.self.invariant (range.Grown c.args.at) (goes c) c.grown.new.self c.grown.ensures c.watch-watch.result c.settle.new.self c.watch-watch.ensures c.settle.ensures
+invariant_of-self c = mapped_ok c.self.inside c.valid.ensures c.self.invariant (range.Grown c.args.at) (goes c) c.grown.new.self c.grown.ensures c.watch-watch.result c.unset_if_range_changed.new.self c.watch-watch.ensures c.unset_if_range_changed.ensures
 
 pub returns-then-may_grow : goal.returns-then-may_grow
 unfolding acted grown
 returns-then-may_grow c =
     let t = sym c.may_grow.ensures ∙ c.if-may_grow.true in
-    rw t (mapped_is c.self.inside c.valid.ensures c.self.invariant (range.Grown c.args.at) (goes c) c.grown.new.self c.grown.ensures c.watch-watch.result c.settle.new.self c.watch-watch.ensures c.settle.ensures _ c.self.view_is)
+    rw t (mapped_is c.self.inside c.valid.ensures c.self.invariant (range.Grown c.args.at) (goes c) c.grown.new.self c.grown.ensures c.watch-watch.result c.unset_if_range_changed.new.self c.watch-watch.ensures c.unset_if_range_changed.ensures _ c.self.view_is)
 
 pub returns-else-may_grow : goal.returns-else-may_grow
 unfolding acted grown

@@ -1,7 +1,7 @@
 use Rattle.std.proofs.Common.{◌≡◌, sym, ap, ◌∙◌}
 use Rattle.edit_model.specs.Edit.{Insert}
 use Rattle.edit_model.specs.Gives.{label_of}
-use Rattle.edit_parts.specs.Following.{settled}
+use Rattle.edit_parts.specs.Following.{unset_if_range_changed}
 use Rattle.edit_doc.proofs.Edited.{Applied}
 use Rattle.edit_doc.proofs.Inserting.{fits, nodes_fit, chars_fit, counted_linked, held_here, points_fit, placed, link_done}
 use Rattle.edit_doc.proofs.Settling.{points_now}
@@ -47,20 +47,20 @@ adjust_inserted-requires-clause-fits c =
     points_fit c.self.inside a.self.now c.self.view_is c.valid.ensures c.slotted.ensures c.requires.open c.self.invariant a.node a.parent a.before c.requires.node_held c.requires.parent_held c.requires.before_held c.requires.possible
     c.change.new.self.arena c.in_ok-change.ensures.arena
 
-pub settle-requires : goal.settle-requires
-settle-requires c =
+pub unset_if_range_changed-requires : goal.unset_if_range_changed-requires
+unset_if_range_changed-requires c =
     let a = c.args in
     (placed c.self.inside a.self.now c.self.view_is c.valid.ensures c.slotted.ensures c.requires.open c.self.invariant a.node a.parent a.before c.requires.node_held c.requires.parent_held c.requires.before_held c.requires.possible
     c.change.new.self.arena c.in_ok-change.ensures.arena c.adjust_inserted.new.points c.adjust_inserted.ensures).selection
 
-overrides_are : (c : goal.After-settle) → c.settle.new.self ≡ settled c.self.inside.tree.nodes.arena.trees c.self.inside.tree.points c.change.new.self.arena.trees c.adjust_inserted.new.points c.self.inside.tree.overrides
-overrides_are c = c.settle.ensures c.self.inside.tree.nodes.arena.trees c.self.inside.tree.points c.watch-watch.ensures
+overrides_are : (c : goal.After-unset_if_range_changed) → c.unset_if_range_changed.new.self ≡ unset_if_range_changed c.self.inside.tree.nodes.arena.trees c.self.inside.tree.points c.change.new.self.arena.trees c.adjust_inserted.new.points c.self.inside.tree.overrides
+overrides_are c = c.unset_if_range_changed.ensures c.self.inside.tree.nodes.arena.trees c.self.inside.tree.points c.watch-watch.ensures
 
-done : (c : goal.After-settle) → Applied c.self.inside c.args.self.now (Insert c.args.parent.label (label_of c.args.before) c.args.node.label) c.change.new.self.arena c.adjust_inserted.new.points c.settle.new.self c.name_place.new.self c.change.new.history
+done : (c : goal.After-unset_if_range_changed) → Applied c.self.inside c.args.self.now (Insert c.args.parent.label (label_of c.args.before) c.args.node.label) c.change.new.self.arena c.adjust_inserted.new.points c.unset_if_range_changed.new.self c.name_place.new.self c.change.new.history
 done c =
     let a = c.args in
     link_done c.self.inside a.self.now c.self.view_is c.valid.ensures c.slotted.ensures c.requires.open c.self.invariant a.node a.parent a.before c.requires.node_held c.requires.parent_held c.requires.before_held c.requires.possible
-    c.change.new.self.arena c.in_ok-change.ensures.arena c.adjust_inserted.new.points c.adjust_inserted.ensures c.settle.new.self (overrides_are c)
+    c.change.new.self.arena c.in_ok-change.ensures.arena c.adjust_inserted.new.points c.adjust_inserted.ensures c.unset_if_range_changed.new.self (overrides_are c)
     c.name_place.new.self c.name_place.ensures c.change.new.history c.in_ok-change.ensures.history
 
 pub invariant_of-self-2 : goal.invariant_of-self-2

@@ -6,7 +6,7 @@ use Rattle.node_arena.specs.Held.{label, Names}
 use Rattle.edit_model.specs.Edit.{Move}
 use Rattle.edit_model.specs.Gives.{label_of}
 use Rattle.edit_model.proofs.Giving.{gives_left}
-use Rattle.edit_parts.specs.Following.{settled}
+use Rattle.edit_parts.specs.Following.{unset_if_range_changed}
 use Rattle.edit_doc.specs.declared.Doc.TheInside.{Inside}
 use Rattle.edit_doc.specs.Fields.{comes_in}
 use Rattle.edit_doc.specs.Held.{Holds, IfHeld}
@@ -88,19 +88,19 @@ adjust_moved-requires-clause-held c =
 pub adjust_moved-requires-clause-fits : goal.adjust_moved-requires-clause-fits
 adjust_moved-requires-clause-fits c = let a = c.args in points_fit c.self.inside a.self.now c.self.view_is c.valid.ensures c.slotted.ensures c.requires.open c.self.invariant a.node c.in-Some.from a.parent a.before c.requires.node_held c.requires.parent_held c.requires.before_held (up c.self.inside a.node c.in-Some.from c.parent.result c.parent.ensures c.in-Some.is) (sym c.may_go.ensures ∙ c.if-not-may_go.false) c.change.new.self.arena c.in_ok-change.ensures.arena c.moving_from-place.result c.moving_from-place.ensures
 
-pub settle-requires : goal.settle-requires
-settle-requires c =
+pub unset_if_range_changed-requires : goal.unset_if_range_changed-requires
+unset_if_range_changed-requires c =
     let a = c.args in
     (placed c.self.inside a.self.now c.self.view_is c.valid.ensures c.slotted.ensures c.requires.open c.self.invariant a.node c.in-Some.from a.parent a.before c.requires.node_held c.requires.parent_held c.requires.before_held (up c.self.inside a.node c.in-Some.from c.parent.result c.parent.ensures c.in-Some.is) (sym c.may_go.ensures ∙ c.if-not-may_go.false) c.change.new.self.arena c.in_ok-change.ensures.arena c.adjust_moved.new.points c.moving_from-place.result c.moving_from-place.ensures c.adjust_moved.ensures.moved c.adjust_moved.ensures.none).selection
 
-overrides_are : (c : goal.After-settle) → c.settle.new.self ≡ settled c.self.inside.tree.nodes.arena.trees c.self.inside.tree.points c.change.new.self.arena.trees c.adjust_moved.new.points c.self.inside.tree.overrides
-overrides_are c = c.settle.ensures c.self.inside.tree.nodes.arena.trees c.self.inside.tree.points c.watch-watch.ensures
+overrides_are : (c : goal.After-unset_if_range_changed) → c.unset_if_range_changed.new.self ≡ unset_if_range_changed c.self.inside.tree.nodes.arena.trees c.self.inside.tree.points c.change.new.self.arena.trees c.adjust_moved.new.points c.self.inside.tree.overrides
+overrides_are c = c.unset_if_range_changed.ensures c.self.inside.tree.nodes.arena.trees c.self.inside.tree.points c.watch-watch.ensures
 
-done : (c : goal.After-settle) → Done c.self.inside c.args.self.now (Move c.args.node.label c.args.parent.label (label_of c.args.before)) c.change.new.self.arena c.adjust_moved.new.points c.settle.new.self c.name_place-2.new.self c.change.new.history
+done : (c : goal.After-unset_if_range_changed) → Done c.self.inside c.args.self.now (Move c.args.node.label c.args.parent.label (label_of c.args.before)) c.change.new.self.arena c.adjust_moved.new.points c.unset_if_range_changed.new.self c.name_place-2.new.self c.change.new.history
 done c =
     let a = c.args in
     move_done c.self.inside a.self.now c.self.view_is c.valid.ensures c.slotted.ensures c.requires.open c.self.invariant a.node c.in-Some.from a.parent a.before c.requires.node_held c.requires.parent_held c.requires.before_held (up c.self.inside a.node c.in-Some.from c.parent.result c.parent.ensures c.in-Some.is) (sym c.may_go.ensures ∙ c.if-not-may_go.false)
-    c.change.new.self.arena c.in_ok-change.ensures.arena c.adjust_moved.new.points c.moving_from-place.result c.moving_from-place.ensures c.adjust_moved.ensures.moved c.adjust_moved.ensures.none c.settle.new.self (overrides_are c)
+    c.change.new.self.arena c.in_ok-change.ensures.arena c.adjust_moved.new.points c.moving_from-place.result c.moving_from-place.ensures c.adjust_moved.ensures.moved c.adjust_moved.ensures.none c.unset_if_range_changed.new.self (overrides_are c)
     c.next-next.result c.next-next.ensures.is c.name_place.new.self c.name_place-2.new.self c.name_place.ensures c.name_place-2.ensures c.change.new.history c.in_ok-change.ensures.history
 
 pub invariant_of-self-2 : goal.invariant_of-self-2

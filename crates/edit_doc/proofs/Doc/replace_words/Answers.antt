@@ -2,7 +2,7 @@ use Rattle.std.proofs.Common.{◌≡◌, ℕ, ◌<◌, ◌^◌, true, false, Lis
 use Rattle.std.specs.Option.{is_some}
 use Rattle.std.specs.Prelude.{IfSome}
 use Rattle.dom_model.specs.declared.Content.TheVariants.{Words}
-use Rattle.edit_steps.specs.declared.step.Step.TheVariants.{Words as Rewords}
+use Rattle.edit_steps.specs.declared.step.Step.TheVariants as step
 use Rattle.edit_model.specs.Confined.{may_change}
 use Rattle.edit_model.specs.Edit.{Replace, with_replaced}
 use Rattle.edit_model.proofs.Giving.{gives_left}
@@ -56,8 +56,8 @@ change-requires-clause-counted c =
     let short = subst (λ o. IfSome o (λ (list : List ℕ). length list < 2 ^ 32)) c.in-Some.is c.in_ok-words.ensures.short in
     counted_replaced d c.valid.ensures v c.self.view_is a.node c.requires.node_held a.at a.count a.put.now con c.content-content.ensures c.slotted.ensures c.requires.open c.self.invariant own change words words_are short c.chars_replaced-chars.result c.chars_replaced-chars.ensures
 
-pub settle-requires : goal.settle-requires
-settle-requires c =
+pub unset_if_range_changed-requires : goal.unset_if_range_changed-requires
+unset_if_range_changed-requires c =
     let a = c.args in
     let d = c.self.inside in
     let v = a.self.now in
@@ -72,9 +72,9 @@ settle-requires c =
     let t = trees d c.valid.ensures v c.self.view_is a.node c.requires.node_held a.at a.count a.put.now con c.content-content.ensures c.slotted.ensures c.requires.open c.self.invariant own change words words_are short in
     let p = points_are d c.valid.ensures v c.self.view_is a.node c.requires.node_held a.at a.count a.put.now con c.content-content.ensures c.slotted.ensures c.requires.open c.self.invariant own change words words_are short in
     let may = freed_edit (Replace a.node.label a.at a.count a.put.now) v.state (may_replace_here d c.valid.ensures v c.self.view_is a.node c.requires.node_held a.at a.count a.put.now con c.content-content.ensures own change) in
-    (placed_called d v c.self.view_is c.valid.ensures c.requires.open c.self.invariant (Replace a.node.label a.at a.count a.put.now) (Rewords a.node words) x l may t c.replaced-2.new.self c.change.new.self.arena (c.replaced-2.ensures ∙ p) c.in_ok-change.ensures.arena).selection
+    (placed_called d v c.self.view_is c.valid.ensures c.requires.open c.self.invariant (Replace a.node.label a.at a.count a.put.now) (step.SetText a.node words) x l may t c.replaced-2.new.self c.change.new.self.arena (c.replaced-2.ensures ∙ p) c.in_ok-change.ensures.arena).selection
 
-done : (c : goal.After-settle) → Done c.self.inside c.args.self.now (Replace c.args.node.label c.args.at c.args.count c.args.put.now) c.change.new.self.arena c.replaced-2.new.self c.settle.new.self c.name.new.self c.change.new.history
+done : (c : goal.After-unset_if_range_changed) → Done c.self.inside c.args.self.now (Replace c.args.node.label c.args.at c.args.count c.args.put.now) c.change.new.self.arena c.replaced-2.new.self c.unset_if_range_changed.new.self c.name.new.self c.change.new.history
 done c =
     let a = c.args in
     let d = c.self.inside in
@@ -90,10 +90,10 @@ done c =
     let t = trees d c.valid.ensures v c.self.view_is a.node c.requires.node_held a.at a.count a.put.now con c.content-content.ensures c.slotted.ensures c.requires.open c.self.invariant own change words words_are short in
     let p = points_are d c.valid.ensures v c.self.view_is a.node c.requires.node_held a.at a.count a.put.now con c.content-content.ensures c.slotted.ensures c.requires.open c.self.invariant own change words words_are short in
     let may = freed_edit (Replace a.node.label a.at a.count a.put.now) v.state (may_replace_here d c.valid.ensures v c.self.view_is a.node c.requires.node_held a.at a.count a.put.now con c.content-content.ensures own change) in
-    let e = settled_items d v c.self.view_is c.valid.ensures c.requires.open c.self.invariant (Replace a.node.label a.at a.count a.put.now) (Rewords a.node words) x l may t
-    c.settle.new.self c.replaced-2.new.self c.change.new.self.arena c.watch-watch.result (c.replaced-2.ensures ∙ p) c.in_ok-change.ensures.arena c.watch-watch.ensures c.settle.ensures in
+    let e = settled_items d v c.self.view_is c.valid.ensures c.requires.open c.self.invariant (Replace a.node.label a.at a.count a.put.now) (step.SetText a.node words) x l may t
+    c.unset_if_range_changed.new.self c.replaced-2.new.self c.change.new.self.arena c.watch-watch.result (c.replaced-2.ensures ∙ p) c.in_ok-change.ensures.arena c.watch-watch.ensures c.unset_if_range_changed.ensures in
     replace_done d c.valid.ensures v c.self.view_is a.node c.requires.node_held a.at a.count a.put.now con c.content-content.ensures c.slotted.ensures c.requires.open c.self.invariant own change words words_are short
-    c.replaced-2.new.self c.settle.new.self c.name.new.self c.name.ensures c.replaced-2.ensures
+    c.replaced-2.new.self c.unset_if_range_changed.new.self c.name.new.self c.name.ensures c.replaced-2.ensures
     e c.change.new.self.arena c.change.new.history c.in_ok-change.ensures.arena c.in_ok-change.ensures.history
 
 pub invariant_of-self-2 : goal.invariant_of-self-2

@@ -8,13 +8,13 @@ use Rattle.edit_doc.specs.Held.{IfHeld}
 use Rattle.edit_model.specs.Gives.{label_of}
 use Rattle.edit_doc.proofs.Inner.{closed_of}
 use Rattle.edit_doc.proofs.Laid.{resume_answer}
-use Rattle.edit_doc.proofs.Resumes.{some_sides, resume_ok, resume_is}
+use Rattle.edit_doc.proofs.Resumes.{some_span, resume_ok, resume_is}
 use Rattle.edit_doc.proofs.Doc.resume.Goals as goal
 
 pub swap_detached-requires : goal.swap_detached-requires
 swap_detached-requires c =
     let closed = closed_of c.self.inside _ c.self.view_is c.requires.closed in
-    subst (λ (t : Trail). 0 < length t.past) (sym c.if-not-resume.ensures.history) (some_sides c.self.inside c.valid.ensures closed c.self.invariant (c.if-not-resume.ensures.answer.0 refl).0)
+    subst (λ (t : Trail). 0 < length t.past) (sym c.if-not-resume.ensures.history) (some_span c.self.inside c.valid.ensures closed c.self.invariant (c.if-not-resume.ensures.answer.0 refl).0)
 
 pub returns-then-not-resume-clause-answer : goal.returns-then-not-resume-clause-answer
 returns-then-not-resume-clause-answer c = resume_answer c.self.inside _ c.self.view_is c.self.invariant false c.if-not-resume.ensures.answer

@@ -1,6 +1,6 @@
 use Rattle.std.proofs.Common.{◌≡◌, [], ◌∷◌, ◌++◌, refl, ap, ◌∙◌, arith}
 use Rattle.std.specs.Prelude.{if◌then◌else◌}
-use Rattle.edit_steps.specs.declared.step.Step.TheVariants.{Unlink}
+use Rattle.edit_steps.specs.declared.step.Step.TheVariants as step
 use Rattle.edit_model.specs.Edit.{Remove}
 use Rattle.edit_doc.proofs.Edited.{Applied}
 use Rattle.edit_doc.proofs.Removed.{place_markable, up, fits, detached, trees, points_are, counted_unlinked, unlink_done}
@@ -31,8 +31,8 @@ name_place-requires c =
     let next = finds_next (shows_of d c.valid.ensures a.self.now c.self.view_is) a.node c.requires.node_held c.next-next.result c.next-next.ensures in
     place_markable d c.valid.ensures a.self.now c.self.view_is c.requires.open c.self.invariant a.node a.parent c.next-next.result c.requires.node_held c.requires.parent_held next.held
 
-pub settle-requires : goal.settle-requires
-settle-requires c =
+pub unset_if_range_changed-requires : goal.unset_if_range_changed-requires
+unset_if_range_changed-requires c =
     let a = c.args in
     let d = c.self.inside in
     let v = a.self.now in
@@ -43,9 +43,9 @@ settle-requires c =
     let t = trees d c.valid.ensures v c.self.view_is a.node c.requires.node_held a.parent child c.slotted.ensures c.requires.open c.self.invariant may in
     let p = points_are d c.valid.ensures v c.self.view_is a.node c.requires.node_held a.parent child c.slotted.ensures c.requires.open c.self.invariant may in
     let moved = c.adjust.ensures d.tree.nodes.arena.trees a.node.label a.parent.label c.removal_of-removal.ensures in
-    (placed_called d v c.self.view_is c.valid.ensures c.requires.open c.self.invariant (Remove a.node.label) (Unlink a.node) x l may t c.adjust.new.points c.change.new.self.arena (moved ∙ p) c.in_ok-change.ensures.arena).selection
+    (placed_called d v c.self.view_is c.valid.ensures c.requires.open c.self.invariant (Remove a.node.label) (step.Remove a.node) x l may t c.adjust.new.points c.change.new.self.arena (moved ∙ p) c.in_ok-change.ensures.arena).selection
 
-done : (c : goal.After-settle) → Applied c.self.inside c.args.self.now (Remove c.args.node.label) c.change.new.self.arena c.adjust.new.points c.settle.new.self c.name_place.new.self c.change.new.history
+done : (c : goal.After-unset_if_range_changed) → Applied c.self.inside c.args.self.now (Remove c.args.node.label) c.change.new.self.arena c.adjust.new.points c.unset_if_range_changed.new.self c.name_place.new.self c.change.new.history
 done c =
     let a = c.args in
     let d = c.self.inside in
@@ -57,13 +57,13 @@ done c =
     let t = trees d c.valid.ensures v c.self.view_is a.node c.requires.node_held a.parent child c.slotted.ensures c.requires.open c.self.invariant may in
     let p = points_are d c.valid.ensures v c.self.view_is a.node c.requires.node_held a.parent child c.slotted.ensures c.requires.open c.self.invariant may in
     let moved = c.adjust.ensures d.tree.nodes.arena.trees a.node.label a.parent.label c.removal_of-removal.ensures in
-    let e = settled_items d v c.self.view_is c.valid.ensures c.requires.open c.self.invariant (Remove a.node.label) (Unlink a.node) x l may t
-    c.settle.new.self c.adjust.new.points c.change.new.self.arena c.watch-watch.result (moved ∙ p) c.in_ok-change.ensures.arena c.watch-watch.ensures c.settle.ensures in
+    let e = settled_items d v c.self.view_is c.valid.ensures c.requires.open c.self.invariant (Remove a.node.label) (step.Remove a.node) x l may t
+    c.unset_if_range_changed.new.self c.adjust.new.points c.change.new.self.arena c.watch-watch.result (moved ∙ p) c.in_ok-change.ensures.arena c.watch-watch.ensures c.unset_if_range_changed.ensures in
     let room = c.in_ok-reserve.ensures.ok in
     let put = c.push.ensures.succeeds (omega (arith, room)) in
     let pushed : c.push.new.self.items ≡ d.command.detached.items ++ a.node ∷ [] = c.push.ensures.items ∙ (ap (λ b. if b then (c.reserve.new.self.items ++ a.node ∷ []) else c.reserve.new.self.items) put ∙ ap (λ xs. xs ++ a.node ∷ []) c.reserve.ensures.items) in
     unlink_done d c.valid.ensures v c.self.view_is a.node c.requires.node_held a.parent child c.slotted.ensures c.requires.open c.self.invariant may
-    c.adjust.new.points c.settle.new.self (record d.command { detached = c.push.new.self }) c.name_place.new.self c.next-next.result c.next-next.ensures.is
+    c.adjust.new.points c.unset_if_range_changed.new.self (record d.command { detached = c.push.new.self }) c.name_place.new.self c.next-next.result c.next-next.ensures.is
     refl pushed c.name_place.ensures moved e
     c.change.new.self.arena c.change.new.history c.in_ok-change.ensures.arena c.in_ok-change.ensures.history
 

@@ -5,8 +5,8 @@ use Rattle.edit_doc.proofs.history.keep_entry.Goals as goal
 pub returns-else-command-clause-entered : goal.returns-else-command-clause-entered
 returns-else-command-clause-entered c =
     rw (c.push_front.ensures.items, c.if-command.false) (
-      record { sides = c.snapshot-snapshot.result.sides; detached = c.swap-else-command.new.x },
-      c.snapshot-snapshot.ensures.sides,
+      record { span = c.snapshot-snapshot.result.span; detached = c.swap-else-command.new.x },
+      c.snapshot-snapshot.ensures.span,
       (λ i. (c.swap-else-command.ensures.x_after i).items),
       refl,
       c.push_front.ensures.value,

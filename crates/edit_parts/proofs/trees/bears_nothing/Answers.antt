@@ -1,7 +1,7 @@
 use Rattle.std.proofs.Common.{refl, sym, arith}
 use Rattle.edit_parts.proofs.Below.{top_in, falls}
 use Rattle.edit_parts.proofs.Bearing.{bearing, bearing_none, bearing_next, bears_some, bears_none}
-use Rattle.edit_parts.proofs.trees.bears_nothing.Goals as goal
+use Rattle.edit_parts.proofs.trees.has_no_kept_leaves.Goals as goal
 
 pub returns-then-bears : goal.returns-then-bears
 returns-then-bears c =

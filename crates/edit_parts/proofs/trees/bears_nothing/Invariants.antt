@@ -4,7 +4,7 @@ use Rattle.dom_model.specs.Forest.{content_of}
 use Rattle.dom_model.specs.TreeOrder.{total_from}
 use Rattle.edit_parts.specs.Walk.{IsIn}
 use Rattle.edit_parts.proofs.Bearing.{weight}
-use Rattle.edit_parts.proofs.trees.bears_nothing.Given as goal
+use Rattle.edit_parts.proofs.trees.has_no_kept_leaves.Given as goal
 
 abbrev pub invariant-loop-next : goal.invariant-loop-next
 invariant-loop-next l = record {

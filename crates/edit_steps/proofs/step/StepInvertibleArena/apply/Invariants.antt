@@ -1,10 +1,10 @@
 use Rattle.edit_steps.proofs.step.StepInvertibleArena.apply.Given as goal
 
-abbrev pub ghosts-unlinked : goal.ghosts-unlinked
-ghosts-unlinked a = record { name = a.blank.name; parts = a.blank.parts }
+abbrev pub ghosts-removed : goal.ghosts-removed
+ghosts-removed a = record { name = a.blank.name; parts = a.blank.parts }
 
-abbrev pub ghosts-linked : goal.ghosts-linked
-ghosts-linked a = record { name = a.blank.name; parts = a.blank.parts }
+abbrev pub ghosts-inserted : goal.ghosts-inserted
+ghosts-inserted a = record { name = a.blank.name; parts = a.blank.parts }
 
-abbrev pub ghosts-placed : goal.ghosts-placed
-ghosts-placed a = record { name = a.blank.name; parts = a.blank.parts }
+abbrev pub ghosts-moved : goal.ghosts-moved
+ghosts-moved a = record { name = a.blank.name; parts = a.blank.parts }

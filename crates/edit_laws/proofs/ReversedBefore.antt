@@ -28,22 +28,22 @@ use Rattle.edit_laws.proofs.Slides.{document_distinct, Slide, slide, parent_othe
 use Rattle.edit_laws.proofs.Lifting.{node_parent, node_found, child_parent, node_apart, owner_inside, tops-join, move_stays, all_went, some_stay, Ran}
 use Rattle.edit_laws.proofs.Handing.{owner_children, top_parent, below_inside}
 
--- ---- a forest turned round, before another
+-- ---- a forest reversed_before round, before another
 
-abbrev pub turned : Forest Content → Forest Content → Forest Content
-turned Nil g = g
-turned (Tree n d j rest) g = turned rest (Tree n d j g)
+abbrev pub reversed_before : Forest Content → Forest Content → Forest Content
+reversed_before Nil g = g
+reversed_before (Tree n d j rest) g = reversed_before rest (Tree n d j g)
 
-pub turned-join : (r g h : Forest Content) → turned r (join g h) ≡ join (turned r g) h
-turned-join Nil g h = refl
-turned-join (Tree n d j rest) g h = turned-join rest (Tree n d j g) h
+pub reversed_before-join : (r g h : Forest Content) → reversed_before r (join g h) ≡ join (reversed_before r g) h
+reversed_before-join Nil g h = refl
+reversed_before-join (Tree n d j rest) g h = reversed_before-join rest (Tree n d j g) h
 
-pub turned-last : (n : ℕ) (d : Content) (j r : Forest Content) → turned (Tree n d j r) Nil ≡ join (turned r Nil) (Tree n d j Nil)
-turned-last n d j r = turned-join r Nil (Tree n d j Nil)
+pub reversed_before-last : (n : ℕ) (d : Content) (j r : Forest Content) → reversed_before (Tree n d j r) Nil ≡ join (reversed_before r Nil) (Tree n d j Nil)
+reversed_before-last n d j r = reversed_before-join r Nil (Tree n d j Nil)
 
-pub times-turned : (r g : Forest Content) (n : ℕ) → times (tops (turned r g)) n ≡ times (tops r) n + times (tops g) n
-times-turned Nil g n = omega arith
-times-turned (Tree m d j rest) g n = omega (arith, times-turned rest (Tree m d j g) n)
+pub times-reversed_before : (r g : Forest Content) (n : ℕ) → times (tops (reversed_before r g)) n ≡ times (tops r) n + times (tops g) n
+times-reversed_before Nil g n = omega arith
+times-reversed_before (Tree m d j rest) g n = omega (arith, times-reversed_before rest (Tree m d j g) n)
 
 pub tops-after : (f g : Forest Content) → tops (join f g) ≡ tops f ++ tops g
 tops-after Nil g = refl
@@ -98,35 +98,35 @@ drop s is q pre o c n d j k post spot =
     (drop_leaves pre o c n d j k post)
 
 pub drop_all : (r : Forest Content) (s : State) → IsKeeping s → (q : ℕ) (pre : Forest Content) (o : ℕ) (c : Content) (k post : Forest Content)
-    → Spot (document_of s.trees) q (join pre (Tree o c (join k (turned r Nil)) post))
-    → Ran s (final (for_each (tops r) (move_after o)) s) q (join pre (Tree o c k (turned r post))) o q (λ left went. join pre (Tree o c (join k (turned left Nil)) went))
+    → Spot (document_of s.trees) q (join pre (Tree o c (join k (reversed_before r Nil)) post))
+    → Ran s (final (for_each (tops r) (move_after o)) s) q (join pre (Tree o c k (reversed_before r post))) o q (λ left went. join pre (Tree o c (join k (reversed_before left Nil)) went))
 drop_all Nil s is q pre o c k post spot =
     rw (for_each-nil, final-answer)
     (record { keeps = keeps_refl (document_of s.trees); ends = all_went (spot_as (document_of s.trees) q (join pre (Tree o c (join k Nil) post)) (join pre (Tree o c k post)) (ap (λ h. join pre (Tree o c h post)) (join-Nil k)) spot) })
 drop_all (Tree n d j r) s is q pre o c k post spot =
-    rw (for_each-cons, final-bind, final_move_after o n q s (node_parent s is.valid q pre o c (join k (turned r (Tree n d j Nil))) post spot), next_is s is.valid q pre o c (join k (turned r (Tree n d j Nil))) post spot)
-    (by_made (may_move s n q (first_in (tops post))) refl (drop s is q pre o c n d j (join k (turned r Nil)) post here)
+    rw (for_each-cons, final-bind, final_move_after o n q s (node_parent s is.valid q pre o c (join k (reversed_before r (Tree n d j Nil))) post spot), next_is s is.valid q pre o c (join k (reversed_before r (Tree n d j Nil))) post spot)
+    (by_made (may_move s n q (first_in (tops post))) refl (drop s is q pre o c n d j (join k (reversed_before r Nil)) post here)
     (λ next. drop_all r t (keeping_edited (Move n q (first_in (tops post))) s is) q pre o c k (Tree n d j post) next))
   where
     t : State
     t = edited (Move n q (first_in (tops post))) s
 
-    same : join k (turned r (Tree n d j Nil)) ≡ join (join k (turned r Nil)) (Tree n d j Nil)
-    same = ap (join k) (turned-last n d j r) ∙ sym (join-assoc k (turned r Nil) (Tree n d j Nil))
+    same : join k (reversed_before r (Tree n d j Nil)) ≡ join (join k (reversed_before r Nil)) (Tree n d j Nil)
+    same = ap (join k) (reversed_before-last n d j r) ∙ sym (join-assoc k (reversed_before r Nil) (Tree n d j Nil))
 
-    here : Spot (document_of s.trees) q (join pre (Tree o c (join (join k (turned r Nil)) (Tree n d j Nil)) post))
+    here : Spot (document_of s.trees) q (join pre (Tree o c (join (join k (reversed_before r Nil)) (Tree n d j Nil)) post))
     here = spot_as (document_of s.trees) q _ _ (ap (λ h. join pre (Tree o c h post)) same) spot
 
     stopped : Forest Content → Forest Content → Forest Content
-    stopped left went = join pre (Tree o c (join k (turned left Nil)) went)
+    stopped left went = join pre (Tree o c (join k (reversed_before left Nil)) went)
 
-    by_made : (v : Bool) → may_move s n q (first_in (tops post)) ≡ v → Slide s t q (join pre (Tree o c (join k (turned r Nil)) (Tree n d j post))) v
-        → (Spot (document_of t.trees) q (join pre (Tree o c (join k (turned r Nil)) (Tree n d j post))) → Ran t (final (for_each (tops r) (move_after o)) t) q (join pre (Tree o c k (turned r (Tree n d j post)))) o q stopped)
-        → Ran s (final (for_each (tops r) (move_after o)) t) q (join pre (Tree o c k (turned r (Tree n d j post)))) o q stopped
+    by_made : (v : Bool) → may_move s n q (first_in (tops post)) ≡ v → Slide s t q (join pre (Tree o c (join k (reversed_before r Nil)) (Tree n d j post))) v
+        → (Spot (document_of t.trees) q (join pre (Tree o c (join k (reversed_before r Nil)) (Tree n d j post))) → Ran t (final (for_each (tops r) (move_after o)) t) q (join pre (Tree o c k (reversed_before r (Tree n d j post)))) o q stopped)
+        → Ran s (final (for_each (tops r) (move_after o)) t) q (join pre (Tree o c k (reversed_before r (Tree n d j post)))) o q stopped
     by_made true w one more = let rest = more (one.moved refl) in record { keeps = keeps_trans one.keeps rest.keeps; ends = rest.ends }
     by_made false w one more =
-        let ks = join k (turned r (Tree n d j Nil)) in
-        let among : (m : ℕ) → 0 < times (tops (Tree n d j r)) m → 0 < times (tops ks) m = λ m h. omega (arith, h, tops-join k (turned r (Tree n d j Nil)) m, times-turned r (Tree n d j Nil) m) in
+        let ks = join k (reversed_before r (Tree n d j Nil)) in
+        let among : (m : ℕ) → 0 < times (tops (Tree n d j r)) m → 0 < times (tops ks) m = λ m h. omega (arith, h, tops-join k (reversed_before r (Tree n d j Nil)) m, times-reversed_before r (Tree n d j Nil) m) in
         let shut : (is_open s o && (is_open s q && is_parent_at s.trees q)) ≡ false = sym (drop_open s is q pre o c ks post spot n (among n (omega (arith, self_one n)))) ∙ w in
         let stays : (m : ℕ) → 0 < times (tops r) m → final (move_after o m) s ≡ s = λ m h.
         final_move_after o m q s (node_parent s is.valid q pre o c ks post spot)
@@ -187,33 +187,33 @@ front s is q pre n d j p e g post bare spot =
     (front_leaves pre n d j p e g post bare)
 
 pub front_all : (r : Forest Content) (s : State) → IsKeeping s → (q : ℕ) (pre : Forest Content) (p : ℕ) (e : Content) (g post : Forest Content) → borne_by p e ≡ []
-    → Spot (document_of s.trees) q (join pre (join (turned r Nil) (Tree p e g post)))
-    → Ran s (final (for_each (tops r) (move_first p)) s) q (join pre (Tree p e (turned r g) post)) q p (λ left went. join pre (join (turned left Nil) (Tree p e went post)))
+    → Spot (document_of s.trees) q (join pre (join (reversed_before r Nil) (Tree p e g post)))
+    → Ran s (final (for_each (tops r) (move_first p)) s) q (join pre (Tree p e (reversed_before r g) post)) q p (λ left went. join pre (join (reversed_before left Nil) (Tree p e went post)))
 front_all Nil s is q pre p e g post bare spot = rw (for_each-nil, final-answer) (record { keeps = keeps_refl (document_of s.trees); ends = all_went spot })
 front_all (Tree n d j r) s is q pre p e g post bare spot =
-    rw (for_each-cons, final-bind, final_move_first p n s, first_is s is q (join pre (turned r (Tree n d j Nil))) p e g post around)
-    (by_made (may_move s n p (first_in (tops g))) refl (front s is q (join pre (turned r Nil)) n d j p e g post bare here)
-    (λ next. front_all r t (keeping_edited (Move n p (first_in (tops g))) s is) q pre p e (Tree n d j g) post bare (spot_as (document_of t.trees) q _ _ (join-assoc pre (turned r Nil) (Tree p e (Tree n d j g) post)) next)))
+    rw (for_each-cons, final-bind, final_move_first p n s, first_is s is q (join pre (reversed_before r (Tree n d j Nil))) p e g post around)
+    (by_made (may_move s n p (first_in (tops g))) refl (front s is q (join pre (reversed_before r Nil)) n d j p e g post bare here)
+    (λ next. front_all r t (keeping_edited (Move n p (first_in (tops g))) s is) q pre p e (Tree n d j g) post bare (spot_as (document_of t.trees) q _ _ (join-assoc pre (reversed_before r Nil) (Tree p e (Tree n d j g) post)) next)))
   where
     t : State
     t = edited (Move n p (first_in (tops g))) s
 
-    around : Spot (document_of s.trees) q (join (join pre (turned r (Tree n d j Nil))) (Tree p e g post))
-    around = spot_as (document_of s.trees) q _ _ (sym (join-assoc pre (turned r (Tree n d j Nil)) (Tree p e g post))) spot
+    around : Spot (document_of s.trees) q (join (join pre (reversed_before r (Tree n d j Nil))) (Tree p e g post))
+    around = spot_as (document_of s.trees) q _ _ (sym (join-assoc pre (reversed_before r (Tree n d j Nil)) (Tree p e g post))) spot
 
-    here : Spot (document_of s.trees) q (join (join pre (turned r Nil)) (Tree n d j (Tree p e g post)))
-    here = spot_as (document_of s.trees) q _ _ (ap (λ h. join pre (join h (Tree p e g post))) (turned-last n d j r) ∙ (ap (join pre) (join-assoc (turned r Nil) (Tree n d j Nil) (Tree p e g post)) ∙ sym (join-assoc pre (turned r Nil) (Tree n d j (Tree p e g post))))) spot
+    here : Spot (document_of s.trees) q (join (join pre (reversed_before r Nil)) (Tree n d j (Tree p e g post)))
+    here = spot_as (document_of s.trees) q _ _ (ap (λ h. join pre (join h (Tree p e g post))) (reversed_before-last n d j r) ∙ (ap (join pre) (join-assoc (reversed_before r Nil) (Tree n d j Nil) (Tree p e g post)) ∙ sym (join-assoc pre (reversed_before r Nil) (Tree n d j (Tree p e g post))))) spot
 
     stopped : Forest Content → Forest Content → Forest Content
-    stopped left went = join pre (join (turned left Nil) (Tree p e went post))
+    stopped left went = join pre (join (reversed_before left Nil) (Tree p e went post))
 
-    by_made : (v : Bool) → may_move s n p (first_in (tops g)) ≡ v → Slide s t q (join (join pre (turned r Nil)) (Tree p e (Tree n d j g) post)) v
-        → (Spot (document_of t.trees) q (join (join pre (turned r Nil)) (Tree p e (Tree n d j g) post)) → Ran t (final (for_each (tops r) (move_first p)) t) q (join pre (Tree p e (turned r (Tree n d j g)) post)) q p stopped)
-        → Ran s (final (for_each (tops r) (move_first p)) t) q (join pre (Tree p e (turned r (Tree n d j g)) post)) q p stopped
+    by_made : (v : Bool) → may_move s n p (first_in (tops g)) ≡ v → Slide s t q (join (join pre (reversed_before r Nil)) (Tree p e (Tree n d j g) post)) v
+        → (Spot (document_of t.trees) q (join (join pre (reversed_before r Nil)) (Tree p e (Tree n d j g) post)) → Ran t (final (for_each (tops r) (move_first p)) t) q (join pre (Tree p e (reversed_before r (Tree n d j g)) post)) q p stopped)
+        → Ran s (final (for_each (tops r) (move_first p)) t) q (join pre (Tree p e (reversed_before r (Tree n d j g)) post)) q p stopped
     by_made true w one more = let rest = more (one.moved refl) in record { keeps = keeps_trans one.keeps rest.keeps; ends = rest.ends }
     by_made false w one more =
-        let before = join pre (turned r (Tree n d j Nil)) in
-        let among : (m : ℕ) → 0 < times (tops (Tree n d j r)) m → 0 < times (tops before) m = λ m h. omega (arith, h, tops-join pre (turned r (Tree n d j Nil)) m, times-turned r (Tree n d j Nil) m) in
+        let before = join pre (reversed_before r (Tree n d j Nil)) in
+        let among : (m : ℕ) → 0 < times (tops (Tree n d j r)) m → 0 < times (tops before) m = λ m h. omega (arith, h, tops-join pre (reversed_before r (Tree n d j Nil)) m, times-reversed_before r (Tree n d j Nil) m) in
         let shut : (is_open s q && (is_open s p && is_parent_at s.trees p)) ≡ false = sym (front_open s is q before p e g post around n (among n (omega (arith, self_one n)))) ∙ w in
         let stays : (m : ℕ) → 0 < times (tops r) m → final (move_first p m) s ≡ s = λ m h.
         final_move_first p m s
