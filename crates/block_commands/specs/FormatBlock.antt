@@ -81,8 +81,8 @@ unfoldable pub is_apart : List ℕ → Bool
 is_apart name = bytes_eq name (codes "div") || bytes_eq name (codes "p")
 
 -- step 4 c
-unfoldable pub wrapped : List ℕ → List ℕ → Run (Option ℕ)
-wrapped name list =
+unfoldable pub wrap_block : List ℕ → List ℕ → Run (Option ℕ)
+wrap_block name list =
     if is_apart name then wrap Never (Make (bare name)) list else wrap (Named name true) (Make (bare name)) list
 
 -- step 4 d
@@ -90,7 +90,7 @@ unfoldable pub fixed : Option ℕ → Run (Unit {0})
 fixed made = given made done fix_ancestors
 
 unfoldable pub made_block : List ℕ → List ℕ → Run (Unit {0})
-made_block name list = wrapped name list >>= fixed
+made_block name list = wrap_block name list >>= fixed
 
 -- step 4 a: the children of a container that goes, whose values are restored after the wrapping
 unfoldable pub format_children : List ℕ → ℕ → List ℕ → Run (Unit {0})

@@ -80,13 +80,13 @@ aligned_div alignment = record {
   attributes = record { name = codes "style"; value = codes "text-align: " ++ (alignment ++ codes ";") } ∷ [];
 }
 
-unfoldable pub wrapped : List ℕ → List ℕ → Run (Option ℕ)
-wrapped alignment list = wrap (Aligned alignment) (Make (aligned_div alignment)) list
+unfoldable pub wrap_aligned : List ℕ → List ℕ → Run (Option ℕ)
+wrap_aligned alignment list = wrap (Aligned alignment) (Make (aligned_div alignment)) list
 
 unfoldable pub align_series : List ℕ → List ℕ → Run (List ℕ)
 align_series alignment list = look λ s.
     let count = count_series (is_next s.trees) list in
-    wrapped alignment (take count list) >> answer (drop count list)
+    wrap_aligned alignment (take count list) >> answer (drop count list)
 
 unfoldable pub align_all : List ℕ → List ℕ → Run (Unit {0})
 align_all alignment list = look λ s. while_at_most (turn_bound s) has_members (align_series alignment) list >> done

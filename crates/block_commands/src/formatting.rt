@@ -65,7 +65,7 @@ fn split_blocks(alloc: Global, doc: &mut Doc, list: &[NodeRef]) -> Result<(), Ed
 }
 
 // Step 4 c: a list is wrapped in an element of the name; but for div and p, one beside it without attributes serves.
-#[tactic(auto, using(edit_model::proofs::Steps::steps, edit_model::proofs::Steps::exits), unfolding(crate::specs::FormatBlock::wrapped, crate::specs::FormatBlock::is_apart))]
+#[tactic(auto, using(edit_model::proofs::Steps::steps, edit_model::proofs::Steps::exits), unfolding(crate::specs::FormatBlock::wrap_block, crate::specs::FormatBlock::is_apart))]
 fn wrap_block(
     alloc: Global,
     doc: &mut Doc,
@@ -74,7 +74,7 @@ fn wrap_block(
 ) -> Result<Option<NodeRef>, EditFault>
     requires open { IsOpen doc.old }
     requires list_held { EachHeld doc.old list.now }
-    ensures gives { GivesMaybe result doc.old.state doc.new.state (format.wrapped name.now (labels_of list.now)) }
+    ensures gives { GivesMaybe result doc.old.state doc.new.state (format.wrap_block name.now (labels_of list.now)) }
     ensures held { IfOk result (λ made. IfHeld doc.new made) }
     ensures keeps { Keeps doc.old doc.new }
 {

@@ -103,7 +103,7 @@ fn clear_alignments(alloc: Global, doc: &mut Doc) -> Result<(), EditFault>
 }
 
 // Step 3: a list is wrapped in a div that aligns so.
-#[tactic(auto, using(edit_model::proofs::Steps::steps, edit_model::proofs::Steps::exits), unfolding(crate::specs::Justify::wrapped))]
+#[tactic(auto, using(edit_model::proofs::Steps::steps, edit_model::proofs::Steps::exits), unfolding(crate::specs::Justify::wrap_aligned))]
 fn wrap_aligned(
     alloc: Global,
     doc: &mut Doc,
@@ -112,7 +112,7 @@ fn wrap_aligned(
 ) -> Result<Option<NodeRef>, EditFault>
     requires open { IsOpen doc.old }
     requires list_held { EachHeld doc.old list.now }
-    ensures gives { GivesMaybe result doc.old.state doc.new.state (justify.wrapped alignment.now (labels_of list.now)) }
+    ensures gives { GivesMaybe result doc.old.state doc.new.state (justify.wrap_aligned alignment.now (labels_of list.now)) }
     ensures keeps { Keeps doc.old doc.new }
 {
     let test = AlignedSibling {

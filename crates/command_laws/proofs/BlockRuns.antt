@@ -78,15 +78,15 @@ block_no_thing name h = no_thing names.is_formattable_block block_img block_hr n
 module _ (name : List ℕ) (plain : is_thing name ≡ false) where
   -- a series is wrapped, or the children of a container that went
   wrapped_keeps : (s : State) → IsKeeping s → (list : List ℕ) → ((c : Criterion) → NamesNoThing c → KeepsOrder s (final (wrap c (Make (bare name)) list) s)) → KeepsOrder s (final (made_block name list) s)
-  unfolding made_block blocks.wrapped
-  wrapped_keeps s is list keeps = then_order_preserving_on (blocks.wrapped name list) fixed s is (by_name (is_apart name)) (λ made. (fit_fixed made).order)
+  unfolding made_block blocks.wrap_block
+  wrapped_keeps s is list keeps = then_order_preserving_on (blocks.wrap_block name list) fixed s is (by_name (is_apart name)) (λ made. (fit_fixed made).order)
     where
       by_name : (v : Bool) → KeepsOrder s (final (if v then wrap Never (Make (bare name)) list else wrap (Named name true) (Make (bare name)) list) s)
       by_name true = keeps Never tt
       by_name false = keeps (Named name true) plain
 
   stateless_made : (list : List ℕ) → Stateless (made_block name list)
-  unfolding made_block blocks.wrapped
+  unfolding made_block blocks.wrap_block
   stateless_made list =
       stateless_bind _ fixed
       (stateless_if (is_apart name) _ _ (stateless_wrap Never (Make (bare name)) refl list) (stateless_wrap (Named name true) (Make (bare name)) refl list))
@@ -179,12 +179,12 @@ fit_clear_all = search (fits, fit_clear)
 
 -- ---- justify, step 3
 
-align_keeps : (alignment list : List ℕ) (s : State) → IsKeeping s → KeepsOrder s (final (aligning.wrapped alignment (take (count_series (is_next s.trees) list) list)) s)
-unfolding aligning.wrapped
+align_keeps : (alignment list : List ℕ) (s : State) → IsKeeping s → KeepsOrder s (final (aligning.wrap_aligned alignment (take (count_series (is_next s.trees) list) list)) s)
+unfolding aligning.wrap_aligned
 align_keeps alignment list s is = series_keeps (Aligned alignment) (Make (aligned_div alignment)) tt refl s is (is_next s.trees) (next_is s) list
 
-stateless_aligned : (alignment list : List ℕ) → Stateless (aligning.wrapped alignment list)
-unfolding aligning.wrapped
+stateless_aligned : (alignment list : List ℕ) → Stateless (aligning.wrap_aligned alignment list)
+unfolding aligning.wrap_aligned
 stateless_aligned alignment list = stateless_wrap (Aligned alignment) (Make (aligned_div alignment)) refl list
 
 fit_align : (alignment list : List ℕ) → Fit (align_series alignment list)

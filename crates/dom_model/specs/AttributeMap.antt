@@ -6,10 +6,10 @@ use Rattle.indexmap.specs.IndexMap.{IndexMap}
 use Rattle.dom_model.specs.declared.attributes.Attribute.{Attribute}
 
 -- the attributes of the entries of a map
-abbrev pub attributes_of : {A : Type 0} → List (Vec ℕ A × List ℕ) → List Attribute
-attributes_of entries = map (λ e. record { name = e.0.items; value = e.1 }) entries
+abbrev pub entry_attributes : {A : Type 0} → List (Vec ℕ A × List ℕ) → List Attribute
+entry_attributes entries = map (λ e. record { name = e.0.items; value = e.1 }) entries
 
 -- the attributes of a map, if there is one
-abbrev pub attributes_in : {A B S : Type 0} → Option (Box (IndexMap (Vec ℕ A) (List ℕ) S) B) → List Attribute
-attributes_in None = []
-attributes_in (Some b) = attributes_of b.value.entries
+abbrev pub map_attributes : {A B S : Type 0} → Option (Box (IndexMap (Vec ℕ A) (List ℕ) S) B) → List Attribute
+map_attributes None = []
+map_attributes (Some b) = entry_attributes b.value.entries

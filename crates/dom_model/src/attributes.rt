@@ -3,7 +3,7 @@
 ghost use Rattle.std.specs.Prelude.{◌≡◌, ◌<◌, Some, [], IfOk, OnOk, OnErr, IsTrue, ◌↔◌, length, slice_get, is_some};
 ghost use Rattle.std.specs.Option.{option_copied, option_map};
 ghost use Rattle.dom_model.specs.AttributeList.{value_of, set_in, unset_in, IsDistinctNames};
-ghost use Rattle.dom_model.specs.AttributeMap.{attributes_of};
+ghost use Rattle.dom_model.specs.AttributeMap.{entry_attributes};
 
 use crate::items::{Chars, Name};
 use indexmap::IndexMap;
@@ -33,15 +33,15 @@ impl Model for Attributes {
 
     ghost Value = { List Attribute };
 
-    ghost use Rattle.dom_model.specs.AttributeMap.{attributes_in};
+    ghost use Rattle.dom_model.specs.AttributeMap.{map_attributes};
 
-    ghost view = { λ a. attributes_in a.list };
+    ghost view = { λ a. map_attributes a.list };
 }
 
 // Gives a name a value in a map.
 fn put(map: &mut IndexMap<Vec<u8>, Chars>, name: Name, value: Chars) -> Result<(), AllocError>
-    ensures ok { OnOk result (attributes_of map.new.entries ≡ set_in (attributes_of map.old.entries) name value) }
-    ensures err { OnErr result (attributes_of map.new.entries ≡ attributes_of map.old.entries) }
+    ensures ok { OnOk result (entry_attributes map.new.entries ≡ set_in (entry_attributes map.old.entries) name value) }
+    ensures err { OnErr result (entry_attributes map.new.entries ≡ entry_attributes map.old.entries) }
 {
     map.insert(name.into_vec(), value)?;
     Ok(())
@@ -49,8 +49,8 @@ fn put(map: &mut IndexMap<Vec<u8>, Chars>, name: Name, value: Chars) -> Result<(
 
 // Takes a name out of a map.
 fn take(map: &mut IndexMap<Vec<u8>, Chars>, name: &[u8]) -> bool
-    ensures was { result ≡ is_some (value_of (attributes_of map.old.entries) name.now) }
-    ensures left { attributes_of map.new.entries ≡ unset_in (attributes_of map.old.entries) name.now }
+    ensures was { result ≡ is_some (value_of (entry_attributes map.old.entries) name.now) }
+    ensures left { entry_attributes map.new.entries ≡ unset_in (entry_attributes map.old.entries) name.now }
 {
     map.shift_remove(name).is_some()
 }
@@ -58,7 +58,7 @@ fn take(map: &mut IndexMap<Vec<u8>, Chars>, name: &[u8]) -> bool
 // The name and the value at a place of a map that has so many.
 fn entry_at<'a>(map: &'a IndexMap<Vec<u8>, Chars>, place: usize) -> (&'a [u8], &'a Chars)
     requires { place < length map.now.entries }
-    ensures { slice_get (attributes_of map.now.entries) place ≡ Some (record {
+    ensures { slice_get (entry_attributes map.now.entries) place ≡ Some (record {
       name = result.0.now;
       value = result.1.now;
     }) }
@@ -71,7 +71,7 @@ fn entry_at<'a>(map: &'a IndexMap<Vec<u8>, Chars>, place: usize) -> (&'a [u8], &
 
 // The value of a name, by a look at each attribute in turn.
 fn scanned<'a>(map: &'a IndexMap<Vec<u8>, Chars>, name: &[u8]) -> Option<&'a Chars>
-    ensures { option_copied result ≡ value_of (attributes_of map.now.entries) name.now }
+    ensures { option_copied result ≡ value_of (entry_attributes map.now.entries) name.now }
 {
     let mut place = 0;
     while place < map.len() {
@@ -86,7 +86,7 @@ fn scanned<'a>(map: &'a IndexMap<Vec<u8>, Chars>, name: &[u8]) -> Option<&'a Cha
 
 // The value of a name. Where there are few, to look at each takes less time than to hash the name.
 fn value_in<'a>(map: &'a IndexMap<Vec<u8>, Chars>, name: &[u8]) -> Option<&'a Chars>
-    ensures { option_copied result ≡ value_of (attributes_of map.now.entries) name.now }
+    ensures { option_copied result ≡ value_of (entry_attributes map.now.entries) name.now }
 {
     if map.len() <= FEW {
         return scanned(map, name);

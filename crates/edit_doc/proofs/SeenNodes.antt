@@ -13,7 +13,7 @@ use Rattle.dom_model.proofs.Links.{parent_here, first_here, last_here, prev_here
 use Rattle.dom_model.proofs.Pruning.{IsDistinct-pruned, parent_of-pruned, tree_of-pruned}
 use Rattle.point_order.specs.PointOrder.{is_within}
 use Rattle.node_arena.specs.declared.NodeRef.{NodeRef}
-use Rattle.node_arena.specs.Held.{Holds as HoldsNode, Names}
+use Rattle.node_arena.specs.Held.{Holds as HoldsNode, NamesHeld}
 use Rattle.node_arena.specs.Kinds.{kind_in, kind_of}
 use Rattle.edit_doc.specs.declared.Doc.TheInside.{Inside}
 use Rattle.edit_doc.specs.Whole.{Whole}
@@ -63,7 +63,7 @@ module _ {v : Whole} {a : Arena} (s : Shows v a) where
   holds_shown r held here = record { slot = ap (λ h. slice_index_or h r.slot None) s.held ∙ held; here = here }
 
   -- a node that an answer of the arena names, and that is seen
-  named_node : (o : Option NodeRef) (here there : Option ℕ) → here ≡ there → IfSome here (λ l. 0 < count_of v.state.trees l) → Names a o there → Finds v o here
+  named_node : (o : Option NodeRef) (here there : Option ℕ) → here ≡ there → IfSome here (λ l. 0 < count_of v.state.trees l) → NamesHeld a o there → Finds v o here
   named_node o here there same stands names = at o (names.is ∙ sym same) names.held
     where
       at : (p : Option NodeRef) → option_map (λ (r : NodeRef). r.label) p ≡ here → IfSome p (λ r. HoldsNode a r) → Finds v p here
@@ -77,31 +77,31 @@ module _ {v : Whole} {a : Arena} (s : Shows v a) where
     pub parent_seen : parent_of v.state.trees node.label ≡ parent_of a.trees node.label
     parent_seen = ap (λ t. parent_of t node.label) s.part.is ∙ parent_of-pruned out f node.label s.law.distinct here
 
-    pub finds_parent : (o : Option NodeRef) → Names a o (parent_of a.trees node.label) → Finds v o (parent_of v.state.trees node.label)
+    pub finds_parent : (o : Option NodeRef) → NamesHeld a o (parent_of a.trees node.label) → Finds v o (parent_of v.state.trees node.label)
     finds_parent o names = named_node o (parent_of v.state.trees node.label) (parent_of f node.label) parent_seen (parent_here v.state.trees node.label once) names
 
     first_seen : first_of v.state.trees node.label ≡ first_of a.trees node.label
     first_seen = ap (λ t. first_of t node.label) s.part.is ∙ first_detached out f s.law.distinct node.label here
 
-    pub finds_first : (o : Option NodeRef) → Names a o (first_of a.trees node.label) → Finds v o (first_of v.state.trees node.label)
+    pub finds_first : (o : Option NodeRef) → NamesHeld a o (first_of a.trees node.label) → Finds v o (first_of v.state.trees node.label)
     finds_first o names = named_node o (first_of v.state.trees node.label) (first_of f node.label) first_seen (first_here v.state.trees node.label once) names
 
     last_seen : last_of v.state.trees node.label ≡ last_of a.trees node.label
     last_seen = ap (λ t. last_of t node.label) s.part.is ∙ last_detached out f s.law.distinct node.label here
 
-    pub finds_last : (o : Option NodeRef) → Names a o (last_of a.trees node.label) → Finds v o (last_of v.state.trees node.label)
+    pub finds_last : (o : Option NodeRef) → NamesHeld a o (last_of a.trees node.label) → Finds v o (last_of v.state.trees node.label)
     finds_last o names = named_node o (last_of v.state.trees node.label) (last_of f node.label) last_seen (last_here v.state.trees node.label once) names
 
     prev_seen : prev_of v.state.trees node.label ≡ prev_of a.trees node.label
     prev_seen = ap (λ t. prev_of t node.label) s.part.is ∙ prev_detached out f s.law.distinct node.label here
 
-    pub finds_prev : (o : Option NodeRef) → Names a o (prev_of a.trees node.label) → Finds v o (prev_of v.state.trees node.label)
+    pub finds_prev : (o : Option NodeRef) → NamesHeld a o (prev_of a.trees node.label) → Finds v o (prev_of v.state.trees node.label)
     finds_prev o names = named_node o (prev_of v.state.trees node.label) (prev_of f node.label) prev_seen (prev_here v.state.trees node.label once) names
 
     pub next_seen : next_of v.state.trees node.label ≡ next_of a.trees node.label
     next_seen = ap (λ t. next_of t node.label) s.part.is ∙ next_detached out f s.law.distinct node.label here
 
-    pub finds_next : (o : Option NodeRef) → Names a o (next_of a.trees node.label) → Finds v o (next_of v.state.trees node.label)
+    pub finds_next : (o : Option NodeRef) → NamesHeld a o (next_of a.trees node.label) → Finds v o (next_of v.state.trees node.label)
     finds_next o names = named_node o (next_of v.state.trees node.label) (next_of f node.label) next_seen (next_here v.state.trees node.label once) names
 
     pub index_seen : index_of v.state.trees node.label ≡ index_of a.trees node.label

@@ -12,7 +12,7 @@ use Rattle.dom_model.specs.Pruned.{pruned}
 use Rattle.dom_model.specs.ArenaState.{ArenaState as Arena}
 use Rattle.dom_model.proofs.Stands.{true_or_false}
 use Rattle.node_arena.specs.declared.NodeRef.{NodeRef}
-use Rattle.node_arena.specs.Held.{Holds as HoldsNode, Names as NamesNode, label}
+use Rattle.node_arena.specs.Held.{Holds as HoldsNode, NamesHeld as NamesNode, label}
 use Rattle.node_arena.specs.Reads.{IsValid, Names}
 use Rattle.edit_doc.specs.Whole.{Whole, IsDoc}
 use Rattle.edit_doc.specs.Held.{Holds, Finds}

@@ -4,7 +4,7 @@ use Rattle.dom_model.specs.declared.Content.{Content}
 use Rattle.dom_model.specs.Forest.{Forest, count_of, tree_of, IsWithin}
 use Rattle.dom_model.specs.ArenaState as arena
 use Rattle.node_arena.specs.declared.NodeRef.{NodeRef}
-use Rattle.node_arena.specs.Held.{Names, label}
+use Rattle.node_arena.specs.Held.{NamesHeld, label}
 use Rattle.node_paths.specs.Paths.{label_at, path_of, node_text}
 use Rattle.page_write.proofs.Placing.{within_count}
 use Rattle.point_order.specs.PointOrder.{is_in_document}
@@ -21,7 +21,7 @@ pub record FoundAt (d : Whole) (o : Option NodeRef) (path : List ℕ) : Type 0 w
   pub found : Finds d o (label_at d.state.trees path)
   pub inner : IfSome o (λ r. is_in_document d.state.trees r.label ≡ true)
 
-pub found_at : (d : Whole) (a : arena.ArenaState) (next : ℕ) → Same a.trees d.state.trees → IsForest d.state.trees next → a.held ≡ d.held → (path : List ℕ) (o : Option NodeRef) → Names a o (label_at a.trees path) → FoundAt d o path
+pub found_at : (d : Whole) (a : arena.ArenaState) (next : ℕ) → Same a.trees d.state.trees → IsForest d.state.trees next → a.held ≡ d.held → (path : List ℕ) (o : Option NodeRef) → NamesHeld a o (label_at a.trees path) → FoundAt d o path
 found_at d a next s law held path None names = record { found = record { is = names.is ∙ label_same a.trees d.state.trees s path; held = tt }; inner = tt }
 found_at d a next s law held path (Some r) names =
     let at : Some r.label ≡ label_at d.state.trees path = names.is ∙ label_same a.trees d.state.trees s path in

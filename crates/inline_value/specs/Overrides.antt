@@ -50,16 +50,16 @@ abbrev pub text_setting : Option (List ℕ) → Setting
 text_setting None = Absent
 text_setting (Some text) = Text text
 
-abbrev pub state_setting : Bool → Setting
-state_setting on = if on then On else Off
+abbrev pub on_or_off : Bool → Setting
+on_or_off on = if on then On else Off
 
 -- the command is on at the node
 abbrev pub on_at : Forest Content → ℕ → Command → Override
-on_at f n c = override c (state_setting (is_activated f n c))
+on_at f n c = override c (on_or_off (is_activated f n c))
 
 -- the value at the node
-abbrev pub value_at : Forest Content → ℕ → Command → Override
-value_at f n c = override c (text_setting (effective f n c))
+abbrev pub override_at : Forest Content → ℕ → Command → Override
+override_at f n c = override c (text_setting (effective f n c))
 
 -- the value that the command answers
 abbrev pub answered : State → Command → Override
@@ -68,11 +68,11 @@ answered s c = override c (Text (value_of s s.host c))
 -- record current states and values, step 2
 unfoldable pub states_at : State → ℕ → List Override
 states_at s n =
-    value_at s.trees n command.CreateLink ∷ on_at s.trees n command.Bold ∷ on_at s.trees n command.Italic
+    override_at s.trees n command.CreateLink ∷ on_at s.trees n command.Bold ∷ on_at s.trees n command.Italic
     ∷ on_at s.trees n command.Strikethrough ∷ on_at s.trees n command.Subscript ∷ on_at s.trees n command.Superscript
     ∷ on_at s.trees n command.Underline ∷ answered s command.FontName
     ∷ answered s command.ForeColor ∷ answered s command.HiliteColor
-    ∷ value_at s.trees n command.FontSize ∷ []
+    ∷ override_at s.trees n command.FontSize ∷ []
 
 -- record current states and values, steps 1 and 2
 unfoldable pub states_of : State → List Override

@@ -3,7 +3,7 @@
 
 ghost use Rattle.std.specs.Prelude.{◌≡◌, ◌++◌, ◌∷◌, [], IfOk, OnOk, map};
 ghost use Rattle.edit_doc.specs.Held.{Holds};
-ghost use Rattle.inline_value.specs.Overrides.{override, is_set, overrides_among, overrides_of, text_setting, state_setting, on_at, value_at, answered, states_at, states_of};
+ghost use Rattle.inline_value.specs.Overrides.{override, is_set, overrides_among, overrides_of, text_setting, on_or_off, on_at, override_at, answered, states_at, states_of};
 
 use command_value::{effective, is_activated};
 use dom_model::Chars;
@@ -144,14 +144,14 @@ fn on_at(doc: &Doc, node: NodeRef, command: Command) -> Override
 }
 
 // The value of a command at a node.
-fn value_at(
+fn override_at(
     alloc: Global,
     doc: &Doc,
     node: NodeRef,
     command: Command,
 ) -> Result<Override, AllocError>
     requires { Holds doc.now node }
-    ensures { IfOk result (λ own. own ≡ value_at doc.now.state.trees node.label command) }
+    ensures { IfOk result (λ own. own ≡ override_at doc.now.state.trees node.label command) }
 {
     let setting = match effective(alloc, doc, node, command)? {
         Some(value) => Setting::Text { value },
@@ -210,10 +210,10 @@ fn states_at(alloc: Global, doc: &Doc, node: NodeRef) -> Result<Overrides, Alloc
     ensures { IfOk result (λ list. list ≡ states_at doc.now.state node.label) }
 {
     let mut items = Vec::new(alloc);
-    items.push(value_at(alloc, doc, node, Command::CreateLink)?)?;
+    items.push(override_at(alloc, doc, node, Command::CreateLink)?)?;
     push_states(doc, node, &STATE_COMMANDS, &mut items)?;
     push_answers(alloc, doc, &ANSWERED_COMMANDS, &mut items)?;
-    items.push(value_at(alloc, doc, node, Command::FontSize)?)?;
+    items.push(override_at(alloc, doc, node, Command::FontSize)?)?;
     Ok(Overrides { items })
 }
 

@@ -5,11 +5,11 @@ use Rattle.dom_model.specs.Contents.{is_element}
 use Rattle.dom_model.specs.Editing.{is_true_state, is_false_state, host_by, editing_host, is_editable}
 use Rattle.dom_model.specs.Forest.{Forest, IsDistinct, parent_of, content_of, is_label}
 use Rattle.node_arena.specs.declared.hosts.EditableState.TheVariants.{True, False, Inherit}
-use Rattle.node_arena.specs.EditableStates.{state_of, is_true, takes}
+use Rattle.node_arena.specs.EditableStates.{editable_state_of, is_true, takes}
 use Rattle.dom_model.proofs.Hosts.{editing_host-root, editing_host-child}
 
-pub true_state : (c : Content) → is_true (state_of c) ≡ is_true_state c
-unfolding state_of is_true
+pub true_state : (c : Content) → is_true (editable_state_of c) ≡ is_true_state c
+unfolding editable_state_of is_true
 true_state c = by_tests (is_true_state c) (is_false_state c)
   where
     by_tests : (v w : Bool) → is_true (cond v True (cond w False Inherit)) ≡ v

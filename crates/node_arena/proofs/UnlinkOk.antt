@@ -14,7 +14,7 @@ use Rattle.node_arena.specs.declared.Node.{Node}
 use Rattle.node_arena.specs.declared.NodeRef.{NodeRef}
 use Rattle.node_arena.specs.Nodes.{label_in, link_to, node_for, trees_of, state_of}
 use Rattle.node_arena.specs.Sound.{IsSoundArena, IsArena}
-use Rattle.node_arena.specs.Held.{Holds, Names}
+use Rattle.node_arena.specs.Held.{Holds, NamesHeld}
 use Rattle.node_arena.specs.Change.{placed, unlinked_slots}
 use Rattle.node_arena.proofs.ChangeLemmas.{map-label_in-change}
 use Rattle.node_arena.proofs.Rebuild.{trees_of-sound}
@@ -134,9 +134,9 @@ pub record Leaves (new : List (Option Node)) (next cap : ℕ) (index : List ℕ)
   pub arena : IsArena new next cap index
   pub is : state_of new next cap ≡ value
 
-pub unlink_state : (slots : List (Option Node)) (next cap : ℕ) (index : List ℕ) → IsArena slots next cap index → (old : ArenaState) → state_of slots next cap ≡ old → (parent : NodeRef) (prior after : Option NodeRef) (node : NodeRef) → Holds old node → Names old (Some parent) (parent_of old.trees node.label) → Names old prior (prev_of old.trees node.label) → Names old after (next_of old.trees node.label) → Leaves (unlinked_slots slots parent prior after node) next cap index (record old { trees = unlink old.trees node.label })
+pub unlink_state : (slots : List (Option Node)) (next cap : ℕ) (index : List ℕ) → IsArena slots next cap index → (old : ArenaState) → state_of slots next cap ≡ old → (parent : NodeRef) (prior after : Option NodeRef) (node : NodeRef) → Holds old node → NamesHeld old (Some parent) (parent_of old.trees node.label) → NamesHeld old prior (prev_of old.trees node.label) → NamesHeld old after (next_of old.trees node.label) → Leaves (unlinked_slots slots parent prior after node) next cap index (record old { trees = unlink old.trees node.label })
 unlink_state slots next cap index arena old is parent prior after node =
-    subst (λ (o : ArenaState). Holds o node → Names o (Some parent) (parent_of o.trees node.label) → Names o prior (prev_of o.trees node.label) → Names o after (next_of o.trees node.label) → Leaves (unlinked_slots slots parent prior after node) next cap index (record o { trees = unlink o.trees node.label })) is
+    subst (λ (o : ArenaState). Holds o node → NamesHeld o (Some parent) (parent_of o.trees node.label) → NamesHeld o prior (prev_of o.trees node.label) → NamesHeld o after (next_of o.trees node.label) → Leaves (unlinked_slots slots parent prior after node) next cap index (record o { trees = unlink o.trees node.label })) is
     (λ hn np nb na.
     let sound = arena.sound in
     let f = sound.trees in

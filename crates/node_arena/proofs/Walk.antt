@@ -9,13 +9,13 @@ use Rattle.node_arena.specs.declared.Node.{Node}
 use Rattle.node_arena.specs.declared.NodeRef.{NodeRef}
 use Rattle.node_arena.specs.Nodes.{label_in, link_to, node_for, state_of}
 use Rattle.node_arena.specs.Sound.{IsSoundArena, IsArena}
-use Rattle.node_arena.specs.Held.{Holds, Names, Shows}
+use Rattle.node_arena.specs.Held.{Holds, NamesHeld, Shows}
 use Rattle.node_arena.proofs.Rebuild.{trees_of-sound, label_at-link_to}
 use Rattle.node_arena.proofs.SoundLink.{held_node}
 use Rattle.node_arena.proofs.LinkOk.{link_held}
 
 module _ (slots : List (Option Node)) (next cap : ℕ) (sound : IsSoundArena slots next cap) where
-  names : (o : Option ℕ) → IfSome o (λ k. 0 < count_of sound.trees k) → Names (record { trees = sound.trees; next = next; cap = cap; held = map label_in slots }) (link_to sound.at o) o
+  names : (o : Option ℕ) → IfSome o (λ k. 0 < count_of sound.trees k) → NamesHeld (record { trees = sound.trees; next = next; cap = cap; held = map label_in slots }) (link_to sound.at o) o
   names o h = record { is = label_at-link_to sound.at o; held = link_held slots next cap sound o h }
 
   pub shows : (r : NodeRef) (n : Node) → Holds (state_of slots next cap) r → get_or slots r.slot None ≡ Some n → Shows (state_of slots next cap) r.label n
@@ -29,7 +29,7 @@ module _ (slots : List (Option Node)) (next cap : ℕ) (sound : IsSoundArena slo
         label = refl;
         here = found_count f r.label x.0 x.1;
         content = ap (λ (o : Option (Seen Content)). option_map (λ s. s.content) o) x.1;
-        parent = subst (λ o. Names (record { trees = f; next = next; cap = cap; held = map label_in slots }) (link_to sound.at o) (parent_of f r.label)) par (names (parent_of f r.label) (parent_here f r.label once));
+        parent = subst (λ o. NamesHeld (record { trees = f; next = next; cap = cap; held = map label_in slots }) (link_to sound.at o) (parent_of f r.label)) par (names (parent_of f r.label) (parent_here f r.label once));
         first = names (first_of f r.label) (first_here f r.label once);
         last = names (last_of f r.label) (last_here f r.label once);
         prev = names (prev_of f r.label) (prev_here f r.label once);

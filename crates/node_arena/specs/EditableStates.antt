@@ -6,8 +6,8 @@ use Rattle.dom_model.specs.Editing.{is_true_state, is_false_state}
 use Rattle.node_arena.specs.declared.hosts.EditableState.{EditableState}
 use Rattle.node_arena.specs.declared.hosts.EditableState.TheVariants.{True, False, Inherit}
 
-unfoldable pub state_of : Content → EditableState
-state_of c = if is_true_state c then True else (if is_false_state c then False else Inherit)
+unfoldable pub editable_state_of : Content → EditableState
+editable_state_of c = if is_true_state c then True else (if is_false_state c then False else Inherit)
 
 unfoldable pub is_true : EditableState → Bool
 is_true True = true

@@ -20,19 +20,19 @@ abbrev pub KeepsHeld : ArenaState → ArenaState → Type 0
 KeepsHeld old new = (r : NodeRef) → Holds old r → Holds new r
 
 -- the link names the node that has this label, if there is one
-abbrev pub Names : ArenaState → Option NodeRef → Option ℕ → Type 0
-Names s link named = reads.Names (λ r. Holds s r) link named
+abbrev pub NamesHeld : ArenaState → Option NodeRef → Option ℕ → Type 0
+NamesHeld s link named = reads.Names (λ r. Holds s r) link named
 
 -- a stored node has the content and the links of the node of a label
 pub record Shows (s : ArenaState) (l : ℕ) (n : Node) : Type 0 where
   pub label : n.label ≡ l
   pub here : 0 < count_of s.trees l
   pub content : content_of s.trees l ≡ Some n.content
-  pub parent : Names s n.parent (parent_of s.trees l)
-  pub first : Names s n.first (first_of s.trees l)
-  pub last : Names s n.last (last_of s.trees l)
-  pub prev : Names s n.prev (prev_of s.trees l)
-  pub next : Names s n.next (next_of s.trees l)
+  pub parent : NamesHeld s n.parent (parent_of s.trees l)
+  pub first : NamesHeld s n.first (first_of s.trees l)
+  pub last : NamesHeld s n.last (last_of s.trees l)
+  pub prev : NamesHeld s n.prev (prev_of s.trees l)
+  pub next : NamesHeld s n.next (next_of s.trees l)
 
 -- a node without links
 abbrev pub leaf_node : ℕ → Content → Node

@@ -5,7 +5,7 @@ ghost use Rattle.std.specs.Option.{option_map};
 ghost use Rattle.std.specs.Char.{to_ascii_lowercase};
 ghost use Rattle.dom_model.specs.Contents.{is_element};
 ghost use Rattle.dom_model.specs.Editing.{contenteditable, is_host, is_editable};
-ghost use Rattle.node_arena.specs.EditableStates.{state_of, is_true, takes};
+ghost use Rattle.node_arena.specs.EditableStates.{editable_state_of, is_true, takes};
 ghost use Rattle.node_arena.specs.Held.{Holds};
 
 use crate::{Arena, Chars, Content, NodeRef};
@@ -54,9 +54,9 @@ enum EditableState {
 }
 
 impl EditableState {
-    #[tactic(auto, unfolding(crate::specs::EditableStates::state_of))]
+    #[tactic(auto, unfolding(crate::specs::EditableStates::editable_state_of))]
     fn of(content: &Content) -> EditableState
-        ensures { result ≡ state_of content.now }
+        ensures { result ≡ editable_state_of content.now }
     {
         match contenteditable(content) {
             None => EditableState::Inherit,
@@ -109,9 +109,9 @@ fn contenteditable(content: &Content) -> Option<&Chars>
 
 // Whether a node in this state has the host that its parent offers: it has no state of its own, and it or its
 // parent is an element.
-#[tactic(auto, unfolding(crate::specs::EditableStates::state_of))]
+#[tactic(auto, unfolding(crate::specs::EditableStates::editable_state_of))]
 fn takes_host(own: EditableState, content: &Content, above: &Content) -> bool
-    requires { own ≡ state_of content.now }
+    requires { own ≡ editable_state_of content.now }
     ensures { result ≡ takes content.now above.now }
 {
     match own {

@@ -4,7 +4,7 @@ ghost use Rattle.std.specs.Prelude.{◌≡◌, ◌≢◌, ◌≤◌, min, None, 
 ghost use Rattle.dom_model.specs.Forest.{count_of, children_of, parent_of, depth_of, IsWithin};
 ghost use Rattle.dom_model.specs.Contents.{length_of};
 ghost use Rattle.dom_model.specs.Places.{index_of, first_of_two};
-ghost use Rattle.node_arena.specs.Held.{Holds, Names};
+ghost use Rattle.node_arena.specs.Held.{Holds, NamesHeld};
 
 use crate::{Arena, Content, NodeRef};
 
@@ -168,7 +168,7 @@ impl Arena {
         requires second_above { IsWithin self.now.trees above_b.label b.label }
         requires deep { depth_of self.now.trees above_a.label ≡ depth_of self.now.trees above_b.label }
         requires apart { above_a.label ≢ above_b.label }
-        ensures { Names self.now result (first_of_two self.now.trees a.label b.label) }
+        ensures { NamesHeld self.now result (first_of_two self.now.trees a.label b.label) }
     {
         self.valid();
         let mut x = above_a;
@@ -188,7 +188,7 @@ impl Arena {
     pub fn before(&self, a: NodeRef, b: NodeRef) -> Option<NodeRef>
         requires first_held { Holds self.now a }
         requires second_held { Holds self.now b }
-        ensures { Names self.now result (first_of_two self.now.trees a.label b.label) }
+        ensures { NamesHeld self.now result (first_of_two self.now.trees a.label b.label) }
     {
         self.valid();
         let a_depth = self.depth(a);

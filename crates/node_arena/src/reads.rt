@@ -3,7 +3,7 @@
 ghost use Rattle.std.specs.Prelude.{◌≡◌, IsTrue, ◌↔◌, Some, true};
 ghost use Rattle.dom_model.specs.Forest.{parent_of, first_of, last_of, prev_of, next_of, content_of};
 ghost use Rattle.dom_model.specs.Contents.{name_in, attributes_in, chars_in, is_element, has_chars, name_of, attributes_of, chars_of, is_element_at, is_parent_at, has_chars_at};
-ghost use Rattle.node_arena.specs.Held.{Holds, Names, Shows};
+ghost use Rattle.node_arena.specs.Held.{Holds, NamesHeld, Shows};
 ghost use Rattle.node_arena.specs.Kinds.{kind_in, kind_of, is_element_kind, is_parent_kind, has_chars_kind};
 
 use crate::{Arena, Attributes, Chars, Content, Kind, Name, Node, NodeRef};
@@ -99,7 +99,7 @@ impl Arena {
     /// The parent of a node.
     pub fn parent(&self, node: NodeRef) -> Option<NodeRef>
         requires { Holds self.now node }
-        ensures { Names self.now result (parent_of self.now.trees node.label) }
+        ensures { NamesHeld self.now result (parent_of self.now.trees node.label) }
     {
         self.node(node).parent
     }
@@ -107,7 +107,7 @@ impl Arena {
     /// The first child of a node.
     pub fn first_child(&self, node: NodeRef) -> Option<NodeRef>
         requires { Holds self.now node }
-        ensures { Names self.now result (first_of self.now.trees node.label) }
+        ensures { NamesHeld self.now result (first_of self.now.trees node.label) }
     {
         self.node(node).first
     }
@@ -115,7 +115,7 @@ impl Arena {
     /// The last child of a node.
     pub fn last_child(&self, node: NodeRef) -> Option<NodeRef>
         requires { Holds self.now node }
-        ensures { Names self.now result (last_of self.now.trees node.label) }
+        ensures { NamesHeld self.now result (last_of self.now.trees node.label) }
     {
         self.node(node).last
     }
@@ -123,7 +123,7 @@ impl Arena {
     /// The sibling before a node.
     pub fn prev(&self, node: NodeRef) -> Option<NodeRef>
         requires { Holds self.now node }
-        ensures { Names self.now result (prev_of self.now.trees node.label) }
+        ensures { NamesHeld self.now result (prev_of self.now.trees node.label) }
     {
         self.node(node).prev
     }
@@ -131,7 +131,7 @@ impl Arena {
     /// The sibling after a node.
     pub fn next(&self, node: NodeRef) -> Option<NodeRef>
         requires { Holds self.now node }
-        ensures { Names self.now result (next_of self.now.trees node.label) }
+        ensures { NamesHeld self.now result (next_of self.now.trees node.label) }
     {
         self.node(node).next
     }

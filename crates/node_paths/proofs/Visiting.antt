@@ -7,7 +7,7 @@ use Rattle.dom_model.specs.Forest.Forest.{Nil, Tree}
 use Rattle.dom_model.specs.ArenaState.{ArenaState, IsValid}
 use Rattle.dom_model.specs.Places.{kids_in}
 use Rattle.node_arena.specs.declared.NodeRef.{NodeRef}
-use Rattle.node_arena.specs.Held.{Holds, Names, label}
+use Rattle.node_arena.specs.Held.{Holds, NamesHeld, label}
 use Rattle.node_paths.specs.Onward.{onward_at, IsInner}
 use Rattle.dom_model.proofs.Stands.{parent_stands}
 use Rattle.dom_model.proofs.Links.{seen}
@@ -62,10 +62,10 @@ come_to a valid o node c is held inner content =
     visit a.trees node.label c valid.distinct (valid.here node.slot node.label held') inner' content
 
 -- a link that names the first child, or the next sibling, leads to an inner node
-pub led : (a : ArenaState) (link : Option NodeRef) (named : Option ℕ) → Names a link named → IsInner a.trees named → IsInner a.trees (label link)
+pub led : (a : ArenaState) (link : Option NodeRef) (named : Option ℕ) → NamesHeld a link named → IsInner a.trees named → IsInner a.trees (label link)
 led a link named names inner = rw names.is inner
 
-pub size_led : (a : ArenaState) (link : Option NodeRef) (named : Option ℕ) → Names a link named → size_from a.trees (label link) ≡ size_from a.trees named
+pub size_led : (a : ArenaState) (link : Option NodeRef) (named : Option ℕ) → NamesHeld a link named → size_from a.trees (label link) ≡ size_from a.trees named
 size_led a link named names = rw names.is refl
 
 pub size_here : (a : ArenaState) (o : Option NodeRef) (node : NodeRef) → o ≡ Some node → size_from a.trees (label o) ≡ size_from a.trees (Some node.label)

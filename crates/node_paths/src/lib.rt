@@ -5,7 +5,7 @@ ghost use Rattle.std.specs.Prelude.{◌≡◌, ℕ, ◌∷◌, ◌++◌, ◌<◌
 ghost use Rattle.std.specs.Fmt.{decimal};
 ghost use Rattle.std.specs.Option.{option_and_then};
 ghost use Rattle.dom_model.specs.Forest.{parent_of, IsWithin};
-ghost use Rattle.node_arena.specs.Held.{Holds, Names, label};
+ghost use Rattle.node_arena.specs.Held.{Holds, NamesHeld, label};
 ghost use Rattle.node_paths.specs.Onward.{node_below};
 ghost use Rattle.node_paths.specs.Paths.{label_at, node_text, indexes_at};
 
@@ -35,7 +35,7 @@ fn child_at(arena: &Arena, node: NodeRef, index: u32) -> Option<NodeRef>
 /// The node at a path from the document, whose own path is empty. It goes over the earlier siblings of each node on the
 /// way, and takes no memory.
 pub fn resolve(arena: &Arena, path: &[u32]) -> Option<NodeRef>
-    ensures { Names arena.now result (label_at arena.now.trees path.now) }
+    ensures { NamesHeld arena.now result (label_at arena.now.trees path.now) }
 {
     arena.valid();
     let mut at = arena.document();

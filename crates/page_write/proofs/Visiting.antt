@@ -8,7 +8,7 @@ use Rattle.dom_model.specs.Forest.Forest.{Nil, Tree}
 use Rattle.dom_model.specs.ArenaState.{ArenaState, IsValid}
 use Rattle.dom_model.specs.Places.{kids_in}
 use Rattle.node_arena.specs.declared.NodeRef.{NodeRef}
-use Rattle.node_arena.specs.Held.{Names, label}
+use Rattle.node_arena.specs.Held.{NamesHeld, label}
 use Rattle.node_paths.specs.Onward.{onward_at, IsInner}
 use Rattle.node_paths.proofs.Visiting.{Visit, size_from, led, size_led, size_here, document_leads, document_inner}
 
@@ -16,7 +16,7 @@ use Rattle.node_paths.proofs.Visiting.{Visit, size_from, led, size_led, size_her
 
 -- a link from the node that a walk has come to leads to inner nodes, from which on there are fewer
 pub leads_on : (a : ArenaState) (at : Option NodeRef) (node : NodeRef) → at ≡ Some node
-    → (link : Option NodeRef) (named : Option ℕ) → Names a link named
+    → (link : Option NodeRef) (named : Option ℕ) → NamesHeld a link named
     → size_from a.trees named < size_from a.trees (Some node.label) → IsInner a.trees named
     → (size_from a.trees (label link) < size_from a.trees (label at)) × IsInner a.trees (label link)
 leads_on a at node is link named names fewer inner =
@@ -39,14 +39,14 @@ html_written a l c v down right here d r h b0 b1 b2 b3 whole before one two thre
 
 -- the text of all below the document
 pub html_whole : (a : ArenaState) (document : ℕ) → IsValid a → document ≡ 0 → (first : Option NodeRef)
-    → Names a first (first_of a.trees document) → (none bytes : List ℕ) → none ≡ []
+    → NamesHeld a first (first_of a.trees document) → (none bytes : List ℕ) → none ≡ []
     → bytes ≡ none ++ html_of (onward_at a.trees (label first)) → bytes ≡ document_html a.trees
 html_whole a document valid is first names none bytes empty text =
     let at : label first ≡ first_of a.trees 0 = rw (← is) names.is in
     text ∙ rw (empty, at, document_leads a valid) refl
 
 pub inner_document : (a : ArenaState) (document : ℕ) → IsValid a → document ≡ 0 → (first : Option NodeRef)
-    → Names a first (first_of a.trees document) → IsInner a.trees (label first)
+    → NamesHeld a first (first_of a.trees document) → IsInner a.trees (label first)
 inner_document a document valid is first names = led a first (first_of a.trees document) names (rw is (document_inner a valid))
 
 -- ---- listings
@@ -64,7 +64,7 @@ lines_written a l c v level down right here d r h b0 b1 b2 whole before one two 
 
 -- the listing of all below the document
 pub lines_whole : (a : ArenaState) (document : ℕ) → IsValid a → document ≡ 0 → (first : Option NodeRef)
-    → Names a first (first_of a.trees document) → (none bytes : List ℕ) → none ≡ []
+    → NamesHeld a first (first_of a.trees document) → (none bytes : List ℕ) → none ≡ []
     → bytes ≡ none ++ lines_of 0 (onward_at a.trees (label first)) → bytes ≡ document_lines a.trees
 lines_whole a document valid is first names none bytes empty text =
     let at : label first ≡ first_of a.trees 0 = rw (← is) names.is in
@@ -76,7 +76,7 @@ kids_few Nil = omega arith
 kids_few (Tree m c ks rest) = omega arith
 
 pub room_whole : (a : ArenaState) (document : ℕ) → IsValid a → document ≡ 0 → (first : Option NodeRef)
-    → Names a first (first_of a.trees document) → 0 + size_from a.trees (label first) < 2 ^ 64
+    → NamesHeld a first (first_of a.trees document) → 0 + size_from a.trees (label first) < 2 ^ 64
 room_whole a document valid is first names =
     let at : label first ≡ first_of a.trees 0 = rw (← is) names.is in
     let all : size_from a.trees (label first) ≡ total (λ _ _. 1) (kids_in a.trees) = rw (at, document_leads a valid) refl in

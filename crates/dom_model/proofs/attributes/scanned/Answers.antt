@@ -1,12 +1,12 @@
 use Rattle.std.proofs.Common.{Some, sym, ap, ◌∙◌, cond, add-one, drop, suc}
 use Rattle.dom_model.specs.AttributeList.{value_of}
-use Rattle.dom_model.specs.AttributeMap.{attributes_of}
+use Rattle.dom_model.specs.AttributeMap.{entry_attributes}
 use Rattle.dom_model.proofs.AttributeLemmas.{value_of-next}
 use Rattle.dom_model.proofs.attributes.scanned.Goals as goal
 
 pub returns-then-eq : goal.returns-then-eq
 returns-then-eq c =
-    let list = attributes_of c.args.map.now.entries in
+    let list = entry_attributes c.args.map.now.entries in
     let name = c.args.name.now in
     let place = c.loop-place.place in
     let value = c.entry_at.result.1.now in
@@ -16,7 +16,7 @@ returns-then-eq c =
 
 pub loop-place-preserved : goal.loop-place-preserved
 loop-place-preserved c =
-    let list = attributes_of c.args.map.now.entries in
+    let list = entry_attributes c.args.map.now.entries in
     let name = c.args.name.now in
     let place = c.loop-place.place in
     let value = c.entry_at.result.1.now in

@@ -1,6 +1,6 @@
 use Rattle.std.proofs.Common.{ap, ◌∙◌, is_some}
 use Rattle.dom_model.proofs.AttributeLemmas.{value_of-entries, unset_in-entries}
-use Rattle.dom_model.specs.AttributeMap.{attributes_of}
+use Rattle.dom_model.specs.AttributeMap.{entry_attributes}
 use Rattle.dom_model.proofs.attributes.take.Goals as goal
 
 pub returns-clause-was : goal.returns-clause-was
@@ -11,4 +11,4 @@ returns-clause-was c =
 
 pub returns-clause-left : goal.returns-clause-left
 returns-clause-left c =
-    ap attributes_of c.shift_remove.ensures.entries ∙ unset_in-entries c.args.name.now c.args.map.now.entries
+    ap entry_attributes c.shift_remove.ensures.entries ∙ unset_in-entries c.args.name.now c.args.map.now.entries

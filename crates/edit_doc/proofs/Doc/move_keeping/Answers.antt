@@ -2,7 +2,7 @@ use Rattle.std.proofs.Common.{◌≡◌, Option, Some, None, refl, sym, ap, subs
 use Rattle.std.specs.Prelude.{slice_index_or}
 use Rattle.dom_model.specs.Forest.{parent_of}
 use Rattle.node_arena.specs.declared.NodeRef.{NodeRef}
-use Rattle.node_arena.specs.Held.{label, Names}
+use Rattle.node_arena.specs.Held.{label, NamesHeld}
 use Rattle.edit_model.specs.Edit.{Move}
 use Rattle.edit_model.specs.Gives.{label_of}
 use Rattle.edit_model.proofs.Giving.{gives_left}
@@ -17,7 +17,7 @@ use Rattle.edit_doc.proofs.Settling.{points_now}
 use Rattle.edit_doc.proofs.SeenNodes.{shows_of, held_seen, parent_seen, finds_parent, finds_next}
 use Rattle.edit_doc.proofs.Doc.move_keeping.Goals as goal
 
-up : (d : Inside) (node from : NodeRef) (o : Option NodeRef) → Names d.tree.nodes.arena o (parent_of d.tree.nodes.arena.trees node.label) → o ≡ Some from → parent_of d.tree.nodes.arena.trees node.label ≡ Some from.label
+up : (d : Inside) (node from : NodeRef) (o : Option NodeRef) → NamesHeld d.tree.nodes.arena o (parent_of d.tree.nodes.arena.trees node.label) → o ≡ Some from → parent_of d.tree.nodes.arena.trees node.label ≡ Some from.label
 up d node from o h e = sym h.is ∙ ap label e
 
 pub returns-in_default-clause-gives : goal.returns-in_default-clause-gives
