@@ -1,4 +1,4 @@
--- What is in the grammar, the machine reads, and tells the same tree.
+-- What is in the grammar, the machine reads, and emits the same tree.
 use Rattle.std.proofs.Common.{◌≡◌, ℕ, zero, suc, pred, ◌+◌, ◌*◌, ◌<◌, ◌≤◌, Bool, true, false, ◌&&◌, ◌⊎◌, inl, inr, List, [], ◌∷◌, ◌++◌, length, Some, None, refl, sym, ap, ◌∙◌, subst, arith, append_assoc, eq-eqb}
 use Rattle.std.specs.Prelude.{nat_le, ◌==◌, if◌then◌else◌}
 use Rattle.std.specs.Bool.{MatchBool}
@@ -10,7 +10,7 @@ use Rattle.page_grammar.specs.Chars.{is_space, lower, is_attribute_name_char, is
 use Rattle.page_grammar.specs.Names.{is_void, is_refused}
 use Rattle.page_grammar.specs.Page as page
 use Rattle.page_grammar.specs.Page.{Attribute, Siblings, Nil, TextNode, CommentNode, ElementNode, size, NotText, IsNil, Spaces, IsEntity, DecimalDigits, HexadecimalDigits, IsBody, OneChar, Text, NameChars, AttributeNameChars, has_attribute, Attributes, TagEnd, StartTag, NameAgain, EndTag, starts_close, CommentText, Content, Page}
-use Rattle.page_grammar.specs.Machine.{Event, TextEvent, CommentEvent, OpenEvent, CloseEvent, events, Reference, Amp, Hash, Dec, HexMark, Hex, Turn, Stop, More, Done, ref_step, Lexical, Data, InText, TextReference, TagOpen, InComment, TagName, BeforeAttributeName, AttributeName, AfterAttributeName, BeforeAttributeValue, InAttributeValue, ValueReference, AfterAttributeValue, SelfClosing, EndTagName, AfterEndTagName, Machine, start, at, has_room, less, after_leaf, after_start, entered, after_void, started, after_end, with_attribute, tag_end, ref_turn, Dashes, NoDash, OneDash, TwoDashes, is_two, dash, dashes, step_at, then_run, run, is_none_open, IsReady, IsEnd, flushed_at, flushed, told}
+use Rattle.page_grammar.specs.Machine.{Event, TextEvent, CommentEvent, OpenEvent, CloseEvent, events, Reference, Amp, Hash, Dec, HexMark, Hex, Turn, Stop, More, Done, ref_step, Lexical, Data, InText, TextReference, TagOpen, InComment, TagName, BeforeAttributeName, AttributeName, AfterAttributeName, BeforeAttributeValue, InAttributeValue, ValueReference, AfterAttributeValue, SelfClosing, EndTagName, AfterEndTagName, Machine, start, at, has_room, less, after_leaf, after_start, entered, after_void, started, after_end, with_attribute, tag_end, ref_turn, Dashes, NoDash, OneDash, TwoDashes, is_two, dash, dashes, step_at, then_run, run, is_none_open, IsReady, IsEnd, flushed_at, flushed, emitted}
 use Rattle.page_grammar.proofs.Facts.{app_nil, same_char, and_parts, suc_pred, head_eq, tail_eq, not_same, digit_59, hex_59, digit_120, name_62, name_47, space_62, space_47, space_61, key_62, key_47, key_61, quote_not_amp, quote_not_space, referable_bound, le_test, letter_not_slash, letter_not_bang, key_not_space, key_not_equals, space_not_key, space_not_name}
 
 -- references
@@ -520,12 +520,12 @@ complete c (ElementNode k w ts kids f) l ws d n o s r ready fits h =
           }
     ]
 
--- A page is read to its end, and its tree is told.
+-- A page is read to its end, and its tree is emitted.
 pub record ReadsPage (d c : ℕ) (s : List ℕ) (es : List Event) : Type 0 where
   pub there : Machine
   pub reads : run c (start d) s ≡ Some there
   pub ends : IsEnd there
-  pub tells : told there ≡ es
+  pub tells : emitted there ≡ es
 
 pub none_open : (ws : List (List ℕ)) → ws ≡ [] → is_none_open ws
 none_open [] e = tt

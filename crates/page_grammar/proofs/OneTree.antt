@@ -3,7 +3,7 @@ use Rattle.std.proofs.Common.{◌≡◌, ℕ, suc, pred, ◌+◌, inl, inr, List
 use Rattle.std.proofs.lemmas.Bool.{cases_Bool}
 use Rattle.page_grammar.specs.Names.{is_void}
 use Rattle.page_grammar.specs.Page.{Siblings, Nil, TextNode, CommentNode, ElementNode, size, IsNil, Content, EndTag, Page}
-use Rattle.page_grammar.specs.Machine.{Event, TextEvent, CommentEvent, OpenEvent, CloseEvent, events, told}
+use Rattle.page_grammar.specs.Machine.{Event, TextEvent, CommentEvent, OpenEvent, CloseEvent, events, emitted}
 use Rattle.page_grammar.proofs.Complete.{page_read, match_p, match_q}
 use Rattle.page_grammar.specs.Bytes.{PageBytes}
 use Rattle.std.proofs.lemmas.Str.{encodes_same}
@@ -95,7 +95,7 @@ one_tree d c s f g h k =
     let xr = x.reads in
     let yr = y.reads in
     let same : x.there ≡ y.there = cc in
-    let es : events f ++ [] ≡ events g ++ [] = ap (λ z. z ++ []) (sym x.tells ∙ ap told same ∙ y.tells) in
+    let es : events f ++ [] ≡ events g ++ [] = ap (λ z. z ++ []) (sym x.tells ∙ ap emitted same ∙ y.tells) in
     (one 1 f g [] [] (labelled d c 1 f s [] h) (labelled d c 1 g s [] k) tt tt es).tree
 
 pub one_tree_bytes : (d c : ℕ) (s : List ℕ) (f g : Siblings) → PageBytes d c s f → PageBytes d c s g → f ≡ g

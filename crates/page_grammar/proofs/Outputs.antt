@@ -1,54 +1,54 @@
--- The machine only adds to what it has told.
+-- The machine only adds to what it has emitted.
 use Rattle.std.proofs.Common.{◌≡◌, ℕ, Bool, true, false, ◌&&◌, ◌||◌, List, [], ◌∷◌, ◌++◌, Option, Some, None, refl, sym, ap}
 use Rattle.std.specs.Prelude.{◌==◌, if◌then◌else◌}
 use Rattle.page_grammar.specs.Chars.{is_space, lower, is_letter, is_name_char, is_attribute_name_char, is_quote}
 use Rattle.page_grammar.specs.Names.{is_void, is_refused}
 use Rattle.page_grammar.specs.Page.{Attribute, has_attribute}
-use Rattle.page_grammar.specs.Machine.{Event, TextEvent, CommentEvent, Reference, Amp, Turn, Stop, More, Done, ref_step, Lexical, Data, InText, TextReference, TagOpen, MarkupDeclaration, CommentStart, InComment, TagName, BeforeAttributeName, AttributeName, AfterAttributeName, BeforeAttributeValue, InAttributeValue, ValueReference, AfterAttributeValue, SelfClosing, EndTagName, AfterEndTagName, Machine, at, has_room, is_some_open, less, after_leaf, after_start, begin_tag, after_void, started, after_end, slash, with_attribute, tag_end, ref_turn, NoDash, is_two, dash, dashes, step_at, step, quiet, after_telling, flushed, told}
+use Rattle.page_grammar.specs.Machine.{Event, TextEvent, CommentEvent, Reference, Amp, Turn, Stop, More, Done, ref_step, Lexical, Data, InText, TextReference, TagOpen, MarkupDeclaration, CommentStart, InComment, TagName, BeforeAttributeName, AttributeName, AfterAttributeName, BeforeAttributeValue, InAttributeValue, ValueReference, AfterAttributeValue, SelfClosing, EndTagName, AfterEndTagName, Machine, at, has_room, is_some_open, less, after_leaf, after_start, begin_tag, after_void, started, after_end, slash, with_attribute, tag_end, ref_turn, NoDash, is_two, dash, dashes, step_at, step, quiet, after_emitting, flushed, emitted}
 use Rattle.page_grammar.proofs.Facts.{app_nil}
 
-tells_if : (o : List Event) (t : Bool) (x y x2 y2 : Option Machine) → (t ≡ true → x2 ≡ after_telling o x) → (t ≡ false → y2 ≡ after_telling o y) → (if t then x2 else y2) ≡ after_telling o (if t then x else y)
+tells_if : (o : List Event) (t : Bool) (x y x2 y2 : Option Machine) → (t ≡ true → x2 ≡ after_emitting o x) → (t ≡ false → y2 ≡ after_emitting o y) → (if t then x2 else y2) ≡ after_emitting o (if t then x else y)
 tells_if o true x y x2 y2 f g = f refl
 tells_if o false x y x2 y2 f g = g refl
 
--- the machine that has told o
+-- the machine that has emitted o
 abbrev telling : List Event → Machine → Machine
 telling o m = record m { out = o }
 
 -- a step that tells nothing
-silent : (o : List Event) (m : Machine) → Some (telling o m) ≡ after_telling o (Some (quiet m))
+silent : (o : List Event) (m : Machine) → Some (telling o m) ≡ after_emitting o (Some (quiet m))
 silent o m = ap (λ z. Some (telling z m)) (sym (app_nil o))
 
-less_tells : (c : ℕ) (o : List Event) (m : Machine) → less c (telling o m) ≡ after_telling o (less c (quiet m))
+less_tells : (c : ℕ) (o : List Event) (m : Machine) → less c (telling o m) ≡ after_emitting o (less c (quiet m))
 less_tells c o m = tells_if o (has_room c m || is_some_open m.opened) (Some (at (quiet m) TagOpen)) None (Some (at (telling o m) TagOpen)) None (λ e. silent o (at m TagOpen)) (λ e. refl)
 
-less_after : (c : ℕ) (o es : List Event) (m : Machine) → less c (telling (o ++ es) m) ≡ after_telling o (less c (telling es m))
+less_after : (c : ℕ) (o es : List Event) (m : Machine) → less c (telling (o ++ es) m) ≡ after_emitting o (less c (telling es m))
 less_after c o es m = tells_if o (has_room c m || is_some_open m.opened) (Some (at (telling es m) TagOpen)) None (Some (at (telling (o ++ es) m) TagOpen)) None (λ e. refl) (λ e. refl)
 
-started_tells : (o : List Event) (m : Machine) (w : List ℕ) (ts : List Attribute) → Some (started (telling o m) w ts) ≡ after_telling o (Some (started (quiet m) w ts))
+started_tells : (o : List Event) (m : Machine) (w : List ℕ) (ts : List Attribute) → Some (started (telling o m) w ts) ≡ after_emitting o (Some (started (quiet m) w ts))
 started_tells o m w ts = go (is_void w)
   where
-    go : (t : Bool) → Some (if t then after_void (telling o m) w ts else after_start (telling o m) w ts) ≡ after_telling o (Some (if t then after_void (quiet m) w ts else after_start (quiet m) w ts))
+    go : (t : Bool) → Some (if t then after_void (telling o m) w ts else after_start (telling o m) w ts) ≡ after_emitting o (Some (if t then after_void (quiet m) w ts else after_start (quiet m) w ts))
     go true = refl
     go false = refl
 
-tag_end_tells : (o : List Event) (m : Machine) (w : List ℕ) (ts : List Attribute) (b : ℕ) → tag_end (telling o m) w ts b ≡ after_telling o (tag_end (quiet m) w ts b)
+tag_end_tells : (o : List Event) (m : Machine) (w : List ℕ) (ts : List Attribute) (b : ℕ) → tag_end (telling o m) w ts b ≡ after_emitting o (tag_end (quiet m) w ts b)
 tag_end_tells o m w ts b =
     let l = SelfClosing w ts in
     tells_if o (b == 62) (Some (started (quiet m) w ts)) (if b == 47 && is_void w then Some (at (quiet m) l) else None) (Some (started (telling o m) w ts)) (if b == 47 && is_void w then Some (at (telling o m) l) else None)
     (λ e. started_tells o m w ts)
     (λ e. tells_if o (b == 47 && is_void w) (Some (at (quiet m) l)) None (Some (at (telling o m) l)) None (λ f. silent o (at m l)) (λ f. refl))
 
-ref_tells : (o : List Event) (m : Machine) (more : Reference → Lexical) (end : ℕ → Lexical) (t : Turn) → ref_turn (telling o m) more end t ≡ after_telling o (ref_turn (quiet m) more end t)
+ref_tells : (o : List Event) (m : Machine) (more : Reference → Lexical) (end : ℕ → Lexical) (t : Turn) → ref_turn (telling o m) more end t ≡ after_emitting o (ref_turn (quiet m) more end t)
 ref_tells o m more end Stop = refl
 ref_tells o m more end (More q) = silent o (at m (more q))
 ref_tells o m more end (Done x) = silent o (at m (end x))
 
-slash_tells : (o : List Event) (m : Machine) (ws : List (List ℕ)) → slash (telling o m) ws ≡ after_telling o (slash (quiet m) ws)
+slash_tells : (o : List Event) (m : Machine) (ws : List (List ℕ)) → slash (telling o m) ws ≡ after_emitting o (slash (quiet m) ws)
 slash_tells o m [] = refl
 slash_tells o m (w ∷ ws) = silent o (record m { lex = EndTagName w; opened = ws })
 
-tells_at : (c : ℕ) (o : List Event) (l : Lexical) (m : Machine) (b : ℕ) → step_at c (telling o m) l b ≡ after_telling o (step_at c (quiet m) l b)
+tells_at : (c : ℕ) (o : List Event) (l : Lexical) (m : Machine) (b : ℕ) → step_at c (telling o m) l b ≡ after_emitting o (step_at c (quiet m) l b)
 tells_at c o Data m b =
     let l : Lexical = if b == 38 then TextReference [] Amp else InText (b ∷ []) in
     tells_if o (b == 60) (less c (quiet m)) (if has_room c m then Some (at (quiet m) l) else None) (less c (telling o m)) (if has_room c m then Some (at (telling o m) l) else None)
@@ -148,13 +148,13 @@ tells_at c o AfterEndTagName m b =
     (λ e. silent o (at m AfterEndTagName))
     (λ e. tells_if o (b == 62) (Some (after_end (quiet m))) None (Some (after_end (telling o m))) None (λ f. refl) (λ f. refl))
 
--- a step is that of the machine that has told nothing yet
-pub step_tells : (c : ℕ) (m : Machine) (b : ℕ) → step c m b ≡ after_telling m.out (step c (quiet m) b)
+-- a step is that of the machine that has emitted nothing yet
+pub step_tells : (c : ℕ) (m : Machine) (b : ℕ) → step c m b ≡ after_emitting m.out (step c (quiet m) b)
 step_tells c m b = tells_at c m.out m.lex m b
 
 flushed_at_tells : (l : Lexical) (m : Machine) → (flushed (at m l)).out ≡ m.out ++ (flushed (at (quiet m) l)).out
 flushed_at_tells (InText t) m = refl
 flushed_at_tells l m = sym (app_nil m.out)
 
-pub told_tells : (m : Machine) → told m ≡ m.out ++ told (quiet m)
+pub told_tells : (m : Machine) → emitted m ≡ m.out ++ emitted (quiet m)
 told_tells m = flushed_at_tells m.lex m

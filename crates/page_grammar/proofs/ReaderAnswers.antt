@@ -2,7 +2,7 @@
 use Rattle.std.proofs.Common.{◌≡◌, ℕ, suc, ◌+◌, ◌<◌, ◌≤◌, inl, inr, List, [], ◌∷◌, ◌++◌, length, Some, None, refl, sym, ap, ◌∙◌, arith}
 use Rattle.std.proofs.Math.Utf8.{encodes}
 use Rattle.page_grammar.specs.Page.{Siblings}
-use Rattle.page_grammar.specs.Machine.{events, told, IsEnd}
+use Rattle.page_grammar.specs.Machine.{events, emitted, IsEnd}
 use Rattle.page_grammar.specs.Reader.{Reader, begin, read_byte, read_bytes}
 use Rattle.page_grammar.specs.Bytes.{PageBytes}
 use Rattle.page_grammar.specs.Kind.{Kind, TooLong, Unclosed, page_limit, kind_of_byte, fault_next, fault_at_end, fault_from, text_fault, page_fault}
@@ -42,7 +42,7 @@ unclosed d c s r h e open_end =
     ]
 
 abbrev pub Ends : (d c : ℕ) → List ℕ → Reader → Type 0
-Ends d c s r = (f : Siblings) × (page_reading d c s ≡ Children f) × PageBytes d c s f × (told r.machine ≡ events f)
+Ends d c s r = (f : Siblings) × (page_reading d c s ≡ Children f) × PageBytes d c s f × (emitted r.machine ≡ events f)
 
 -- all bytes are read, and the page is at its end
 pub ended : (d c : ℕ) (s : List ℕ) (r : Reader) → length s ≤ page_limit → read_bytes c (begin d) s ≡ Some r → r.part ≡ None → IsEnd r.machine → Ends d c s r

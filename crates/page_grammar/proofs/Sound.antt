@@ -1,4 +1,4 @@
--- What the machine reads to its end is a page, and the tree that it told is the page's.
+-- What the machine reads to its end is a page, and the tree that it emitted is the page's.
 use Rattle.std.proofs.Common.{◌≡◌, ℕ, zero, suc, pred, ◌+◌, ◌*◌, ◌<◌, Bool, true, false, ◌&&◌, ◌||◌, ◌⊎◌, inl, inr, List, [], ◌∷◌, ◌++◌, length, Option, Some, None, refl, sym, ap, ◌∙◌, subst, arith, append_assoc}
 use Rattle.std.specs.Prelude.{nat_le, ◌==◌, if◌then◌else◌}
 use Rattle.std.specs.Bool.{MatchBool}
@@ -8,7 +8,7 @@ use Rattle.page_grammar.specs.Chars.{is_space, lower, is_letter, is_digit, is_na
 use Rattle.page_grammar.specs.Names.{is_void, is_refused}
 use Rattle.page_grammar.specs.Page as page
 use Rattle.page_grammar.specs.Page.{Attribute, Siblings, Nil, TextNode, CommentNode, ElementNode, size, NotText, IsNil, Spaces, IsEntity, DecimalDigits, HexadecimalDigits, IsBody, OneChar, Text, NameChars, AttributeNameChars, has_attribute, Attributes, TagEnd, StartTag, NameAgain, EndTag, starts_close, CommentText, Content, Page}
-use Rattle.page_grammar.specs.Machine.{Event, TextEvent, CommentEvent, OpenEvent, CloseEvent, events, Reference, Amp, Named, Hash, Dec, HexMark, Hex, Turn, Stop, More, Done, after_one, after_char, whole_one, whole, more_named, named, dec, hex, done, ref_step, Lexical, Data, InText, TextReference, TagOpen, MarkupDeclaration, CommentStart, InComment, TagName, BeforeAttributeName, AttributeName, AfterAttributeName, BeforeAttributeValue, InAttributeValue, ValueReference, AfterAttributeValue, SelfClosing, EndTagName, AfterEndTagName, Machine, start, at, has_room, is_some_open, less, after_leaf, after_start, entered, begin_tag, after_void, started, after_end, slash, attribute, with_attribute, tag_end, ref_turn, Dashes, NoDash, OneDash, TwoDashes, is_two, dash, dashes, step_at, step, run, is_none_open, IsReady, IsEnd, flushed_at, told}
+use Rattle.page_grammar.specs.Machine.{Event, TextEvent, CommentEvent, OpenEvent, CloseEvent, events, Reference, Amp, Named, Hash, Dec, HexMark, Hex, Turn, Stop, More, Done, after_one, after_char, whole_one, whole, more_named, named, dec, hex, done, ref_step, Lexical, Data, InText, TextReference, TagOpen, MarkupDeclaration, CommentStart, InComment, TagName, BeforeAttributeName, AttributeName, AfterAttributeName, BeforeAttributeValue, InAttributeValue, ValueReference, AfterAttributeValue, SelfClosing, EndTagName, AfterEndTagName, Machine, start, at, has_room, is_some_open, less, after_leaf, after_start, entered, begin_tag, after_void, started, after_end, slash, attribute, with_attribute, tag_end, ref_turn, Dashes, NoDash, OneDash, TwoDashes, is_two, dash, dashes, step_at, step, run, is_none_open, IsReady, IsEnd, flushed_at, emitted}
 use Rattle.page_grammar.proofs.Facts.{app_nil, same_char, and_parts, On, on_if, on_get, then_some, suc_pred, space_32, not_same}
 
 abbrev NotTextEvent : List Event → Type 0
@@ -120,7 +120,7 @@ turn_if : (p : Reference) (b : ℕ) (t : Bool) (x y : Turn) → (t ≡ true → 
 turn_if p b true x y f g = f refl
 turn_if p b false x y f g = g refl
 
--- what is told of names that are read whole
+-- what is emitted of names that are read whole
 abbrev WholeIs : List Entity → Turn → Type 0
 WholeIs es Stop = Unit {0}
 WholeIs es (More q) = ⊥
@@ -648,11 +648,11 @@ end_tells c Data (w ∷ ws) m e h n = elim n [ ]
 end_tells c (InText t) (w ∷ ws) m e h n = elim n [ ]
 end_tells c l ws m e h n = elim h [ ]
 
-pub sound : (c : ℕ) (s : List ℕ) (m m2 : Machine) → run c m s ≡ Some m2 → IsEnd m2 → Tells c m s (told m2)
-sound c [] m m2 h e = let k : m2 ≡ m = cc in subst (λ x. Tells c x [] (told m2)) k (end_tells c m2.lex m2.opened m2 refl e.0 e.1)
+pub sound : (c : ℕ) (s : List ℕ) (m m2 : Machine) → run c m s ≡ Some m2 → IsEnd m2 → Tells c m s (emitted m2)
+sound c [] m m2 h e = let k : m2 ≡ m = cc in subst (λ x. Tells c x [] (emitted m2)) k (end_tells c m2.lex m2.opened m2 refl e.0 e.1)
 sound c (b ∷ s) m m2 h e =
     let x = then_some (step c m b) (λ m1. run c m1 s) m2 h in
-    on_get (λ m1. Tells c m1 s (told m2) → tells_at c m.lex m (b ∷ s) (told m2)) (step c m b) x.0 (back c m.lex m b s (told m2)) x.1 (sound c s x.0 m2 x.2 e)
+    on_get (λ m1. Tells c m1 s (emitted m2) → tells_at c m.lex m (b ∷ s) (emitted m2)) (step c m b) x.0 (back c m.lex m b s (emitted m2)) x.1 (sound c s x.0 m2 x.2 e)
 
-pub page_only : (d c : ℕ) (s : List ℕ) (m : Machine) → run c (start d) s ≡ Some m → IsEnd m → (f : Siblings) × Page d c s f × (told m ≡ events f)
+pub page_only : (d c : ℕ) (s : List ℕ) (m : Machine) → run c (start d) s ≡ Some m → IsEnd m → (f : Siblings) × Page d c s f × (emitted m ≡ events f)
 page_only d c s m h e = let x = sound c s (start d) m h e in let y = x.1 in (y.0, y.1, x.2 ∙ y.2)

@@ -6,7 +6,7 @@ use Rattle.page_grammar.specs.Reader.{begin, read_bytes}
 use Rattle.page_grammar.specs.Bytes.{PageBytes}
 use Rattle.page_grammar.specs.Kind.{Kind, page_fault}
 use Rattle.page_grammar.specs.Rows.{IsFault}
-use Rattle.page_grammar.specs.Reading.{OpenElement, Growing, joined, grow, grow_all, tree_of, Reading, Children, Refused, told_by, reading_of, page_reading, IsReading}
+use Rattle.page_grammar.specs.Reading.{OpenElement, Growing, joined, grow, grow_all, tree_of, Reading, Children, Refused, emitted_by, reading_of, page_reading, IsReading}
 use Rattle.page_grammar.proofs.Complete.{page_read}
 use Rattle.page_grammar.proofs.Characters.{read_text}
 use Rattle.page_grammar.proofs.OneTree.{Labelled, labelled, one_tree_bytes}
@@ -59,12 +59,12 @@ tells n (ElementNode l w ts k f) es g h =
 pub tree_told : (f : Siblings) → Labelled 1 f → tree_of (events f) ≡ f
 tree_told f h = ap (λ z. z.here) (tells 1 f [] Nil h)
 
-pub children_told : (d c : ℕ) (s : List ℕ) (f : Siblings) → PageBytes d c s f → tree_of (told_by (read_bytes c (begin d) s)) ≡ f
+pub children_told : (d c : ℕ) (s : List ℕ) (f : Siblings) → PageBytes d c s f → tree_of (emitted_by (read_bytes c (begin d) s)) ≡ f
 children_told d c s f (cs, sc, e, page) =
     let x = page_read d c cs f page in
     let y = read_text d c cs x.there sc x.reads in
-    ap (λ z. tree_of (told_by (read_bytes c (begin d) z))) (sym e)
-    ∙ ap (λ z. tree_of (told_by z)) y
+    ap (λ z. tree_of (emitted_by (read_bytes c (begin d) z))) (sym e)
+    ∙ ap (λ z. tree_of (emitted_by z)) y
     ∙ ap (λ z. tree_of z) x.tells
     ∙ tree_told f (labelled d c 1 f cs [] page)
 

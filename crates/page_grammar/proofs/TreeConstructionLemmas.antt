@@ -12,7 +12,7 @@ use Rattle.page_grammar.specs.Machine.{Event, OpenEvent, CloseEvent, events}
 use Rattle.page_grammar.specs.Bytes.{PageBytes}
 use Rattle.page_grammar.specs.Nodes.{attributes_of, nodes_of, document_of}
 use Rattle.page_grammar.specs.Reading.{OpenElement, joined}
-use Rattle.page_grammar.specs.TreeConstruction.{TreeConstruction, innermost, with_last, plant, plant_all, seed, grown}
+use Rattle.page_grammar.specs.TreeConstruction.{TreeConstruction, innermost, with_last, construct, construct_all, initial_tree, whole_tree}
 use Rattle.page_grammar.proofs.OneTree.{Labelled, labelled}
 use Rattle.page_grammar.proofs.Telling.{joined_nil, joined_joined}
 
@@ -117,9 +117,9 @@ put_innermost n (o ∷ os) x t s =
     put_inside os p (join (nodes_of o.before) y) t s.3 ∙ ap (λ z. shown os z) (put_behind o.before p p y t s.2 (omega arith) ∙ ap (λ z. join (nodes_of o.before) z) here) in
     rw (differs 0 p s.1) (ap (λ z. Tree 0 Document z Empty) in_top)
 
-plant_append : (xs ys : List Event) (p : TreeConstruction) → plant_all (xs ++ ys) p ≡ plant_all ys (plant_all xs p)
-plant_append [] ys p = refl
-plant_append (x ∷ xs) ys p = plant_append xs ys (plant x p)
+construct_append : (xs ys : List Event) (p : TreeConstruction) → construct_all (xs ++ ys) p ≡ construct_all ys (construct_all xs p)
+construct_append [] ys p = refl
+construct_append (x ∷ xs) ys p = construct_append xs ys (construct x p)
 
 abbrev tree_construction : List OpenElement → Siblings → ℕ → TreeConstruction
 tree_construction os g n = record { trees = Tree 0 Document (shown os (nodes_of g)) Empty; opened = map label_of os; next = n }
@@ -130,31 +130,31 @@ leaf n os g c x s e =
     (put_innermost n os (nodes_of g) (Tree n c Empty Empty) s
     ∙ ap (λ z. Tree 0 Document (shown os z) Empty) (ap (λ z. join (nodes_of g) z) (sym e) ∙ sym (nodes_joined g x)))
 
-plants : (n : ℕ) (f : Siblings) (os : List OpenElement) (g : Siblings) → 0 < n → Labelled n f → Stacked n os → Below n g → plant_all (events f) (tree_construction os g n) ≡ tree_construction os (joined g f) (n + size f)
-plants n Nil os g pos h s b = let e : n ≡ n + 0 = omega arith in ap (λ z. tree_construction os z n) (sym (joined_nil g)) ∙ ap (λ z. tree_construction os (joined g Nil) z) e
-plants n (TextNode l t f) os g pos h s b =
+constructs : (n : ℕ) (f : Siblings) (os : List OpenElement) (g : Siblings) → 0 < n → Labelled n f → Stacked n os → Below n g → construct_all (events f) (tree_construction os g n) ≡ tree_construction os (joined g f) (n + size f)
+constructs n Nil os g pos h s b = let e : n ≡ n + 0 = omega arith in ap (λ z. tree_construction os z n) (sym (joined_nil g)) ∙ ap (λ z. tree_construction os (joined g Nil) z) e
+constructs n (TextNode l t f) os g pos h s b =
     let x = TextNode n t Nil in
     let e : suc n + size f ≡ n + suc (size f) = omega arith in
     let lt : n < suc n = omega arith in
     let le : n ≤ suc n = omega arith in
     let g2 = below_joined (suc n) g x (below_more n (suc n) g le b) (lt, tt) in
-    ap (λ z. plant_all (events f) z) (leaf n os g (Words t) x s refl)
-    ∙ plants (suc n) f os (joined g x) (omega arith) h.1 (stacked_more n (suc n) os le s) g2
+    ap (λ z. construct_all (events f) z) (leaf n os g (Words t) x s refl)
+    ∙ constructs (suc n) f os (joined g x) (omega arith) h.1 (stacked_more n (suc n) os le s) g2
     ∙ ap (λ z. tree_construction os z (suc n + size f)) (joined_joined g x f)
     ∙ ap (λ z. tree_construction os (joined g (TextNode z t f)) (suc n + size f)) (sym h.0)
     ∙ ap (λ z. tree_construction os (joined g (TextNode l t f)) z) e
-plants n (CommentNode l t f) os g pos h s b =
+constructs n (CommentNode l t f) os g pos h s b =
     let x = CommentNode n t Nil in
     let e : suc n + size f ≡ n + suc (size f) = omega arith in
     let lt : n < suc n = omega arith in
     let le : n ≤ suc n = omega arith in
     let g2 = below_joined (suc n) g x (below_more n (suc n) g le b) (lt, tt) in
-    ap (λ z. plant_all (events f) z) (leaf n os g (Remark t) x s refl)
-    ∙ plants (suc n) f os (joined g x) (omega arith) h.1 (stacked_more n (suc n) os le s) g2
+    ap (λ z. construct_all (events f) z) (leaf n os g (Remark t) x s refl)
+    ∙ constructs (suc n) f os (joined g x) (omega arith) h.1 (stacked_more n (suc n) os le s) g2
     ∙ ap (λ z. tree_construction os z (suc n + size f)) (joined_joined g x f)
     ∙ ap (λ z. tree_construction os (joined g (CommentNode z t f)) (suc n + size f)) (sym h.0)
     ∙ ap (λ z. tree_construction os (joined g (CommentNode l t f)) z) e
-plants n (ElementNode l w ts k f) os g pos h s b =
+constructs n (ElementNode l w ts k f) os g pos h s b =
     let o : OpenElement = record { label = n; name = w; attributes = ts; before = g } in
     let c = Element w (attributes_of ts) in
     let x = ElementNode n w ts Nil Nil in
@@ -165,22 +165,22 @@ plants n (ElementNode l w ts k f) os g pos h s b =
     let le : n ≤ suc n = omega arith in
     let le2 : n ≤ n2 = omega arith in
     let lt2 : n < n2 = omega arith in
-    let opened : plant (OpenEvent w ts) (tree_construction os g n) ≡ tree_construction (o ∷ os) Nil (suc n) =
+    let opened : construct (OpenEvent w ts) (tree_construction os g n) ≡ tree_construction (o ∷ os) Nil (suc n) =
     ap (λ z. record { trees = z; opened = n ∷ map label_of os; next = suc n }) (put_innermost n os (nodes_of g) (Tree n c Empty Empty) s) in
-    let kids = plants (suc n) k (o ∷ os) Nil (omega arith) h.1 (lt, pos, b, s) tt in
-    let closed : plant CloseEvent (tree_construction (o ∷ os) k n2) ≡ tree_construction os (joined g y) n2 =
+    let kids = constructs (suc n) k (o ∷ os) Nil (omega arith) h.1 (lt, pos, b, s) tt in
+    let closed : construct CloseEvent (tree_construction (o ∷ os) k n2) ≡ tree_construction os (joined g y) n2 =
     ap (λ z. record { trees = Tree 0 Document (shown os z) Empty; opened = map label_of os; next = n2 }) (sym (nodes_joined g y)) in
     let g2 = below_joined n2 g y (below_more n n2 g le2 b) (lt2, labelled_below (suc n) k h.1, tt) in
-    ap (λ z. plant_all (events k ++ CloseEvent ∷ events f) z) opened
-    ∙ plant_append (events k) (CloseEvent ∷ events f) (tree_construction (o ∷ os) Nil (suc n))
-    ∙ ap (λ z. plant_all (CloseEvent ∷ events f) z) kids
-    ∙ ap (λ z. plant_all (events f) z) closed
-    ∙ plants n2 f os (joined g y) (omega arith) h.2 (stacked_more n n2 os le2 s) g2
+    ap (λ z. construct_all (events k ++ CloseEvent ∷ events f) z) opened
+    ∙ construct_append (events k) (CloseEvent ∷ events f) (tree_construction (o ∷ os) Nil (suc n))
+    ∙ ap (λ z. construct_all (CloseEvent ∷ events f) z) kids
+    ∙ ap (λ z. construct_all (events f) z) closed
+    ∙ constructs n2 f os (joined g y) (omega arith) h.2 (stacked_more n n2 os le2 s) g2
     ∙ ap (λ z. tree_construction os z (n2 + size f)) (joined_joined g y f)
     ∙ ap (λ z. tree_construction os (joined g (ElementNode z w ts k f)) (n2 + size f)) (sym h.0)
     ∙ ap (λ z. tree_construction os (joined g (ElementNode l w ts k f)) z) e
 
-pub planted : (d c : ℕ) (s : List ℕ) (f : Siblings) → PageBytes d c s f → plant_all (events f) seed ≡ grown f
-planted d c s f (cs, sc, e, page) =
+pub constructed : (d c : ℕ) (s : List ℕ) (f : Siblings) → PageBytes d c s f → construct_all (events f) initial_tree ≡ whole_tree f
+constructed d c s f (cs, sc, e, page) =
     let z : 1 + size f ≡ suc (size f) = omega arith in
-    plants 1 f [] Nil (omega arith) (labelled d c 1 f cs [] page) tt tt ∙ ap (λ n. record { trees = document_of f; opened = []; next = n }) z
+    constructs 1 f [] Nil (omega arith) (labelled d c 1 f cs [] page) tt tt ∙ ap (λ n. record { trees = document_of f; opened = []; next = n }) z

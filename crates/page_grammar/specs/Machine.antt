@@ -5,7 +5,7 @@ use Rattle.page_grammar.specs.Chars.{is_space, lower, is_letter, is_digit, is_na
 use Rattle.page_grammar.specs.Names.{is_void, is_refused}
 use Rattle.page_grammar.specs.Page.{Attribute, Siblings, Nil, TextNode, CommentNode, ElementNode, has_attribute}
 
--- what is told of a tree, in tree order
+-- what is emitted of a tree, in tree order
 pub data Event : Type 0 where
   TextEvent : (text : List ℕ) → Event
   CommentEvent : (text : List ℕ) → Event
@@ -113,7 +113,7 @@ pub data Lexical : Type 0 where
   AfterEndTagName : Lexical
 
 -- The names of the open elements, innermost first; how many levels are left below the innermost (less one inside a
--- start tag); the next label; and what is told so far.
+-- start tag); the next label; and what is emitted so far.
 pub record Machine : Type 0 where
   pub lex : Lexical
   pub opened : List (List ℕ)
@@ -281,14 +281,14 @@ flushed_at l m = m
 abbrev pub flushed : Machine → Machine
 flushed m = flushed_at m.lex m
 
-abbrev pub told : Machine → List Event
-told m = (flushed m).out
+abbrev pub emitted : Machine → List Event
+emitted m = (flushed m).out
 
--- the machine without what it has told
+-- the machine without what it has emitted
 abbrev pub quiet : Machine → Machine
 quiet m = record m { out = [] }
 
--- what it comes to, o having been told before
-abbrev pub after_telling : List Event → Option Machine → Option Machine
-after_telling o None = None
-after_telling o (Some m) = Some (record m { out = o ++ m.out })
+-- what it comes to, o having been emitted before
+abbrev pub after_emitting : List Event → Option Machine → Option Machine
+after_emitting o None = None
+after_emitting o (Some m) = Some (record m { out = o ++ m.out })

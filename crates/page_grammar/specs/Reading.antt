@@ -1,7 +1,7 @@
 -- What reading a page tells: its children, or where and why it is refused.
 use Rattle.std.specs.Prelude.{ℕ, suc, ◌≤◌, List, [], ◌∷◌, length, Option, Some, None}
 use Rattle.page_grammar.specs.Page.{Attribute, Siblings, Nil, TextNode, CommentNode, ElementNode}
-use Rattle.page_grammar.specs.Machine.{Event, TextEvent, CommentEvent, OpenEvent, CloseEvent, told}
+use Rattle.page_grammar.specs.Machine.{Event, TextEvent, CommentEvent, OpenEvent, CloseEvent, emitted}
 use Rattle.page_grammar.specs.Reader.{Reader, begin, read_bytes}
 use Rattle.page_grammar.specs.Bytes.{PageBytes}
 use Rattle.page_grammar.specs.Kind.{Kind, page_limit, page_fault}
@@ -14,7 +14,7 @@ pub record OpenElement : Type 0 where
   pub attributes : List Attribute
   pub before : Siblings
 
--- A tree as far as it is told: the open elements, innermost first, what is finished in the innermost one, and the
+-- A tree as far as it is emitted: the open elements, innermost first, what is finished in the innermost one, and the
 -- next label.
 pub record Growing : Type 0 where
   pub opened : List OpenElement
@@ -58,12 +58,12 @@ pub data Reading : Type 0 where
   Children : (children : Siblings) → Reading
   Refused : (place : ℕ) (kind : Kind) → Reading
 
-abbrev pub told_by : Option Reader → List Event
-told_by None = []
-told_by (Some r) = told r.machine
+abbrev pub emitted_by : Option Reader → List Event
+emitted_by None = []
+emitted_by (Some r) = emitted r.machine
 
 abbrev pub reading_of : (d c : ℕ) → List ℕ → Option (ℕ × Kind) → Reading
-reading_of d c s None = Children (tree_of (told_by (read_bytes c (begin d) s)))
+reading_of d c s None = Children (tree_of (emitted_by (read_bytes c (begin d) s)))
 reading_of d c s (Some x) = Refused x.0 x.1
 
 -- computed

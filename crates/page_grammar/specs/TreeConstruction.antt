@@ -1,4 +1,4 @@
--- A document that grows as a page's events are told: each node is put at the end of the innermost open element.
+-- A document that grows as a page's events are emitted: each node is put at the end of the innermost open element.
 use Rattle.std.specs.Prelude.{ℕ, suc, List, [], ◌∷◌, None}
 use Rattle.dom_model.specs.declared.Content.{Content}
 use Rattle.dom_model.specs.declared.Content.TheVariants.{Document, Element, Words, Remark}
@@ -30,20 +30,20 @@ with_last p c = record p {
   next = suc p.next;
 }
 
-abbrev pub plant : Event → TreeConstruction → TreeConstruction
-plant (TextEvent t) p = with_last p (Words t)
-plant (CommentEvent t) p = with_last p (Remark t)
-plant (OpenEvent w ts) p = record (with_last p (Element w (attributes_of ts))) { opened = p.next ∷ p.opened }
-plant CloseEvent p = record p { opened = tail p.opened }
+abbrev pub construct : Event → TreeConstruction → TreeConstruction
+construct (TextEvent t) p = with_last p (Words t)
+construct (CommentEvent t) p = with_last p (Remark t)
+construct (OpenEvent w ts) p = record (with_last p (Element w (attributes_of ts))) { opened = p.next ∷ p.opened }
+construct CloseEvent p = record p { opened = tail p.opened }
 
-abbrev pub plant_all : List Event → TreeConstruction → TreeConstruction
-plant_all [] p = p
-plant_all (e ∷ es) p = plant_all es (plant e p)
+abbrev pub construct_all : List Event → TreeConstruction → TreeConstruction
+construct_all [] p = p
+construct_all (e ∷ es) p = construct_all es (construct e p)
 
 -- the empty document
-abbrev pub seed : TreeConstruction
-seed = record { trees = Tree 0 Document Nil Nil; opened = []; next = 1 }
+abbrev pub initial_tree : TreeConstruction
+initial_tree = record { trees = Tree 0 Document Nil Nil; opened = []; next = 1 }
 
 -- the whole document with these children
-abbrev pub grown : Siblings → TreeConstruction
-grown f = record { trees = document_of f; opened = []; next = suc (size f) }
+abbrev pub whole_tree : Siblings → TreeConstruction
+whole_tree f = record { trees = document_of f; opened = []; next = suc (size f) }

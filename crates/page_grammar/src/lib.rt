@@ -2,7 +2,7 @@
 //!
 //! The definitions stand in specs/: the relation between characters and children (`Page`), the same of bytes
 //! (`Bytes`), a machine that decides it (`Machine`, `Decoder`, `Reader`), the fault that it computes (`Kind`), what
-//! that fault means (`Rows`), what reading a page tells (`Reading`), and the document that it makes (`Nodes`,
+//! that fault means (`Rows`), what reading a page answers (`Reading`), and the document that it makes (`Nodes`,
 //! `TreeConstruction`). Each function of this file has an empty body: its contract is a law about the definitions.
 //! The module `classes` has the tests of characters that readers of tags share.
 #![tactic(auto)]
@@ -11,32 +11,32 @@ ghost use Rattle.std.specs.Prelude.{◌≡◌, ◌≤◌, ◌<◌, ◌↔◌, �
 ghost use Rattle.std.specs.List.{range_with_len};
 ghost use Rattle.std.proofs.Math.Utf8.{scalar, scalars, encode, encodes};
 ghost use Rattle.page_grammar.specs.Page.{Siblings, Nil, TextNode, CommentNode, ElementNode, Page, size, labels, ReachesLabel};
-ghost use Rattle.page_grammar.specs.Machine.{Machine, run, start, step, events, IsEnd, told, quiet, after_telling, attribute};
+ghost use Rattle.page_grammar.specs.Machine.{Machine, run, start, step, events, IsEnd, emitted, quiet, after_emitting, attribute};
 ghost use Rattle.page_grammar.specs.Reader.{Reader, begin, read_byte, read_bytes};
 ghost use Rattle.page_grammar.specs.Bytes.{PageBytes, BeginsPage};
 ghost use Rattle.page_grammar.specs.Kind.{Kind, page_limit, kind_of_byte, kind_at, page_fault, text_fault, refusal, refused_place, TooLong, Unclosed, NotUtf8, TooDeep, Full, UnsupportedElement, RepeatedAttribute, UnknownReference, StrayEnd, BadAttribute, BadTag};
 ghost use Rattle.page_grammar.specs.Rows.{IsFault};
-ghost use Rattle.page_grammar.specs.TreeConstruction.{plant_all, seed, grown};
+ghost use Rattle.page_grammar.specs.TreeConstruction.{construct_all, initial_tree, whole_tree};
 ghost use Rattle.page_grammar.specs.Reading.{Reading, Children, Refused, page_reading, IsReading};
 
 pub mod classes;
 
-/// The machine reads each page to its end, and tells its children.
+/// The machine reads each page to its end, and emits its children.
 pub fn pages_are_read()
     ensures { (d c : ℕ) (s : List ℕ) (f : Siblings) → Page d c s f → (m : Machine)
-        × (run c (start d) s ≡ Some m) × IsEnd m × (told m ≡ events f) }
+        × (run c (start d) s ≡ Some m) × IsEnd m × (emitted m ≡ events f) }
 {}
 
-/// What the machine reads to its end is a page, whose children it has told.
+/// What the machine reads to its end is a page, whose children it has emitted.
 pub fn what_is_read_is_a_page()
     ensures { (d c : ℕ) (s : List ℕ) (m : Machine) → run c (start d) s ≡ Some m → IsEnd m → (f : Siblings)
-        × Page d c s f × (told m ≡ events f) }
+        × Page d c s f × (emitted m ≡ events f) }
 {}
 
-/// The machine only adds to what it has told, and doesn't look at it.
+/// The machine only adds to what it has emitted, and doesn't look at it.
 pub fn steps_only_tell_more()
-    ensures step { (c : ℕ) (m : Machine) (x : ℕ) → step c m x ≡ after_telling m.out (step c (quiet m) x) }
-    ensures told { (m : Machine) → told m ≡ m.out ++ told (quiet m) }
+    ensures step { (c : ℕ) (m : Machine) (x : ℕ) → step c m x ≡ after_emitting m.out (step c (quiet m) x) }
+    ensures emitted { (m : Machine) → emitted m ≡ m.out ++ emitted (quiet m) }
 {}
 
 /// A page has one tree.
@@ -87,7 +87,7 @@ pub fn no_other_fault()
     ensures { (d c : ℕ) (s : List ℕ) (fault : Option (ℕ × Kind)) → IsFault d c s fault → fault ≡ page_fault d c s }
 {}
 
-/// What reading a page is computed to tell: its children, or the place and the kind of its fault, and nothing else
+/// What reading a page is computed to answer: its children, or the place and the kind of its fault, and nothing else
 /// is so.
 pub fn the_reading_is_the_pages()
     ensures is { (d c : ℕ) (s : List ℕ) → IsReading d c s (page_reading d c s) }
@@ -106,12 +106,12 @@ pub fn a_reader_finds_the_reading()
         ≡ Some r → (r.part ≡ None → IsEnd r.machine → ⊥) → page_reading d c s ≡ Refused (length s) Unclosed }
     ensures ended { (d c : ℕ) (s : List ℕ) (r : Reader) → length s ≤ page_limit → read_bytes c (begin d) s
         ≡ Some r → r.part ≡ None → IsEnd r.machine → (f : Siblings) × (page_reading d c s ≡ Children f)
-        × PageBytes d c s f × (told r.machine ≡ events f) }
+        × PageBytes d c s f × (emitted r.machine ≡ events f) }
 {}
 
-/// A document to which each told node is added at the end of the innermost open element ends as the page's.
-pub fn planted_events_are_the_document()
-    ensures { (d c : ℕ) (s : List ℕ) (f : Siblings) → PageBytes d c s f → plant_all (events f) seed ≡ grown f }
+/// A document to which each emitted node is added at the end of the innermost open element ends as the page's.
+pub fn constructed_events_are_the_document()
+    ensures { (d c : ℕ) (s : List ℕ) (f : Siblings) → PageBytes d c s f → construct_all (events f) initial_tree ≡ whole_tree f }
 {}
 
 /// Faults of example pages.

@@ -40,7 +40,7 @@ module _ (old mid : Scanner) (node : NodeRef) (steady : Steady old) (tag : taken
   ws = names_of old.opened.items
 
   next_is : suc old.arena.next ≡ mid.arena.next
-  next_is = sym (ap (λ (p : TreeConstruction). p.next) made.planted)
+  next_is = sym (ap (λ (p : TreeConstruction). p.next) made.constructed)
 
   back : attributes_of (read_attributes old.attributes) ≡ old.attributes
   back = attributes_back old.attributes steady.texts
@@ -61,7 +61,7 @@ module _ (old mid : Scanner) (node : NodeRef) (steady : Steady old) (tag : taken
   count = ap (λ (o : Vec Open Global). length o.items) made.opened
 
   grown : tree_construction_of mid ≡ with_last (tree_construction_of old) (Element old.tag.items (attributes_of (read_attributes old.attributes)))
-  grown = made.planted ∙ ap (λ ts. with_last (tree_construction_of old) (Element old.tag.items ts)) (sym back)
+  grown = made.constructed ∙ ap (λ ts. with_last (tree_construction_of old) (Element old.tag.items ts)) (sym back)
 
   pub void_goes : is_void old.tag.items ≡ true → Goes (Some (machine.started (machine_of old) old.tag.items (read_attributes old.attributes))) old (record mid { lexical = Data; room = mid.room + 1 })
   void_goes void = rw void (

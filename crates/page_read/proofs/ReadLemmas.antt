@@ -2,15 +2,15 @@
 use Rattle.std.proofs.Common.{◌≡◌, ℕ, suc, ◌+◌, ◌<◌, ◌≤◌, Bool, true, false, if◌then◌else◌, List, [], ◌∷◌, ◌++◌, length, take, drop, append-nil, drop-cons, length-take-le, get_or, Option, Some, None, refl, sym, ap, subst, ◌∙◌, arith}
 use Rattle.std.proofs.lemmas.List.{take_more, take_all, take-append-drop}
 use Rattle.dom_model.specs.ArenaState.{ArenaState}
-use Rattle.page_grammar.specs.Machine.{Machine, Lexical, Data, InText, Event, step, quiet, told, after_telling}
+use Rattle.page_grammar.specs.Machine.{Machine, Lexical, Data, InText, Event, step, quiet, emitted, after_emitting}
 use Rattle.page_grammar.specs.Kind.{Kind, page_limit, kind_of_byte, kind_decoded, begins_node, Unclosed}
 use Rattle.page_grammar.specs.Decoder.{Pending, Decoded, Bad, Part, Whole, decode}
 use Rattle.page_grammar.specs.Reader as readers
 use Rattle.page_grammar.specs.Reading.{page_reading, Children, Refused}
-use Rattle.page_grammar.specs.TreeConstruction.{TreeConstruction, plant, plant_all, seed, grown}
+use Rattle.page_grammar.specs.TreeConstruction.{TreeConstruction, construct, construct_all, initial_tree, whole_tree}
 use Rattle.page_grammar.specs.Page.{Siblings}
 use Rattle.page_grammar.proofs.Outputs.{step_tells, told_tells}
-use Rattle.page_grammar.proofs.TreeConstructionLemmas.{planted}
+use Rattle.page_grammar.proofs.TreeConstructionLemmas.{constructed}
 use Rattle.page_grammar.proofs.WiderReading.{read_one_more}
 use Rattle.page_grammar.proofs.ReaderAnswers.{stopped, unclosed, ended}
 use Rattle.page_read.specs.declared.scanner.Scanner.{Scanner}
@@ -25,11 +25,11 @@ pub went_goes : (b : Bool) (o : Option Machine) (old new : Scanner) → b ≡ tr
 went_goes true o old new e w = w
 went_goes false o old new e w = cc
 
-pub whole_read : (o : Option Machine) (old new : Scanner) → Goes o old new → (quieted (readers.read_whole o) ≡ Some (readers.between (machine_of new))) × (tree_construction_of new ≡ plant_all (told_in (readers.read_whole o)) (tree_construction_of old))
+pub whole_read : (o : Option Machine) (old new : Scanner) → Goes o old new → (quieted (readers.read_whole o) ≡ Some (readers.between (machine_of new))) × (tree_construction_of new ≡ construct_all (told_in (readers.read_whole o)) (tree_construction_of old))
 whole_read None old new h = let e = h.0 in cc
 whole_read (Some m) old new h = ((let e = h.0 in cc), h.1)
 
--- the reader as if it had told nothing
+-- the reader as if it had emitted nothing
 abbrev quiet_reader : readers.Reader → readers.Reader
 quiet_reader r = record r { machine = quiet r.machine }
 
@@ -58,7 +58,7 @@ part_tells : (t : Bool) (m : Machine) (p : Pending) → (if t then Some (record 
 part_tells true m p = ap (λ (o : List Event). Some (record { machine = record m { out = o }; part = Some p })) (sym (append-nil m.out))
 part_tells false m p = refl
 
-whole_tells : (o : List Event) (m : Option Machine) → readers.read_whole (after_telling o m) ≡ telling o (readers.read_whole m)
+whole_tells : (o : List Event) (m : Option Machine) → readers.read_whole (after_emitting o m) ≡ telling o (readers.read_whole m)
 whole_tells o None = refl
 whole_tells o (Some m) = refl
 
@@ -70,31 +70,31 @@ decoded_tells c m (Whole x) = ap readers.read_whole (step_tells c m x) ∙ whole
 byte_tells : (c : ℕ) (r : readers.Reader) (b : ℕ) → readers.read_byte c r b ≡ telling r.machine.out (readers.read_byte c (quiet_reader r) b)
 byte_tells c r b = decoded_tells c r.machine (decode r.part b)
 
-plant_append : (xs ys : List Event) (p : TreeConstruction) → plant_all (xs ++ ys) p ≡ plant_all ys (plant_all xs p)
-plant_append [] ys p = refl
-plant_append (e ∷ xs) ys p = plant_append xs ys (plant e p)
+construct_append : (xs ys : List Event) (p : TreeConstruction) → construct_all (xs ++ ys) p ≡ construct_all ys (construct_all xs p)
+construct_append [] ys p = refl
+construct_append (e ∷ xs) ys p = construct_append xs ys (construct e p)
 
--- the grammar's reader has read these bytes, and is as viewed but for what it has told, which is planted
+-- the grammar's reader has read these bytes, and is as viewed but for what it has emitted, which is constructed
 pub record HasRead (c : ℕ) (p : List ℕ) (view : readers.Reader) (construction : TreeConstruction) : Type 0 where
   pub real : readers.Reader
   pub reads : readers.read_bytes c (readers.begin 200) p ≡ Some real
   pub is : view ≡ quiet_reader real
-  pub planted : construction ≡ plant_all real.machine.out seed
+  pub constructed : construction ≡ construct_all real.machine.out initial_tree
 
-pub has_begun : (c : ℕ) → HasRead c [] (readers.begin 200) seed
-has_begun c = record { real = readers.begin 200; reads = refl; is = refl; planted = refl }
+pub has_begun : (c : ℕ) → HasRead c [] (readers.begin 200) initial_tree
+has_begun c = record { real = readers.begin 200; reads = refl; is = refl; constructed = refl }
 
-pub has_read_more : (c : ℕ) (p : List ℕ) (b : ℕ) (v v2 : readers.Reader) (g g2 : TreeConstruction) → HasRead c p v g → quieted (readers.read_byte c v b) ≡ Some v2 → g2 ≡ plant_all (told_in (readers.read_byte c v b)) g → HasRead c (p ++ b ∷ []) v2 g2
+pub has_read_more : (c : ℕ) (p : List ℕ) (b : ℕ) (v v2 : readers.Reader) (g g2 : TreeConstruction) → HasRead c p v g → quieted (readers.read_byte c v b) ≡ Some v2 → g2 ≡ construct_all (told_in (readers.read_byte c v b)) g → HasRead c (p ++ b ∷ []) v2 g2
 has_read_more c p b v v2 g g2 h e t =
     by_byte (readers.read_byte c v b) (subst (λ (k : readers.Reader). readers.read_byte c h.real b ≡ telling h.real.machine.out (readers.read_byte c k b)) (sym h.is) (byte_tells c h.real b)) e t
   where
-    by_byte : (o : Option readers.Reader) → readers.read_byte c h.real b ≡ telling h.real.machine.out o → quieted o ≡ Some v2 → g2 ≡ plant_all (told_in o) g → HasRead c (p ++ b ∷ []) v2 g2
+    by_byte : (o : Option readers.Reader) → readers.read_byte c h.real b ≡ telling h.real.machine.out o → quieted o ≡ Some v2 → g2 ≡ construct_all (told_in o) g → HasRead c (p ++ b ∷ []) v2 g2
     by_byte None is e t = cc
     by_byte (Some r) is e t = record {
       real = record r { machine = record r.machine { out = h.real.machine.out ++ r.machine.out } };
       reads = read_one_more c 200 p b h.real h.reads ∙ is;
       is = (let e' = e in cc);
-      planted = t ∙ ap (plant_all r.machine.out) h.planted ∙ sym (plant_append h.real.machine.out r.machine.out seed);
+      constructed = t ∙ ap (construct_all r.machine.out) h.constructed ∙ sym (construct_append h.real.machine.out r.machine.out initial_tree);
     }
 
 length_taken : (i : ℕ) (s : List ℕ) → i < length s → length (take i s) ≡ i
@@ -116,10 +116,10 @@ pub ends_page : (c : ℕ) (s : List ℕ) (v : readers.Reader) (g : TreeConstruct
 ends_page c s v g a short h fin =
     let r = h.real in
     let viewed : Finishes (Some a) c (quiet_reader r) g = subst (λ (k : readers.Reader). Finishes (Some a) c k g) h.is fin in
-    let planted_so : Finishes (Some a) c (quiet_reader r) (plant_all r.machine.out seed) = subst (λ (k : TreeConstruction). Finishes (Some a) c (quiet_reader r) k) h.planted viewed in
+    let planted_so : Finishes (Some a) c (quiet_reader r) (construct_all r.machine.out initial_tree) = subst (λ (k : TreeConstruction). Finishes (Some a) c (quiet_reader r) k) h.constructed viewed in
     let e = ended 200 c s r short h.reads planted_so.0 planted_so.1.0 in
-    let full : plant_all (told (quiet r.machine)) (plant_all r.machine.out seed) ≡ grown e.0 =
-    sym (plant_append r.machine.out (told (quiet r.machine)) seed) ∙ ap (λ es. plant_all es seed) (sym (told_tells r.machine) ∙ e.3) ∙ planted 200 c s e.0 e.2 in (
+    let full : construct_all (emitted (quiet r.machine)) (construct_all r.machine.out initial_tree) ≡ whole_tree e.0 =
+    sym (construct_append r.machine.out (emitted (quiet r.machine)) initial_tree) ∙ ap (λ es. construct_all es initial_tree) (sym (told_tells r.machine) ∙ e.3) ∙ constructed 200 c s e.0 e.2 in (
       e.0,
       e.1,
       record {
@@ -143,8 +143,8 @@ pub takes_more : (c i : ℕ) (s : List ℕ) (old new : Reader) (x : Option PageK
 takes_more c i s old new (Some x) e cap inside t h = cc
 takes_more c i s old new None e cap inside t h =
     let b : ℕ = get_or s i 0 in
-    let went : (quieted (readers.read_byte c (reader_of old) b) ≡ Some (reader_of new)) × (construction_of new ≡ plant_all (told_in (readers.read_byte c (reader_of old) b)) (construction_of old)) =
-    subst (λ (k : ℕ). (quieted (readers.read_byte k (reader_of old) b) ≡ Some (reader_of new)) × (construction_of new ≡ plant_all (told_in (readers.read_byte k (reader_of old) b)) (construction_of old))) cap t in
+    let went : (quieted (readers.read_byte c (reader_of old) b) ≡ Some (reader_of new)) × (construction_of new ≡ construct_all (told_in (readers.read_byte c (reader_of old) b)) (construction_of old)) =
+    subst (λ (k : ℕ). (quieted (readers.read_byte k (reader_of old) b) ≡ Some (reader_of new)) × (construction_of new ≡ construct_all (told_in (readers.read_byte k (reader_of old) b)) (construction_of old))) cap t in
     subst (λ (p : List ℕ). HasRead c p (reader_of new) (construction_of new)) (sym (take_more s i 0 inside)) (has_read_more c (take i s) b (reader_of old) (reader_of new) (construction_of old) (construction_of new) h went.0 went.1)
 
 pub takes_no_more : (c i : ℕ) (s : List ℕ) (old new : Reader) (x : Option PageKind) (kind : PageKind) → x ≡ Some kind → old.scanner.arena.cap ≡ c → i < length s → length s ≤ page_limit → Takes x (get_or s i 0) old new → HasRead c (take i s) (reader_of old) (construction_of old) → IsFaultAnswer c s (record { at = i; kind = kind }) (kind_of kind)

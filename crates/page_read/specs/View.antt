@@ -1,4 +1,4 @@
--- The scanner of the code, seen as the machine without what it has told, and as a tree that grows.
+-- The scanner of the code, seen as the machine without what it has emitted, and as a tree that grows.
 use Rattle.std.specs.Prelude.{◌≡◌, ℕ, ◌+◌, ◌<◌, Bool, true, false, List, [], ◌∷◌, length, drop, map, reverse, Option, Some, None}
 use Rattle.std.specs.Str.{chars}
 use Rattle.std.proofs.Math.Utf8.{encodes}
@@ -16,7 +16,7 @@ use Rattle.page_read.specs.declared.scanner.Lexical.{Lexical}
 use Rattle.page_read.specs.declared.scanner.Lexical.TheVariants.{Data, InText, TextReference, TagOpen, MarkupDeclaration, CommentStart, InComment, TagName, BeforeAttributeName, AttributeName, AfterAttributeName, BeforeAttributeValue, InAttributeValue, ValueReference, AfterAttributeValue, SelfClosing, EndTagName, AfterEndTagName}
 use Rattle.page_read.specs.References.{reference_of}
 use Rattle.page_read.specs.Construction.{IsOpen}
-use Rattle.page_grammar.specs.TreeConstruction.{TreeConstruction, tail, plant_all, with_last}
+use Rattle.page_grammar.specs.TreeConstruction.{TreeConstruction, tail, construct_all, with_last}
 
 -- an attribute's name as characters
 abbrev pub read_attribute : Attribute → page.Attribute
@@ -87,20 +87,20 @@ machine_of s = record {
 abbrev pub tree_construction_of : Scanner → TreeConstruction
 tree_construction_of s = record { trees = s.arena.trees; opened = labels_of s.opened.items; next = s.arena.next }
 
--- the machine as if it had told nothing, and what it has told
+-- the machine as if it had emitted nothing, and what it has emitted
 abbrev pub silenced : Option machine.Machine → Option machine.Machine
 silenced None = None
 silenced (Some m) = Some (machine.quiet m)
 
-abbrev pub told_by : Option machine.Machine → List machine.Event
-told_by None = []
-told_by (Some m) = m.out
+abbrev pub emitted_by : Option machine.Machine → List machine.Event
+emitted_by None = []
+emitted_by (Some m) = m.out
 
--- the scanner is where the machine is, and has planted what it told
+-- the scanner is where the machine is, and has constructed what it emitted
 abbrev pub Goes : Option machine.Machine → (old new : Scanner) → Type 0
 Goes o old new =
     (silenced o ≡ Some (machine_of new))
-    × (tree_construction_of new ≡ plant_all (told_by o) (tree_construction_of old))
+    × (tree_construction_of new ≡ construct_all (emitted_by o) (tree_construction_of old))
 
 -- whether the machine went on; where it didn't, the scanner is as before
 abbrev pub Went : Bool → Option machine.Machine → (old new : Scanner) → Type 0
@@ -116,7 +116,7 @@ pub record MakesElement (old new : Scanner) (node : NodeRef) : Type 0 where
   pub label : node.label ≡ old.arena.next
   pub here : IsOpen new.arena node
   pub opens : (r : NodeRef) → IsOpen old.arena r → IsOpen new.arena r
-  pub planted : tree_construction_of new ≡ with_last (tree_construction_of old) (Element old.tag.items old.attributes)
+  pub constructed : tree_construction_of new ≡ with_last (tree_construction_of old) (Element old.tag.items old.attributes)
   pub cap : new.arena.cap ≡ old.arena.cap
   pub tag : new.tag ≡ old.tag
   pub opened : new.opened ≡ old.opened
@@ -136,8 +136,8 @@ pub record AddsAttribute (old new : Scanner) : Type 0 where
 abbrev pub Ends : Option ArenaState → (c : ℕ) → machine.Machine → TreeConstruction → Type 0
 Ends (Some a) c m p =
     machine.IsEnd m
-    × (a.trees ≡ (plant_all (machine.told m) p).trees)
-    × (a.next ≡ (plant_all (machine.told m) p).next)
+    × (a.trees ≡ (construct_all (machine.emitted m) p).trees)
+    × (a.next ≡ (construct_all (machine.emitted m) p).next)
     × (a.cap ≡ c)
 Ends None c m p = machine.IsEnd m → ⊥
 

@@ -2,7 +2,7 @@
 
 ghost use Rattle.std.specs.Prelude.{◌≡◌, ◌<◌, IfOk, OnOk};
 ghost use Rattle.page_grammar.specs.Reader as readers;
-ghost use Rattle.page_grammar.specs.TreeConstruction.{seed};
+ghost use Rattle.page_grammar.specs.TreeConstruction.{initial_tree};
 ghost use Rattle.page_grammar.specs.Decoder.{decode, Part, Whole};
 ghost use Rattle.page_read.specs.Decoding.{IsSoundPending, pending_of};
 ghost use Rattle.page_read.specs.Reading.{reader_of, construction_of, Takes, IsHeld, Finishes};
@@ -25,7 +25,7 @@ impl Reader {
     pub(crate) fn new(alloc: Global, cap: u32) -> Result<Reader, AllocError>
         requires { 0 < cap }
         ensures view { IfOk result (λ reader. reader_of reader ≡ readers.begin 200) }
-        ensures seed { IfOk result (λ reader. construction_of reader ≡ seed) }
+        ensures initial_tree { IfOk result (λ reader. construction_of reader ≡ initial_tree) }
         ensures held { IfOk result (λ reader. IsHeld reader cap) }
     {
         Ok(Reader {

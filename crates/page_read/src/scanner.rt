@@ -11,7 +11,7 @@ ghost use Rattle.page_read.specs.declared.scanner.Lexical.TheVariants.{Data, InT
 ghost use Rattle.page_read.specs.View.{machine_of, tree_construction_of, Steps, Goes, names_of, labels_of, dashes_of, first_or_empty, Ends, LeavesAt};
 ghost use Rattle.page_read.specs.Steady.{Steady, EachOpen, is_closing};
 ghost use Rattle.page_read.specs.Construction.{IsOpen};
-ghost use Rattle.page_grammar.specs.TreeConstruction.{plant, innermost, seed};
+ghost use Rattle.page_grammar.specs.TreeConstruction.{construct, innermost, initial_tree};
 
 use crate::construction::{append_remark, append_words};
 use crate::faults::PageKind;
@@ -111,7 +111,7 @@ impl Scanner {
     pub(crate) fn new(alloc: Global, cap: u32) -> Result<Scanner, AllocError>
         requires { 0 < cap }
         ensures view { IfOk result (λ scanner. machine_of scanner ≡ machine.start 200) }
-        ensures seed { IfOk result (λ scanner. tree_construction_of scanner ≡ seed) }
+        ensures initial_tree { IfOk result (λ scanner. tree_construction_of scanner ≡ initial_tree) }
         ensures cap { IfOk result (λ scanner. scanner.arena.cap ≡ cap) }
         ensures steady { IfOk result (λ scanner. Steady scanner) }
     {
@@ -200,8 +200,8 @@ impl Scanner {
         requires steady { Steady self.old }
         ensures leaf { OnOk result (machine_of self.new
             ≡ machine.quiet (machine.after_leaf (machine_of self.old) (machine.TextEvent self.old.text.items))) }
-        ensures planted { OnOk result (tree_construction_of self.new
-            ≡ plant (machine.TextEvent self.old.text.items) (tree_construction_of self.old)) }
+        ensures constructed { OnOk result (tree_construction_of self.new
+            ≡ construct (machine.TextEvent self.old.text.items) (tree_construction_of self.old)) }
         ensures cap { OnOk result (self.new.arena.cap ≡ self.old.arena.cap) }
         ensures steady { OnOk result (Steady self.new) }
     {
@@ -336,8 +336,8 @@ impl Scanner {
         requires steady { Steady self.old }
         ensures leaf { OnOk result (machine_of self.new
             ≡ machine.quiet (machine.after_leaf (machine_of self.old) (machine.CommentEvent self.old.text.items))) }
-        ensures planted { OnOk result (tree_construction_of self.new
-            ≡ plant (machine.CommentEvent self.old.text.items) (tree_construction_of self.old)) }
+        ensures constructed { OnOk result (tree_construction_of self.new
+            ≡ construct (machine.CommentEvent self.old.text.items) (tree_construction_of self.old)) }
         ensures cap { OnOk result (self.new.arena.cap ≡ self.old.arena.cap) }
         ensures steady { OnOk result (Steady self.new) }
     {

@@ -9,7 +9,7 @@ pub loop-at-init : goal.loop-at-init
 loop-at-init c =
     let reader = c.in_ok-reader.reader in
     record {
-      read = subst (λ (v : readers.Reader). HasRead c.args.cap [] v (construction_of reader)) (sym c.in_ok-reader.ensures.view) (subst (λ (g : TreeConstruction). HasRead c.args.cap [] (readers.begin 200) g) (sym c.in_ok-reader.ensures.seed) (has_begun c.args.cap));
+      read = subst (λ (v : readers.Reader). HasRead c.args.cap [] v (construction_of reader)) (sym c.in_ok-reader.ensures.view) (subst (λ (g : TreeConstruction). HasRead c.args.cap [] (readers.begin 200) g) (sym c.in_ok-reader.ensures.initial_tree) (has_begun c.args.cap));
       held = c.in_ok-reader.ensures.held;
     }
 
