@@ -10,7 +10,7 @@ use Rattle.live_range.specs.declared.places.Point.{Point}
 use Rattle.node_styles.specs.Lineage.{nearest_label}
 use Rattle.node_styles.specs.OwnStyles.{is_named}
 use Rattle.node_tests.specs.BlockPoints.{is_block_start, is_block_end, is_block_boundary}
-use Rattle.node_tests.specs.LineBreaks.{turns}
+use Rattle.node_styles.specs.TurnBound.{turn_bound}
 use Rattle.block_extend.specs.declared.places.Way.{Way}
 use Rattle.block_extend.specs.declared.places.Way.TheVariants.{Back, OutBefore, Forth, OutAfter}
 
@@ -71,19 +71,19 @@ out_of_item f places at = unwrap_or (option_and_then (λ l. out_of f l places)
 
 -- block-extend, step 2: back to a block boundary point, but from a block start point
 unfoldable pub to_block_start : Forest Content → Point → Point
-to_block_start f at = if is_block_start f at.label at.offset then at else walk Back f (turns f) at
+to_block_start f at = if is_block_start f at.label at.offset then at else walk Back f (turn_bound f) at
 
 -- block-extend, step 3: out of each node whose start it is
 unfoldable pub to_outer_start : Forest Content → Point → Point
-to_outer_start f at = walk OutBefore f (turns f) at
+to_outer_start f at = walk OutBefore f (turn_bound f) at
 
 -- block-extend, step 5: on to a block boundary point, but from a block end point
 unfoldable pub to_block_end : Forest Content → Point → Point
-to_block_end f at = if is_block_end f at.label at.offset then at else walk Forth f (turns f) at
+to_block_end f at = if is_block_end f at.label at.offset then at else walk Forth f (turn_bound f) at
 
 -- block-extend, step 6: out of each node whose end it is
 unfoldable pub to_outer_end : Forest Content → Point → Point
-to_outer_end f at = walk OutAfter f (turns f) at
+to_outer_end f at = walk OutAfter f (turn_bound f) at
 
 -- block-extend, steps 1 to 3
 unfoldable pub extended_start : Forest Content → Point → Point

@@ -5,7 +5,7 @@ ghost use Rattle.dom_model.specs.Forest.{count_of};
 ghost use Rattle.node_arena.specs.Reads.{Names};
 ghost use Rattle.node_styles.specs.Lineage.{nearest_label};
 ghost use Rattle.node_styles.specs.OwnStyles.{is_named};
-ghost use Rattle.node_tests.specs.LineBreaks.{turns};
+ghost use Rattle.node_styles.specs.TurnBound.{turn_bound};
 ghost use Rattle.block_extend.specs.BlockExtend as extend;
 ghost use Rattle.block_extend.specs.Gaps as gaps;
 ghost use Rattle.block_extend.specs.Gaps.{Stands};
@@ -15,7 +15,7 @@ use crate::places::{
 };
 use live_range::Point;
 use node_arena::{Content, NodeRef, Nodes};
-use node_styles::{Test, is_element_named, nearest};
+use node_styles::{Test, is_element_named, nearest, turn_bound};
 use point_order::node_of;
 
 // An li.
@@ -33,21 +33,15 @@ impl Test for ItemTest {
     }
 }
 
-// How many turns a loop takes at most. Only the characters of Words count, so a walk inside a comment may come to it.
-fn turns<N: Nodes>(nodes: &N) -> u128
-    ensures { result ≡ turns (N.trees nodes.now) }
-{
-    2 * nodes.node_count() as u128 + nodes.char_count() as u128 + 2
-}
-
-// Step after step, until a place where the steps stop.
+// Step after step, until a place where the steps stop. Only the characters of Words count in the bound, so a walk
+// inside a comment may come to it.
 fn walk<N: Nodes>(nodes: &N, way: Way, start: Place) -> Place
     requires { Stands (N.holds nodes.now) (N.trees nodes.now) start }
     ensures stands { Stands (N.holds nodes.now) (N.trees nodes.now) result }
-    ensures place { gaps.point_of result ≡ extend.walk way (N.trees nodes.now) (turns (N.trees nodes.now))
+    ensures place { gaps.point_of result ≡ extend.walk way (N.trees nodes.now) (turn_bound (N.trees nodes.now))
         (gaps.point_of start) }
 {
-    let mut left = turns(nodes);
+    let mut left = turn_bound(nodes);
     let mut at = start;
     'walk: while left > 0 {
         match step(nodes, way, at) {

@@ -23,7 +23,7 @@ use node_arena::{Content, Kind, NodeRef, Nodes};
 use node_styles::{
     Family, Test, attribute, background_color, color, font_family, font_size, font_style,
     font_weight, has_in_lineage, is_block_content, is_element, is_element_named, nearest,
-    own_text_decoration,
+    own_text_decoration, turn_bound,
 };
 use std::alloc::{AllocError, Global};
 
@@ -111,7 +111,7 @@ fn turns<N: Nodes>(nodes: &N, node: NodeRef) -> u128
     if nodes.is_within(nodes.document(), node) {
         nodes.next_label() as u128
     } else {
-        2 * nodes.node_count() as u128 + nodes.char_count() as u128 + 2
+        turn_bound(nodes)
     }
 }
 

@@ -9,7 +9,7 @@ use Rattle.dom_model.specs.Forest.{Forest}
 use Rattle.live_range.specs.declared.places.Point.{Point}
 use Rattle.node_styles.specs.Blocks.{is_block}
 use Rattle.node_tests.specs.BlockPoints.{child_before, child_at}
-use Rattle.node_tests.specs.LineBreaks.{turns}
+use Rattle.node_styles.specs.TurnBound.{turn_bound}
 use Rattle.delete_core.specs.Places.{start_in, end_in, before_node, after_node, walk_points}
 
 -- next, step 3, and previous, step 3: an inline node whose length isn't 0
@@ -45,7 +45,7 @@ previous_point f p =
 
 -- the last equivalent point, and the first one
 unfoldable pub last_equivalent : Forest Content → Point → Point
-last_equivalent f p = walk_points (next_point f) (turns f) p
+last_equivalent f p = walk_points (next_point f) (turn_bound f) p
 
 unfoldable pub first_equivalent : Forest Content → Point → Point
-first_equivalent f p = walk_points (previous_point f) (turns f) p
+first_equivalent f p = walk_points (previous_point f) (turn_bound f) p

@@ -4,6 +4,6 @@ use Rattle.dom_model.specs.declared.Content.{Content}
 use Rattle.dom_model.specs.Document.{node_count, char_count}
 use Rattle.dom_model.specs.Forest.{Forest}
 
--- as many as the document has places, and some
+-- two for each node of the document, one for each character, and two
 abbrev pub turn_bound : Forest Content → ℕ
 turn_bound f = 2 * node_count f + char_count f + 2

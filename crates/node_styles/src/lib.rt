@@ -18,7 +18,9 @@ pub use blocks::{
     has_no_box, is_block, is_block_content, is_hidden, is_whitespace, nearest_block, own_or_inline,
 };
 pub use hints::{family_hint, font_attribute, pixels_of, read_legacy_size};
-pub use lineage::{Test, has_in_lineage, is_editable, is_element, is_host, is_named, nearest};
+pub use lineage::{
+    Test, has_in_lineage, is_editable, is_element, is_host, is_named, nearest, turn_bound,
+};
 pub use names::{
     is_format_candidate, is_formattable_block, is_indentation, is_non_list_single_line,
     is_simple_indentation, is_single_line,

@@ -10,12 +10,21 @@ ghost use Rattle.html_names.specs.ElementNames as names;
 ghost use Rattle.node_styles.specs.Allowed.{has_name};
 ghost use Rattle.node_styles.specs.OwnStyles as own;
 ghost use Rattle.node_styles.specs.Traits.{has_trait, IsNearest};
+ghost use Rattle.node_styles.specs.TurnBound as bound;
 
 use crate::blocks::{has_no_box, is_block_content};
 use crate::own::{has_own, is_element_named};
 use html_names::{has_inline_contents, is_heading};
 use node_arena::{Content, Kind, NodeRef, Nodes};
 use style_table::Property;
+
+/// How many turns a loop of an algorithm or a test takes at most: two for each node of the document, one for each
+/// character, and two.
+pub fn turn_bound<N: Nodes>(nodes: &N) -> u128
+    ensures { result ≡ bound.turn_bound (N.trees nodes.now) }
+{
+    2 * nodes.node_count() as u128 + nodes.char_count() as u128 + 2
+}
 
 /// A test of the content of nodes.
 pub trait Test {

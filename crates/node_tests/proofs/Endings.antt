@@ -12,7 +12,8 @@ use Rattle.dom_model.proofs.Walks.{document_first, total_after_document, total_f
 use Rattle.dom_model.proofs.Within.{within_child, within_step, depth_of-root}
 use Rattle.node_arena.specs.declared.NodeRef.{NodeRef}
 use Rattle.node_tests.specs.BlockPoints.{is_block_boundary}
-use Rattle.node_tests.specs.LineBreaks.{Place, Turn, edge, end_of, past, own_place, out_to, out_of, child_beside, go_past, turn_to, turns, walk, meets_break}
+use Rattle.node_styles.specs.TurnBound.{turn_bound}
+use Rattle.node_tests.specs.LineBreaks.{Place, Turn, edge, end_of, past, own_place, out_to, out_of, child_beside, go_past, turn_to, walk, meets_break}
 use Rattle.node_tests.specs.LineBreaks.Turn.{Answer, GoOn}
 use Rattle.node_tests.specs.declared.sides.Side.{Side}
 use Rattle.node_tests.specs.declared.sides.Side.TheVariants.{Before, After}
@@ -148,27 +149,27 @@ module _ {holds : NodeRef → Type 0} {f : Forest Content} {upper : ℕ} (law : 
   -- ---- the walks of a node of the document
 
   module _ (l : ℕ) (here : 0 < count_of f l) (inside : IsWithin f 0 l) where
-    sizes : (2 * nodes f < turns f + past_end f 0) × (nodes f ≤ upper)
+    sizes : (2 * nodes f < turn_bound f + past_end f 0) × (nodes f ≤ upper)
     sizes =
         let d = doc_tree in
         let whole = total_from_whole f d.0 d.1 d.2 d.3 (λ _ _. 1) in
         let after = total_after_document f d.0 d.1 d.2 d.3 (λ _ _. 1) in
         (omega (arith, whole, after), law.few)
 
-    low : (side : Side) → (left_past side f l - outside side < 2 * upper + 2) × (left_past side f l - outside side < turns f)
+    low : (side : Side) → (left_past side f l - outside side < 2 * upper + 2) × (left_past side f l - outside side < turn_bound f)
     low side =
         let own = own_end f law.distinct l here in
         let few = start_low f law.distinct l in
         let high = end_high l inside in
         by_side side own few high
       where
-        by_side : (side : Side) → past_end f l + 1 < from_start f l → from_start f l ≤ 2 * nodes f → past_end f 0 ≤ past_end f l → (left_past side f l - outside side < 2 * upper + 2) × (left_past side f l - outside side < turns f)
+        by_side : (side : Side) → past_end f l + 1 < from_start f l → from_start f l ≤ 2 * nodes f → past_end f 0 ≤ past_end f l → (left_past side f l - outside side < 2 * upper + 2) × (left_past side f l - outside side < turn_bound f)
         by_side Before own few high = (omega (arith, sizes.1), omega (arith, own, high, sizes.0))
         by_side After own few high = (omega (arith, own, few, sizes.1), omega (arith, own, few, sizes.0))
 
     pub free : (side : Side) (n : ℕ) → n ≡ 2 * upper + 2 → walk (turn_to side f) n (end_of side f l) ≡ meets_break side f l
     unfolding meets_break
     free side n is =
-        walk_same (turn_to side f) (λ at. IsWithin f 0 at.node) (rank side) (lower side) n (turns f) (end_of side f l) inside
+        walk_same (turn_to side f) (λ at. IsWithin f 0 at.node) (rank side) (lower side) n (turn_bound f) (end_of side f l) inside
         (rw (outmost side l here, is) (low side).0)
         (rw (outmost side l here) (low side).1)

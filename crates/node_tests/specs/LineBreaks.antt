@@ -1,12 +1,12 @@
 -- Whether a node follows or precedes a line break (HTML Editing APIs, "follows a line break", "precedes a line
 -- break"): the standard's walks from place to place. A walk takes at most so many turns as the document has places,
 -- and some.
-use Rattle.std.specs.Prelude.{ℕ, zero, suc, ◌+◌, ◌*◌, Bool, true, false, Option, Some, None, if◌then◌else◌}
+use Rattle.std.specs.Prelude.{ℕ, zero, suc, ◌+◌, Bool, true, false, Option, Some, None, if◌then◌else◌}
 use Rattle.dom_model.specs.declared.Content.{Content}
 use Rattle.dom_model.specs.Contents.{length_of}
-use Rattle.dom_model.specs.Document.{node_count, char_count}
 use Rattle.dom_model.specs.Forest.{Forest, parent_of}
 use Rattle.dom_model.specs.Places.{index_of}
+use Rattle.node_styles.specs.TurnBound.{turn_bound}
 use Rattle.node_tests.specs.declared.sides.Side.{Side}
 use Rattle.node_tests.specs.declared.sides.Side.TheVariants.{Before, After}
 use Rattle.node_tests.specs.Sides.{other}
@@ -17,9 +17,6 @@ use Rattle.node_tests.specs.BlockPoints.{child_before, child_at, is_block_bounda
 pub record Place : Type 0 where
   pub node : ℕ
   pub offset : ℕ
-
-abbrev pub turns : Forest Content → ℕ
-turns f = 2 * node_count f + char_count f + 2
 
 -- one turn: the answer, or where to go on
 pub data Turn : Type 0 where
@@ -71,7 +68,7 @@ walk turn (suc n) at = elim (turn at) [ Answer b ↦ b | GoOn next ↦ walk turn
 
 -- from the end of l on this side
 unfoldable pub meets_break : Side → Forest Content → ℕ → Bool
-meets_break side f l = walk (turn_to side f) (turns f) (end_of side f l)
+meets_break side f l = walk (turn_to side f) (turn_bound f) (end_of side f l)
 
 unfoldable pub follows_break : Forest Content → ℕ → Bool
 follows_break f l = meets_break Before f l

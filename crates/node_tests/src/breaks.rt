@@ -13,6 +13,7 @@ use crate::neighbours::is_nothing;
 use crate::sides::{Side, other};
 use crate::visible::is_visible;
 use node_arena::{NodeRef, Nodes};
+use node_styles::turn_bound;
 
 // A place in a node, by the children beside it.
 #[derive(Clone, Copy)]
@@ -130,7 +131,7 @@ fn turns<N: Nodes>(nodes: &N, node: NodeRef) -> u128
     if nodes.is_within(nodes.document(), node) {
         2 * nodes.next_label() as u128 + 2
     } else {
-        2 * nodes.node_count() as u128 + nodes.char_count() as u128 + 2
+        turn_bound(nodes)
     }
 }
 

@@ -3,14 +3,14 @@ use Rattle.std.specs.Prelude.{ℕ, zero, suc, Bool, not, Option, Some, None}
 use Rattle.std.specs.Option.{option_map_or}
 use Rattle.dom_model.specs.declared.Content.{Content}
 use Rattle.dom_model.specs.Forest.{Forest, parent_of, prev_of, last_in, preorder, tree_of}
-use Rattle.node_tests.specs.LineBreaks.{turns}
+use Rattle.node_styles.specs.TurnBound as bound
 use Rattle.node_tests.specs.Visible.{is_visible}
 use Rattle.edit_model.specs.State.{State}
 
 -- how many turns a loop takes at most that starts now: two for each node of the document, one for
 -- each character, and two
 abbrev pub turn_bound : State → ℕ
-turn_bound s = turns s.trees
+turn_bound s = bound.turn_bound s.trees
 
 abbrev pub followed : Option ℕ → ℕ → (ℕ → ℕ) → ℕ
 followed None l on = l

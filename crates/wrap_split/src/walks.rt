@@ -10,8 +10,7 @@ use edit_doc::{Doc, NodeRef};
 pub fn turn_bound(doc: &Doc) -> u128
     ensures { result ≡ turn_bound doc.now.state }
 {
-    let counts = doc.counts();
-    2 * counts.nodes as u128 + counts.chars as u128 + 2
+    node_styles::turn_bound(doc)
 }
 
 // The last node of a tree, in tree order.

@@ -1,5 +1,4 @@
-use Rattle.std.proofs.Common.{◌+◌, ◌*◌, ap, subst, ◌∙◌, arith}
-use Rattle.dom_model.specs.Document.{node_count}
+use Rattle.std.proofs.Common.{ap, subst, arith}
 use Rattle.dom_model.specs.Forest.{IsWithin}
 use Rattle.node_styles.specs.Lineage.{lineage}
 use Rattle.node_styles.specs.TurnBound.{turn_bound}
@@ -18,5 +17,4 @@ returns-then-is_within g c =
 pub returns-else-is_within : goal.returns-else-is_within
 returns-else-is_within g c =
     let f = g.N.Nodes.trees c.args.nodes.now in
-    ap (λ n. background_in n (lineage f c.args.node.label))
-    (ap (λ n. 2 * n + c.char_count.result + 2) c.node_count.ensures ∙ ap (λ n. 2 * node_count f + n + 2) c.char_count.ensures)
+    ap (λ n. background_in n (lineage f c.args.node.label)) c.turn_bound.ensures

@@ -1,5 +1,4 @@
-use Rattle.std.proofs.Common.{◌+◌, ◌*◌, ap, subst, ◌∙◌}
-use Rattle.dom_model.specs.Document.{node_count}
+use Rattle.std.proofs.Common.{◌+◌, ◌*◌, ap, subst}
 use Rattle.dom_model.specs.Forest.{IsWithin}
 use Rattle.node_tests.specs.LineBreaks.{end_of, turn_to, walk, meets_break}
 use Rattle.node_tests.proofs.Endings.{free}
@@ -17,5 +16,4 @@ unfolding meets_break
 returns-else-is_within g c =
     let f = (g.N.Nodes.trees c.args.nodes.now) in
     λ side.
-    ap (λ n. walk (turn_to side f) n (end_of side f c.args.node.label))
-    (ap (λ n. 2 * n + c.char_count.result + 2) c.node_count.ensures ∙ ap (λ n. 2 * node_count f + n + 2) c.char_count.ensures)
+    ap (λ n. walk (turn_to side f) n (end_of side f c.args.node.label)) c.turn_bound.ensures
