@@ -105,8 +105,8 @@ back_step s p = either (into_child_before s p) (either (out_back s p) (over_blan
 unfoldable pub start_of_blanks : State → Point → Point
 start_of_blanks s p = walk_points (back_step s) (turn_bound s) p
 
--- ---- canonicalize whitespace, steps 3 and 4: on to where they end, counting them; with `fix` on, a
--- U+0020 after another one or at the start of a line goes
+-- ---- canonicalize whitespace, steps 3 and 4: on to where they end, counting them; with `fix` on,
+-- a U+0020 after another one or at the start of a line goes
 
 -- step 3
 unfoldable pub first_scan : State → Point → Scan
