@@ -241,7 +241,7 @@ merge b c = do
   values ← merged b c
   finish_if b values
 
--- step 9, and then from 10 on
+-- delete the selection, step 9: both are inside, and they are not the same
 unfoldable pub are_mergeable : State → ℕ → ℕ → Bool
 are_mergeable s b c = is_inside s b && (is_inside s c && not (b == c))
 

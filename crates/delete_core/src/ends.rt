@@ -59,7 +59,7 @@ pub fn canonicalize_start(alloc: Global, doc: &mut Doc, fix: bool) -> Result<(),
     canonicalize(alloc, doc, start, fix)
 }
 
-/// The same at its end.
+/// The same at its end (delete the selection, steps 1 and 8).
 #[tactic(auto, using(edit_model::proofs::Steps::steps, edit_model::proofs::Steps::exits), unfolding(crate::specs::Ends::canonicalize_end))]
 pub fn canonicalize_end(alloc: Global, doc: &mut Doc, fix: bool) -> Result<(), EditFault>
     requires open { IsOpen doc.old }
