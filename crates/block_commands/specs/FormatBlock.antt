@@ -62,12 +62,15 @@ lineage_at f (Some p) = lineage f p
 unfoldable pub has_outer_block : State → ℕ → Bool
 has_outer_block s n = list_any (λ k. is_outer_block s k.label) (lineage_at s.trees (parent_of s.trees n))
 
+-- formatBlock, step 3: one node
 unfoldable pub leave_blocks : ℕ → Run (Unit {0})
 leave_blocks n = look λ s. while_at_most (turn_bound s) has_outer_block split_around n >> done
 
+-- formatBlock, step 3: each node, in order
 unfoldable pub leave_each : List ℕ → Run (Unit {0})
 leave_each list = for_each list leave_blocks
 
+-- formatBlock, step 3: the nodes keep their values
 unfoldable pub split_blocks : List ℕ → Run (Unit {0})
 split_blocks list = do
   values ← record_values list
@@ -89,6 +92,7 @@ wrap_block name list =
 unfoldable pub fixed : Option ℕ → Run (Unit {0})
 fixed made = given made done fix_ancestors
 
+-- formatBlock, steps 4 c and 4 d
 unfoldable pub made_block : List ℕ → List ℕ → Run (Unit {0})
 made_block name list = wrap_block name list >>= fixed
 
@@ -100,6 +104,7 @@ format_children name n children = do
   made_block name children
   restore_values values
 
+-- formatBlock, step 4 a, and then from 4 c on: with the children of the container n
 unfoldable pub format_container : List ℕ → ℕ → Run (Unit {0})
 format_container name n = look λ s. format_children name n (children_of s.trees n)
 
@@ -109,14 +114,16 @@ format_series name list = look λ s.
     let count = count_series (is_next_on_line s) list in
     made_block name (take count list) >> answer (drop count list)
 
--- one turn, with the first member: what is left of the list
+-- formatBlock, step 4: one turn, with the first member; it answers what is left of the list
 unfoldable pub format_first : List ℕ → List ℕ → ℕ → Run (List ℕ)
 format_first name list x = look λ s.
     if is_single_line s.trees x then (format_container name x >> answer (drop 1 list)) else format_series name list
 
+-- formatBlock, step 4: one turn
 unfoldable pub format_next : List ℕ → List ℕ → Run (List ℕ)
 format_next name list = given (first_in list) (answer []) (format_first name list)
 
+-- formatBlock, step 4: while the list is not empty
 unfoldable pub format_all : List ℕ → List ℕ → Run (Unit {0})
 format_all name list = look λ s. while_at_most (turn_bound s) has_members (format_next name) list >> done
 

@@ -49,18 +49,22 @@ is_plain f e =
     is_without_attributes f e
     && (has_name f e (codes "div") || (has_name f e (codes "span") || has_name f e (codes "center")))
 
+-- justify, step 1: a center becomes a div
 unfoldable pub name_div : ℕ → Run (Unit {0})
 name_div e = look λ s. if has_name s.trees e (codes "center") then set_tag_name e (codes "div") >> done else done
 
+-- justify, step 1: a plain element goes, and its children stay
 unfoldable pub drop_plain : ℕ → Run (Unit {0})
 drop_plain e = look λ s. if is_plain s.trees e then remove_keeping_children e else name_div e
 
+-- justify, step 1: one element
 unfoldable pub clear_alignment : ℕ → Run (Unit {0})
 clear_alignment e = do
   unset_attribute e (codes "align")
   unset_style e (codes "text-align")
   drop_plain e
 
+-- justify, step 1: each element, in order
 unfoldable pub clear_alignments : Run (Unit {0})
 clear_alignments = look λ s. for_each (contained (is_aligning s) s) clear_alignment
 
@@ -80,14 +84,17 @@ aligned_div alignment = record {
   attributes = record { name = codes "style"; value = codes "text-align: " ++ (alignment ++ codes ";") } ∷ [];
 }
 
+-- justify, step 3: a series is wrapped
 unfoldable pub wrap_aligned : List ℕ → List ℕ → Run (Option ℕ)
 wrap_aligned alignment list = wrap (Aligned alignment) (Make (aligned_div alignment)) list
 
+-- justify, step 3: one turn, which answers what is left of the list
 unfoldable pub align_series : List ℕ → List ℕ → Run (List ℕ)
 align_series alignment list = look λ s.
     let count = count_series (is_next s.trees) list in
     wrap_aligned alignment (take count list) >> answer (drop count list)
 
+-- justify, step 3: while the list is not empty
 unfoldable pub align_all : List ℕ → List ℕ → Run (Unit {0})
 align_all alignment list = look λ s. while_at_most (turn_bound s) has_members (align_series alignment) list >> done
 
@@ -95,6 +102,7 @@ align_all alignment list = look λ s. while_at_most (turn_bound s) has_members (
 unfoldable pub align_range : List ℕ → Run (Unit {0})
 align_range alignment = look λ s. align_all alignment (outermost (is_misaligned alignment s) s)
 
+-- justify, steps 1 to 3
 unfoldable pub justify : List ℕ → Run Bool
 justify alignment = do
   clear_alignments

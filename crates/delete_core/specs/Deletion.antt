@@ -44,10 +44,12 @@ delete_range m p q = look λ s.
     if comes_before s.trees p q then delete_selected m (out_of_start s.trees p) (out_of_end s.trees q)
     else (collapse_selection m.backward >> answer [])
 
+-- delete the selection, step 1: with the equivalent points of the ends
 unfoldable pub delete_between : Manner → Run (List Override)
 delete_between m = look λ s. given s.points.selection (answer []) λ pair.
     delete_range m (last_equivalent s.trees (start_of s.trees pair)) (first_equivalent s.trees (end_of s.trees pair))
 
+-- delete the selection, steps 1 to 15
 unfoldable pub delete_selection : Bool → Bool → Bool → Run (List Override)
 delete_selection merge strip backward = do
   canonicalize_start true

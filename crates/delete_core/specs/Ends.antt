@@ -20,6 +20,7 @@ use Rattle.delete_core.specs.Whitespace.{canonicalize}
 abbrev pub end_for : Bool → Forest Content → Pair → Point
 end_for backward f pair = if backward then end_of f pair else start_of f pair
 
+-- delete the selection, steps 1, 5 and 9: the selection is collapsed
 unfoldable pub collapse_selection : Bool → Run (Unit {0})
 collapse_selection backward = look λ s. given s.points.selection done λ pair. collapse (end_for backward s.trees pair)
 
@@ -27,6 +28,7 @@ collapse_selection backward = look λ s. given s.points.selection done λ pair. 
 unfoldable pub canonicalize_start : Bool → Run (Unit {0})
 canonicalize_start fix = look λ s. given s.points.selection done λ pair. canonicalize fix (start_of s.trees pair)
 
+-- delete the selection, steps 1 and 8: at the end of the active range
 unfoldable pub canonicalize_end : Bool → Run (Unit {0})
 canonicalize_end fix = look λ s. given s.points.selection done λ pair. canonicalize fix (end_of s.trees pair)
 
@@ -34,6 +36,7 @@ canonicalize_end fix = look λ s. given s.points.selection done λ pair. canonic
 unfoldable pub out_of_start : Forest Content → Point → Point
 out_of_start f p = unwrap_or (if is_words f p.label && (p.offset == 0) then before_node f p.label else None) p
 
+-- delete the selection, step 2: and from the end of a text to after it
 unfoldable pub out_of_end : Forest Content → Point → Point
 out_of_end f p =
     unwrap_or (if is_words f p.label && (p.offset == length_of f p.label) then after_node f p.label else None) p
@@ -42,6 +45,7 @@ out_of_end f p =
 unfoldable pub up_inline : State → ℕ → Option ℕ
 up_inline s l = if is_block s.trees l then None else if_inside s (parent_of s.trees l)
 
+-- delete the selection, step 3: as far up as it goes
 unfoldable pub top_inline : State → ℕ → ℕ
 top_inline s l = walk (up_inline s) (turn_bound s) l
 

@@ -22,6 +22,7 @@ use Rattle.wrap_split.specs.Walks.{turn_bound}
 use Rattle.delete_core.specs.Ends.{collapse_selection, is_cell}
 use Rattle.delete_core.specs.Whitespace.{canonicalize}
 
+-- an editable text
 unfoldable pub is_own_text : State → ℕ → Bool
 is_own_text s l = is_editable_for s l && is_words s.trees l
 
@@ -32,16 +33,18 @@ erase_within backward p q = do
   canonicalize false p
   collapse_selection backward
 
--- ---- step 6, and step 8: the texts at the ends
+-- ---- delete the selection, step 6, and step 8: the texts at the ends
 
+-- delete the selection, step 6: a text loses its characters from the start on
 unfoldable pub cut_after : Point → Run (Unit {0})
 cut_after p = look λ s.
     if is_own_text s p.label then replace p.label p.offset (length_of s.trees p.label - p.offset) [] >> done else done
 
+-- delete the selection, step 8: a text loses its characters before the end
 unfoldable pub cut_before : Point → Run (Unit {0})
 cut_before q = look λ s. if is_own_text s q.label then replace q.label 0 q.offset [] >> done else done
 
--- ---- step 7: the nodes between the ends
+-- ---- delete the selection, step 7: the nodes between the ends
 
 unfoldable pub is_table_part : Forest Content → ℕ → Bool
 is_table_part f l =
@@ -55,6 +58,7 @@ is_removable s l = is_editable_for s l && not (is_table_part s.trees l)
 abbrev pub removable_between : State → Pair → List ℕ
 removable_between s pair = gathered (is_removable s) s.trees (start_of s.trees pair) (end_of s.trees pair)
 
+-- delete the selection, step 7: those of the active range
 unfoldable pub removable_nodes : State → List ℕ
 removable_nodes s = option_map_or (removable_between s) s.points.selection []
 
@@ -69,10 +73,11 @@ shows_child f l = list_any (is_visible f) (children_of f l)
 unfoldable pub is_hollow : Forest Content → ℕ → Bool
 is_hollow f l = option_map_or (λ b. not (shows_child f b)) (own_block f l) false
 
+-- delete the selection, step 7: a new br in p, where the nearest block shows nothing
 unfoldable pub fill_hollow : ℕ → Run (Unit {0})
 fill_hollow p = look λ s. if is_inside s p && is_hollow s.trees p then append_break p else done
 
--- a node goes, and its former parent is what is looked at next
+-- delete the selection, steps 7 and 13: a node goes, and its former parent is looked at next
 abbrev pub removed_up : Option ℕ → Run (Option ℕ)
 removed_up None = answer None
 removed_up (Some p) = look λ s. remove p >> answer (parent_of s.trees p)
@@ -81,20 +86,22 @@ abbrev pub is_strippable : State → Option ℕ → Bool
 is_strippable s None = false
 is_strippable s (Some p) = is_editable_for s p && (not (is_block s.trees p) && (length_of s.trees p == 0))
 
--- inline nodes that are left empty go, from p up
+-- delete the selection, step 7: inline nodes that are left empty go, from p up
 unfoldable pub strip_empty : ℕ → Run (Unit {0})
 strip_empty p = look λ s. while_at_most (turn_bound s) is_strippable removed_up (Some p) >> done
 
--- where `strip` is off, those stay in which the start stands
+-- delete the selection, step 7: where `strip` is off, those stay in which the start stands
 unfoldable pub strip_from : Bool → ℕ → ℕ → Run (Unit {0})
 strip_from strip start p = look λ s. if strip || not (is_within s.trees p start) then strip_empty p else done
 
+-- delete the selection, step 7: one node, with its parent p
 unfoldable pub remove_under : Bool → ℕ → ℕ → ℕ → Run (Unit {0})
 remove_under strip start n p = do
   remove n
   fill_hollow p
   strip_from strip start p
 
+-- delete the selection, step 7: one node
 unfoldable pub remove_node : Bool → ℕ → ℕ → Run (Unit {0})
 remove_node strip start n = look λ s. given (parent_of s.trees n) done (remove_under strip start n)
 

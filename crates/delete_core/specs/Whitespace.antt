@@ -97,14 +97,16 @@ out_back s p = if (p.offset == 0) && not (follows_break s.trees p.label) then ou
 unfoldable pub over_blank : State → Point → Option Point
 over_blank s p = option_map (λ _. at p.label (p.offset - 1)) (blank_before s.trees p)
 
+-- canonicalize whitespace, step 2: one turn
 unfoldable pub back_step : State → Point → Option Point
 back_step s p = either (into_child_before s p) (either (out_back s p) (over_blank s p))
 
+-- canonicalize whitespace, step 2
 unfoldable pub start_of_blanks : State → Point → Point
 start_of_blanks s p = walk_points (back_step s) (turn_bound s) p
 
--- ---- steps 3 and 4: on to where they end, counting them; with `fix` on, a U+0020 after another one or at the start of a
--- line goes
+-- ---- canonicalize whitespace, steps 3 and 4: on to where they end, counting them; with `fix` on,
+-- a U+0020 after another one or at the start of a line goes
 
 -- step 3
 unfoldable pub first_scan : State → Point → Scan
@@ -136,12 +138,15 @@ scan_blank fix a c =
     if fix && (a.after_soft && (c == soft)) then (replace a.end.label a.end.offset 1 [] >> answer a)
     else answer (passed a c)
 
+-- canonicalize whitespace, step 4, third and fourth line
 unfoldable pub scan_char : Bool → Scan → Run Scan
 scan_char fix a = look λ s. given (blank_at s.trees a.end) (answer (stopped a)) (scan_blank fix a)
 
+-- canonicalize whitespace, step 4: one turn
 unfoldable pub scan_turn : Bool → Scan → Run Scan
 scan_turn fix a = look λ s. given (on_step s a.end) (scan_char fix a) λ q. answer (taken_to a q)
 
+-- canonicalize whitespace, step 4: until it stops
 abbrev pub scans : State → Scan → Bool
 scans s a = a.going
 
@@ -149,7 +154,7 @@ scans s a = a.going
 unfoldable pub scan_blanks : Bool → Point → Run Scan
 scan_blanks fix p = look λ s. while_at_most (turn_bound s) scans (scan_turn fix) (first_scan s p)
 
--- ---- step 5: U+0020 at the end of a line goes
+-- ---- canonicalize whitespace, step 5: U+0020 at the end of a line goes
 
 -- step 5, second line
 unfoldable pub out_front : State → Point → Option Point
@@ -166,14 +171,17 @@ ends_softly s p = is_label (blank_before s.trees p) soft && ends_line s.trees p
 abbrev pub shrunk : Scan → Scan
 shrunk a = record a { end = at a.end.label (a.end.offset - 1); count = a.count - 1 }
 
+-- canonicalize whitespace, step 5, third and fourth line
 unfoldable pub trim_char : Scan → Run Scan
 trim_char a = look λ s.
     if ends_softly s a.end then (replace a.end.label (a.end.offset - 1) 1 [] >> answer (shrunk a))
     else answer (stopped a)
 
+-- canonicalize whitespace, step 5: one turn
 unfoldable pub trim_turn : Scan → Run Scan
 trim_turn a = look λ s. given (trim_step s a.end) (trim_char a) λ q. answer (taken_to a q)
 
+-- canonicalize whitespace, step 5: until it stops, while the start comes before the end
 unfoldable pub trims : Point → State → Scan → Bool
 trims p s a = a.going && comes_before s.trees p a.end
 
@@ -184,10 +192,11 @@ restarted a = record a { going = true }
 unfoldable pub trimmed : Point → Scan → Run Scan
 trimmed p a = look λ s. while_at_most (turn_bound s) (trims p) trim_turn (restarted a)
 
+-- canonicalize whitespace, step 5, which `fix` decides
 unfoldable pub trimmed_if : Bool → Point → Scan → Run Scan
 trimmed_if fix p a = if fix then trimmed p a else answer a
 
--- ---- steps 6 and 7: the blanks become those of the canonical sequence
+-- ---- canonicalize whitespace, steps 6 and 7: the blanks become those of the canonical sequence
 
 -- step 6
 unfoldable pub spaces_for : State → Point → Scan → List ℕ
@@ -214,6 +223,7 @@ lay_char spaces a c =
 unfoldable pub lay_out : Laid → Run Laid
 lay_out a = look λ s. given (after_node s.trees a.place.label) (answer a) λ q. answer (gone_to a q)
 
+-- canonicalize whitespace, step 7, second and third line
 unfoldable pub lay_text : List ℕ → Laid → Run Laid
 lay_text spaces a = look λ s. given (char_at s.trees a.place) (lay_out a) (lay_char spaces a)
 
@@ -222,6 +232,7 @@ unfoldable pub lay_turn : List ℕ → Laid → Run Laid
 lay_turn spaces a = look λ s.
     given (child_at s.trees a.place.label a.place.offset) (lay_text spaces a) λ k. answer (gone_to a (start_in k))
 
+-- canonicalize whitespace, step 7: before the end, with characters of the sequence left
 unfoldable pub lays : List ℕ → Point → State → Laid → Bool
 lays spaces end s a = nat_lt a.laid (length spaces) && comes_before s.trees a.place end
 

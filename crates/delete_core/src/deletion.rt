@@ -1,4 +1,4 @@
-//! Deleting the selection. The steps are those of docs/ALGORITHMS.md.
+//! Delete the selection, whole. The steps are those of docs/ALGORITHMS.md.
 
 ghost use Rattle.std.specs.Prelude.{◌≡◌, ◌<◌};
 ghost use Rattle.dom_model.specs.Forest.{count_of};
@@ -165,6 +165,7 @@ fn delete_range(
     delete_selected(alloc, doc, manner, first, last)
 }
 
+// Step 1, with the equivalent points of the ends.
 #[tactic(auto, using(edit_model::proofs::Steps::steps, edit_model::proofs::Steps::exits), unfolding(crate::specs::Deletion::delete_between))]
 fn delete_between(alloc: Global, doc: &mut Doc, manner: Manner) -> Result<Overrides, EditFault>
     requires open { IsOpen doc.old }
@@ -181,11 +182,11 @@ fn delete_between(alloc: Global, doc: &mut Doc, manner: Manner) -> Result<Overri
     delete_range(alloc, doc, manner, first, last)
 }
 
-/// Deletes what is selected. With `merge` the blocks of the two ends become one. With `strip`
-/// inline nodes that are left empty go; without it those stay in which the start stands. The caret
-/// that is left where nothing is merged stands at the start of the range, or at its end where
-/// `backward` is on. Answers the states and values to restore, which are those of the first
-/// formattable node that was selected; none where nothing is deleted.
+/// Deletes what is selected (HTML Editing APIs, "delete the selection"). With `merge` the blocks of
+/// the two ends become one. With `strip` inline nodes that are left empty go; without it those stay
+/// in which the start stands. The caret that is left where nothing is merged stands at the start of
+/// the range, or at its end where `backward` is on. Answers the states and values to restore, which
+/// are those of the first formattable node that was selected; none where nothing is deleted.
 #[tactic(auto, using(edit_model::proofs::Steps::steps, edit_model::proofs::Steps::exits), unfolding(crate::specs::Deletion::delete_selection))]
 pub fn delete_selection(
     alloc: Global,

@@ -26,7 +26,8 @@ pub fn select(doc: &mut Doc, anchor: Point, focus: Point)
     doc.select(anchor, focus);
 }
 
-/// Collapses the active range to its start, or to its end where `backward` is on.
+/// Collapses the active range to its start, or to its end where `backward` is on (delete the
+/// selection, steps 1, 5 and 9).
 #[tactic(auto, using(edit_model::proofs::Steps::actions), unfolding(crate::specs::Ends::collapse_selection))]
 pub fn collapse_selection(doc: &mut Doc, backward: bool) -> Result<(), EditFault>
     requires open { IsOpen doc.old }
@@ -43,7 +44,7 @@ pub fn collapse_selection(doc: &mut Doc, backward: bool) -> Result<(), EditFault
     Ok(())
 }
 
-/// Canonicalizes whitespace at the start of the active range.
+/// Canonicalizes whitespace at the start of the active range (delete the selection, steps 1 and 8).
 #[tactic(auto, using(edit_model::proofs::Steps::steps, edit_model::proofs::Steps::exits), unfolding(crate::specs::Ends::canonicalize_start))]
 pub fn canonicalize_start(alloc: Global, doc: &mut Doc, fix: bool) -> Result<(), EditFault>
     requires open { IsOpen doc.old }
@@ -58,7 +59,7 @@ pub fn canonicalize_start(alloc: Global, doc: &mut Doc, fix: bool) -> Result<(),
     canonicalize(alloc, doc, start, fix)
 }
 
-/// The same at its end.
+/// The same at its end (delete the selection, steps 1 and 8).
 #[tactic(auto, using(edit_model::proofs::Steps::steps, edit_model::proofs::Steps::exits), unfolding(crate::specs::Ends::canonicalize_end))]
 pub fn canonicalize_end(alloc: Global, doc: &mut Doc, fix: bool) -> Result<(), EditFault>
     requires open { IsOpen doc.old }

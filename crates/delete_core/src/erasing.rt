@@ -1,4 +1,5 @@
-//! What a deletion removes. The steps are those of docs/ALGORITHMS.md.
+//! Delete the selection, steps 5 to 8: what a deletion removes. The steps are those of
+//! docs/ALGORITHMS.md.
 
 ghost use Rattle.std.specs.Prelude.{◌≡◌, ◌<◌, ◌≤◌, IfOk};
 ghost use Rattle.edit_model.specs.Gives.{Gives, GivesMaybe, label_of, labels_of};
@@ -160,6 +161,7 @@ fn is_hollow(doc: &Doc, node: NodeRef) -> bool
     }
 }
 
+// Step 7: puts a new br into a node where its nearest block shows nothing.
 #[tactic(auto, using(edit_model::proofs::Steps::steps, edit_model::proofs::Steps::exits), unfolding(crate::specs::Erasing::fill_hollow))]
 fn fill_hollow(alloc: Global, doc: &mut Doc, node: NodeRef) -> Result<(), EditFault>
     requires open { IsOpen doc.old }
@@ -173,7 +175,7 @@ fn fill_hollow(alloc: Global, doc: &mut Doc, node: NodeRef) -> Result<(), EditFa
     Ok(())
 }
 
-/// Removes a node, if there is one, and answers its former parent.
+/// Steps 7 and 13: removes a node, if there is one, and answers its former parent.
 #[tactic(auto, using(edit_model::proofs::Steps::steps, edit_model::proofs::Steps::exits), unfolding(crate::specs::Erasing::removed_up))]
 pub(crate) fn removed_up(doc: &mut Doc, node: Option<NodeRef>) -> Result<Option<NodeRef>, EditFault>
     requires open { IsOpen doc.old }
@@ -200,7 +202,7 @@ fn is_strippable(doc: &Doc, node: Option<NodeRef>) -> bool
     }
 }
 
-// Removes inline nodes that are left empty, from one up.
+// Step 7: removes inline nodes that are left empty, from one up.
 #[tactic(auto, using(edit_model::proofs::Steps::whiles, edit_model::proofs::Steps::exits), unfolding(crate::specs::Erasing::strip_empty))]
 fn strip_empty(doc: &mut Doc, node: NodeRef) -> Result<(), EditFault>
     requires open { IsOpen doc.old }
@@ -220,6 +222,7 @@ fn strip_empty(doc: &mut Doc, node: NodeRef) -> Result<(), EditFault>
     Ok(())
 }
 
+// Step 7: with `strip` off, those stay in which the start stands.
 #[tactic(auto, using(edit_model::proofs::Steps::steps, edit_model::proofs::Steps::exits), unfolding(crate::specs::Erasing::strip_from))]
 fn strip_from(doc: &mut Doc, strip: bool, start: NodeRef, node: NodeRef) -> Result<(), EditFault>
     requires open { IsOpen doc.old }
@@ -234,6 +237,7 @@ fn strip_from(doc: &mut Doc, strip: bool, start: NodeRef, node: NodeRef) -> Resu
     Ok(())
 }
 
+// Step 7: one node, with its parent.
 #[tactic(auto, using(edit_model::proofs::Steps::steps, edit_model::proofs::Steps::exits), unfolding(crate::specs::Erasing::remove_under))]
 fn remove_under(
     alloc: Global,
@@ -255,6 +259,7 @@ fn remove_under(
     strip_from(doc, strip, start, parent)
 }
 
+// Step 7: one node.
 #[tactic(auto, using(edit_model::proofs::Steps::steps, edit_model::proofs::Steps::exits), unfolding(crate::specs::Erasing::remove_node))]
 fn remove_node(
     alloc: Global,
@@ -275,6 +280,7 @@ fn remove_node(
     remove_under(alloc, doc, strip, start, node, parent)
 }
 
+// Step 7: each node, in order.
 #[tactic(auto, using(edit_model::proofs::Steps::eachs, edit_model::proofs::Steps::exits))]
 fn remove_each(
     alloc: Global,

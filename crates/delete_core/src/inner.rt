@@ -1,5 +1,5 @@
-//! Merging a block with one that stands in it: the first line of the inner one comes out. The steps are those of
-//! docs/ALGORITHMS.md.
+//! Delete the selection, step 11: merging a block with one that stands in it. The first line of the
+//! inner one comes out. The steps are those of docs/ALGORITHMS.md.
 
 ghost use Rattle.std.specs.Prelude.{◌≡◌, IfOk, Some, None};
 ghost use Rattle.edit_model.specs.Gives.{Gives, GivesAs, GivesNode, labels_of};
@@ -43,6 +43,7 @@ fn is_sole(doc: &Doc, outer: NodeRef, node: NodeRef) -> bool
         && is_apart(doc, outer, node)
 }
 
+// Step 11 b: removes a node, and answers its former parent.
 #[tactic(auto, using(edit_model::proofs::Steps::steps, edit_model::proofs::Steps::exits), unfolding(crate::specs::Merging::drop_sole))]
 fn drop_sole(doc: &mut Doc, node: NodeRef) -> Result<NodeRef, EditFault>
     requires open { IsOpen doc.old }
@@ -70,6 +71,7 @@ fn parts_lines(doc: &Doc, node: NodeRef) -> bool
         && if_inline(doc, doc.next(node)).is_some()
 }
 
+// Step 11 b: puts a br after a block, where the lines around it would join.
 #[tactic(auto, using(edit_model::proofs::Steps::steps, edit_model::proofs::Steps::exits), unfolding(crate::specs::Merging::part_lines))]
 fn part_lines(alloc: Global, doc: &mut Doc, node: NodeRef) -> Result<(), EditFault>
     requires open { IsOpen doc.old }
@@ -84,6 +86,7 @@ fn part_lines(alloc: Global, doc: &mut Doc, node: NodeRef) -> Result<(), EditFau
     Ok(())
 }
 
+// Step 11 b: removes an editable node.
 #[tactic(auto, using(edit_model::proofs::Steps::steps, edit_model::proofs::Steps::exits), unfolding(crate::specs::Merging::remove_own))]
 fn remove_own(doc: &mut Doc, node: NodeRef) -> Result<(), EditFault>
     requires open { IsOpen doc.old }
@@ -97,6 +100,7 @@ fn remove_own(doc: &mut Doc, node: NodeRef) -> Result<(), EditFault>
     Ok(())
 }
 
+// Step 11 b: the br, and then the block.
 #[tactic(auto, using(edit_model::proofs::Steps::steps, edit_model::proofs::Steps::exits), unfolding(crate::specs::Merging::drop_parted))]
 fn drop_parted(alloc: Global, doc: &mut Doc, node: NodeRef) -> Result<(), EditFault>
     requires open { IsOpen doc.old }

@@ -116,6 +116,7 @@ fn lay_out(doc: &Doc, laid: Laid) -> Laid
     }
 }
 
+// Step 7, second and third line.
 #[tactic(auto, using(edit_model::proofs::Steps::steps, edit_model::proofs::Steps::exits), unfolding(crate::specs::Whitespace::lay_text))]
 fn lay_text(doc: &mut Doc, spaces: &[char], laid: Laid) -> Result<Laid, EditFault>
     requires open { IsOpen doc.old }

@@ -1,4 +1,4 @@
-//! Lines: inline siblings up to a br.
+//! Lines: inline siblings up to a br (delete the selection, steps 11 and 12).
 
 ghost use Rattle.std.specs.Prelude.{◌≡◌, ◌++◌, IfOk, Some};
 ghost use Rattle.dom_model.specs.Forest.{first_in};
@@ -37,7 +37,7 @@ fn next_in_line(doc: &Doc, node: NodeRef) -> Option<NodeRef>
     }
 }
 
-// A list with the inline siblings after its last member, up to a br.
+// Step 11 d: a list with the inline siblings after its last member, up to a br.
 #[tactic(auto, using(crate::proofs::Rows::lines, edit_model::proofs::Steps::labels_of_push, edit_model::proofs::Steps::append_none))]
 fn with_line_after(doc: &Doc, list: Vec<NodeRef>, last: NodeRef) -> Result<Vec<NodeRef>, AllocError>
     requires list_held { EachHeld doc.now list.items }
@@ -60,7 +60,7 @@ fn with_line_after(doc: &Doc, list: Vec<NodeRef>, last: NodeRef) -> Result<Vec<N
     Ok(list)
 }
 
-/// The line that begins with a node.
+/// Step 11 d: the line that begins with a node.
 #[tactic(auto, unfolding(crate::specs::Merging::line_from))]
 pub(crate) fn line_from(
     alloc: Global,
@@ -77,7 +77,7 @@ pub(crate) fn line_from(
     with_line_after(doc, list, first)
 }
 
-/// The line that begins with a node, if there is one and it is inline.
+/// Step 12: the line that begins with a node, if there is one and it is inline.
 #[tactic(auto, unfolding(crate::specs::Merging::line_at))]
 pub(crate) fn line_at(
     alloc: Global,

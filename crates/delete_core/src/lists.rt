@@ -1,4 +1,5 @@
-//! Lists that have come to stand side by side. The steps are those of docs/ALGORITHMS.md.
+//! Delete the selection, step 14: lists that have come to stand side by side. The steps are those
+//! of docs/ALGORITHMS.md.
 
 ghost use Rattle.std.specs.Prelude.{◌≡◌};
 ghost use Rattle.edit_model.specs.Gives.{Gives};
@@ -50,6 +51,7 @@ fn list_to_join(doc: &Doc, node: NodeRef) -> Option<NodeRef>
     Some(at)
 }
 
+// Step 14: the items of the second list go to the end of the first one, and it goes.
 #[tactic(auto, using(edit_model::proofs::Steps::steps, edit_model::proofs::Steps::exits), unfolding(crate::specs::Merging::join_lists_at))]
 fn join_lists_at(doc: &mut Doc, list: NodeRef, next: NodeRef) -> Result<(), EditFault>
     requires open { IsOpen doc.old }
@@ -64,7 +66,7 @@ fn join_lists_at(doc: &mut Doc, list: NodeRef, next: NodeRef) -> Result<(), Edit
     Ok(())
 }
 
-// Takes the items of the list after a list into it.
+// Step 14: takes the items of the list after a list into it.
 #[tactic(auto, using(edit_model::proofs::Steps::steps, edit_model::proofs::Steps::exits), unfolding(crate::specs::Merging::join_next))]
 fn join_next(doc: &mut Doc, list: NodeRef) -> Result<(), EditFault>
     requires open { IsOpen doc.old }

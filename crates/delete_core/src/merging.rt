@@ -1,4 +1,5 @@
-//! Merging the blocks of the two ends after a deletion. The steps are those of docs/ALGORITHMS.md.
+//! Delete the selection, steps 9 to 15: merging the blocks of the two ends. The steps are those of
+//! docs/ALGORITHMS.md.
 
 ghost use Rattle.std.specs.Prelude.{◌≡◌, IfOk};
 ghost use Rattle.edit_model.specs.Gives.{Gives, GivesAs, label_of};
@@ -59,7 +60,7 @@ fn merged(
     }
 }
 
-/// Puts a new br into a node without children.
+/// Puts a new br into a node without children (delete the selection, step 15).
 #[tactic(auto, using(edit_model::proofs::Steps::steps, edit_model::proofs::Steps::exits), unfolding(crate::specs::Merging::fill_empty))]
 pub fn fill_empty(alloc: Global, doc: &mut Doc, block: NodeRef) -> Result<(), EditFault>
     requires open { IsOpen doc.old }

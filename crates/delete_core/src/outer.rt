@@ -1,4 +1,5 @@
-//! Merging a block with one in which it stands, or with one beside it. The steps are those of docs/ALGORITHMS.md.
+//! Delete the selection, steps 12 and 13: merging a block with one in which it stands, or with one
+//! beside it. The steps are those of docs/ALGORITHMS.md.
 
 ghost use Rattle.std.specs.Prelude.{◌≡◌, IfOk};
 ghost use Rattle.edit_model.specs.Gives.{Gives, GivesAs, label_of};

@@ -74,6 +74,7 @@ fn scan_blank(doc: &mut Doc, fix: bool, scan: Scan, character: char) -> Result<S
     Ok(passed(scan, character)?)
 }
 
+// Step 4, third and fourth line.
 #[tactic(auto, using(edit_model::proofs::Steps::steps, edit_model::proofs::Steps::exits), unfolding(crate::specs::Whitespace::scan_char))]
 fn scan_char(doc: &mut Doc, fix: bool, scan: Scan) -> Result<Scan, EditFault>
     requires open { IsOpen doc.old }

@@ -44,6 +44,7 @@ fn shrunk(scan: Scan) -> Scan
     }
 }
 
+// Step 5, third and fourth line.
 #[tactic(auto, using(edit_model::proofs::Steps::steps, edit_model::proofs::Steps::exits), unfolding(crate::specs::Whitespace::trim_char))]
 fn trim_char(doc: &mut Doc, scan: Scan) -> Result<Scan, EditFault>
     requires open { IsOpen doc.old }

@@ -25,8 +25,8 @@ fn canonicalize_from(alloc: Global, doc: &mut Doc, fix: bool, start: Point) -> R
 }
 
 /// Makes the blanks round a point, U+0020 and U+00A0 alike, a canonical sequence, so that each of
-/// them shows. With `fix` on, blanks that show nothing go first. A point whose node is neither the
-/// affected host nor editable is left alone.
+/// them shows (HTML Editing APIs, "canonicalize whitespace"). With `fix` on, blanks that show
+/// nothing go first. A point whose node is neither the affected host nor editable is left alone.
 #[tactic(auto, using(edit_model::proofs::Steps::steps, edit_model::proofs::Steps::exits, crate::proofs::Absent::absent), unfolding(crate::specs::Whitespace::canonicalize))]
 pub fn canonicalize(alloc: Global, doc: &mut Doc, at: Point, fix: bool) -> Result<(), EditFault>
     requires open { IsOpen doc.old }

@@ -18,6 +18,7 @@ links_above f n = filter (is_link f) (reverse (ancestors f n))
 unfoldable pub relink : List ℕ → ℕ → Run (Unit {0})
 relink v e = look λ s. if is_editable_for s e then set_attribute e (codes "href") v >> done else done
 
+-- createLink, step 2: the links around one node
 unfoldable pub relink_above : List ℕ → ℕ → Run (Unit {0})
 relink_above v n = look λ s. for_each (links_above s.trees n) (relink v)
 
@@ -38,5 +39,6 @@ abbrev pub link_to : List ℕ → Run Bool
 link_to [] = answer false
 link_to (c ∷ v) = link_range (c ∷ v)
 
+-- createLink, steps 1 to 3
 unfoldable pub create_link : List ℕ → Run Bool
 create_link v = link_to v

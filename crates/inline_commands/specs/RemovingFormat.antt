@@ -16,6 +16,7 @@ use Rattle.inline_value.specs.Selections.{nodes_in_range, editable_in_range, spl
 unfoldable pub is_candidate : State → ℕ → Bool
 is_candidate s l = option_map_or (λ h. is_format_candidate s.trees h l) s.host false
 
+-- remove the format, step 1: those that the active range effectively contains
 unfoldable pub candidates_in_range : State → List ℕ
 candidates_in_range s = filter (is_candidate s) (nodes_in_range s)
 
@@ -27,9 +28,11 @@ unwrap_candidates = look λ s. for_each (candidates_in_range s) unwrap
 unfoldable pub is_formatted : State → ℕ → Bool
 is_formatted s n = option_map_or (is_candidate s) (parent_of s.trees n) false
 
+-- remove the format, step 3: one node leaves the candidates around it
 unfoldable pub part_from_format : ℕ → Run (Unit {0})
 part_from_format n = look λ s. while_at_most (turn_bound s) is_formatted split_around n >> done
 
+-- remove the format, step 3: each node, in order
 unfoldable pub part_nodes : Run (Unit {0})
 part_nodes = look λ s. for_each (editable_in_range s) part_from_format
 
@@ -37,6 +40,7 @@ part_nodes = look λ s. for_each (editable_in_range s) part_from_format
 unfoldable pub clear_command : Command → Run (Unit {0})
 clear_command c = set_value c None
 
+-- remove the format, step 4: each of them
 unfoldable pub clear_commands : Run (Unit {0})
 clear_commands = for_each recorded_commands clear_command
 

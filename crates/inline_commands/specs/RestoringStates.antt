@@ -19,17 +19,18 @@ use Rattle.inline_commands.specs.Toggling.{toggle_style, toggle_script}
 use Rattle.inline_commands.specs.Linking.{create_link}
 use Rattle.inline_commands.specs.ValueCommands.{apply_value}
 
--- ---- without a formattable node
+-- ---- restore states and values, step 2: without a formattable node
 
 -- restore states and values, step 2: the entry becomes the override of its command; null is passed over
 abbrev pub override_by : Command → Setting → Run (Unit {0})
 override_by c Absent = done
 override_by c setting = set_setting c setting
 
+-- restore states and values, step 2: one entry
 unfoldable pub set_override : Override → Run (Unit {0})
 set_override o = override_by o.command o.setting
 
--- ---- with one
+-- ---- restore states and values, steps 3 to 6: with one
 
 -- restore states and values, step 3: a state that differs is toggled
 abbrev pub turn_round : Command → Run Bool
@@ -37,12 +38,15 @@ turn_round command.Subscript = toggle_script command.Subscript
 turn_round command.Superscript = toggle_script command.Superscript
 turn_round c = toggle_style c
 
+-- restore states and values, step 3: the command's action
 unfoldable pub toggle_state : Command → Run (Unit {0})
 toggle_state c = turn_round c >> done
 
+-- restore states and values, step 3: a true
 unfoldable pub restore_on : Command → Run (Unit {0})
 restore_on c = look λ s. if state_of s s.host c then done else toggle_state c
 
+-- restore states and values, step 3: a false
 unfoldable pub restore_off : Command → Run (Unit {0})
 restore_off c = look λ s. if state_of s s.host c then toggle_state c else done
 
@@ -61,6 +65,7 @@ abbrev pub differs_from : State → Command → List ℕ → Setting → Bool
 differs_from s c v (Text u) = not (bytes_eq u v)
 differs_from s c v _ = differs_at s c v (first_formattable s s.host)
 
+-- restore states and values, steps 5 and 6: whether a text differs
 unfoldable pub is_other_value : State → Command → List ℕ → Bool
 is_other_value s c v = differs_from s c v (setting_of s.overrides c)
 
@@ -73,6 +78,7 @@ unfoldable pub restore_size : List ℕ → Run (Unit {0})
 restore_size v = look λ s.
     if is_other_value s command.FontSize v then apply_value command.FontSize (legacy_text v) >> done else done
 
+-- restore states and values, steps 4 to 6: a text, by its command
 abbrev pub restore_text : Command → List ℕ → Run (Unit {0})
 restore_text command.FontName v = restore_shown command.FontName v
 restore_text command.ForeColor v = restore_shown command.ForeColor v
@@ -81,13 +87,14 @@ restore_text command.CreateLink v = restore_link v
 restore_text command.FontSize v = restore_size v
 restore_text _ v = done
 
--- an entry is true, false, a text, or null
+-- restore states and values, steps 3 to 6: an entry is true, false, a text, or null
 abbrev pub restore_setting : Command → Setting → Run (Unit {0})
 restore_setting c On = restore_on c
 restore_setting c Off = restore_off c
 restore_setting c (Text v) = restore_text c v
 restore_setting c Absent = done
 
+-- restore states and values, steps 3 to 6: one entry
 unfoldable pub restore_entry : Override → Run (Unit {0})
 restore_entry o = restore_setting o.command o.setting
 

@@ -31,7 +31,7 @@ toggled c on state = if state then style_off c else Some on
 unfoldable pub set_toggled : Command → List ℕ → Run Bool
 set_toggled c on = look λ s. set_value c (toggled c on (state_of s s.host c)) >> answer true
 
--- any other command answers false
+-- toggle a style, steps 1 and 2; any other command answers false
 unfoldable pub toggle_style : Command → Run Bool
 toggle_style c = given (style_on c) (answer false) (set_toggled c)
 
@@ -54,6 +54,6 @@ set_script c on = look λ s. do
   set_unless (state_of s s.host c) c on
   answer true
 
--- any other command answers false
+-- toggle a script, steps 1 to 3; any other command answers false
 unfoldable pub toggle_script : Command → Run Bool
 toggle_script c = given (script_on c) (answer false) (set_script c)

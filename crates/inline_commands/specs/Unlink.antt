@@ -39,6 +39,7 @@ abbrev pub links_by : Forest Content → Option Pair → List ℕ
 links_by f None = []
 links_by f (Some pair) = links_of_pair f pair
 
+-- unlink, step 1
 unfoldable pub links_touched : State → List ℕ
 links_touched s = links_by s.trees s.points.selection
 

@@ -19,6 +19,7 @@ size_value v = option_map size_keyword (legacy_size_of v)
 unfoldable pub if_colour : List ℕ → Option (List ℕ)
 if_colour v = if is_some (colour_of v) then Some v else None
 
+-- apply a value, step 3
 unfoldable pub colour_value : List ℕ → Option (List ℕ)
 colour_value v = option_or (if_colour v) (if_colour (35 ∷ v))
 
@@ -31,10 +32,11 @@ value_taken command.BackColor v = colour_value v
 value_taken command.HiliteColor v = colour_value v
 value_taken _ v = None
 
--- apply a value, step 4: where nothing is taken the answer is false
+-- apply a value, step 4
 unfoldable pub set_taken : Command → List ℕ → Run Bool
 set_taken c v = set_value c (Some v) >> answer true
 
+-- apply a value, step 4, where something is taken; otherwise the answer is false
 unfoldable pub take : Command → Option (List ℕ) → Run Bool
 take c taken = given taken (answer false) (set_taken c)
 

@@ -32,9 +32,11 @@ has_place s n = list_any (λ a. is_inside s a && allowed_in s.trees n a) (ancest
 abbrev pub is_misplaced : State → ℕ → Bool
 is_misplaced s n = option_map_or (λ p. not (allowed_in s.trees n p)) (parent_of s.trees n) false
 
+-- fix disallowed ancestors, step 3: up, out of each parent in which the node may not stand
 unfoldable pub lifted : ℕ → Run (Unit {0})
 lifted n = look λ s. while_at_most (turn_bound s) is_misplaced split_around n >> done
 
+-- fix disallowed ancestors, step 3: the node keeps its values
 unfoldable pub lift : ℕ → Run (Unit {0})
 lift n = do
   list ← record_values (n ∷ [])
@@ -48,6 +50,7 @@ is_description s n = has_name s.trees n (codes "dd") || has_name s.trees n (code
 abbrev pub description_list : Blank
 description_list = record { name = codes "dl"; attributes = [] }
 
+-- fix disallowed ancestors, step 2 a: the node is wrapped in a dl
 unfoldable pub wrap_description : ℕ → Run (Unit {0})
 wrap_description n = wrap (Named (codes "dl") true) (Make description_list) (n ∷ []) >> done
 
@@ -62,9 +65,11 @@ split_out k = do
   split_parent (k ∷ [])
   restore_values list
 
+-- fix disallowed ancestors, step 2 d: a prohibited paragraph child, as its turn comes
 unfoldable pub part_child : ℕ → Run (Unit {0})
 part_child k = look λ s. if is_prohibited s k then split_out k else done
 
+-- fix disallowed ancestors, step 2 d: each child, in order
 unfoldable pub part_children : ℕ → Run (Unit {0})
 part_children n = look λ s. for_each (children_of s.trees n) part_child
 
@@ -72,6 +77,7 @@ part_children n = look λ s. for_each (children_of s.trees n) part_child
 unfoldable pub lift_renamed : ℕ → Run (Unit {0})
 lift_renamed n = lift n >> part_children n
 
+-- fix disallowed ancestors, steps 2 c and 2 d: the node gets the default container's name
 unfoldable pub rename : ℕ → Run (Unit {0})
 rename n = look λ s. set_tag_name n (container_name s.flags.paragraphs) >>= lift_renamed
 

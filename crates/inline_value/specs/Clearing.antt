@@ -39,9 +39,11 @@ unfoldable pub write_words : ℕ → List ℕ → Run (Unit {0})
 write_words e text =
     if is_empty text then unset_style e (codes "text-decoration") else set_style e (codes "text-decoration") text
 
+-- clear the value, step 3: the word of a line goes
 unfoldable pub drop_line : DecorationLine → ℕ → Run (Unit {0})
 drop_line line e = look λ s. given (decoration_of s e) done λ text. write_words e (without_line text line)
 
+-- clear the value, step 3: for strikethrough and underline alone
 abbrev pub drop_word : Subject → ℕ → Run (Unit {0})
 drop_word (Line line) e = drop_line line e
 drop_word _ e = done
@@ -62,6 +64,7 @@ unfoldable pub drop_attribute : List ℕ → List ℕ → ℕ → Run (Unit {0})
 drop_attribute name attribute e = look λ s.
     if has_name s.trees e name then unset_attribute e attribute >> done else done
 
+-- clear the value, step 5: from a font
 unfoldable pub drop_hint : Command → ℕ → Run (Unit {0})
 drop_hint command e = given (hint_of (subject command)) done λ hint. drop_attribute (codes "font") hint e
 

@@ -64,21 +64,25 @@ joined command v n = do
 
 -- ---- force the value, step 5: what is made
 
--- line a: the links around the node become spans
+-- force the value, step 5, line a: the links around the node become spans
 unfoldable pub rename_link : ℕ → Run (Unit {0})
 rename_link e = look λ s.
     if is_editable_for s e && has_name s.trees e (codes "a") then (set_tag_name e (codes "span") >> done) else done
 
+-- force the value, step 5, line a: each of them, the nearest first
 unfoldable pub rename_links : ℕ → Run (Unit {0})
 rename_links n = look λ s. for_each (ancestors s.trees n) rename_link
 
+-- force the value, step 5, line a: for createLink and unlink alone
 abbrev pub clear_way : Subject → ℕ → Run (Unit {0})
 clear_way Link n = rename_links n
 clear_way _ n = done
 
+-- force the value, step 5: an element with a name and attributes
 abbrev pub make_blank : Blank → Run ℕ
 make_blank b = make_element b.name b.attributes
 
+-- force the value, step 5: line a, and then the element by lines a to e
 unfoldable pub make_wrapper : Command → List ℕ → ℕ → Run ℕ
 make_wrapper command v n =
     clear_way (subject command) n >> look λ s. make_blank (wrapper_for s.flags.css_styling command v)
@@ -146,10 +150,11 @@ force_self command v n = look λ s. if is_none (parent_of s.trees n) then answer
 unfoldable pub heirs : State → ℕ → List ℕ
 heirs s n = if is_editable_for s n then children_of s.trees n else []
 
--- one that gives another value is passed over
+-- force the value, steps 4 and 9: one that gives another value is passed over
 unfoldable pub force_child : (ℕ → Run (Unit {0})) → Command → List ℕ → ℕ → Run (Unit {0})
 force_child again command v k = look λ s. if specifies_other s.trees k command (Some v) then done else again k
 
+-- force the value, steps 4 and 9: on the children, where they are next
 unfoldable pub force_heirs : (ℕ → Run (Unit {0})) → Command → List ℕ → ℕ → Bool → Run (Unit {0})
 force_heirs again command v n wanted =
     if wanted then (look λ s. for_each (heirs s n) (force_child again command v)) else done
@@ -159,10 +164,10 @@ unfoldable pub forced : ℕ → Command → List ℕ → ℕ → Run (Unit {0})
 forced zero command v n = done
 forced (suc fuel) command v n = force_self command v n >>= force_heirs (forced fuel command v) command v n
 
--- as deep as the document has nodes
+-- force the value, steps 1 to 9, nested as deep as the document has nodes
 unfoldable pub force_value : Command → List ℕ → ℕ → Run (Unit {0})
 force_value command v n = look λ s. forced (node_count s.trees) command v n
 
--- a null value is forced on no node
+-- force the value, step 1: a null value is forced on no node
 unfoldable pub force : Command → Option (List ℕ) → ℕ → Run (Unit {0})
 force command v n = given v done λ w. force_value command w n

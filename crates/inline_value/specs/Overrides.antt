@@ -22,6 +22,7 @@ override command setting = record { command = command; setting = setting }
 
 -- ---- the overrides that are set
 
+-- record current overrides, step 1: the commands, in order
 unfoldable pub overriding_commands : List Command
 overriding_commands =
     command.CreateLink ∷ command.Bold ∷ command.Italic ∷ command.Strikethrough ∷ command.Subscript ∷ command.Superscript
@@ -41,6 +42,7 @@ overrides_among s (c ∷ commands) =
 unfoldable pub overrides_of : State → List Override
 overrides_of s = overrides_among s overriding_commands
 
+-- record current overrides, step 1, as a run, which changes nothing
 unfoldable pub record_overrides : Run (List Override)
 record_overrides = look λ s. answer (overrides_of s)
 
@@ -78,5 +80,6 @@ states_at s n =
 unfoldable pub states_of : State → List Override
 states_of s = option_map_or (states_at s) (first_formattable s s.host) []
 
+-- record current states and values, steps 1 and 2, as a run, which changes nothing
 unfoldable pub record_states : Run (List Override)
 record_states = look λ s. answer (states_of s)

@@ -37,10 +37,11 @@ needs_none s command v n = not (has_element_above s n) || has_alike s n command 
 abbrev pub is_passed : State → Command → Option (List ℕ) → ℕ → Option ℕ → ℕ → Bool
 is_passed s command w n next k = (k == n) || (is_label next k || specifies_other s.trees k command w)
 
+-- push down, step 5: on any other child the value is forced
 unfoldable pub push_to : Command → Option (List ℕ) → ℕ → Option ℕ → ℕ → Run (Unit {0})
 push_to command w n next k = look λ s. if is_passed s command w n next k then done else force command w k
 
--- the element e is cleared where it gives a value
+-- push down, step 5: the element e is cleared where it gives a value
 unfoldable pub clear_level : Command → ℕ → Run (Unit {0})
 clear_level command e = look λ s.
     if is_none (specified s.trees e command) then done else (clear_value command e >> done)

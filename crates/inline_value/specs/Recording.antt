@@ -46,6 +46,7 @@ unfoldable pub values_of : State → List ℕ → List Recorded
 values_of s [] = []
 values_of s (n ∷ list) = values_at s n ++ values_of s list
 
+-- record the values, step 1, as a run, which changes nothing
 unfoldable pub record_values : List ℕ → Run (List Recorded)
 record_values list = look λ s. answer (values_of s list)
 
@@ -54,8 +55,10 @@ abbrev pub restored_to : Command → ℕ → Option (List ℕ) → Option (List 
 restored_to command n None u = if is_some u then push_down command None n else done
 restored_to command n (Some w) u = if equivalent command u (Some w) then done else force command (Some w) n
 
+-- restore the values, step 1: one entry
 unfoldable pub restore_value : Recorded → Run (Unit {0})
 restore_value r = look λ s. restored_to r.command r.node r.value (given_value s.trees r.node r.command)
 
+-- restore the values, step 1: each entry, in order
 unfoldable pub restore_values : List Recorded → Run (Unit {0})
 restore_values list = for_each list restore_value

@@ -46,5 +46,6 @@ unfoldable pub reorder_with : Command → List ℕ → ℕ → ℕ → Run (Unit
 reorder_with command v n c = look λ s.
     if c == n || not (meets_value s.trees c command v) then done else swapped n c
 
+-- reorder, steps 1 and 2, and then from 3 on
 unfoldable pub reorder : Command → List ℕ → ℕ → Run (Unit {0})
 reorder command v n = look λ s. reorder_with command v n (reordered s command v n)

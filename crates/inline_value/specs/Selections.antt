@@ -26,7 +26,7 @@ use Rattle.inline_value.specs.Forcing.{is_phrase, force}
 use Rattle.inline_value.specs.Pushing.{push_down}
 use Rattle.edit_query.specs.Formattable.{first_formattable}
 
--- ---- splitting the texts at the ends of the range
+-- ---- split the ends: the texts at the ends of the active range
 
 -- an editable text of which the point lies amid the characters
 unfoldable pub is_amid : State → Point → Bool
@@ -38,12 +38,14 @@ is_amid s at =
 abbrev pub at_least : Forest Content → Point → Point → Point
 at_least f other at = if is_before f other at then at else other
 
--- the start of the range set to a point (DOM Standard, "set the start"): an end before it goes along
+-- split the ends, step 1: the start of the range set to a point (DOM Standard, "set the start"); an
+-- end before it goes along
 abbrev pub with_start : Forest Content → Pair → Point → Run (Unit {0})
 with_start f pair at =
     if is_before f pair.focus pair.anchor then select (at_least f pair.anchor at) at
     else select at (at_least f pair.focus at)
 
+-- split the ends, step 1: the start of the active range set to a point
 unfoldable pub set_start : Point → Run (Unit {0})
 set_start at = look λ s. given s.points.selection done λ pair. with_start s.trees pair at
 
@@ -51,6 +53,7 @@ set_start at = look λ s. given s.points.selection done λ pair. with_start s.tr
 unfoldable pub start_text : ℕ → Run (Unit {0})
 start_text tail = set_start (record { label = tail; offset = 0 })
 
+-- split the ends, step 1, with the point where the range starts
 unfoldable pub split_at_start : Point → Run (Unit {0})
 split_at_start at = look λ s. if is_amid s at then (split_words at.label at.offset >>= start_text) else done
 
@@ -58,12 +61,15 @@ split_at_start at = look λ s. if is_amid s at then (split_words at.label at.off
 unfoldable pub split_at_end : Point → Run (Unit {0})
 split_at_end at = look λ s. if is_amid s at then (split_words at.label at.offset >> done) else done
 
+-- split the ends, step 1: at the start of the active range
 unfoldable pub split_start : Run (Unit {0})
 split_start = look λ s. given s.points.selection done λ pair. split_at_start (start_of s.trees pair)
 
+-- split the ends, step 2: at the end of the active range
 unfoldable pub split_end : Run (Unit {0})
 split_end = look λ s. given s.points.selection done λ pair. split_at_end (end_of s.trees pair)
 
+-- split the ends, steps 1 and 2
 unfoldable pub split_ends : Run (Unit {0})
 split_ends = split_start >> split_end
 
@@ -80,6 +86,7 @@ nodes_in_range s = nodes_by s.trees s.points.selection
 unfoldable pub editable_in_range : State → List ℕ
 editable_in_range s = filter (is_editable_for s) (nodes_in_range s)
 
+-- set the value, step 3: the elements among them
 unfoldable pub elements_in_range : State → List ℕ
 elements_in_range s = filter (is_element_at s.trees) (editable_in_range s)
 
@@ -107,29 +114,35 @@ override_for command.BackColor v = Some (value_setting v)
 override_for command.HiliteColor v = Some (value_setting v)
 override_for c v = if is_none v then Some Absent else None
 
--- the script that excludes the command's
+-- set the value, step 1: the override of the script that excludes the command's goes
 abbrev pub unset_rival : Command → Run (Unit {0})
 unset_rival command.Subscript = set_setting command.Superscript Absent
 unset_rival command.Superscript = set_setting command.Subscript Absent
 unset_rival _ = done
 
+-- set the value, step 1: the command's override, and that of its rival
 unfoldable pub set_overrides : Command → Option (List ℕ) → Run (Unit {0})
 set_overrides command v = given (override_for command v) done (set_setting command) >> unset_rival command
 
 -- ---- set the value, steps 3 and 4
 
+-- set the value, step 3: one element
 unfoldable pub clear_one : Command → ℕ → Run (Unit {0})
 clear_one command e = clear_value command e >> done
 
+-- set the value, step 3: each element, in order
 unfoldable pub clear_elements : Command → Run (Unit {0})
 clear_elements command = look λ s. for_each (elements_in_range s) (clear_one command)
 
+-- set the value, step 4: the value is forced on a node that may stand in a span
 unfoldable pub force_phrase : Command → Option (List ℕ) → ℕ → Run (Unit {0})
 force_phrase command v n = look λ s. if is_phrase s n then force command v n else done
 
+-- set the value, step 4: one node
 unfoldable pub give_node : Command → Option (List ℕ) → ℕ → Run (Unit {0})
 give_node command v n = push_down command v n >> force_phrase command v n
 
+-- set the value, step 4: each node, in order
 unfoldable pub give_nodes : Command → Option (List ℕ) → Run (Unit {0})
 give_nodes command v = look λ s. for_each (editable_in_range s) (give_node command v)
 

@@ -32,9 +32,10 @@ write_text e text =
 abbrev pub write_style : ℕ → List Declaration → Run (Unit {0})
 write_style e list = write_text e (printed list)
 
--- a property set to a value, and unset
+-- a property set to a value
 unfoldable pub set_style : ℕ → List ℕ → List ℕ → Run (Unit {0})
 set_style e name value = look λ s. write_style e (set_property (declarations_of s e) name value)
 
+-- a property unset
 unfoldable pub unset_style : ℕ → List ℕ → Run (Unit {0})
 unset_style e name = look λ s. write_style e (unset_in (declarations_of s e) name)

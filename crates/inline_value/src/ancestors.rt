@@ -148,7 +148,8 @@ fn hosts_none(doc: &Doc) -> bool
     }
 }
 
-/// Splits the parent of a node round it. The node keeps its values.
+/// Splits the parent of a node round it (fix disallowed ancestors, step 2 d). The node keeps its
+/// values.
 #[tactic(auto, using(edit_model::proofs::Steps::steps, edit_model::proofs::Steps::exits), unfolding(crate::specs::Ancestors::split_out, crate::specs::Recording::record_values))]
 pub fn split_out(alloc: Global, doc: &mut Doc, child: NodeRef) -> Result<(), EditFault>
     requires open { IsOpen doc.old }
@@ -176,6 +177,7 @@ fn part_child(alloc: Global, doc: &mut Doc, child: NodeRef) -> Result<(), EditFa
     Ok(())
 }
 
+// Fix disallowed ancestors, step 2 d: each child, in order.
 #[tactic(auto, using(edit_model::proofs::Steps::eachs, edit_model::proofs::Steps::exits))]
 fn part_each(alloc: Global, doc: &mut Doc, list: &[NodeRef]) -> Result<(), EditFault>
     requires open { IsOpen doc.old }
@@ -258,7 +260,8 @@ fn replace_misplaced(alloc: Global, doc: &mut Doc, node: NodeRef) -> Result<(), 
     rename(alloc, doc, node)
 }
 
-/// Brings a node out of ancestors in which it may not stand, or renames it where it may stand in none.
+/// Brings a node out of ancestors in which it may not stand, or renames it where it may stand in
+/// none (HTML Editing APIs, "fix disallowed ancestors").
 #[tactic(auto, using(edit_model::proofs::Steps::steps, edit_model::proofs::Steps::exits), unfolding(crate::specs::Ancestors::fix_ancestors))]
 pub fn fix_ancestors(alloc: Global, doc: &mut Doc, node: NodeRef) -> Result<(), EditFault>
     requires open { IsOpen doc.old }

@@ -55,6 +55,7 @@ fn write_words(alloc: Global, doc: &mut Doc, node: NodeRef, text: &[char]) -> Re
     }
 }
 
+// Clear the value, step 3: the word of a line goes.
 #[tactic(auto, using(edit_model::proofs::Steps::steps, edit_model::proofs::Steps::exits), unfolding(crate::specs::Clearing::drop_line))]
 fn drop_line(
     alloc: Global,

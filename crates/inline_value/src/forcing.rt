@@ -60,6 +60,7 @@ fn reorder_at(
     }
 }
 
+// Force the value, step 2: the previous sibling.
 #[tactic(auto, using(edit_model::proofs::Steps::steps, edit_model::proofs::Steps::exits), unfolding(crate::specs::Forcing::reorder_prev))]
 fn reorder_prev(
     alloc: Global,
@@ -77,6 +78,7 @@ fn reorder_prev(
     reorder_at(alloc, doc, value, prev, command)
 }
 
+// Force the value, step 2: the next sibling.
 #[tactic(auto, using(edit_model::proofs::Steps::steps, edit_model::proofs::Steps::exits), unfolding(crate::specs::Forcing::reorder_next))]
 fn reorder_next(
     alloc: Global,
@@ -132,6 +134,7 @@ fn rename_link(alloc: Global, doc: &mut Doc, node: NodeRef) -> Result<(), EditFa
     Ok(())
 }
 
+// Force the value, step 5, line a: each of the links.
 #[tactic(auto, using(edit_model::proofs::Steps::eachs, edit_model::proofs::Steps::exits))]
 fn rename_each(alloc: Global, doc: &mut Doc, list: &[NodeRef]) -> Result<(), EditFault>
     requires open { IsOpen doc.old }
@@ -157,6 +160,7 @@ fn rename_links(alloc: Global, doc: &mut Doc, node: NodeRef) -> Result<(), EditF
     rename_each(alloc, doc, &list)
 }
 
+// Force the value, step 5, line a: for createLink and unlink alone.
 #[tactic(auto, using(edit_model::proofs::Steps::steps, edit_model::proofs::Steps::exits))]
 fn clear_way(alloc: Global, doc: &mut Doc, node: NodeRef, command: Command) -> Result<(), EditFault>
     requires open { IsOpen doc.old }
@@ -190,6 +194,7 @@ fn make_wrapper(
     doc.make_element(&blank.name, &blank.attributes)
 }
 
+// Force the value, step 7: sets the relevant property, if there is one.
 #[tactic(auto, using(edit_model::proofs::Steps::steps, edit_model::proofs::Steps::exits))]
 fn set_property(
     alloc: Global,
@@ -209,6 +214,7 @@ fn set_property(
     }
 }
 
+// Force the value, step 7: sets what the command's subject takes.
 #[tactic(auto, using(edit_model::proofs::Steps::steps, edit_model::proofs::Steps::exits))]
 fn style_by(
     alloc: Global,
@@ -413,7 +419,7 @@ fn heirs(alloc: Global, doc: &Doc, node: NodeRef) -> Result<Vec<NodeRef>, AllocE
     }
 }
 
-// Forces the value on a child, unless it gives another one.
+// Force the value, steps 4 and 9: on a child, unless it gives another one.
 #[cycle(nesting)]
 #[tactic(auto, using(edit_model::proofs::Steps::steps, edit_model::proofs::Steps::exits), unfolding(crate::specs::Forcing::force_child))]
 fn force_child(
@@ -436,6 +442,7 @@ fn force_child(
     forced(alloc, doc, fuel, value, child, command)
 }
 
+// Force the value, steps 4 and 9: on each child, in order.
 #[cycle(nesting)]
 #[tactic(auto, using(edit_model::proofs::Steps::eachs, edit_model::proofs::Steps::exits))]
 fn force_each(
@@ -484,7 +491,7 @@ fn forced(
     force_each(alloc, doc, fuel - 1, value, &children, command)
 }
 
-// Force the value, for a value that isn't null.
+// Force the value, steps 1 to 9, for a value that isn't null.
 #[tactic(auto, using(edit_model::proofs::Steps::steps, edit_model::proofs::Steps::exits), unfolding(crate::specs::Forcing::force_value))]
 fn force_value(
     alloc: Global,

@@ -117,6 +117,7 @@ fn push_to(
     force(alloc, doc, value, child, command)
 }
 
+// Push down, step 5: on each child, in order.
 #[tactic(auto, using(edit_model::proofs::Steps::eachs, edit_model::proofs::Steps::exits))]
 fn push_to_each(
     alloc: Global,

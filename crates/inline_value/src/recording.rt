@@ -233,6 +233,7 @@ fn restore_value(alloc: Global, doc: &mut Doc, entry: &Value) -> Result<(), Edit
     }
 }
 
+// Restore the values, step 1: each entry, in order.
 #[tactic(auto, using(edit_model::proofs::Steps::steps, edit_model::proofs::Steps::exits), unfolding(crate::specs::Recording::restore_values))]
 fn restore_each(alloc: Global, doc: &mut Doc, list: &[Value]) -> Result<(), EditFault>
     requires open { IsOpen doc.old }
@@ -246,7 +247,8 @@ fn restore_each(alloc: Global, doc: &mut Doc, list: &[Value]) -> Result<(), Edit
     Ok(())
 }
 
-/// Gives each node the recorded value again where it has another one now.
+/// Gives each node the recorded value again where it has another one now (HTML Editing APIs,
+/// "restore the values").
 pub fn restore_values(alloc: Global, doc: &mut Doc, values: &Values) -> Result<(), EditFault>
     requires open { IsOpen doc.old }
     requires values_held { EachHeld doc.old (nodes_of values.now) }

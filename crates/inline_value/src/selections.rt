@@ -57,7 +57,7 @@ fn at_least(doc: &Doc, other: Point, at: Point) -> Point
     }
 }
 
-// Sets the start of the range of a pair to a point. An end before it goes along.
+// Split the ends, step 1: sets the start of the range of a pair. An end before it goes along.
 #[tactic(auto, using(edit_model::proofs::Steps::actions))]
 fn set_start_of(doc: &mut Doc, pair: Pair, at: Point) -> Result<(), EditFault>
     requires open { IsOpen doc.old }
@@ -76,7 +76,7 @@ fn set_start_of(doc: &mut Doc, pair: Pair, at: Point) -> Result<(), EditFault>
     Ok(())
 }
 
-// Sets the start of the active range to a point (DOM Standard, "set the start").
+// Split the ends, step 1: sets the start of the active range (DOM Standard, "set the start").
 #[tactic(auto, using(edit_model::proofs::Steps::steps, edit_model::proofs::Steps::exits), unfolding(crate::specs::Selections::set_start))]
 fn set_start(doc: &mut Doc, at: Point) -> Result<(), EditFault>
     requires open { IsOpen doc.old }
@@ -305,7 +305,7 @@ fn override_for(
     }
 }
 
-// Unsets the override of the script that excludes the command's.
+// Set the value, step 1: unsets the override of the script that excludes the command's.
 #[tactic(auto, using(edit_model::proofs::Steps::actions))]
 fn unset_rival(doc: &mut Doc, command: Command) -> Result<(), EditFault>
     requires open { IsOpen doc.old }
@@ -320,7 +320,7 @@ fn unset_rival(doc: &mut Doc, command: Command) -> Result<(), EditFault>
     Ok(())
 }
 
-// Sets the override that a command gets for a value, if it gets one.
+// Set the value, step 1: sets the override that a command gets for a value, if it gets one.
 #[tactic(auto, using(edit_model::proofs::Steps::actions, edit_model::proofs::Steps::exits))]
 fn set_override(
     alloc: Global,
@@ -360,6 +360,7 @@ fn set_overrides(
 
 // ---- set the value, steps 3 and 4
 
+// Set the value, step 3: one element.
 #[tactic(auto, using(edit_model::proofs::Steps::steps, edit_model::proofs::Steps::exits), unfolding(crate::specs::Selections::clear_one))]
 fn clear_one(alloc: Global, doc: &mut Doc, node: NodeRef, command: Command) -> Result<(), EditFault>
     requires open { IsOpen doc.old }
@@ -371,6 +372,7 @@ fn clear_one(alloc: Global, doc: &mut Doc, node: NodeRef, command: Command) -> R
     Ok(())
 }
 
+// Set the value, step 3: each element, in order.
 #[tactic(auto, using(edit_model::proofs::Steps::eachs, edit_model::proofs::Steps::exits))]
 fn clear_each(
     alloc: Global,
@@ -421,6 +423,7 @@ fn force_phrase(
     Ok(())
 }
 
+// Set the value, step 4: one node.
 #[tactic(auto, using(edit_model::proofs::Steps::steps, edit_model::proofs::Steps::exits), unfolding(crate::specs::Selections::give_node))]
 fn give_node(
     alloc: Global,
@@ -439,6 +442,7 @@ fn give_node(
     force_phrase(alloc, doc, value, node, command)
 }
 
+// Set the value, step 4: each node, in order.
 #[tactic(auto, using(edit_model::proofs::Steps::eachs, edit_model::proofs::Steps::exits))]
 fn give_each(
     alloc: Global,
@@ -492,8 +496,8 @@ fn give_range(
     give_nodes(alloc, doc, value, command)
 }
 
-/// Gives what the active range contains the value; `None` is null. Where it contains nothing formattable, the command's
-/// override is set instead.
+/// Gives what the active range contains the value (HTML Editing APIs, "set the selection's value");
+/// `None` is null. Where it contains nothing formattable, the command's override is set instead.
 #[tactic(auto, using(edit_model::proofs::Steps::steps, edit_model::proofs::Steps::exits), unfolding(crate::specs::Selections::set_value))]
 pub fn set_value(
     alloc: Global,

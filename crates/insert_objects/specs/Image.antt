@@ -15,10 +15,12 @@ abbrev pub if_lone_break : State → Option ℕ → Option ℕ
 if_lone_break s None = None
 if_lone_break s (Some k) = if is_break s.trees k && is_none (next_of s.trees k) then Some k else None
 
+-- insertImage, step 3: such a br, where the point is the start of a block
 unfoldable pub lone_break : State → Point → Option ℕ
 lone_break s p =
     if (p.offset == 0) && is_block s.trees p.label then if_lone_break s (first_of s.trees p.label) else None
 
+-- insertImage, step 3: it goes
 unfoldable pub drop_lone_break : Point → Run (Unit {0})
 drop_lone_break p = look λ s. given (lone_break s p) done λ k. remove k >> done
 
@@ -26,6 +28,7 @@ drop_lone_break p = look λ s. given (lone_break s p) done λ k. remove k >> don
 abbrev pub source : List ℕ → List Attribute
 source value = record { name = codes "src"; value = value } ∷ []
 
+-- insertImage, step 4
 unfoldable pub put_image : List ℕ → Run Bool
 put_image value = do
   n ← put (codes "img") (source value)
@@ -45,5 +48,6 @@ abbrev pub image_from : List ℕ → Run Bool
 image_from [] = answer false
 image_from (c ∷ v) = insert_source (c ∷ v)
 
+-- insertImage, steps 1 to 4
 unfoldable pub insert_image : List ℕ → Run Bool
 insert_image value = image_from value

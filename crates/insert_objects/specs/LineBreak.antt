@@ -23,6 +23,7 @@ takes_break s n =
 unfoldable pub shows_no_line : State → ℕ → Bool
 shows_no_line s n = is_extraneous_break s.trees n || is_collapsed_break s.trees n
 
+-- insertLineBreak, step 4
 unfoldable pub repeat_break : ℕ → Run (Unit {0})
 repeat_break n = look λ s. if shows_no_line s n then make_break >>= insert_at_start else done
 

@@ -22,9 +22,11 @@ from_start_inside k = look λ s. given (start_inside s) (answer true) k
 
 -- ---- the place just before a node, and just after it
 
+-- put an element, step 3: collapse to just before a node
 unfoldable pub collapse_before : ℕ → Run (Unit {0})
 collapse_before n = look λ s. given (before_node s.trees n) done collapse
 
+-- put an element, steps 2 and 3: collapse to just after a node
 unfoldable pub collapse_after : ℕ → Run (Unit {0})
 collapse_after n = look λ s. given (after_node s.trees n) done collapse
 
@@ -38,6 +40,7 @@ split_at p = split_words p.label p.offset >> collapse_after p.label
 unfoldable pub is_past : State → Point → Bool
 is_past s p = (p.offset == length_of s.trees p.label) && not (p.offset == 0)
 
+-- put an element, step 3
 unfoldable pub leave_text : Point → Run (Unit {0})
 leave_text p = look λ s. if is_past s p then collapse_after p.label else collapse_before p.label
 
@@ -46,6 +49,7 @@ unfoldable pub part_text : Point → Run (Unit {0})
 part_text p = look λ s.
     if cuts_text s.trees p then split_at p else (if has_chars_at s.trees p.label then leave_text p else done)
 
+-- put an element, steps 2 and 3, at the start of the active range
 unfoldable pub part_start : Run (Unit {0})
 part_start = look λ s. given s.points.selection done λ pair. part_text (start_of s.trees pair)
 

@@ -19,20 +19,25 @@ use Rattle.insert_objects.specs.Putting.{from_start_inside, collapse_after, put}
 unfoldable pub out_of_start : State → Point → Option Point
 out_of_start s p = if (p.offset == 0) && not (is_label s.host p.label) then before_node s.trees p.label else None
 
+-- insertHorizontalRule, step 1: and from its end
 unfoldable pub out_of_end : State → Point → Option Point
 out_of_end s p =
     if (p.offset == length_of s.trees p.label) && not (is_label s.host p.label) then after_node s.trees p.label
     else None
 
+-- insertHorizontalRule, step 1: as far out as it goes
 unfoldable pub outermost_start : State → Point → Point
 outermost_start s p = walk_points (out_of_start s) (turn_bound s) p
 
+-- insertHorizontalRule, step 1: as far out as it goes, from the end
 unfoldable pub outermost_end : State → Point → Point
 outermost_end s p = walk_points (out_of_end s) (turn_bound s) p
 
+-- insertHorizontalRule, step 1: what lies between the two is selected
 abbrev pub select_widened : State → Pair → Run (Unit {0})
 select_widened s pair = select (outermost_start s (start_of s.trees pair)) (outermost_end s (end_of s.trees pair))
 
+-- insertHorizontalRule, step 1
 unfoldable pub widen_range : Run (Unit {0})
 widen_range = look λ s. given s.points.selection done (select_widened s)
 

@@ -14,7 +14,7 @@ use point_order::node_of;
 use std::alloc::Global;
 use text_insertion::{cuts_text, has_chars, insert_at_start};
 
-// Collapses the active range to just before a node.
+// Put an element, step 3: collapses the active range to just before a node.
 #[tactic(auto, using(edit_model::proofs::Steps::actions), unfolding(crate::specs::Putting::collapse_before))]
 fn collapse_before(doc: &mut Doc, node: NodeRef) -> Result<(), EditFault>
     requires open { IsOpen doc.old }
@@ -28,7 +28,7 @@ fn collapse_before(doc: &mut Doc, node: NodeRef) -> Result<(), EditFault>
     Ok(())
 }
 
-/// Collapses the active range to just after a node.
+/// Collapses the active range to just after a node (put an element, steps 2 and 3).
 #[tactic(auto, using(edit_model::proofs::Steps::actions), unfolding(crate::specs::Putting::collapse_after))]
 pub(crate) fn collapse_after(doc: &mut Doc, node: NodeRef) -> Result<(), EditFault>
     requires open { IsOpen doc.old }

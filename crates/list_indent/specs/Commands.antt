@@ -44,9 +44,11 @@ abbrev pub items_by : Forest Content → Option Pair → List ℕ
 items_by f None = []
 items_by f (Some pair) = items_around f (start_of f pair).label (end_of f pair).label
 
+-- indent and outdent, step 1: the items around the ends of the active range
 unfoldable pub range_items : State → List ℕ
 range_items s = items_by s.trees s.points.selection
 
+-- indent and outdent, step 1: each of them, in order
 unfoldable pub normalize_range : Run (Unit {0})
 normalize_range = look λ s. for_each (range_items s) normalize_sublists
 
@@ -78,6 +80,7 @@ unfoldable pub normalize_before : ℕ → Run (Unit {0})
 normalize_before n = look λ s.
     if is_item s n && is_in_list s n then given (shown_before s n) done normalize_sublists else done
 
+-- indent, step 3: from the first visible member
 unfoldable pub normalize_first : List ℕ → Run (Unit {0})
 normalize_first list = look λ s. given (first_visible s list) done normalize_before
 
@@ -85,6 +88,7 @@ normalize_first list = look λ s. given (first_visible s list) done normalize_be
 abbrev pub goes_on : State → ℕ → ℕ → Bool
 goes_on s x y = is_next s.trees x y
 
+-- indent, steps 3 and 4
 unfoldable pub indent_nodes : List ℕ → Run (Unit {0})
 indent_nodes list = do
   normalize_first list
@@ -133,12 +137,15 @@ split_items list = do
   for_each list fix_ancestors
   restore_values values
 
+-- outdent, step 3: x alone, or a series that begins with it
 unfoldable pub outdent_from : List ℕ → ℕ → Run (Unit {0})
 outdent_from list x = look λ s. if is_lone s x then outdent_node x else split_items list
 
+-- outdent, step 3: one turn
 unfoldable pub outdent_series : List ℕ → Run (Unit {0})
 outdent_series list = given (first_in list) done (outdent_from list)
 
+-- outdent, step 3: series by series
 unfoldable pub outdent_nodes : List ℕ → Run (Unit {0})
 outdent_nodes list = for_series goes_on_items outdent_series 0 list
 

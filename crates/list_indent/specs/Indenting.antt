@@ -23,9 +23,11 @@ nested list p = look λ s. wrap (Named (tag_of s.trees p) false) (Make (bare (ta
 abbrev pub fixed : Option ℕ → Run (Unit {0})
 fixed o = given o done fix_ancestors
 
+-- indent a list, step 3: the list is wrapped
 unfoldable pub wrap_quote : List ℕ → Run (Option ℕ)
 wrap_quote list = wrap SimpleIndentation (Make (bare (codes "blockquote"))) list
 
+-- indent a list, step 3
 unfoldable pub quoted : List ℕ → Run (Unit {0})
 quoted list = wrap_quote list >>= fixed
 

@@ -24,6 +24,7 @@ use Rattle.list_indent.specs.Indenting.{indent_list}
 
 -- ---- outdent a node, steps 2 and 3: an indentation element
 
+-- outdent a node, steps 3 and 5: its tag name is set to div
 unfoldable pub to_div : ℕ → Run (Unit {0})
 to_div n = look λ s. if is_element_at s.trees n then set_tag_name n (codes "div") >> done else done
 
@@ -71,27 +72,33 @@ passed_by simple s n = leading (is_passed simple s) (ancestors s.trees n)
 unfoldable pub indenter : State → ℕ → Option ℕ
 indenter s n = either (indenter_by true s n) (indenter_by false s n)
 
+-- outdent a node, step 4: the ancestors passed on the way to it
 unfoldable pub passed : State → ℕ → List ℕ
 passed s n = passed_by (is_some (indenter_by true s n)) s n
 
 -- ---- outdent a node, step 5: a list that stands in no indentation element
 
+-- outdent a node, step 5: the list goes, and its children keep their values
 unfoldable pub unwrapped : ℕ → List ℕ → Run (Unit {0})
 unwrapped n children = do
   values ← record_values children
   remove_keeping_children n
   restore_values values
 
+-- outdent a node, step 5: it becomes a div, or it goes
 unfoldable pub released : ℕ → List ℕ → Run (Unit {0})
 released n children = look λ s.
     if not (is_without_attributes s.trees n) && not (is_in_list s n) then to_div n else unwrapped n children
 
+-- outdent a node, step 5: then disallowed ancestors of the children are fixed
 unfoldable pub dissolved : ℕ → List ℕ → Run (Unit {0})
 dissolved n children = released n children >> for_each children fix_ancestors
 
+-- outdent a node, step 5: with the children of the list
 unfoldable pub dissolve : ℕ → Run (Unit {0})
 dissolve n = look λ s. dissolved n (children_of s.trees n)
 
+-- outdent a node, step 5
 unfoldable pub outdent_list : ℕ → Run (Unit {0})
 outdent_list n = do
   unset_attribute n (codes "reversed")
@@ -105,9 +112,11 @@ outdent_list n = do
 unfoldable pub child_on_way : State → ℕ → ℕ → Option ℕ → Option ℕ
 child_on_way s e n below = find (λ k. k == n || is_label below k) (children_of s.trees e)
 
+-- outdent a node, step 7: the br after t goes
 unfoldable pub drop_break : ℕ → Run (Unit {0})
 drop_break t = look λ s. given (break_next s t) done λ b. remove b >> done
 
+-- outdent a node, step 7: the siblings before t are indented
 unfoldable pub indent_before : ℕ → ℕ → Run (Unit {0})
 indent_before e t = look λ s. indent_list (until t (children_of s.trees e))
 
@@ -119,20 +128,22 @@ rest_after t (x ∷ xs) = if x == t then xs else rest_after t xs
 unfoldable pub siblings_after : State → ℕ → List ℕ
 siblings_after s t = option_map_or (λ p. rest_after t (children_of s.trees p)) (parent_of s.trees t) []
 
+-- outdent a node, step 7: the siblings after t are indented
 unfoldable pub indent_after : ℕ → Run (Unit {0})
 indent_after t = look λ s. indent_list (siblings_after s t)
 
+-- outdent a node, step 7: around the child t of e
 unfoldable pub part_around : ℕ → ℕ → Run (Unit {0})
 part_around e t = do
   drop_break t
   indent_before e t
   indent_after t
 
--- one turn, with e taken
+-- outdent a node, step 7: one turn, with e taken
 unfoldable pub part_level : ℕ → Option ℕ → ℕ → Run (Unit {0})
 part_level n below e = look λ s. given (child_on_way s e n below) done (part_around e)
 
--- from the outermost in
+-- outdent a node, step 7: from the outermost in
 unfoldable pub part_levels : ℕ → List ℕ → Run (Unit {0})
 part_levels n [] = done
 part_levels n (e ∷ list) = part_level n (first_in list) e >> part_levels n list

@@ -43,18 +43,22 @@ has_sublist item s follower = list_any (is_list s) (children_of s.trees item)
 unfoldable pub leaves : State → Option ℕ → ℕ → Bool
 leaves s follower c = is_list s c || (is_none follower && is_blank s c)
 
+-- normalize sublists, step 2: c comes to stand just after the item, and the follower is none
 unfoldable pub parted : ℕ → ℕ → Run (Option ℕ)
 parted item c = move_after item c >> answer None
 
+-- normalize sublists, step 2: a new li just after the item
 unfoldable pub make_follower : ℕ → Run ℕ
 make_follower item = do
   x ← make_element (codes "li") []
   insert_after item x
   answer x
 
+-- normalize sublists, step 2: the follower, which is made where there is none
 unfoldable pub follower_of : ℕ → Option ℕ → Run ℕ
 follower_of item follower = given follower (make_follower item) answer
 
+-- normalize sublists, step 2: c goes to the front of the follower n
 unfoldable pub handed_on : ℕ → ℕ → Run (Option ℕ)
 handed_on c n = move_first n c >> answer (Some n)
 
@@ -63,9 +67,11 @@ unfoldable pub part_child : ℕ → Option ℕ → ℕ → Run (Option ℕ)
 part_child item follower c = look λ s.
     if leaves s follower c then parted item c else (follower_of item follower >>= handed_on c)
 
+-- normalize sublists, step 2: one turn
 unfoldable pub part_last : ℕ → Option ℕ → Run (Option ℕ)
 part_last item follower = look λ s. given (last_of s.trees item) (answer follower) (part_child item follower)
 
+-- normalize sublists, step 2: while a list is among the item's children
 unfoldable pub part_sublists : ℕ → Run (Unit {0})
 part_sublists item = look λ s. while_at_most (turn_bound s) (has_sublist item) (part_last item) None >> done
 

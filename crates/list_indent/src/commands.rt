@@ -22,7 +22,7 @@ use node_tests::is_visible;
 use std::alloc::Global;
 use wrap_split::{first_visible, split_parent};
 
-/// Normalizes the sublists of each node of a list.
+/// Normalizes the sublists of each node of a list (indent and outdent, step 1).
 #[tactic(auto, using(edit_model::proofs::Steps::eachs, edit_model::proofs::Steps::exits))]
 pub fn normalize_each(alloc: Global, doc: &mut Doc, list: &[NodeRef]) -> Result<(), EditFault>
     requires open { IsOpen doc.old }
@@ -127,6 +127,7 @@ fn indent_each(alloc: Global, doc: &mut Doc, list: &[NodeRef]) -> Result<(), Edi
     Ok(())
 }
 
+// Indent, steps 3 and 4.
 #[tactic(auto, using(edit_model::proofs::Steps::steps, edit_model::proofs::Steps::exits), unfolding(crate::specs::Commands::indent_nodes))]
 fn indent_nodes(alloc: Global, doc: &mut Doc, list: &[NodeRef]) -> Result<(), EditFault>
     requires open { IsOpen doc.old }
@@ -200,6 +201,7 @@ pub fn split_items(alloc: Global, doc: &mut Doc, list: &NodeList) -> Result<(), 
     restore_values(alloc, doc, &values)
 }
 
+// Outdent, step 3: the first member alone, or a series that begins with it.
 #[tactic(auto, using(edit_model::proofs::Steps::steps, edit_model::proofs::Steps::exits), unfolding(crate::specs::Commands::outdent_from))]
 fn outdent_from(
     alloc: Global,

@@ -41,7 +41,7 @@ fn nest(alloc: Global, doc: &mut Doc, list: NodeList, parent: NodeRef) -> Result
     Ok(())
 }
 
-/// Fixes the disallowed ancestors of a node, if there is one.
+/// Fixes the disallowed ancestors of a node, if there is one (indent a list, step 3).
 #[tactic(auto, using(edit_model::proofs::Steps::steps, edit_model::proofs::Steps::exits))]
 pub fn fix(alloc: Global, doc: &mut Doc, node: Option<NodeRef>) -> Result<(), EditFault>
     requires open { IsOpen doc.old }
@@ -62,7 +62,7 @@ fn blockquote(alloc: Global) -> Result<Blank, AllocError>
     bare(alloc, b"blockquote")
 }
 
-// Wraps siblings in a simple indentation element.
+// Indent a list, step 3: wraps siblings in a simple indentation element.
 #[tactic(auto, using(edit_model::proofs::Steps::steps, edit_model::proofs::Steps::exits), unfolding(crate::specs::Indenting::wrap_quote))]
 fn wrap_quote(alloc: Global, doc: &mut Doc, list: NodeList) -> Result<Option<NodeRef>, EditFault>
     requires open { IsOpen doc.old }

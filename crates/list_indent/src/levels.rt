@@ -42,6 +42,7 @@ fn child_on_way(
     None
 }
 
+// Step 7: the br after a child goes.
 #[tactic(auto, using(edit_model::proofs::Steps::steps, edit_model::proofs::Steps::exits), unfolding(crate::specs::Outdenting::drop_break))]
 fn drop_break(doc: &mut Doc, node: NodeRef) -> Result<(), EditFault>
     requires open { IsOpen doc.old }
@@ -56,7 +57,7 @@ fn drop_break(doc: &mut Doc, node: NodeRef) -> Result<(), EditFault>
     Ok(())
 }
 
-// Indents the siblings before a child.
+// Step 7: indents the siblings before a child.
 #[tactic(auto, using(edit_model::proofs::Steps::steps, edit_model::proofs::Steps::exits), unfolding(crate::specs::Outdenting::indent_before))]
 fn indent_before(
     alloc: Global,
@@ -105,6 +106,7 @@ fn siblings_after(alloc: Global, doc: &Doc, node: NodeRef) -> Result<NodeList, A
     NodeList::from_slice(alloc, &children[at..])
 }
 
+// Step 7: indents the siblings after a child.
 #[tactic(auto, using(edit_model::proofs::Steps::steps, edit_model::proofs::Steps::exits), unfolding(crate::specs::Outdenting::indent_after))]
 fn indent_after(alloc: Global, doc: &mut Doc, child: NodeRef) -> Result<(), EditFault>
     requires open { IsOpen doc.old }
@@ -116,6 +118,7 @@ fn indent_after(alloc: Global, doc: &mut Doc, child: NodeRef) -> Result<(), Edit
     indent_list(alloc, doc, list)
 }
 
+// Step 7: around a child.
 #[tactic(auto, using(edit_model::proofs::Steps::steps, edit_model::proofs::Steps::exits), unfolding(crate::specs::Outdenting::part_around))]
 fn part_around(
     alloc: Global,
@@ -134,7 +137,7 @@ fn part_around(
     indent_after(alloc, doc, child)
 }
 
-// One turn, with the element taken.
+// Step 7: one turn, with the element taken.
 #[tactic(auto, using(edit_model::proofs::Steps::steps, edit_model::proofs::Steps::exits), unfolding(crate::specs::Outdenting::part_level))]
 fn part_level(
     alloc: Global,
@@ -167,7 +170,7 @@ fn member_before(list: &[NodeRef], index: usize) -> Option<NodeRef>
     }
 }
 
-// Parts each of the elements, of which the last one is the outermost.
+// Step 7: parts each of the elements, of which the last one is the outermost.
 #[tactic(auto, using(crate::proofs::Downward::levels, edit_model::proofs::Steps::exits))]
 pub(crate) fn part_levels(
     alloc: Global,

@@ -19,7 +19,7 @@ use node_tests::{is_element, is_indentation, is_simple_indentation};
 use std::alloc::{AllocError, Global};
 use wrap_split::{is_without_attributes, remove_keeping_children};
 
-// Names an element div.
+// Outdent a node, steps 3 and 5: names an element div.
 #[tactic(auto, using(edit_model::proofs::Steps::steps, edit_model::proofs::Steps::exits), unfolding(crate::specs::Outdenting::to_div))]
 fn name_div(alloc: Global, doc: &mut Doc, node: NodeRef) -> Result<(), EditFault>
     requires open { IsOpen doc.old }
@@ -34,7 +34,7 @@ fn name_div(alloc: Global, doc: &mut Doc, node: NodeRef) -> Result<(), EditFault
     Ok(())
 }
 
-// Unsets the box properties in the style of an element.
+// Outdent a node, step 3: unsets the box properties in the style of an element.
 fn unset_boxes(alloc: Global, doc: &mut Doc, node: NodeRef) -> Result<(), EditFault>
     requires open { IsOpen doc.old }
     requires node_held { Holds doc.old node }
@@ -176,6 +176,7 @@ fn unwrap(
     restore_values(alloc, doc, &values)
 }
 
+// Outdent a node, step 5: the list becomes a div, or it goes.
 #[tactic(auto, using(edit_model::proofs::Steps::steps, edit_model::proofs::Steps::exits), unfolding(crate::specs::Outdenting::released))]
 fn release(
     alloc: Global,
@@ -196,7 +197,7 @@ fn release(
     }
 }
 
-// Fixes disallowed ancestors of each node of a list.
+// Outdent a node, step 5: fixes disallowed ancestors of each node of a list.
 #[tactic(auto, using(edit_model::proofs::Steps::eachs, edit_model::proofs::Steps::exits))]
 pub(crate) fn fix_each(alloc: Global, doc: &mut Doc, list: &[NodeRef]) -> Result<(), EditFault>
     requires open { IsOpen doc.old }
@@ -210,6 +211,7 @@ pub(crate) fn fix_each(alloc: Global, doc: &mut Doc, list: &[NodeRef]) -> Result
     Ok(())
 }
 
+// Outdent a node, step 5, with the children of the list.
 #[tactic(auto, using(edit_model::proofs::Steps::steps, edit_model::proofs::Steps::exits), unfolding(crate::specs::Outdenting::dissolve, crate::specs::Outdenting::dissolved))]
 fn dissolve(alloc: Global, doc: &mut Doc, node: NodeRef) -> Result<(), EditFault>
     requires open { IsOpen doc.old }

@@ -30,6 +30,7 @@ fn leaves(doc: &Doc, follower: Option<NodeRef>, child: NodeRef) -> bool
     is_list(doc, child) || (follower.is_none() && is_blank(doc, child))
 }
 
+// Normalize sublists, step 2: a child comes to stand just after the item.
 #[tactic(auto, using(edit_model::proofs::Steps::steps, edit_model::proofs::Steps::exits), unfolding(crate::specs::Sublists::parted))]
 fn part(doc: &mut Doc, item: NodeRef, child: NodeRef) -> Result<Option<NodeRef>, EditFault>
     requires open { IsOpen doc.old }
@@ -43,7 +44,7 @@ fn part(doc: &mut Doc, item: NodeRef, child: NodeRef) -> Result<Option<NodeRef>,
     Ok(None)
 }
 
-// Makes an empty item after an item.
+// Normalize sublists, step 2: makes an empty item after an item.
 #[tactic(auto, using(edit_model::proofs::Steps::steps, edit_model::proofs::Steps::exits), unfolding(crate::specs::Sublists::make_follower))]
 fn make_follower(alloc: Global, doc: &mut Doc, item: NodeRef) -> Result<NodeRef, EditFault>
     requires open { IsOpen doc.old }
@@ -58,6 +59,7 @@ fn make_follower(alloc: Global, doc: &mut Doc, item: NodeRef) -> Result<NodeRef,
     Ok(made)
 }
 
+// Normalize sublists, step 2: the follower, which is made where there is none.
 #[tactic(auto, using(edit_model::proofs::Steps::steps, edit_model::proofs::Steps::exits), unfolding(crate::specs::Sublists::follower_of))]
 fn follower_of(
     alloc: Global,
@@ -78,6 +80,7 @@ fn follower_of(
     }
 }
 
+// Normalize sublists, step 2: a child goes to the front of the follower.
 #[tactic(auto, using(edit_model::proofs::Steps::steps, edit_model::proofs::Steps::exits), unfolding(crate::specs::Sublists::handed_on))]
 fn hand_on(doc: &mut Doc, child: NodeRef, follower: NodeRef) -> Result<Option<NodeRef>, EditFault>
     requires open { IsOpen doc.old }
@@ -116,6 +119,7 @@ fn part_child(
     hand_on(doc, child, next)
 }
 
+// Normalize sublists, step 2: one turn, with the last child.
 #[tactic(auto, using(edit_model::proofs::Steps::steps, edit_model::proofs::Steps::exits), unfolding(crate::specs::Sublists::part_last))]
 fn part_last(
     alloc: Global,
@@ -168,8 +172,9 @@ fn is_normalizable(doc: &Doc, node: NodeRef) -> bool
     }
 }
 
-/// Takes the lists out of an item: they come to stand after it, and what stands between them in
-/// items of its own. A node that is no editable li of an editable parent stays as it is.
+/// Takes the lists out of an item (HTML Editing APIs, "normalize sublists"): they come to stand
+/// after it, and what stands between them in items of its own. A node that is no editable li of an
+/// editable parent stays as it is.
 #[tactic(auto, using(edit_model::proofs::Steps::steps, edit_model::proofs::Steps::exits), unfolding(crate::specs::Sublists::normalize_sublists))]
 pub fn normalize_sublists(alloc: Global, doc: &mut Doc, node: NodeRef) -> Result<(), EditFault>
     requires open { IsOpen doc.old }

@@ -28,9 +28,11 @@ Collected = List ℕ × List ℕ
 unfoldable pub is_container : State → ℕ → Bool
 is_container s l = has_name s.trees l (codes "p") || has_name s.trees l (codes "div")
 
+-- toggle lists, step 6 a: x is the item, and one member is taken
 abbrev pub made_one : ℕ → Run Made
 made_one x = answer (Some x, 1)
 
+-- toggle lists, step 6 a: a p or div becomes an li
 unfoldable pub rename_item : ℕ → Run Made
 rename_item l = set_tag_name l (codes "li") >>= made_one
 
@@ -39,24 +41,29 @@ unfoldable pub goes_on_line : State → ℕ → ℕ → Bool
 goes_on_line s x y =
     is_next s.trees x y && (not (is_block s.trees y) && (not (is_block s.trees x) && not (is_break s.trees x)))
 
+-- toggle lists, step 6 a: a line is wrapped in a new li
 unfoldable pub wrap_item : List ℕ → Run (Option ℕ)
 wrap_item line = wrap Never (Make (bare (codes "li"))) line
 
+-- toggle lists, step 6 a: the item that was made, if any, and so many members taken
 abbrev pub made_of : ℕ → Option ℕ → Run Made
 made_of count made = answer (made, count)
 
+-- toggle lists, step 6 a: so many members are wrapped as a line
 unfoldable pub wrap_first : ℕ → List ℕ → Run Made
 wrap_first count list = wrap_item (take count list) >>= made_of count
 
+-- toggle lists, step 6 a: the line that the list begins with is wrapped
 unfoldable pub wrap_line : List ℕ → Run Made
 wrap_line list = look λ s. wrap_first (count_series (goes_on_line s) list) list
 
--- items and lists stay as they are
+-- toggle lists, step 6 a: the first member x becomes an item; items and lists stay as they are
 unfoldable pub make_item : List ℕ → ℕ → Run Made
 make_item list x = look λ s.
     if is_container s x then rename_item x
     else (if is_item s x || is_list s x then made_one x else wrap_line list)
 
+-- toggle lists, step 6 a: what one turn takes from the front of the list
 unfoldable pub next_item : List ℕ → Run Made
 next_item list = given (first_in list) (answer (None, 0)) (make_item list)
 
@@ -68,14 +75,18 @@ follows s last None = false
 follows s None (Some x) = true
 follows s (Some z) (Some x) = is_next s.trees z x
 
+-- toggle lists, step 6 a: as long as the first member left goes on the series
 unfoldable pub goes_on : State → Collected → Bool
 goes_on s c = follows s (last_in c.0) (first_in c.1)
 
+-- toggle lists, step 6 a: the item is appended, and the members taken are left out
 abbrev pub collected : Collected → Made → Run Collected
 collected c made = answer (c.0 ++ one_of made.0, drop made.1 c.1)
 
+-- toggle lists, step 6 a: one turn
 unfoldable pub collect_next : Collected → Run Collected
 collect_next c = next_item c.1 >>= collected c
 
+-- toggle lists, step 6 a
 unfoldable pub collect_items : List ℕ → Run Collected
 collect_items list = look λ s. while_at_most (turn_bound s) goes_on collect_next ([], list)

@@ -32,6 +32,7 @@ join ordered children = do
   wrap (Named (list_name ordered) false) Nothing children
   restore_values values
 
+-- toggle lists, step 3: a list with such a neighbour
 unfoldable pub join_list : Bool → ℕ → Run (Unit {0})
 join_list ordered l = look λ s. join ordered (children_of s.trees l)
 
@@ -39,8 +40,10 @@ join_list ordered l = look λ s. join ordered (children_of s.trees l)
 unfoldable pub name_list : Bool → ℕ → Run (Unit {0})
 name_list ordered l = look λ s. if is_element_at s.trees l then set_tag_name l (list_name ordered) >> done else done
 
+-- toggle lists, step 3: one list of the other kind
 unfoldable pub convert_list : Bool → ℕ → Run (Unit {0})
 convert_list ordered l = look λ s. if is_beside_fit ordered s l then join_list ordered l else name_list ordered l
 
+-- toggle lists, step 3: each list of the other kind, in tree order
 unfoldable pub convert_lists : Bool → Run (Unit {0})
 convert_lists ordered = look λ s. for_each (other_lists ordered s) (convert_list ordered)

@@ -23,6 +23,7 @@ pair_of range = record { anchor = range.0; focus = range.1 }
 abbrev pub extended_pair : Forest Content → Pair → Pair
 extended_pair f pair = pair_of (block_extend f (start_of f pair) (end_of f pair))
 
+-- toggle lists, step 2
 unfoldable pub keep_range : Run (Unit {0})
 keep_range = look λ s. given s.points.selection done λ pair. set_scratch (extended_pair s.trees pair)
 
@@ -30,6 +31,7 @@ keep_range = look λ s. given s.points.selection done λ pair. set_scratch (exte
 abbrev pub document_start : Point
 document_start = record { label = 0; offset = 0 }
 
+-- toggle lists, step 4: the range is let go
 unfoldable pub free_range : Run (Unit {0})
 free_range = set_scratch (record { anchor = document_start; focus = document_start })
 

@@ -32,12 +32,15 @@ unfoldable pub goes_on_out : Bool → State → ℕ → ℕ → Bool
 goes_on_out ordered s x y =
     is_next s.trees x y && (not (is_list_of ordered s.trees x) && not (is_list_of ordered s.trees y))
 
+-- toggle lists, step 5: x alone, or a series that begins with it
 unfoldable pub release_from : Bool → List ℕ → ℕ → Run (Unit {0})
 release_from ordered list x = look λ s. if is_list_of ordered s.trees x then outdent_node x else split_items list
 
+-- toggle lists, step 5: one turn
 unfoldable pub release_series : Bool → List ℕ → Run (Unit {0})
 release_series ordered list = given (first_in list) done (release_from ordered list)
 
+-- toggle lists, step 5: series by series
 unfoldable pub release_all : Bool → List ℕ → Run (Unit {0})
 release_all ordered list = for_series (goes_on_out ordered) (release_series ordered) 0 list
 
@@ -47,7 +50,7 @@ release_lines ordered = look λ s. free_range >> release_all ordered (range_memb
 
 -- ---- toggle lists, step 6 b to d: the items come to stand in a list of the kind
 
--- in one of the kind that is there, or else in a new one
+-- toggle lists, step 6 c and d: in one of the kind that is there, or else in a new one
 unfoldable pub wrap_list : Bool → List ℕ → Run (Option ℕ)
 wrap_list ordered items = wrap (Named (list_name ordered) false) (Make (bare (list_name ordered))) items
 
@@ -73,16 +76,19 @@ place_from ordered items a = look λ s.
     if stays ordered s items a then done
     else (if is_child_of (not ordered) s.trees a then move_items ordered items else enlist ordered items)
 
+-- toggle lists, step 6 b to d
 unfoldable pub place_items : Bool → List ℕ → Run (Unit {0})
 place_items ordered items = given (first_in items) done (place_from ordered items)
 
--- one turn: what is left of the list
+-- toggle lists, step 6: one turn, which answers what is left of the list
 unfoldable pub place_collected : Bool → Collected → Run (List ℕ)
 place_collected ordered c = place_items ordered c.0 >> answer c.1
 
+-- toggle lists, step 6: one turn
 unfoldable pub enlist_next : Bool → List ℕ → Run (List ℕ)
 enlist_next ordered list = collect_items list >>= place_collected ordered
 
+-- toggle lists, step 6: while members are left
 unfoldable pub enlist_all : Bool → List ℕ → Run (Unit {0})
 enlist_all ordered list = look λ s. while_at_most (turn_bound s) has_members (enlist_next ordered) list >> done
 

@@ -25,7 +25,7 @@ fn is_container(doc: &Doc, node: NodeRef) -> bool
     has_name(doc, node, b"p") || has_name(doc, node, b"div")
 }
 
-// A p or div becomes an item.
+// Step 6 a: a p or div becomes an item.
 #[tactic(auto, using(edit_model::proofs::Steps::steps, edit_model::proofs::Steps::exits, crate::proofs::Exits::exit_made), unfolding(crate::specs::Collecting::rename_item))]
 fn rename_item(
     alloc: Global,
@@ -64,7 +64,7 @@ impl Link<Doc> for SameLine {
     }
 }
 
-// Wraps a line in an item made new.
+// Step 6 a: wraps a line in an item made new.
 #[tactic(auto, using(edit_model::proofs::Steps::steps, edit_model::proofs::Steps::exits), unfolding(crate::specs::Collecting::wrap_item))]
 fn wrap_item(alloc: Global, doc: &mut Doc, line: &[NodeRef]) -> Result<Option<NodeRef>, EditFault>
     requires open { IsOpen doc.old }
@@ -79,7 +79,7 @@ fn wrap_item(alloc: Global, doc: &mut Doc, line: &[NodeRef]) -> Result<Option<No
     wrap(alloc, doc, list, &rule)
 }
 
-// Wraps the first members of a list, so many.
+// Step 6 a: wraps the first members of a list, so many.
 #[tactic(auto, using(edit_model::proofs::Steps::steps, edit_model::proofs::Steps::exits, crate::proofs::Exits::exit_made, edit_query::proofs::Lists::labels_of_front), unfolding(crate::specs::Collecting::wrap_first))]
 fn wrap_first(
     alloc: Global,
@@ -100,7 +100,7 @@ fn wrap_first(
     Ok((item, count))
 }
 
-// Wraps the line that a list begins with.
+// Step 6 a: wraps the line that a list begins with.
 #[tactic(auto, using(edit_model::proofs::Steps::steps, edit_model::proofs::Steps::exits), unfolding(crate::specs::Collecting::wrap_line))]
 fn wrap_line(
     alloc: Global,
@@ -119,7 +119,7 @@ fn wrap_line(
     wrap_first(alloc, doc, list, count)
 }
 
-// One turn, with the first member: the item that is made, and how many members it takes.
+// Step 6 a, with the first member: the item that is made, and how many members it takes.
 #[tactic(auto, using(edit_model::proofs::Steps::steps, edit_model::proofs::Steps::exits, crate::proofs::Turns::container_is_element), unfolding(crate::specs::Collecting::make_item))]
 fn make_item(
     alloc: Global,
@@ -176,7 +176,7 @@ fn push_made(doc: &Doc, items: &mut Vec<NodeRef>, made: Option<NodeRef>) -> Resu
     Ok(())
 }
 
-// One turn: how many members are done with. Their item is appended.
+// Step 6 a, one turn: how many members are done with. Their item is appended.
 #[tactic(auto, using(edit_model::proofs::Steps::steps, edit_model::proofs::Steps::exits, edit_model::proofs::Steps::ends), unfolding(crate::specs::Collecting::collect_next, crate::specs::Collecting::next_item))]
 fn collect_next(
     alloc: Global,

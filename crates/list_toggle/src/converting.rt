@@ -35,7 +35,7 @@ fn is_beside_fit(doc: &Doc, ordered: bool, node: NodeRef) -> bool
     is_fit(doc, ordered, doc.prev(node)) || is_fit(doc, ordered, doc.next(node))
 }
 
-// The children of a list go into the one beside it, and keep their values.
+// Step 3: the children of a list go into the one beside it, and keep their values.
 #[tactic(auto, using(edit_model::proofs::Steps::steps, edit_model::proofs::Steps::exits), unfolding(crate::specs::Converting::join, inline_value::specs::Recording::record_values))]
 fn join(alloc: Global, doc: &mut Doc, ordered: bool, children: NodeList) -> Result<(), EditFault>
     requires open { IsOpen doc.old }
@@ -51,6 +51,7 @@ fn join(alloc: Global, doc: &mut Doc, ordered: bool, children: NodeList) -> Resu
     restore_values(alloc, doc, &values)
 }
 
+// Step 3: a list with such a neighbour.
 #[tactic(auto, using(edit_model::proofs::Steps::steps, edit_model::proofs::Steps::exits), unfolding(crate::specs::Converting::join_list))]
 fn join_list(alloc: Global, doc: &mut Doc, ordered: bool, node: NodeRef) -> Result<(), EditFault>
     requires open { IsOpen doc.old }
@@ -62,7 +63,7 @@ fn join_list(alloc: Global, doc: &mut Doc, ordered: bool, node: NodeRef) -> Resu
     join(alloc, doc, ordered, children)
 }
 
-// A list without such a neighbour takes the name of the kind.
+// Step 3: a list without such a neighbour takes the name of the kind.
 #[tactic(auto, using(edit_model::proofs::Steps::steps, edit_model::proofs::Steps::exits), unfolding(crate::specs::Converting::name_list))]
 fn name_list(alloc: Global, doc: &mut Doc, ordered: bool, node: NodeRef) -> Result<(), EditFault>
     requires open { IsOpen doc.old }
@@ -77,6 +78,7 @@ fn name_list(alloc: Global, doc: &mut Doc, ordered: bool, node: NodeRef) -> Resu
     Ok(())
 }
 
+// Step 3: one list of the other kind.
 #[tactic(auto, using(edit_model::proofs::Steps::steps, edit_model::proofs::Steps::exits), unfolding(crate::specs::Converting::convert_list))]
 fn convert_list(alloc: Global, doc: &mut Doc, ordered: bool, node: NodeRef) -> Result<(), EditFault>
     requires open { IsOpen doc.old }
@@ -91,6 +93,7 @@ fn convert_list(alloc: Global, doc: &mut Doc, ordered: bool, node: NodeRef) -> R
     }
 }
 
+// Step 3: each list, in order.
 #[tactic(auto, using(edit_model::proofs::Steps::eachs, edit_model::proofs::Steps::exits))]
 fn convert_each(
     alloc: Global,

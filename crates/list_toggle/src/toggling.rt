@@ -40,6 +40,7 @@ impl Link<Doc> for Released {
     }
 }
 
+// Step 5: the first member alone, or a series that begins with it.
 #[tactic(auto, using(edit_model::proofs::Steps::steps, edit_model::proofs::Steps::exits), unfolding(crate::specs::Toggle::release_from))]
 fn release_from(
     alloc: Global,
@@ -62,6 +63,7 @@ fn release_from(
     }
 }
 
+// Step 5: one turn.
 #[tactic(auto, using(edit_model::proofs::Steps::steps, edit_model::proofs::Steps::exits, edit_model::proofs::Steps::ends), unfolding(crate::specs::Toggle::release_series))]
 fn release_series(
     alloc: Global,
@@ -81,6 +83,7 @@ fn release_series(
     release_from(alloc, doc, ordered, list, first)
 }
 
+// Step 5: series by series.
 #[tactic(auto, using(list_indent::proofs::Series::series, edit_model::proofs::Steps::exits), unfolding(crate::specs::Toggle::release_all))]
 fn release_all(
     alloc: Global,
@@ -118,7 +121,7 @@ fn release_lines(alloc: Global, doc: &mut Doc, ordered: bool) -> Result<(), Edit
 
 // ---- step 6: on
 
-// Wraps siblings in a list of the kind, one that is there or else a new one.
+// Step 6 c and d: wraps siblings in a list of the kind, one that is there or else a new one.
 #[tactic(auto, using(edit_model::proofs::Steps::steps, edit_model::proofs::Steps::exits), unfolding(crate::specs::Toggle::wrap_list))]
 fn wrap_list(
     alloc: Global,

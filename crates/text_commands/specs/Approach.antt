@@ -43,6 +43,7 @@ if_hidden s (Some k) = if is_editable_for s k && not (is_visible s.trees k) then
 unfoldable pub hidden_child : State → Point → Option ℕ
 hidden_child s p = if_hidden s (child_before s.trees p.label p.offset)
 
+-- delete, steps 3 b and 7: it goes, and the offset shrinks by 1
 unfoldable pub drop_child : Approach → ℕ → Run Approach
 drop_child a k = remove k >> answer (moved_to a (at a.at.label (a.at.offset - 1)))
 
@@ -53,6 +54,7 @@ unfoldable pub hidden_prev : State → Point → Option ℕ
 hidden_prev s p =
     if not (is_affected_host s p.label) && (p.offset == 0) then if_hidden s (prev_of s.trees p.label) else None
 
+-- delete, step 3 a: it goes
 unfoldable pub drop_prev : Approach → ℕ → Run Approach
 drop_prev a k = remove k >> answer a
 
@@ -62,6 +64,7 @@ is_left s p =
     not (is_affected_host s p.label)
     && (((p.offset == 0) && not (is_block s.trees p.label)) || not (is_visible s.trees p.label))
 
+-- delete, step 3 c: just before such a node
 unfoldable pub out_of_node : State → Point → Option Point
 out_of_node s p = if is_left s p then before_node s.trees p.label else None
 
@@ -70,9 +73,11 @@ abbrev pub if_link : State → Option ℕ → Option ℕ
 if_link s None = None
 if_link s (Some k) = if is_editable_for s k && has_name s.trees k (codes "a") then Some k else None
 
+-- delete, step 3 d: the one before the point
 unfoldable pub link_before : State → Point → Option ℕ
 link_before s p = if_link s (child_before s.trees p.label p.offset)
 
+-- delete, step 3 d: its children stay, and the algorithm ends
 unfoldable pub drop_link : Approach → ℕ → Run Approach
 drop_link a k = remove_keeping_children k >> answer (ended a)
 
@@ -81,6 +86,7 @@ abbrev pub if_enterable : State → Option ℕ → Option ℕ
 if_enterable s None = None
 if_enterable s (Some k) = if is_block s.trees k || (is_break s.trees k || is_image s.trees k) then None else Some k
 
+-- delete, step 3 e: the end of such a child
 unfoldable pub into_child : State → Point → Option Point
 into_child s p = option_map (end_in s.trees) (if_enterable s (child_before s.trees p.label p.offset))
 
@@ -104,6 +110,7 @@ hide_or_move a = look λ s. given (hidden_child s a.at) (leave_or_enter a) (drop
 unfoldable pub back_turn : Approach → Run Approach
 back_turn a = look λ s. given (hidden_prev s a.at) (hide_or_move a) (drop_prev a)
 
+-- delete, step 3
 unfoldable pub go_back : Point → Run Approach
 go_back p = look λ s. while_at_most (turn_bound s) goes_on back_turn (begun_at p)
 
@@ -112,6 +119,7 @@ go_back p = look λ s. while_at_most (turn_bound s) goes_on back_turn (begun_at 
 unfoldable pub out_of_start : State → Point → Option Point
 out_of_start s p = if (p.offset == 0) && not (is_affected_host s p.label) then before_node s.trees p.label else None
 
+-- delete, step 7: the child before the point goes, or it stops
 unfoldable pub hide_or_stop : Approach → Run Approach
 hide_or_stop a = look λ s. given (hidden_child s a.at) (answer (halted a)) (drop_child a)
 
@@ -119,5 +127,6 @@ hide_or_stop a = look λ s. given (hidden_child s a.at) (answer (halted a)) (dro
 unfoldable pub climb_turn : Approach → Run Approach
 climb_turn a = look λ s. given (out_of_start s a.at) (hide_or_stop a) λ p. answer (moved_to a p)
 
+-- delete, step 7
 unfoldable pub climb : Point → Run Approach
 climb p = look λ s. while_at_most (turn_bound s) goes_on climb_turn (begun_at p)

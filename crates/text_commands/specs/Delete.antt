@@ -25,6 +25,7 @@ use Rattle.text_commands.specs.Entries.{starts_entry, lift_entry, starts_indente
 
 -- ---- deleting what is selected, with the states and values of it restored
 
+-- delete, steps 1, 4 and 13: erase and answer true
 unfoldable pub erased : Bool → Run Bool
 erased backward = erase true true backward >> answer true
 
@@ -43,6 +44,7 @@ follows_single s p =
     (is_words s.trees p.label && not (p.offset == 0))
     || (is_block s.trees p.label && is_single s (child_before s.trees p.label p.offset))
 
+-- delete, step 4: it is selected and erased
 unfoldable pub erase_single : Point → Run Bool
 erase_single p = do
   collapse p
@@ -62,6 +64,7 @@ is_kept_from s q = (is_affected_host s q.label && (q.offset == 0)) || is_table s
 unfoldable pub follows_table : State → Point → Bool
 follows_table s q = is_table s (child_before s.trees q.label q.offset)
 
+-- delete, step 9: the table before the point is selected
 unfoldable pub select_before : Point → Run Bool
 select_before q = select (one_before q) q >> answer true
 
@@ -83,9 +86,11 @@ follows_line s p q = (p.offset == 0) && is_line s (child_before s.trees q.label 
 abbrev pub anchor_of : Pair → Point
 anchor_of pair = pair.anchor
 
+-- delete, step 10: collapse to that point
 unfoldable pub collapse_kept : Run (Unit {0})
 collapse_kept = look λ s. given s.points.scratch done λ pair. collapse (anchor_of pair)
 
+-- delete, step 10: the caret's point is kept while what stands before is erased
 unfoldable pub erase_line : Point → Point → Run Bool
 erase_line p q = do
   set_scratch (record { anchor = p; focus = p })
@@ -109,6 +114,7 @@ parts_entries s q =
 unfoldable pub into_last : State → Point → Option Point
 into_last s q = option_map (end_in s.trees) (child_before s.trees q.label q.offset)
 
+-- delete, step 12: as far down as it goes
 unfoldable pub deepest_before : State → Point → Point
 deepest_before s q = walk_points (into_last s) (turn_bound s) q
 
@@ -127,9 +133,11 @@ join_entries q = look λ s. do
   select (end_or s.trees q (child_before s.trees q.label q.offset)) (start_or q (child_at s.trees q.label q.offset))
   erased true
 
+-- delete, steps 12 and 13, elsewhere than between entries
 unfoldable pub join_lines : Point → Point → Run Bool
 join_lines p q = look λ s. select (deepest_before s q) p >> erased true
 
+-- delete, steps 12 and 13
 unfoldable pub join_from : Point → Point → Run Bool
 join_from p q = look λ s. if parts_entries s q then join_entries q else join_lines p q
 
@@ -173,6 +181,7 @@ delete_approached a = if a.unlinked then answer true else delete_before a.at
 unfoldable pub delete_from : Point → Run Bool
 delete_from p = go_back p >>= delete_approached
 
+-- delete, from step 3 on, with the start of the active range
 unfoldable pub delete_at_start : Run Bool
 delete_at_start = look λ s. given s.points.selection (answer true) λ pair. delete_from (start_of s.trees pair)
 

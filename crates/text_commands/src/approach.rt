@@ -347,6 +347,7 @@ fn out_of_start(doc: &Doc, node: NodeRef, at: Point) -> Option<Point>
     }
 }
 
+// Step 7: the child before the point goes, or it stops.
 #[tactic(auto, using(edit_model::proofs::Steps::steps, edit_model::proofs::Steps::exits), unfolding(crate::specs::Approach::hide_or_stop))]
 fn hide_or_stop(doc: &mut Doc, node: NodeRef, way: Approach) -> Result<Approach, EditFault>
     requires open { IsOpen doc.old }

@@ -133,7 +133,7 @@ fn delete_from(alloc: Global, doc: &mut Doc, caret: Point) -> Result<bool, EditF
     delete_approached(alloc, doc, way)
 }
 
-// From the start of the active range.
+// From step 3 on, with the start of the active range.
 #[tactic(auto, using(edit_model::proofs::Steps::steps, edit_model::proofs::Steps::exits, edit_actions::proofs::Placed::placed_here), unfolding(crate::specs::Delete::delete_at_start))]
 fn delete_at_start(alloc: Global, doc: &mut Doc) -> Result<bool, EditFault>
     requires open { IsOpen doc.old }

@@ -133,6 +133,7 @@ fn add_line(alloc: Global, doc: &mut Doc, node: NodeRef) -> Result<(), EditFault
     Ok(())
 }
 
+// Step 11: both, in what stands before the entry.
 #[tactic(auto, using(edit_model::proofs::Steps::steps, edit_model::proofs::Steps::exits), unfolding(crate::specs::Entries::part_entry))]
 fn part_entry(alloc: Global, doc: &mut Doc, node: NodeRef) -> Result<(), EditFault>
     requires open { IsOpen doc.old }

@@ -34,7 +34,8 @@ fn keep(doc: &mut Doc, at: Point)
     });
 }
 
-/// Deletes what is selected, with its states and values restored, and answers true.
+/// Steps 1, 4 and 13: deletes what is selected, with its states and values restored, and answers
+/// true.
 #[tactic(auto, using(edit_model::proofs::Steps::steps, edit_model::proofs::Steps::exits), unfolding(crate::specs::Delete::erased))]
 pub(crate) fn erased(alloc: Global, doc: &mut Doc, backward: bool) -> Result<bool, EditFault>
     requires open { IsOpen doc.old }

@@ -75,6 +75,7 @@ fn bare_nodes(alloc: Global, doc: &Doc, at: Point) -> Result<NodeList, AllocErro
     gather_in(alloc, doc, range, &Bare)
 }
 
+// Step 8: outdents each of them, in order.
 #[tactic(auto, using(edit_model::proofs::Steps::eachs, edit_model::proofs::Steps::exits))]
 fn outdent_each(alloc: Global, doc: &mut Doc, list: &[NodeRef]) -> Result<(), EditFault>
     requires open { IsOpen doc.old }

@@ -35,6 +35,7 @@ if_editable s (Some l) = if is_editable_for s l then Some l else None
 unfoldable pub up_to_container : State → ℕ → Option ℕ
 up_to_container s l = if is_single_line s.trees l then None else if_editable s (parent_of s.trees l)
 
+-- insert a paragraph, step 3: as far up as it goes
 unfoldable pub nearest_container : State → ℕ → ℕ
 nearest_container s l = walk (up_to_container s) (turn_bound s) l
 
@@ -42,6 +43,7 @@ nearest_container s l = walk (up_to_container s) (turn_bound s) l
 unfoldable pub up_to_entry : State → ℕ → Option ℕ
 up_to_entry s l = if is_entry s l then None else if_editable s (parent_of s.trees l)
 
+-- insert a paragraph, step 3: as far up as it goes, to an entry
 unfoldable pub nearest_entry : State → ℕ → ℕ
 nearest_entry s l = walk (up_to_entry s) (turn_bound s) l
 
@@ -56,7 +58,7 @@ entry_over s c = if is_plain_block s c && is_entry s (nearest_entry s c) then ne
 unfoldable pub container_of : State → ℕ → ℕ
 container_of s l = entry_over s (nearest_container s l)
 
--- ---- step 4: a line without a container of its own gets one
+-- ---- insert a paragraph, step 4: a line without a container of its own gets one
 
 unfoldable pub is_own_container : State → ℕ → Bool
 is_own_container s c = is_editable_for s c && is_single_line s.trees c
@@ -82,16 +84,19 @@ make_container = look λ s. do
   append_break c
   answer c
 
+-- insert a paragraph, step 4: it is inserted, with the caret at the start of it
 unfoldable pub insert_container : Run (Unit {0})
 insert_container = do
   c ← make_container
   insert_at_start c
   collapse (start_in c)
 
+-- insert a paragraph, step 4: it may stand there
 unfoldable pub takes_container : State → Bool
 takes_container s =
     option_map_or (λ p. name_allowed_in (container_name s.flags.paragraphs) s.trees p.label) (active_start s) false
 
+-- insert a paragraph, step 4, where nothing can be wrapped: this ends the algorithm
 unfoldable pub add_container : Run (Option ℕ)
 add_container = look λ s. if takes_container s then (insert_container >> answer None) else answer None
 
@@ -104,6 +109,7 @@ unfoldable pub contents_after : State → ℕ → ℕ → List ℕ
 contents_after s zero z = []
 contents_after s (suc n) z = list_on (if_paragraph_child s (next_of s.trees z)) [] λ q. q ∷ contents_after s n q
 
+-- insert a paragraph, step 4: the line that begins with k
 unfoldable pub contents_from : State → ℕ → List ℕ
 contents_from s k = k ∷ contents_after s (turn_bound s) k
 
@@ -111,9 +117,11 @@ contents_from s k = k ∷ contents_after s (turn_bound s) k
 abbrev pub plain_container : State → Blank
 plain_container s = record { name = container_name s.flags.paragraphs; attributes = [] }
 
+-- insert a paragraph, step 4: that line is wrapped
 unfoldable pub wrap_line : ℕ → Run (Option ℕ)
 wrap_line k = look λ s. wrap Never (Make (plain_container s)) (contents_from s k)
 
+-- insert a paragraph, step 4: a line is wrapped, or an empty container is put there
 unfoldable pub make_line : Run (Option ℕ)
 make_line = look λ s. given (first_content s) add_container wrap_line
 

@@ -19,6 +19,7 @@ is_entry s n = is_item s n || is_description s n
 unfoldable pub is_stray : State → ℕ → Bool
 is_stray s n = is_description s n && not (has_place s n)
 
+-- insert a paragraph, step 6, and delete, step 6: it gets the default container's name
 unfoldable pub rename_stray : ℕ → Run ℕ
 rename_stray n = look λ s. if is_stray s n then set_tag_name n (container_name s.flags.paragraphs) else answer n
 
@@ -31,6 +32,7 @@ has_sole_break s c = option_map_or (λ k. is_break s.trees k && is_none (next_of
 unfoldable pub is_empty_entry : State → ℕ → Bool
 is_empty_entry s c = is_entry s c && (is_none (first_of s.trees c) || has_sole_break s c)
 
+-- insert a paragraph, step 6: the entry c leaves its list
 unfoldable pub leave_list : ℕ → Run (Unit {0})
 leave_list c = do
   split_parent (c ∷ [])

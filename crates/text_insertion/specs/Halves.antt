@@ -42,7 +42,7 @@ outer_end s p = walk_points (leave_end s) (turn_bound s) p
 unfoldable pub parting_point : State → Point → Point
 parting_point s p = outer_end s (outer_start s p)
 
--- ---- step 8: a second container after c, with what stands in c from q on
+-- ---- insert a paragraph, step 8: a second container after c, with what stands in c from q on
 
 abbrev pub is_break_alone : Forest Content → List ℕ → Bool
 is_break_alone f [] = true
@@ -78,7 +78,7 @@ part_at q c = do
   extract_tail q c d
   answer d
 
--- ---- step 9: both get a line, and the caret stands at the start of the second one
+-- ---- insert a paragraph, step 9: both get a line, with the caret at the start of the second one
 
 abbrev pub if_prohibited : State → Option ℕ → Option ℕ
 if_prohibited s None = None
@@ -88,12 +88,15 @@ if_prohibited s (Some l) = if is_prohibited s l then Some l else None
 unfoldable pub into_last_block : State → ℕ → Option ℕ
 into_last_block s l = if_prohibited s (last_of s.trees l)
 
+-- insert a paragraph, step 9: as far down as it goes
 unfoldable pub deepest_last : State → ℕ → ℕ
 deepest_last s l = walk (into_last_block s) (turn_bound s) l
 
+-- insert a paragraph, step 9: a new br where no child of c is visible
 unfoldable pub fill_hidden : ℕ → Run (Unit {0})
 fill_hidden c = look λ s. if shows_child s.trees c then done else append_break c
 
+-- insert a paragraph, step 9: in both, with the caret at the start of the second one
 unfoldable pub fill_both : ℕ → ℕ → Run (Unit {0})
 fill_both c d = do
   fill_hidden c

@@ -19,6 +19,7 @@ use Rattle.text_insertion.specs.Start.{start_inside, insert_at_start, erase, cut
 
 -- ---- insert a paragraph, step 2: a text is split, and the point leaves a text or a comment
 
+-- insert a paragraph, step 2: a text is split at a point amid it
 unfoldable pub cut_text : Point → Run (Unit {0})
 cut_text p = look λ s. if cuts_text s.trees p then split_words p.label p.offset >> done else done
 
@@ -28,12 +29,14 @@ out_of_text f p =
     if is_words f p.label && (p.offset == length_of f p.label) then after_node f p.label
     else (if has_chars_at f p.label then before_node f p.label else None)
 
+-- insert a paragraph, step 2: collapse to the point
 abbrev pub collapsed_at : Point → Run Point
 collapsed_at p = collapse p >> answer p
 
 unfoldable pub left_text : Forest Content → Point → Point
 left_text f p = unwrap_or (out_of_text f p) p
 
+-- insert a paragraph, step 2: out of a text or a comment, and collapse
 unfoldable pub leave_text : Point → Run Point
 leave_text p = look λ s. collapsed_at (left_text s.trees p)
 
@@ -41,7 +44,7 @@ leave_text p = look λ s. collapsed_at (left_text s.trees p)
 unfoldable pub split_text : Point → Run Point
 split_text p = cut_text p >> leave_text p
 
--- ---- step 5: in an address, listing or pre, a line ends with a br
+-- ---- insert a paragraph, step 5: in an address, listing or pre, a line ends with a br
 
 unfoldable pub holds_lines : State → ℕ → Bool
 holds_lines s c =
@@ -51,6 +54,7 @@ holds_lines s c =
 unfoldable pub is_last_below : State → ℕ → ℕ → Bool
 is_last_below s c x = last_below s c == x
 
+-- insert a paragraph, step 5: another br where x is the last descendant of c
 unfoldable pub break_again : ℕ → ℕ → Run (Unit {0})
 break_again c x = look λ s. if is_last_below s c x then (make_break >>= insert_at_start) else done
 
@@ -72,6 +76,7 @@ unfoldable pub part_line : Point → ℕ → Run (Unit {0})
 part_line p c = look λ s.
     if holds_lines s c then break_line p c else (if is_empty_entry s c then leave_list c else part_container c)
 
+-- insert a paragraph, from step 5 on, unless step 4 ended the algorithm
 abbrev pub part_line_if : Point → Option ℕ → Run (Unit {0})
 part_line_if p c = given c done (part_line p)
 
@@ -83,6 +88,7 @@ part_paragraph p = look λ s. own_container (container_of s p.label) >>= part_li
 unfoldable pub insert_paragraph_at : Point → Run (Unit {0})
 insert_paragraph_at p = split_text p >>= part_paragraph
 
+-- insert a paragraph, from step 2 on, where the start's node is inside
 unfoldable pub insert_paragraph_inside : Run (Unit {0})
 insert_paragraph_inside = look λ s. given (start_inside s) done insert_paragraph_at
 

@@ -14,6 +14,7 @@ use Rattle.edit_actions.specs.ActiveRange.{start_of}
 use Rattle.inline_commands.specs.RestoringStates.{restore_states}
 use Rattle.delete_core.specs.Deletion.{delete_selection}
 
+-- the start of the active range
 unfoldable pub active_start : State → Option Point
 active_start s = option_map (start_of s.trees) s.points.selection
 
@@ -22,6 +23,7 @@ abbrev pub if_point_inside : State → Option Point → Option Point
 if_point_inside s None = None
 if_point_inside s (Some p) = if is_inside s p.label then Some p else None
 
+-- the start of the active range, where its node is inside
 unfoldable pub start_inside : State → Option Point
 start_inside s = if_point_inside s (active_start s)
 
@@ -29,6 +31,7 @@ start_inside s = if_point_inside s (active_start s)
 unfoldable pub insert_at : ℕ → Point → Run (Unit {0})
 insert_at x p = look λ s. insert p.label (child_at s.trees p.label p.offset) x >> done
 
+-- a node without a parent is put at the start of the active range
 unfoldable pub insert_at_start : ℕ → Run (Unit {0})
 insert_at_start x = look λ s. given (active_start s) done (insert_at x)
 

@@ -34,8 +34,10 @@ start_after f p = option_map start_in (if_words f (child_at f p.label p.offset))
 unfoldable pub into_text : Forest Content → Point → Point
 into_text f p = unwrap_or (either (end_before f p) (start_after f p)) p
 
--- ---- step 5: the character goes into the text at the start of the active range, or into a new one there
+-- ---- insert text, step 5: the character goes into the text at the start of the active range, or
+-- into a new one there
 
+-- insert text, step 5: the value goes into a text, and is selected
 unfoldable pub put_in_text : ℕ → Point → Run (Unit {0})
 put_in_text c p = replace p.label p.offset 0 (c ∷ []) >> select p (at p.label (p.offset + 1))
 
@@ -44,15 +46,18 @@ unfoldable pub drop_sole_break : ℕ → Run (Unit {0})
 drop_sole_break n = look λ s. given (first_of s.trees n) done λ k.
     if is_none (next_of s.trees k) && is_collapsed_break s.trees k then remove k >> done else done
 
+-- insert text, step 5: the new text is selected
 unfoldable pub select_whole : ℕ → Run (Unit {0})
 select_whole x = look λ s. select (start_in x) (end_in s.trees x)
 
+-- insert text, step 5: a new text at the start of the active range
 unfoldable pub put_text : ℕ → Run (Unit {0})
 put_text c = do
   x ← make_words (c ∷ [])
   insert_at_start x
   select_whole x
 
+-- insert text, step 5: with the start of the active range
 unfoldable pub put_at : ℕ → Point → Run (Unit {0})
 put_at c p = look λ s. if is_words s.trees p.label then put_in_text c p else (drop_sole_break p.label >> put_text c)
 
@@ -60,8 +65,9 @@ put_at c p = look λ s. if is_words s.trees p.label then put_in_text c p else (d
 unfoldable pub put_char : ℕ → Run (Unit {0})
 put_char c = look λ s. given (active_start s) done (put_at c)
 
--- ---- step 7: the whitespace round what was put, and the caret after it
+-- ---- insert text, step 7: the whitespace round what was put, and the caret after it
 
+-- insert text, step 7
 unfoldable pub close_text : Run (Unit {0})
 close_text = do
   canonicalize_start false
@@ -87,6 +93,7 @@ type_char c p = look λ s. type_with c (into_text s.trees p) (overrides_of s)
 unfoldable pub insert_char_at : ℕ → Point → Run (Unit {0})
 insert_char_at c p = if c == 10 then insert_paragraph >> done else type_char c p
 
+-- insert text, from step 2 on, of one character, where the start's node is inside
 unfoldable pub insert_char_inside : ℕ → Run (Unit {0})
 insert_char_inside c = look λ s. given (start_inside s) done (insert_char_at c)
 

@@ -36,6 +36,7 @@ fn up_to_container(doc: &Doc, node: NodeRef) -> Option<NodeRef>
     }
 }
 
+// Step 3: up to a single-line container, as far as it goes.
 #[tactic(auto, using(wrap_split::proofs::Turns::walks), unfolding(crate::specs::Containers::nearest_container))]
 fn nearest_container(doc: &Doc, node: NodeRef) -> NodeRef
     requires { Holds doc.now node }
@@ -67,6 +68,7 @@ fn up_to_entry(doc: &Doc, node: NodeRef) -> Option<NodeRef>
     }
 }
 
+// Step 3: up to an entry of a list, as far as it goes.
 #[tactic(auto, using(wrap_split::proofs::Turns::walks), unfolding(crate::specs::Containers::nearest_entry))]
 fn nearest_entry(doc: &Doc, node: NodeRef) -> NodeRef
     requires { Holds doc.now node }
@@ -94,7 +96,7 @@ fn is_plain_block(doc: &Doc, node: NodeRef) -> bool
     doc.is_editable_for(node) && (has_name(doc, node, b"p") || has_name(doc, node, b"div"))
 }
 
-// In place of a p or div, the entry in which it stands.
+// Step 3: in place of a p or div, the entry in which it stands.
 #[tactic(auto, unfolding(crate::specs::Containers::entry_over))]
 fn entry_over(doc: &Doc, node: NodeRef) -> NodeRef
     requires { Holds doc.now node }
@@ -108,7 +110,8 @@ fn entry_over(doc: &Doc, node: NodeRef) -> NodeRef
     if is_entry(doc, entry) { entry } else { node }
 }
 
-/// The container in which a node stands, or the topmost editable node above it where that is none.
+/// Step 3: the container in which a node stands, or the topmost editable node above it where that
+/// is none.
 #[tactic(auto, unfolding(crate::specs::Containers::container_of))]
 pub(crate) fn container_of(doc: &Doc, node: NodeRef) -> NodeRef
     requires { Holds doc.now node }

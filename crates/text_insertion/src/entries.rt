@@ -32,7 +32,7 @@ fn is_stray(doc: &Doc, node: NodeRef) -> bool
 }
 
 /// Renames a dt or dd that may stand in none of its ancestors inside to a default single-line
-/// container. Answers the node that then stands there.
+/// container (insert a paragraph, step 6). Answers the node that then stands there.
 #[tactic(auto, using(edit_model::proofs::Steps::steps, edit_model::proofs::Steps::exits), unfolding(crate::specs::Entries::rename_stray))]
 pub fn rename_stray(alloc: Global, doc: &mut Doc, node: NodeRef) -> Result<NodeRef, EditFault>
     requires open { IsOpen doc.old }

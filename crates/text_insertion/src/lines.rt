@@ -80,7 +80,7 @@ fn first_content(alloc: Global, doc: &Doc) -> Result<Option<NodeRef>, AllocError
     first_between(alloc, doc, range)
 }
 
-// A loose default container with a br.
+// Step 4: a loose default container with a br.
 #[tactic(auto, using(edit_model::proofs::Steps::steps, edit_model::proofs::Steps::exits), unfolding(crate::specs::Containers::make_container))]
 fn make_container(alloc: Global, doc: &mut Doc) -> Result<NodeRef, EditFault>
     requires open { IsOpen doc.old }
@@ -94,6 +94,7 @@ fn make_container(alloc: Global, doc: &mut Doc) -> Result<NodeRef, EditFault>
     Ok(container)
 }
 
+// Step 4: inserts it, with the caret at the start of it.
 #[tactic(auto, using(edit_model::proofs::Steps::steps, edit_model::proofs::Steps::exits, edit_model::proofs::Steps::actions), unfolding(crate::specs::Containers::insert_container))]
 fn insert_container(alloc: Global, doc: &mut Doc) -> Result<(), EditFault>
     requires open { IsOpen doc.old }
@@ -123,7 +124,7 @@ fn takes_container(doc: &Doc) -> bool
     }
 }
 
-// Where nothing can be wrapped, an empty container at the start of the active range.
+// Step 4: where nothing can be wrapped, an empty container at the start of the active range.
 #[tactic(auto, using(edit_model::proofs::Steps::steps, edit_model::proofs::Steps::exits), unfolding(crate::specs::Containers::add_container))]
 fn add_container(alloc: Global, doc: &mut Doc) -> Result<Option<NodeRef>, EditFault>
     requires open { IsOpen doc.old }
@@ -150,7 +151,7 @@ fn if_paragraph_child(doc: &Doc, node: Option<NodeRef>) -> Option<NodeRef>
     }
 }
 
-// A list with the siblings after its last member that may stand in a paragraph.
+// Step 4: a list with the siblings after its last member that may stand in a paragraph.
 #[tactic(auto, using(crate::proofs::Rows::contents, edit_model::proofs::Steps::labels_of_push, edit_model::proofs::Steps::append_none))]
 fn with_contents_after(
     doc: &Doc,
@@ -177,6 +178,7 @@ fn with_contents_after(
     Ok(list)
 }
 
+// Step 4: the line that begins with a node.
 #[tactic(auto, unfolding(crate::specs::Containers::contents_from))]
 fn contents_from(alloc: Global, doc: &Doc, first: NodeRef) -> Result<Vec<NodeRef>, AllocError>
     requires { Holds doc.now first }
@@ -188,7 +190,7 @@ fn contents_from(alloc: Global, doc: &Doc, first: NodeRef) -> Result<Vec<NodeRef
     with_contents_after(doc, list, first)
 }
 
-// Wraps the line that begins with a node in a new default container.
+// Step 4: wraps the line that begins with a node in a new default container.
 #[tactic(auto, using(edit_model::proofs::Steps::steps, edit_model::proofs::Steps::exits), unfolding(crate::specs::Containers::wrap_line))]
 fn wrap_line(alloc: Global, doc: &mut Doc, first: NodeRef) -> Result<Option<NodeRef>, EditFault>
     requires open { IsOpen doc.old }
@@ -211,6 +213,7 @@ fn wrap_line(alloc: Global, doc: &mut Doc, first: NodeRef) -> Result<Option<Node
     )
 }
 
+// Step 4: wraps a line, or puts an empty container there.
 #[tactic(auto, using(edit_model::proofs::Steps::steps, edit_model::proofs::Steps::exits), unfolding(crate::specs::Containers::make_line))]
 fn make_line(alloc: Global, doc: &mut Doc) -> Result<Option<NodeRef>, EditFault>
     requires open { IsOpen doc.old }
@@ -224,8 +227,8 @@ fn make_line(alloc: Global, doc: &mut Doc) -> Result<Option<NodeRef>, EditFault>
     }
 }
 
-/// The container of a line: the node that was found, where it is one that is editable, or else one
-/// that is put round the line. None where the algorithm ends.
+/// Step 4: the container of a line, the node that was found, where it is one that is editable, or
+/// else one that is put round the line. None where the algorithm ends.
 #[tactic(auto, using(edit_model::proofs::Steps::steps, edit_model::proofs::Steps::exits), unfolding(crate::specs::Containers::own_container))]
 pub(crate) fn own_container(
     alloc: Global,

@@ -207,6 +207,7 @@ fn insert_paragraph_at(alloc: Global, doc: &mut Doc, at: Point) -> Result<(), Ed
     part_paragraph(alloc, doc, caret)
 }
 
+// From step 2 on, where the start's node is inside.
 #[tactic(auto, using(edit_model::proofs::Steps::steps, edit_model::proofs::Steps::exits), unfolding(crate::specs::Paragraph::insert_paragraph_inside))]
 fn insert_paragraph_inside(alloc: Global, doc: &mut Doc) -> Result<(), EditFault>
     requires open { IsOpen doc.old }

@@ -219,6 +219,7 @@ fn insert_char_at(alloc: Global, doc: &mut Doc, put: char, at: Point) -> Result<
     Ok(())
 }
 
+// From step 2 on, of one character, where the start's node is inside.
 #[tactic(auto, using(edit_model::proofs::Steps::steps, edit_model::proofs::Steps::exits), unfolding(crate::specs::Typing::insert_char_inside))]
 fn insert_char_inside(alloc: Global, doc: &mut Doc, put: char) -> Result<(), EditFault>
     requires open { IsOpen doc.old }
@@ -231,7 +232,7 @@ fn insert_char_inside(alloc: Global, doc: &mut Doc, put: char) -> Result<(), Edi
     }
 }
 
-// The command with one character.
+// Insert text, of one character.
 #[tactic(auto, using(edit_model::proofs::Steps::steps, edit_model::proofs::Steps::exits), unfolding(crate::specs::Typing::insert_char))]
 fn insert_char(alloc: Global, doc: &mut Doc, put: char) -> Result<(), EditFault>
     requires open { IsOpen doc.old }
@@ -242,6 +243,7 @@ fn insert_char(alloc: Global, doc: &mut Doc, put: char) -> Result<(), EditFault>
     insert_char_inside(alloc, doc, put)
 }
 
+// Step 2: each character, in order.
 #[tactic(auto, using(edit_model::proofs::Steps::steps, edit_model::proofs::Steps::exits, crate::proofs::Chars::turns))]
 fn insert_each(alloc: Global, doc: &mut Doc, value: &[char]) -> Result<(), EditFault>
     requires open { IsOpen doc.old }

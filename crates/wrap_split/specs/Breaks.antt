@@ -19,6 +19,7 @@ back_step s stop r =
     if is_invisible s r && (not (is_extraneous_break s.trees r) && not (is_label stop r)) then preceding s.trees r
     else None
 
+-- remove line breaks before, step 3, and at the end, step 2: as long as such a node is come to
 unfoldable pub back : State → Option ℕ → ℕ → ℕ
 back s stop r = walk (back_step s stop) (turn_bound s) r
 
@@ -30,6 +31,7 @@ if_hidden_own s (Some p) = if is_editable_for s p && is_invisible s p then Some 
 unfoldable pub up_step : State → ℕ → Option ℕ
 up_step s r = if_hidden_own s (parent_of s.trees r)
 
+-- remove line breaks at the end, step 4
 unfoldable pub top_hidden : State → ℕ → ℕ
 top_hidden s r = walk (up_step s) (turn_bound s) r
 
@@ -37,6 +39,7 @@ top_hidden s r = walk (up_step s) (turn_bound s) r
 abbrev pub last_break_before : State → ℕ → ℕ → ℕ
 last_break_before s n p = back s (parent_of s.trees n) (last_below s p)
 
+-- remove line breaks at the end, steps 1 and 2: where the line break at the end of n would stand
 abbrev pub break_at_end : State → ℕ → ℕ
 break_at_end s n = back s (Some n) (last_below s n)
 

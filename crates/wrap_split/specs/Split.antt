@@ -38,7 +38,7 @@ copied o a = look λ s. do
   insert_before o x
   move_each_last (until a (children_of s.trees o)) x
 
--- the same, where the first child of o is no member
+-- split the parent, step 6, where the first child of o is no member
 unfoldable pub copy_front : ℕ → List ℕ → ℕ → Run (Unit {0})
 copy_front o list a = look λ s. if starts_in s o list then done else copied o a
 
@@ -93,7 +93,7 @@ split_at o list a z = look λ s.
     then done
     else (clear_before o list >> split_marked o list a z)
 
--- the same, of all members
+-- split the parent, from step 2 on, with the first and the last member
 unfoldable pub split_members : ℕ → List ℕ → Run (Unit {0})
 split_members o list = given (first_in list) done λ a. given (last_in list) done λ z. split_at o list a z
 

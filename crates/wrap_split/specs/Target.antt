@@ -71,9 +71,11 @@ unfoldable pub blank_of : Recipe → Option (List ℕ × List Attribute)
 blank_of Nothing = None
 blank_of (Make blank) = Some (blank.name, blank.attributes)
 
+-- wrap, step 5: a new element with a name and attributes
 unfoldable pub made_of : List ℕ × List Attribute → Run (Option ℕ)
 made_of b = make_element b.0 b.1 >>= λ x. answer (Some x)
 
+-- wrap, step 5: a new element by the recipe, or none
 unfoldable pub made_by : Recipe → Run (Option ℕ)
 made_by r = given (blank_of r) (answer None) made_of
 

@@ -44,6 +44,7 @@ unfoldable pub extended_front : State → ℕ → ℕ → List ℕ → List ℕ
 extended_front s zero a list = list
 extended_front s (suc n) a list = list_on (if_hidden s (prev_of s.trees a)) list λ q. extended_front s n q (q ∷ list)
 
+-- wrap, step 4: the invisible nodes after z, one a turn
 unfoldable pub hidden_after : State → ℕ → ℕ → List ℕ
 hidden_after s zero z = []
 hidden_after s (suc n) z = list_on (if_hidden s (next_of s.trees z)) [] λ q. q ∷ hidden_after s n q
@@ -52,12 +53,15 @@ abbrev pub one_of : Option ℕ → List ℕ
 one_of None = []
 one_of (Some b) = b ∷ []
 
+-- wrap, step 3: the list with that br
 unfoldable pub with_break : State → List ℕ → ℕ → List ℕ
 with_break s list z = list ++ one_of (break_next s z)
 
+-- wrap, step 4: the list with the invisible nodes before it
 unfoldable pub extended : State → List ℕ → ℕ → List ℕ
 extended s list a = extended_front s (turn_bound s) a list
 
+-- wrap, step 4: the list with the invisible nodes after its last member
 unfoldable pub extended_back : State → List ℕ → List ℕ
 extended_back s list = list_on (last_in list) list λ z. list ++ hidden_after s (turn_bound s) z
 
@@ -85,9 +89,11 @@ abbrev pub is_other : State → Option ℕ → Bool
 is_other s None = false
 is_other s (Some x) = not (is_break s.trees x)
 
+-- wrap, steps 8 and 11: a new br at the end of p
 unfoldable pub append_break : ℕ → Run (Unit {0})
 append_break p = make_break >>= λ x. insert p None x >> done
 
+-- wrap, step 9: a new br as the first child of p
 unfoldable pub prepend_break : ℕ → Run (Unit {0})
 prepend_break p = make_break >>= λ x. look λ s. insert p (first_of s.trees p) x >> done
 
@@ -138,9 +144,11 @@ insert_if_loose p a = look λ s. if is_none (parent_of s.trees p) then (insert_b
 unfoldable pub drop_empty : ℕ → Run (Unit {0})
 drop_empty o = look λ s. if is_editable_for s o && is_none (first_of s.trees o) then remove o >> done else done
 
+-- wrap, step 10, with the first member's former parent, if there was one
 unfoldable pub drop_parent : Option ℕ → Run (Unit {0})
 drop_parent o = given o done drop_empty
 
+-- wrap, step 11: the children of q go to the end of p, in order
 unfoldable pub move_children : ℕ → ℕ → Run (Unit {0})
 move_children p q = look λ s. move_each_last (children_of s.trees q) p
 
@@ -169,6 +177,7 @@ filled_from c p list a o = do
 unfoldable pub filled : Criterion → ℕ → List ℕ → ℕ → Run (Option ℕ)
 filled c p list a = insert_if_loose p a >> look λ s. filled_from c p list a (parent_of s.trees a)
 
+-- wrap, from step 6 on, where step 5 gave a node; otherwise the answer is none
 unfoldable pub into_target : Criterion → List ℕ → ℕ → Option ℕ → Run (Option ℕ)
 into_target c list a p = given p (answer None) λ q. filled c q list a
 
@@ -176,6 +185,7 @@ into_target c list a p = given p (answer None) λ q. filled c q list a
 unfoldable pub wrap_ends : Criterion → Recipe → List ℕ → ℕ → ℕ → Run (Option ℕ)
 wrap_ends c r list a z = target c r a z >>= into_target c list a
 
+-- wrap, from step 5 on, with the first and the last member of the widened list
 unfoldable pub wrap_list : Criterion → Recipe → List ℕ → Run (Option ℕ)
 wrap_list c r list =
     given (first_in list) (answer None) λ a. given (last_in list) (answer None) λ z. wrap_ends c r list a z

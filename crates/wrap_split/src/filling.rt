@@ -37,7 +37,7 @@ fn is_other(doc: &Doc, node: Option<NodeRef>) -> bool
     }
 }
 
-/// Puts a new br at the end of a node.
+/// Puts a new br at the end of a node (wrap, steps 8 and 11).
 #[tactic(auto, using(edit_model::proofs::Steps::steps, edit_model::proofs::Steps::exits), unfolding(crate::specs::Wrap::append_break))]
 pub fn append_break(alloc: Global, doc: &mut Doc, node: NodeRef) -> Result<(), EditFault>
     requires open { IsOpen doc.old }
@@ -50,6 +50,7 @@ pub fn append_break(alloc: Global, doc: &mut Doc, node: NodeRef) -> Result<(), E
     Ok(())
 }
 
+// Wrap, step 9: a new br as the first child of a node.
 #[tactic(auto, using(edit_model::proofs::Steps::steps, edit_model::proofs::Steps::exits), unfolding(crate::specs::Wrap::prepend_break))]
 fn prepend_break(alloc: Global, doc: &mut Doc, node: NodeRef) -> Result<(), EditFault>
     requires open { IsOpen doc.old }
@@ -240,6 +241,7 @@ pub(crate) fn drop_parent(doc: &mut Doc, node: Option<NodeRef>) -> Result<(), Ed
     Ok(())
 }
 
+// Wrap, step 11: the children of a node go to the end of another one.
 #[tactic(auto, using(edit_model::proofs::Steps::steps, edit_model::proofs::Steps::exits), unfolding(crate::specs::Wrap::move_children))]
 fn move_children(doc: &mut Doc, node: NodeRef, from: NodeRef) -> Result<(), EditFault>
     requires open { IsOpen doc.old }

@@ -97,7 +97,7 @@ fn with_break(doc: &Doc, list: Vec<NodeRef>, last: NodeRef) -> Result<Vec<NodeRe
     Ok(list)
 }
 
-// A list in reverse order with the invisible nodes before a node.
+// Wrap, step 4: a list in reverse order with the invisible nodes before a node.
 #[tactic(auto, using(crate::proofs::Extending::fronts, crate::proofs::Extending::labels_of_front), unfolding(crate::specs::Wrap::extended))]
 fn with_hidden_before(
     doc: &Doc,
@@ -166,6 +166,7 @@ fn with_hidden_after(
     Ok(list)
 }
 
+// Wrap, step 4: the list with the invisible nodes after its last member.
 #[tactic(auto, using(edit_model::proofs::Steps::ends), unfolding(crate::specs::Wrap::extended_back))]
 fn extended_back(doc: &Doc, list: Vec<NodeRef>) -> Result<Vec<NodeRef>, AllocError>
     requires { EachHeld doc.now list.items }

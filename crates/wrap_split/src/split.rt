@@ -80,7 +80,7 @@ fn copied(alloc: Global, doc: &mut Doc, node: NodeRef, first: NodeRef) -> Result
     doc.move_each_last(&front, copy)
 }
 
-// The same, where the first child is no member.
+// Split the parent, step 6, where the first child is no member.
 #[tactic(auto, using(edit_model::proofs::Steps::steps, edit_model::proofs::Steps::exits), unfolding(crate::specs::Split::copy_front))]
 fn copy_front(
     alloc: Global,
@@ -271,7 +271,7 @@ fn split_at(
     split_marked(alloc, doc, node, list, first, last)
 }
 
-// The same, of all members.
+// Split the parent, from step 2 on, with the first and the last member.
 #[tactic(auto, using(edit_model::proofs::Steps::steps, edit_model::proofs::Steps::exits, edit_model::proofs::Steps::ends), unfolding(crate::specs::Split::split_members))]
 fn split_members(
     alloc: Global,
@@ -328,7 +328,8 @@ pub fn split_around(alloc: Global, doc: &mut Doc, node: NodeRef) -> Result<(), E
     split_parent_of(alloc, doc, &[node])
 }
 
-/// Removes a node, whose children come to stand in its place.
+/// Removes a node, whose children come to stand in its place (HTML Editing APIs, "remove preserving
+/// its descendants").
 #[tactic(auto, using(edit_model::proofs::Steps::steps, edit_model::proofs::Steps::exits), unfolding(crate::specs::Split::remove_keeping_children))]
 pub fn remove_keeping_children(alloc: Global, doc: &mut Doc, node: NodeRef) -> Result<(), EditFault>
     requires open { IsOpen doc.old }

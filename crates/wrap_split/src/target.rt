@@ -26,7 +26,7 @@ pub(crate) fn if_fits<C: Meets, M: Makes>(
     }
 }
 
-// A new element by the rule's recipe.
+// Wrap, step 5: a new element by the rule's recipe.
 #[tactic(auto, using(edit_model::proofs::Steps::steps, edit_model::proofs::Steps::exits), unfolding(crate::specs::Target::made_by, crate::specs::Target::made_of))]
 fn made_by<C: Meets, M: Makes>(
     doc: &mut Doc,

@@ -114,6 +114,7 @@ fn wrap_ends<C: Meets, M: Makes>(
     fill(alloc, doc, node, list, first, rule)
 }
 
+// Wrap, from step 5 on, with the first and the last member of the widened list.
 #[tactic(auto, using(edit_model::proofs::Steps::steps, edit_model::proofs::Steps::exits, edit_model::proofs::Steps::ends), unfolding(crate::specs::Wrap::wrap_list))]
 fn wrap_list<C: Meets, M: Makes>(
     alloc: Global,
