@@ -13,3 +13,4 @@ pub mod Revised
 pub mod Pruned
 pub mod Change
 pub mod ChangeCode
+pub mod Subsequence

@@ -1,17 +1,12 @@
 -- What the document bears, in tree order, and what a command that keeps contents makes of it.
-use Rattle.std.specs.Prelude.{◌≡◌, true, List, [], ◌∷◌}
+use Rattle.std.specs.Prelude.{◌≡◌, true}
 use Rattle.dom_model.specs.declared.Content.{Content}
 use Rattle.dom_model.specs.Forest.{Forest}
-use Rattle.edit_model.specs.Kept.{Leaf, leaves, kept_leaves}
+pub use Rattle.dom_model.specs.Subsequence.{Subsequence, empty, both, left_out}
+use Rattle.edit_model.specs.Kept.{leaves, kept_leaves}
 use Rattle.edit_model.specs.State.{State}
 use Rattle.edit_model.specs.History.{document_of}
 use Rattle.edit_model.specs.Valid.{IsValid}
-
--- the first list is the second with members left out
-pub data Subsequence : List Leaf → List Leaf → Type 0 where
-  empty : Subsequence [] []
-  both : {xs ys : List Leaf} (x : Leaf) → Subsequence xs ys → Subsequence (x ∷ xs) (x ∷ ys)
-  left_out : {xs ys : List Leaf} (y : Leaf) → Subsequence xs ys → Subsequence xs (y ∷ ys)
 
 -- a forest bears what another one bore, in the same order; of it only characters that are not kept may be missing
 pub record KeepsLeaves (before after : Forest Content) : Type 0 where
