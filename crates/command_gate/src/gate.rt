@@ -53,7 +53,8 @@ impl<A: Asks> Model for Gate<A> {
 }
 
 impl<A: Asks> Gate<A> {
-    /// The gate of a policy, with a question that answers true exactly for the names that it denies.
+    /// The gate of a policy, with a question that answers true exactly for the names that it
+    /// denies.
     pub fn new(policy: Policy, question: A) -> Gate<A>
         requires asks { AsksFor policy.denied (A.answer question) }
         ensures { result ≡ policy.denied }

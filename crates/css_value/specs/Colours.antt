@@ -50,7 +50,8 @@ abbrev pub hex_value : ℕ → ℕ
 hex_value c = if is_ascii_digit c then c - 48 else to_ascii_lowercase c - 87
 
 abbrev pub of_digits : List ℕ → Option Colour
-of_digits (r ∷ g ∷ b ∷ []) = Some (opaque_colour (17 * hex_value r) (17 * hex_value g) (17 * hex_value b))
+of_digits (r ∷ g ∷ b ∷ []) =
+    Some (opaque_colour (17 * hex_value r) (17 * hex_value g) (17 * hex_value b))
 of_digits (r ∷ s ∷ g ∷ h ∷ b ∷ c ∷ []) =
     Some (opaque_colour (16 * hex_value r + hex_value s) (16 * hex_value g + hex_value h)
     (16 * hex_value b + hex_value c))
@@ -104,7 +105,8 @@ marked_colour [] = None
 marked_colour (c ∷ text) = if c == 35 then hex_colour text else None
 
 abbrev pub functional_colour : List ℕ → Option Colour
-functional_colour (r ∷ g ∷ b ∷ o ∷ text) = if bytes_eq (codes "rgb(") (r ∷ g ∷ b ∷ o ∷ []) then rgb_colour text
+functional_colour (r ∷ g ∷ b ∷ o ∷ text) =
+    if bytes_eq (codes "rgb(") (r ∷ g ∷ b ∷ o ∷ []) then rgb_colour text
     else None
 functional_colour _ = None
 

@@ -1,4 +1,5 @@
--- How a map in insertion order stands for a list of declarations. No public clause cites this module.
+-- How a map in insertion order stands for a list of declarations. No public clause cites this
+-- module.
 use Rattle.std.specs.Prelude.{◌≡◌, ℕ, Bool, true, false, List, Option, Some, None, bytes_eq, map}
 use Rattle.std.specs.List.{AllByRecursion}
 use Rattle.std.specs.declared.vec.Vec.{Vec}

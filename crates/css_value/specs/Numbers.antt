@@ -20,10 +20,11 @@ is_trim (c ∷ d ∷ digits) = not (c == 48)
 -- the number of a text of digits without leading zeros, where it is at most this
 unfoldable pub number_up_to : ℕ → List ℕ → Option ℕ
 number_up_to most text =
-    if is_trim text && list_all is_ascii_digit text && nat_le (decimal text) most then Some (decimal text) else None
+    if is_trim text && list_all is_ascii_digit text && nat_le (decimal text) most then
+    Some (decimal text) else None
 
--- the legacy sizes 1 to 7 stand for these pixels; a size belongs to the first that it is nearer to than to the
--- next, and to the next at the middle
+-- the legacy sizes 1 to 7 stand for these pixels; a size belongs to the first that it is nearer to
+-- than to the next, and to the next at the middle
 unfoldable pub legacy_size : ℕ → ℕ
 legacy_size px =
     if nat_lt (2 * px) (10 + 13) then 1

@@ -18,7 +18,8 @@ is_only wanted [] = false
 is_only wanted (name ∷ []) = bytes_eq wanted name
 is_only wanted (name ∷ other ∷ names) = false
 
--- whether the names of a style's declarations are: none; exactly that one; box names alone; exactly one
+-- whether the names of a style's declarations are: none; exactly that one; box names alone; exactly
+-- one
 unfoldable pub sets_only : Only → List (List ℕ) → Bool
 sets_only Nothing names = is_nothing names
 sets_only FontWeight names = is_only (codes "font-weight") names

@@ -12,7 +12,8 @@ abbrev pub trim_start : List ℕ → List ℕ
 trim_start [] = []
 trim_start (c ∷ text) = if is_space c then trim_start text else c ∷ text
 
--- a character before a text whose spaces at the end are gone; a space goes where nothing is left behind it
+-- a character before a text whose spaces at the end are gone; a space goes where nothing is left
+-- behind it
 abbrev pub before_trimmed : ℕ → List ℕ → List ℕ
 before_trimmed c [] = if is_space c then [] else c ∷ []
 before_trimmed c (d ∷ text) = c ∷ d ∷ text
@@ -50,7 +51,8 @@ abbrev pub quote_after : Option ℕ → ℕ → Option ℕ
 quote_after None c = Some c
 quote_after (Some q) c = if c == q then None else Some q
 
--- the open parentheses after another character; in quotes it changes nothing, and a `)` that closes none neither
+-- the open parentheses after another character; in quotes it changes nothing, and a `)` that closes
+-- none neither
 abbrev pub depth_after : Option ℕ → ℕ → ℕ → ℕ
 depth_after None depth c = if c == 40 then depth + 1 else (if c == 41 then depth - 1 else depth)
 depth_after (Some q) depth c = depth
@@ -68,7 +70,8 @@ is_cut n c = (c == 59) && is_outside n
 -- the pieces between the cuts of a text
 unfoldable pub pieces : Nesting → List ℕ → List (List ℕ)
 pieces n [] = [] ∷ []
-pieces n (c ∷ text) = if is_cut n c then [] ∷ pieces outside text else onto_first c (pieces (after n c) text)
+pieces n (c ∷ text) =
+    if is_cut n c then [] ∷ pieces outside text else onto_first c (pieces (after n c) text)
 
 -- each quote and each parenthesis of the piece is closed in it
 unfoldable pub is_closed : List ℕ → Bool
@@ -95,13 +98,16 @@ is_empty (c ∷ text) = false
 
 -- a declaration, unless its name or its value is missing
 unfoldable pub named : List ℕ → List ℕ → Option Declaration
-named name value = if is_empty name || is_empty value then None else Some (record { name = name; value = value })
+named name value =
+    if is_empty name || is_empty value then None else Some (record { name = name; value = value })
 
--- what a piece declares: the name before its first colon, in lower case, and the value after it. A piece with an
--- unclosed quote or parenthesis, or without a name, a colon or a value, declares nothing
+-- what a piece declares: the name before its first colon, in lower case, and the value after it. A
+-- piece with an unclosed quote or parenthesis, or without a name, a colon or a value, declares
+-- nothing
 unfoldable pub declaration_of : List ℕ → Option Declaration
 declaration_of piece =
-    if is_closed piece then named (lowered (trimmed (before_colon piece))) (trimmed (after_colon piece)) else None
+    if is_closed piece then
+    named (lowered (trimmed (before_colon piece))) (trimmed (after_colon piece)) else None
 
 -- the declarations of a text as they stand in it
 unfoldable pub stated : List ℕ → List Declaration

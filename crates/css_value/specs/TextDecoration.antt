@@ -60,7 +60,8 @@ text_decoration_of text =
 
 -- the words but those that name this line, joined by one space
 unfoldable pub without_line : List ℕ → DecorationLine → List ℕ
-without_line text gone = join_with_byte 32 (filter (λ word. not (bytes_eq (line_word gone) word)) (words text))
+without_line text gone =
+    join_with_byte 32 (filter (λ word. not (bytes_eq (line_word gone) word)) (words text))
 
 -- a line's word where it is drawn
 abbrev pub drawn : Bool → DecorationLine → List (List ℕ)

@@ -1,4 +1,5 @@
--- Which value of a property a text is. A text is a list of characters, and a keyword is compared as it is written.
+-- Which value of a property a text is. A text is a list of characters, and a keyword is compared as
+-- it is written.
 use Rattle.std.specs.Prelude.{ℕ, ◌-◌, ◌==◌, Bool, ◌||◌, if◌then◌else◌, List, [], ◌∷◌, ◌++◌, Option, Some, None, bytes_eq, codes, decimal, length, take, drop}
 use Rattle.std.specs.List.{list_any}
 use Rattle.css_value.specs.Numbers.{number_up_to}
@@ -77,7 +78,8 @@ text_align_keyword text_align.Justify = codes "justify"
 
 -- 100 to 900 by hundreds
 abbrev pub is_weight : ℕ → Bool
-is_weight weight = list_any (λ n. n == weight) (100 ∷ 200 ∷ 300 ∷ 400 ∷ 500 ∷ 600 ∷ 700 ∷ 800 ∷ 900 ∷ [])
+is_weight weight =
+    list_any (λ n. n == weight) (100 ∷ 200 ∷ 300 ∷ 400 ∷ 500 ∷ 600 ∷ 700 ∷ 800 ∷ 900 ∷ [])
 
 -- the weight: normal is 400 and bold 700
 unfoldable pub font_weight_of : List ℕ → Option ℕ
@@ -111,5 +113,6 @@ pixels_text px = decimal px ++ codes "px"
 -- the size in pixels: `Npx` to 9999 without leading zeros, or a keyword
 unfoldable pub font_size_of : List ℕ → Option ℕ
 font_size_of text =
-    if bytes_eq (codes "px") (drop (length text - 2) text) then number_up_to 9999 (take (length text - 2) text)
+    if bytes_eq (codes "px") (drop (length text - 2) text) then
+    number_up_to 9999 (take (length text - 2) text)
     else keyword_size text

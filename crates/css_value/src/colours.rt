@@ -137,7 +137,10 @@ static NAMED_COLOURS: [NamedColour; 17] = [
 
 // The colour of a keyword of a table, in any case.
 fn named_in(table: &[NamedColour], text: &[char]) -> Option<Colour>
-    ensures { result ≡ spec.colour_in (map (λ row. (row.name.now, spec.opaque_colour row.red row.green row.blue)) table.now) (lowered text.now) }
+    ensures { result
+        ≡ spec.colour_in
+        (map (λ row. (row.name.now, spec.opaque_colour row.red row.green row.blue)) table.now)
+        (lowered text.now) }
 {
     for row in table {
         if is_named(text, row.name) {
@@ -291,8 +294,9 @@ fn functional_colour(text: &[char]) -> Option<Colour>
 }
 
 impl Colour {
-    /// The colour that a text is: `transparent`, a keyword in any case, `#rgb` or `#rrggbb` with digits in any case, or
-    /// `rgb(r, g, b)` with whole numbers to 255 without leading zeros and one space after each comma.
+    /// The colour that a text is: `transparent`, a keyword in any case, `#rgb` or `#rrggbb` with
+    /// digits in any case, or `rgb(r, g, b)` with whole numbers to 255 without leading zeros and
+    /// one space after each comma.
     #[tactic(auto, unfolding(crate::specs::Colours::colour_of))]
     pub fn read(text: &[char]) -> Option<Colour>
         ensures { result ≡ spec.colour_of text.now }
@@ -314,11 +318,13 @@ impl Colour {
         functional_colour(text)
     }
 
-    /// The colour as `rgb(r, g, b)`, and that of `transparent` as `rgba(0, 0, 0, 0)`. All but that one are read back.
+    /// The colour as `rgb(r, g, b)`, and that of `transparent` as `rgba(0, 0, 0, 0)`. All but that
+    /// one are read back.
     #[tactic(auto, unfolding(crate::specs::Colours::colour_text))]
     pub fn print(self, alloc: Global) -> Result<Vec<char>, AllocError>
         ensures text { IfOk result (λ text. text.items ≡ spec.colour_text self) }
-        ensures read_back { self.clear ≡ false → IfOk result (λ text. spec.colour_of text.items ≡ Some self) }
+        ensures read_back { self.clear ≡ false
+            → IfOk result (λ text. spec.colour_of text.items ≡ Some self) }
     {
         if self.clear {
             return chars_of(alloc, b"rgba(0, 0, 0, 0)");

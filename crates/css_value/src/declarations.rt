@@ -16,8 +16,9 @@ use std::marker::Model;
 
 type DeclarationMap = IndexMap<Vec<char>, Vec<char>>;
 
-/// The declarations of a style: property names, which are distinct, with their values, in order. Names are in lower
-/// case. Each declaration is one that its own text, `name: value`, would give back.
+/// The declarations of a style: property names, which are distinct, with their values, in order.
+/// Names are in lower case. Each declaration is one that its own text, `name: value`, would give
+/// back.
 #[derive(Drop)]
 pub struct Declarations {
     alloc: Global,
@@ -61,7 +62,8 @@ fn place_of(map: &DeclarationMap, name: &[u8]) -> Option<usize>
         (λ place. value_of (declarations_of map.now.entries) name.now
         ≡ option_map (λ e. e.1.items) (slice_get map.now.entries place)) }
     ensures left { MatchOption result (unset_in (declarations_of map.now.entries) name.now
-        ≡ declarations_of map.now.entries) (λ place. unset_in (declarations_of map.now.entries) name.now
+        ≡ declarations_of map.now.entries) (λ place.
+        unset_in (declarations_of map.now.entries) name.now
         ≡ declarations_of (remove map.now.entries place)) }
 {
     for place in 0..map.len() {
@@ -82,7 +84,8 @@ fn lowered(alloc: Global, text: &[char]) -> Result<Vec<char>, AllocError>
 // Appends `name: value`.
 #[tactic(auto, unfolding(crate::specs::DeclarationList::text_of))]
 fn push_text(text: &mut Vec<char>, name: &[char], value: &[char]) -> Result<(), AllocError>
-    ensures { OnOk result (text.new.items ≡ text.old.items ++ text_of (record { name = name.now; value = value.now })) }
+    ensures { OnOk result (text.new.items ≡ text.old.items
+        ++ text_of (record { name = name.now; value = value.now })) }
 {
     text.extend_from_slice(name)?;
     text.extend_from_slice(&[':', ' '])?;
@@ -113,7 +116,8 @@ fn push_declaration(
 // The text of a style attribute.
 fn printed_map(alloc: Global, map: &DeclarationMap) -> Result<Vec<char>, AllocError>
     ensures text { IfOk result (λ text. text.items ≡ printed (declarations_of map.now.entries)) }
-    ensures distinct { OnOk result (IsDistinct bytes_eq (names_of (declarations_of map.now.entries))) }
+    ensures distinct { OnOk result
+        (IsDistinct bytes_eq (names_of (declarations_of map.now.entries))) }
 {
     let mut text = Vec::new(alloc);
     for i in 0..map.len() {
@@ -161,8 +165,9 @@ impl Declarations {
         Some(value.as_slice())
     }
 
-    /// Sets a property, by its name in ASCII and in lower case. One that is there keeps its place, a new one goes last.
-    /// The value is trimmed; one that wouldn't be read back as it is under this name sets nothing.
+    /// Sets a property, by its name in ASCII and in lower case. One that is there keeps its place,
+    /// a new one goes last. The value is trimmed; one that wouldn't be read back as it is under
+    /// this name sets nothing.
     pub fn set(&mut self, name: &[u8], value: &[char]) -> Result<(), AllocError>
         ensures ok { OnOk result (self.new ≡ set_property self.old name.now value.now) }
         ensures err { OnErr result (self.new ≡ self.old) }

@@ -94,7 +94,8 @@ fn first_word(text: &[char]) -> Option<(&[char], &[char])>
     Some(split_word(rest))
 }
 
-/// Whether a line's word is among the words of a value of `text-decoration`, whether that is valid or not.
+/// Whether a line's word is among the words of a value of `text-decoration`, whether that is valid
+/// or not.
 #[tactic(auto, unfolding(crate::specs::TextDecoration::has_line))]
 pub fn has_line(text: &[char], line: DecorationLine) -> bool
     ensures { result ≡ spec.has_line text.now line }
@@ -143,8 +144,8 @@ fn are_lines(text: &[char]) -> bool
     }
 }
 
-/// The value of `text-decoration` that a text is: `none`, or one or more of the words `underline`, `overline` and
-/// `line-through`, in any order and as often as they come, parted by spaces.
+/// The value of `text-decoration` that a text is: `none`, or one or more of the words `underline`,
+/// `overline` and `line-through`, in any order and as often as they come, parted by spaces.
 #[tactic(auto, unfolding(crate::specs::TextDecoration::text_decoration_of, crate::specs::TextDecoration::lines_in))]
 pub fn read_text_decoration(text: &[char]) -> Option<TextDecoration>
     ensures { result ≡ spec.text_decoration_of text.now }
@@ -168,7 +169,8 @@ pub fn read_text_decoration(text: &[char]) -> Option<TextDecoration>
 
 // Appends a word, after a space unless it is the first.
 fn push_word(text: &mut Vec<char>, word: &[char]) -> Result<(), AllocError>
-    ensures { OnOk result (text.new.items ≡ text.old.items ++ (gap (is_empty text.old.items) ++ word.now)) }
+    ensures { OnOk result (text.new.items ≡ text.old.items
+        ++ (gap (is_empty text.old.items) ++ word.now)) }
 {
     if !text.is_empty() {
         text.push(' ')?;
@@ -177,8 +179,8 @@ fn push_word(text: &mut Vec<char>, word: &[char]) -> Result<(), AllocError>
     Ok(())
 }
 
-/// A value of `text-decoration`, valid or not, without a line's word: the other words in their order, joined by one
-/// space. It is empty exactly where no other word is there.
+/// A value of `text-decoration`, valid or not, without a line's word: the other words in their
+/// order, joined by one space. It is empty exactly where no other word is there.
 #[tactic(auto, unfolding(crate::specs::TextDecoration::without_line))]
 pub fn without_line(
     alloc: Global,

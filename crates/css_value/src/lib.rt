@@ -1,4 +1,5 @@
-//! The declarations of `style` attributes and the values of their properties, read from texts and printed.
+//! The declarations of `style` attributes and the values of their properties, read from texts and
+//! printed.
 #![tactic(auto)]
 
 mod colours;

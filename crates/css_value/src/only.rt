@@ -61,7 +61,8 @@ fn all_named(text: &[char], name: &[u8]) -> bool
 
 // Whether each declaration of a text has this name, which is not yet in lower case.
 fn all_alike(text: &[char], name: &[char]) -> bool
-    ensures { result ≡ list_all (λ n. bytes_eq (spec.lowered name.now) n) (names_of (spec.stated text.now)) }
+    ensures { result
+        ≡ list_all (λ n. bytes_eq (spec.lowered name.now) n) (names_of (spec.stated text.now)) }
 {
     let mut rest = text;
     while let Some((stated, after)) = first_stated(rest) {
@@ -121,8 +122,8 @@ fn sets_box_names(text: &[char]) -> bool
     all_box_names(text)
 }
 
-/// Whether the declarations that reading a style text gives are none, exactly that one, box names alone, or exactly
-/// one. It takes no memory.
+/// Whether the declarations that reading a style text gives are none, exactly that one, box names
+/// alone, or exactly one. It takes no memory.
 #[tactic(auto, unfolding(crate::specs::OnlyGroup::sets_only))]
 pub fn sets_only(text: &[char], group: Only) -> bool
     ensures { result ≡ names.sets_only group (names_of (declarations_in text.now)) }

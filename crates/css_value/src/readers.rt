@@ -6,8 +6,8 @@ ghost use Rattle.css_value.specs.DeclarationList.{declarations_in, value_of};
 
 use crate::style_text::{first_stated, is_named};
 
-/// The value of a property in a style text, by a name in ASCII and in lower case: what reading the text and then asking
-/// for the name gives. It takes no memory.
+/// The value of a property in a style text, by a name in ASCII and in lower case: what reading the
+/// text and then asking for the name gives. It takes no memory.
 pub fn find<'a>(text: &'a [char], name: &[u8]) -> Option<&'a [char]>
     ensures { option_copied result ≡ value_of (declarations_in text.now) name.now }
 {

@@ -3,8 +3,9 @@
 ghost use Rattle.std.specs.Prelude.{◌≡◌, ◌≤◌, IfSome};
 ghost use Rattle.css_value.specs.Numbers as spec;
 
-/// The legacy font size, 1 to 7, of a size in pixels: the sizes are 10, 13, 16, 18, 24, 32 and 48 pixels, and a
-/// size in the middle between two belongs to the greater (the editing APIs' "legacy font size for").
+/// The legacy font size, 1 to 7, of a size in pixels: the sizes are 10, 13, 16, 18, 24, 32 and 48
+/// pixels, and a size in the middle between two belongs to the greater (the editing APIs' "legacy
+/// font size for").
 #[tactic(auto, unfolding(crate::specs::Numbers::legacy_size))]
 pub fn legacy_size(px: u32) -> u8
     ensures { result ≡ spec.legacy_size px }

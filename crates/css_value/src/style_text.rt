@@ -227,7 +227,8 @@ pub(crate) fn declared_in(piece: &[char]) -> Option<Stated<'_>>
 // The first piece of a text, and the text after it.
 fn split_piece(text: &[char]) -> (&[char], &[char])
     requires { 0 < length text.now }
-    ensures stated { spec.stated text.now ≡ cons_option (spec.declaration_of result.0.now) (spec.stated result.1.now) }
+    ensures stated { spec.stated text.now
+        ≡ cons_option (spec.declaration_of result.0.now) (spec.stated result.1.now) }
     ensures shorter { length result.1.now < length text.now }
 {
     let end = piece_len(text);
@@ -240,10 +241,11 @@ fn split_piece(text: &[char]) -> (&[char], &[char])
 
 // The first declaration of a text, and the text after its piece.
 pub(crate) fn first_stated(text: &[char]) -> Option<(Stated<'_>, &[char])>
-    ensures stated { MatchOption result (spec.stated text.now ≡ []) (λ r. spec.stated text.now ≡ record {
-      name = spec.lowered r.0.name.now;
-      value = r.0.value.now;
-    } ∷ spec.stated r.1.now) }
+    ensures stated { MatchOption result (spec.stated text.now ≡ []) (λ r. spec.stated text.now
+        ≡ record {
+          name = spec.lowered r.0.name.now;
+          value = r.0.value.now;
+        } ∷ spec.stated r.1.now) }
     ensures shorter { IfSome result (λ r. length r.1.now < length text.now) }
 {
     let mut rest = text;

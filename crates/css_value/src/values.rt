@@ -277,7 +277,8 @@ pub fn keyword_size(text: &[char]) -> Option<u16>
     }
 }
 
-/// The size in pixels that a value of `font-size` gives: whole `Npx` to 9999 without leading zeros, or a keyword.
+/// The size in pixels that a value of `font-size` gives: whole `Npx` to 9999 without leading zeros,
+/// or a keyword.
 #[tactic(auto, unfolding(crate::specs::Values::font_size_of))]
 pub fn read_font_size(text: &[char]) -> Option<u16>
     ensures { result ≡ spec.font_size_of text.now }

@@ -19,7 +19,8 @@ abbrev pub state_code : Coded ArenaState
 state_code =
     code_by
     (Forest Content × (ℕ × (ℕ × List (Option ℕ))))
-    (coded× (forest_code content_code) (coded× coded_ℕ (coded× coded_ℕ (coded_list (coded_option coded_ℕ)))))
+    (coded× (forest_code content_code)
+    (coded× coded_ℕ (coded× coded_ℕ (coded_list (coded_option coded_ℕ)))))
     (λ s. (s.trees, (s.next, (s.cap, s.held))))
     (λ p. record { trees = p.0; next = p.1.0; cap = p.1.1.0; held = p.1.1.1 })
     (λ _. refl)
@@ -29,7 +30,8 @@ abbrev pub HoldsAt : ArenaState → ℕ → ℕ → Type 0
 HoldsAt s slot label = slice_index_or s.held slot None ≡ Some label
 
 -- what a link of n under p, before b or at the end, needs: p is the Document or an element, and the
--- place is one (n is a root other than the Document whose tree doesn't hold p, and b is a child of p)
+-- place is one (n is a root other than the Document whose tree doesn't hold p, and b is a child of
+-- p)
 pub record CanLink (f : Forest Content) (p : ℕ) (b : Option ℕ) (n : ℕ) : Type 0 where
   pub place : CanPut f p b n
   pub parent : is_parent_at f p ≡ true

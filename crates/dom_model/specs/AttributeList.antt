@@ -1,4 +1,5 @@
--- Ordered lists of attributes: the value of a name, and the lists after an attribute is set or unset.
+-- Ordered lists of attributes: the value of a name, and the lists after an attribute is set or
+-- unset.
 use Rattle.std.specs.Prelude.{ℕ, List, [], ◌∷◌, Option, Some, None, if◌then◌else◌, bytes_eq, map}
 use Rattle.std.specs.List.{IsDistinct}
 use Rattle.dom_model.specs.declared.attributes.Attribute.{Attribute}
@@ -16,11 +17,13 @@ abbrev pub value_of : List Attribute → List ℕ → Option (List ℕ)
 value_of [] name = None
 value_of (a ∷ list) name = if bytes_eq name a.name then Some a.value else value_of list name
 
--- the list with this value for this name: an attribute that is there keeps its place, a new one goes last
+-- the list with this value for this name: an attribute that is there keeps its place, a new one
+-- goes last
 abbrev pub set_in : List Attribute → List ℕ → List ℕ → List Attribute
 set_in [] name value = record { name = name; value = value } ∷ []
 set_in (a ∷ list) name value =
-    if bytes_eq name a.name then record { name = a.name; value = value } ∷ list else a ∷ set_in list name value
+    if bytes_eq name a.name then record { name = a.name; value = value } ∷ list else a
+    ∷ set_in list name value
 
 -- the list without the attribute of this name
 abbrev pub unset_in : List Attribute → List ℕ → List Attribute

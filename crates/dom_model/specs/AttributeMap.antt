@@ -10,6 +10,7 @@ abbrev pub entry_attributes : {A : Type 0} → List (Vec ℕ A × List ℕ) → 
 entry_attributes entries = map (λ e. record { name = e.0.items; value = e.1 }) entries
 
 -- the attributes of a map, if there is one
-abbrev pub map_attributes : {A B S : Type 0} → Option (Box (IndexMap (Vec ℕ A) (List ℕ) S) B) → List Attribute
+abbrev pub map_attributes : {A B S : Type 0} → Option (Box (IndexMap (Vec ℕ A) (List ℕ) S) B)
+    → List Attribute
 map_attributes None = []
 map_attributes (Some b) = entry_attributes b.value.entries

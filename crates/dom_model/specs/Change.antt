@@ -1,9 +1,10 @@
--- Changes of a labelled nested list, each with the whole contents afterwards, and the labels that they name.
+-- Changes of a labelled nested list, each with the whole contents afterwards, and the labels that
+-- they name.
 use Rattle.std.specs.Prelude.{ℕ, List, [], ◌∷◌, ◌++◌, Option, Some, None}
 use Rattle.dom_model.specs.declared.attributes.Attribute.{Attribute}
 
--- a tree made loose; a loose tree linked; a tree moved to another place; other characters of a Text or
--- Comment node; another attribute list of an element
+-- a tree made loose; a loose tree linked; a tree moved to another place; other characters of a Text
+-- or Comment node; another attribute list of an element
 pub data Change : Type 0 where
   Remove : (node : ℕ) → Change
   Insert : (node parent : ℕ) (before : Option ℕ) → Change

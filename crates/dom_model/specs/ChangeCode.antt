@@ -36,7 +36,10 @@ abbrev pub change_code : Coded Change
 change_code =
     code_by
     ChangeParts
-    (coded× coded_ℕ (coded× coded_ℕ (coded× coded_ℕ (coded× (coded_option coded_ℕ) (coded× (coded_list coded_ℕ) (coded_list attribute_code))))))
+    (coded× coded_ℕ
+    (coded× coded_ℕ
+    (coded× coded_ℕ
+    (coded× (coded_option coded_ℕ) (coded× (coded_list coded_ℕ) (coded_list attribute_code))))))
     change_parts
     of_change_parts
     change-back

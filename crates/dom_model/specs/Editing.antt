@@ -15,19 +15,23 @@ contenteditable (Element name attributes) = option_map (λ value. map to_ascii_l
     (value_of attributes (codes "contenteditable"))
 contenteditable _ = None
 
--- the true state: the value is empty or "true"; the false state: it is "false"; any other value is as
--- no attribute
+-- the true state: the value is empty or "true"; the false state: it is "false"; any other value is
+-- as no attribute
 abbrev pub is_true_state : Content → Bool
-is_true_state c = option_map_or (λ value. bytes_eq value [] || bytes_eq value (codes "true")) (contenteditable c) false
+is_true_state c =
+    option_map_or (λ value. bytes_eq value [] || bytes_eq value (codes "true")) (contenteditable c)
+    false
 
 abbrev pub is_false_state : Content → Bool
 is_false_state c = option_map_or (λ value. bytes_eq value (codes "false")) (contenteditable c) false
 
 -- the host of a node's own content and parent, where `above` is the host of what its parent offers:
--- no host for a host, in the false state, or for a node that is no element and has no element as parent
+-- no host for a host, in the false state, or for a node that is no element and has no element as
+-- parent
 abbrev pub host_by : Content → Bool → Option ℕ → Option ℕ
 host_by c under_element above =
-    if is_true_state c || is_false_state c then None else if is_element c || under_element then above else None
+    if is_true_state c || is_false_state c then None else if is_element c || under_element then
+    above else None
 
 -- what a node offers its children: itself where it is a host, else its own host
 abbrev pub offered : ℕ → Content → Bool → Option ℕ → Option ℕ
@@ -38,7 +42,8 @@ abbrev pub host_from : Bool → Option ℕ → Forest Content → ℕ → Option
 host_from under_element above Nil l = None
 host_from under_element above (Tree m c ks rest) l =
     if m == l then host_by c under_element above
-    else either (host_from (is_element c) (offered m c under_element above) ks l) (host_from under_element above rest l)
+    else either (host_from (is_element c) (offered m c under_element above) ks l)
+    (host_from under_element above rest l)
 
 -- the host with which a label is editable, if it is editable
 abbrev pub editing_host : Forest Content → ℕ → Option ℕ

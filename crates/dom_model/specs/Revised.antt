@@ -6,7 +6,8 @@ use Rattle.dom_model.specs.Forest.Forest.{Nil, Tree}
 module _ {C : Type 0} where
   abbrev pub revised : Forest C → ℕ → (C → C) → Forest C
   revised Nil l g = Nil
-  revised (Tree m c ks rest) l g = Tree m (if l == m then g c else c) (revised ks l g) (revised rest l g)
+  revised (Tree m c ks rest) l g =
+      Tree m (if l == m then g c else c) (revised ks l g) (revised rest l g)
 
   -- what is seen of k afterwards
   abbrev pub revised_seen : ℕ → (C → C) → ℕ → Seen C → Seen C

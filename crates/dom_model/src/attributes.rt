@@ -40,8 +40,10 @@ impl Model for Attributes {
 
 // Gives a name a value in a map.
 fn put(map: &mut IndexMap<Vec<u8>, Chars>, name: Name, value: Chars) -> Result<(), AllocError>
-    ensures ok { OnOk result (entry_attributes map.new.entries ≡ set_in (entry_attributes map.old.entries) name value) }
-    ensures err { OnErr result (entry_attributes map.new.entries ≡ entry_attributes map.old.entries) }
+    ensures ok { OnOk result (entry_attributes map.new.entries
+        ≡ set_in (entry_attributes map.old.entries) name value) }
+    ensures err { OnErr result (entry_attributes map.new.entries
+        ≡ entry_attributes map.old.entries) }
 {
     map.insert(name.into_vec(), value)?;
     Ok(())
@@ -50,7 +52,8 @@ fn put(map: &mut IndexMap<Vec<u8>, Chars>, name: Name, value: Chars) -> Result<(
 // Takes a name out of a map.
 fn take(map: &mut IndexMap<Vec<u8>, Chars>, name: &[u8]) -> bool
     ensures was { result ≡ is_some (value_of (entry_attributes map.old.entries) name.now) }
-    ensures left { entry_attributes map.new.entries ≡ unset_in (entry_attributes map.old.entries) name.now }
+    ensures left { entry_attributes map.new.entries
+        ≡ unset_in (entry_attributes map.old.entries) name.now }
 {
     map.shift_remove(name).is_some()
 }
@@ -168,7 +171,8 @@ impl Attributes {
         Ok(())
     }
 
-    /// Gives an attribute a copy of a value. One that is there keeps its place; a new one goes last.
+    /// Gives an attribute a copy of a value. One that is there keeps its place; a new one goes
+    /// last.
     pub fn set(&mut self, name: &Name, value: &Chars) -> Result<(), AllocError>
         ensures ok { OnOk result (self.new ≡ set_in self.old name.now value.now) }
         ensures err { OnErr result (self.new ≡ self.old) }

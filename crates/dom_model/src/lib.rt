@@ -1,8 +1,8 @@
 //! The model of a document: labelled nested lists, and the contents of their nodes.
 //!
-//! The names stand for these terms of the DOM standard: [`Content::Words`] is a Text node, [`Content::Remark`] a
-//! Comment node, [`Chars`] the data of either or the value of an attribute, [`Name`] a qualified name, and
-//! [`Attributes`] the attribute list of an element.
+//! The names stand for these terms of the DOM standard: [`Content::Words`] is a Text node,
+//! [`Content::Remark`] a Comment node, [`Chars`] the data of either or the value of an attribute,
+//! [`Name`] a qualified name, and [`Attributes`] the attribute list of an element.
 #![tactic(auto)]
 
 mod attributes;

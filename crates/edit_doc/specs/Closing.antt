@@ -19,9 +19,11 @@ pub record MakesNothing (t u : Trail) (c d : Command) : Type 0 where
   pub history : u ≡ with_log t (committed t.log)
   pub command : d ≡ c
 
--- Steps were noted. They make an entry, or join the resumed one, with the roots of the loose trees that the command
--- detached; what redo would take goes, and the oldest entry where there are too many.
-pub record MakesEntry (f : Forest Content) (after : Places) (counts : Counts) (t u : Trail) (c d : Command)
+-- Steps were noted. They make an entry, or join the resumed one, with the roots of the loose trees
+-- that the command detached; what redo would take goes, and the oldest entry where there are too
+-- many.
+pub record MakesEntry (f : Forest Content) (after : Places) (counts : Counts) (t u : Trail)
+    (c d : Command)
     (out : Option EntrySnapshot) : Type 0 where
   pub some : 0 < length (noted t.log.open_entry)
   pub log : u.log ≡ committed t.log
@@ -29,6 +31,7 @@ pub record MakesEntry (f : Forest Content) (after : Places) (counts : Counts) (t
   pub entered : Enters c (loose_roots f c.detached.items) after counts t.log.depth t.past u.past out
   pub command : d ≡ record c { detached = d.detached }
 
-abbrev pub Closes : Forest Content → Places → Counts → Trail → Trail → Command → Command → Closing → Type 0
+abbrev pub Closes : Forest Content → Places → Counts → Trail → Trail → Command → Command → Closing
+    → Type 0
 Closes f after counts t u c d Nothing = MakesNothing t u c d
 Closes f after counts t u c d (Entry out) = MakesEntry f after counts t u c d out

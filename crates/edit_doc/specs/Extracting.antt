@@ -10,7 +10,8 @@ use Rattle.edit_model.specs.Gives.{Fails}
 
 -- the steps that extract the tail of a node, by the trees as they are now
 unfoldable pub tail_at : State → Point → ℕ → ℕ → List Step
-tail_at s from end target = tail_steps (total (λ _ _. 1) (tree_of s.trees end)) s.trees from end target s.next
+tail_at s from end target =
+    tail_steps (total (λ _ _. 1) (tree_of s.trees end)) s.trees from end target s.next
 
 -- a call made the steps, or it gave up: with Full where they end past the cap
 abbrev pub MakesSteps : {T : Type 0} → Result T EditFault → State → State → List Step → Type 0

@@ -1,5 +1,5 @@
--- What calls do to the fields of a running command and of what stands beside entries. No public clause cites this
--- module.
+-- What calls do to the fields of a running command and of what stands beside entries. No public
+-- clause cites this module.
 use Rattle.std.specs.Prelude.{◌≡◌, ℕ, ◌+◌, ◌≤◌, min, if◌then◌else◌, Bool, true, false, ◌||◌, ◌&&◌, not, nat_le, List, [], ◌∷◌, take, drop, slice_get, Option, None}
 use Rattle.dom_model.specs.declared.Content.{Content}
 use Rattle.dom_model.specs.Forest.{Forest, depth_of, tree_of}
@@ -49,7 +49,8 @@ pub record AreResting (points : LivePoints) (p : Places) : Type 0 where
 -- the detached trees of the first entry and those of the command are exchanged
 abbrev pub SwapsLeft : List EntrySnapshot → List EntrySnapshot → Command → Command → Type 0
 SwapsLeft [] us c d = ⊥
-SwapsLeft (b ∷ bs) us c d = (us ≡ record b { detached = c.detached } ∷ bs) × (d ≡ record c { detached = b.detached })
+SwapsLeft (b ∷ bs) us c d =
+    (us ≡ record b { detached = c.detached } ∷ bs) × (d ≡ record c { detached = b.detached })
 
 -- what the command detached is forgotten, and a resumed entry has its detached trees again
 abbrev pub ForgetsIn : Bool → List EntrySnapshot → List EntrySnapshot → List NodeRef → Type 0
@@ -63,7 +64,8 @@ Forgets us new c = ForgetsIn c.resumed us new (take c.detached_before c.detached
 
 -- the command made the node of the label, or detached its tree
 abbrev pub has_newly_detached : Command → ℕ → Bool
-has_newly_detached c l = nat_le c.start l || has_label (labels_of (drop c.detached_before c.detached.items)) l
+has_newly_detached c l =
+    nat_le c.start l || has_label (labels_of (drop c.detached_before c.detached.items)) l
 
 -- the places and the numbers to which an entry leads
 abbrev pub places_along : Way → EntrySpan → Places
@@ -71,8 +73,10 @@ places_along Back s = s.before
 places_along Forth s = s.after
 
 abbrev pub counts_along : Way → EntrySpan → Counts
-counts_along Back s = record { nodes = s.nodes_before; chars = s.chars_before; depth = s.depth_before }
-counts_along Forth s = record { nodes = s.nodes_after; chars = s.chars_after; depth = s.depth_after }
+counts_along Back s =
+    record { nodes = s.nodes_before; chars = s.chars_before; depth = s.depth_before }
+counts_along Forth s =
+    record { nodes = s.nodes_after; chars = s.chars_after; depth = s.depth_after }
 
 -- the span of an entry that a command makes, and of one that it joins
 abbrev pub made_span : Command → Places → Counts → EntrySpan
@@ -96,8 +100,8 @@ joined_span s p counts = record s {
   depth_after = counts.depth;
 }
 
--- The command's entry is the first, in place of the one that it resumed, with these detached trees. Where there are
--- too many the oldest goes out.
+-- The command's entry is the first, in place of the one that it resumed, with these detached trees.
+-- Where there are too many the oldest goes out.
 abbrev pub EntersIn : Bool → EntrySpan → List NodeRef → Places → Counts → ℕ → List EntrySnapshot
     → List EntrySnapshot → Option EntrySnapshot → Type 0
 EntersIn false s detached p counts room us new out = (b : EntrySnapshot) × (b.span ≡ s)
@@ -107,9 +111,11 @@ EntersIn true s detached p counts room (b ∷ bs) [] out = ⊥
 EntersIn true s detached p counts room (b ∷ bs) (b' ∷ bs') out = (bs' ≡ bs)
     × ((b'.span ≡ joined_span b.span p counts) × ((b'.detached.items ≡ detached) × (out ≡ None)))
 
-abbrev pub Enters : Command → List NodeRef → Places → Counts → ℕ → List EntrySnapshot → List EntrySnapshot
+abbrev pub Enters : Command → List NodeRef → Places → Counts → ℕ → List EntrySnapshot
+    → List EntrySnapshot
     → Option EntrySnapshot → Type 0
-Enters c detached p counts room us new out = EntersIn c.resumed (made_span c p counts) detached p counts room
+Enters c detached p counts room us new out =
+    EntersIn c.resumed (made_span c p counts) detached p counts room
     us new out
 
 -- a number of the document, with that of a tree if that comes into it
@@ -120,8 +126,8 @@ with_more enters n more = if enters then n + more else n
 abbrev pub comes_in : Forest Content → ℕ → ℕ → Bool
 comes_in f n p = not (is_in_document f n) && is_in_document f p
 
--- the bound on the depth is no less than before, and no less than how deep the tree of n is below p if it comes to
--- stand there in the document
+-- the bound on the depth is no less than before, and no less than how deep the tree of n is below p
+-- if it comes to stand there in the document
 pub record IsRaised (f : Forest Content) (p n : ℕ) (there : Bool) (old new : ℕ) : Type 0 where
   pub stays : old ≤ new
   pub reach : there ≡ true → min (depth_of f p + levels (tree_of f n)) 4294967295 ≤ new

@@ -34,4 +34,5 @@ pub record GivesUp (k : ℕ → Bool) (old new : Arena) : Type 0 where
   pub trees : new.trees ≡ pruned k old.trees
   pub next : new.next ≡ old.next
   pub cap : new.cap ≡ old.cap
-  pub keeps : (q : NodeRef) → RefIn old.held q → 0 < count_of (pruned k old.trees) q.label → RefIn new.held q
+  pub keeps : (q : NodeRef) → RefIn old.held q → 0 < count_of (pruned k old.trees) q.label
+      → RefIn new.held q

@@ -25,8 +25,8 @@ pub record Finds (d : Whole) (o : Option NodeRef) (l : Option ℕ) : Type 0 wher
   pub is : label_of o ≡ l
   pub held : IfHeld d o
 
--- what an editing call keeps, also where it gives up: what was held is held, the history, the cap, and how the
--- command began
+-- what an editing call keeps, also where it gives up: what was held is held, the history, the cap,
+-- and how the command began
 pub record Keeps (old new : Whole) : Type 0 where
   pub held : (r : NodeRef) → Holds old r → Holds new r
   pub history : new.history ≡ old.history
@@ -36,7 +36,8 @@ pub record Keeps (old new : Whole) : Type 0 where
 
 -- what was held and is still in the trees is held
 abbrev pub KeepsThere : Whole → Whole → Type 0
-KeepsThere old new = (r : NodeRef) → Holds old r → 0 < count_of new.state.trees r.label → Holds new r
+KeepsThere old new =
+    (r : NodeRef) → Holds old r → 0 < count_of new.state.trees r.label → Holds new r
 
 -- one forest is another without some loose trees
 pub record IsPart (part whole : Forest Content) : Type 0 where

@@ -1,7 +1,9 @@
--- How the fields of a document under edits give its state and its history. No public clause cites this module.
+-- How the fields of a document under edits give its state and its history. No public clause cites
+-- this module.
 --
--- The history is computed: undoing the noted steps of the open entry gives the forest as the command began, and
--- from there undoing, or redoing, an entry at a time gives the forest at each kept place of the history.
+-- The history is computed: undoing the noted steps of the open entry gives the forest as the
+-- command began, and from there undoing, or redoing, an entry at a time gives the forest at each
+-- kept place of the history.
 use Rattle.std.specs.Prelude.{ℕ, Bool, false, true, ◌&&◌, nat_lt, nat_le, if◌then◌else◌, List, [], ◌∷◌, map, Option, Some, None}
 use Rattle.dom_model.specs.declared.Content.{Content}
 use Rattle.dom_model.specs.Change.{Change}
@@ -42,15 +44,16 @@ edits_before xs f = inverses_back applied inverse (changes_of xs) f
 -- the roots of the trees from a label on, each with its content
 abbrev pub roots_from : ℕ → Forest Content → List (ℕ × Content)
 roots_from n Nil = []
-roots_from n (Tree l c ks rest) = if nat_le n l then (l, c) ∷ roots_from n rest else roots_from n rest
+roots_from n (Tree l c ks rest) =
+    if nat_le n l then (l, c) ∷ roots_from n rest else roots_from n rest
 
--- the forest as the running command began, with the nodes that it made since, each alone in a loose tree; without a
--- command, the forest itself
+-- the forest as the running command began, with the nodes that it made since, each alone in a loose
+-- tree; without a command, the forest itself
 abbrev pub begun_forest : Log Step → Forest Content → Forest Content
 begun_forest log f = forest_before (noted log.open_entry) f
 
--- The trees that the definitions don't see: those that were loose as the command began. Outside commands these are all
--- loose trees, since `start` is the next label then.
+-- The trees that the definitions don't see: those that were loose as the command began. Outside
+-- commands these are all loose trees, since `start` is the next label then.
 abbrev pub is_hidden : Forest Content → ℕ → ℕ → Bool
 is_hidden g start l = nat_lt 0 l && (nat_lt l start && nat_lt 0 (times (tops g) l))
 
@@ -98,7 +101,12 @@ began_with s (Resumed xs) = Some (record { state = s; resumed = true })
 -- ---- the history
 
 abbrev pub view_at : List (List ℕ) → Forest Content → Places → View
-view_at names f p = record { document = document_of f; selection = p.selection; marks = map (named names) (marks_of p) }
+view_at names f p =
+    record {
+      document = document_of f;
+      selection = p.selection;
+      marks = map (named names) (marks_of p);
+    }
 
 -- ---- the two ways through the history
 
@@ -126,7 +134,8 @@ edits_of Back e f = edits_before e f
 edits_of Forth e f = changes_of e
 
 -- the entries that lie that way from the forest on
-abbrev pub entries : Way → List (List ℕ) → Forest Content → List (List Step) → List EntrySnapshot → List Entry
+abbrev pub entries : Way → List (List ℕ) → Forest Content → List (List Step) → List EntrySnapshot
+    → List Entry
 entries w names f [] bs = []
 entries w names f (e ∷ es) [] = []
 entries w names f (e ∷ es) (b ∷ bs) =
@@ -137,10 +146,12 @@ entries w names f (e ∷ es) (b ∷ bs) =
       made = used (edits_of w e f) (roots_from b.span.first_label (older w f (led w e f)));
     } ∷ entries w names (led w e f) es bs
 
-abbrev pub undo_entries : List (List ℕ) → Forest Content → List (List Step) → List EntrySnapshot → List Entry
+abbrev pub undo_entries : List (List ℕ) → Forest Content → List (List Step) → List EntrySnapshot
+    → List Entry
 undo_entries = entries Back
 
-abbrev pub redo_entries : List (List ℕ) → Forest Content → List (List Step) → List EntrySnapshot → List Entry
+abbrev pub redo_entries : List (List ℕ) → Forest Content → List (List Step) → List EntrySnapshot
+    → List Entry
 redo_entries = entries Forth
 
 abbrev pub history_of : List (List ℕ) → Forest Content → Trail → History
@@ -168,5 +179,7 @@ entries_along Back d = d.history.undo
 entries_along Forth d = d.history.redo
 
 abbrev pub whole_along : Way → Whole → Whole
-whole_along Back d = record d { state = undone_state d.history d.state; history = undone_history d.history }
-whole_along Forth d = record d { state = redone_state d.history d.state; history = redone_history d.history }
+whole_along Back d =
+    record d { state = undone_state d.history d.state; history = undone_history d.history }
+whole_along Forth d =
+    record d { state = redone_state d.history d.state; history = redone_history d.history }

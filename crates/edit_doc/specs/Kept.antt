@@ -1,4 +1,5 @@
--- Which nodes a document holds outside commands: those of the document, and the loose trees that kept entries need.
+-- Which nodes a document holds outside commands: those of the document, and the loose trees that
+-- kept entries need.
 use Rattle.std.specs.Prelude.{◌≡◌, ◌⊎◌, ℕ, ◌<◌, true, List, [], ◌∷◌, Some, None, slice_index_or}
 use Rattle.dom_model.specs.declared.Content.{Content}
 use Rattle.dom_model.specs.Forest.{Forest, count_of, parent_of, IsWithin}
@@ -10,15 +11,16 @@ use Rattle.forest_changes.specs.Named.{named_in}
 use Rattle.edit_model.specs.History.{Entry, document_of}
 use Rattle.edit_doc.specs.Whole.{Whole}
 
--- the changes, which take back the edits of the entry, lead from the forest with the document after it to one with
--- the document before it
+-- the changes, which take back the edits of the entry, lead from the forest with the document after
+-- it to one with the document before it
 pub record LeadsBack (f : Forest Content) (xs : List Change) (e : Entry) : Type 0 where
   pub fits : FitsBack applied Fits xs f
   pub own : inverses_back applied inverse xs f ≡ e.edits
   pub after : e.after.document ≡ document_of f
   pub before : e.before.document ≡ document_of (back applied xs f)
 
--- and the edits of the entry lead from one with the document before it to one with the document after it
+-- and the edits of the entry lead from one with the document before it to one with the document
+-- after it
 pub record LeadsForth (f : Forest Content) (xs : List Change) (e : Entry) : Type 0 where
   pub fits : FitsForth applied Fits xs f
   pub own : xs ≡ e.edits
@@ -49,9 +51,10 @@ pub record AreInTree (f : Forest Content) (r l m : ℕ) : Type 0 where
   pub has : IsWithin f r l
   pub has_too : IsWithin f r m
 
--- The forest has the nodes that are held, the changes lead from it through the history, and each node is in the
--- document or in a tree with a node that one of the changes names.
-pub record IsNeeded (d : Whole) (f : Forest Content) (undone redone : List (List Change)) : Type 0 where
+-- The forest has the nodes that are held, the changes lead from it through the history, and each
+-- node is in the document or in a tree with a node that one of the changes names.
+pub record IsNeeded (d : Whole) (f : Forest Content)
+    (undone redone : List (List Change)) : Type 0 where
   pub forest : IsForest f
   pub document : document_of f ≡ d.state.trees
   pub held : (slot l : ℕ) → slice_index_or d.held slot None ≡ Some l → 0 < count_of f l
@@ -62,5 +65,6 @@ pub record IsNeeded (d : Whole) (f : Forest Content) (undone redone : List (List
       × (IsNamed undone m ⊎ IsNamed redone m))
 
 abbrev pub HoldsOnlyNeeded : Whole → Type 0
-HoldsOnlyNeeded d = (f : Forest Content) × (undone : List (List Change)) × (redone : List (List Change))
+HoldsOnlyNeeded d =
+    (f : Forest Content) × (undone : List (List Change)) × (redone : List (List Change))
     × IsNeeded d f undone redone

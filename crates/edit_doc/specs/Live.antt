@@ -1,4 +1,5 @@
--- What is seen of the tree under edits: all but the kept numbers. No public clause cites this module.
+-- What is seen of the tree under edits: all but the kept numbers. No public clause cites this
+-- module.
 use Rattle.std.specs.Prelude.{List}
 use Rattle.dom_model.specs.ArenaState.{ArenaState as Arena}
 use Rattle.live_range.specs.LivePoints.{LivePoints}
@@ -13,7 +14,8 @@ pub record Live : Type 0 where
   pub flags : Flags
 
 abbrev pub live_of : Arena → LivePoints → List Setting → Flags → Live
-live_of arena points overrides flags = record { arena = arena; points = points; overrides = overrides; flags = flags }
+live_of arena points overrides flags =
+    record { arena = arena; points = points; overrides = overrides; flags = flags }
 
 abbrev pub live : LiveTree → Live
 live t = live_of t.nodes.arena t.points t.overrides t.flags

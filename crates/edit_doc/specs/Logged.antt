@@ -13,8 +13,8 @@ use Rattle.edit_doc.specs.declared.logged.LoggedEdit.{LoggedEdit}
 use Rattle.edit_doc.specs.declared.logged.LoggedEdit.TheVariants.{Remove, Insert, Move, SetText, SetAttributes}
 use Rattle.edit_doc.specs.declared.logged.MadeNode.{MadeNode}
 
--- the nodes that the commands of an entry made and its edits name, each as made, and its edits, from the first to
--- the last
+-- the nodes that the commands of an entry made and its edits name, each as made, and its edits,
+-- from the first to the last
 pub record Logged : Type 0 where
   pub made : List MadeNode
   pub edits : List LoggedEdit
@@ -24,7 +24,8 @@ abbrev pub content_made : List (ℕ × Content) → ℕ → Option Content
 content_made [] l = None
 content_made (n ∷ ns) l = if n.0 == l then Some n.1 else content_made ns l
 
--- the content of a node before the edits of an entry: that in the document before it, or that with which it was made
+-- the content of a node before the edits of an entry: that in the document before it, or that with
+-- which it was made
 abbrev pub content_in : Entry → ℕ → Option Content
 content_in e l = either (content_of e.before.document l) (content_made e.made l)
 
@@ -44,7 +45,8 @@ abbrev pub made_node : ℕ × Content → MadeNode
 made_node n = record { label = n.0; content = n.1 }
 
 abbrev pub logged_with : (ℕ → Option Content) → List (ℕ × Content) → List Change → Logged
-logged_with content made edits = record { made = map made_node made; edits = map (logged_edit content) edits }
+logged_with content made edits =
+    record { made = map made_node made; edits = map (logged_edit content) edits }
 
 abbrev pub logged_entry : Entry → Logged
 logged_entry e = logged_with (content_in e) e.made e.edits
@@ -55,10 +57,11 @@ node_at f l = option_map_or (λ c. (l, c) ∷ []) (content_of f l) []
 
 -- there are marks of labels from `first` on, each of which tells whether the list has the label
 abbrev pub TellNamed : ℕ → List ℕ → List Bool → Type 0
-TellNamed first ls marks = (i : ℕ) → i < length marks → slice_index_or marks i false ≡ has_label ls (first + i)
+TellNamed first ls marks =
+    (i : ℕ) → i < length marks → slice_index_or marks i false ≡ has_label ls (first + i)
 
--- These are the entries that undo and redo would take, and all else but the document and the points and overrides
--- at it is as it was.
+-- These are the entries that undo and redo would take, and all else but the document and the points
+-- and overrides at it is as it was.
 pub record HasMoved (old new : Whole) (us rs : List Entry) : Type 0 where
   pub undo : new.history.undo ≡ us
   pub redo : new.history.redo ≡ rs

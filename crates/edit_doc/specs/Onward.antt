@@ -28,8 +28,8 @@ next_past next (n ∷ ns) = next_past (n.0 + 1) ns
 abbrev pub at_begin : Entry → Forest Content
 at_begin e = with_made e.before.document e.made
 
--- An entry leads from a document on, where labels from `next` on are new: its edits fit the document with the nodes
--- that were made beside it, and give the document after it.
+-- An entry leads from a document on, where labels from `next` on are new: its edits fit the
+-- document with the nodes that were made beside it, and give the document after it.
 pub record LeadsOnward (next : ℕ) (d : Forest Content) (e : Entry) : Type 0 where
   pub before : e.before.document ≡ d
   pub rise : RiseFrom next e.made
@@ -37,11 +37,12 @@ pub record LeadsOnward (next : ℕ) (d : Forest Content) (e : Entry) : Type 0 wh
   pub fits : FitsForth applied Fits e.edits (at_begin e)
   pub after : document_of (forth applied e.edits (at_begin e)) ≡ e.after.document
 
--- entries, from the oldest on, lead from one document to another, and the nodes that they made have labels from
--- `next` on, below `end`
+-- entries, from the oldest on, lead from one document to another, and the nodes that they made have
+-- labels from `next` on, below `end`
 abbrev pub LeadOnward : ℕ → Forest Content → List Entry → Forest Content → ℕ → Type 0
 LeadOnward next d [] last end = (d ≡ last) × (next ≤ end)
-LeadOnward next d (e ∷ es) last end = LeadsOnward next d e × LeadOnward (next_past next e.made) e.after.document
+LeadOnward next d (e ∷ es) last end =
+    LeadsOnward next d e × LeadOnward (next_past next e.made) e.after.document
     es last end
 
 -- from a document that stands alone, whose labels are below `next`
@@ -52,7 +53,8 @@ pub record LeadFrom (page : Forest Content) (next : ℕ) (es : List Entry) (last
   pub below : IsBelow page next
   pub onward : LeadOnward next page es last end
 
--- the entries that undo would take led from some document to that of the state, with labels below the next one
+-- the entries that undo would take led from some document to that of the state, with labels below
+-- the next one
 abbrev pub HasLedOnward : Whole → Type 0
 HasLedOnward d = (page : Forest Content) × (next : ℕ) × LeadFrom page next (reverse d.history.undo)
     d.state.trees d.state.next

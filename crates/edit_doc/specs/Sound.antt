@@ -48,9 +48,10 @@ CanGoForth held xs f = FitsForth applied Fits (changes_of xs) f × EachHeldIn he
 
 -- ---- the span of an entry
 
--- the places are those of points that stand in the document of a forest, the scratch pair isn't there, and the numbers
--- are those of the document, which is no deeper than the last
-pub record IsSide (names : List (List ℕ)) (f : Forest Content) (p : Places) (nodes chars depth : ℕ) : Type 0 where
+-- the places are those of points that stand in the document of a forest, the scratch pair isn't
+-- there, and the numbers are those of the document, which is no deeper than the last
+pub record IsSide (names : List (List ℕ)) (f : Forest Content) (p : Places)
+    (nodes chars depth : ℕ) : Type 0 where
   pub over : IsOver names p
   pub placed : IsPlaced f (shown names p)
   pub resting : p.scratch ≡ None
@@ -79,26 +80,32 @@ EntriesOff l f (e ∷ es) = Each (IsOff f l) (named_in (changes_of e)) × Entrie
 
 -- each loose tree with an older root has a node that a step of an entry names
 abbrev pub AreNeeded : ℕ → Forest Content → List (List Step) → List (List Step) → Type 0
-AreNeeded start f es fs = (l : ℕ) → 0 < l → l < start → 0 < times (tops f) l → EntriesOff l f es → EntriesOff l f fs → ⊥
+AreNeeded start f es fs =
+    (l : ℕ) → 0 < l → l < start → 0 < times (tops f) l → EntriesOff l f es → EntriesOff l f fs → ⊥
 
--- An entry that leads from one forest to another. Its steps name only nodes that its commands saw, on both sides:
--- those of the document before it, and those that they made, with labels below `high`, the first that a later entry
--- can have; and so do those that the steps turn into. The trees that they didn't see are still loose after it, and
--- so are those that it left loose.
+-- An entry that leads from one forest to another. Its steps name only nodes that its commands saw,
+-- on both sides: those of the document before it, and those that they made, with labels below
+-- `high`, the first that a later entry can have; and so do those that the steps turn into. The
+-- trees that they didn't see are still loose after it, and so are those that it left loose.
 pub record IsSnapshot (names : List (List ℕ)) (before after : Forest Content) (e : List Step)
-    (turns : List Change) (b : EntrySnapshot) (detached : List NodeRef) (high start : ℕ) : Type 0 where
-  pub was : IsSide names before b.span.before b.span.nodes_before b.span.chars_before b.span.depth_before
+    (turns : List Change) (b : EntrySnapshot) (detached : List NodeRef)
+    (high start : ℕ) : Type 0 where
+  pub was : IsSide names before b.span.before b.span.nodes_before b.span.chars_before
+      b.span.depth_before
   pub is : IsSide names after b.span.after b.span.nodes_after b.span.chars_after b.span.depth_after
   pub some_label : 0 < b.span.first_label
   pub fresh : AreFresh before b.span.first_label
   pub drawn : b.span.first_label ≤ high
   pub known : high ≤ start
   pub hidden : (l : ℕ) → is_hidden before b.span.first_label l ≡ true → 0 < times (tops after) l
-  pub names_seen : Each (IsLeft (is_hidden before b.span.first_label) before) (named_in (changes_of e))
-  pub names_there : Each (IsLeft (is_hidden before b.span.first_label) after) (named_in (changes_of e))
+  pub names_seen : Each (IsLeft (is_hidden before b.span.first_label) before)
+      (named_in (changes_of e))
+  pub names_there : Each (IsLeft (is_hidden before b.span.first_label) after)
+      (named_in (changes_of e))
   pub names_old : Each (λ l. l < high) (named_in (changes_of e))
   pub turns_old : Each (λ l. l < high) (named_in turns)
-  pub detached_loose : Each (λ l. (0 < l) × ((l < high) × (parent_of after l ≡ None))) (labels_of detached)
+  pub detached_loose : Each (λ l. (0 < l) × ((l < high) × (parent_of after l ≡ None)))
+      (labels_of detached)
   pub detached_all : (l : ℕ) → 0 < l → 0 < times (tops after) l
       → (Each (IsOff after l) (named_in (changes_of e)) → Each (IsOff after l) (named_in turns) → ⊥)
       → has_label (labels_of detached) l ≡ true
@@ -110,7 +117,8 @@ abbrev pub detached_of : Bool → Command → EntrySnapshot → List NodeRef
 detached_of false c b = b.detached.items
 detached_of true c b = take c.detached_before c.detached.items
 
--- the first label of the entries that redo would take; without any, the next one as the running command began
+-- the first label of the entries that redo would take; without any, the next one as the running
+-- command began
 abbrev pub next_first : ℕ → List EntrySnapshot → ℕ
 next_first start [] = start
 next_first start (b ∷ bs) = b.span.first_label
@@ -127,8 +135,8 @@ abbrev pub changes_along : Way → List Step → Forest Content → List Change
 changes_along Back e f = inverses_back applied inverse (changes_of e) f
 changes_along Forth e f = inverses_forth applied inverse (changes_of e) f
 
--- The labels of an entry are below those of the later entries: going back, below the bound that the entry before
--- gave, and going forth, below the first of the entry that follows.
+-- The labels of an entry are below those of the later entries: going back, below the bound that the
+-- entry before gave, and going forth, below the first of the entry that follows.
 abbrev pub bound_of : Way → ℕ → ℕ → List EntrySnapshot → ℕ
 bound_of Back high start bs = high
 bound_of Forth high start bs = next_first start bs
@@ -138,7 +146,8 @@ next_bound Back high b = b.span.first_label
 next_bound Forth high b = high
 
 -- the entries lie that way from the forest on, each with its snapshot
-abbrev pub Lies : Way → List (Option ℕ) → List (List ℕ) → Bool → Command → ℕ → Forest Content → List (List Step)
+abbrev pub Lies : Way → List (Option ℕ) → List (List ℕ) → Bool → Command → ℕ → Forest Content
+    → List (List Step)
     → List EntrySnapshot → Type 0
 Lies w held names resumed c high f [] [] = Unit {0}
 Lies w held names resumed c high f [] (b ∷ bs) = ⊥
@@ -149,7 +158,8 @@ Lies w held names resumed c high f (e ∷ es) (b ∷ bs) =
     (detached_of resumed c b) (bound_of w high c.start bs) c.start
     × Lies w held names false c (next_bound w high b) (led w e f) es bs)
 
-abbrev pub UndoSound : List (Option ℕ) → List (List ℕ) → Bool → Command → ℕ → Forest Content → List (List Step)
+abbrev pub UndoSound : List (Option ℕ) → List (List ℕ) → Bool → Command → ℕ → Forest Content
+    → List (List Step)
     → List EntrySnapshot → Type 0
 UndoSound = Lies Back
 
@@ -172,14 +182,16 @@ pub record IsIdle (c : Command) (points : LivePoints) (next : ℕ) : Type 0 wher
 -- what a command keeps of its begin is as it was, and what it changes is seen
 pub record IsRunning (a : Arena) (names : List (List ℕ)) (c : Command) (xs : List Step)
     (g : Forest Content) : Type 0 where
-  pub kept : IsSide names g c.kept.places c.kept.counts.nodes c.kept.counts.chars c.kept.counts.depth
+  pub kept : IsSide names g c.kept.places c.kept.counts.nodes c.kept.counts.chars
+      c.kept.counts.depth
   pub settings : length c.kept.overrides ≡ 32
   pub made : AreAlone g c.start a.next
   pub can : CanGoBack a.held xs a.trees
   pub names_there : Each (IsLeft (is_hidden g c.start) a.trees) (named_in (changes_of xs))
   pub marks : length c.named.items + c.start ≡ a.next
   pub marked : Each (IsMarked c) (named_in (changes_of xs))
-  pub marked_inverse : Each (IsMarked c) (named_in (inverses_back applied inverse (changes_of xs) a.trees))
+  pub marked_inverse : Each (IsMarked c)
+      (named_in (inverses_back applied inverse (changes_of xs) a.trees))
   pub named_all : (l : ℕ) → has_named c l ≡ true → (has_label (named_in (changes_of xs)) l ≡ true)
       ⊎ (has_label (named_in (inverses_back applied inverse (changes_of xs) a.trees)) l ≡ true)
   pub detached_before : c.detached_before ≤ length c.detached.items
@@ -201,8 +213,10 @@ pub record IsSoundDoc (t : Live) (c : Command) (h : Trail) : Type 0 where
       → 0 < times (tops t.arena.trees) l
   pub running : OpenSound t.arena t.points c (begun_forest h.log t.arena.trees) h.log.open_entry
   pub resumed : c.resumed ≡ is_resumed h.log.open_entry
-  pub host : IfSome c.host (λ r. RefIn t.arena.held r × (0 < count_of (seen_trees h.log c.start t.arena.trees) r.label))
+  pub host : IfSome c.host (λ r. RefIn t.arena.held r
+      × (0 < count_of (seen_trees h.log c.start t.arena.trees) r.label))
   pub undo : UndoSound t.arena.held t.points.names c.resumed c (next_first c.start h.future)
       (begun_forest h.log t.arena.trees) h.log.undo h.past
-  pub redo : RedoSound t.arena.held t.points.names c (begun_forest h.log t.arena.trees) h.log.redo h.future
+  pub redo : RedoSound t.arena.held t.points.names c (begun_forest h.log t.arena.trees) h.log.redo
+      h.future
   pub needed : AreNeeded c.start (begun_forest h.log t.arena.trees) h.log.undo h.log.redo

@@ -1,5 +1,5 @@
--- The value of the history of a document: the log of the steps, and a snapshot beside each of its entries. No
--- public clause cites this module.
+-- The value of the history of a document: the log of the steps, and a snapshot beside each of its
+-- entries. No public clause cites this module.
 use Rattle.std.specs.Prelude.{◌≡◌, ℕ, List, [], ◌++◌, length, take, drop}
 use Rattle.dom_model.specs.ArenaState.{ArenaState as Arena}
 use Rattle.undo_log.specs.Log.{Log, IsLog, FitsUndo, FitsRedo, empty, with_step, undone, redone, undone_state, redone_state}
@@ -9,7 +9,8 @@ use Rattle.edit_doc.specs.declared.command.EntrySnapshot.{EntrySnapshot}
 use Rattle.edit_doc.specs.declared.history.Way.{Way}
 use Rattle.edit_doc.specs.declared.history.Way.TheVariants.{Back, Forth}
 
--- the log, and what stands beside the entries that undo would take, and beside those that redo would take
+-- the log, and what stands beside the entries that undo would take, and beside those that redo
+-- would take
 pub record Trail : Type 0 where
   pub log : Log Step
   pub past : List EntrySnapshot
@@ -50,8 +51,10 @@ arena_along Back es a = undone_state step_applied es a
 arena_along Forth es a = redone_state step_applied es a
 
 abbrev pub trail_along : Way → Trail → Arena → Trail
-trail_along Back t a = trail_of (undone step_applied step_inverse t.log a) (drop 1 t.past) (take 1 t.past ++ t.future)
-trail_along Forth t a = trail_of (redone step_applied step_inverse t.log a) (take 1 t.future ++ t.past)
+trail_along Back t a =
+    trail_of (undone step_applied step_inverse t.log a) (drop 1 t.past) (take 1 t.past ++ t.future)
+trail_along Forth t a =
+    trail_of (redone step_applied step_inverse t.log a) (take 1 t.future ++ t.past)
     (drop 1 t.future)
 
 -- ---- what holds of every one

@@ -8,7 +8,8 @@ use Rattle.edit_model.specs.Overrides.{no_overrides}
 use Rattle.edit_model.specs.History.{Entry, History, rested, begun, recorded}
 use Rattle.edit_model.specs.Valid.{IsValid}
 
--- what is kept of the begin of the open command: the state before it, and whether it resumed the last entry
+-- what is kept of the begin of the open command: the state before it, and whether it resumed the
+-- last entry
 pub record Began : Type 0 where
   pub state : State
   pub resumed : Bool

@@ -12,8 +12,8 @@ use live_range::{Places, Points};
 use node_arena::NodeRef;
 use std::alloc::Global;
 
-/// Where the points stand just before and just after the commands of an entry, the next label as the first of them
-/// began, and the numbers of the document on both sides.
+/// Where the points stand just before and just after the commands of an entry, the next label as
+/// the first of them began, and the numbers of the document on both sides.
 #[derive(Clone, Copy)]
 pub struct EntrySpan {
     pub before: Places,
@@ -57,8 +57,8 @@ impl EntrySpan {
     }
 }
 
-// What is kept beside an entry: its span, and the roots of the trees that its commands detached, which go when the
-// entry does.
+// What is kept beside an entry: its span, and the roots of the trees that its commands detached,
+// which go when the entry does.
 #[derive(Drop)]
 pub(crate) struct EntrySnapshot {
     pub(crate) span: EntrySpan,
@@ -74,7 +74,8 @@ pub(crate) struct Kept {
     pub(crate) counts: Counts,
 }
 
-// The running command. Outside commands it has no host, nothing is named or detached, and `start` is the next label.
+// The running command. Outside commands it has no host, nothing is named or detached, and `start`
+// is the next label.
 #[derive(Drop)]
 pub(crate) struct Command {
     pub(crate) start: u32,

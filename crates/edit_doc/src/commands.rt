@@ -17,12 +17,13 @@ use std::sync::ledger::Ledger;
 use step_count::Steps;
 
 impl Doc {
-    /// Begins a command with this affected editing host. A keeping command removes no image, no rule and no
-    /// characters but tab, LF, CR and space.
+    /// Begins a command with this affected editing host. A keeping command removes no image, no
+    /// rule and no characters but tab, LF, CR and space.
     pub fn begin(&mut self, host: Option<NodeRef>, keeping: bool) -> Result<(), AllocError>
         requires closed { IsClosed self.old }
         requires host_held { IfHeld self.old host }
-        ensures begun { IfOk result (λ _. self.new ≡ opened (label_of host) keeping false self.old) }
+        ensures begun { IfOk result (λ _. self.new
+            ≡ opened (label_of host) keeping false self.old) }
         ensures err { OnErr result (self.new ≡ self.old) }
     {
         self.tree.nodes.arena.valid();
@@ -34,7 +35,8 @@ impl Doc {
         Ok(())
     }
 
-    /// Begins a command whose edits join the last entry. False where there is none, and where redo would take one.
+    /// Begins a command whose edits join the last entry. False where there is none, and where redo
+    /// would take one.
     pub fn resume(&mut self, host: Option<NodeRef>) -> Result<bool, AllocError>
         requires closed { IsClosed self.old }
         requires host_held { IfHeld self.old host }
@@ -57,8 +59,8 @@ impl Doc {
         Ok(true)
     }
 
-    /// Ends the command. Loose trees and the scratch pair go; with an edit the history has an entry for it, or a
-    /// longer one.
+    /// Ends the command. Loose trees and the scratch pair go; with an edit the history has an entry
+    /// for it, or a longer one.
     pub fn commit(&mut self) -> Committed
         requires open { IsOpen self.old }
         ensures answer { (result ≡ Committed.Entry) ↔ (0 < length self.old.state.edits) }
@@ -97,7 +99,8 @@ impl Doc {
         }
     }
 
-    /// Takes the command back: the document is as before it, and the labels that it drew are given back.
+    /// Takes the command back: the document is as before it, and the labels that it drew are given
+    /// back.
     pub fn roll_back(&mut self)
         requires open { IsOpen self.old }
         ensures state { self.new.state ≡ state_rolled_back self.old }

@@ -1,5 +1,5 @@
-//! What is composed of edits: splitting a text, and setting the tag name of an element. The steps are those of
-//! docs/ALGORITHMS.md.
+//! What is composed of edits: splitting a text, and setting the tag name of an element. The steps
+//! are those of docs/ALGORITHMS.md.
 
 ghost use Rattle.std.specs.Prelude.{◌≡◌, ℕ, ◌+◌, ◌-◌, ◌<◌, ◌^◌, IfOk, IsSome, Some, length, drop, true};
 ghost use Rattle.dom_model.specs.Contents.{is_element_at};
@@ -18,8 +18,8 @@ use node_arena::has_name;
 use std::alloc::AllocError;
 
 impl Doc {
-    /// Splits a text at an offset (DOM Standard, "split a Text node") and answers the new text with the tail. A
-    /// node without a parent stays as it is and is the answer.
+    /// Splits a text at an offset (DOM Standard, "split a Text node") and answers the new text with
+    /// the tail. A node without a parent stays as it is and is the answer.
     #[tactic(auto, using(edit_model::proofs::Steps::exits), unfolding(edit_model::specs::Compositions::split_words))]
     pub fn split_words(&mut self, node: NodeRef, at: u32) -> Result<NodeRef, EditFault>
         requires open { IsOpen self.old }
@@ -34,14 +34,16 @@ impl Doc {
         }
     }
 
-    /// Sets the tag name of an element (HTML Editing APIs) and answers the element that has it: a new one in its
-    /// place, or the element itself where it has the name, no parent, or isn't editable.
+    /// Sets the tag name of an element (HTML Editing APIs) and answers the element that has it: a
+    /// new one in its place, or the element itself where it has the name, no parent, or isn't
+    /// editable.
     #[tactic(auto, using(edit_model::proofs::Steps::exits), unfolding(edit_model::specs::Compositions::set_tag_name))]
     pub fn set_tag_name(&mut self, node: NodeRef, name: &Name) -> Result<NodeRef, EditFault>
         requires open { IsOpen self.old }
         requires node_held { Holds self.old node }
         requires element { is_element_at self.old.state.trees node.label ≡ true }
-        ensures gives { GivesNode result self.old.state self.new.state (set_tag_name node.label name.now) }
+        ensures gives { GivesNode result self.old.state self.new.state
+            (set_tag_name node.label name.now) }
         ensures held { IfOk result (λ r. Holds self.new r) }
         ensures keeps { Keeps self.old self.new }
     {
@@ -60,8 +62,10 @@ impl Doc {
     // A copy of the characters of a node past an offset, and how many they are.
     fn tail_of(&self, node: NodeRef, at: u32) -> Result<(Chars, u32), AllocError>
         requires { Holds self.now node }
-        ensures tail { IfOk result (λ r. r.0 ≡ drop at (characters_of self.now.state.trees node.label)) }
-        ensures count { IfOk result (λ r. r.1 ≡ length (characters_of self.now.state.trees node.label) - at) }
+        ensures tail { IfOk result (λ r. r.0
+            ≡ drop at (characters_of self.now.state.trees node.label)) }
+        ensures count { IfOk result (λ r. r.1
+            ≡ length (characters_of self.now.state.trees node.label) - at) }
         ensures short { IfOk result (λ r. length r.0 < 2 ^ 32) }
     {
         tail_of(self.alloc, self.nodes().content(node), at)
@@ -75,14 +79,15 @@ impl Doc {
         self.nodes().index(node) + 1
     }
 
-    // Split a text, step 3: the points of a text past an offset go to another text, and those of its parent just
-    // after it grow, where the other text was inserted.
+    // Split a text, step 3: the points of a text past an offset go to another text, and those of
+    // its parent just after it grow, where the other text was inserted.
     #[tactic(auto, using(edit_model::proofs::Steps::actions), unfolding(edit_model::specs::Compositions::points_sent))]
     fn send_points(&mut self, after: Point, node: NodeRef, at: u32, tail: NodeRef, inserted: bool)
         requires node_held { Holds self.old node }
         requires tail_held { Holds self.old tail }
         ensures sent { (i : ℕ) → after.offset ≡ i + 1 → self.new
-            ≡ with_state self.old (final (points_sent after.label i node.label at tail.label inserted)
+            ≡ with_state self.old
+            (final (points_sent after.label i node.label at tail.label inserted)
             self.old.state) }
         ensures keeps { Keeps self.old self.new }
     {
@@ -120,7 +125,8 @@ impl Doc {
     pub fn children_of(&self, node: NodeRef) -> Result<Vec<NodeRef>, AllocError>
         requires { Holds self.now node }
         ensures held { IfOk result (λ list. EachHeld self.now list.items) }
-        ensures children { IfOk result (λ list. labels_of list.items ≡ children_of self.now.state.trees node.label) }
+        ensures children { IfOk result (λ list. labels_of list.items
+            ≡ children_of self.now.state.trees node.label) }
     {
         self.valid();
         let mut list = Vec::new(self.alloc);
@@ -132,14 +138,15 @@ impl Doc {
         Ok(list)
     }
 
-    /// Moves each node of a list, in its order, to the end of another one. A node that may not go there stays where
-    /// it is.
+    /// Moves each node of a list, in its order, to the end of another one. A node that may not go
+    /// there stays where it is.
     #[tactic(auto, using(edit_model::proofs::Steps::eachs, edit_model::proofs::Steps::exits), unfolding(edit_model::specs::Moves::move_each_last))]
     pub fn move_each_last(&mut self, list: &[NodeRef], to: NodeRef) -> Result<(), EditFault>
         requires open { IsOpen self.old }
         requires list_held { EachHeld self.old list.now }
         requires to_held { Holds self.old to }
-        ensures gives { Gives result self.old.state self.new.state (move_each_last (labels_of list.now) to.label) }
+        ensures gives { Gives result self.old.state self.new.state
+            (move_each_last (labels_of list.now) to.label) }
         ensures keeps { Keeps self.old self.new }
     {
         for node in list {

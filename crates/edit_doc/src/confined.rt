@@ -12,8 +12,8 @@ use edit_parts::{has_no_kept_leaves, is_in_document};
 use node_arena::is_break;
 
 impl Doc {
-    /// Whether a node is editable with the affected editing host of the running command as its host. Outside commands
-    /// there is no host, and no node is.
+    /// Whether a node is editable with the affected editing host of the running command as its
+    /// host. Outside commands there is no host, and no node is.
     pub fn is_editable_for(&self, node: NodeRef) -> bool
         requires { Holds self.now node }
         ensures { result ≡ is_editable_for self.now.state node.label }
@@ -24,7 +24,8 @@ impl Doc {
         }
     }
 
-    /// Whether a node is the affected editing host of the running command, or editable with it as its host.
+    /// Whether a node is the affected editing host of the running command, or editable with it as
+    /// its host.
     pub fn is_inside(&self, node: NodeRef) -> bool
         requires { Holds self.now node }
         ensures { result ≡ is_inside self.now.state node.label }
@@ -126,7 +127,8 @@ impl Doc {
         before: Option<NodeRef>,
     ) -> bool
         requires { Holds self.now node }
-        ensures { result ≡ stands_so self.now.state.trees node.label from.label parent.label (label_of before) }
+        ensures { result
+            ≡ stands_so self.now.state.trees node.label from.label parent.label (label_of before) }
     {
         from.label == parent.label
             && match (self.next(node), before) {
@@ -148,7 +150,8 @@ impl Doc {
         requires from_held { Holds self.now from }
         requires parent_held { Holds self.now parent }
         requires before_held { IfHeld self.now before }
-        ensures { result ≡ may_go self.now.state node.label (Some from.label) parent.label (label_of before) }
+        ensures { result
+            ≡ may_go self.now.state node.label (Some from.label) parent.label (label_of before) }
     {
         if !self.is_open(from) {
             return false;

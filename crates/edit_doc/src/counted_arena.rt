@@ -26,8 +26,8 @@ pub(crate) struct CountedArena {
 }
 
 impl CountedArena {
-    // Makes a change, with the numbers after it, and notes the step that takes it back. Where there is no memory
-    // for the note the change is taken back.
+    // Makes a change, with the numbers after it, and notes the step that takes it back. Where there
+    // is no memory for the note the change is taken back.
     pub(crate) fn change(
         &mut self,
         history: &mut History,
@@ -38,9 +38,11 @@ impl CountedArena {
         requires open { IsTrue (is_open history.old.log.open_entry) }
         requires counted { IsCounted (step_applied change self.old.arena).trees counts }
         ensures arena { OnOk result (self.new.arena ≡ step_applied change self.old.arena) }
-        ensures history { OnOk result (history.new ≡ with_note history.old (step_inverse change self.old.arena)) }
+        ensures history { OnOk result (history.new
+            ≡ with_note history.old (step_inverse change self.old.arena)) }
         ensures fault { IfErr result (λ fault. fault ≡ EditFault.Memory) }
-        ensures err { OnErr result ((self.new.arena ≡ self.old.arena) × (history.new ≡ history.old)) }
+        ensures err { OnErr result ((self.new.arena ≡ self.old.arena)
+            × (history.new ≡ history.old)) }
         ensures counts { OnErr result (self.new.counts ≡ self.old.counts) }
     {
         let mut step = change;
@@ -60,8 +62,10 @@ impl CountedArena {
     // Takes back the steps of the open entry, to where there were these numbers.
     pub(crate) fn abandon(&mut self, history: &mut History, counts: Counts)
         requires open { IsTrue (is_open history.old.log.open_entry) }
-        requires fit { FitsBack step_applied StepFits (noted history.old.log.open_entry) self.old.arena }
-        requires counted { IsCounted (start step_applied history.old.log self.old.arena).trees counts }
+        requires fit { FitsBack step_applied StepFits (noted history.old.log.open_entry)
+            self.old.arena }
+        requires counted { IsCounted (start step_applied history.old.log self.old.arena).trees
+            counts }
         ensures history { history.new ≡ record history.old { log = abandoned history.old.log } }
         ensures arena { self.new.arena ≡ start step_applied history.old.log self.old.arena }
         ensures counts { self.new.counts ≡ counts }
@@ -80,9 +84,11 @@ impl CountedArena {
     )
         requires closed { history.old.log.open_entry ≡ Closed }
         requires fit { FitsAlong way (steps_along way history.old) self.old.arena }
-        requires counted { IsCounted (arena_along way (steps_along way history.old) self.old.arena).trees counts }
+        requires counted { IsCounted
+            (arena_along way (steps_along way history.old) self.old.arena).trees counts }
         ensures history { history.new ≡ trail_along way history.old self.old.arena }
-        ensures arena { self.new.arena ≡ arena_along way (steps_along way history.old) self.old.arena }
+        ensures arena { self.new.arena
+            ≡ arena_along way (steps_along way history.old) self.old.arena }
         ensures count { steps.new ≡ steps.old + first_length (steps_along way history.old) }
     {
         history.turn(way, &mut self.arena, steps);

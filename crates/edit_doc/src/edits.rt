@@ -19,7 +19,8 @@ use edit_steps::Step;
 use node_arena::Content;
 
 impl Doc {
-    /// Inserts a loose tree under a parent, before one of its children or at the end. Answers whether it was inserted.
+    /// Inserts a loose tree under a parent, before one of its children or at the end. Answers
+    /// whether it was inserted.
     pub fn insert(
         &mut self,
         parent: NodeRef,
@@ -30,7 +31,8 @@ impl Doc {
         requires parent_held { Holds self.old parent }
         requires before_held { IfHeld self.old before }
         requires node_held { Holds self.old node }
-        ensures gives { Gives result self.old.state self.new.state (insert parent.label (label_of before) node.label) }
+        ensures gives { Gives result self.old.state self.new.state
+            (insert parent.label (label_of before) node.label) }
         ensures keeps { Keeps self.old self.new }
         ensures err { OnErr result (self.new ≡ self.old) }
     {
@@ -41,7 +43,8 @@ impl Doc {
         Ok(true)
     }
 
-    // Links a loose tree under a parent, before one of its children or at the end, where the trees allow it.
+    // Links a loose tree under a parent, before one of its children or at the end, where the trees
+    // allow it.
     pub(crate) fn link(
         &mut self,
         parent: NodeRef,
@@ -111,7 +114,8 @@ impl Doc {
         requires parent_held { Holds self.old parent }
         requires child { parent_of self.old.state.trees node.label ≡ Some parent.label }
         requires possible { is_made_edit (Remove node.label) (freed self.old.state) ≡ true }
-        ensures unlinked { OnOk result (self.new.state ≡ applied (Remove node.label) self.old.state) }
+        ensures unlinked { OnOk result (self.new.state
+            ≡ applied (Remove node.label) self.old.state) }
         ensures fault { IfErr result (λ fault. fault ≡ EditFault.Memory) }
         ensures keeps { Keeps self.old self.new }
         ensures err { OnErr result (self.new ≡ self.old) }
@@ -137,8 +141,8 @@ impl Doc {
         Ok(())
     }
 
-    /// Moves the tree of a node under a parent, before one of its children or at the end, with the points in it.
-    /// Answers whether it was moved.
+    /// Moves the tree of a node under a parent, before one of its children or at the end, with the
+    /// points in it. Answers whether it was moved.
     pub fn move_keeping(
         &mut self,
         node: NodeRef,
@@ -149,7 +153,8 @@ impl Doc {
         requires node_held { Holds self.old node }
         requires parent_held { Holds self.old parent }
         requires before_held { IfHeld self.old before }
-        ensures gives { Gives result self.old.state self.new.state (move node.label parent.label (label_of before)) }
+        ensures gives { Gives result self.old.state self.new.state
+            (move node.label parent.label (label_of before)) }
         ensures keeps { Keeps self.old self.new }
         ensures err { OnErr result (self.new ≡ self.old) }
     {
@@ -182,7 +187,8 @@ impl Doc {
         Ok(true)
     }
 
-    /// Replaces `count` characters of a text, from the offset `at` on. Answers whether the text changed.
+    /// Replaces `count` characters of a text, from the offset `at` on. Answers whether the text
+    /// changed.
     pub fn replace_words(
         &mut self,
         node: NodeRef,
@@ -192,7 +198,8 @@ impl Doc {
     ) -> Result<bool, EditFault>
         requires open { IsOpen self.old }
         requires node_held { Holds self.old node }
-        ensures gives { Gives result self.old.state self.new.state (replace node.label at count put.now) }
+        ensures gives { Gives result self.old.state self.new.state
+            (replace node.label at count put.now) }
         ensures keeps { Keeps self.old self.new }
         ensures err { OnErr result (self.new ≡ self.old) }
     {
@@ -231,8 +238,8 @@ impl Doc {
         Ok(true)
     }
 
-    /// Sets an attribute of an element: one that is there keeps its place, a new one goes last. Answers whether the
-    /// list changed.
+    /// Sets an attribute of an element: one that is there keeps its place, a new one goes last.
+    /// Answers whether the list changed.
     pub fn set_attribute(
         &mut self,
         node: NodeRef,
@@ -241,7 +248,8 @@ impl Doc {
     ) -> Result<bool, EditFault>
         requires open { IsOpen self.old }
         requires node_held { Holds self.old node }
-        ensures gives { Gives result self.old.state self.new.state (set_attribute node.label name.now value.now) }
+        ensures gives { Gives result self.old.state self.new.state
+            (set_attribute node.label name.now value.now) }
         ensures keeps { Keeps self.old self.new }
         ensures err { OnErr result (self.new ≡ self.old) }
     {
@@ -269,7 +277,8 @@ impl Doc {
     pub fn unset_attribute(&mut self, node: NodeRef, name: &Name) -> Result<bool, EditFault>
         requires open { IsOpen self.old }
         requires node_held { Holds self.old node }
-        ensures gives { Gives result self.old.state self.new.state (unset_attribute node.label name.now) }
+        ensures gives { Gives result self.old.state self.new.state
+            (unset_attribute node.label name.now) }
         ensures keeps { Keeps self.old self.new }
         ensures err { OnErr result (self.new ≡ self.old) }
     {

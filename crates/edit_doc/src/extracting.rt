@@ -17,8 +17,9 @@ use crate::{Doc, EditFault, NodeRef, Point};
 use point_order::{child_toward, is_in_document, is_within};
 
 impl Doc {
-    /// Extracts the tail of `end`: what stands in it from a point on goes to the end of `target`. The elements between
-    /// `end` and the point are split: each gets a copy, without its id, that takes what comes after the point in it.
+    /// Extracts the tail of `end`: what stands in it from a point on goes to the end of `target`.
+    /// The elements between `end` and the point are split: each gets a copy, without its id, that
+    /// takes what comes after the point in it.
     ///
     /// It is one action: where it may not be made as a whole, nothing happens.
     pub fn extract_tail(
@@ -30,7 +31,8 @@ impl Doc {
         requires open { IsOpen self.old }
         requires end_held { Holds self.old end }
         requires target_held { Holds self.old target }
-        ensures gives { Gives result self.old.state self.new.state (extract_tail from end.label target.label) }
+        ensures gives { Gives result self.old.state self.new.state
+            (extract_tail from end.label target.label) }
         ensures keeps { Keeps self.old self.new }
     {
         self.valid();
@@ -43,13 +45,15 @@ impl Doc {
         self.extract_into(from, node, end, target)
     }
 
-    // Whether a tail of `end` may be extracted from a node on: that is `end` or stands below it and can have children.
+    // Whether a tail of `end` may be extracted from a node on: that is `end` or stands below it and
+    // can have children.
     fn has_tail(&self, node: NodeRef, end: NodeRef) -> bool
         requires node_held { Holds self.now node }
         requires end_held { Holds self.now end }
         ensures { result ≡ (is_editable_for self.now.state end.label
             && (is_in_document self.now.state.trees end.label
-            && (is_editable_for self.now.state node.label && (is_parent_at self.now.state.trees node.label
+            && (is_editable_for self.now.state node.label
+            && (is_parent_at self.now.state.trees node.label
             && is_within self.now.state.trees end.label node.label)))) }
     {
         if !self.is_editable_for(end) {
@@ -110,7 +114,8 @@ impl Doc {
         requires node_held { Holds self.old node }
         requires end_held { Holds self.old end }
         requires target_held { Holds self.old target }
-        requires possible { are_possible (tail_at self.old.state from end.label target.label) self.old.state ≡ true }
+        requires possible { are_possible (tail_at self.old.state from end.label target.label)
+            self.old.state ≡ true }
         ensures steps { MakesSteps result self.old.state self.new.state
             (tail_at self.old.state from end.label target.label) }
         ensures keeps { Keeps self.old self.new }
@@ -153,7 +158,8 @@ impl Doc {
         requires open { IsOpen self.old }
         requires list_held { EachHeld self.old list.now }
         requires target_held { Holds self.old target }
-        requires possible { are_possible (carried target.label (drop from (labels_of list.now))) self.old.state ≡ true }
+        requires possible { are_possible (carried target.label (drop from (labels_of list.now)))
+            self.old.state ≡ true }
         ensures steps { MakesSteps result self.old.state self.new.state
             (carried target.label (drop from (labels_of list.now))) }
         ensures keeps { Keeps self.old self.new }
@@ -169,8 +175,10 @@ impl Doc {
         requires open { IsOpen self.old }
         requires node_held { Holds self.old node }
         requires target_held { Holds self.old target }
-        requires possible { are_possible (carried target.label (node.label ∷ [])) self.old.state ≡ true }
-        ensures steps { MakesSteps result self.old.state self.new.state (carried target.label (node.label ∷ [])) }
+        requires possible { are_possible (carried target.label (node.label ∷ [])) self.old.state
+            ≡ true }
+        ensures steps { MakesSteps result self.old.state self.new.state
+            (carried target.label (node.label ∷ [])) }
         ensures keeps { Keeps self.old self.new }
     {
         let Some(parent) = self.parent(node) else {

@@ -34,7 +34,8 @@ fn give_up_root(arena: &mut Arena, label: u32)
 pub(crate) fn give_up_unnamed(arena: &mut Arena, low: u32, command: &Command)
     requires inner { 0 < low }
     requires marks { length command.now.named.items + command.now.start ≡ arena.old.next }
-    requires loose { (l : ℕ) → is_unnamed low command.now l ≡ true → parent_of arena.old.trees l ≡ None }
+    requires loose { (l : ℕ) → is_unnamed low command.now l ≡ true → parent_of arena.old.trees l
+        ≡ None }
     ensures { GivesUp (is_unnamed low command.now) arena.old arena.new }
 {
     arena.valid();
@@ -66,7 +67,8 @@ pub(crate) fn keep_loose(arena: &Arena, detached: &mut Vec<NodeRef>)
 // Gives up the loose trees with these roots, where they are there.
 fn give_up_roots(arena: &mut Arena, roots: &[NodeRef])
     requires inner { (l : ℕ) → has_label (labels_of roots.now) l ≡ true → 0 < l }
-    requires loose { (l : ℕ) → has_label (labels_of roots.now) l ≡ true → parent_of arena.old.trees l ≡ None }
+    requires loose { (l : ℕ) → has_label (labels_of roots.now) l ≡ true
+        → parent_of arena.old.trees l ≡ None }
     ensures { GivesUp (has_label (labels_of roots.now)) arena.old arena.new }
 {
     arena.valid();

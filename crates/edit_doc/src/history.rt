@@ -56,7 +56,8 @@ impl Model for History {
 
     ghost view = { λ h. trail_of h.log h.past.items h.future.items };
 
-    ghost invariant = { λ h. IsSoundHistory (trail_of h.log h.past.items h.future.items) h.past.capacity h.future.capacity };
+    ghost invariant = { λ h. IsSoundHistory (trail_of h.log h.past.items h.future.items) h.past.capacity
+        h.future.capacity };
 }
 
 impl History {
@@ -91,8 +92,10 @@ impl History {
     // one.
     pub(crate) fn resume(&mut self) -> bool
         requires { self.old.log.open_entry ≡ Closed }
-        ensures answer { IsTrue result ↔ ((0 < length self.old.log.undo) × (self.old.log.redo ≡ [])) }
-        ensures history { self.new ≡ (if result then record self.old { log = resumed self.old.log } else self.old) }
+        ensures answer { IsTrue result
+            ↔ ((0 < length self.old.log.undo) × (self.old.log.redo ≡ [])) }
+        ensures history { self.new
+            ≡ (if result then record self.old { log = resumed self.old.log } else self.old) }
     {
         self.log.resume()
     }
@@ -118,7 +121,8 @@ impl History {
     ) -> Closing
         requires open { IsTrue (is_open self.old.log.open_entry) }
         requires resumed { command.old.resumed ≡ is_resumed self.old.log.open_entry }
-        ensures closes { Closes arena.now.trees after counts self.old self.new command.old command.new result }
+        ensures closes { Closes arena.now.trees after counts self.old self.new command.old
+            command.new result }
     {
         self.log.valid();
         match self.log.commit() {
@@ -223,7 +227,8 @@ impl History {
 
     // The span of the first entry that way. None where there is none.
     pub(crate) fn first_span(&self, way: Way) -> Option<&EntrySpan>
-        ensures { option_copied result ≡ option_map (λ b. b.span) (slice_get (snapshots_along way self.now) 0) }
+        ensures { option_copied result
+            ≡ option_map (λ b. b.span) (slice_get (snapshots_along way self.now) 0) }
     {
         let first = match way {
             Way::Back => self.past.front(),

@@ -1,10 +1,10 @@
-//! A document under edits: its nodes, its live points, the overrides and flags of commands, and the history that
-//! undo and redo go through.
+//! A document under edits: its nodes, its live points, the overrides and flags of commands, and the
+//! history that undo and redo go through.
 //!
-//! A command runs between [`Doc::begin`] and [`Doc::commit`] or [`Doc::roll_back`]. Its edits are those of the DOM
-//! Standard, made only inside its affected editing host and on nodes that it made; an edit that lies outside, or
-//! that would change nothing, is left out and answers false. Contracts see the state and the history of
-//! `edit_model`.
+//! A command runs between [`Doc::begin`] and [`Doc::commit`] or [`Doc::roll_back`]. Its edits are
+//! those of the DOM Standard, made only inside its affected editing host and on nodes that it made;
+//! an edit that lies outside, or that would change nothing, is left out and answers false.
+//! Contracts see the state and the history of `edit_model`.
 #![tactic(auto)]
 
 ghost use Rattle.std.specs.Prelude.{◌≡◌, ℕ, ◌<◌, IfOk};

@@ -65,8 +65,8 @@ pub struct MadeNode {
     pub content: Content,
 }
 
-/// An entry of the history: the nodes that its commands made and its edits name, by rising label, and its edits in
-/// their order.
+/// An entry of the history: the nodes that its commands made and its edits name, by rising label,
+/// and its edits in their order.
 #[derive(Drop)]
 pub struct LoggedEntry {
     made: Vec<MadeNode>,
@@ -105,11 +105,12 @@ impl LoggedEntry {
 }
 
 impl Doc {
-    /// The entries before the cursor, from the oldest to the newest. They are undone to read the whole contents
-    /// that their edits give, and redone; where the memory runs out too.
+    /// The entries before the cursor, from the oldest to the newest. They are undone to read the
+    /// whole contents that their edits give, and redone; where the memory runs out too.
     pub fn logged(&mut self, alloc: Global) -> Result<Vec<LoggedEntry>, AllocError>
         requires closed { IsClosed self.old }
-        ensures ok { IfOk result (λ entries. entries.items ≡ map logged_entry (reverse self.old.history.undo)) }
+        ensures ok { IfOk result (λ entries. entries.items
+            ≡ map logged_entry (reverse self.old.history.undo)) }
         ensures stays { self.new ≡ self.old }
     {
         if self.undo_len() == 0 {
@@ -129,7 +130,8 @@ impl Doc {
         requires some { 0 < blank.parts }
         requires closed { IsClosed self.old }
         requires more { 0 < length self.old.history.undo }
-        ensures ok { IfOk result (λ entries. entries.items ≡ map logged_entry (reverse self.old.history.undo)) }
+        ensures ok { IfOk result (λ entries. entries.items
+            ≡ map logged_entry (reverse self.old.history.undo)) }
         ensures stays { self.new ≡ self.old }
     {
         self.valid();
@@ -148,7 +150,8 @@ impl Doc {
     fn undo_entries<L: Ledger>(&mut self, count: usize, steps: &mut Steps<L>)
         requires closed { IsClosed self.old }
         requires all { count ≡ length self.old.history.undo }
-        ensures { HasMoved self.old self.new [] (reverse self.old.history.undo ++ self.old.history.redo) }
+        ensures { HasMoved self.old self.new [] (reverse self.old.history.undo
+            ++ self.old.history.redo) }
     {
         for _done in 0..count {
             self.undo(steps);
@@ -167,7 +170,8 @@ impl Doc {
         requires within { count ≤ length self.old.history.redo }
         ensures moved { HasMoved self.old self.new (reverse (take count self.old.history.redo))
             (drop count self.old.history.redo) }
-        ensures read { IfOk result (λ entries. entries.items ≡ map logged_entry (take count self.old.history.redo)) }
+        ensures read { IfOk result (λ entries. entries.items
+            ≡ map logged_entry (take count self.old.history.redo)) }
     {
         let mut entries = Ok(Vec::new(alloc));
         for _done in 0..count {
@@ -196,11 +200,13 @@ impl Doc {
         Ok(entries)
     }
 
-    // The entry that redo would take. Its edits aren't made, so that its steps have the contents that they give.
+    // The entry that redo would take. Its edits aren't made, so that its steps have the contents
+    // that they give.
     fn next_logged(&self, alloc: Global) -> Result<LoggedEntry, AllocError>
         requires closed { IsClosed self.now }
         requires more { 0 < length self.now.history.redo }
-        ensures { IfOk result (λ entry. option_map logged_entry (slice_get self.now.history.redo 0) ≡ Some entry) }
+        ensures { IfOk result (λ entry. option_map logged_entry (slice_get self.now.history.redo 0)
+            ≡ Some entry) }
     {
         self.tree.nodes.arena.valid();
         self.tree.nodes.arena.slotted();
@@ -214,7 +220,8 @@ impl Doc {
     fn put_back(&mut self, kept: Kept)
         requires closed { IsClosed self.old }
         requires over { IsOver self.old.state.points.names kept.places }
-        requires placed { IsPlaced self.old.state.trees (shown self.old.state.points.names kept.places) }
+        requires placed { IsPlaced self.old.state.trees
+            (shown self.old.state.points.names kept.places) }
         requires resting { kept.places.scratch ≡ None }
         requires settings { length kept.overrides ≡ 32 }
         ensures { self.new ≡ with_state self.old (record self.old.state {
@@ -230,7 +237,8 @@ impl Doc {
     }
 }
 
-// An entry of steps that aren't made, where its commands made nodes with labels from `first` on, and before `end`.
+// An entry of steps that aren't made, where its commands made nodes with labels from `first` on,
+// and before `end`.
 fn read_entry(
     alloc: Global,
     arena: &Arena,
@@ -265,7 +273,8 @@ fn read_edits(alloc: Global, arena: &Arena, steps: &[Step]) -> Result<Vec<Logged
 
 fn read_edit(alloc: Global, arena: &Arena, step: &Step) -> Result<LoggedEdit, AllocError>
     requires { Each (Holds arena.now) (nodes_of step.now) }
-    ensures { IfOk result (λ edit. edit ≡ logged_edit (content_of arena.now.trees) (change_of step.now)) }
+    ensures { IfOk result (λ edit. edit
+        ≡ logged_edit (content_of arena.now.trees) (change_of step.now)) }
 {
     Ok(match step {
         Step::Remove { node } => LoggedEdit::Remove { node: node.label },
@@ -359,7 +368,8 @@ fn made_nodes(
 
 // Puts the node of a label, if there is one, at the end of a list.
 fn push_node(nodes: &mut Vec<MadeNode>, arena: &Arena, label: u32) -> Result<(), AllocError>
-    ensures { OnOk result (nodes.new.items ≡ nodes.old.items ++ map made_node (node_at arena.now.trees label)) }
+    ensures { OnOk result (nodes.new.items ≡ nodes.old.items
+        ++ map made_node (node_at arena.now.trees label)) }
 {
     match arena.find(label) {
         Some(node) => {
@@ -376,7 +386,8 @@ fn mark_named(alloc: Global, steps: &[Step], first: u32, end: u32) -> Result<Vec
     requires order { first ≤ end }
     requires within { Each (λ l. l < end) (named_in (changes_of steps.now)) }
     ensures count { IfOk result (λ marks. length marks.items + first ≡ end) }
-    ensures marked { IfOk result (λ marks. TellNamed first (named_in (changes_of steps.now)) marks.items) }
+    ensures marked { IfOk result (λ marks.
+        TellNamed first (named_in (changes_of steps.now)) marks.items) }
 {
     let mut marks = vec![in alloc; false; (end - first) as usize]?;
     for step in steps {

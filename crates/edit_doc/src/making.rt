@@ -17,7 +17,8 @@ impl Doc {
         attributes: &Attributes,
     ) -> Result<NodeRef, EditFault>
         requires open { IsOpen self.old }
-        ensures gives { GivesNode result self.old.state self.new.state (make_element name.now attributes.now) }
+        ensures gives { GivesNode result self.old.state self.new.state
+            (make_element name.now attributes.now) }
         ensures held { IfOk result (λ r. Holds self.new r) }
         ensures keeps { Keeps self.old self.new }
         ensures err { OnErr result (self.new ≡ self.old) }
@@ -47,7 +48,8 @@ impl Doc {
         attributes: Attributes,
     ) -> Result<NodeRef, EditFault>
         requires open { IsOpen self.old }
-        ensures gives { GivesNode result self.old.state self.new.state (make_element name attributes) }
+        ensures gives { GivesNode result self.old.state self.new.state
+            (make_element name attributes) }
         ensures held { IfOk result (λ r. Holds self.new r) }
         ensures keeps { Keeps self.old self.new }
         ensures err { OnErr result (self.new ≡ self.old) }

@@ -1,4 +1,5 @@
-//! The numbers of the document after a tree comes into it, moves in it or leaves it, or a text of it changes.
+//! The numbers of the document after a tree comes into it, moves in it or leaves it, or a text of
+//! it changes.
 
 ghost use Rattle.std.specs.Prelude.{◌≡◌, ◌+◌, ◌<◌, ◌≤◌, ◌^◌, max, min, Some, true};
 ghost use Rattle.dom_model.specs.Contents.{words_length};
@@ -16,13 +17,15 @@ use crate::Counts;
 use edit_parts::{add_counts, is_in_document, tree_counts};
 use node_arena::{Arena, NodeRef};
 
-// Up to this depth a move further down adds how far it goes; beyond, the moved tree is walked for its height.
+// Up to this depth a move further down adds how far it goes; beyond, the moved tree is walked for
+// its height.
 const DEPTH_WITHOUT_WALK: u32 = 250;
 
 // How deep the document may be once a tree of this height comes to stand under a parent in it.
 fn depth_under(arena: &Arena, depth: u32, parent: NodeRef, height: u32) -> u32
     requires { Holds arena.now parent }
-    ensures { result ≡ max depth (min (depth_of arena.now.trees parent.label + (height + 1)) 4294967295) }
+    ensures { result
+        ≡ max depth (min (depth_of arena.now.trees parent.label + (height + 1)) 4294967295) }
 {
     let below = height.saturating_add(1);
     depth.max(arena.depth(parent).saturating_add(below))
@@ -38,14 +41,16 @@ pub(crate) fn counts_with(
 ) -> Counts
     requires held { Holds arena.now node }
     requires parent_held { Holds arena.now parent }
-    requires nodes { with_more enters counts.nodes (total (λ _ _. 1) (tree_of arena.now.trees node.label)) < 2 ^ 32 }
+    requires nodes { with_more enters counts.nodes
+        (total (λ _ _. 1) (tree_of arena.now.trees node.label)) < 2 ^ 32 }
     requires chars { with_more enters counts.chars (total (λ _ c. words_length c)
         (tree_of arena.now.trees node.label)) < 2 ^ 64 }
     ensures nodes { result.nodes ≡ with_more enters counts.nodes
         (total (λ _ _. 1) (tree_of arena.now.trees node.label)) }
     ensures chars { result.chars ≡ with_more enters counts.chars
         (total (λ _ c. words_length c) (tree_of arena.now.trees node.label)) }
-    ensures depth { IsRaised arena.now.trees parent.label node.label enters counts.depth result.depth }
+    ensures depth { IsRaised arena.now.trees parent.label node.label enters counts.depth
+        result.depth }
 {
     let mut counts = counts;
     if enters {
@@ -60,7 +65,8 @@ pub(crate) fn counts_with(
 fn depth_moved(arena: &Arena, depth: u32, node: NodeRef, parent: NodeRef) -> u32
     requires node_held { Holds arena.now node }
     requires parent_held { Holds arena.now parent }
-    requires stands { levels (tree_of arena.now.trees node.label) + depth_of arena.now.trees node.label ≤ depth + 1 }
+    requires stands { levels (tree_of arena.now.trees node.label) + depth_of arena.now.trees
+        node.label ≤ depth + 1 }
     ensures { IsRaised arena.now.trees parent.label node.label true depth result }
 {
     let from = arena.depth(node);
@@ -84,10 +90,13 @@ pub(crate) fn counts_moved(arena: &Arena, counts: Counts, node: NodeRef, parent:
     requires chars { with_more (comes_in arena.now.trees node.label parent.label) counts.chars
         (total (λ _ c. words_length c) (tree_of arena.now.trees node.label)) < 2 ^ 64 }
     requires stands { is_in_document arena.now.trees node.label ≡ true
-        → levels (tree_of arena.now.trees node.label) + depth_of arena.now.trees node.label ≤ counts.depth + 1 }
-    ensures nodes { result.nodes ≡ with_more (comes_in arena.now.trees node.label parent.label) counts.nodes
+        → levels (tree_of arena.now.trees node.label) + depth_of arena.now.trees node.label
+        ≤ counts.depth + 1 }
+    ensures nodes { result.nodes
+        ≡ with_more (comes_in arena.now.trees node.label parent.label) counts.nodes
         (total (λ _ _. 1) (tree_of arena.now.trees node.label)) }
-    ensures chars { result.chars ≡ with_more (comes_in arena.now.trees node.label parent.label) counts.chars
+    ensures chars { result.chars
+        ≡ with_more (comes_in arena.now.trees node.label parent.label) counts.chars
         (total (λ _ c. words_length c) (tree_of arena.now.trees node.label)) }
     ensures depth { IsRaised arena.now.trees parent.label node.label
         (is_in_document arena.now.trees parent.label) counts.depth result.depth }
@@ -141,7 +150,8 @@ pub(crate) fn chars_replaced(
     requires held { Holds arena.now node }
     requires is { chars ≡ char_count arena.now.trees }
     requires may { may_change (content_of arena.now.trees node.label) at count put.now ≡ true }
-    ensures { result ≡ char_count (revised arena.now.trees node.label (with_replaced at count put.now)) }
+    ensures { result
+        ≡ char_count (revised arena.now.trees node.label (with_replaced at count put.now)) }
 {
     arena.valid();
     if !is_in_document(arena, node) {

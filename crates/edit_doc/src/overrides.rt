@@ -86,7 +86,8 @@ impl Overrides {
         watch: Option<Watch>,
     )
         requires { IfSome points.now.selection (IsPlacedPair arena.now.trees) }
-        ensures { (f : Forest Content) (before : LivePoints) → Watches f before self.old watch → self.new
+        ensures { (f : Forest Content) (before : LivePoints) → Watches f before self.old watch
+            → self.new
             ≡ unset_if_range_changed f before arena.now.trees points.now self.old }
     {
         unset_overrides_if_range_changed(arena, points, &mut self.list, watch);

@@ -27,8 +27,8 @@ impl Doc {
         self.history.valid();
     }
 
-    /// Which nodes are held outside commands, for proofs: each is in the document, or in a loose tree with a node
-    /// that a change of an entry of the history names. It does nothing.
+    /// Which nodes are held outside commands, for proofs: each is in the document, or in a loose
+    /// tree with a node that a change of an entry of the history names. It does nothing.
     pub fn kept_nodes(&self)
         requires closed { IsClosed self.now }
         ensures { HoldsOnlyNeeded self.now }
@@ -37,9 +37,9 @@ impl Doc {
         self.tree.nodes.arena.slotted();
     }
 
-    /// How the entries before the cursor led from the page to the document, for proofs: the edits of each fit the
-    /// document before it, beside the nodes that its commands made, and give the document after it. It does
-    /// nothing.
+    /// How the entries before the cursor led from the page to the document, for proofs: the edits
+    /// of each fit the document before it, beside the nodes that its commands made, and give the
+    /// document after it. It does nothing.
     pub fn led_onward(&self)
         requires closed { IsClosed self.now }
         ensures { HasLedOnward self.now }
@@ -55,7 +55,8 @@ impl Doc {
         &self.tree.nodes.arena
     }
 
-    /// The nodes: those of the state, and loose trees of kept entries beside them, which no definition sees.
+    /// The nodes: those of the state, and loose trees of kept entries beside them, which no
+    /// definition sees.
     pub fn arena(&self) -> &Arena
         ensures trees { IsPart self.now.state.trees result.now.trees }
         ensures document { tree_of result.now.trees 0 ≡ tree_of self.now.state.trees 0 }
@@ -90,8 +91,8 @@ impl Doc {
         self.nodes().page_depth()
     }
 
-    /// Whether the deepest node of the document is deeper than this. It walks the document only where the kept bound on
-    /// the depth is greater.
+    /// Whether the deepest node of the document is deeper than this. It walks the document only
+    /// where the kept bound on the depth is greater.
     pub fn is_deeper_than(&self, limit: u32) -> bool
         ensures { result ≡ nat_lt limit (page_depth self.now.state.trees) }
     {
@@ -178,7 +179,8 @@ impl Doc {
         self.nodes().index(node)
     }
 
-    /// The length of a node: the count of its characters for a text or a comment, else that of its children.
+    /// The length of a node: the count of its characters for a text or a comment, else that of its
+    /// children.
     pub fn length(&self, node: NodeRef) -> u32
         requires { Holds self.now node }
         ensures { result ≡ length_of self.now.state.trees node.label }

@@ -63,7 +63,8 @@ impl Doc {
         self.put_selection(None);
     }
 
-    /// Each kept point at the place grows by 1, where its node is in the document and has something there.
+    /// Each kept point at the place grows by 1, where its node is in the document and has something
+    /// there.
     pub fn grow(&mut self, at: Point)
         ensures { self.new ≡ with_state self.old (acted (Grow at) self.old.state) }
     {
@@ -78,13 +79,15 @@ impl Doc {
         }
     }
 
-    /// Each kept point just before a node, at its index in its parent, grows by 1 and so stands after it, where the
-    /// parent is in the document. The index is counted only where a kept point stands at the parent.
+    /// Each kept point just before a node, at its index in its parent, grows by 1 and so stands
+    /// after it, where the parent is in the document. The index is counted only where a kept point
+    /// stands at the parent.
     pub fn grow_before(&mut self, node: NodeRef)
         requires { Holds self.old node }
         ensures grown { IfSome (parent_of self.old.state.trees node.label)
             (λ p. self.new ≡ with_state self.old (acted (Grow
-            (record { label = p; offset = index_of self.old.state.trees node.label })) self.old.state)) }
+            (record { label = p; offset = index_of self.old.state.trees node.label }))
+            self.old.state)) }
         ensures alone { IsNone (parent_of self.old.state.trees node.label) → self.new ≡ self.old }
         ensures keeps { Keeps self.old self.new }
     {
@@ -118,7 +121,8 @@ impl Doc {
           points = with_mark name.now pair self.old.state.points;
         })) }
         ensures too_many { (result ≡ Err MarkFault.TooManyMarks)
-            ↔ ((length self.old.state.points.marks ≡ 16) × (has_mark name.now self.old.state.points ≡ false)) }
+            ↔ ((length self.old.state.points.marks ≡ 16)
+            × (has_mark name.now self.old.state.points ≡ false)) }
         ensures err { OnErr result (self.new ≡ self.old) }
     {
         self.tree.points.set_mark(name, pair)
@@ -164,7 +168,8 @@ impl Doc {
 
     // Whether both points of a pair may be kept.
     fn may_keep(&self, pair: Pair) -> bool
-        ensures { result ≡ (may_select self.now.state pair.anchor && may_select self.now.state pair.focus) }
+        ensures { result
+            ≡ (may_select self.now.state pair.anchor && may_select self.now.state pair.focus) }
     {
         self.may_select(pair.anchor) && self.may_select(pair.focus)
     }
@@ -187,7 +192,8 @@ impl Doc {
     pub(crate) fn send(&mut self, node: NodeRef, at: u32, tail: NodeRef)
         requires node_held { Holds self.old node }
         requires tail_held { Holds self.old tail }
-        ensures { self.new ≡ with_state self.old (acted (Send node.label at tail.label) self.old.state) }
+        ensures { self.new
+            ≡ with_state self.old (acted (Send node.label at tail.label) self.old.state) }
     {
         self.tree.nodes.arena.valid();
         if self.may_send(node, at, tail) {

@@ -24,7 +24,8 @@ pub(crate) struct LiveTree {
 impl LiveTree {
     // What a command keeps as it begins.
     pub(crate) fn keep(&self, alloc: Global) -> Result<Kept, AllocError>
-        ensures { IfOk result (IsKept self.now.points self.now.overrides self.now.flags self.now.nodes.counts) }
+        ensures { IfOk result
+            (IsKept self.now.points self.now.overrides self.now.flags self.now.nodes.counts) }
     {
         Ok(Kept {
             places: self.points.places(),

@@ -2,7 +2,8 @@
 use Rattle.std.specs.Prelude.{◌≡◌, ℕ, zero, suc, ◌+◌, ◌-◌, ◌^◌, ◌<◌, ◌⊎◌, Bool, ◌&&◌, nat_eq, nat_lt, List, if◌then◌else◌}
 use Rattle.std.specs.List.{list_any}
 
--- the count rose: it is greater than it was, or it stands at the last value of a u64, where it can only stand still
+-- the count rose: it is greater than it was, or it stands at the last value of a u64, where it can
+-- only stand still
 abbrev pub Rose : ℕ → ℕ → Type 0
 Rose old new = (old < new) ⊎ (new ≡ 2 ^ 64 - 1)
 
@@ -21,4 +22,5 @@ fails_at failing call = is_listed failing call && nat_lt call (2 ^ 64 - 1)
 -- how many of the calls numbered below this one are listed
 unfoldable pub failed_below : List ℕ → ℕ → ℕ
 failed_below failing zero = 0
-failed_below failing (suc call) = (if is_listed failing call then 1 else 0) + failed_below failing call
+failed_below failing (suc call) =
+    (if is_listed failing call then 1 else 0) + failed_below failing call

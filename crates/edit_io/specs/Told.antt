@@ -1,4 +1,5 @@
--- What a source still has, and what a sink has taken: a list of bytes where it is told, and nothing where it isn't.
+-- What a source still has, and what a sink has taken: a list of bytes where it is told, and nothing
+-- where it isn't.
 use Rattle.std.specs.Prelude.{◌≡◌, ℕ, ◌<◌, ◌≤◌, List, [], ◌++◌, length, take, Option, None, Some}
 
 -- the bytes, and then what is told; what isn't told stays so

@@ -1,5 +1,5 @@
-//! Where bytes come from and where they go: sources and sinks in memory, whose answers are proved to the
-//! byte, and the two that stand over a real reader and writer.
+//! Where bytes come from and where they go: sources and sinks in memory, whose answers are proved
+//! to the byte, and the two that stand over a real reader and writer.
 #![tactic(auto)]
 
 mod memory;

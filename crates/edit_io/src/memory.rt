@@ -4,8 +4,8 @@ ghost use Rattle.edit_io.specs.Faults.{next_call, fails_at, failed_below};
 
 use crate::streams::{Failed, Sink, SinkFault, Source};
 
-/// Hands out its bytes from `at` on, at most `piece` a call, and fails in the calls that `failing` lists by
-/// their numbers, counted from 0.
+/// Hands out its bytes from `at` on, at most `piece` a call, and fails in the calls that `failing`
+/// lists by their numbers, counted from 0.
 #[derive(Drop)]
 pub struct MemorySource {
     pub bytes: Vec<u8>,
@@ -47,7 +47,8 @@ impl Source for MemorySource {
     }
 }
 
-/// Hands out the bytes of a slice from `at` on, as many a call as the buffer takes, and never fails.
+/// Hands out the bytes of a slice from `at` on, as many a call as the buffer takes, and never
+/// fails.
 #[derive(Drop)]
 pub struct SliceSource<'a> {
     pub bytes: &'a [u8],
@@ -63,9 +64,11 @@ impl<'a> Source for SliceSource<'a> {
     fn read(&mut self, buf: &mut [u8]) -> Result<usize, Failed>
         requires { 0 < length buf.old }
         ensures sure { IsOk result }
-        ensures given { IfOk result (λ n. n ≡ min (length buf.old) (length self.old.bytes.now - self.old.at)) }
+        ensures given { IfOk result (λ n. n
+            ≡ min (length buf.old) (length self.old.bytes.now - self.old.at)) }
         ensures moved { IfOk result (λ n. self.new.at ≡ self.old.at + n) }
-        ensures written { IfOk result (λ n. buf.new ≡ take n (drop self.old.at self.old.bytes.now) ++ drop n buf.old) }
+        ensures written { IfOk result (λ n. buf.new ≡ take n (drop self.old.at self.old.bytes.now)
+            ++ drop n buf.old) }
         ensures same { self.new.bytes.now ≡ self.old.bytes.now }
     {
         let count = hand_out(self.bytes, self.at, buf.len(), buf);
@@ -74,8 +77,8 @@ impl<'a> Source for SliceSource<'a> {
     }
 }
 
-/// Takes at most `piece` bytes a call, and fails in the calls that `failing` lists by their numbers, counted
-/// from 0. A call for which there is no memory isn't counted.
+/// Takes at most `piece` bytes a call, and fails in the calls that `failing` lists by their
+/// numbers, counted from 0. A call for which there is no memory isn't counted.
 #[derive(Drop)]
 pub struct MemorySink {
     pub taken: Vec<u8>,
@@ -92,13 +95,17 @@ impl Sink for MemorySink {
 
     fn write(&mut self, piece: &[u8]) -> Result<usize, SinkFault>
         requires { 0 < length piece.now }
-        ensures fails { IsErrOf result SinkFault.Failed ↔ IsTrue (fails_at self.old.failing.items self.old.calls) }
+        ensures fails { IsErrOf result SinkFault.Failed
+            ↔ IsTrue (fails_at self.old.failing.items self.old.calls) }
         ensures given { IfOk result (λ n. n ≡ min self.old.piece (length piece.now)) }
-        ensures grown { IfOk result (λ n. self.new.taken.items ≡ self.old.taken.items ++ take n piece.now) }
+        ensures grown { IfOk result (λ n. self.new.taken.items ≡ self.old.taken.items
+            ++ take n piece.now) }
         ensures stays { OnErr result (self.new.taken.items ≡ self.old.taken.items) }
         ensures calls { OnOk result (self.new.calls ≡ next_call self.old.calls) }
-        ensures failed_calls { IfErr result (λ e. e ≡ SinkFault.Failed → self.new.calls ≡ self.old.calls + 1) }
-        ensures memory_calls { IfErr result (λ e. e ≡ SinkFault.Memory → self.new.calls ≡ self.old.calls) }
+        ensures failed_calls { IfErr result (λ e. e ≡ SinkFault.Failed → self.new.calls
+            ≡ self.old.calls + 1) }
+        ensures memory_calls { IfErr result (λ e. e ≡ SinkFault.Memory → self.new.calls
+            ≡ self.old.calls) }
         ensures same { (self.new.piece ≡ self.old.piece) × (self.new.failing ≡ self.old.failing) }
     {
         if fails_now(&self.failing, self.calls) {
@@ -142,7 +149,8 @@ fn fails_now(failing: &Vec<u64>, call: u64) -> bool
     failing.contains(&call) && call < u64::MAX
 }
 
-// Copies bytes from `at` on to the front of the buffer, as many as there are, are let out and have room.
+// Copies bytes from `at` on to the front of the buffer, as many as there are, are let out and have
+// room.
 fn hand_out(bytes: &[u8], at: usize, most: usize, buf: &mut [u8]) -> usize
     requires { at ≤ length bytes.now }
     ensures count { result ≡ min (min most (length buf.old)) (length bytes.now - at) }

@@ -60,7 +60,8 @@ pub trait Source {
     fn read(&mut self, buf: &mut [u8]) -> Result<usize, Failed>
         requires { 0 < length buf.old }
         ensures bound { IfOk result (λ n. n ≤ length buf.new) }
-        ensures bytes { IfOk result (λ n. left self.old ≡ with_front (take n buf.new) (left self.new)) }
+        ensures bytes { IfOk result (λ n. left self.old
+            ≡ with_front (take n buf.new) (left self.new)) }
         ensures end { IfOk result (λ n. n ≡ 0 → IsAtEnd (left self.new)) }
         ensures kept { OnErr result (left self.new ≡ left self.old) }
         ensures counted { faults self.old ≤ faults self.new }
@@ -80,9 +81,12 @@ pub trait Sink {
         requires { 0 < length piece.now }
         ensures some { IfOk result (λ n. 0 < n) }
         ensures bound { IfOk result (λ n. n ≤ length piece.now) }
-        ensures bytes { IfOk result (λ n. taken self.new ≡ with_end (taken self.old) (take n piece.now)) }
+        ensures bytes { IfOk result (λ n. taken self.new
+            ≡ with_end (taken self.old) (take n piece.now)) }
         ensures kept { OnErr result (taken self.new ≡ taken self.old) }
         ensures counted { faults self.old ≤ faults self.new }
-        ensures failed { IfErr result (λ e. e ≡ SinkFault.Failed → Rose (faults self.old) (faults self.new)) }
-        ensures memory { IfErr result (λ e. e ≡ SinkFault.Memory → faults self.new ≡ faults self.old) };
+        ensures failed { IfErr result (λ e. e ≡ SinkFault.Failed
+            → Rose (faults self.old) (faults self.new)) }
+        ensures memory { IfErr result (λ e. e ≡ SinkFault.Memory → faults self.new
+            ≡ faults self.old) };
 }

@@ -51,17 +51,19 @@ impl From<AllocError> for ReadAllFault {
 // How many bytes one read may bring.
 const BUFFER_LEN: usize = 16384;
 
-/// Reads all that is left, at most `limit` bytes. Whatever the answer, at most one byte more than the limit
-/// was taken.
+/// Reads all that is left, at most `limit` bytes. Whatever the answer, at most one byte more than
+/// the limit was taken.
 pub fn read_all<I: Source>(
     alloc: Global,
     input: &mut I,
     limit: usize,
 ) -> Result<Vec<u8>, ReadAllFault>
-    ensures bytes { IfOk result (λ bytes. I.left input.old ≡ with_front bytes.items (I.left input.new)) }
+    ensures bytes { IfOk result (λ bytes. I.left input.old
+        ≡ with_front bytes.items (I.left input.new)) }
     ensures end { OnOk result (IsAtEnd (I.left input.new)) }
     ensures short { IfOk result (λ bytes. vec_len bytes ≤ limit) }
-    ensures failed { IfErr result (λ e. e ≡ ReadAllFault.Failed → Rose (I.faults input.old) (I.faults input.new)) }
+    ensures failed { IfErr result (λ e. e ≡ ReadAllFault.Failed
+        → Rose (I.faults input.old) (I.faults input.new)) }
     ensures too_long { IfErr result (λ e. e ≡ ReadAllFault.TooLong →
         IfSome (I.left input.old) (λ bytes. limit < length bytes)) }
     ensures long { IfSome (I.left input.old) (λ bytes. limit < length bytes → IsErr result) }
@@ -97,9 +99,11 @@ fn read_piece<I: Source>(
     requires { 0 < length buffer.old }
     ensures bound { IfOk result (λ n. n ≤ length buffer.new) }
     ensures room { IfOk result (λ n. n ≤ room) }
-    ensures bytes { IfOk result (λ n. I.left input.old ≡ with_front (take n buffer.new) (I.left input.new)) }
+    ensures bytes { IfOk result (λ n. I.left input.old
+        ≡ with_front (take n buffer.new) (I.left input.new)) }
     ensures end { IfOk result (λ n. n ≡ 0 → IsAtEnd (I.left input.new)) }
-    ensures failed { IfErr result (λ e. e ≡ ReadAllFault.Failed → Rose (I.faults input.old) (I.faults input.new)) }
+    ensures failed { IfErr result (λ e. e ≡ ReadAllFault.Failed
+        → Rose (I.faults input.old) (I.faults input.new)) }
     ensures given { OnErr result (GivesAtMost (I.left input.old) (I.left input.new) (room + 1)) }
     ensures too_long { IfErr result (λ e. e ≡ ReadAllFault.TooLong
         → GivesMore (I.left input.old) (I.left input.new) room) }
@@ -118,7 +122,8 @@ pub fn write_all<O: Sink>(output: &mut O, piece: &[u8]) -> Result<(), SinkFault>
     ensures all { OnOk result (O.taken output.new ≡ with_end (O.taken output.old) piece.now) }
     ensures prefix { TakesPrefix (O.taken output.old) (O.taken output.new) piece.now }
     ensures empty { length piece.now ≡ 0 → IsOk result }
-    ensures failed { IfErr result (λ e. e ≡ SinkFault.Failed → Rose (O.faults output.old) (O.faults output.new)) }
+    ensures failed { IfErr result (λ e. e ≡ SinkFault.Failed
+        → Rose (O.faults output.old) (O.faults output.new)) }
     ensures counted { O.faults output.old ≤ O.faults output.new }
 {
     let mut at = 0;

@@ -1,5 +1,5 @@
--- What a command leaves, seen from outside commands: the document before it, and the document once its loose trees
--- are dropped.
+-- What a command leaves, seen from outside commands: the document before it, and the document once
+-- its loose trees are dropped.
 use Rattle.std.specs.Prelude.{◌≡◌, ℕ, Bool, true, Option, Some}
 use Rattle.std.specs.List.{AllZip}
 use Rattle.dom_model.specs.Editing.{is_host}
@@ -29,12 +29,16 @@ MarksStay =
 -- and the islands, where no state of contenteditable is given or taken
 abbrev pub IslandsStay : Type 0
 IslandsStay =
-    (s t : State) (h : ℕ) (keeping : Bool) → IsValid s → tree_of s.trees 0 ≡ s.trees → is_host s.trees h ≡ true
+    (s t : State) (h : ℕ) (keeping : Bool) → IsValid s → tree_of s.trees 0 ≡ s.trees
+    → is_host s.trees h ≡ true
     → (r : Reaches (begun (Some h) keeping s) t) → LeavesStatesOn r
-    → (l : ℕ) → is_island s.trees h l ≡ true → IslandKept (begun (Some h) keeping s) t s.trees (rested t).trees h l
+    → (l : ℕ) → is_island s.trees h l ≡ true
+    → IslandKept (begun (Some h) keeping s) t s.trees (rested t).trees h l
 
 -- where the order of the document is kept, that of what is below the host is
 abbrev pub OrderStays : Type 0
 OrderStays =
-    (s t : State) (h : ℕ) (keeping : Bool) → IsValid s → tree_of s.trees 0 ≡ s.trees → is_host s.trees h ≡ true
-    → Reaches (begun (Some h) keeping s) t → KeepsOrder s t → KeepsLeaves (below s.trees h) (below (rested t).trees h)
+    (s t : State) (h : ℕ) (keeping : Bool) → IsValid s → tree_of s.trees 0 ≡ s.trees
+    → is_host s.trees h ≡ true
+    → Reaches (begun (Some h) keeping s) t → KeepsOrder s t
+    → KeepsLeaves (below s.trees h) (below (rested t).trees h)

@@ -17,12 +17,14 @@ UnwrapsKeep = (e : ℕ) (s : State) → IsKeeping s → IsBare s e → KeepsOrde
 
 -- setting the tag name of a bare node, to one that is neither img nor hr
 abbrev pub TagNamesKeep : Type 0
-TagNamesKeep = (e : ℕ) (name : List ℕ) (s : State) → IsKeeping s → IsBare s e → is_thing name ≡ false
+TagNamesKeep =
+    (e : ℕ) (name : List ℕ) (s : State) → IsKeeping s → IsBare s e → is_thing name ≡ false
     → KeepsOrder s (final (set_tag_name e name) s)
 
 -- splitting a text, which is editable if it is in the document, at any offset
 abbrev pub SplitTextsKeep : Type 0
 SplitTextsKeep =
-    (n at : ℕ) (chars : List ℕ) (s : State) → IsKeeping s → content_of s.trees n ≡ Some (Words chars)
+    (n at : ℕ) (chars : List ℕ) (s : State) → IsKeeping s → content_of s.trees n
+    ≡ Some (Words chars)
     → (IsWithin s.trees 0 n → is_editable_for s n ≡ true)
     → KeepsOrder s (final (split_words n at) s)

@@ -16,9 +16,9 @@ pub record StaysBelow (before after : Forest Content) (host l : ℕ) : Type 0 wh
   pub inside : IsWithin after host l
   pub same : tree_of after l ≡ tree_of before l
 
--- On the way from the state in which a command began to another one the command removed a tree that holds l below
--- its root, and the root was then editable for the host or made by the command. The removal is one of the command's
--- list of edits.
+-- On the way from the state in which a command began to another one the command removed a tree that
+-- holds l below its root, and the root was then editable for the host or made by the command. The
+-- removal is one of the command's list of edits.
 pub record IsTakenOut (began now : State) (l : ℕ) : Type 0 where
   pub root : ℕ
   pub then_at : State

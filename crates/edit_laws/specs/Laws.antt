@@ -41,11 +41,13 @@ abbrev pub OrderPreservingAnswers : Type 0 → Type 0
 OrderPreservingAnswers A = (a : A) → OrderPreserving (answer a)
 
 abbrev pub OrderPreservingFollows : Type 0 → Type 0 → Type 0
-OrderPreservingFollows A B = (m : Run A) (k : A → Run B) → OrderPreserving m → ((a : A) → OrderPreserving (k a))
+OrderPreservingFollows A B =
+    (m : Run A) (k : A → Run B) → OrderPreserving m → ((a : A) → OrderPreserving (k a))
     → OrderPreserving (m >>= k)
 
 abbrev pub OrderPreservingLooks : Type 0 → Type 0
-OrderPreservingLooks A = (k : State → Run A) → ((s : State) → OrderPreserving (k s)) → OrderPreserving (look k)
+OrderPreservingLooks A =
+    (k : State → Run A) → ((s : State) → OrderPreserving (k s)) → OrderPreserving (look k)
 
 abbrev pub OrderPreservingChooses : Type 0 → Type 0
 OrderPreservingChooses A = (b : Bool) (m n : Run A) → OrderPreserving m → OrderPreserving n
@@ -56,12 +58,14 @@ OrderPreservingGiven A B = (o : Option A) (n : Run B) (f : A → Run B) → Orde
     → ((a : A) → OrderPreserving (f a)) → OrderPreserving (given o n f)
 
 abbrev pub OrderPreservingForEach : Type 0 → Type 0
-OrderPreservingForEach A = (xs : List A) (f : A → Run (Unit {0})) → ((x : A) → OrderPreserving (f x))
+OrderPreservingForEach A =
+    (xs : List A) (f : A → Run (Unit {0})) → ((x : A) → OrderPreserving (f x))
     → OrderPreserving (for_each xs f)
 
 abbrev pub OrderPreservingWhile : Type 0 → Type 0
 OrderPreservingWhile A =
-    (bound : ℕ) (test : State → A → Bool) (body : A → Run A) (a : A) → ((a : A) → OrderPreserving (body a))
+    (bound : ℕ) (test : State → A → Bool) (body : A → Run A) (a : A)
+    → ((a : A) → OrderPreserving (body a))
     → OrderPreserving (while_at_most bound test body a)
 
 -- ---- new elements
@@ -75,7 +79,8 @@ OrderPreservingWithFollows A B = (x : ℕ) (m : Run A) (k : A → Run B) → Ord
     → ((a : A) → OrderPreserving (k a)) → OrderPreservingWith x (m >>= k)
 
 abbrev pub OrderPreservingWithLooks : Type 0 → Type 0
-OrderPreservingWithLooks A = (x : ℕ) (k : State → Run A) → ((s : State) → OrderPreservingWith x (k s))
+OrderPreservingWithLooks A =
+    (x : ℕ) (k : State → Run A) → ((s : State) → OrderPreservingWith x (k s))
     → OrderPreservingWith x (look k)
 
 abbrev pub OrderPreservingWithChooses : Type 0 → Type 0
@@ -83,7 +88,8 @@ OrderPreservingWithChooses A = (x : ℕ) (b : Bool) (m n : Run A) → OrderPrese
     → OrderPreservingWith x n → OrderPreservingWith x (if b then m else n)
 
 abbrev pub OrderPreservingWithGiven : Type 0 → Type 0 → Type 0
-OrderPreservingWithGiven A B = (x : ℕ) (o : Option A) (n : Run B) (f : A → Run B) → OrderPreservingWith x n
+OrderPreservingWithGiven A B =
+    (x : ℕ) (o : Option A) (n : Run B) (f : A → Run B) → OrderPreservingWith x n
     → ((a : A) → OrderPreservingWith x (f a)) → OrderPreservingWith x (given o n f)
 
 -- a new element that is neither img nor hr bears nothing

@@ -8,7 +8,8 @@ use Rattle.edit_model.specs.State.{State}
 use Rattle.edit_model.specs.History.{document_of}
 use Rattle.edit_model.specs.Valid.{IsValid}
 
--- a forest bears what another one bore, in the same order; of it only characters that are not kept may be missing
+-- a forest bears what another one bore, in the same order; of it only characters that are not kept
+-- may be missing
 pub record KeepsLeaves (before after : Forest Content) : Type 0 where
   pub in_order : Subsequence (leaves after) (leaves before)
   pub whole : kept_leaves after ≡ kept_leaves before

@@ -1,5 +1,5 @@
--- Runs that give no node a state of contenteditable and take none away: the certificate of an algorithm that keeps
--- islands.
+-- Runs that give no node a state of contenteditable and take none away: the certificate of an
+-- algorithm that keeps islands.
 use Rattle.edit_model.specs.State.{State}
 use Rattle.edit_model.specs.Valid.{IsValid}
 use Rattle.edit_model.specs.Laws.{LeavesStatesOn}

@@ -17,24 +17,30 @@ abbrev pub StatelessAnswers : Type 0 → Type 0
 StatelessAnswers A = (a : A) → Stateless (answer a)
 
 abbrev pub StatelessFollows : Type 0 → Type 0 → Type 0
-StatelessFollows A B = (m : Run A) (k : A → Run B) → Stateless m → ((a : A) → Stateless (k a)) → Stateless (m >>= k)
+StatelessFollows A B =
+    (m : Run A) (k : A → Run B) → Stateless m → ((a : A) → Stateless (k a)) → Stateless (m >>= k)
 
 abbrev pub StatelessLooks : Type 0 → Type 0
-StatelessLooks A = (k : State → Run A) → ((s : State) → IsValid s → Stateless (k s)) → Stateless (look k)
+StatelessLooks A =
+    (k : State → Run A) → ((s : State) → IsValid s → Stateless (k s)) → Stateless (look k)
 
 abbrev pub StatelessChooses : Type 0 → Type 0
-StatelessChooses A = (b : Bool) (m n : Run A) → Stateless m → Stateless n → Stateless (if b then m else n)
+StatelessChooses A =
+    (b : Bool) (m n : Run A) → Stateless m → Stateless n → Stateless (if b then m else n)
 
 abbrev pub StatelessGiven : Type 0 → Type 0 → Type 0
-StatelessGiven A B = (o : Option A) (n : Run B) (f : A → Run B) → Stateless n → ((a : A) → Stateless (f a))
+StatelessGiven A B =
+    (o : Option A) (n : Run B) (f : A → Run B) → Stateless n → ((a : A) → Stateless (f a))
     → Stateless (given o n f)
 
 abbrev pub StatelessForEach : Type 0 → Type 0
-StatelessForEach A = (xs : List A) (f : A → Run (Unit {0})) → ((x : A) → Stateless (f x)) → Stateless (for_each xs f)
+StatelessForEach A =
+    (xs : List A) (f : A → Run (Unit {0})) → ((x : A) → Stateless (f x)) → Stateless (for_each xs f)
 
 abbrev pub StatelessWhile : Type 0 → Type 0
 StatelessWhile A =
-    (bound : ℕ) (test : State → A → Bool) (body : A → Run A) (a : A) → ((a : A) → Stateless (body a))
+    (bound : ℕ) (test : State → A → Bool) (body : A → Run A) (a : A)
+    → ((a : A) → Stateless (body a))
     → Stateless (while_at_most bound test body a)
 
 -- an element made with the attributes of a node that is editable for the host

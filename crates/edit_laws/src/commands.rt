@@ -1,4 +1,5 @@
-//! The laws of commands, seen from outside commands, each the contract of a function that does nothing.
+//! The laws of commands, seen from outside commands, each the contract of a function that does
+//! nothing.
 
 ghost use Rattle.edit_laws.specs.CommandsAtRest.{OutsideStays, MarksStay, IslandsStay, OrderStays};
 
@@ -12,7 +13,8 @@ pub fn marks_stay_at_rest()
     ensures { MarksStay }
 {}
 
-/// An island stays below the host with its tree, or it goes with a tree whose root is editable or made by the command.
+/// An island stays below the host with its tree, or it goes with a tree whose root is editable or
+/// made by the command.
 pub fn islands_stay_at_rest()
     ensures { IslandsStay }
 {}

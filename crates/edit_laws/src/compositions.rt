@@ -1,5 +1,5 @@
-//! The laws of order of compositions of edits that the standards name, each the contract of a function that does
-//! nothing.
+//! The laws of order of compositions of edits that the standards name, each the contract of a
+//! function that does nothing.
 
 ghost use Rattle.edit_laws.specs.CompositionLaws.{UnwrapsKeep, TagNamesKeep, SplitTextsKeep};
 

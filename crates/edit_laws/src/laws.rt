@@ -62,12 +62,14 @@ pub fn order_preserving_while<A>()
     ensures { OrderPreservingWhile A }
 {}
 
-/// Inserting a node is order-preserving with that node: from each state where its tree bears nothing.
+/// Inserting a node is order-preserving with that node: from each state where its tree bears
+/// nothing.
 pub fn order_preserving_with_inserts()
     ensures { OrderPreservingWithInserts }
 {}
 
-/// A run that is order-preserving with a node, and that order-preserving runs follow, is order-preserving with it.
+/// A run that is order-preserving with a node, and that order-preserving runs follow, is
+/// order-preserving with it.
 pub fn order_preserving_with_follows<A, B>()
     ensures { OrderPreservingWithFollows A B }
 {}
@@ -87,8 +89,8 @@ pub fn order_preserving_with_given<A, B>()
     ensures { OrderPreservingWithGiven A B }
 {}
 
-/// Making an element that is neither img nor hr, followed by runs that are order-preserving with it, is
-/// order-preserving.
+/// Making an element that is neither img nor hr, followed by runs that are order-preserving with
+/// it, is order-preserving.
 pub fn order_preserving_new_elements<A>()
     ensures { OrderPreservingNewElements A }
 {}

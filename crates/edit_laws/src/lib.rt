@@ -1,6 +1,7 @@
-//! The laws of order: what algorithms that keep contents make of the characters, images and rules of a document.
-//! Then which runs leave the states of contenteditable (`Stateless`). And what a command leaves, seen from outside
-//! commands: what lies outside its host, the marks there, and the islands.
+//! The laws of order: what algorithms that keep contents make of the characters, images and rules
+//! of a document. Then which runs leave the states of contenteditable (`Stateless`). And what a
+//! command leaves, seen from outside commands: what lies outside its host, the marks there, and the
+//! islands.
 #![tactic(auto)]
 
 mod commands;

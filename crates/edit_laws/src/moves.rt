@@ -1,5 +1,5 @@
-//! The laws of order of loops of moves, each the contract of a function that does nothing. Of a loop all moves are
-//! made or none, and the order is kept either way.
+//! The laws of order of loops of moves, each the contract of a function that does nothing. Of a
+//! loop all moves are made or none, and the order is kept either way.
 
 ghost use Rattle.edit_laws.specs.MoveLaws.{FirstChildrenGoBefore, LastChildrenGoAfter, FirstChildrenGoOver, NextSiblingsGoIn, PreviousSiblingsGoIn, NextGoesOver, NextTakesIn, NodesChangePlaces, MovesOutAreLeftOut, ChildrenPart, ChildrenStay};
 
@@ -48,7 +48,8 @@ pub fn moves_out_are_left_out()
     ensures { MovesOutAreLeftOut }
 {}
 
-/// The first children of a bare node go to a made one before it, and those after them to just before the node.
+/// The first children of a bare node go to a made one before it, and those after them to just
+/// before the node.
 pub fn children_part()
     ensures { ChildrenPart }
 {}

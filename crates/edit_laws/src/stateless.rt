@@ -1,5 +1,5 @@
-//! Runs that give no node a state of contenteditable and take none away, by their parts: each law is the contract of a
-//! function that does nothing.
+//! Runs that give no node a state of contenteditable and take none away, by their parts: each law
+//! is the contract of a function that does nothing.
 
 ghost use Rattle.edit_laws.specs.StatelessLaws.{StatelessActs, StatelessAnswers, StatelessFollows, StatelessLooks, StatelessChooses, StatelessGiven, StatelessForEach, StatelessWhile, StatelessCopies, UnwrapsStateless, TagNamesStateless, SplitTextsStateless};
 

@@ -1,4 +1,5 @@
--- What commands do to a state besides edits: making nodes, selecting, and setting overrides and flags.
+-- What commands do to a state besides edits: making nodes, selecting, and setting overrides and
+-- flags.
 use Rattle.std.specs.Prelude.{ℕ, ◌+◌, ◌^◌, Bool, ◌&&◌, not, nat_lt, List, [], ◌∷◌, ◌++◌, length, Option, Some, None, if◌then◌else◌}
 use Rattle.dom_model.specs.declared.Content.{Content}
 use Rattle.dom_model.specs.declared.Content.TheVariants.{Element, Words}
@@ -44,7 +45,12 @@ abbrev pub words_content : List ℕ → Content
 words_content chars = if nat_lt (length chars) (2 ^ 32) then Words chars else Words []
 
 unfoldable pub made : Content → State → State
-made c s = record s { trees = with_leaf s.trees s.next c; next = s.next + 1; made = s.made ++ (s.next, c) ∷ [] }
+made c s = record s {
+  trees = with_leaf s.trees s.next c;
+  next = s.next + 1;
+  made = s.made
+      ++ (s.next, c) ∷ [];
+}
 
 -- ---- selecting: a step to where no point may stand is left out
 
@@ -75,20 +81,24 @@ extended focus s = extended_from s.points.selection focus s
 unfoldable pub grown : Point → State → State
 grown at s = if may_grow s at then changed s s.trees (mapped (range.Grown at) s.points) else s
 
--- the points of a text past an offset go to another text (the points of its parent are not moved by this)
+-- the points of a text past an offset go to another text (the points of its parent are not moved by
+-- this)
 unfoldable pub sent : ℕ → ℕ → ℕ → State → State
 sent node at tail s = if may_send s node at tail then changed s s.trees
     (mapped (range.Split node at tail node 0) s.points) else s
 
 unfoldable pub scratched : Pair → State → State
-scratched pair s = if may_select s pair.anchor && may_select s pair.focus then with_scratch (Some pair) s else s
+scratched pair s =
+    if may_select s pair.anchor && may_select s pair.focus then with_scratch (Some pair) s else s
 
 -- ---- extracting a tail
 
--- the state after an edit that is made without its test: the trees allow each edit of a tail, and the parents are
--- open, but what is removed need not be editable
+-- the state after an edit that is made without its test: the trees allow each edit of a tail, and
+-- the parents are open, but what is removed need not be editable
 unfoldable pub applied : Edit → State → State
-applied e s = with_change (change_of e s.trees) (changed s (trees_after e s.trees) (points_after e s.trees s.points))
+applied e s =
+    with_change (change_of e s.trees)
+    (changed s (trees_after e s.trees) (points_after e s.trees s.points))
 
 unfoldable pub stepped : Step → State → State
 stepped (Copy content) s = made content s
@@ -101,9 +111,9 @@ stepped_all (x ∷ xs) s = stepped_all xs (stepped x s)
 unfoldable pub tail_of : State → Point → ℕ → ℕ → List Step
 tail_of s from end target = tail_steps (document_size s.trees) s.trees from end target s.next
 
--- The point's node can have children, and is `end` or stands below it; both are editable, in the document. The
--- target was made by the command, stands in the document, can have children, and is neither `end` nor below it. The
--- command isn't a keeping one.
+-- The point's node can have children, and is `end` or stands below it; both are editable, in the
+-- document. The target was made by the command, stands in the document, can have children, and is
+-- neither `end` nor below it. The command isn't a keeping one.
 unfoldable pub may_extract : State → Point → ℕ → ℕ → Bool
 may_extract s from end target =
     not s.keeping && (is_editable_for s end && (is_in_document s.trees end
@@ -112,9 +122,11 @@ may_extract s from end target =
     && (is_in_document s.trees target && (is_parent_at s.trees target
     && not (is_within s.trees end target)))))))))
 
--- The steps are one action, since between them nodes of the document stand in loose trees, and islands among them.
+-- The steps are one action, since between them nodes of the document stand in loose trees, and
+-- islands among them.
 unfoldable pub extracted : Point → ℕ → ℕ → State → State
-extracted from end target s = if may_extract s from end target then stepped_all (tail_of s from end target) s else s
+extracted from end target s =
+    if may_extract s from end target then stepped_all (tail_of s from end target) s else s
 
 -- ---- the state after an action
 
@@ -128,6 +140,7 @@ acted Unselect s = with_selection None s
 acted (Grow at) s = grown at s
 acted (Send node at tail) s = sent node at tail s
 acted (Scratch pair) s = scratched pair s
-acted (Override command setting) s = record s { overrides = with_setting s.overrides command setting }
+acted (Override command setting) s =
+    record s { overrides = with_setting s.overrides command setting }
 acted (Flag flags) s = record s { flags = flags }
 acted (Extract from end target) s = extracted from end target s

@@ -17,10 +17,12 @@ use Rattle.edit_model.specs.State.{State}
 use Rattle.edit_model.specs.History.{View, Entry, History}
 
 abbrev pub point_code : Coded Point
-point_code = code_by (ℕ × ℕ) (coded× coded_ℕ coded_ℕ) (λ p. (p.label, p.offset)) (λ c. record { label = c.0; offset = c.1 }) (λ _. refl)
+point_code = code_by (ℕ × ℕ) (coded× coded_ℕ coded_ℕ) (λ p. (p.label, p.offset)) (λ c.
+    record { label = c.0; offset = c.1 }) (λ _. refl)
 
 abbrev pub pair_code : Coded Pair
-pair_code = code_by (Point × Point) (coded× point_code point_code) (λ p. (p.anchor, p.focus)) (λ c. record { anchor = c.0; focus = c.1 }) (λ _. refl)
+pair_code = code_by (Point × Point) (coded× point_code point_code) (λ p. (p.anchor, p.focus)) (λ c.
+    record { anchor = c.0; focus = c.1 }) (λ _. refl)
 
 abbrev pub mark_code : Coded (List ℕ × Pair)
 mark_code = coded× (coded_list coded_ℕ) pair_code
@@ -29,7 +31,9 @@ abbrev pub points_code : Coded LivePoints
 points_code =
     code_by
     (Option Pair × (Option Pair × (List (List ℕ × Pair) × List (List ℕ))))
-    (coded× (coded_option pair_code) (coded× (coded_option pair_code) (coded× (coded_list mark_code) (coded_list (coded_list coded_ℕ)))))
+    (coded× (coded_option pair_code)
+    (coded× (coded_option pair_code)
+    (coded× (coded_list mark_code) (coded_list (coded_list coded_ℕ)))))
     (λ p. (p.selection, (p.scratch, (p.marks, p.names))))
     (λ c. record { selection = c.0; scratch = c.1.0; marks = c.1.1.0; names = c.1.1.1 })
     (λ _. refl)
@@ -53,10 +57,13 @@ setting-back (Text value) = refl
 setting-back Absent = refl
 
 abbrev pub setting_code : Coded Setting
-setting_code = code_by (ℕ × List ℕ) (coded× coded_ℕ (coded_list coded_ℕ)) setting_parts (λ p. setting_of_kind p.0 p.1) setting-back
+setting_code =
+    code_by (ℕ × List ℕ) (coded× coded_ℕ (coded_list coded_ℕ)) setting_parts (λ p.
+    setting_of_kind p.0 p.1) setting-back
 
 abbrev pub flags_code : Coded Flags
-flags_code = code_by (Bool × Bool) (coded× coded_bool coded_bool) (λ f. (f.css_styling, f.paragraphs)) (λ c. record { css_styling = c.0; paragraphs = c.1 }) (λ _. refl)
+flags_code = code_by (Bool × Bool) (coded× coded_bool coded_bool) (λ f.
+    (f.css_styling, f.paragraphs)) (λ c. record { css_styling = c.0; paragraphs = c.1 }) (λ _. refl)
 
 abbrev pub nodes_code : Coded (List (ℕ × Content))
 nodes_code = coded_list (coded× coded_ℕ content_code)
@@ -64,9 +71,29 @@ nodes_code = coded_list (coded× coded_ℕ content_code)
 abbrev pub state_code : Coded State
 state_code =
     code_by
-    (Forest Content × (LivePoints × (List Setting × (Flags × (ℕ × (ℕ × (ℕ × (Option ℕ × (Bool × (List Change × List (ℕ × Content)))))))))))
-    (coded× (forest_code content_code) (coded× points_code (coded× (coded_list setting_code) (coded× flags_code (coded× coded_ℕ (coded× coded_ℕ (coded× coded_ℕ (coded× (coded_option coded_ℕ) (coded× coded_bool (coded× (coded_list change_code) nodes_code))))))))))
-    (λ s. (s.trees, (s.points, (s.overrides, (s.flags, (s.next, (s.cap, (s.start, (s.host, (s.keeping, (s.edits, s.made)))))))))))
+    (Forest Content
+    × (LivePoints
+    × (List Setting
+    × (Flags × (ℕ × (ℕ × (ℕ × (Option ℕ × (Bool × (List Change × List (ℕ × Content)))))))))))
+    (coded× (forest_code content_code)
+    (coded× points_code
+    (coded× (coded_list setting_code)
+    (coded× flags_code
+    (coded× coded_ℕ
+    (coded× coded_ℕ
+    (coded× coded_ℕ
+    (coded× (coded_option coded_ℕ)
+    (coded× coded_bool (coded× (coded_list change_code) nodes_code))))))))))
+    (λ s. (
+      s.trees,
+      (
+        s.points,
+        (
+          s.overrides,
+          (s.flags, (s.next, (s.cap, (s.start, (s.host, (s.keeping, (s.edits, s.made))))))),
+        ),
+      ),
+    ))
     (λ c. record {
       trees = c.0;
       points = c.1.0;

@@ -1,5 +1,5 @@
--- Compositions of edits that the DOM and editing standards name: splitting a text, and setting the tag name of an
--- element. The steps are those of docs/ALGORITHMS.md.
+-- Compositions of edits that the DOM and editing standards name: splitting a text, and setting the
+-- tag name of an element. The steps are those of docs/ALGORITHMS.md.
 use Rattle.std.specs.Prelude.{ℕ, ◌+◌, ◌-◌, Bool, ◌||◌, not, List, [], length, drop, Some, None, if◌then◌else◌, unwrap_or}
 use Rattle.dom_model.specs.declared.attributes.Attribute.{Attribute}
 use Rattle.dom_model.specs.Contents.{chars_of, name_of, attributes_of, has_name}
@@ -22,8 +22,8 @@ attribute_list_of f n = unwrap_or (attributes_of f n) []
 
 -- ---- splitting the text n, a child of p, at an offset (DOM Standard, "split a Text node")
 
--- split a text, step 3: points past the offset go to the new text, and those just after n grow, where the new text was
--- inserted
+-- split a text, step 3: points past the offset go to the new text, and those just after n grow,
+-- where the new text was inserted
 unfoldable pub points_sent : ℕ → ℕ → ℕ → ℕ → ℕ → Bool → Run (Unit {0})
 points_sent p i n at tail inserted =
     if inserted then (send n at tail >> grow (record { label = p; offset = i + 1 })) else done
@@ -37,7 +37,8 @@ split_under p s n at = do
   replace n at (length (characters_of s.trees n) - at) []
   answer tail
 
--- split a text, step 1, and then from 2 on: answers the new text with the tail; a text without a parent stays as it is
+-- split a text, step 1, and then from 2 on: answers the new text with the tail; a text without a
+-- parent stays as it is
 unfoldable pub split_words : ℕ → ℕ → Run ℕ
 split_words n at = look λ s. given (parent_of s.trees n) (answer n) λ p. split_under p s n at
 
@@ -52,8 +53,9 @@ renamed p s e name = do
   remove e
   answer x
 
--- set the tag name, step 1, and then from 2 on: answers the element that has the name, a new one in the place of e,
--- with its attributes and children; e itself where it has the name, no parent, or isn't editable
+-- set the tag name, step 1, and then from 2 on: answers the element that has the name, a new one in
+-- the place of e, with its attributes and children; e itself where it has the name, no parent, or
+-- isn't editable
 unfoldable pub set_tag_name : ℕ → List ℕ → Run ℕ
 set_tag_name e name = look λ s.
     given (parent_of s.trees e) (answer e) λ p.

@@ -1,4 +1,5 @@
--- What a running command may change: only what lies inside its affected editing host, and what it made itself.
+-- What a running command may change: only what lies inside its affected editing host, and what it
+-- made itself.
 use Rattle.std.specs.Prelude.{ℕ, ◌+◌, ◌^◌, Bool, true, false, ◌||◌, ◌&&◌, not, ◌==◌, nat_le, nat_lt, List, ◌++◌, length, take, drop, Option, Some, None, bytes_eq, is_none}
 use Rattle.std.specs.Option.{option_map_or}
 use Rattle.dom_model.specs.declared.Content.{Content}
@@ -54,7 +55,8 @@ stands_so f n o p (Some b) = o == p && is_label (next_of f n) b
 unfoldable pub may_insert : State → ℕ → Option ℕ → ℕ → Bool
 may_insert s p b n =
     is_there s.trees n && (not (n == 0) && (is_none (parent_of s.trees n)
-    && (is_parent_at s.trees p && (not (is_within s.trees n p) && (is_place s.trees p b n && is_open s p)))))
+    && (is_parent_at s.trees p
+    && (not (is_within s.trees n p) && (is_place s.trees p b n && is_open s p)))))
 
 -- n leaves its parent o, which is open; a keeping command removes nothing that is kept
 abbrev pub may_leave : State → ℕ → Option ℕ → Bool
@@ -65,8 +67,8 @@ may_leave s n (Some o) =
 unfoldable pub may_remove : State → ℕ → Bool
 may_remove s n = may_leave s n (parent_of s.trees n)
 
--- n moves from its parent o to p, both open: not into itself, not from the document into a loose tree, and not to where
--- it stands
+-- n moves from its parent o to p, both open: not into itself, not from the document into a loose
+-- tree, and not to where it stands
 abbrev pub may_go : State → ℕ → Option ℕ → ℕ → Option ℕ → Bool
 may_go s n None p b = false
 may_go s n (Some o) p b =
@@ -100,7 +102,8 @@ may_set s n name value = is_own s n && option_map_or (λ list. not (has_value li
     (attributes_of s.trees n) false
 
 unfoldable pub may_unset : State → ℕ → List ℕ → Bool
-may_unset s n name = is_own s n && option_map_or (λ list. option_map_or (λ _. true) (value_of list name) false)
+may_unset s n name =
+    is_own s n && option_map_or (λ list. option_map_or (λ _. true) (value_of list name) false)
     (attributes_of s.trees n) false
 
 -- ---- which selecting steps are made
@@ -113,8 +116,8 @@ may_select s p = is_placed s.trees p
 unfoldable pub may_grow : State → Point → Bool
 may_grow s p = is_open s p.label && (is_in_document s.trees p.label && nat_lt p.offset (length_of s.trees p.label))
 
--- the points of a text, which is editable or made by the running command, past an offset go to another text of the
--- document that reaches as far
+-- the points of a text, which is editable or made by the running command, past an offset go to
+-- another text of the document that reaches as far
 unfoldable pub may_send : State → ℕ → ℕ → ℕ → Bool
 may_send s n at tail =
     is_own s n && (is_in_document s.trees tail && (not (n == tail)

@@ -18,9 +18,9 @@ use Rattle.edit_model.specs.State.{State}
 use Rattle.edit_model.specs.Overrides.{no_overrides}
 use Rattle.edit_model.specs.Confined.{spliced, may_insert, may_remove, may_move, may_replace, may_set, may_unset}
 
--- Where `before` is None the place is the end of the parent. A node is inserted that has no parent, a tree is
--- removed and becomes loose, a node moves with the points in it; characters of a text are replaced, an attribute is
--- set or unset.
+-- Where `before` is None the place is the end of the parent. A node is inserted that has no parent,
+-- a tree is removed and becomes loose, a node moves with the points in it; characters of a text are
+-- replaced, an attribute is set or unset.
 pub data Edit : Type 0 where
   Insert : (parent : ℕ) (before : Option ℕ) (node : ℕ) → Edit
   Remove : (node : ℕ) → Edit
@@ -71,7 +71,8 @@ points_after (Move n p b) f points =
     (record { label = parent_or_0 f n; offset = index_of f n })
     (record { label = p; offset = index_before (unlink f n) p b }))
     points
-points_after (Replace n at count put) f points = mapped (range.Replace n at count (length put)) points
+points_after (Replace n at count put) f points =
+    mapped (range.Replace n at count (length put)) points
 points_after (Set n name value) f points = points
 points_after (Unset n name) f points = points
 
@@ -80,12 +81,14 @@ points_after (Unset n name) f points = points
 -- overrides are unset where the active range has another start or end, or came or went
 unfoldable pub overrides_after : State → Forest Content → LivePoints → List Setting
 overrides_after s trees points =
-    if range_changed (is_before s.trees) (is_before trees) s.points.selection points.selection then no_overrides
+    if range_changed (is_before s.trees) (is_before trees) s.points.selection points.selection then
+    no_overrides
     else s.overrides
 
 -- the state with other trees and points
 unfoldable pub changed : State → Forest Content → LivePoints → State
-changed s trees points = record s { trees = trees; points = points; overrides = overrides_after s trees points }
+changed s trees points =
+    record s { trees = trees; points = points; overrides = overrides_after s trees points }
 
 -- whether an edit is made: otherwise it is left out, and the state stays
 unfoldable pub is_made_edit : Edit → State → Bool
@@ -101,9 +104,12 @@ unfoldable pub change_of : Edit → Forest Content → Change
 change_of (Insert p b n) f = change.Insert n p b
 change_of (Remove n) f = change.Remove n
 change_of (Move n p b) f = change.Move n p b
-change_of (Replace n at count put) f = change.SetText n (spliced (unwrap_or (chars_of f n) []) at count put)
-change_of (Set n name value) f = change.SetAttributes n (set_in (unwrap_or (attributes_of f n) []) name value)
-change_of (Unset n name) f = change.SetAttributes n (unset_in (unwrap_or (attributes_of f n) []) name)
+change_of (Replace n at count put) f =
+    change.SetText n (spliced (unwrap_or (chars_of f n) []) at count put)
+change_of (Set n name value) f =
+    change.SetAttributes n (set_in (unwrap_or (attributes_of f n) []) name value)
+change_of (Unset n name) f =
+    change.SetAttributes n (unset_in (unwrap_or (attributes_of f n) []) name)
 
 unfoldable pub with_change : Change → State → State
 with_change x s = record s { edits = s.edits ++ x ∷ [] }

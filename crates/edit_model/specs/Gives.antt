@@ -20,9 +20,9 @@ abbrev pub Fails : EditFault → State → Type 0
 Fails Full s = IsPastCap s
 Fails Memory s = Unit {0}
 
--- The call's answer and the state after it are those of the run, where `shows` tells the run's answer of the
--- call's; or it is Full, and the run ends past the cap. A state is never past the cap, so Full comes exactly then,
--- up to Memory.
+-- The call's answer and the state after it are those of the run, where `shows` tells the run's
+-- answer of the call's; or it is Full, and the run ends past the cap. A state is never past the
+-- cap, so Full comes exactly then, up to Memory.
 abbrev pub GivesAs : {T U : Type 0} → (T → U) → Result T EditFault → State → State → Run U → Type 0
 GivesAs shows (Ok v) s t m = (final m s ≡ t) × (value m s ≡ shows v)
 GivesAs shows (Err e) s t m = Fails e (final m s)

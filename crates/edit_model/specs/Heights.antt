@@ -9,7 +9,8 @@ use Rattle.edit_model.specs.Tail.{Step, Copy, Do}
 use Rattle.edit_model.specs.Action.{Action, Change, Extract, stepped, tail_of, may_extract}
 use Rattle.edit_model.specs.Run.{Reaches, here, onward, Run}
 
--- how deep the deepest node of the tree of n would be below p: the depth of p, 1, and the height of the tree
+-- how deep the deepest node of the tree of n would be below p: the depth of p, 1, and the height of
+-- the tree
 abbrev pub reach_of : ℕ → ℕ → Forest Content → ℕ
 reach_of p n f = depth_of f p + levels (tree_of f n)
 

@@ -14,16 +14,16 @@ pub record View : Type 0 where
   pub selection : Option Pair
   pub marks : List (List ℕ × Pair)
 
--- the views before and after a command, or several that share the entry, the edits between them, and those of the
--- nodes made that an edit names, each with its content as made
+-- the views before and after a command, or several that share the entry, the edits between them,
+-- and those of the nodes made that an edit names, each with its content as made
 pub record Entry : Type 0 where
   pub before : View
   pub after : View
   pub edits : List Change
   pub made : List (ℕ × Content)
 
--- the entries that undo would take, the next one first, those that redo would take, the next one first, how many
--- may be kept, and whether one was ever dropped as the oldest
+-- the entries that undo would take, the next one first, those that redo would take, the next one
+-- first, how many may be kept, and whether one was ever dropped as the oldest
 pub record History : Type 0 where
   pub undo : List Entry
   pub redo : List Entry
@@ -36,7 +36,11 @@ abbrev pub document_of : Forest Content → Forest Content
 document_of f = tree_of f 0
 
 unfoldable pub view_of : State → View
-view_of s = record { document = document_of s.trees; selection = s.points.selection; marks = s.points.marks }
+view_of s = record {
+  document = document_of s.trees;
+  selection = s.points.selection;
+  marks = s.points.marks;
+}
 
 -- the state at a view, without overrides
 unfoldable pub at_view : View → State → State
@@ -62,17 +66,24 @@ rested s = record s {
 
 -- a command begins, with its affected host
 unfoldable pub begun : Option ℕ → Bool → State → State
-begun host keeping s = record s { start = s.next; host = host; keeping = keeping; edits = []; made = [] }
+begun host keeping s =
+    record s { start = s.next; host = host; keeping = keeping; edits = []; made = [] }
 
 -- the nodes that a change of the list names
 unfoldable pub used : List Change → List (ℕ × Content) → List (ℕ × Content)
 used xs nodes = filter (λ n. has_label (named_in xs) n.0) nodes
 
 abbrev pub entry_of : State → State → Entry
-entry_of began s = record { before = view_of began; after = view_of s; edits = s.edits; made = used s.edits s.made }
+entry_of began s =
+    record {
+      before = view_of began;
+      after = view_of s;
+      edits = s.edits;
+      made = used s.edits s.made;
+    }
 
--- what a commit leaves of the history: an entry for a command with an edit, in place of those after the cursor, without
--- the oldest where there are too many
+-- what a commit leaves of the history: an entry for a command with an edit, in place of those after
+-- the cursor, without the oldest where there are too many
 unfoldable pub with_entry : Entry → History → History
 with_entry e h = record h {
   undo = take h.depth (e ∷ h.undo);
@@ -93,10 +104,12 @@ joined_in s (e ∷ es) = record {
 unfoldable pub joined : State → History → History
 joined s h = record h { undo = joined_in s h.undo }
 
--- the history after a command that began at one state, or resumed the last entry there, and ends at another
+-- the history after a command that began at one state, or resumed the last entry there, and ends at
+-- another
 unfoldable pub recorded : Bool → State → State → History → History
 recorded resumed began s h =
-    if length s.edits == 0 then h else (if resumed then joined s h else with_entry (entry_of began s) h)
+    if length s.edits == 0 then h
+    else (if resumed then joined s h else with_entry (entry_of began s) h)
 
 -- ---- undo and redo
 
@@ -116,7 +129,8 @@ abbrev pub redone_history_by : List Entry → History → History
 redone_history_by [] h = h
 redone_history_by (e ∷ es) h = record h { undo = e ∷ h.undo; redo = es }
 
--- the state and the history after undo, and after redo; nothing changes where no entry lies that way
+-- the state and the history after undo, and after redo; nothing changes where no entry lies that
+-- way
 unfoldable pub undone_state : History → State → State
 undone_state h s = undone_state_by h.undo s
 

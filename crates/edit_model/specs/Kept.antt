@@ -1,4 +1,5 @@
--- What commands that keep contents never remove: images, rules, and characters other than tab, LF, CR and space.
+-- What commands that keep contents never remove: images, rules, and characters other than tab, LF,
+-- CR and space.
 use Rattle.std.specs.Prelude.{ℕ, Bool, true, false, ◌||◌, not, ◌==◌, List, [], ◌∷◌, ◌++◌, if◌then◌else◌, bytes_eq, codes, filter, map}
 use Rattle.dom_model.specs.declared.Content.{Content}
 use Rattle.dom_model.specs.declared.Content.TheVariants.{Document, Element, Words, Remark}

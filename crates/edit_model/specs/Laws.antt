@@ -43,7 +43,8 @@ NodesAreListed = (s t : State) (r : Reaches s t) → t.made ≡ s.made ++ nodes_
 
 -- one way after another makes the edits of both
 abbrev pub EditsFollow : Type 0
-EditsFollow = (s t u : State) (p : Reaches s t) (q : Reaches t u) → edits_on (reaches_trans p q) ≡ edits_on p
+EditsFollow =
+    (s t u : State) (p : Reaches s t) (q : Reaches t u) → edits_on (reaches_trans p q) ≡ edits_on p
     ++ edits_on q
 
 -- ---- valid states
@@ -53,9 +54,11 @@ ValidStays = (s t : State) → Reaches s t → IsValid s → IsValid t
 
 -- ---- confinement
 
--- what lies outside the affected host stays, its own attributes too, and nothing that the command made lies there
+-- what lies outside the affected host stays, its own attributes too, and nothing that the command
+-- made lies there
 abbrev pub OutsideStays : Type 0
-OutsideStays = (s t : State) → Reaches s t → IsValid s → IsConfined s → (outside t ≡ outside s) × IsConfined t
+OutsideStays =
+    (s t : State) → Reaches s t → IsValid s → IsConfined s → (outside t ≡ outside s) × IsConfined t
 
 -- so it is with a command that begins in a valid state, whatever its host
 abbrev pub CommandsAreConfined : Type 0
@@ -65,15 +68,16 @@ CommandsAreConfined =
 
 -- the name of a mark stays, and so do its points where both stand apart from the host
 abbrev pub KeepsMark : Option ℕ → Forest Content → List ℕ × Pair → List ℕ × Pair → Type 0
-KeepsMark host f m n = (n.0 ≡ m.0) × (IsApart host f m.1.anchor.label → IsApart host f m.1.focus.label → n.1 ≡ m.1)
+KeepsMark host f m n =
+    (n.0 ≡ m.0) × (IsApart host f m.1.anchor.label → IsApart host f m.1.focus.label → n.1 ≡ m.1)
 
 -- the marks stay in their order, and one that stands apart stays where it is
 abbrev pub MarksStay : Type 0
 MarksStay = (s t : State) → Reaches s t → IsValid s → IsConfined s
     → AllZip (KeepsMark s.host s.trees) s.points.marks t.points.marks
 
--- a removal, at the state where it is made, of a tree that holds l below its root; the root is editable, made by
--- the command or a br
+-- a removal, at the state where it is made, of a tree that holds l below its root; the root is
+-- editable, made by the command or a br
 abbrev pub TakesOut : Action → State → ℕ → Type 0
 TakesOut (Change (Remove n)) s l =
     (is_made_edit (Remove n) s ≡ true) × (IsWithin s.trees n l
@@ -85,8 +89,8 @@ abbrev pub TakesOutOn : {s t : State} → Reaches s t → ℕ → Type 0
 TakesOutOn here l = ⊥
 TakesOutOn (onward {t = t} q a) l = TakesOutOn q l ⊎ TakesOut a t l
 
--- an island of the host as the command begins keeps its tree; while it is in the document it is below the host; and
--- it leaves the document only with a tree that holds it
+-- an island of the host as the command begins keeps its tree; while it is in the document it is
+-- below the host; and it leaves the document only with a tree that holds it
 abbrev pub IslandsStay : Type 0
 IslandsStay =
     (s t : State) (h : ℕ) (keeping : Bool) → IsValid s → is_host s.trees h ≡ true
@@ -123,7 +127,8 @@ abbrev pub IslandsLeave : Type 0
 IslandsLeave =
     (s t : State) (h : ℕ) (keeping : Bool) → IsValid s → is_host s.trees h ≡ true
     → (r : Reaches (begun (Some h) keeping s) t) → LeavesStatesOn r
-    → (l : ℕ) → is_island s.trees h l ≡ true → IsWithin s.trees 0 l → IsWithin t.trees 0 l ⊎ TakesOwnOn r l
+    → (l : ℕ) → is_island s.trees h l ≡ true → IsWithin s.trees 0 l → IsWithin t.trees 0 l
+    ⊎ TakesOwnOn r l
 
 -- ---- the extraction of a tail
 
@@ -136,8 +141,10 @@ TailsArePossible =
 -- its steps end by themselves: they are the same however much deeper they might nest
 abbrev pub TailsEnd : Type 0
 TailsEnd =
-    (s : State) (from : Point) (end target fuel : ℕ) → IsValid s → may_extract s from end target ≡ true
-    → document_size s.trees ≤ fuel → tail_steps fuel s.trees from end target s.next ≡ tail_of s from end target
+    (s : State) (from : Point) (end target fuel : ℕ) → IsValid s → may_extract s from end target
+    ≡ true
+    → document_size s.trees ≤ fuel → tail_steps fuel s.trees from end target s.next
+    ≡ tail_of s from end target
 
 -- and no node of the document leaves it
 abbrev pub TailsStay : Type 0
@@ -148,7 +155,8 @@ TailsStay = (s : State) (from : Point) (end target l : ℕ) → IsValid s → Is
 
 -- an action that removes a tree removes one that bears nothing that is kept
 abbrev pub TakesNothing : Action → State → Type 0
-TakesNothing (Change (Remove n)) s = is_made_edit (Remove n) s ≡ true → has_no_kept_leaves (tree_of s.trees n) ≡ true
+TakesNothing (Change (Remove n)) s =
+    is_made_edit (Remove n) s ≡ true → has_no_kept_leaves (tree_of s.trees n) ≡ true
 TakesNothing _ s = Unit {0}
 
 -- each action on the way does

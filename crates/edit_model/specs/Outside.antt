@@ -35,7 +35,8 @@ pub record IsApart (host : Option ℕ) (f : Forest Content) (l : ℕ) : Type 0 w
 unfoldable pub is_within_host : Forest Content → ℕ → ℕ → Bool
 is_within_host f host l = host == l || is_editable f host l
 
--- an island of a host: a node below it that is neither editable nor a br, and whose parent is the host or editable
+-- an island of a host: a node below it that is neither editable nor a br, and whose parent is the
+-- host or editable
 unfoldable pub is_island : Forest Content → ℕ → ℕ → Bool
 is_island f host l =
     not (is_editable f host l) && (not (is_break f l) && option_map_or (is_within_host f host) (parent_of f l) false)

@@ -5,7 +5,8 @@ use Rattle.edit_model.specs.Edit.{is_made_edit}
 use Rattle.edit_model.specs.Tail.{Step, Copy, Do}
 use Rattle.edit_model.specs.Action.{stepped}
 
--- every node counts as made by the command, so the test of an edit asks for the structure of the trees alone
+-- every node counts as made by the command, so the test of an edit asks for the structure of the
+-- trees alone
 abbrev pub freed : State → State
 freed s = record s { start = 0 }
 

@@ -1,5 +1,5 @@
--- An algorithm is a run: a function from a state to a state and an answer, together with a proof that actions lead from
--- the one state to the other. Labels are drawn in order and without a cap.
+-- An algorithm is a run: a function from a state to a state and an answer, together with a proof
+-- that actions lead from the one state to the other. Labels are drawn in order and without a cap.
 use Rattle.std.specs.Prelude.{ℕ, zero, suc, Bool, List, [], ◌∷◌, ◌++◌, Option, Some, None, if◌then◌else◌}
 use Rattle.dom_model.specs.declared.attributes.Attribute.{Attribute}
 use Rattle.dom_model.specs.declared.Content.{Content}
@@ -132,8 +132,8 @@ unfoldable pub while_at_most : {A : Type 0} → ℕ → (State → A → Bool) �
 while_at_most zero test body a = answer a
 while_at_most (suc n) test body a =
     look (λ s. if test s a then (body a >>= while_at_most n test body) else answer a)
-
--- ---- the runs of one action: an edit answers whether it is made, and making a node answers its label
+    -- ---- the runs of one action: an edit answers whether it is made,
+    and making a node answers its label
 
 unfoldable pub edit : Edit → Run Bool
 edit e = act (Change e) (is_made_edit e)

@@ -10,8 +10,8 @@ use Rattle.point_order.specs.PointOrder.{is_placed}
 use Rattle.edit_model.specs.State.{State}
 use Rattle.edit_model.specs.History.{View}
 
--- labels are distinct and below the next one, the loose trees follow the document by rising labels, and each node
--- is one that can be
+-- labels are distinct and below the next one, the loose trees follow the document by rising labels,
+-- and each node is one that can be
 pub record IsForest (f : Forest Content) (next : ℕ) : Type 0 where
   pub distinct : IsDistinct f
   pub rising : RisesFrom 0 f

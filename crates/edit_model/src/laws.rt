@@ -1,5 +1,5 @@
-//! The laws of editing. Each is the contract of a function that does nothing, over every way that actions lead from one
-//! state to another: the end of every run is reached so.
+//! The laws of editing. Each is the contract of a function that does nothing, over every way that
+//! actions lead from one state to another: the end of every run is reached so.
 
 ghost use Rattle.edit_model.specs.Laws.{LabelsRise, ThingsStay, CapStaysPassed, EditsAreListed, NodesAreListed, EditsFollow, ValidStays, OutsideStays, CommandsAreConfined, IslandsLeave, IslandsStay, MarksStay, KeptStays, TailsArePossible, TailsEnd, TailsStay};
 
@@ -43,12 +43,14 @@ pub fn commands_are_confined()
     ensures { CommandsAreConfined }
 {}
 
-/// An island of the affected host keeps its tree, below the host or out of the document with a tree that holds it.
+/// An island of the affected host keeps its tree, below the host or out of the document with a tree
+/// that holds it.
 pub fn islands_stay()
     ensures { IslandsStay }
 {}
 
-/// Where no state of contenteditable changes, an island leaves the document only below a root that is editable or made.
+/// Where no state of contenteditable changes, an island leaves the document only below a root that
+/// is editable or made.
 pub fn islands_leave()
     ensures { IslandsLeave }
 {}
@@ -58,7 +60,8 @@ pub fn marks_stay()
     ensures { MarksStay }
 {}
 
-/// The structure of the trees allows each step of a tail that is extracted, though not all that goes is editable.
+/// The structure of the trees allows each step of a tail that is extracted, though not all that
+/// goes is editable.
 pub fn tails_are_possible()
     ensures { TailsArePossible }
 {}

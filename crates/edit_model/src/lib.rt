@@ -1,9 +1,11 @@
-//! The definitions of editing: the state of a document under edits, the edits and which of them are made, runs of
-//! an algorithm over the state, and the history that undo goes through. The code is a few plain types; what is
-//! defined stands in specs/, and laws of the definitions are the contracts of functions that do nothing.
+//! The definitions of editing: the state of a document under edits, the edits and which of them are
+//! made, runs of an algorithm over the state, and the history that undo goes through. The code is a
+//! few plain types; what is defined stands in specs/, and laws of the definitions are the contracts
+//! of functions that do nothing.
 //!
-//! The state is a labelled nested list with its live points (DOM Standard, "live ranges"), the overrides of
-//! commands and the flags (HTML Editing APIs), and what is known of the running command.
+//! The state is a labelled nested list with its live points (DOM Standard, "live ranges"), the
+//! overrides of commands and the flags (HTML Editing APIs), and what is known of the running
+//! command.
 #![tactic(auto)]
 
 ghost use Rattle.std.specs.Prelude.{◌≡◌};

@@ -1,5 +1,5 @@
--- What is looked at before an edit, by which the points and the overrides follow it. No public clause cites this
--- module.
+-- What is looked at before an edit, by which the points and the overrides follow it. No public
+-- clause cites this module.
 use Rattle.std.specs.Prelude.{◌≡◌, ◌≢◌, ℕ, ◌≤◌, true, false, List, length, take, Option, Some, None, IfSome, if◌then◌else◌}
 use Rattle.std.specs.Option.{option_map}
 use Rattle.dom_model.specs.declared.Content.{Content}
@@ -20,7 +20,9 @@ use Rattle.edit_parts.specs.declared.following.Removal.{Removal}
 -- ---- overrides
 
 abbrev pub range_in : Forest Content → Option Pair → Option ActiveRange
-range_in f pair = option_map (λ p. record { start = range_start (is_before f) p; end = range_end (is_before f) p }) pair
+range_in f pair =
+    option_map (λ p.
+    record { start = range_start (is_before f) p; end = range_end (is_before f) p }) pair
 
 -- the watch tells the active range, or no override is set
 abbrev pub Watches : Forest Content → LivePoints → List Setting → Option Watch → Type 0
@@ -28,15 +30,18 @@ Watches f points overrides None = overrides ≡ no_overrides
 Watches f points overrides (Some w) = w.range ≡ range_in f points.selection
 
 -- the overrides after a step from one forest and its selection to another
-abbrev pub unset_if_range_changed : Forest Content → LivePoints → Forest Content → LivePoints → List Setting → List Setting
+abbrev pub unset_if_range_changed : Forest Content → LivePoints → Forest Content → LivePoints
+    → List Setting → List Setting
 unset_if_range_changed f points g after overrides =
-    if range_changed (is_before f) (is_before g) points.selection after.selection then no_overrides else overrides
+    if range_changed (is_before f) (is_before g) points.selection after.selection then no_overrides
+    else overrides
 
 -- ---- points
 
--- Of each label at which a point stands the list tells whether it is in the tree of n; without a place, none is,
--- and none is the parent
-pub record IsRemoval (f : Forest Content) (points : LivePoints) (n p : ℕ) (r : Removal) : Type 0 where
+-- Of each label at which a point stands the list tells whether it is in the tree of n; without a
+-- place, none is, and none is the parent
+pub record IsRemoval (f : Forest Content) (points : LivePoints) (n p : ℕ)
+    (r : Removal) : Type 0 where
   pub few : r.count ≤ 36
   pub tells : TellsAlike points (take r.count r.gone) (preorder (tree_of f n))
   pub place : IfSome r.place (λ at. (at.label ≡ p) × (at.offset ≡ index_of f n))
@@ -45,5 +50,6 @@ pub record IsRemoval (f : Forest Content) (points : LivePoints) (n p : ℕ) (r :
 
 -- where n stands, or else no point stands at its parent nor at the other
 abbrev pub IsFrom : Forest Content → LivePoints → ℕ → ℕ → ℕ → Option Point → Type 0
-IsFrom f points n from to None = (has_label (labels_of points) from ≡ false) × (has_label (labels_of points) to ≡ false)
+IsFrom f points n from to None =
+    (has_label (labels_of points) from ≡ false) × (has_label (labels_of points) to ≡ false)
 IsFrom f points n from to (Some at) = (at.label ≡ from) × (at.offset ≡ index_of f n)

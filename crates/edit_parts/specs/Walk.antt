@@ -14,11 +14,13 @@ pub record IsIn (s : ArenaState) (top : NodeRef) (p : Place) : Type 0 where
   pub inside : IsWithin s.trees top.label p.node.label
   pub deep : p.depth + depth_of s.trees top.label ≡ depth_of s.trees p.node.label
 
--- the walk goes from a place to the next: the sums from the first on are its own share and those from the next on
+-- the walk goes from a place to the next: the sums from the first on are its own share and those
+-- from the next on
 pub record Goes (s : ArenaState) (top : NodeRef) (from to : Place) : Type 0 where
   pub place : IsIn s top to
   pub weighs : (w : ℕ → Content → ℕ) (c : Content) → content_of s.trees from.node.label ≡ Some c
-      → total_from w s.trees from.node.label ≡ w from.node.label c + total_from w s.trees to.node.label
+      → total_from w s.trees from.node.label
+      ≡ w from.node.label c + total_from w s.trees to.node.label
 
 -- the walk stops at a place: after it comes only what comes after the tree of top
 pub record Stops (s : ArenaState) (top : NodeRef) (at : Place) : Type 0 where

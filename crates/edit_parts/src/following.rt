@@ -23,8 +23,8 @@ pub fn stands_at(points: &Points, node: NodeRef) -> bool
     points.stands_at(node.label)
 }
 
-/// What becomes of the points where a tree is removed: those in it go to its place, if a point stands in it or at its
-/// parent.
+/// What becomes of the points where a tree is removed: those in it go to its place, if a point
+/// stands in it or at its parent.
 #[derive(Clone, Copy)]
 pub struct Removal {
     gone: [u32; MOST_POINTS],
@@ -36,7 +36,8 @@ pub struct Removal {
 fn labels_within(arena: &Arena, points: &Points, top: NodeRef) -> ([u32; MOST_POINTS], usize)
     requires { Holds arena.now top }
     ensures few { result.1 ≤ 36 }
-    ensures tells { TellsAlike points.now (take result.1 result.0) (preorder (tree_of arena.now.trees top.label)) }
+    ensures tells { TellsAlike points.now (take result.1 result.0)
+        (preorder (tree_of arena.now.trees top.label)) }
 {
     let standing = points.standing();
     let list = standing.as_slice();
@@ -87,7 +88,8 @@ impl Removal {
 pub fn adjust_inserted(arena: &Arena, points: &mut Points, parent: NodeRef, node: NodeRef)
     requires held { Holds arena.now node }
     requires fits { Fits (Insert parent.label (index_of arena.now.trees node.label)) points.old }
-    ensures { points.new ≡ mapped (Insert parent.label (index_of arena.now.trees node.label)) points.old }
+    ensures { points.new
+        ≡ mapped (Insert parent.label (index_of arena.now.trees node.label)) points.old }
 {
     if stands_at(points, parent) {
         points.inserted(parent.label, arena.index(node));

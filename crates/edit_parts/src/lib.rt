@@ -1,6 +1,6 @@
-//! The parts of a document under edits that look at its trees and its live points alone: the numbers of a tree and
-//! what it bears, the contents that edits make of others, how the points follow an edit, and the overrides, which
-//! are unset where the active range changes.
+//! The parts of a document under edits that look at its trees and its live points alone: the
+//! numbers of a tree and what it bears, the contents that edits make of others, how the points
+//! follow an edit, and the overrides, which are unset where the active range changes.
 #![tactic(auto)]
 
 mod following;
@@ -19,8 +19,9 @@ pub use overrides::{
 pub use texts::{fault_of, has_value, replaced, tail_of};
 pub use trees::{has_no_kept_leaves, is_in_document, tree_counts};
 
-/// How many nodes and characters a tree has; only the characters of texts count. `depth` is its height: how deep its
-/// deepest node is below its root. Of a document under edits it is a bound on that.
+/// How many nodes and characters a tree has; only the characters of texts count. `depth` is its
+/// height: how deep its deepest node is below its root. Of a document under edits it is a bound on
+/// that.
 #[derive(Clone, Copy, PartialEq, Eq, Debug)]
 pub struct Counts {
     pub nodes: u32,

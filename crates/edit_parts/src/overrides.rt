@@ -123,7 +123,8 @@ pub fn unset_overrides_if_range_changed(
 )
     requires settings { length overrides.old ≡ 32 }
     requires placed { IfSome points.now.selection (IsPlacedPair arena.now.trees) }
-    ensures { (f : Forest Content) (before : LivePoints) → Watches f before overrides.old watch → overrides.new
+    ensures { (f : Forest Content) (before : LivePoints) → Watches f before overrides.old watch
+        → overrides.new
         ≡ unset_if_range_changed f before arena.now.trees points.now overrides.old }
 {
     if let Some(watch) = watch {

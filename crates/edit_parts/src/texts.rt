@@ -51,8 +51,8 @@ fn spliced(
     Ok(Chars::from_vec(list))
 }
 
-/// The characters of a text with others in place of `count` of them; `None` where there are not as many, where they
-/// would stay the same, and where they would be more than 4,294,967,295.
+/// The characters of a text with others in place of `count` of them; `None` where there are not as
+/// many, where they would stay the same, and where they would be more than 4,294,967,295.
 pub fn replaced(
     alloc: Global,
     content: &Content,
@@ -60,7 +60,8 @@ pub fn replaced(
     count: u32,
     put: &[char],
 ) -> Result<Option<Chars>, AllocError>
-    ensures changes { IfOk result (λ words. is_some words ≡ may_change (Some content.now) at count put.now) }
+    ensures changes { IfOk result (λ words. is_some words
+        ≡ may_change (Some content.now) at count put.now) }
     ensures words { IfOk result (λ words. IfSome words (λ list. Content.Words list
         ≡ with_replaced at count put.now content.now)) }
     ensures short { IfOk result (λ words. IfSome words (λ list. length list < 2 ^ 32)) }

@@ -29,7 +29,8 @@ fn after(arena: &Arena, top: NodeRef, place: Place) -> Option<Place>
     ensures found { IfSome result (λ next. IsIn arena.now top next
         × ((w : ℕ → Content → ℕ) → total_after w arena.now.trees place.node.label
         ≡ total_from w arena.now.trees next.node.label)) }
-    ensures none { (result ≡ None) → (w : ℕ → Content → ℕ) → total_after w arena.now.trees place.node.label
+    ensures none { (result ≡ None) → (w : ℕ → Content → ℕ)
+        → total_after w arena.now.trees place.node.label
         ≡ total_after w arena.now.trees top.label }
 {
     arena.valid();
@@ -92,7 +93,8 @@ fn char_count(content: &Content) -> u64
 pub fn tree_counts(arena: &Arena, top: NodeRef) -> Counts
     requires { Holds arena.now top }
     ensures nodes { result.nodes ≡ total (λ _ _. 1) (tree_of arena.now.trees top.label) }
-    ensures chars { result.chars ≡ total (λ _ c. words_length c) (tree_of arena.now.trees top.label) }
+    ensures chars { result.chars
+        ≡ total (λ _ c. words_length c) (tree_of arena.now.trees top.label) }
     ensures depth { levels (tree_of arena.now.trees top.label) ≡ result.depth + 1 }
 {
     arena.valid();

@@ -39,7 +39,8 @@ step_inverse (step.Insert n p b) a = step.Remove n
 step_inverse (step.Move n p b) a = step.Move n (ref_at a (unwrap_or (parent_of a.trees n.label) 0))
     (option_map (ref_at a) (next_of a.trees n.label))
 step_inverse (step.SetText n words) a = step.SetText n (unwrap_or (chars_of a.trees n.label) words)
-step_inverse (step.SetAttributes n list) a = step.SetAttributes n (unwrap_or (attributes_of a.trees n.label) list)
+step_inverse (step.SetAttributes n list) a =
+    step.SetAttributes n (unwrap_or (attributes_of a.trees n.label) list)
 
 -- the nodes that a step names
 abbrev pub nodes_of : Step → List NodeRef
@@ -59,8 +60,8 @@ pub record StepFits (x : Step) (a : ArenaState) : Type 0 where
   pub slotted : IsSlotted a
   pub held : Each (Holds a) (nodes_of x)
 
--- steps applied from the last of a list to the first are changes of the forest and keep the slots, and so do
--- the steps that take them back
+-- steps applied from the last of a list to the first are changes of the forest and keep the slots,
+-- and so do the steps that take them back
 pub record GoBack (xs : List Step) (a : ArenaState) : Type 0 where
   pub fits : FitsBack applied Fits (changes_of xs) a.trees
   pub state : back step_applied xs a ≡ record a { trees = back applied (changes_of xs) a.trees }

@@ -1,8 +1,8 @@
-//! Inverse edits of an arena, as the steps of an undo log: each takes back one edit, and once it is applied it is the
-//! step that makes the edit again.
+//! Inverse edits of an arena, as the steps of an undo log: each takes back one edit, and once it is
+//! applied it is the step that makes the edit again.
 //!
-//! A step is a change of the labelled nested list that a contract sees of an arena. What changes do to forests that
-//! have more or fewer trees is stated in [`laws`].
+//! A step is a change of the labelled nested list that a contract sees of an arena. What changes do
+//! to forests that have more or fewer trees is stated in [`laws`].
 #![tactic(auto)]
 
 pub mod laws;

@@ -9,8 +9,9 @@ use std::sync::ledger::{Blank, Ledger};
 use step_count::Steps;
 use undo_log::Invertible;
 
-/// An edit of an arena that takes another one back. Remove becomes Insert and the reverse; Move exchanges the place of
-/// the node with the one that it has, and SetText and SetAttributes exchange the contents.
+/// An edit of an arena that takes another one back. Remove becomes Insert and the reverse; Move
+/// exchanges the place of the node with the one that it has, and SetText and SetAttributes exchange
+/// the contents.
 #[derive(Drop)]
 pub enum Step {
     /// Makes the tree of a node loose.

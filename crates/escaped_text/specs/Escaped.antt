@@ -2,7 +2,8 @@
 use Rattle.std.specs.Prelude.{ℕ, List, [], ◌∷◌, if◌then◌else◌, ◌==◌, codes, encode_utf8_all}
 use Rattle.std.specs.List.{flat_map}
 
--- LF, tab, `\`, `"`, CR and no-break space are printed as escapes, and every other character as itself
+-- LF, tab, `\`, `"`, CR and no-break space are printed as escapes, and every other character as
+-- itself
 abbrev pub escape_of : ℕ → List ℕ
 escape_of c =
     if c == 10 then codes "\\n"

@@ -1,4 +1,5 @@
-//! Texts printed on one line: line feeds, tabs, quotes and the like as escapes, everything else as itself, in UTF-8.
+//! Texts printed on one line: line feeds, tabs, quotes and the like as escapes, everything else as
+//! itself, in UTF-8.
 #![tactic(auto)]
 
 ghost use Rattle.std.specs.Prelude.{◌≡◌, ◌++◌, OnOk, encode_utf8, encode_utf8_all};
@@ -45,8 +46,8 @@ fn push_escape(bytes: &mut Vec<u8>, c: char) -> Result<(), AllocError>
     Ok(())
 }
 
-/// Appends a text on one line: LF as `\n`, tab as `\t`, `\` as `\\`, `"` as `\"`, CR as `\r` and U+00A0 as
-/// `\u{a0}`. After an `Err` a part of it stands in the bytes.
+/// Appends a text on one line: LF as `\n`, tab as `\t`, `\` as `\\`, `"` as `\"`, CR as `\r` and
+/// U+00A0 as `\u{a0}`. After an `Err` a part of it stands in the bytes.
 pub fn push_escaped(bytes: &mut Vec<u8>, text: &[char]) -> Result<(), AllocError>
     ensures ok { OnOk result (bytes.new.items ≡ bytes.old.items ++ escaped_bytes text.now) }
 {

@@ -16,8 +16,8 @@ pub record Prunes (k : ℕ → Bool) (f : Forest Content) : Type 0 where
 abbrev pub IsLeft : (ℕ → Bool) → Forest Content → ℕ → Type 0
 IsLeft k f l = 0 < count_of (pruned k f) l
 
--- The change fits what is left, is the same change there, and turns into the same change, which names only
--- what is left. The same labels are left afterwards
+-- The change fits what is left, is the same change there, and turns into the same change, which
+-- names only what is left. The same labels are left afterwards
 pub record GoesDown (k : ℕ → Bool) (x : Change) (f : Forest Content) : Type 0 where
   pub fits : Fits x (pruned k f)
   pub same : pruned k (applied x f) ≡ applied x (pruned k f)

@@ -33,22 +33,27 @@ pub record Beside (l : ℕ) (c : Content) (x : Change) (f : Forest Content) : Ty
   pub forest : IsForest (applied x f)
   pub below : IsBelow (applied x f) l
 
--- the same of changes one after another, from the last of a list to the first, beside any number of such nodes
-pub record BackBeside (l : ℕ) (cs : List Content) (xs : List Change) (f : Forest Content) : Type 0 where
+-- the same of changes one after another, from the last of a list to the first, beside any number of
+-- such nodes
+pub record BackBeside (l : ℕ) (cs : List Content) (xs : List Change)
+    (f : Forest Content) : Type 0 where
   pub fits : FitsBack applied Fits xs (with_leaves f l cs)
   pub same : back applied xs (with_leaves f l cs) ≡ with_leaves (back applied xs f) l cs
   pub below : IsBelow (back applied xs f) l
 
 -- and from the first to the last
-pub record ForthBeside (l : ℕ) (cs : List Content) (xs : List Change) (f : Forest Content) : Type 0 where
+pub record ForthBeside (l : ℕ) (cs : List Content) (xs : List Change)
+    (f : Forest Content) : Type 0 where
   pub fits : FitsForth applied Fits xs (with_leaves f l cs)
   pub same : forth applied xs (with_leaves f l cs) ≡ with_leaves (forth applied xs f) l cs
   pub below : IsBelow (forth applied xs f) l
 
--- the forest with the nodes that were made is one, and without them it is what it was; one more goes last
+-- the forest with the nodes that were made is one, and without them it is what it was; one more
+-- goes last
 pub record HasMade (l : ℕ) (cs : List Content) (f : Forest Content) : Type 0 where
   pub forest : IsForest (with_leaves f l cs)
   pub below : IsBelow (with_leaves f l cs) (l + length cs)
   pub whole : IsWhole (nat_le l) (with_leaves f l cs)
   pub without : pruned (nat_le l) (with_leaves f l cs) ≡ f
-  pub one_more : (c : Content) → with_leaf (with_leaves f l cs) (l + length cs) c ≡ with_leaves f l (cs ++ c ∷ [])
+  pub one_more : (c : Content) → with_leaf (with_leaves f l cs) (l + length cs) c
+      ≡ with_leaves f l (cs ++ c ∷ [])

@@ -7,12 +7,25 @@ use Rattle.html_names.specs.ElementNames.{is_one_of, is_heading, is_prohibited_c
 unfoldable pub contents : List (List (List ℕ) × List (List ℕ))
 contents =
     ((codes "colgroup" ∷ []), (codes "col" ∷ []))
-    ∷ ((codes "table" ∷ []), (codes "caption" ∷ codes "col" ∷ codes "colgroup" ∷ codes "tbody" ∷ codes "td" ∷ codes "tfoot" ∷ codes "th" ∷ codes "thead" ∷ codes "tr" ∷ []))
-    ∷ ((codes "tbody" ∷ codes "tfoot" ∷ codes "thead" ∷ []), (codes "td" ∷ codes "th" ∷ codes "tr" ∷ []))
+    ∷ (
+      (codes "table" ∷ []),
+      (codes "caption" ∷ codes "col" ∷ codes "colgroup" ∷ codes "tbody" ∷ codes "td"
+          ∷ codes "tfoot" ∷ codes "th" ∷ codes "thead" ∷ codes "tr" ∷ []),
+    )
+    ∷ (
+      (codes "tbody" ∷ codes "tfoot" ∷ codes "thead" ∷ []),
+      (codes "td" ∷ codes "th" ∷ codes "tr" ∷ []),
+    )
     ∷ ((codes "tr" ∷ []), (codes "td" ∷ codes "th" ∷ []))
     ∷ ((codes "dl" ∷ []), (codes "dt" ∷ codes "dd" ∷ []))
-    ∷ ((codes "dir" ∷ codes "ol" ∷ codes "ul" ∷ []), (codes "dir" ∷ codes "li" ∷ codes "ol" ∷ codes "ul" ∷ []))
-    ∷ ((codes "hgroup" ∷ []), (codes "h1" ∷ codes "h2" ∷ codes "h3" ∷ codes "h4" ∷ codes "h5" ∷ codes "h6" ∷ []))
+    ∷ (
+      (codes "dir" ∷ codes "ol" ∷ codes "ul" ∷ []),
+      (codes "dir" ∷ codes "li" ∷ codes "ol" ∷ codes "ul" ∷ []),
+    )
+    ∷ (
+      (codes "hgroup" ∷ []),
+      (codes "h1" ∷ codes "h2" ∷ codes "h3" ∷ codes "h4" ∷ codes "h5" ∷ codes "h6" ∷ []),
+    )
     ∷ []
 
 -- the children of a parent that lists them

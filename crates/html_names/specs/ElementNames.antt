@@ -252,7 +252,8 @@ unfoldable pub is_non_list_single_line_container : List ℕ → Bool
 is_non_list_single_line_container name = is_one_of non_list_container_names name
 
 unfoldable pub is_single_line_container : List ℕ → Bool
-is_single_line_container name = is_non_list_single_line_container name || is_one_of list_container_names name
+is_single_line_container name =
+    is_non_list_single_line_container name || is_one_of list_container_names name
 
 unfoldable pub is_formattable_block : List ℕ → Bool
 is_formattable_block name = is_one_of formattable_block_names name

@@ -63,7 +63,8 @@ pub fn is_box_name(property: &[u8]) -> bool
     is_one_of(&BOX_NAMES, property)
 }
 
-/// The properties that set a margin, a padding or a border, in the order in which a command takes them away.
+/// The properties that set a margin, a padding or a border, in the order in which a command takes
+/// them away.
 #[tactic(auto, unfolding(crate::specs::BoxNames::box_names, crate::specs::BoxNames::margin_names))]
 pub fn box_names() -> &'static [&'static [u8]]
     ensures { map (λ row. row.now) result.now ≡ properties.box_names }

@@ -69,7 +69,8 @@ static BOUND_NAMES: [&[u8]; 17] = [
 // Whether a parent that lists its children lists this one; `None` where the parent lists none.
 #[tactic(auto, unfolding(crate::specs::AllowedChildren::listed_children, crate::specs::AllowedChildren::contents))]
 fn is_listed(child: &[u8], parent: &[u8]) -> Option<bool>
-    ensures { result ≡ option_map (λ row. is_one_of row.1 child.now) (children.listed_children parent.now) }
+    ensures { result
+        ≡ option_map (λ row. is_one_of row.1 child.now) (children.listed_children parent.now) }
 {
     if is_one_of(&COLGROUP_NAMES, parent) {
         return Some(is_one_of(&COLGROUP_CONTENT, child));
@@ -113,8 +114,8 @@ fn is_kept_out(child: &[u8], parent: &[u8]) -> bool
         || (is_prohibited_child(child) && has_inline_contents(parent))
 }
 
-/// Whether an element of the name `child` is an allowed child of the name `parent` (HTML Editing APIs, "allowed
-/// child"), whatever stands above the parent.
+/// Whether an element of the name `child` is an allowed child of the name `parent` (HTML Editing
+/// APIs, "allowed child"), whatever stands above the parent.
 #[tactic(auto, unfolding(crate::specs::AllowedChildren::allowed_child, crate::specs::AllowedChildren::bound_names))]
 pub fn allowed_child(child: &[u8], parent: &[u8]) -> bool
     ensures { result ≡ children.allowed_child child.now parent.now }

@@ -113,9 +113,9 @@ pub fn is_void(name: &[u8]) -> bool
     is_one_of(&VOID_NAMES, name)
 }
 
-/// Whether an element of this name may stand in a page. Refused are the elements whose content isn't markup (`script`,
-/// `style`, `textarea`, `title`, `xmp`, `plaintext`, `iframe`, `noscript`), `template`, and the roots of other languages
-/// (`svg`, `math`).
+/// Whether an element of this name may stand in a page. Refused are the elements whose content
+/// isn't markup (`script`, `style`, `textarea`, `title`, `xmp`, `plaintext`, `iframe`, `noscript`),
+/// `template`, and the roots of other languages (`svg`, `math`).
 #[tactic(auto, unfolding(crate::specs::ElementNames::is_supported, crate::specs::ElementNames::refused_names))]
 pub fn is_supported(name: &[u8]) -> bool
     ensures { result ≡ names.is_supported name.now }
@@ -123,7 +123,8 @@ pub fn is_supported(name: &[u8]) -> bool
     !is_one_of(&REFUSED_NAMES, name)
 }
 
-/// Whether an element of this name may not stand in a paragraph (HTML Editing APIs, "prohibited paragraph child name").
+/// Whether an element of this name may not stand in a paragraph (HTML Editing APIs, "prohibited
+/// paragraph child name").
 #[tactic(auto, unfolding(crate::specs::ElementNames::is_prohibited_child, crate::specs::ElementNames::prohibited_child_names))]
 pub fn is_prohibited_child(name: &[u8]) -> bool
     ensures { result ≡ names.is_prohibited_child name.now }
@@ -131,8 +132,8 @@ pub fn is_prohibited_child(name: &[u8]) -> bool
     is_one_of(&PROHIBITED_CHILD_NAMES, name)
 }
 
-/// Whether an element of this name holds inline contents alone (HTML Editing APIs, "name of an element with inline
-/// contents").
+/// Whether an element of this name holds inline contents alone (HTML Editing APIs, "name of an
+/// element with inline contents").
 #[tactic(auto, unfolding(crate::specs::ElementNames::has_inline_contents, crate::specs::ElementNames::inline_contents_names))]
 pub fn has_inline_contents(name: &[u8]) -> bool
     ensures { result ≡ names.has_inline_contents name.now }
@@ -156,7 +157,8 @@ pub fn is_non_list_single_line_container(name: &[u8]) -> bool
     is_one_of(&NON_LIST_CONTAINER_NAMES, name)
 }
 
-/// Whether the name is that of a single-line container: a non-list one, `li`, `dt` or `dd` (HTML Editing APIs).
+/// Whether the name is that of a single-line container: a non-list one, `li`, `dt` or `dd` (HTML
+/// Editing APIs).
 #[tactic(auto, unfolding(crate::specs::ElementNames::is_single_line_container, crate::specs::ElementNames::list_container_names))]
 pub fn is_single_line_container(name: &[u8]) -> bool
     ensures { result ≡ names.is_single_line_container name.now }
@@ -164,7 +166,8 @@ pub fn is_single_line_container(name: &[u8]) -> bool
     is_non_list_single_line_container(name) || is_one_of(&LIST_CONTAINER_NAMES, name)
 }
 
-/// Whether the name is a formattable block name (HTML Editing APIs), one that the command formatBlock takes.
+/// Whether the name is a formattable block name (HTML Editing APIs), one that the command
+/// formatBlock takes.
 #[tactic(auto, unfolding(crate::specs::ElementNames::is_formattable_block, crate::specs::ElementNames::formattable_block_names))]
 pub fn is_formattable_block(name: &[u8]) -> bool
     ensures { result ≡ names.is_formattable_block name.now }

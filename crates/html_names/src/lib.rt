@@ -1,5 +1,5 @@
-//! What HTML and its editing commands say of names alone, in tables. The name of an element or of a style property
-//! is in lower case.
+//! What HTML and its editing commands say of names alone, in tables. The name of an element or of a
+//! style property is in lower case.
 #![tactic(auto)]
 
 mod activated;

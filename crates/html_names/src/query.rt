@@ -40,7 +40,8 @@ impl QueryKind {
         }
     }
 
-    /// The question that a word names, in lower case: `enabled`, `indeterm`, `state`, `supported` or `value`.
+    /// The question that a word names, in lower case: `enabled`, `indeterm`, `state`, `supported`
+    /// or `value`.
     pub fn from_word(word: &[u8]) -> Option<QueryKind>
         ensures { result ≡ query_kind_of word.now }
     {

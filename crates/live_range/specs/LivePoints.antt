@@ -1,5 +1,5 @@
--- What a contract sees of the points that are kept: the selection, the scratch pair, the marks in order, each with
--- its name, and the names that were ever given to a mark.
+-- What a contract sees of the points that are kept: the selection, the scratch pair, the marks in
+-- order, each with its name, and the names that were ever given to a mark.
 use Rattle.std.specs.Prelude.{◌≡◌, ℕ, ◌≤◌, Bool, IsTrue, zero, suc, List, [], ◌∷◌, ◌++◌, length, map, Option, Some, None, IfSome, nat_eq}
 use Rattle.std.specs.List.{list_any, flat_map, count_by, All, IsDistinct}
 use Rattle.std.specs.Option.{option_map}
@@ -47,7 +47,8 @@ option_labels None = []
 option_labels (Some p) = pair_labels p
 
 abbrev pub labels_of : LivePoints → List ℕ
-labels_of s = (option_labels s.selection ++ option_labels s.scratch) ++ flat_map (λ m. pair_labels m.1) s.marks
+labels_of s = (option_labels s.selection ++ option_labels s.scratch)
+    ++ flat_map (λ m. pair_labels m.1) s.marks
 
 -- how many points stand at one of the nodes
 abbrev pub points_at : List ℕ → LivePoints → ℕ

@@ -1,4 +1,5 @@
--- What an edit of a tree does to a point in it (DOM, "live ranges"), and what the kept points become.
+-- What an edit of a tree does to a point in it (DOM, "live ranges"), and what the kept points
+-- become.
 use Rattle.std.specs.Prelude.{ℕ, ◌+◌, ◌-◌, ◌<◌, ◌^◌, Bool, ◌&&◌, ◌==◌, nat_lt, nat_le, List, [], ◌∷◌, if◌then◌else◌}
 use Rattle.std.specs.List.{list_any}
 use Rattle.live_range.specs.declared.places.Point.{Point}
@@ -27,10 +28,11 @@ after_removal index offset = if nat_lt index offset then offset - 1 else offset
 -- an offset after `taken` characters at `at` gave way to `put` others
 abbrev pub after_replacement : ℕ → ℕ → ℕ → ℕ → ℕ
 after_replacement at taken put offset =
-    if nat_le offset at then offset else (if nat_le offset (at + taken) then at else (offset - taken) + put)
+    if nat_le offset at then offset
+    else (if nat_le offset (at + taken) then at else (offset - taken) + put)
 
--- move, preserving ranges, step 2: a point of a node that lost the child at `from` to another node, where it stands at
--- `to`. The points at both sides of the child go along with it
+-- move, preserving ranges, step 2: a point of a node that lost the child at `from` to another node,
+-- where it stands at `to`. The points at both sides of the child go along with it
 abbrev pub after_loss : Point → Point → Point → Point
 after_loss from to p =
     if p.offset == from.offset then to
@@ -43,7 +45,8 @@ has_label labels l = list_any (λ x. x == l) labels
 
 -- the point after the edit; a move preserves ranges by the steps of docs/ALGORITHMS.md
 abbrev pub adjusted : PointsEdit → Point → Point
-adjusted (Insert parent index) p = if p.label == parent then with_offset p (after_insert index p.offset) else p
+adjusted (Insert parent index) p =
+    if p.label == parent then with_offset p (after_insert index p.offset) else p
 adjusted (Remove tree parent index) p =
     if has_label tree p.label then record { label = parent; offset = index }
     else (if p.label == parent then with_offset p (after_removal index p.offset) else p)
@@ -56,9 +59,11 @@ adjusted (Move from to) p =
 adjusted (Replace node at taken put) p =
     if p.label == node then with_offset p (after_replacement at taken put p.offset) else p
 adjusted (Split node at tail parent index) p =
-    if p.label == node then (if nat_lt at p.offset then record { label = tail; offset = p.offset - at } else p)
+    if p.label == node then
+    (if nat_lt at p.offset then record { label = tail; offset = p.offset - at } else p)
     else (if p.label == parent then with_offset p (after_insert index p.offset) else p)
-adjusted (Grown at) p = if (p.label == at.label) && (p.offset == at.offset) then with_offset p (p.offset + 1) else p
+adjusted (Grown at) p =
+    if (p.label == at.label) && (p.offset == at.offset) then with_offset p (p.offset + 1) else p
 
 -- the labels of the nodes at which the edit moves points
 abbrev pub named_nodes : PointsEdit → List ℕ

@@ -1,5 +1,5 @@
--- Points by number: the rows. Pair 0 is the selection, pair 1 the scratch pair, and the marks follow in order; row 2k
--- is the anchor of pair k, and row 2k + 1 its focus.
+-- Points by number: the rows. Pair 0 is the selection, pair 1 the scratch pair, and the marks
+-- follow in order; row 2k is the anchor of pair k, and row 2k + 1 its focus.
 use Rattle.std.specs.Prelude.{◌≡◌, ℕ, zero, suc, ◌/◌, ◌%◌, ◌<◌, Bool, false, ◌==◌, nat_eq, List, Option, slice_get, if◌then◌else◌}
 use Rattle.std.specs.Int.{bit_at}
 use Rattle.std.specs.Option.{option_map, option_map_or}
@@ -31,7 +31,8 @@ stands_at p l r = option_map_or (λ x. x.label == l) (point_at p r) false
 abbrev pub has_row : RowSet → ℕ → Bool
 has_row rows r = nat_eq (bit_at rows.bits r) 1
 
--- what a contract sees of the rows by node: the labels that have a list of rows, which may be empty, each with its list
+-- what a contract sees of the rows by node: the labels that have a list of rows, which may be
+-- empty, each with its list
 abbrev pub RowsByNode : Type 0
 RowsByNode = List (ℕ × RowSet)
 

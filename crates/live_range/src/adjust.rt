@@ -269,12 +269,16 @@ impl Adjustment<'_> {
         requires few { places.old.count ≤ 16 }
         requires fits { PlacesFit (edit_of self.now) places.old }
         requires listed { Lists places.old nodes.old }
-        ensures selection { places.new.selection ≡ option_map (adjusted_pair (edit_of self.now)) places.old.selection }
-        ensures scratch { places.new.scratch ≡ option_map (adjusted_pair (edit_of self.now)) places.old.scratch }
-        ensures marks { marks_of places.new ≡ map (at_place (adjusted_pair (edit_of self.now))) (marks_of places.old) }
+        ensures selection { places.new.selection
+            ≡ option_map (adjusted_pair (edit_of self.now)) places.old.selection }
+        ensures scratch { places.new.scratch
+            ≡ option_map (adjusted_pair (edit_of self.now)) places.old.scratch }
+        ensures marks { marks_of places.new
+            ≡ map (at_place (adjusted_pair (edit_of self.now))) (marks_of places.old) }
         ensures count { places.new.count ≡ places.old.count }
         ensures listed { Lists places.new nodes.new }
-        ensures steps { steps.new ≡ steps.old + count_by (has_label (named_nodes (edit_of self.now)))
+        ensures steps { steps.new
+            ≡ steps.old + count_by (has_label (named_nodes (edit_of self.now)))
             (place_labels places.old) }
     {
         let mut rest = self.rows(nodes);

@@ -10,8 +10,10 @@ use crate::places::{Pair, Places, Point};
 fn enter_pair(nodes: &mut Nodes, number: u8, pair: Pair)
     requires number { number < 32 }
     requires room { length nodes.old + 2 ≤ 128 }
-    ensures listed { (l r : ℕ) → listed_at nodes.new l r ≡ (if l == pair.focus.label && r == 2 * number + 1
-        then true else if l == pair.anchor.label && r == 2 * number then true else listed_at nodes.old l r) }
+    ensures listed { (l r : ℕ) → listed_at nodes.new l r
+        ≡ (if l == pair.focus.label && r == 2 * number + 1
+        then true else if l == pair.anchor.label && r == 2 * number then true
+        else listed_at nodes.old l r) }
     ensures labels { length nodes.new ≤ length nodes.old + 2 }
 {
     nodes.enter(pair.anchor.label, 2 * number);
@@ -49,7 +51,8 @@ pub(crate) fn list_pair(nodes: &mut Nodes, places: &Places, number: u8, was: Opt
     requires few { places.now.count ≤ 16 }
     requires number { number < 32 }
     ensures listed { (before : Places) → Lists before nodes.old → pair_at before number ≡ was
-        → ((k : ℕ) → (k == number) ≡ false → pair_at places.now k ≡ pair_at before k) → Lists places.now nodes.new }
+        → ((k : ℕ) → (k == number) ≡ false → pair_at places.now k ≡ pair_at before k)
+        → Lists places.now nodes.new }
     ensures labels { length nodes.new ≤ length nodes.old + 2 }
 {
     if !nodes.has_room(2) {
@@ -72,8 +75,10 @@ pub(crate) fn move_point(places: &mut Places, nodes: &mut Nodes, row: u8, point:
     requires row { row < 64 }
     requires there { IsSome (point_at places.old row) }
     requires listed { Lists places.old nodes.old }
-    ensures points { (r : ℕ) → point_at places.new r ≡ (if r == row then Some point else point_at places.old r) }
-    ensures names { map (λ m. m.name) (marks_of places.new) ≡ map (λ m. m.name) (marks_of places.old) }
+    ensures points { (r : ℕ) → point_at places.new r
+        ≡ (if r == row then Some point else point_at places.old r) }
+    ensures names { map (λ m. m.name) (marks_of places.new)
+        ≡ map (λ m. m.name) (marks_of places.old) }
     ensures count { places.new.count ≡ places.old.count }
     ensures listed { Lists places.new nodes.new }
     ensures labels { length nodes.new ≤ length nodes.old + 1 }

@@ -42,7 +42,8 @@ pub(crate) fn set_pair(places: &mut Places, place: usize, pair: Pair)
 pub(crate) fn push_mark(places: &mut Places, mark: MarkPlace)
     requires { places.old.count < 16 }
     ensures marks { marks_of places.new ≡ marks_of places.old ++ mark ∷ [] }
-    ensures others { places.new ≡ record places.old { marks = places.new.marks; count = places.old.count + 1 } }
+    ensures others { places.new
+        ≡ record places.old { marks = places.new.marks; count = places.old.count + 1 } }
 {
     places.marks[places.count as usize] = mark;
     places.count += 1;
@@ -60,7 +61,8 @@ pub(crate) fn remove_mark(places: &mut Places, place: usize)
     requires few { places.old.count ≤ 16 }
     requires there { place < places.old.count }
     ensures marks { marks_of places.new ≡ remove (marks_of places.old) place }
-    ensures others { places.new ≡ record places.old { marks = places.new.marks; count = places.old.count - 1 } }
+    ensures others { places.new
+        ≡ record places.old { marks = places.new.marks; count = places.old.count - 1 } }
 {
     let count = places.count as usize;
     forget(&mut places.marks[..count], place);

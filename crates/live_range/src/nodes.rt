@@ -7,8 +7,9 @@ use indexmap::IndexMap;
 use std::alloc::{AllocError, Global};
 use std::marker::Model;
 
-// A label whose rows have all left keeps its place in the map, since the map doesn't say that a removal gives room
-// back. When a label more than this many is met, the rows are listed anew, at most 36 labels.
+// A label whose rows have all left keeps its place in the map, since the map doesn't say that a
+// removal gives room back. When a label more than this many is met, the rows are listed anew, at
+// most 36 labels.
 const MOST_LABELS: usize = 128;
 
 #[derive(Drop)]

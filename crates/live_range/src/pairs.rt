@@ -35,8 +35,10 @@ pub(crate) fn point_of(places: &Places, row: u8) -> Option<Point>
 fn put_pair(places: &mut Places, number: u8, pair: Pair)
     requires few { places.old.count ≤ 16 }
     requires there { IsSome (pair_at places.old number) }
-    ensures pairs { (k : ℕ) → pair_at places.new k ≡ (if k == number then Some pair else pair_at places.old k) }
-    ensures names { map (λ m. m.name) (marks_of places.new) ≡ map (λ m. m.name) (marks_of places.old) }
+    ensures pairs { (k : ℕ) → pair_at places.new k
+        ≡ (if k == number then Some pair else pair_at places.old k) }
+    ensures names { map (λ m. m.name) (marks_of places.new)
+        ≡ map (λ m. m.name) (marks_of places.old) }
     ensures count { places.new.count ≡ places.old.count }
 {
     match number {
@@ -48,7 +50,8 @@ fn put_pair(places: &mut Places, number: u8, pair: Pair)
 
 // The pair with the point of one side changed.
 fn with_side(pair: Pair, row: u8, point: Point) -> Pair
-    ensures { (r : ℕ) → r / 2 ≡ row / 2 → side r result ≡ (if r == row then point else side r pair) }
+    ensures { (r : ℕ) → r / 2 ≡ row / 2 → side r result
+        ≡ (if r == row then point else side r pair) }
 {
     if row % 2 == 0 {
         Pair {
@@ -67,8 +70,10 @@ fn with_side(pair: Pair, row: u8, point: Point) -> Pair
 pub(crate) fn put_point(places: &mut Places, row: u8, point: Point)
     requires few { places.old.count ≤ 16 }
     requires there { IsSome (point_at places.old row) }
-    ensures points { (r : ℕ) → point_at places.new r ≡ (if r == row then Some point else point_at places.old r) }
-    ensures names { map (λ m. m.name) (marks_of places.new) ≡ map (λ m. m.name) (marks_of places.old) }
+    ensures points { (r : ℕ) → point_at places.new r
+        ≡ (if r == row then Some point else point_at places.old r) }
+    ensures names { map (λ m. m.name) (marks_of places.new)
+        ≡ map (λ m. m.name) (marks_of places.old) }
     ensures count { places.new.count ≡ places.old.count }
 {
     if let Some(pair) = pair_of(places, row / 2) {

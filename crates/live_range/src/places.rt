@@ -1,14 +1,15 @@
 //! Points, and the places of all of them as one plain value.
 
-/// A place in a tree: the label of a node and an offset in it, which counts the children of an element or of the
-/// document, and the characters of a text or a comment.
+/// A place in a tree: the label of a node and an offset in it, which counts the children of an
+/// element or of the document, and the characters of a text or a comment.
 #[derive(Clone, Copy, PartialEq, Eq, Debug)]
 pub struct Point {
     pub label: u32,
     pub offset: u32,
 }
 
-/// Two points: where a selection was begun and where it was drawn to. Either may come first in the tree.
+/// Two points: where a selection was begun and where it was drawn to. Either may come first in the
+/// tree.
 #[derive(Clone, Copy, PartialEq, Eq, Debug)]
 pub struct Pair {
     pub anchor: Point,

@@ -103,7 +103,8 @@ fn empty_places() -> Places
 }
 
 impl Points {
-    /// No selection, no scratch pair and no marks, with the room that all later changes of points need.
+    /// No selection, no scratch pair and no marks, with the room that all later changes of points
+    /// need.
     pub fn new(alloc: Global) -> Result<Points, AllocError>
         ensures { IfOk result (λ p. p ≡ no_points) }
     {
@@ -271,11 +272,13 @@ impl Points {
         standing_labels(&self.places)
     }
 
-    // The steps are as many as points stand at the nodes that the edit names, however many others there are.
+    // The steps are as many as points stand at the nodes that the edit names, however many others
+    // there are.
     fn adjust_counted<L: Ledger>(&mut self, edit: &Adjustment, steps: &mut Steps<L>)
         requires { Fits (edit_of edit.now) self.old }
         ensures adjusted { self.new ≡ mapped (edit_of edit.now) self.old }
-        ensures steps { steps.new ≡ steps.old + points_at (named_nodes (edit_of edit.now)) self.old }
+        ensures steps { steps.new
+            ≡ steps.old + points_at (named_nodes (edit_of edit.now)) self.old }
     {
         edit.places(&mut self.places, &mut self.nodes, steps);
     }
@@ -305,8 +308,8 @@ impl Points {
         self.adjust(&Adjustment::Insert { parent, index });
     }
 
-    /// A tree was taken out of `parent` at `index`. Of each label at which a point stands `gone` has to tell
-    /// whether it is of that tree; other labels may be in it or not.
+    /// A tree was taken out of `parent` at `index`. Of each label at which a point stands `gone`
+    /// has to tell whether it is of that tree; other labels may be in it or not.
     pub fn removed(&mut self, gone: &[u32], parent: u32, index: u32)
         ensures { (tree : List ℕ) → TellsAlike self.old gone.now tree → self.new
             ≡ mapped (Remove tree parent index) self.old }
@@ -318,8 +321,8 @@ impl Points {
         });
     }
 
-    /// A node was taken from one parent and place to another. The offset of `to` counts its new parent's children
-    /// without it. Points inside the node stay where they are.
+    /// A node was taken from one parent and place to another. The offset of `to` counts its new
+    /// parent's children without it. Points inside the node stay where they are.
     pub fn moved(&mut self, from: Point, to: Point)
         requires { Fits (Move from to) self.old }
         ensures { self.new ≡ mapped (Move from to) self.old }
@@ -340,8 +343,9 @@ impl Points {
         });
     }
 
-    /// The characters of the text `node` past `at` went to the new text `tail` (DOM Standard, "split a Text node"),
-    /// which stands right after `node` in `parent`. `index` is that of `node`.
+    /// The characters of the text `node` past `at` went to the new text `tail` (DOM Standard,
+    /// "split a Text node"), which stands right after `node` in `parent`. `index` is that of
+    /// `node`.
     pub fn split(&mut self, node: u32, at: u32, tail: u32, parent: u32, index: u32)
         requires { Fits (Split node at tail parent index) self.old }
         ensures { self.new ≡ mapped (Split node at tail parent index) self.old }

@@ -26,7 +26,8 @@ impl RowSet {
 
     pub(crate) fn without(self, row: u8) -> RowSet
         requires { row < 64 }
-        ensures rows { (r : ℕ) → r < 64 → has_row result r ≡ (if r == row then false else has_row self r) }
+        ensures rows { (r : ℕ) → r < 64 → has_row result r
+            ≡ (if r == row then false else has_row self r) }
         ensures less { has_row self row ≡ true → result.bits < self.bits }
     {
         RowSet {

@@ -36,23 +36,28 @@ prior_link slots parent None = option_and_then (λ n. n.last) (slice_index_or sl
 prior_link slots parent (Some b) = option_and_then (λ n. n.prev) (slice_index_or slots b.slot None)
 
 -- the later neighbour of `at`, or else the first child of the parent, is `to`
-abbrev pub next_changed : List (Option Node) → NodeRef → Option NodeRef → Option NodeRef → List (Option Node)
+abbrev pub next_changed : List (Option Node) → NodeRef → Option NodeRef → Option NodeRef
+    → List (Option Node)
 next_changed slots parent None to = change slots parent.slot (with_first to)
 next_changed slots parent (Some at) to = change slots at.slot (with_next to)
 
 -- the earlier neighbour of `at`, or else the last child of the parent, is `to`
-abbrev pub prev_changed : List (Option Node) → NodeRef → Option NodeRef → Option NodeRef → List (Option Node)
+abbrev pub prev_changed : List (Option Node) → NodeRef → Option NodeRef → Option NodeRef
+    → List (Option Node)
 prev_changed slots parent None to = change slots parent.slot (with_last to)
 prev_changed slots parent (Some at) to = change slots at.slot (with_prev to)
 
 -- the slots after a node is put between two neighbours
-abbrev pub linked_slots : List (Option Node) → NodeRef → Option NodeRef → Option NodeRef → NodeRef → List (Option Node)
+abbrev pub linked_slots : List (Option Node) → NodeRef → Option NodeRef → Option NodeRef → NodeRef
+    → List (Option Node)
 linked_slots slots parent prior before node =
-    prev_changed (next_changed (change slots node.slot (placed (Some parent) prior before)) parent prior
+    prev_changed (next_changed (change slots node.slot (placed (Some parent) prior before)) parent
+    prior
     (Some node)) parent before (Some node)
 
 -- the slots after a node is taken out from between two neighbours
 abbrev pub unlinked_slots : List (Option Node) → NodeRef → Option NodeRef → Option NodeRef → NodeRef
     → List (Option Node)
 unlinked_slots slots parent prior after node =
-    prev_changed (next_changed (change slots node.slot (placed None None None)) parent prior after) parent after prior
+    prev_changed (next_changed (change slots node.slot (placed None None None)) parent prior after)
+    parent after prior

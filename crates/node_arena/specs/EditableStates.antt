@@ -1,4 +1,5 @@
--- The states of the attribute contenteditable, and the nodes that take the host that their parent offers.
+-- The states of the attribute contenteditable, and the nodes that take the host that their parent
+-- offers.
 use Rattle.std.specs.Prelude.{Bool, true, false, not, ◌&&◌, ◌||◌, if◌then◌else◌}
 use Rattle.dom_model.specs.declared.Content.{Content}
 use Rattle.dom_model.specs.Contents.{is_element}
@@ -7,7 +8,8 @@ use Rattle.node_arena.specs.declared.hosts.EditableState.{EditableState}
 use Rattle.node_arena.specs.declared.hosts.EditableState.TheVariants.{True, False, Inherit}
 
 unfoldable pub editable_state_of : Content → EditableState
-editable_state_of c = if is_true_state c then True else (if is_false_state c then False else Inherit)
+editable_state_of c =
+    if is_true_state c then True else (if is_false_state c then False else Inherit)
 
 unfoldable pub is_true : EditableState → Bool
 is_true True = true

@@ -36,7 +36,16 @@ pub record Shows (s : ArenaState) (l : ℕ) (n : Node) : Type 0 where
 
 -- a node without links
 abbrev pub leaf_node : ℕ → Content → Node
-leaf_node l c = record { label = l; content = c; parent = None; first = None; last = None; prev = None; next = None }
+leaf_node l c =
+    record {
+      label = l;
+      content = c;
+      parent = None;
+      first = None;
+      last = None;
+      prev = None;
+      next = None;
+    }
 
 -- the new node has the next label and this content, and is the last loose tree; every other node
 -- stays held, and no other node is
@@ -65,14 +74,16 @@ pub record Drops (old new : ArenaState) (r : NodeRef) : Type 0 where
   pub held : (q : NodeRef) → Holds new q → Holds old q
   pub keeps : (q : NodeRef) → Holds old q → q.label ≢ r.label → Holds new q
 
--- the tree of r is given up: its labels stay spent, none of its nodes is held, and all others stay held
+-- the tree of r is given up: its labels stay spent, none of its nodes is held, and all others stay
+-- held
 pub record DropsTree (old new : ArenaState) (r : NodeRef) : Type 0 where
   pub trees : new.trees ≡ without old.trees r.label
   pub next : new.next ≡ old.next
   pub cap : new.cap ≡ old.cap
   pub held : (q : NodeRef) → Holds new q → Holds old q
   pub gone : (q : NodeRef) → Holds new q → count_of (tree_of old.trees r.label) q.label ≡ 0
-  pub keeps : (q : NodeRef) → Holds old q → count_of (tree_of old.trees r.label) q.label ≡ 0 → Holds new q
+  pub keeps : (q : NodeRef) → Holds old q → count_of (tree_of old.trees r.label) q.label ≡ 0
+      → Holds new q
 
 -- the nodes of this label or a greater one are given up, with labels that stay spent, and no others
 pub record DropsMade (old new : ArenaState) (first : ℕ) : Type 0 where

@@ -16,7 +16,8 @@ kind_in (content.Remark chars) = Remark
 abbrev pub kind_of : Forest Content → ℕ → Option Kind
 kind_of f l = option_map kind_in (content_of f l)
 
--- the kinds of nodes with a name and attributes, of those that may have children, and of those with characters
+-- the kinds of nodes with a name and attributes, of those that may have children, and of those with
+-- characters
 abbrev pub is_element_kind : Kind → Bool
 is_element_kind Element = true
 is_element_kind _ = false

@@ -1,4 +1,5 @@
--- What can be read of labelled nodes, whatever holds them: `holds` says which references name a node.
+-- What can be read of labelled nodes, whatever holds them: `holds` says which references name a
+-- node.
 use Rattle.std.specs.Prelude.{◌^◌, ◌≡◌, ℕ, ◌<◌, ◌≤◌, Option, Some, None, IfSome}
 use Rattle.std.specs.Option.{option_map}
 use Rattle.dom_model.specs.declared.Content.{Content}
@@ -11,7 +12,8 @@ abbrev pub label : Option NodeRef → Option ℕ
 label o = option_map (λ r. r.label) o
 
 -- the link names the node that has this label, if there is one
-pub record Names (holds : NodeRef → Type 0) (link : Option NodeRef) (named : Option ℕ) : Type 0 where
+pub record Names (holds : NodeRef → Type 0) (link : Option NodeRef)
+    (named : Option ℕ) : Type 0 where
   pub is : label link ≡ named
   pub held : IfSome link (λ r. holds r)
 

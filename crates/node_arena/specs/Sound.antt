@@ -10,9 +10,11 @@ use Rattle.node_arena.specs.Nodes.{node_for, label_in, trees_of}
 pub record IsSoundArena (slots : List (Option Node)) (next cap : ℕ) : Type 0 where
   pub trees : Forest Content
   pub at : ℕ → ℕ
-  pub stored : (l : ℕ) (s : Seen Content) → seek None trees l ≡ Some s → slice_index_or slots (at l) None
+  pub stored : (l : ℕ) (s : Seen Content) → seek None trees l ≡ Some s
+      → slice_index_or slots (at l) None
       ≡ Some (node_for trees at l s)
-  pub back : (slot : ℕ) (n : Node) → slice_index_or slots slot None ≡ Some n → (0 < count_of trees n.label)
+  pub back : (slot : ℕ) (n : Node) → slice_index_or slots slot None ≡ Some n
+      → (0 < count_of trees n.label)
       × (slot ≡ at n.label)
   pub distinct : IsDistinct trees
   pub rising : RisesFrom 0 trees
@@ -20,8 +22,8 @@ pub record IsSoundArena (slots : List (Option Node)) (next cap : ℕ) : Type 0 w
   pub few : total (λ _ _. 1) trees ≤ next
   pub capped : next ≤ cap
 
--- and the document stands in the first slot, each node is one that may be, and the index tells the slot of
--- each label that is held
+-- and the document stands in the first slot, each node is one that may be, and the index tells the
+-- slot of each label that is held
 pub record IsArena (slots : List (Option Node)) (next cap : ℕ) (index : List ℕ) : Type 0 where
   pub sound : IsSoundArena slots next cap
   pub document : slice_index_or (map label_in slots) 0 None ≡ Some 0
@@ -29,9 +31,12 @@ pub record IsArena (slots : List (Option Node)) (next cap : ℕ) (index : List �
   pub small : cap < 2 ^ 32
   pub nodes : (l : ℕ) (s : Seen Content) → seek None (trees_of slots next) l ≡ Some s → IsNode l s
   pub long : length index ≡ next
-  pub indexed : (slot l : ℕ) → slice_index_or (map label_in slots) slot None ≡ Some l → slice_index_or index l 0 ≡ slot
+  pub indexed : (slot l : ℕ) → slice_index_or (map label_in slots) slot None ≡ Some l
+      → slice_index_or index l 0 ≡ slot
 
 -- each node in a slot has a label that the index leads to that slot, and none past its end
 pub record IsIndexed (slots : List (Option Node)) (index : List ℕ) : Type 0 where
-  pub below : (slot : ℕ) (n : Node) → slice_index_or slots slot None ≡ Some n → n.label < length index
-  pub at : (slot : ℕ) (n : Node) → slice_index_or slots slot None ≡ Some n → slice_index_or index n.label 0 ≡ slot
+  pub below : (slot : ℕ) (n : Node) → slice_index_or slots slot None ≡ Some n
+      → n.label < length index
+  pub at : (slot : ℕ) (n : Node) → slice_index_or slots slot None ≡ Some n
+      → slice_index_or index n.label 0 ≡ slot

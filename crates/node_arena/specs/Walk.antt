@@ -13,11 +13,13 @@ pub record IsPlace (s : ArenaState) (p : Place) : Type 0 where
   pub inside : IsWithin s.trees 0 p.node.label
   pub deep : p.depth ≡ depth_of s.trees p.node.label
 
--- the walk goes from a place to the next: the sums from the first on are its own share and those from the next on
+-- the walk goes from a place to the next: the sums from the first on are its own share and those
+-- from the next on
 pub record Goes (s : ArenaState) (from to : Place) : Type 0 where
   pub place : IsPlace s to
   pub weighs : (w : ℕ → Content → ℕ) (c : Content) → content_of s.trees from.node.label ≡ Some c
-      → total_from w s.trees from.node.label ≡ w from.node.label c + total_from w s.trees to.node.label
+      → total_from w s.trees from.node.label
+      ≡ w from.node.label c + total_from w s.trees to.node.label
 
 -- the walk stops at a place: after it come only the loose trees
 pub record Stops (s : ArenaState) (at : Place) : Type 0 where

@@ -36,7 +36,8 @@ impl Arena {
         ensures found { IfSome result (λ next. IsPlace self.now next
             × ((w : ℕ → Content → ℕ) → total_after w self.now.trees place.node.label
             ≡ total_from w self.now.trees next.node.label)) }
-        ensures none { (result ≡ None) → (w : ℕ → Content → ℕ) → total_after w self.now.trees place.node.label
+        ensures none { (result ≡ None) → (w : ℕ → Content → ℕ)
+            → total_after w self.now.trees place.node.label
             ≡ total_after w self.now.trees 0 }
     {
         self.valid();
@@ -72,7 +73,8 @@ impl Arena {
         }
     }
 
-    /// How many nodes the document has, itself among them. The loose trees don't count. It walks the document.
+    /// How many nodes the document has, itself among them. The loose trees don't count. It walks
+    /// the document.
     pub fn node_count(&self) -> u32
         ensures { result ≡ node_count self.now.trees }
     {

@@ -23,8 +23,8 @@ use std::sync::ledger::{Blank, Ledger};
 use step_count::Steps;
 
 impl Arena {
-    /// Puts a loose tree under a parent, before one of its children or at the end: DOM's insert. Each slot that it
-    /// touches is a step.
+    /// Puts a loose tree under a parent, before one of its children or at the end: DOM's insert.
+    /// Each slot that it touches is a step.
     pub fn link<L: Ledger>(
         &mut self,
         parent: NodeRef,
@@ -148,8 +148,8 @@ impl Arena {
         self.drop_leaves::<Brand>(node, Blank::new(1));
     }
 
-    /// Gives up every node of this label or a greater one: whole loose trees. Their labels stay spent. It looks at the
-    /// labels from this one on, and at no others.
+    /// Gives up every node of this label or a greater one: whole loose trees. Their labels stay
+    /// spent. It looks at the labels from this one on, and at no others.
     pub fn drop_made(&mut self, first: u32)
         requires inner { 0 < first }
         requires whole { IsWhole (nat_le first) self.old.trees }
@@ -169,8 +169,8 @@ impl Arena {
         self.next = label;
     }
 
-    /// Sets the next label on. The labels before it that were not drawn yet never name a node. It takes memory for
-    /// the place of each of them; without that nothing changes.
+    /// Sets the next label on. The labels before it that were not drawn yet never name a node. It
+    /// takes memory for the place of each of them; without that nothing changes.
     pub fn skip_to(&mut self, label: u32) -> Result<(), AllocError>
         requires low { self.old.next ≤ label }
         requires high { label ≤ self.old.cap }
@@ -203,7 +203,8 @@ fn give_up(nodes: &mut Slab<Node>, slot: usize, label: u32)
     }
 }
 
-// Empties the slots that have a node of this label or a greater one. The index tells the slot of each label.
+// Empties the slots that have a node of this label or a greater one. The index tells the slot of
+// each label.
 fn give_up_from(nodes: &mut Slab<Node>, index: &[u32], first: u32, next: u32)
     requires long { length index.now ≡ next }
     requires indexed { IsIndexed nodes.old.slots index.now }
@@ -231,7 +232,8 @@ fn swap_chars_at(nodes: &mut Slab<Node>, slot: u32, words: &mut Chars)
     ensures nodes { nodes.new ≡ record nodes.old {
       slots = change nodes.old.slots slot (with_content (with_chars words.old));
     } }
-    ensures words { option_and_then (λ n. chars_in n.content) (get nodes.old slot) ≡ Some words.new }
+    ensures words { option_and_then (λ n. chars_in n.content) (get nodes.old slot)
+        ≡ Some words.new }
 {
     swap_chars(&mut nodes[slot as usize].content, words);
 }
@@ -252,7 +254,8 @@ fn swap_attributes_at(nodes: &mut Slab<Node>, slot: u32, list: &mut Attributes)
     ensures nodes { nodes.new ≡ record nodes.old {
       slots = change nodes.old.slots slot (with_content (with_attributes list.old));
     } }
-    ensures list { option_and_then (λ n. attributes_in n.content) (get nodes.old slot) ≡ Some list.new }
+    ensures list { option_and_then (λ n. attributes_in n.content) (get nodes.old slot)
+        ≡ Some list.new }
 {
     swap_list(&mut nodes[slot as usize].content, list);
 }

@@ -45,7 +45,8 @@ impl Arena {
     }
 }
 
-// The state of the attribute contenteditable: in the inherit state are other values, and a node without the attribute.
+// The state of the attribute contenteditable: in the inherit state are other values, and a node
+// without the attribute.
 #[derive(Clone, Copy)]
 enum EditableState {
     True,
@@ -99,7 +100,8 @@ fn spells(text: &[char], word: &[u8]) -> bool
 
 // The value of the attribute contenteditable.
 fn contenteditable(content: &Content) -> Option<&Chars>
-    ensures { option_map (λ value. map to_ascii_lowercase value.now) result ≡ contenteditable content.now }
+    ensures { option_map (λ value. map to_ascii_lowercase value.now) result
+        ≡ contenteditable content.now }
 {
     match content {
         Content::Element { attributes, .. } => attributes.get(b"contenteditable"),
@@ -107,8 +109,8 @@ fn contenteditable(content: &Content) -> Option<&Chars>
     }
 }
 
-// Whether a node in this state has the host that its parent offers: it has no state of its own, and it or its
-// parent is an element.
+// Whether a node in this state has the host that its parent offers: it has no state of its own, and
+// it or its parent is an element.
 #[tactic(auto, unfolding(crate::specs::EditableStates::editable_state_of))]
 fn takes_host(own: EditableState, content: &Content, above: &Content) -> bool
     requires { own ≡ editable_state_of content.now }

@@ -1,13 +1,14 @@
 //! The nodes of a document and of the loose trees beside it.
 //!
-//! A node stands in a slot of the arena with its content and with links to its parent, its first and last child and
-//! both neighbours, so that each move from node to node, each link and each unlink touches a fixed number of slots.
-//! A slot that became free is used again under another label; a [`NodeRef`] carries both, and so an old reference
-//! is told from a new one. Contracts see an arena as labelled nested lists (`dom_model`), and of slots only which
-//! node they hold.
+//! A node stands in a slot of the arena with its content and with links to its parent, its first
+//! and last child and both neighbours, so that each move from node to node, each link and each
+//! unlink touches a fixed number of slots. A slot that became free is used again under another
+//! label; a [`NodeRef`] carries both, and so an old reference is told from a new one. Contracts see
+//! an arena as labelled nested lists (`dom_model`), and of slots only which node they hold.
 //!
-//! The names stand for these terms of the DOM standard: words are the data of a Text node, a remark is a Comment node,
-//! `link` inserts a node, and `unlink` removes it. A loose tree is one whose root has no parent and isn't the document.
+//! The names stand for these terms of the DOM standard: words are the data of a Text node, a remark
+//! is a Comment node, `link` inserts a node, and `unlink` removes it. A loose tree is one whose
+//! root has no parent and isn't the document.
 #![tactic(auto)]
 
 ghost use Rattle.std.specs.Prelude.{◌≡◌, ◌≢◌, ℕ, ◌+◌, ◌<◌, ◌≤◌, ◌^◌, IsTrue, ◌↔◌, Some, None, Err, IsSome, IfSome, IfOk, OnOk, OnErr, length, true};
@@ -188,7 +189,8 @@ impl Arena {
     /// Makes a loose element. `Full` is looked at before memory.
     pub fn make_element(&mut self, name: Name, attributes: Attributes) -> Result<NodeRef, MakeFault>
         ensures full { (self.old.next ≡ self.old.cap) ↔ (result ≡ Err MakeFault.Full) }
-        ensures made { IfOk result (λ r. Makes self.old self.new r (Content.Element name attributes)) }
+        ensures made { IfOk result (λ r.
+            Makes self.old self.new r (Content.Element name attributes)) }
         ensures err { OnErr result (self.new ≡ self.old) }
     {
         self.make(Content::Element { name, attributes })

@@ -19,7 +19,8 @@ fn set_next<L: Ledger>(
 )
     requires parent { IsSome (get nodes.old parent.slot) }
     requires at { IfSome at (λ r. IsSome (get nodes.old r.slot)) }
-    ensures nodes { nodes.new ≡ record nodes.old { slots = next_changed nodes.old.slots parent at to } }
+    ensures nodes { nodes.new
+        ≡ record nodes.old { slots = next_changed nodes.old.slots parent at to } }
     ensures steps { steps.new ≡ steps.old + 1 }
 {
     steps.tick();
@@ -39,7 +40,8 @@ fn set_prev<L: Ledger>(
 )
     requires parent { IsSome (get nodes.old parent.slot) }
     requires at { IfSome at (λ r. IsSome (get nodes.old r.slot)) }
-    ensures nodes { nodes.new ≡ record nodes.old { slots = prev_changed nodes.old.slots parent at to } }
+    ensures nodes { nodes.new
+        ≡ record nodes.old { slots = prev_changed nodes.old.slots parent at to } }
     ensures steps { steps.new ≡ steps.old + 1 }
 {
     steps.tick();
@@ -85,7 +87,8 @@ fn write_place(
     next: Option<NodeRef>,
 )
     requires { IsSome (get nodes.old slot) }
-    ensures { nodes.new ≡ record nodes.old { slots = change nodes.old.slots slot (placed parent prev next) } }
+    ensures { nodes.new
+        ≡ record nodes.old { slots = change nodes.old.slots slot (placed parent prev next) } }
 {
     let node = &mut nodes[slot as usize];
     node.parent = parent;
@@ -123,9 +126,11 @@ pub(crate) fn link_in<L: Ledger>(
     requires parent { IsSome (get nodes.old parent.slot) }
     requires before { IfSome before (λ r. IsSome (get nodes.old r.slot)) }
     requires node { IsSome (get nodes.old node.slot) }
-    requires prior { IfSome (prior_link nodes.old.slots parent before) (λ r. IsSome (get nodes.old r.slot)) }
+    requires prior { IfSome (prior_link nodes.old.slots parent before) (λ r.
+        IsSome (get nodes.old r.slot)) }
     ensures nodes { nodes.new ≡ record nodes.old {
-      slots = linked_slots nodes.old.slots parent (prior_link nodes.old.slots parent before) before node;
+      slots = linked_slots nodes.old.slots parent (prior_link nodes.old.slots parent before) before
+          node;
     } }
     ensures steps { steps.new ≤ steps.old + 8 }
 {
@@ -149,7 +154,8 @@ pub(crate) fn take_in<L: Ledger>(
     requires prior { IfSome prior (λ r. IsSome (get nodes.old r.slot)) }
     requires after { IfSome after (λ r. IsSome (get nodes.old r.slot)) }
     requires node { IsSome (get nodes.old node.slot) }
-    ensures nodes { nodes.new ≡ record nodes.old { slots = unlinked_slots nodes.old.slots parent prior after node } }
+    ensures nodes { nodes.new
+        ≡ record nodes.old { slots = unlinked_slots nodes.old.slots parent prior after node } }
     ensures steps { steps.new ≤ steps.old + 7 }
 {
     steps.tick();

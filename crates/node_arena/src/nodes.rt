@@ -82,7 +82,8 @@ pub trait Nodes {
         requires { holds self.now node }
         ensures { result ≡ index_of (trees self.now) node.label };
 
-    /// The length of a node: the count of its characters for Words and a Remark, else that of its children.
+    /// The length of a node: the count of its characters for Words and a Remark, else that of its
+    /// children.
     fn length(&self, node: NodeRef) -> u32
         requires { holds self.now node }
         ensures { result ≡ length_of (trees self.now) node.label };
@@ -93,7 +94,8 @@ pub trait Nodes {
         requires node_held { holds self.now node }
         ensures { IsTrue result ↔ IsWithin (trees self.now) top.label node.label };
 
-    /// Of two nodes the one that comes first in tree order; `None` where they are in different trees.
+    /// Of two nodes the one that comes first in tree order; `None` where they are in different
+    /// trees.
     fn before(&self, a: NodeRef, b: NodeRef) -> Option<NodeRef>
         requires first_held { holds self.now a }
         requires second_held { holds self.now b }

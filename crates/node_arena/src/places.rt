@@ -39,7 +39,8 @@ impl Arena {
         index
     }
 
-    /// The length of a node: the count of its characters for Words and a Remark, else that of its children.
+    /// The length of a node: the count of its characters for Words and a Remark, else that of its
+    /// children.
     pub fn length(&self, node: NodeRef) -> u32
         requires { Holds self.now node }
         ensures { result ≡ length_of self.now.trees node.label }
@@ -96,12 +97,14 @@ impl Arena {
         true
     }
 
-    // The node of this depth among a node and its ancestors; the node itself, where it is no deeper.
+    // The node of this depth among a node and its ancestors; the node itself, where it is no
+    // deeper.
     fn lifted(&self, node: NodeRef, depth: u32) -> NodeRef
         requires { Holds self.now node }
         ensures held { Holds self.now result }
         ensures above { IsWithin self.now.trees result.label node.label }
-        ensures deep { depth_of self.now.trees result.label ≡ min (depth_of self.now.trees node.label) depth }
+        ensures deep { depth_of self.now.trees result.label
+            ≡ min (depth_of self.now.trees node.label) depth }
         ensures start { depth_of self.now.trees node.label ≤ depth → result ≡ node }
     {
         self.valid();
@@ -114,14 +117,15 @@ impl Arena {
         at
     }
 
-    // Whether the first of two children of one parent comes before the second. It goes on from both at once, to the
-    // front and to the end, until one of them meets the other or an end.
+    // Whether the first of two children of one parent comes before the second. It goes on from both
+    // at once, to the front and to the end, until one of them meets the other or an end.
     fn is_earlier_child(&self, x: NodeRef, y: NodeRef, parent: NodeRef) -> bool
         requires first_held { Holds self.now x }
         requires second_held { Holds self.now y }
         requires first_child { parent_of self.now.trees x.label ≡ Some parent.label }
         requires second_child { parent_of self.now.trees y.label ≡ Some parent.label }
-        ensures { result ≡ nat_lt (index_of self.now.trees x.label) (index_of self.now.trees y.label) }
+        ensures { result
+            ≡ nat_lt (index_of self.now.trees x.label) (index_of self.now.trees y.label) }
     {
         self.valid();
         let mut before_x = x;
@@ -166,7 +170,8 @@ impl Arena {
         requires second_above_held { Holds self.now above_b }
         requires first_above { IsWithin self.now.trees above_a.label a.label }
         requires second_above { IsWithin self.now.trees above_b.label b.label }
-        requires deep { depth_of self.now.trees above_a.label ≡ depth_of self.now.trees above_b.label }
+        requires deep { depth_of self.now.trees above_a.label
+            ≡ depth_of self.now.trees above_b.label }
         requires apart { above_a.label ≢ above_b.label }
         ensures { NamesHeld self.now result (first_of_two self.now.trees a.label b.label) }
     {
@@ -184,7 +189,8 @@ impl Arena {
         None
     }
 
-    /// Of two nodes the one that comes first in tree order; `None` where they are in different trees.
+    /// Of two nodes the one that comes first in tree order; `None` where they are in different
+    /// trees.
     pub fn before(&self, a: NodeRef, b: NodeRef) -> Option<NodeRef>
         requires first_held { Holds self.now a }
         requires second_held { Holds self.now b }

@@ -13,7 +13,8 @@ stepped [] = []
 stepped (i ∷ is) = suc i ∷ is
 
 module _ {C : Type 0} where
-  -- the label that a path leads to in a list of trees: its first index picks a tree, and the others go on below it
+  -- the label that a path leads to in a list of trees: its first index picks a tree, and the others
+  -- go on below it
   abbrev pub node_in : Forest C → List ℕ → Option ℕ
   node_in Nil is = None
   node_in (Tree m c ks rest) [] = None

@@ -1,4 +1,5 @@
-//! Paths to the nodes of a document: the index of a child in each node on the way, read and written.
+//! Paths to the nodes of a document: the index of a child in each node on the way, read and
+//! written.
 #![tactic(auto)]
 
 ghost use Rattle.std.specs.Prelude.{◌≡◌, ℕ, ◌∷◌, ◌++◌, ◌<◌, List, OnOk, IfSome, Some};
@@ -32,8 +33,8 @@ fn child_at(arena: &Arena, node: NodeRef, index: u32) -> Option<NodeRef>
     None
 }
 
-/// The node at a path from the document, whose own path is empty. It goes over the earlier siblings of each node on the
-/// way, and takes no memory.
+/// The node at a path from the document, whose own path is empty. It goes over the earlier siblings
+/// of each node on the way, and takes no memory.
 pub fn resolve(arena: &Arena, path: &[u32]) -> Option<NodeRef>
     ensures { NamesHeld arena.now result (label_at arena.now.trees path.now) }
 {
@@ -66,7 +67,8 @@ fn push_indexes(
     requires parent_held { Holds arena.now parent }
     requires parent { parent_of arena.now.trees node.label ≡ Some parent.label }
     requires inner { IsWithin arena.now.trees 0 node.label }
-    ensures ok { OnOk result (bytes.new.items ≡ bytes.old.items ++ indexes_at arena.now.trees node.label) }
+    ensures ok { OnOk result (bytes.new.items ≡ bytes.old.items
+        ++ indexes_at arena.now.trees node.label) }
 {
     arena.valid();
     match arena.parent(parent) {
@@ -79,7 +81,8 @@ fn push_indexes(
     }
 }
 
-/// Appends the path of a node of the document: `.` for the document itself, and else the indexes joined by `/`.
+/// Appends the path of a node of the document: `.` for the document itself, and else the indexes
+/// joined by `/`.
 pub fn push_path(
     alloc: Global,
     bytes: &mut Vec<u8>,
@@ -88,7 +91,8 @@ pub fn push_path(
 ) -> Result<(), AllocError>
     requires held { Holds arena.now node }
     requires inner { IsWithin arena.now.trees 0 node.label }
-    ensures ok { OnOk result (bytes.new.items ≡ bytes.old.items ++ node_text arena.now.trees node.label) }
+    ensures ok { OnOk result (bytes.new.items ≡ bytes.old.items
+        ++ node_text arena.now.trees node.label) }
 {
     arena.valid();
     match arena.parent(node) {

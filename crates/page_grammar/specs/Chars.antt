@@ -24,7 +24,8 @@ is_control b = nat_lt b 32 || nat_le 127 b && nat_lt b 160
 
 -- in an attribute's name (HTML Standard, 13.1.2.3), where `<` may not stand either
 unfoldable pub is_attribute_name_char : ℕ → Bool
-is_attribute_name_char b = not (is_space b || is_control b || b == 34 || b == 39 || b == 60 || b == 62
+is_attribute_name_char b =
+    not (is_space b || is_control b || b == 34 || b == 39 || b == 60 || b == 62
     || b == 47 || b == 61)
 
 unfoldable pub is_quote : ℕ → Bool
@@ -39,7 +40,8 @@ abbrev pub entity : List ℕ → ℕ → Entity
 entity w x = record { name = w; char = x }
 
 abbrev pub entities : List Entity
-entities = entity (codes "amp") 38 ∷ entity (codes "lt") 60 ∷ entity (codes "gt") 62 ∷ entity (codes "quot") 34
+entities = entity (codes "amp") 38 ∷ entity (codes "lt") 60 ∷ entity (codes "gt") 62
+    ∷ entity (codes "quot") 34
     ∷ entity (codes "apos") 39 ∷ entity (codes "nbsp") 160 ∷ []
 
 -- a scalar value other than 0

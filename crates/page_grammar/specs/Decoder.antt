@@ -32,7 +32,8 @@ joined v zero = Whole v
 joined v (suc n) = Part (pending v n 128 191)
 
 abbrev pub continued : Pending → ℕ → Decoded
-continued p b = if nat_le p.low b && nat_le b p.high then joined (p.bits * 64 + (b - 128)) p.after else Bad
+continued p b =
+    if nat_le p.low b && nat_le b p.high then joined (p.bits * 64 + (b - 128)) p.after else Bad
 
 -- the next byte, between characters or inside one
 abbrev pub decode : Option Pending → ℕ → Decoded

@@ -73,16 +73,17 @@ fault_at_end part l ws n = Some (n, Unclosed)
 -- n bytes are read, and s follows
 abbrev pub fault_from : ℕ → Reader → ℕ → List ℕ → Option (ℕ × Kind)
 fault_from c r n [] = fault_at_end r.part r.machine.lex r.machine.opened n
-fault_from c r n (b ∷ s) = fault_next (read_byte c r b) (λ r1. fault_from c r1 (suc n) s) (n, kind_of_byte r b)
+fault_from c r n (b ∷ s) =
+    fault_next (read_byte c r b) (λ r1. fault_from c r1 (suc n) s) (n, kind_of_byte r b)
 
--- What stands in the way where the machine has read n bytes of whole characters and rest follows: so a scanner of
--- characters computes its answer.
+-- What stands in the way where the machine has read n bytes of whole characters and rest follows:
+-- so a scanner of characters computes its answer.
 abbrev pub refusal : ℕ → Machine → ℕ → List ℕ → Option (ℕ × Kind)
 refusal c m n rest = fault_from c (between m) n rest
 
--- Where a refused character is refused, n bytes being before it: at its second byte where its first can go on. Only
--- controls from U+0080 to U+009F in a start tag behind its name can: C2 goes on there, to characters that may stand
--- in an attribute's name.
+-- Where a refused character is refused, n bytes being before it: at its second byte where its first
+-- can go on. Only controls from U+0080 to U+009F in a start tag behind its name can: C2 goes on
+-- there, to characters that may stand in an attribute's name.
 abbrev pub refused_place : ℕ → Machine → ℕ → ℕ → ℕ
 refused_place c m n x = if takes_wide c m && nat_le 128 x then suc n else n
 
@@ -91,4 +92,5 @@ abbrev pub text_fault : (d c : ℕ) → List ℕ → Option (ℕ × Kind)
 text_fault d c s = fault_from c (begin d) 0 s
 
 abbrev pub page_fault : (d c : ℕ) → List ℕ → Option (ℕ × Kind)
-page_fault d c s = if nat_lt page_limit (length s) then Some (page_limit, TooLong) else text_fault d c s
+page_fault d c s =
+    if nat_lt page_limit (length s) then Some (page_limit, TooLong) else text_fault d c s

@@ -1,5 +1,6 @@
--- A machine that reads a page character by character. Its states bear the names of those of the HTML Standard's
--- tokenizer (13.2.5) where they are alike; it refuses a character exactly where no page goes on with it.
+-- A machine that reads a page character by character. Its states bear the names of those of the
+-- HTML Standard's tokenizer (13.2.5) where they are alike; it refuses a character exactly where no
+-- page goes on with it.
 use Rattle.std.specs.Prelude.{ℕ, suc, pred, ◌+◌, ◌*◌, Bool, true, false, ◌&&◌, ◌||◌, nat_lt, nat_le, ◌==◌, if◌then◌else◌, List, [], ◌∷◌, ◌++◌, Option, Some, None}
 use Rattle.page_grammar.specs.Chars.{is_space, lower, is_letter, is_digit, is_name_char, is_attribute_name_char, is_quote, Entity, entity, entities, is_referable, is_hex, digit_of}
 use Rattle.page_grammar.specs.Names.{is_void, is_refused}
@@ -68,7 +69,8 @@ done v b = if b == 59 && is_referable v then Done v else Stop
 abbrev pub ref_step : Reference → ℕ → Turn
 ref_step Amp b = if b == 35 then More Hash else named entities b
 ref_step (Named es) b = named es b
-ref_step Hash b = if is_digit b then dec (0 * 10 + digit_of b) else (if lower b == 120 then More HexMark else Stop)
+ref_step Hash b = if is_digit b then dec (0 * 10 + digit_of b)
+    else (if lower b == 120 then More HexMark else Stop)
 ref_step (Dec v) b = if is_digit b then dec (v * 10 + digit_of b) else done v b
 ref_step HexMark b = if is_hex b then hex (0 * 16 + digit_of b) else Stop
 ref_step (Hex v) b = if is_hex b then hex (v * 16 + digit_of b) else done v b
@@ -104,16 +106,18 @@ pub data Lexical : Type 0 where
   AttributeName : (tag : List ℕ) (seen : List Attribute) (name : List ℕ) → Lexical
   AfterAttributeName : (tag : List ℕ) (seen : List Attribute) (name : List ℕ) → Lexical
   BeforeAttributeValue : (tag : List ℕ) (seen : List Attribute) (name : List ℕ) → Lexical
-  InAttributeValue : (tag : List ℕ) (seen : List Attribute) (name : List ℕ) (quote : ℕ) (value : List ℕ) → Lexical
-  ValueReference : (tag : List ℕ) (seen : List Attribute) (name : List ℕ) (quote : ℕ) (value : List ℕ)
+  InAttributeValue : (tag : List ℕ) (seen : List Attribute) (name : List ℕ) (quote : ℕ)
+      (value : List ℕ) → Lexical
+  ValueReference : (tag : List ℕ) (seen : List Attribute) (name : List ℕ) (quote : ℕ)
+      (value : List ℕ)
       (ref : Reference) → Lexical
   AfterAttributeValue : (tag : List ℕ) (seen : List Attribute) → Lexical
   SelfClosing : (tag : List ℕ) (seen : List Attribute) → Lexical
   EndTagName : (left : List ℕ) → Lexical
   AfterEndTagName : Lexical
 
--- The names of the open elements, innermost first; how many levels are left below the innermost (less one inside a
--- start tag); the next label; and what is emitted so far.
+-- The names of the open elements, innermost first; how many levels are left below the innermost
+-- (less one inside a start tag); the next label; and what is emitted so far.
 pub record Machine : Type 0 where
   pub lex : Lexical
   pub opened : List (List ℕ)
@@ -208,26 +212,32 @@ step_at c m Data b =
 step_at c m (InText t) b =
     if b == 60 then less c (after_leaf m (TextEvent t)) else Some
     (at m (if b == 38 then TextReference t Amp else InText (t ++ b ∷ [])))
-step_at c m (TextReference t r) b = ref_turn m (λ q. TextReference t q) (λ x. InText (t ++ x ∷ [])) (ref_step r b)
+step_at c m (TextReference t r) b =
+    ref_turn m (λ q. TextReference t q) (λ x. InText (t ++ x ∷ [])) (ref_step r b)
 step_at c m TagOpen b =
-    if b == 47 then slash m m.opened else (if has_room c m then (if b == 33 then Some (at m MarkupDeclaration)
+    if b == 47 then slash m m.opened
+    else (if has_room c m then (if b == 33 then Some (at m MarkupDeclaration)
     else (if is_letter b then Some (begin_tag m b) else None)) else None)
 step_at c m MarkupDeclaration b = if b == 45 then Some (at m CommentStart) else None
 step_at c m CommentStart b = if b == 45 then Some (at m (InComment [] NoDash)) else None
 step_at c m (InComment t n) b =
     if b == 45 then Some (at m (dash t n)) else (if b == 62 && is_two n
-    then Some (after_leaf m (CommentEvent t)) else Some (at m (InComment (t ++ (dashes n ++ b ∷ [])) NoDash)))
+    then Some (after_leaf m (CommentEvent t))
+    else Some (at m (InComment (t ++ (dashes n ++ b ∷ [])) NoDash)))
 step_at c m (TagName w) b =
     if is_name_char b then Some (at m (TagName (w ++ lower b ∷ [])))
     else (if is_refused w then None else (if is_space b then Some (at m (BeforeAttributeName w []))
     else tag_end m w [] b))
 step_at c m (BeforeAttributeName w ts) b =
     if is_space b then Some (at m (BeforeAttributeName w ts))
-    else (if is_attribute_name_char b then Some (at m (AttributeName w ts (lower b ∷ []))) else tag_end m w ts b)
+    else (if is_attribute_name_char b then Some (at m (AttributeName w ts (lower b ∷ [])))
+    else tag_end m w ts b)
 step_at c m (AttributeName w ts k) b =
     if is_attribute_name_char b then Some (at m (AttributeName w ts (k ++ lower b ∷ [])))
-    else (if has_attribute ts k then None else (if is_space b then Some (at m (AfterAttributeName w ts k))
-    else (if b == 61 then Some (at m (BeforeAttributeValue w ts k)) else tag_end m w (with_attribute ts k []) b)))
+    else (if has_attribute ts k then None
+    else (if is_space b then Some (at m (AfterAttributeName w ts k))
+    else (if b == 61 then Some (at m (BeforeAttributeValue w ts k))
+    else tag_end m w (with_attribute ts k []) b)))
 step_at c m (AfterAttributeName w ts k) b =
     if is_space b then Some (at m (AfterAttributeName w ts k))
     else (if b == 61 then Some (at m (BeforeAttributeValue w ts k))
@@ -238,7 +248,8 @@ step_at c m (BeforeAttributeValue w ts k) b =
     else (if is_quote b then Some (at m (InAttributeValue w ts k b [])) else None)
 step_at c m (InAttributeValue w ts k q v) b =
     if b == q then Some (at m (AfterAttributeValue w (with_attribute ts k v)))
-    else Some (at m (if b == 38 then ValueReference w ts k q v Amp else InAttributeValue w ts k q (v ++ b ∷ [])))
+    else Some (at m (if b == 38 then ValueReference w ts k q v Amp
+    else InAttributeValue w ts k q (v ++ b ∷ [])))
 step_at c m (ValueReference w ts k q v r) b = ref_turn m (λ p. ValueReference w ts k q v p)
     (λ x. InAttributeValue w ts k q (v ++ x ∷ [])) (ref_step r b)
 step_at c m (AfterAttributeValue w ts) b = if is_space b then Some (at m (BeforeAttributeName w ts))

@@ -8,7 +8,8 @@ use Rattle.dom_model.specs.Forest.{Forest}
 use Rattle.dom_model.specs.Forest.Forest.{Nil, Tree}
 use Rattle.page_grammar.specs.Page as page
 
--- An attribute's name in UTF-8, as its element keeps it. An element's name is ASCII, and so its own UTF-8.
+-- An attribute's name in UTF-8, as its element keeps it. An element's name is ASCII, and so its own
+-- UTF-8.
 abbrev pub attribute_of : page.Attribute → Attribute
 attribute_of t = record { name = encodes t.name; value = t.value }
 
@@ -20,7 +21,8 @@ abbrev pub nodes_of : page.Siblings → Forest Content
 nodes_of page.Nil = Nil
 nodes_of (page.TextNode l t f) = Tree l (Words t) Nil (nodes_of f)
 nodes_of (page.CommentNode l t f) = Tree l (Remark t) Nil (nodes_of f)
-nodes_of (page.ElementNode l w ts k f) = Tree l (Element w (attributes_of ts)) (nodes_of k) (nodes_of f)
+nodes_of (page.ElementNode l w ts k f) =
+    Tree l (Element w (attributes_of ts)) (nodes_of k) (nodes_of f)
 
 -- the document with these children
 abbrev pub document_of : page.Siblings → Forest Content

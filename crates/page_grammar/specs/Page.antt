@@ -81,14 +81,17 @@ HexadecimalDigits (d ∷ ds) = (is_hex d ≡ true) × HexadecimalDigits ds
 abbrev pub IsBody : List ℕ → ℕ → Type 0
 IsBody w x =
     IsEntity entities w x
-    ⊎ (((ds : List ℕ) × (w ≡ 35 ∷ ds) × (0 < length ds) × DecimalDigits ds × (value_from 10 0 ds ≡ x)
+    ⊎ (((ds : List ℕ) × (w ≡ 35 ∷ ds) × (0 < length ds) × DecimalDigits ds
+    × (value_from 10 0 ds ≡ x)
     × (is_referable x ≡ true))
-    ⊎ ((h : ℕ) × (ds : List ℕ) × (w ≡ 35 ∷ h ∷ ds) × (lower h ≡ 120) × (0 < length ds) × HexadecimalDigits ds
+    ⊎ ((h : ℕ) × (ds : List ℕ) × (w ≡ 35 ∷ h ∷ ds) × (lower h ≡ 120) × (0 < length ds)
+    × HexadecimalDigits ds
     × (value_from 16 0 ds ≡ x) × (is_referable x ≡ true)))
 
 -- a character as itself, if it isn't the end of what it stands in, or as a reference
 abbrev pub OneChar : (stop : ℕ) → ℕ → List ℕ → List ℕ → Type 0
-OneChar stop x s r = ((s ≡ x ∷ r) × (x ≢ stop) × (x ≢ 38)) ⊎ ((w : List ℕ) × (s ≡ 38 ∷ (w ++ 59 ∷ r)) × IsBody w x)
+OneChar stop x s r =
+    ((s ≡ x ∷ r) × (x ≢ stop) × (x ≢ 38)) ⊎ ((w : List ℕ) × (s ≡ 38 ∷ (w ++ 59 ∷ r)) × IsBody w x)
 
 abbrev pub Text : (stop : ℕ) → List ℕ → List ℕ → List ℕ → Type 0
 Text stop [] s r = s ≡ r
@@ -97,12 +100,14 @@ Text stop (x ∷ xs) s r = (m : List ℕ) × OneChar stop x s m × Text stop xs 
 -- names are lowered
 abbrev pub NameChars : List ℕ → List ℕ → List ℕ → Type 0
 NameChars [] s r = s ≡ r
-NameChars (x ∷ xs) s r = (b : ℕ) × (m : List ℕ) × (s ≡ b ∷ m) × (lower b ≡ x) × (is_name_char b ≡ true)
+NameChars (x ∷ xs) s r =
+    (b : ℕ) × (m : List ℕ) × (s ≡ b ∷ m) × (lower b ≡ x) × (is_name_char b ≡ true)
     × NameChars xs m r
 
 abbrev pub ElementName : List ℕ → List ℕ → List ℕ → Type 0
 ElementName [] s r = ⊥
-ElementName (x ∷ xs) s r = (b : ℕ) × (m : List ℕ) × (s ≡ b ∷ m) × (lower b ≡ x) × (is_letter b ≡ true)
+ElementName (x ∷ xs) s r =
+    (b : ℕ) × (m : List ℕ) × (s ≡ b ∷ m) × (lower b ≡ x) × (is_letter b ≡ true)
     × NameChars xs m r
 
 abbrev pub AttributeNameChars : List ℕ → List ℕ → List ℕ → Type 0
@@ -132,12 +137,14 @@ Attributes seen (t ∷ ts) s r =
 
 -- the end of a start tag
 abbrev pub TagEnd : List ℕ → List ℕ → List ℕ → Type 0
-TagEnd w s r = (n : ℕ) × (m : List ℕ) × Spaces n s m × ((m ≡ 62 ∷ r) ⊎ ((is_void w ≡ true) × (m ≡ 47 ∷ 62 ∷ r)))
+TagEnd w s r = (n : ℕ) × (m : List ℕ) × Spaces n s m
+    × ((m ≡ 62 ∷ r) ⊎ ((is_void w ≡ true) × (m ≡ 47 ∷ 62 ∷ r)))
 
 abbrev pub StartTag : List ℕ → List Attribute → List ℕ → List ℕ → Type 0
 StartTag w ts s r =
     (a : List ℕ) × (b : List ℕ) × (m : List ℕ)
-    × (s ≡ 60 ∷ a) × ElementName w a b × (is_refused w ≡ false) × Attributes [] ts b m × TagEnd w m r
+    × (s ≡ 60 ∷ a) × ElementName w a b × (is_refused w ≡ false) × Attributes [] ts b m
+    × TagEnd w m r
 
 abbrev pub NameAgain : List ℕ → List ℕ → List ℕ → Type 0
 NameAgain [] s r = s ≡ r
@@ -145,7 +152,8 @@ NameAgain (x ∷ xs) s r = (b : ℕ) × (m : List ℕ) × (s ≡ b ∷ m) × (lo
 
 -- `</name>`
 abbrev pub EndTag : List ℕ → List ℕ → List ℕ → Type 0
-EndTag w s r = (a : List ℕ) × (b : List ℕ) × (n : ℕ) × (s ≡ 60 ∷ 47 ∷ a) × NameAgain w a b × Spaces n b (62 ∷ r)
+EndTag w s r = (a : List ℕ) × (b : List ℕ) × (n : ℕ) × (s ≡ 60 ∷ 47 ∷ a) × NameAgain w a b
+    × Spaces n b (62 ∷ r)
 
 abbrev pub begins_with : List ℕ → List ℕ → Bool
 begins_with [] s = true
@@ -158,15 +166,18 @@ starts_close s = begins_with (45 ∷ 45 ∷ 62 ∷ []) s
 -- text up to the first `-->`, and that
 abbrev pub CommentText : List ℕ → List ℕ → List ℕ → Type 0
 CommentText [] s r = s ≡ 45 ∷ 45 ∷ 62 ∷ r
-CommentText (x ∷ xs) s r = (m : List ℕ) × (s ≡ x ∷ m) × (starts_close s ≡ false) × CommentText xs m r
+CommentText (x ∷ xs) s r =
+    (m : List ℕ) × (s ≡ x ∷ m) × (starts_close s ≡ false) × CommentText xs m r
 
 -- Completes, with d levels left for them, labels from n on and all below c. Text is a maximal run.
 abbrev pub Content : (d c n : ℕ) → Siblings → List ℕ → List ℕ → Type 0
 Content d c n Nil s r = s ≡ r
 Content d c n (TextNode l t f) s r =
-    (m : List ℕ) × (l ≡ n) × (n < c) × (0 < d) × (0 < length t) × NotText f × Text 60 t s m × Content d c (suc n) f m r
+    (m : List ℕ) × (l ≡ n) × (n < c) × (0 < d) × (0 < length t) × NotText f × Text 60 t s m
+    × Content d c (suc n) f m r
 Content d c n (CommentNode l t f) s r =
-    (a : List ℕ) × (m : List ℕ) × (l ≡ n) × (n < c) × (0 < d) × (s ≡ 60 ∷ 33 ∷ 45 ∷ 45 ∷ a) × CommentText t a m
+    (a : List ℕ) × (m : List ℕ) × (l ≡ n) × (n < c) × (0 < d) × (s ≡ 60 ∷ 33 ∷ 45 ∷ 45 ∷ a)
+    × CommentText t a m
     × Content d c (suc n) f m r
 Content d c n (ElementNode l w ts k f) s r =
     (a : List ℕ) × (b : List ℕ) × (m : List ℕ) × (l ≡ n) × (n < c) × (0 < d)

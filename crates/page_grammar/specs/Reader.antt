@@ -15,7 +15,8 @@ between m = record { machine = m; part = None }
 abbrev pub begin : ℕ → Reader
 begin d = between (start d)
 
--- May a character past ASCII stand here? In an attribute's name controls may not, and those are C2 80 to C2 9F.
+-- May a character past ASCII stand here? In an attribute's name controls may not, and those are C2
+-- 80 to C2 9F.
 abbrev pub takes_wide_at : ℕ → Machine → Lexical → Bool
 takes_wide_at c m Data = has_room c m
 takes_wide_at c m (InText t) = true
@@ -35,7 +36,8 @@ read_whole (Some m) = Some (between m)
 
 abbrev pub read_decoded : ℕ → Machine → Decoded → Option Reader
 read_decoded c m Bad = None
-read_decoded c m (Part p) = if takes_wide c m then Some (record { machine = m; part = Some p }) else None
+read_decoded c m (Part p) =
+    if takes_wide c m then Some (record { machine = m; part = Some p }) else None
 read_decoded c m (Whole x) = read_whole (step c m x)
 
 abbrev pub read_byte : ℕ → Reader → ℕ → Option Reader

@@ -14,8 +14,8 @@ pub record OpenElement : Type 0 where
   pub attributes : List Attribute
   pub before : Siblings
 
--- A tree as far as it is emitted: the open elements, innermost first, what is finished in the innermost one, and the
--- next label.
+-- A tree as far as it is emitted: the open elements, innermost first, what is finished in the
+-- innermost one, and the next label.
 pub record Growing : Type 0 where
   pub opened : List OpenElement
   pub here : Siblings
@@ -37,7 +37,8 @@ close_innermost (e ∷ es) g = record g {
 
 abbrev pub grow : Event → Growing → Growing
 grow (TextEvent t) g = record g { here = joined g.here (TextNode g.next t Nil); next = suc g.next }
-grow (CommentEvent t) g = record g { here = joined g.here (CommentNode g.next t Nil); next = suc g.next }
+grow (CommentEvent t) g =
+    record g { here = joined g.here (CommentNode g.next t Nil); next = suc g.next }
 grow (OpenEvent w ts) g =
     record g {
       opened = record { label = g.next; name = w; attributes = ts; before = g.here } ∷ g.opened;

@@ -14,13 +14,16 @@ BeginsSomePage p = (d : ℕ) × (c : ℕ) × BeginsPage d c p
 
 -- it makes certain a node deeper than d: some page begins so, and each that does has one
 abbrev pub MakesTooDeep : ℕ → List ℕ → Type 0
-MakesTooDeep d p = BeginsSomePage p × ((e a : ℕ) (q : List ℕ) (f : Siblings) → PageBytes e a (p ++ q) f → d < depth f)
+MakesTooDeep d p = BeginsSomePage p
+    × ((e a : ℕ) (q : List ℕ) (f : Siblings) → PageBytes e a (p ++ q) f → d < depth f)
 
 -- it makes certain a node whose label is c: some page begins so, and each that does has one
 abbrev pub MakesFull : ℕ → List ℕ → Type 0
-MakesFull c p = BeginsSomePage p × ((e a : ℕ) (q : List ℕ) (f : Siblings) → PageBytes e a (p ++ q) f → ReachesLabel c f)
+MakesFull c p = BeginsSomePage p
+    × ((e a : ℕ) (q : List ℕ) (f : Siblings) → PageBytes e a (p ++ q) f → ReachesLabel c f)
 
--- Where in a token the byte b stands that can't be read; names end at the first byte that isn't part of one.
+-- Where in a token the byte b stands that can't be read; names end at the first byte that isn't
+-- part of one.
 
 -- it ends a start tag's name that a page may not have
 abbrev pub EndsUnsupportedName : Lexical → ℕ → Type 0
@@ -29,7 +32,8 @@ EndsUnsupportedName l b = ⊥
 
 -- it ends an attribute's name that the tag already has
 abbrev pub EndsRepeatedName : Lexical → ℕ → Type 0
-EndsRepeatedName (AttributeName w ts k) b = (has_attribute ts k ≡ true) × (is_attribute_name_char b ≡ false)
+EndsRepeatedName (AttributeName w ts k) b =
+    (has_attribute ts k ≡ true) × (is_attribute_name_char b ≡ false)
 EndsRepeatedName l b = ⊥
 
 -- it stands inside a reference, in text or in a value
@@ -71,7 +75,8 @@ AtByte d c s k P =
     (r : Reader) × (b : ℕ) × (t : List ℕ)
     × (read_bytes c (begin d) (take k s) ≡ Some r) × (drop k s ≡ b ∷ t) × P r.machine b
 
--- The condition of each row, at the place k of the bytes s. The offending byte is the one after k others.
+-- The condition of each row, at the place k of the bytes s. The offending byte is the one after k
+-- others.
 abbrev pub Row : (d c : ℕ) → List ℕ → ℕ → Kind → Type 0
 Row d c s k TooLong = page_limit < length s
 Row d c s k Unclosed = (IsPageBytes d c s → ⊥) × BeginsPage d c s
@@ -87,7 +92,8 @@ Row d c s k BadTag = AtByte d c s k (λ m b. StandsAfterLess m.lex)
 
 -- the kinds that tell where in a token the byte stands
 abbrev pub lexical_kinds : List Kind
-lexical_kinds = UnsupportedElement ∷ RepeatedAttribute ∷ UnknownReference ∷ StrayEnd ∷ BadAttribute ∷ BadTag ∷ []
+lexical_kinds = UnsupportedElement ∷ RepeatedAttribute ∷ UnknownReference ∷ StrayEnd ∷ BadAttribute
+    ∷ BadTag ∷ []
 
 -- all kinds, in the table's order
 abbrev pub table : List Kind
@@ -102,8 +108,8 @@ IsFirst holds (y ∷ ys) x = (holds y × (x ≡ y)) ⊎ ((holds y → ⊥) × Is
 abbrev pub IsAccepted : (d c : ℕ) → List ℕ → Type 0
 IsAccepted d c s = IsPageBytes d c s × (length s ≤ page_limit)
 
--- The place: where there are too many bytes it is their limit, else the length of the longest prefix that begins
--- some page.
+-- The place: where there are too many bytes it is their limit, else the length of the longest
+-- prefix that begins some page.
 pub record IsPlaceOf (d c : ℕ) (s : List ℕ) (k : ℕ) : Type 0 where
   pub too_long : page_limit < length s → k ≡ page_limit
   pub longest : length s ≤ page_limit → IsBytePlace d c s k
@@ -111,4 +117,5 @@ pub record IsPlaceOf (d c : ℕ) (s : List ℕ) (k : ℕ) : Type 0 where
 -- what it means that there is no fault, or that it is there
 abbrev pub IsFault : (d c : ℕ) → List ℕ → Option (ℕ × Kind) → Type 0
 IsFault d c s None = IsAccepted d c s
-IsFault d c s (Some x) = (IsAccepted d c s → ⊥) × IsPlaceOf d c s x.0 × IsFirst (Row d c s x.0) table x.1
+IsFault d c s (Some x) =
+    (IsAccepted d c s → ⊥) × IsPlaceOf d c s x.0 × IsFirst (Row d c s x.0) table x.1

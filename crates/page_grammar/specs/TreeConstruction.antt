@@ -1,4 +1,5 @@
--- A document that grows as a page's events are emitted: each node is put at the end of the innermost open element.
+-- A document that grows as a page's events are emitted: each node is put at the end of the
+-- innermost open element.
 use Rattle.std.specs.Prelude.{ℕ, suc, List, [], ◌∷◌, None}
 use Rattle.dom_model.specs.declared.Content.{Content}
 use Rattle.dom_model.specs.declared.Content.TheVariants.{Document, Element, Words, Remark}
@@ -33,7 +34,8 @@ with_last p c = record p {
 abbrev pub construct : Event → TreeConstruction → TreeConstruction
 construct (TextEvent t) p = with_last p (Words t)
 construct (CommentEvent t) p = with_last p (Remark t)
-construct (OpenEvent w ts) p = record (with_last p (Element w (attributes_of ts))) { opened = p.next ∷ p.opened }
+construct (OpenEvent w ts) p =
+    record (with_last p (Element w (attributes_of ts))) { opened = p.next ∷ p.opened }
 construct CloseEvent p = record p { opened = tail p.opened }
 
 abbrev pub construct_all : List Event → TreeConstruction → TreeConstruction

@@ -21,7 +21,8 @@ pub record Appends (old new : ArenaState) (p : ℕ) (c : Content) : Type 0 where
   pub opens : (r : NodeRef) → IsOpen old r → IsOpen new r
 
 -- and that node is open
-pub record AppendsElement (old new : ArenaState) (p : ℕ) (c : Content) (node : NodeRef) : Type 0 where
+pub record AppendsElement (old new : ArenaState) (p : ℕ) (c : Content)
+    (node : NodeRef) : Type 0 where
   pub label : node.label ≡ old.next
   pub here : IsOpen new node
   pub grown : Appends old new p c

@@ -20,7 +20,8 @@ AreCharacters low high = (high < 55296) ⊎ ((57344 ≤ low) × (high < 1114112)
 -- whatever bytes follow make a character
 abbrev pub IsSoundAfter : (after bits low high : ℕ) → Type 0
 IsSoundAfter zero v lo hi = AreCharacters (v * 64 + (lo - 128)) (v * 64 + (hi - 128))
-IsSoundAfter (suc zero) v lo hi = AreCharacters ((v * 64 + (lo - 128)) * 64) ((v * 64 + (hi - 128)) * 64 + 63)
+IsSoundAfter (suc zero) v lo hi =
+    AreCharacters ((v * 64 + (lo - 128)) * 64) ((v * 64 + (hi - 128)) * 64 + 63)
 IsSoundAfter (suc (suc zero)) v lo hi = AreCharacters ((v * 64 + (lo - 128)) * 4096)
     ((v * 64 + (hi - 128)) * 4096 + 4095)
 IsSoundAfter n v lo hi = ⊥

@@ -1,4 +1,5 @@
--- The reader of the code, seen as the grammar's reader without what it has emitted, and as a tree that grows.
+-- The reader of the code, seen as the grammar's reader without what it has emitted, and as a tree
+-- that grows.
 use Rattle.std.specs.Prelude.{◌≡◌, ℕ, List, [], Option, Some, None, IfSome}
 use Rattle.std.specs.Option.{option_map}
 use Rattle.dom_model.specs.ArenaState.{ArenaState}
@@ -27,11 +28,13 @@ abbrev pub told_in : Option readers.Reader → List Event
 told_in None = []
 told_in (Some r) = r.machine.out
 
--- whether the byte is read: then the reader is where the grammar's is, and has constructed what it emitted; else why it isn't
+-- whether the byte is read: then the reader is where the grammar's is, and has constructed what it
+-- emitted; else why it isn't
 abbrev pub Takes : Option PageKind → (byte : ℕ) → (old new : Reader) → Type 0
 Takes None b old new =
     (quieted (readers.read_byte old.scanner.arena.cap (reader_of old) b) ≡ Some (reader_of new))
-    × (construction_of new ≡ construct_all (told_in (readers.read_byte old.scanner.arena.cap (reader_of old) b))
+    × (construction_of new
+    ≡ construct_all (told_in (readers.read_byte old.scanner.arena.cap (reader_of old) b))
     (construction_of old))
 Takes (Some kind) b old new =
     (readers.read_byte old.scanner.arena.cap (reader_of old) b ≡ None)

@@ -44,7 +44,8 @@ is_closing (EndTagName n) = true
 is_closing AfterEndTagName = true
 is_closing l = false
 
-abbrev pub SteadyAt : Lexical → ArenaState → List Attribute → (name value : List ℕ) → List Open → Type 0
+abbrev pub SteadyAt : Lexical → ArenaState → List Attribute → (name value : List ℕ) → List Open
+    → Type 0
 SteadyAt Data s ts k v opened = Unit {0}
 SteadyAt InText s ts k v opened = IsBelowCap s
 SteadyAt (TextReference r) s ts k v opened = IsBelowCap s × IsSmall r
@@ -61,7 +62,8 @@ SteadyAt (InAttributeValue q) s ts k v opened = IsBelowCap s × IsFresh ts k
 SteadyAt (ValueReference q r) s ts k v opened = IsBelowCap s × IsFresh ts k × IsSmall r
 SteadyAt AfterAttributeValue s ts k v opened = IsBelowCap s
 SteadyAt SelfClosing s ts k v opened = IsBelowCap s
-SteadyAt (EndTagName n) s ts k v opened = (0 < length opened) × (n ≤ length (first_or_empty (names_of opened)))
+SteadyAt (EndTagName n) s ts k v opened =
+    (0 < length opened) × (n ≤ length (first_or_empty (names_of opened)))
 SteadyAt AfterEndTagName s ts k v opened = 0 < length opened
 
 pub record Steady (s : Scanner) : Type 0 where

@@ -1,4 +1,5 @@
--- The scanner of the code, seen as the machine without what it has emitted, and as a tree that grows.
+-- The scanner of the code, seen as the machine without what it has emitted, and as a tree that
+-- grows.
 use Rattle.std.specs.Prelude.{◌≡◌, ℕ, ◌+◌, ◌<◌, Bool, true, false, List, [], ◌∷◌, length, drop, map, reverse, Option, Some, None}
 use Rattle.std.specs.Str.{chars}
 use Rattle.std.proofs.Math.Utf8.{encodes}
@@ -46,8 +47,10 @@ abbrev pub first_or_empty : List (List ℕ) → List ℕ
 first_or_empty [] = []
 first_or_empty (w ∷ ws) = w
 
--- where in a token the machine stands: text, the tag's name, attributes, an attribute's name and value, open elements
-abbrev pub lexical_of : Lexical → (text tag : List ℕ) → List page.Attribute → (name value : List ℕ) → List (List ℕ)
+-- where in a token the machine stands: text, the tag's name, attributes, an attribute's name and
+-- value, open elements
+abbrev pub lexical_of : Lexical → (text tag : List ℕ) → List page.Attribute → (name value : List ℕ)
+    → List (List ℕ)
     → machine.Lexical
 lexical_of Data t w ts k v ws = machine.Data
 lexical_of InText t w ts k v ws = machine.InText t
@@ -76,7 +79,8 @@ opened_of _ ws = ws
 
 abbrev pub machine_of : Scanner → machine.Machine
 machine_of s = record {
-  lex = lexical_of s.lexical s.text.items s.tag.items (read_attributes s.attributes) s.name.items s.value.items
+  lex = lexical_of s.lexical s.text.items s.tag.items (read_attributes s.attributes) s.name.items
+      s.value.items
       (names_of s.opened.items);
   opened = opened_of s.lexical (names_of s.opened.items);
   room = s.room;
@@ -85,7 +89,8 @@ machine_of s = record {
 }
 
 abbrev pub tree_construction_of : Scanner → TreeConstruction
-tree_construction_of s = record { trees = s.arena.trees; opened = labels_of s.opened.items; next = s.arena.next }
+tree_construction_of s =
+    record { trees = s.arena.trees; opened = labels_of s.opened.items; next = s.arena.next }
 
 -- the machine as if it had emitted nothing, and what it has emitted
 abbrev pub silenced : Option machine.Machine → Option machine.Machine
@@ -116,7 +121,8 @@ pub record MakesElement (old new : Scanner) (node : NodeRef) : Type 0 where
   pub label : node.label ≡ old.arena.next
   pub here : IsOpen new.arena node
   pub opens : (r : NodeRef) → IsOpen old.arena r → IsOpen new.arena r
-  pub constructed : tree_construction_of new ≡ with_last (tree_construction_of old) (Element old.tag.items old.attributes)
+  pub constructed : tree_construction_of new
+      ≡ with_last (tree_construction_of old) (Element old.tag.items old.attributes)
   pub cap : new.arena.cap ≡ old.arena.cap
   pub tag : new.tag ≡ old.tag
   pub opened : new.opened ≡ old.opened

@@ -21,7 +21,8 @@ fn link_counted<L: Ledger>(arena: &mut Arena, parent: NodeRef, node: NodeRef, bl
     requires parent_held { Holds arena.old parent }
     requires node_held { Holds arena.old node }
     requires can { CanLink arena.old.trees parent.label None node.label }
-    ensures { arena.new ≡ record arena.old { trees = link arena.old.trees parent.label None node.label } }
+    ensures { arena.new
+        ≡ record arena.old { trees = link arena.old.trees parent.label None node.label } }
 {
     let mut steps = Steps::<L>::open(blank);
     arena.link(parent, None, node, &mut steps);
@@ -32,7 +33,8 @@ fn link_last(arena: &mut Arena, parent: NodeRef, node: NodeRef)
     requires parent_held { Holds arena.old parent }
     requires node_held { Holds arena.old node }
     requires can { CanLink arena.old.trees parent.label None node.label }
-    ensures { arena.new ≡ record arena.old { trees = link arena.old.trees parent.label None node.label } }
+    ensures { arena.new
+        ≡ record arena.old { trees = link arena.old.trees parent.label None node.label } }
 {
     link_counted::<Brand>(arena, parent, node, Blank::new(1));
 }
@@ -87,7 +89,8 @@ pub(crate) fn append_element(
     attributes: Attributes,
 ) -> Result<NodeRef, AllocError>
     requires { IsOpen arena.old parent }
-    ensures { IfOk result (λ node. AppendsElement arena.old arena.new parent.label (Element name attributes) node) }
+    ensures { IfOk result (λ node.
+        AppendsElement arena.old arena.new parent.label (Element name attributes) node) }
 {
     arena.valid();
     let Ok(node) = arena.make_element(name, attributes) else {

@@ -5,8 +5,8 @@ ghost use Rattle.std.specs.Option.{option_map};
 ghost use Rattle.page_grammar.specs.Decoder as decoder;
 ghost use Rattle.page_read.specs.Decoding.{pending_of, decoded_of, IsSoundPending, IsSoundDecoded};
 
-/// A character of which some bytes have come: its bits so far, how many bytes follow the next one, and the bounds
-/// of the next one (Encoding Standard, "UTF-8 decoder").
+/// A character of which some bytes have come: its bits so far, how many bytes follow the next one,
+/// and the bounds of the next one (Encoding Standard, "UTF-8 decoder").
 #[derive(Drop, Clone, Copy)]
 pub(crate) struct Pending {
     bits: u32,
@@ -23,7 +23,8 @@ pub(crate) enum Decoded {
 }
 
 fn part(bits: u32, after: u8, low: u8, high: u8) -> Decoded
-    ensures { result ≡ Decoded.Part (record { bits = bits; after = after; low = low; high = high }) }
+    ensures { result
+        ≡ Decoded.Part (record { bits = bits; after = after; low = low; high = high }) }
 {
     Decoded::Part(Pending {
         bits,
@@ -33,7 +34,8 @@ fn part(bits: u32, after: u8, low: u8, high: u8) -> Decoded
     })
 }
 
-// The first byte of a character of three bytes: none is written longer than it has to be, and none is a surrogate.
+// The first byte of a character of three bytes: none is written longer than it has to be, and none
+// is a surrogate.
 fn lead_of_three(byte: u8) -> Decoded
     requires low { 224 ≤ byte }
     requires high { byte < 240 }
@@ -45,7 +47,8 @@ fn lead_of_three(byte: u8) -> Decoded
     part(byte as u32 - 224, 1, low, high)
 }
 
-// The first byte of a character of four bytes: none is written longer than it has to be, and none is past U+10FFFF.
+// The first byte of a character of four bytes: none is written longer than it has to be, and none
+// is past U+10FFFF.
 fn lead_of_four(byte: u8) -> Decoded
     requires low { 240 ≤ byte }
     requires high { byte < 245 }

@@ -7,9 +7,9 @@ use std::alloc::AllocError;
 use std::error::Error;
 use std::fmt;
 
-/// Why bytes are no page. At one place the kind that stands first in the order `TooLong`, `Unclosed`, `NotUtf8`,
-/// `TooDeep`, `Full`, `UnsupportedElement`, `RepeatedAttribute`, `UnknownReference`, `StrayEnd`, `BadAttribute`, `BadTag`
-/// is given.
+/// Why bytes are no page. At one place the kind that stands first in the order `TooLong`,
+/// `Unclosed`, `NotUtf8`, `TooDeep`, `Full`, `UnsupportedElement`, `RepeatedAttribute`,
+/// `UnknownReference`, `StrayEnd`, `BadAttribute`, `BadTag` is given.
 #[derive(Drop, Clone, Copy, PartialEq, Eq, Debug)]
 pub enum PageKind {
     /// The byte can't continue UTF-8 text.

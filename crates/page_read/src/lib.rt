@@ -1,4 +1,5 @@
-//! Reads a page into an arena: which bytes stand for which tree, and where and why other bytes are refused.
+//! Reads a page into an arena: which bytes stand for which tree, and where and why other bytes are
+//! refused.
 #![tactic(auto)]
 
 ghost use Rattle.std.specs.Prelude.{◌<◌};

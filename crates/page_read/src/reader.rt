@@ -79,7 +79,8 @@ impl Reader {
     /// The bytes have ended: the tree of the page, if they are one.
     pub(crate) fn finish(self) -> Result<Option<Arena>, AllocError>
         requires { IsHeld self self.scanner.arena.cap }
-        ensures { IfOk result (λ end. Finishes end self.scanner.arena.cap (reader_of self) (construction_of self)) }
+        ensures { IfOk result (λ end.
+            Finishes end self.scanner.arena.cap (reader_of self) (construction_of self)) }
     {
         let Reader { scanner, pending } = self;
         if pending.is_some() {

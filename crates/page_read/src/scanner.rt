@@ -74,7 +74,8 @@ pub(crate) struct Scanner {
     lexical: Lexical,
     /// The text or the comment so far.
     text: Vec<char>,
-    /// The name of the start tag so far, its attributes, and the name and the value of its last attribute.
+    /// The name of the start tag so far, its attributes, and the name and the value of its last
+    /// attribute.
     tag: Vec<u8>,
     attributes: Attributes,
     name: Vec<char>,
@@ -111,7 +112,8 @@ impl Scanner {
     pub(crate) fn new(alloc: Global, cap: u32) -> Result<Scanner, AllocError>
         requires { 0 < cap }
         ensures view { IfOk result (λ scanner. machine_of scanner ≡ machine.start 200) }
-        ensures initial_tree { IfOk result (λ scanner. tree_construction_of scanner ≡ initial_tree) }
+        ensures initial_tree { IfOk result (λ scanner. tree_construction_of scanner
+            ≡ initial_tree) }
         ensures cap { IfOk result (λ scanner. scanner.arena.cap ≡ cap) }
         ensures steady { IfOk result (λ scanner. Steady scanner) }
     {
@@ -199,7 +201,9 @@ impl Scanner {
         requires state { self.old.lexical ≡ InText }
         requires steady { Steady self.old }
         ensures leaf { OnOk result (machine_of self.new
-            ≡ machine.quiet (machine.after_leaf (machine_of self.old) (machine.TextEvent self.old.text.items))) }
+            ≡ machine.quiet
+            (machine.after_leaf (machine_of self.old)
+            (machine.TextEvent self.old.text.items))) }
         ensures constructed { OnOk result (tree_construction_of self.new
             ≡ construct (machine.TextEvent self.old.text.items) (tree_construction_of self.old)) }
         ensures cap { OnOk result (self.new.arena.cap ≡ self.old.arena.cap) }
@@ -261,7 +265,8 @@ impl Scanner {
         requires steady { Steady self.old }
         requires room { machine.has_room self.old.arena.cap (machine_of self.old) ≡ true }
         requires letter { classes.is_letter c ≡ true }
-        ensures tag { OnOk result (machine_of self.new ≡ machine.begin_tag (machine_of self.old) c) }
+        ensures tag { OnOk result (machine_of self.new
+            ≡ machine.begin_tag (machine_of self.old) c) }
         ensures kept { OnOk result (tree_construction_of self.new ≡ tree_construction_of self.old) }
         ensures cap { OnOk result (self.new.arena.cap ≡ self.old.arena.cap) }
         ensures steady { OnOk result (Steady self.new) }
@@ -335,9 +340,12 @@ impl Scanner {
         requires state { self.old.lexical ≡ InComment Dashes.TwoDashes }
         requires steady { Steady self.old }
         ensures leaf { OnOk result (machine_of self.new
-            ≡ machine.quiet (machine.after_leaf (machine_of self.old) (machine.CommentEvent self.old.text.items))) }
+            ≡ machine.quiet
+            (machine.after_leaf (machine_of self.old)
+            (machine.CommentEvent self.old.text.items))) }
         ensures constructed { OnOk result (tree_construction_of self.new
-            ≡ construct (machine.CommentEvent self.old.text.items) (tree_construction_of self.old)) }
+            ≡ construct (machine.CommentEvent self.old.text.items)
+            (tree_construction_of self.old)) }
         ensures cap { OnOk result (self.new.arena.cap ≡ self.old.arena.cap) }
         ensures steady { OnOk result (Steady self.new) }
     {
@@ -353,7 +361,8 @@ impl Scanner {
         requires state { self.old.lexical ≡ InComment dashes }
         requires steady { Steady self.old }
         ensures dash { OnOk result (machine_of self.new
-            ≡ machine.at (machine_of self.old) (machine.dash self.old.text.items (dashes_of dashes))) }
+            ≡ machine.at (machine_of self.old)
+            (machine.dash self.old.text.items (dashes_of dashes))) }
         ensures kept { OnOk result (tree_construction_of self.new ≡ tree_construction_of self.old) }
         ensures cap { OnOk result (self.new.arena.cap ≡ self.old.arena.cap) }
         ensures steady { OnOk result (Steady self.new) }
@@ -372,7 +381,8 @@ impl Scanner {
         requires steady { Steady self.old }
         ensures text { OnOk result (machine_of self.new
             ≡ machine.at (machine_of self.old)
-            (machine.InComment (self.old.text.items ++ (machine.dashes (dashes_of dashes) ++ c ∷ []))
+            (machine.InComment (self.old.text.items
+            ++ (machine.dashes (dashes_of dashes) ++ c ∷ []))
             machine.NoDash)) }
         ensures kept { OnOk result (tree_construction_of self.new ≡ tree_construction_of self.old) }
         ensures cap { OnOk result (self.new.arena.cap ≡ self.old.arena.cap) }
@@ -544,7 +554,8 @@ impl Scanner {
 
     fn misplaced(&self, byte: u8) -> Result<PageKind, AllocError>
         requires { Steady self.now }
-        ensures { IfOk result (λ kind. kind_of kind ≡ Some (kinds.misplaced (machine_of self.now).lex byte)) }
+        ensures { IfOk result (λ kind. kind_of kind
+            ≡ Some (kinds.misplaced (machine_of self.now).lex byte)) }
     {
         Ok(match self.lexical {
             Lexical::TagName if is_refused(&self.tag) => PageKind::UnsupportedElement,
@@ -564,7 +575,8 @@ impl Scanner {
     /// Why this byte can't be the next one.
     pub(crate) fn kind_at(&self, byte: u8) -> Result<PageKind, AllocError>
         requires { Steady self.now }
-        ensures { IfOk result (λ kind. kind_of kind ≡ Some (kinds.kind_at (machine_of self.now) byte)) }
+        ensures { IfOk result (λ kind. kind_of kind
+            ≡ Some (kinds.kind_at (machine_of self.now) byte)) }
     {
         if !self.begins_node(byte) {
             return self.misplaced(byte);
@@ -580,7 +592,8 @@ impl Scanner {
     #[tactic(auto, using(crate::proofs::EndLemmas::none_open, crate::proofs::EndLemmas::still_open))]
     pub(crate) fn finish(mut self) -> Result<Option<Arena>, AllocError>
         requires { Steady self }
-        ensures { IfOk result (λ end. Ends end self.arena.cap (machine_of self) (tree_construction_of self)) }
+        ensures { IfOk result (λ end.
+            Ends end self.arena.cap (machine_of self) (tree_construction_of self)) }
     {
         match self.lexical {
             Lexical::Data => {

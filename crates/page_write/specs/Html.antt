@@ -1,5 +1,5 @@
--- The HTML text of trees, in bytes (HTML Standard, "Serializing HTML fragments", for the elements that a page may
--- have).
+-- The HTML text of trees, in bytes (HTML Standard, "Serializing HTML fragments", for the elements
+-- that a page may have).
 use Rattle.std.specs.Prelude.{ℕ, List, [], ◌++◌, if◌then◌else◌, ◌==◌, codes, encode_utf8, encode_utf8_all}
 use Rattle.std.specs.List.{flat_map}
 use Rattle.dom_model.specs.declared.attributes.Attribute.{Attribute}
@@ -60,7 +60,8 @@ closing (Remark chars) = []
 
 abbrev pub html_of : Forest Content → List ℕ
 html_of Nil = []
-html_of (Tree label content children rest) = opening content ++ html_of children ++ closing content ++ html_of rest
+html_of (Tree label content children rest) =
+    opening content ++ html_of children ++ closing content ++ html_of rest
 
 -- the HTML of the document, the first tree: that of its children
 abbrev pub document_html : Forest Content → List ℕ

@@ -35,7 +35,8 @@ indent (suc level) = codes "  " ++ indent level
 abbrev pub lines_of : ℕ → Forest Content → List ℕ
 lines_of level Nil = []
 lines_of level (Tree label content children rest) =
-    indent level ++ node_line content ++ codes "\n" ++ lines_of (level + 1) children ++ lines_of level rest
+    indent level ++ node_line content ++ codes "\n" ++ lines_of (level + 1) children
+    ++ lines_of level rest
 
 -- the listing of the document, the first tree: that of the nodes below it
 abbrev pub document_lines : Forest Content → List ℕ

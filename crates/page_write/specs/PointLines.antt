@@ -1,4 +1,5 @@
--- The listing of the kept points: the selection's two, and the marks in their order, each by path and offset.
+-- The listing of the kept points: the selection's two, and the marks in their order, each by path
+-- and offset.
 use Rattle.std.specs.Prelude.{ℕ, List, ◌++◌, Option, Some, None, codes, IfSome}
 use Rattle.std.specs.List.{flat_map, All}
 use Rattle.std.specs.Fmt.{decimal}

@@ -90,7 +90,8 @@ fn push_attributes(bytes: &mut Vec<u8>, list: &Attributes) -> Result<(), AllocEr
     Ok(())
 }
 
-/// Appends a start tag, in which each attribute has its value in `"`. After an `Err` a part of it stands in the bytes.
+/// Appends a start tag, in which each attribute has its value in `"`. After an `Err` a part of it
+/// stands in the bytes.
 pub fn push_start_tag(bytes: &mut Vec<u8>, name: &Name, list: &Attributes) -> Result<(), AllocError>
     ensures ok { OnOk result (bytes.new.items ≡ bytes.old.items ++ start_tag name.now list.now) }
 {
@@ -147,7 +148,8 @@ fn push_closing(bytes: &mut Vec<u8>, content: &Content) -> Result<(), AllocError
 fn push_trees(bytes: &mut Vec<u8>, arena: &Arena, first: Option<NodeRef>) -> Result<(), AllocError>
     requires held { IfSome first (λ r. Holds arena.now r) }
     requires inner { IsInner arena.now.trees (label first) }
-    ensures ok { OnOk result (bytes.new.items ≡ bytes.old.items ++ html_of (onward_at arena.now.trees (label first))) }
+    ensures ok { OnOk result (bytes.new.items ≡ bytes.old.items
+        ++ html_of (onward_at arena.now.trees (label first))) }
 {
     arena.valid();
     let mut at = first;
@@ -161,7 +163,8 @@ fn push_trees(bytes: &mut Vec<u8>, arena: &Arena, first: Option<NodeRef>) -> Res
     Ok(())
 }
 
-/// The document as HTML text, in UTF-8: the nodes below the Document in tree order. Its calls go as deep as the tree.
+/// The document as HTML text, in UTF-8: the nodes below the Document in tree order. Its calls go as
+/// deep as the tree.
 pub fn write_html(alloc: Global, arena: &Arena) -> Result<Vec<u8>, AllocError>
     ensures { IfOk result (λ bytes. bytes.items ≡ document_html arena.now.trees) }
 {

@@ -116,10 +116,10 @@ fn push_lines(
     Ok(())
 }
 
-/// The document as a listing, in UTF-8: a line for each node below the Document in tree order, indented by two
-/// spaces for each level below the first. An element's line is its start tag, with LF, CR and tab as `\n`, `\r` and
-/// `\t`; a text stands in quotes and a comment between `<!--` and `-->`, each escaped. Its calls go as deep as the
-/// tree.
+/// The document as a listing, in UTF-8: a line for each node below the Document in tree order,
+/// indented by two spaces for each level below the first. An element's line is its start tag, with
+/// LF, CR and tab as `\n`, `\r` and `\t`; a text stands in quotes and a comment between `<!--` and
+/// `-->`, each escaped. Its calls go as deep as the tree.
 pub fn write_tree(alloc: Global, arena: &Arena) -> Result<Vec<u8>, AllocError>
     ensures { IfOk result (λ bytes. bytes.items ≡ document_lines arena.now.trees) }
 {

@@ -17,7 +17,8 @@ fn push_point(
     point: Point,
 ) -> Result<(), AllocError>
     requires { IsWithin arena.now.trees 0 point.label }
-    ensures ok { OnOk result (bytes.new.items ≡ bytes.old.items ++ point_text arena.now.trees point) }
+    ensures ok { OnOk result (bytes.new.items ≡ bytes.old.items
+        ++ point_text arena.now.trees point) }
 {
     arena.valid();
     match arena.find(point.label) {
@@ -37,7 +38,8 @@ fn push_pair(
     pair: Pair,
 ) -> Result<(), AllocError>
     requires { IsIn arena.now.trees pair }
-    ensures ok { OnOk result (bytes.new.items ≡ bytes.old.items ++ selection_lines arena.now.trees (Some pair)) }
+    ensures ok { OnOk result (bytes.new.items ≡ bytes.old.items
+        ++ selection_lines arena.now.trees (Some pair)) }
 {
     bytes.extend_from_slice(b"anchor ")?;
     push_point(alloc, bytes, arena, pair.anchor)?;
@@ -54,7 +56,8 @@ fn push_selection(
     selection: Option<Pair>,
 ) -> Result<(), AllocError>
     requires { IfSome selection (IsIn arena.now.trees) }
-    ensures ok { OnOk result (bytes.new.items ≡ bytes.old.items ++ selection_lines arena.now.trees selection) }
+    ensures ok { OnOk result (bytes.new.items ≡ bytes.old.items
+        ++ selection_lines arena.now.trees selection) }
 {
     match selection {
         None => bytes.extend_from_slice(b"none\n"),
@@ -70,7 +73,8 @@ fn push_mark(
     pair: Pair,
 ) -> Result<(), AllocError>
     requires { IsIn arena.now.trees pair }
-    ensures ok { OnOk result (bytes.new.items ≡ bytes.old.items ++ mark_line arena.now.trees (name.now, pair)) }
+    ensures ok { OnOk result (bytes.new.items ≡ bytes.old.items
+        ++ mark_line arena.now.trees (name.now, pair)) }
 {
     bytes.extend_from_slice(b"mark ")?;
     bytes.extend_from_slice(name)?;
@@ -90,7 +94,8 @@ fn push_marks(
     points: &Points,
 ) -> Result<(), AllocError>
     requires { AreIn arena.now.trees points.now }
-    ensures ok { OnOk result (bytes.new.items ≡ bytes.old.items ++ mark_lines arena.now.trees points.now.marks) }
+    ensures ok { OnOk result (bytes.new.items ≡ bytes.old.items
+        ++ mark_lines arena.now.trees points.now.marks) }
 {
     points.valid();
     let mut place = 0;
@@ -101,8 +106,8 @@ fn push_marks(
     Ok(())
 }
 
-/// The kept points as lines: `none`, or the anchor and the focus of the selection; then each mark in the order of the
-/// marks. A point is the path of its node, `:` and its offset.
+/// The kept points as lines: `none`, or the anchor and the focus of the selection; then each mark
+/// in the order of the marks. A point is the path of its node, `:` and its offset.
 #[tactic(auto, unfolding(crate::specs::PointLines::point_lines))]
 pub fn write_points(alloc: Global, arena: &Arena, points: &Points) -> Result<Vec<u8>, AllocError>
     requires { AreIn arena.now.trees points.now }

@@ -1,5 +1,5 @@
--- Which of two points comes first (DOM Standard, "boundary point position"), and whether a point stands in the
--- document.
+-- Which of two points comes first (DOM Standard, "boundary point position"), and whether a point
+-- stands in the document.
 use Rattle.std.specs.Prelude.{ℕ, Bool, not, ◌&&◌, ◌==◌, nat_lt, nat_le, Option, Some, None, if◌then◌else◌, find}
 use Rattle.dom_model.specs.declared.Content.{Content}
 use Rattle.dom_model.specs.Forest.{Forest, is_label, count_of, tree_of, children_of}
@@ -22,8 +22,8 @@ child_toward f top l = find (λ k. is_within f k l) (children_of f top)
 abbrev pub is_earlier : Forest Content → ℕ → ℕ → Bool
 is_earlier f a b = is_label (first_of_two f a b) a
 
--- the place just before a child of q's node comes before q; without a child, where neither node is above the other,
--- tree order decides
+-- the place just before a child of q's node comes before q; without a child, where neither node is
+-- above the other, tree order decides
 abbrev pub is_before_below : Forest Content → Point → Point → Option ℕ → Bool
 is_before_below f p q None = is_earlier f p.label q.label
 is_before_below f p q (Some k) = nat_lt (index_of f k) q.offset
@@ -36,7 +36,8 @@ is_before_apart f p q (Some k) = nat_le p.offset (index_of f k)
 -- p comes before q
 unfoldable pub is_before : Forest Content → Point → Point → Bool
 is_before f p q =
-    if p.label == q.label then nat_lt p.offset q.offset else is_before_apart f p q (child_toward f p.label q.label)
+    if p.label == q.label then nat_lt p.offset q.offset
+    else is_before_apart f p q (child_toward f p.label q.label)
 
 -- a node is in the document, whose root has the label 0
 abbrev pub is_in_document : Forest Content → ℕ → Bool

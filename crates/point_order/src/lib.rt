@@ -1,7 +1,7 @@
 //! The order of points in a tree, and whether a point stands in the document.
 //!
-//! A point is a node, named by its label, and an offset in it. Which of two comes first is the DOM Standard's
-//! position of one boundary point relative to another.
+//! A point is a node, named by its label, and an offset in it. Which of two comes first is the DOM
+//! Standard's position of one boundary point relative to another.
 #![tactic(auto)]
 
 ghost use Rattle.std.specs.Prelude.{◌≡◌, ◌<◌, None, length, nat_le};
@@ -13,11 +13,13 @@ ghost use Rattle.point_order.specs.PointOrder.{child_toward, is_ancestor, is_bef
 use live_range::Point;
 use node_arena::{Content, NodeRef, Nodes};
 
-/// The child of `top` that the node is, or stands below; `None` where the node is `top` or isn't in its tree.
+/// The child of `top` that the node is, or stands below; `None` where the node is `top` or isn't in
+/// its tree.
 pub fn child_toward<N: Nodes>(nodes: &N, top: NodeRef, node: NodeRef) -> Option<NodeRef>
     requires top_held { N.holds nodes.now top }
     requires node_held { N.holds nodes.now node }
-    ensures { Names (N.holds nodes.now) result (child_toward (N.trees nodes.now) top.label node.label) }
+    ensures { Names (N.holds nodes.now) result
+        (child_toward (N.trees nodes.now) top.label node.label) }
 {
     nodes.valid();
     let mut at = node;
@@ -48,7 +50,8 @@ pub fn is_ancestor<N: Nodes>(nodes: &N, top: NodeRef, node: NodeRef) -> bool
     top.label != node.label && is_within(nodes, top, node)
 }
 
-/// Whether a node comes before another one in tree order. `false` where they are in different trees.
+/// Whether a node comes before another one in tree order. `false` where they are in different
+/// trees.
 pub fn is_earlier<N: Nodes>(nodes: &N, node: NodeRef, other: NodeRef) -> bool
     requires node_held { N.holds nodes.now node }
     requires other_held { N.holds nodes.now other }
@@ -118,7 +121,8 @@ pub fn root_of<N: Nodes>(nodes: &N, node: NodeRef) -> NodeRef
     at
 }
 
-// Whether a node has at least this many children. It takes a step for each, and none for those after them.
+// Whether a node has at least this many children. It takes a step for each, and none for those
+// after them.
 fn has_children<N: Nodes>(nodes: &N, node: NodeRef, count: u32) -> bool
     requires { N.holds nodes.now node }
     ensures { result ≡ nat_le count (length (children_of (N.trees nodes.now) node.label)) }

@@ -31,7 +31,8 @@ word_of verbs.Log = codes "log"
 
 -- up to its first space, or as a whole where it has none, the line is this word
 abbrev pub BeginsWith : List ℕ → Verb → Type 0
-BeginsWith line verb = (line ≡ word_of verb) ⊎ ((rest : List ℕ) × (line ≡ word_of verb ++ 32 ∷ rest))
+BeginsWith line verb =
+    (line ≡ word_of verb) ⊎ ((rest : List ℕ) × (line ≡ word_of verb ++ 32 ∷ rest))
 
 -- ---- names and numbers
 
@@ -63,7 +64,8 @@ AreNumbers (text ∷ texts) (n ∷ ns) = IsNumber text n × AreNumbers texts ns
 -- `.` for the document, and else the indexes of children joined by `/`
 abbrev pub IsPath : List ℕ → List ℕ → Type 0
 IsPath text [] = text ≡ codes "."
-IsPath text (n ∷ ns) = (texts : List (List ℕ)) × (text ≡ join_with_byte 47 texts) × AreNumbers texts (n ∷ ns)
+IsPath text (n ∷ ns) =
+    (texts : List (List ℕ)) × (text ≡ join_with_byte 47 texts) × AreNumbers texts (n ∷ ns)
 
 -- a path, `:` and an offset
 abbrev pub IsPoint : List ℕ → Place → Type 0
@@ -103,8 +105,8 @@ meaning (Scalar digits) = digits_value 16 digits
 abbrev pub is_hex_digit : ℕ → Bool
 is_hex_digit c = is_digit c 16
 
--- a character but `\` stands for itself, and 1 to 6 hexadecimal digits for a scalar value; a printed text has two
--- escapes more than a value
+-- a character but `\` stands for itself, and 1 to 6 hexadecimal digits for a scalar value; a
+-- printed text has two escapes more than a value
 abbrev pub IsPiece : (printed : Bool) → Piece → Type 0
 IsPiece printed (Itself c) = IsScalar c × (c ≢ 92)
 IsPiece printed LineFeed = Unit {0}
@@ -122,12 +124,14 @@ ArePieces printed (p ∷ ps) = IsPiece printed p × ArePieces printed ps
 -- a text of characters spells these characters
 abbrev pub SpellsChars : (printed : Bool) → (text chars : List ℕ) → Type 0
 SpellsChars printed text chars =
-    (pieces : List Piece) × ArePieces printed pieces × (text ≡ flat_map spelling pieces) × (chars ≡ map meaning pieces)
+    (pieces : List Piece) × ArePieces printed pieces × (text ≡ flat_map spelling pieces)
+    × (chars ≡ map meaning pieces)
 
 -- the bytes of such a text, which are UTF-8
 abbrev pub SpellsBytes : (printed : Bool) → (bytes chars : List ℕ) → Type 0
 SpellsBytes printed bytes chars =
-    (text : List ℕ) × (all_scalars text ≡ true) × (encode_utf8_all text ≡ bytes) × SpellsChars printed text chars
+    (text : List ℕ) × (all_scalars text ≡ true) × (encode_utf8_all text ≡ bytes)
+    × SpellsChars printed text chars
 
 abbrev pub IsValue : List ℕ → List ℕ → Type 0
 IsValue bytes value = SpellsBytes false bytes value
@@ -141,22 +145,26 @@ spaced parts = join_with_byte 32 parts
 -- the line spells this act
 abbrev pub Spells : List ℕ → Act → Type 0
 Spells line (Select anchor focus) =
-    (a f : List ℕ) × (line ≡ spaced (codes "select" ∷ a ∷ f ∷ [])) × IsPoint a anchor × IsPoint f focus
+    (a f : List ℕ) × (line ≡ spaced (codes "select" ∷ a ∷ f ∷ [])) × IsPoint a anchor
+    × IsPoint f focus
 Spells line Unselect = line ≡ codes "unselect"
 Spells line (Mark name anchor focus) =
-    (a f : List ℕ) × (line ≡ spaced (codes "mark" ∷ name ∷ a ∷ f ∷ [])) × IsName name × IsPoint a anchor
+    (a f : List ℕ) × (line ≡ spaced (codes "mark" ∷ name ∷ a ∷ f ∷ [])) × IsName name
+    × IsPoint a anchor
     × IsPoint f focus
 Spells line (Unmark name) = (line ≡ spaced (codes "unmark" ∷ name ∷ [])) × IsName name
 Spells line (Exec name value) =
     IsName name
     × (((line ≡ spaced (codes "exec" ∷ name ∷ [])) × (value ≡ []))
     ⊎ ((bytes : List ℕ) × (line ≡ spaced (codes "exec" ∷ name ∷ bytes ∷ [])) × IsValue bytes value))
-Spells line (Query kind name) = (line ≡ spaced (codes "query" ∷ query_word kind ∷ name ∷ [])) × IsName name
+Spells line (Query kind name) =
+    (line ≡ spaced (codes "query" ∷ query_word kind ∷ name ∷ [])) × IsName name
 Spells line (Undo count) = (digits : List ℕ) × (line ≡ spaced (codes "undo" ∷ digits ∷ []))
     × IsNumber digits count × (0 < count)
 Spells line (Redo count) = (digits : List ℕ) × (line ≡ spaced (codes "redo" ∷ digits ∷ []))
     × IsNumber digits count × (0 < count)
-Spells line (Probe path) = (text : List ℕ) × (line ≡ spaced (codes "probe" ∷ text ∷ [])) × IsPath text path
+Spells line (Probe path) =
+    (text : List ℕ) × (line ≡ spaced (codes "probe" ∷ text ∷ [])) × IsPath text path
 Spells line Html = line ≡ codes "html"
 Spells line Tree = line ≡ codes "tree"
 Spells line Points = line ≡ codes "points"

@@ -8,15 +8,18 @@ use Rattle.script_read.specs.Acts.{SpellsChars}
 abbrev pub TextsReadBack : Type 0
 TextsReadBack =
     (text : List ℕ) → all_scalars text ≡ true
-    → SpellsChars true (escaped text) text × ((chars : List ℕ) → SpellsChars true (escaped text) chars → chars ≡ text)
+    → SpellsChars true (escaped text) text
+    × ((chars : List ℕ) → SpellsChars true (escaped text) chars → chars ≡ text)
 
 -- no `"` and no CR
 abbrev pub IsPlain : List ℕ → Type 0
 IsPlain [] = Unit {0}
 IsPlain (c ∷ cs) = (c ≢ 34) × (c ≢ 13) × IsPlain cs
 
--- and so it does as a value where none of them is a `"` or a CR, whose printed escapes a value doesn't have
+-- and so it does as a value where none of them is a `"` or a CR, whose printed escapes a value
+-- doesn't have
 abbrev pub ValuesReadBack : Type 0
 ValuesReadBack =
     (text : List ℕ) → all_scalars text ≡ true → IsPlain text
-    → SpellsChars false (escaped text) text × ((chars : List ℕ) → SpellsChars false (escaped text) chars → chars ≡ text)
+    → SpellsChars false (escaped text) text
+    × ((chars : List ℕ) → SpellsChars false (escaped text) chars → chars ≡ text)

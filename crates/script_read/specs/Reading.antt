@@ -71,7 +71,8 @@ place_at path offset = record { path = path; offset = offset }
 
 unfoldable pub point_of : List ℕ → Option Place
 point_of text =
-    cut 58 text >>= λ parts. number_of parts.1 >>= λ offset. path_of parts.0 >>= λ path. Some (place_at path offset)
+    cut 58 text >>= λ parts. number_of parts.1 >>= λ offset. path_of parts.0 >>= λ path.
+    Some (place_at path offset)
 
 -- two points with a space between
 unfoldable pub points_of : List ℕ → Option (Place × Place)
@@ -102,19 +103,23 @@ letter_read printed c =
     else None)))))
 
 abbrev pub closed : ℕ → ℕ → Option Step
-closed count number = if count == 0 then None else (if scalar number then Some (escapes.Outside, Some number) else None)
+closed count number = if count == 0 then None
+    else (if scalar number then Some (escapes.Outside, Some number) else None)
 
 abbrev pub digit_read : ℕ → ℕ → ℕ → Option Step
 digit_read count number c =
     if count == 6 then None
-    else (if is_hex_digit c then Some (escapes.Digits (count + 1) (number * 16 + digit_value c), None) else None)
+    else (if is_hex_digit c then
+    Some (escapes.Digits (count + 1) (number * 16 + digit_value c), None) else None)
 
 -- one character more; a printed text has two escapes more than a value
 abbrev pub stepped : Bool → Escape → ℕ → Option Step
-stepped printed escapes.Outside c = if c == 92 then Some (escapes.Backslash, None) else Some (escapes.Outside, Some c)
+stepped printed escapes.Outside c =
+    if c == 92 then Some (escapes.Backslash, None) else Some (escapes.Outside, Some c)
 stepped printed escapes.Backslash c = letter_read printed c
 stepped printed escapes.Letter c = if c == 123 then Some (escapes.Digits 0 0, None) else None
-stepped printed (escapes.Digits count number) c = if c == 125 then closed count number else digit_read count number c
+stepped printed (escapes.Digits count number) c =
+    if c == 125 then closed count number else digit_read count number c
 
 abbrev pub is_outside : Escape → Bool
 is_outside escapes.Outside = true
@@ -129,7 +134,8 @@ value_from printed state (c ∷ cs) =
     option_map (λ value. option_to_list step.1 ++ value) (value_from printed step.0 cs)
 
 unfoldable pub text_of : Bool → List ℕ → Option (List ℕ)
-text_of printed bytes = if is_utf8 bytes then value_from printed escapes.Outside (chars bytes) else None
+text_of printed bytes =
+    if is_utf8 bytes then value_from printed escapes.Outside (chars bytes) else None
 
 abbrev pub value_of : List ℕ → Option (List ℕ)
 value_of bytes = text_of false bytes
@@ -149,7 +155,8 @@ mark_of text =
 
 abbrev pub exec_parts : List ℕ → Option (List ℕ × List ℕ) → Option Act
 exec_parts text None = name_of text >>= λ name. Some (Exec name [])
-exec_parts text (Some parts) = name_of parts.0 >>= λ name. value_of parts.1 >>= λ value. Some (Exec name value)
+exec_parts text (Some parts) =
+    name_of parts.0 >>= λ name. value_of parts.1 >>= λ value. Some (Exec name value)
 
 unfoldable pub exec_of : List ℕ → Option Act
 exec_of text = exec_parts text (cut 32 text)
@@ -213,8 +220,10 @@ act_of verb (Some text) = arguments_act verb text
 
 abbrev pub all_verbs : List Verb
 all_verbs =
-    verbs.Select ∷ verbs.Unselect ∷ verbs.Mark ∷ verbs.Unmark ∷ verbs.Exec ∷ verbs.Query ∷ verbs.Undo
-    ∷ verbs.Redo ∷ verbs.Probe ∷ verbs.Html ∷ verbs.Tree ∷ verbs.Points ∷ verbs.Stat ∷ verbs.Log ∷ []
+    verbs.Select ∷ verbs.Unselect ∷ verbs.Mark ∷ verbs.Unmark ∷ verbs.Exec ∷ verbs.Query
+    ∷ verbs.Undo
+    ∷ verbs.Redo ∷ verbs.Probe ∷ verbs.Html ∷ verbs.Tree ∷ verbs.Points ∷ verbs.Stat ∷ verbs.Log
+    ∷ []
 
 abbrev pub verb_of : List ℕ → Option Verb
 verb_of word = find (λ verb. bytes_eq (word_of verb) word) all_verbs

@@ -9,7 +9,8 @@ use std::error::Error;
 use std::fmt;
 use std::marker::Copy;
 
-/// The way from the document to a node: the index of a child in each node on the way. The document's own is empty.
+/// The way from the document to a node: the index of a child in each node on the way. The
+/// document's own is empty.
 pub type Path = Items<u32>;
 
 /// A point: a node by its path, and an offset in it.
@@ -76,7 +77,8 @@ pub enum Act {
 /// Why a line is no act. The number is the one that is printed.
 #[derive(Clone, Copy, PartialEq, Eq, Debug)]
 pub enum LineFault {
-    /// Its first word is an act's, and the line is outside the grammar of that act, or outside UTF-8.
+    /// Its first word is an act's, and the line is outside the grammar of that act, or outside
+    /// UTF-8.
     Syntax = 1,
     /// Its first word, up to the first space, is no act's.
     UnknownAct = 2,

@@ -1,4 +1,5 @@
-//! Lines of a session, read into acts. [`read_line`] is the whole grammar, and [`read_number`] that of its numbers.
+//! Lines of a session, read into acts. [`read_line`] is the whole grammar, and [`read_number`] that
+//! of its numbers.
 #![tactic(auto)]
 
 mod act;

@@ -196,19 +196,22 @@ fn read(alloc: Global, line: &[u8]) -> Result<Act, LineFault>
 
 /// The act that a line spells, or why it spells none. The line comes without its LF.
 ///
-/// The faults are tried in this order: the line has more than 8,192 bytes; its first word, up to the first space, is no
-/// act's; it is outside the grammar or outside UTF-8. Memory may run out for the parts that the act holds.
+/// The faults are tried in this order: the line has more than 8,192 bytes; its first word, up to
+/// the first space, is no act's; it is outside the grammar or outside UTF-8. Memory may run out for
+/// the parts that the act holds.
 pub fn read_line(alloc: Global, line: &[u8]) -> Result<Act, LineFault>
     ensures computed { GivesAct result (line_of line.now) }
     ensures meaning { IsLine line.now (line_of line.now) }
     ensures one_meaning { (l : Line) → IsLine line.now l → line_of line.now ≡ l }
     ensures act { IfOk result (λ act. (length line.now ≤ 8192) × Spells line.now act) }
-    ensures spelled { (act : Act) → length line.now ≤ 8192 → Spells line.now act → Reads result (Some act) }
+    ensures spelled { (act : Act) → length line.now ≤ 8192 → Spells line.now act
+        → Reads result (Some act) }
     ensures one_act { (a b : Act) → Spells line.now a → Spells line.now b → a ≡ b }
     ensures long { (result ≡ Err LineFault.LongLine) ↔ (8192 < length line.now) }
     ensures unknown { (result ≡ Err LineFault.UnknownAct) ↔ IsUnknown line.now }
     ensures syntax { result ≡ Err LineFault.Syntax → IsOutside line.now }
-    ensures outside { IsOutside line.now → (result ≡ Err LineFault.Syntax) ⊎ (result ≡ Err LineFault.Memory) }
+    ensures outside { IsOutside line.now → (result ≡ Err LineFault.Syntax)
+        ⊎ (result ≡ Err LineFault.Memory) }
 {
     read(alloc, line)
 }

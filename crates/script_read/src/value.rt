@@ -129,15 +129,16 @@ fn read_text(alloc: Global, printed: bool, text: &[u8]) -> Result<Chars, LineFau
     }
 }
 
-/// A value: UTF-8 text with the escapes `\n`, `\t`, `\\` and `\u{h}`, h being 1 to 6 hexadecimal digits of a scalar
-/// value. Every other character stands for itself.
+/// A value: UTF-8 text with the escapes `\n`, `\t`, `\\` and `\u{h}`, h being 1 to 6 hexadecimal
+/// digits of a scalar value. Every other character stands for itself.
 pub fn read_value(alloc: Global, text: &[u8]) -> Result<Chars, LineFault>
     ensures { Reads result (value_of text.now) }
 {
     read_text(alloc, false, text)
 }
 
-/// A printed text: UTF-8 text with the escapes of a value, and `\"` and `\r`. Every other character stands for itself.
+/// A printed text: UTF-8 text with the escapes of a value, and `\"` and `\r`. Every other character
+/// stands for itself.
 pub fn read_printed(alloc: Global, text: &[u8]) -> Result<Chars, LineFault>
     ensures { Reads result (printed_of text.now) }
 {

@@ -38,13 +38,15 @@ is_there_or_end f (Some l) = is_there f l
 unfoldable pub has_labels : StepLine → Labelled → Bool
 has_labels Entry d = true
 has_labels (Make l made) d = nat_le d.next l && nat_lt l d.cap
-has_labels (Insert l p b) d = is_there d.trees l && (is_there d.trees p && is_there_or_end d.trees b)
+has_labels (Insert l p b) d =
+    is_there d.trees l && (is_there d.trees p && is_there_or_end d.trees b)
 has_labels (Remove l) d = is_there d.trees l
 has_labels (Move l p b) d = is_there d.trees l && (is_there d.trees p && is_there_or_end d.trees b)
 has_labels (Words l words) d = is_there d.trees l
 has_labels (Tag l name attributes) d = is_there d.trees l
 
--- the tree of l can stand under p, which is the Document or an element that isn't in that tree, before b
+-- the tree of l can stand under p, which is the Document or an element that isn't in that tree,
+-- before b
 unfoldable pub can_stand : Forest Content → ℕ → ℕ → Option ℕ → Bool
 can_stand f l p b = is_parent_at f p && (not (is_within f l p) && is_place f p b l)
 
@@ -69,7 +71,8 @@ has_place (Move l p b) f = is_some (parent_of f l) && can_stand f l p b
 has_place (Words l words) f = is_text_at f l
 has_place (Tag l name attributes) f = has_name f l name
 
--- the tree of l may come to stand under p: that isn't in the document, or no node comes to be too deep there
+-- the tree of l may come to stand under p: that isn't in the document, or no node comes to be too
+-- deep there
 unfoldable pub has_room_under : Forest Content → ℕ → ℕ → Bool
 has_room_under f l p = if is_in_document f p then nat_le (reach_of p l f) 1000 else true
 
@@ -83,7 +86,8 @@ has_room _ f = true
 unfoldable pub fault_of : StepLine → Labelled → Option StepFault
 fault_of x d =
     if has_labels x d
-    then (if has_place x d.trees then (if has_room x d.trees then None else Some TooDeep) else Some BadPlace)
+    then (if has_place x d.trees then (if has_room x d.trees then None else Some TooDeep)
+    else Some BadPlace)
     else Some BadLabel
 
 -- ---- what lines do
@@ -111,15 +115,17 @@ unfoldable pub line_applied : StepLine → Labelled → Labelled
 line_applied x d = record d { trees = trees_after x d.trees; next = next_after x d.next }
 
 -- the line of this number is refused, or else what comes of those after it
-abbrev pub refused_or : ℕ → Option StepFault → Result Labelled (ℕ × StepFault) → Result Labelled (ℕ × StepFault)
+abbrev pub refused_or : ℕ → Option StepFault → Result Labelled (ℕ × StepFault)
+    → Result Labelled (ℕ × StepFault)
 refused_or number None onward = onward
 refused_or number (Some fault) onward = Err (number, fault)
 
--- the number of the first line that doesn't fit, where the first of the list has this number, and why; else the
--- document after all
+-- the number of the first line that doesn't fit, where the first of the list has this number, and
+-- why; else the document after all
 unfoldable pub replayed_from : ℕ → List StepLine → Labelled → Result Labelled (ℕ × StepFault)
 replayed_from number [] d = Ok d
-replayed_from number (x ∷ xs) d = refused_or number (fault_of x d) (replayed_from (number + 1) xs (line_applied x d))
+replayed_from number (x ∷ xs) d =
+    refused_or number (fault_of x d) (replayed_from (number + 1) xs (line_applied x d))
 
 -- lines one after another, numbered from 1
 abbrev pub replayed : List StepLine → Labelled → Result Labelled (ℕ × StepFault)

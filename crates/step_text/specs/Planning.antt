@@ -1,5 +1,5 @@
--- How a step line is turned into a step of the arena before it is applied. Only `labelled` and the rest of `Applying`
--- stand in public clauses.
+-- How a step line is turned into a step of the arena before it is applied. Only `labelled` and the
+-- rest of `Applying` stand in public clauses.
 use Rattle.std.specs.Prelude.{◌≡◌, ℕ, Bool, Option, Some, None, is_some, IfSome, IfNone, Result, Ok, Err, OnOk, OnErr, IsErrOf, IsOkUnless}
 use Rattle.dom_model.specs.declared.Content.{Content}
 use Rattle.dom_model.specs.Forest.{Forest, parent_of}
@@ -31,7 +31,8 @@ Plans x a (Ok step) = IsStepOf x a step
 Plans x a (Err fault) = fault_of x (labelled a) ≡ Some fault
 
 -- the line is applied, or refused, and then all stays
-pub record Applies {A : Type 0} (x : StepLine) (old new : ArenaState) (result : Result A StepFault) : Type 0 where
+pub record Applies {A : Type 0} (x : StepLine) (old new : ArenaState)
+    (result : Result A StepFault) : Type 0 where
   pub refused : IfSome (fault_of x (labelled old)) (λ fault. IsErrOf result fault)
   pub taken : IfNone (fault_of x (labelled old)) (IsOkUnless result Memory)
   pub applied : OnOk result (labelled new ≡ line_applied x (labelled old))

@@ -17,7 +17,8 @@ line_of (change.Move n p b) name = Move n p b
 line_of (change.SetText n words) name = Words n words
 line_of (change.SetAttributes n list) name = Tag n name list
 
--- a line can say the change: it is one of the characters of a Text node, or the name is that of the element
+-- a line can say the change: it is one of the characters of a Text node, or the name is that of the
+-- element
 abbrev pub CanSay : Change → List ℕ → Forest Content → Type 0
 CanSay (change.SetText n words) name f = is_text_at f n ≡ true
 CanSay (change.SetAttributes n list) name f = name_of f n ≡ Some name

@@ -49,12 +49,14 @@ abbrev pub line_text : StepLine → List ℕ
 line_text Entry = codes "entry"
 line_text (Make label new) = codes "make " ++ decimal label ++ codes " " ++ made_text new
 line_text (Insert label parent before) =
-    codes "insert " ++ decimal label ++ codes " " ++ decimal parent ++ codes " " ++ before_text before
+    codes "insert " ++ decimal label ++ codes " " ++ decimal parent ++ codes " "
+    ++ before_text before
 line_text (Remove label) = codes "remove " ++ decimal label
 line_text (Move label parent before) =
     codes "move " ++ decimal label ++ codes " " ++ decimal parent ++ codes " " ++ before_text before
 line_text (Words label words) = codes "words " ++ decimal label ++ codes " " ++ quoted words
-line_text (Tag label name attributes) = codes "tag " ++ decimal label ++ codes " " ++ tag_text name attributes
+line_text (Tag label name attributes) =
+    codes "tag " ++ decimal label ++ codes " " ++ tag_text name attributes
 
 -- ---- the steps that lines stand for
 
@@ -68,21 +70,25 @@ is_lowered c = lower c == c
 -- an element's name in the grammar of pages, in lower case
 unfoldable pub is_element_name : List ℕ → Bool
 is_element_name [] = false
-is_element_name (b ∷ bs) = (is_letter b && is_lowered b) && list_all (λ c. is_name_char c && is_lowered c) bs
+is_element_name (b ∷ bs) =
+    (is_letter b && is_lowered b) && list_all (λ c. is_name_char c && is_lowered c) bs
 
 -- the UTF-8 of one or more characters of an attribute's name there
 abbrev pub is_attribute_text : List ℕ → Bool
-is_attribute_text text = nat_lt 0 (length text) && list_all (λ c. is_attribute_name_char c && is_lowered c) (chars text)
+is_attribute_text text =
+    nat_lt 0 (length text) && list_all (λ c. is_attribute_name_char c && is_lowered c) (chars text)
 
 unfoldable pub is_attribute_name : List ℕ → Bool
 is_attribute_name name = is_utf8 name && is_attribute_text name
 
 abbrev pub AreAttributes : List Attribute → Type 0
 AreAttributes [] = Unit {0}
-AreAttributes (a ∷ list) = (is_attribute_name a.name ≡ true) × (all_scalars a.value ≡ true) × AreAttributes list
+AreAttributes (a ∷ list) =
+    (is_attribute_name a.name ≡ true) × (all_scalars a.value ≡ true) × AreAttributes list
 
 abbrev pub IsTag : List ℕ → List Attribute → Type 0
-IsTag name attributes = (is_element_name name ≡ true) × AreAttributes attributes × IsDistinctNames attributes
+IsTag name attributes =
+    (is_element_name name ≡ true) × AreAttributes attributes × IsDistinctNames attributes
 
 abbrev pub IsMade : Made → Type 0
 IsMade (made.Element name attributes) = IsTag name attributes

@@ -102,7 +102,8 @@ abbrev pub with_attribute : List Attribute → Attribute → List Attribute
 with_attribute list a = set_in list a.name a.value
 
 -- the list afterwards is the one with the attribute that is read
-abbrev pub Adds : {X : Type 0} → Result X StepFault → (old new : List Attribute) → Option Attribute → Type 0
+abbrev pub Adds : {X : Type 0} → Result X StepFault → (old new : List Attribute) → Option Attribute
+    → Type 0
 Adds (Ok x) old new read = option_map (with_attribute old) read ≡ Some new
 Adds (Err fault) old new read = Fails fault read
 
@@ -125,7 +126,8 @@ abbrev pub tag_parts : List ℕ → List ℕ × List ℕ
 tag_parts text = name_parts (within text) (cut 32 (within text))
 
 abbrev pub named_tag : List ℕ × List ℕ → Option (List ℕ × List Attribute)
-named_tag parts = element_name_of parts.0 >>= λ name. attributes_of parts.1 >>= λ attributes. Some (name, attributes)
+named_tag parts = element_name_of parts.0 >>= λ name. attributes_of parts.1 >>= λ attributes.
+    Some (name, attributes)
 
 unfoldable pub start_tag_of : List ℕ → Option (List ℕ × List Attribute)
 start_tag_of text = named_tag (tag_parts text)
@@ -162,16 +164,19 @@ unfoldable pub make_of : List ℕ → Option StepLine
 make_of text = labelled text >>= λ node. made_of node.1 >>= λ new. Some (Make node.0 new)
 
 unfoldable pub insert_of : List ℕ → Option StepLine
-insert_of text = labelled text >>= λ node. place_of node.1 >>= λ place. Some (Insert node.0 place.0 place.1)
+insert_of text =
+    labelled text >>= λ node. place_of node.1 >>= λ place. Some (Insert node.0 place.0 place.1)
 
 unfoldable pub remove_of : List ℕ → Option StepLine
 remove_of text = number_of text >>= λ label. Some (Remove label)
 
 unfoldable pub move_of : List ℕ → Option StepLine
-move_of text = labelled text >>= λ node. place_of node.1 >>= λ place. Some (Move node.0 place.0 place.1)
+move_of text =
+    labelled text >>= λ node. place_of node.1 >>= λ place. Some (Move node.0 place.0 place.1)
 
 unfoldable pub words_step_of : List ℕ → Option StepLine
-words_step_of text = labelled text >>= λ node. words_of node.1 >>= λ words. Some (Words node.0 words)
+words_step_of text =
+    labelled text >>= λ node. words_of node.1 >>= λ words. Some (Words node.0 words)
 
 unfoldable pub tag_step_of : List ℕ → Option StepLine
 tag_step_of text = labelled text >>= λ node. tag_of node.1 >>= λ tag. Some (Tag node.0 tag.0 tag.1)

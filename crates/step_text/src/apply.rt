@@ -27,7 +27,8 @@ const DEEPEST: u64 = 1_000;
 pub fn apply_step(arena: &mut Arena, step: StepLine) -> Result<(), StepFault>
     requires { text_length step < 2 ^ 32 }
     ensures refused { IfSome (fault_of step (labelled arena.old)) (λ fault. result ≡ Err fault) }
-    ensures taken { IfNone (fault_of step (labelled arena.old)) (IsOkUnless result StepFault.Memory) }
+    ensures taken { IfNone (fault_of step (labelled arena.old))
+        (IsOkUnless result StepFault.Memory) }
     ensures applied { OnOk result (labelled arena.new ≡ line_applied step (labelled arena.old)) }
     ensures held { OnOk result (KeepsHeld arena.old arena.new) }
     ensures err { OnErr result (arena.new ≡ arena.old) }
@@ -122,7 +123,8 @@ fn find(arena: &Arena, label: u32) -> Result<NodeRef, StepFault>
 // The node of a label, if one is given.
 fn find_before(arena: &Arena, before: Option<u32>) -> Result<Option<NodeRef>, StepFault>
     ensures there { is_ok result ≡ is_there_or_end arena.now.trees before }
-    ensures found { IfOk result (λ found. (label found ≡ before) × IfSome found (λ r. Holds arena.now r)) }
+    ensures found { IfOk result (λ found. (label found ≡ before)
+        × IfSome found (λ r. Holds arena.now r)) }
     ensures absent { IsOkUnless result StepFault.BadLabel }
 {
     match before {
@@ -169,7 +171,8 @@ fn find_placing(
     })
 }
 
-// Whether the node before which another one is put is a child of the parent, and not that one itself.
+// Whether the node before which another one is put is a child of the parent, and not that one
+// itself.
 fn is_place(arena: &Arena, parent: NodeRef, before: Option<NodeRef>, node: NodeRef) -> bool
     requires { IfSome before (λ r. Holds arena.now r) }
     ensures { result ≡ is_place arena.now.trees parent.label (label before) node.label }

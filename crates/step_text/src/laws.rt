@@ -1,4 +1,5 @@
-//! What holds of step lines and of lists of them. Each law is the contract of a function that does nothing.
+//! What holds of step lines and of lists of them. Each law is the contract of a function that does
+//! nothing.
 
 ghost use Rattle.std.specs.Prelude.{◌≡◌, ◌+◌, ◌<◌, ◌≤◌, ◌↔◌, ℕ, List, ◌∷◌, ◌++◌, length, true, Some, Ok};
 ghost use Rattle.dom_model.specs.Document.{page_depth};
@@ -13,21 +14,26 @@ ghost use Rattle.step_text.specs.Replaying.{CanSay, LeadsTo, line_of};
 ghost use Rattle.step_text.specs.StepLine.{IsStepLine, line_text};
 ghost use Rattle.step_text.specs.StepReading.{step_in};
 
-/// The line of a change that fits the trees is applied and makes that change, where the document then isn't too deep. A
-/// line that makes a node is applied where its label can be drawn.
+/// The line of a change that fits the trees is applied and makes that change, where the document
+/// then isn't too deep. A line that makes a node is applied where its label can be drawn.
 pub fn lines_make_changes()
     ensures change { (x : Change) (name : List ℕ) (d : Labelled) →
         Fits x d.trees → CanSay x name d.trees → page_depth (applied x d.trees) ≤ 1000 →
         LeadsTo (line_of x name) d (record d { trees = applied x d.trees }) }
     ensures make { (l : ℕ) (made : Made) (d : Labelled) → d.next ≤ l → l < d.cap →
-        LeadsTo (Make l made) d (record d { trees = with_leaf d.trees l (made_content made); next = l + 1 }) }
+        LeadsTo (Make l made) d (record d {
+          trees = with_leaf d.trees l (made_content made);
+          next = l + 1;
+        }) }
     ensures entry { (d : Labelled) → LeadsTo Entry d d }
 {}
 
-/// While the document isn't too deep, a line that would else fit is refused exactly where it would make it so.
+/// While the document isn't too deep, a line that would else fit is refused exactly where it would
+/// make it so.
 pub fn depth_is_bounded()
     ensures { (x : StepLine) (d : Labelled) →
-        IsForest d.trees → page_depth d.trees ≤ 1000 → has_labels x d ≡ true → has_place x d.trees ≡ true →
+        IsForest d.trees → page_depth d.trees ≤ 1000 → has_labels x d ≡ true → has_place x d.trees
+        ≡ true →
         (fault_of x d ≡ Some TooDeep) ↔ (1000 < page_depth (trees_after x d.trees)) }
 {}
 
@@ -36,7 +42,8 @@ pub fn lines_go_on()
     ensures one { (number : ℕ) (x : StepLine) (xs : List StepLine) (d e : Labelled) →
         LeadsTo x d e → replayed_from number (x ∷ xs) d ≡ replayed_from (number + 1) xs e }
     ensures many { (number : ℕ) (xs ys : List StepLine) (d e : Labelled) →
-        replayed_from number xs d ≡ Ok e → replayed_from number (xs ++ ys) d ≡ replayed_from (number + length xs) ys e }
+        replayed_from number xs d ≡ Ok e → replayed_from number (xs ++ ys) d
+        ≡ replayed_from (number + length xs) ys e }
 {}
 
 /// A line stands for one step: two steps that lines stand for have different lines.
@@ -44,7 +51,8 @@ pub fn lines_have_one_step()
     ensures { (a b : StepLine) → IsStepLine a → IsStepLine b → line_text a ≡ line_text b → a ≡ b }
 {}
 
-/// A line is read as the step that has it: the one step, of those that lines stand for, that is printed so.
+/// A line is read as the step that has it: the one step, of those that lines stand for, that is
+/// printed so.
 pub fn lines_are_read()
     ensures { (line : List ℕ) (step : StepLine) →
         (step_in line ≡ Some step) ↔ (IsStepLine step × (line_text step ≡ line)) }

@@ -1,4 +1,5 @@
-//! The log of an editor as text: one line a step, read, printed, and applied to the nodes of a page.
+//! The log of an editor as text: one line a step, read, printed, and applied to the nodes of a
+//! page.
 #![tactic(auto)]
 
 mod apply;

@@ -47,7 +47,8 @@ fn is_element_name(name: &[u8]) -> bool
 }
 
 fn all_attribute_name_chars(text: &str) -> bool
-    ensures { result ≡ list_all (λ c. classes.is_attribute_name_char c && names.is_lowered c) (chars text.now) }
+    ensures { result
+        ≡ list_all (λ c. classes.is_attribute_name_char c && names.is_lowered c) (chars text.now) }
 {
     text.chars()
         .all(|c| is_attribute_name_char(c) && is_lowered(c))

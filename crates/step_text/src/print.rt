@@ -44,7 +44,8 @@ fn push_tag_bytes(bytes: &mut Vec<u8>, tag: &[u8]) -> Result<(), AllocError>
 }
 
 fn push_tag(bytes: &mut Vec<u8>, name: &Name, attributes: &Attributes) -> Result<(), AllocError>
-    ensures ok { OnOk result (bytes.new.items ≡ bytes.old.items ++ tag_text name.now attributes.now) }
+    ensures ok { OnOk result (bytes.new.items ≡ bytes.old.items
+        ++ tag_text name.now attributes.now) }
 {
     let mut tag = Vec::new(*bytes.allocator());
     push_start_tag(&mut tag, name, attributes)?;

@@ -205,7 +205,8 @@ pub fn read_step(alloc: Global, line: &[u8]) -> Result<StepLine, StepFault>
         (result ≡ Ok step) ⊎ (result ≡ Err StepFault.Memory) }
     ensures syntax { result ≡ Err StepFault.Syntax →
         (step : StepLine) → IsStepLine step → ¬ (line_text step ≡ line.now) }
-    ensures fault { IfErr result (λ fault. (fault ≡ StepFault.Syntax) ⊎ (fault ≡ StepFault.Memory)) }
+    ensures fault { IfErr result (λ fault. (fault ≡ StepFault.Syntax)
+        ⊎ (fault ≡ StepFault.Memory)) }
 {
     let step = read_leniently(alloc, line)?;
     let printed = print_step(alloc, &step)?;

@@ -1,4 +1,5 @@
-//! Start tags on one line, read as they are written: where the text is no start tag, anything may be read.
+//! Start tags on one line, read as they are written: where the text is no start tag, anything may
+//! be read.
 
 ghost use Rattle.std.specs.Prelude.{◌≡◌, ◌++◌, IfOk, OnOk, Some, None, true, false};
 ghost use Rattle.std.specs.Str.{all_scalars};
@@ -48,7 +49,8 @@ fn unescaped_byte(b: u8) -> u8
 
 // Appends what one byte more of a tag gives.
 fn push_unescaped(bytes: &mut Vec<u8>, escaped: bool, b: u8) -> Result<(), AllocError>
-    ensures ok { OnOk result (bytes.new.items ≡ bytes.old.items ++ reading.unescaped_gives escaped b) }
+    ensures ok { OnOk result (bytes.new.items ≡ bytes.old.items
+        ++ reading.unescaped_gives escaped b) }
 {
     if escaped {
         bytes.push(unescaped_byte(b))?;
@@ -93,7 +95,8 @@ fn referenced(letter: u8) -> char
 
 // Appends what one byte more of a value gives.
 fn push_dereferenced(bytes: &mut Vec<u8>, state: Reference, b: u8) -> Result<(), AllocError>
-    ensures ok { OnOk result (bytes.new.items ≡ bytes.old.items ++ reading.referenced_gives state b) }
+    ensures ok { OnOk result (bytes.new.items ≡ bytes.old.items
+        ++ reading.referenced_gives state b) }
 {
     match state {
         Reference::Outside if b == b'&' => {}
@@ -149,7 +152,8 @@ fn add_attribute(
     quoted: &[u8],
 ) -> Result<(), StepFault>
     requires { AreAttributes attributes.old }
-    ensures read { reading.Adds result attributes.old attributes.new (reading.attribute_of head.now quoted.now) }
+    ensures read { reading.Adds result attributes.old attributes.new
+        (reading.attribute_of head.now quoted.now) }
     ensures sound { AreAttributes attributes.new }
 {
     let name = read_attribute_name(alloc, within(head))?;

@@ -42,7 +42,8 @@ impl Scanner {
         requires below { self.old.arena.next < self.old.arena.cap }
         requires tag { taken self.old.lexical ≡ 1 }
         ensures went { OnOk result (Goes
-            (Some (machine.started (machine_of self.old) self.old.tag.items (read_attributes self.old.attributes)))
+            (Some (machine.started (machine_of self.old) self.old.tag.items
+            (read_attributes self.old.attributes)))
             self.old self.new) }
         ensures cap { OnOk result (self.new.arena.cap ≡ self.old.arena.cap) }
         ensures steady { OnOk result (Steady self.new) }
@@ -72,7 +73,8 @@ impl Scanner {
         requires tag { taken self.old.lexical ≡ 1 }
         requires may { ((c == 62) || ((c == 47) && names.is_void self.old.tag.items)) ≡ true }
         ensures went { OnOk result (Goes
-            (machine.tag_end (machine_of self.old) self.old.tag.items (read_attributes self.old.attributes) c)
+            (machine.tag_end (machine_of self.old) self.old.tag.items
+            (read_attributes self.old.attributes) c)
             self.old self.new) }
         ensures cap { OnOk result (self.new.arena.cap ≡ self.old.arena.cap) }
         ensures steady { OnOk result (Steady self.new) }
@@ -90,7 +92,8 @@ impl Scanner {
         requires below { self.old.arena.next < self.old.arena.cap }
         requires tag { taken self.old.lexical ≡ 1 }
         ensures went { IfOk result (λ went. Went went
-            (machine.tag_end (machine_of self.old) self.old.tag.items (read_attributes self.old.attributes) c)
+            (machine.tag_end (machine_of self.old) self.old.tag.items
+            (read_attributes self.old.attributes) c)
             self.old self.new) }
         ensures cap { OnOk result (self.new.arena.cap ≡ self.old.arena.cap) }
         ensures steady { OnOk result (Steady self.new) }
@@ -129,7 +132,8 @@ impl Scanner {
         requires tag { taken self.old.lexical ≡ 1 }
         ensures name { OnOk result (machine_of self.new
             ≡ machine.at (machine_of self.old)
-            (machine.AttributeName self.old.tag.items (read_attributes self.old.attributes) (classes.lower c ∷ []))) }
+            (machine.AttributeName self.old.tag.items (read_attributes self.old.attributes)
+            (classes.lower c ∷ []))) }
         ensures kept { OnOk result (tree_construction_of self.new ≡ tree_construction_of self.old) }
         ensures cap { OnOk result (self.new.arena.cap ≡ self.old.arena.cap) }
         ensures steady { OnOk result (Steady self.new) }
