@@ -9,7 +9,7 @@ ghost use Rattle.node_styles.specs.LegacySizes as sizes;
 ghost use Rattle.node_styles.specs.OwnStyles as own;
 
 use crate::allowed::is_one_of;
-use crate::own::{attribute, is_element_named};
+use crate::own::{attribute, family_in, is_element_named};
 use css_value::{Colour, TextAlign, trimmed};
 use node_arena::Content;
 
@@ -90,8 +90,7 @@ pub(crate) fn color_hint(content: &Content) -> Option<Colour>
 pub fn family_hint(content: &Content) -> Option<&[char]>
     ensures { option_copied result ≡ own.family_hint content.now }
 {
-    let face = font_attribute(content, b"face")?;
-    if face.is_empty() { None } else { Some(face) }
+    family_in(font_attribute(content, b"face")?)
 }
 
 #[tactic(auto, unfolding(crate::specs::OwnStyles::size_hint))]

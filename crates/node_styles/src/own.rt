@@ -20,6 +20,22 @@ use css_value::{
 use node_arena::Content;
 use style_table::{Property, default_of};
 
+// The colour of links.
+const BLUE: Colour = Colour {
+    red: 0,
+    green: 0,
+    blue: 238,
+    clear: false,
+};
+
+// The background of what is marked.
+const YELLOW: Colour = Colour {
+    red: 255,
+    green: 255,
+    blue: 0,
+    clear: false,
+};
+
 /// The value of an attribute of an element.
 #[tactic(auto, unfolding(crate::specs::OwnStyles::attribute))]
 pub fn attribute<'a>(content: &'a Content, name: &[u8]) -> Option<&'a [char]>
@@ -87,19 +103,13 @@ fn display_named(text: &str) -> Option<Display>
     }
 }
 
-fn default_display(content: &Content) -> Option<Display>
-    ensures { result ≡ option_and_then values.display_of (own.defaulted content.now property.Display) }
-{
-    display_named(defaulted(content, Property::Display)?)
-}
-
 #[tactic(auto, unfolding(crate::specs::OwnStyles::own_display))]
 pub(crate) fn own_display(content: &Content) -> Option<Display>
     ensures { result ≡ own.own_display content.now }
 {
     declared(content, b"display")
         .and_then(|text| read_display(text))
-        .or_else(|| default_display(content))
+        .or_else(|| display_named(defaulted(content, Property::Display)?))
 }
 
 // The white-space that a text of the table stands for.
@@ -117,51 +127,38 @@ fn white_space_named(text: &str) -> Option<WhiteSpace>
     }
 }
 
-fn default_white_space(content: &Content) -> Option<WhiteSpace>
-    ensures { result ≡ option_and_then values.white_space_of (own.defaulted content.now property.WhiteSpace) }
-{
-    white_space_named(defaulted(content, Property::WhiteSpace)?)
-}
-
 #[tactic(auto, unfolding(crate::specs::OwnStyles::own_white_space))]
 pub(crate) fn own_white_space(content: &Content) -> Option<WhiteSpace>
     ensures { result ≡ own.own_white_space content.now }
 {
     declared(content, b"white-space")
         .and_then(|text| read_white_space(text))
-        .or_else(|| default_white_space(content))
+        .or_else(|| white_space_named(defaulted(content, Property::WhiteSpace)?))
 }
 
-#[tactic(auto, using(crate::proofs::Defaults::weight_default))]
-fn default_font_weight(content: &Content) -> Option<u16>
-    ensures { result ≡ option_and_then values.font_weight_of (own.defaulted content.now property.FontWeight) }
-{
-    defaulted(content, Property::FontWeight).map(|_| 700)
-}
-
-#[tactic(auto, unfolding(crate::specs::OwnStyles::own_font_weight))]
+#[tactic(auto, using(crate::proofs::Defaults::weight_default), unfolding(crate::specs::OwnStyles::own_font_weight))]
 pub(crate) fn own_font_weight(content: &Content) -> Option<u16>
     ensures { result ≡ own.own_font_weight content.now }
 {
     declared(content, b"font-weight")
         .and_then(|text| read_font_weight(text))
-        .or_else(|| default_font_weight(content))
+        .or_else(|| defaulted(content, Property::FontWeight).map(|_| 700))
 }
 
-#[tactic(auto, using(crate::proofs::Defaults::style_default))]
-fn default_font_style(content: &Content) -> Option<FontStyle>
-    ensures { result ≡ option_and_then values.font_style_of (own.defaulted content.now property.FontStyle) }
-{
-    defaulted(content, Property::FontStyle).map(|_| FontStyle::Italic)
-}
-
-#[tactic(auto, unfolding(crate::specs::OwnStyles::own_font_style))]
+#[tactic(auto, using(crate::proofs::Defaults::style_default), unfolding(crate::specs::OwnStyles::own_font_style))]
 pub(crate) fn own_font_style(content: &Content) -> Option<FontStyle>
     ensures { result ≡ own.own_font_style content.now }
 {
     declared(content, b"font-style")
         .and_then(|text| read_font_style(text))
-        .or_else(|| default_font_style(content))
+        .or_else(|| defaulted(content, Property::FontStyle).map(|_| FontStyle::Italic))
+}
+
+// The family that a text gives.
+pub(crate) fn family_in(text: &[char]) -> Option<&[char]>
+    ensures { option_copied result ≡ own.family_of text.now }
+{
+    if text.is_empty() { None } else { Some(text) }
 }
 
 /// A family's name as the page has it, the one that the table gives, or the initial one.
@@ -172,37 +169,23 @@ pub enum Family<'a> {
     Serif,
 }
 
-#[tactic(auto, using(crate::proofs::Defaults::family_default))]
-fn default_font_family<'a>(content: &Content) -> Option<Family<'a>>
-    ensures { option_map family_text result ≡ option_and_then own.family_of
-        (own.defaulted content.now property.FontFamily) }
-{
-    defaulted(content, Property::FontFamily).map(|_| Family::Monospace)
-}
-
-// The family that the style gives.
-fn stated_font_family(content: &Content) -> Option<&[char]>
-    ensures { option_copied result ≡ option_and_then own.family_of (own.declared content.now (codes "font-family")) }
-{
-    let text = declared(content, b"font-family")?;
-    if text.is_empty() { None } else { Some(text) }
-}
-
 // The family that the style or a hint gives.
 fn written_font_family(content: &Content) -> Option<&[char]>
     ensures { option_copied result ≡ option_or (option_and_then own.family_of
         (own.declared content.now (codes "font-family"))) (own.family_hint content.now) }
 {
-    stated_font_family(content).or_else(|| family_hint(content))
+    declared(content, b"font-family")
+        .and_then(|text| family_in(text))
+        .or_else(|| family_hint(content))
 }
 
-#[tactic(auto, unfolding(crate::specs::OwnStyles::own_font_family))]
+#[tactic(auto, using(crate::proofs::Defaults::family_default), unfolding(crate::specs::OwnStyles::own_font_family))]
 pub(crate) fn own_font_family(content: &Content) -> Option<Family<'_>>
     ensures { option_map family_text result ≡ own.own_font_family content.now }
 {
     match written_font_family(content) {
         Some(text) => Some(Family::Written(text)),
-        None => default_font_family(content),
+        None => defaulted(content, Property::FontFamily).map(|_| Family::Monospace),
     }
 }
 
@@ -222,80 +205,34 @@ fn size_named(text: &str) -> Option<u16>
     }
 }
 
-#[tactic(auto, using(crate::proofs::Defaults::size_default))]
-fn default_font_size(content: &Content) -> Option<u16>
-    ensures { result ≡ option_and_then values.font_size_of (own.defaulted content.now property.FontSize) }
-{
-    size_named(defaulted(content, Property::FontSize)?)
-}
-
-// The size that a hint or the table gives.
-fn presented_font_size(content: &Content) -> Option<u16>
-    ensures { result ≡ option_or (own.size_hint content.now)
-        (option_and_then values.font_size_of (own.defaulted content.now property.FontSize)) }
-{
-    size_hint(content).or_else(|| default_font_size(content))
-}
-
-#[tactic(auto, unfolding(crate::specs::OwnStyles::own_font_size))]
+#[tactic(auto, using(crate::proofs::Defaults::size_default), unfolding(crate::specs::OwnStyles::own_font_size))]
 pub(crate) fn own_font_size(content: &Content) -> Option<u16>
     ensures { result ≡ own.own_font_size content.now }
 {
     declared(content, b"font-size")
         .and_then(|text| read_font_size(text))
-        .or_else(|| presented_font_size(content))
+        .or_else(|| size_hint(content))
+        .or_else(|| size_named(defaulted(content, Property::FontSize)?))
 }
 
-// The colours of the table: links are blue.
-#[tactic(auto, using(crate::proofs::Defaults::color_default))]
-fn default_color(content: &Content) -> Option<Colour>
-    ensures { result ≡ option_and_then colour_of (own.defaulted content.now property.Color) }
-{
-    defaulted(content, Property::Color).map(|_| Colour {
-        red: 0,
-        green: 0,
-        blue: 238,
-        clear: false,
-    })
-}
-
-fn presented_color(content: &Content) -> Option<Colour>
-    ensures { result ≡ option_or (own.color_hint content.now)
-        (option_and_then colour_of (own.defaulted content.now property.Color)) }
-{
-    color_hint(content).or_else(|| default_color(content))
-}
-
-#[tactic(auto, unfolding(crate::specs::OwnStyles::own_color))]
+#[tactic(auto, using(crate::proofs::Defaults::color_default), unfolding(crate::specs::OwnStyles::own_color))]
 pub(crate) fn own_color(content: &Content) -> Option<Colour>
     ensures { result ≡ own.own_color content.now }
 {
     declared(content, b"color")
         .and_then(|text| Colour::read(text))
-        .or_else(|| presented_color(content))
-}
-
-// What is marked has a yellow background.
-#[tactic(auto, using(crate::proofs::Defaults::background_default))]
-fn default_background_color(content: &Content) -> Option<Colour>
-    ensures { result ≡ option_and_then colour_of (own.defaulted content.now property.BackgroundColor) }
-{
-    defaulted(content, Property::BackgroundColor).map(|_| Colour {
-        red: 255,
-        green: 255,
-        blue: 0,
-        clear: false,
-    })
+        .or_else(|| color_hint(content))
+        .or_else(|| defaulted(content, Property::Color).map(|_| BLUE))
 }
 
 /// The `background-color` that an element gives itself, by its style or by its name.
-#[tactic(auto, unfolding(crate::specs::OwnStyles::own_background_color))]
+#[tactic(auto, using(crate::proofs::Defaults::background_default), unfolding(crate::specs::OwnStyles::own_background_color, crate::specs::OwnStyles::declared))]
 pub fn own_background_color(content: &Content) -> Option<Colour>
     ensures { result ≡ own.own_background_color content.now }
 {
     declared(content, b"background-color")
         .and_then(|text| Colour::read(text))
-        .or_else(|| default_background_color(content))
+        .or_else(|| defaulted(content, Property::BackgroundColor).map(|_| YELLOW))
 }
 
 // The lines that a text of the table stands for.
@@ -317,44 +254,24 @@ fn lines_named(text: &str) -> Option<TextDecoration>
     }
 }
 
-#[tactic(auto, using(crate::proofs::Defaults::decoration_default))]
-fn default_text_decoration(content: &Content) -> Option<TextDecoration>
-    ensures { result ≡ option_and_then text_decoration_of (own.defaulted content.now property.TextDecoration) }
-{
-    lines_named(defaulted(content, Property::TextDecoration)?)
-}
-
 /// The `text-decoration` that an element gives itself, by its style or by its name.
-#[tactic(auto, unfolding(crate::specs::OwnStyles::own_text_decoration))]
+#[tactic(auto, using(crate::proofs::Defaults::decoration_default), unfolding(crate::specs::OwnStyles::own_text_decoration, crate::specs::OwnStyles::declared))]
 pub fn own_text_decoration(content: &Content) -> Option<TextDecoration>
     ensures { result ≡ own.own_text_decoration content.now }
 {
     declared(content, b"text-decoration")
         .and_then(|text| read_text_decoration(text))
-        .or_else(|| default_text_decoration(content))
+        .or_else(|| lines_named(defaulted(content, Property::TextDecoration)?))
 }
 
-#[tactic(auto, using(crate::proofs::Defaults::align_default))]
-fn default_text_align(content: &Content) -> Option<TextAlign>
-    ensures { result ≡ option_and_then values.text_align_of (own.defaulted content.now property.TextAlign) }
-{
-    defaulted(content, Property::TextAlign).map(|_| TextAlign::Center)
-}
-
-fn presented_text_align(content: &Content) -> Option<TextAlign>
-    ensures { result ≡ option_or (own.align_hint content.now)
-        (option_and_then values.text_align_of (own.defaulted content.now property.TextAlign)) }
-{
-    align_hint(content).or_else(|| default_text_align(content))
-}
-
-#[tactic(auto, unfolding(crate::specs::OwnStyles::own_text_align))]
+#[tactic(auto, using(crate::proofs::Defaults::align_default), unfolding(crate::specs::OwnStyles::own_text_align))]
 pub(crate) fn own_text_align(content: &Content) -> Option<TextAlign>
     ensures { result ≡ own.own_text_align content.now }
 {
     declared(content, b"text-align")
         .and_then(|text| read_text_align(text))
-        .or_else(|| presented_text_align(content))
+        .or_else(|| align_hint(content))
+        .or_else(|| defaulted(content, Property::TextAlign).map(|_| TextAlign::Center))
 }
 
 // Whether the element gives the property a value.

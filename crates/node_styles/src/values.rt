@@ -1,7 +1,8 @@
 //! The resolved values of the properties of a node.
 
-ghost use Rattle.std.specs.Prelude.{◌≡◌, IfOk};
-ghost use Rattle.std.specs.Option.{option_map};
+ghost use Rattle.std.specs.Prelude.{◌≡◌, None, IfOk};
+ghost use Rattle.std.specs.Fn.{FnOnceReturnsAt};
+ghost use Rattle.std.specs.Option.{MatchOption};
 ghost use Rattle.node_styles.specs.Families.{family_text};
 ghost use Rattle.node_styles.specs.Lineage.{nearest};
 ghost use Rattle.node_styles.specs.Resolved as resolved;
@@ -40,31 +41,89 @@ const NO_LINES: TextDecoration = TextDecoration {
     line_through: false,
 };
 
-// The content of the innermost of a node and its ancestors that gives the property a value.
-fn owner<N: Nodes>(nodes: &N, node: NodeRef, property: Property) -> Option<&Content>
-    requires { N.holds nodes.now node }
-    ensures { option_map (λ content. content.now) result ≡ option_map (λ k. k.content)
-        (nearest (has_own property) (N.trees nodes.now) node.label) }
+// The value that the innermost of a node and its ancestors which has one gives itself.
+fn inherited<'a, N: Nodes, V, F: FnOnce(&'a Content) -> Option<V>>(
+    nodes: &'a N,
+    node: NodeRef,
+    property: Property,
+    own: F,
+) -> Option<V>
+    requires node_held { N.holds nodes.now node }
+    requires callable { F.IsAlwaysCallable own }
+    ensures { MatchOption (nearest (has_own property) (N.trees nodes.now) node.label) (result ≡ None)
+        (λ owner. FnOnceReturnsAt F.FnOnce own owner.content result) }
 {
-    match nearest(nodes, node, &Trait::Own(property)) {
-        Some(owner) => Some(nodes.content(owner)),
-        None => None,
-    }
+    let owner = nearest(nodes, node, &Trait::Own(property))?;
+    own(nodes.content(owner))
 }
 
 /// The resolved `display`.
 #[tactic(auto, unfolding(crate::specs::Resolved::display))]
 pub fn display<N: Nodes>(nodes: &N, node: NodeRef) -> Display
-    requires { N.holds nodes.now node }
+    requires node_held { N.holds nodes.now node }
     ensures { result ≡ resolved.display (N.trees nodes.now) node.label }
 {
     own_display(nodes.content(node)).unwrap_or(Display::Inline)
 }
 
+/// The resolved `white-space`.
+#[tactic(auto, unfolding(crate::specs::Resolved::white_space))]
+pub fn white_space<N: Nodes>(nodes: &N, node: NodeRef) -> WhiteSpace
+    requires node_held { N.holds nodes.now node }
+    ensures { result ≡ resolved.white_space (N.trees nodes.now) node.label }
+{
+    inherited(nodes, node, Property::WhiteSpace, own_white_space).unwrap_or(WhiteSpace::Normal)
+}
+
+/// The resolved `font-weight`, 100 to 900.
+#[tactic(auto, unfolding(crate::specs::Resolved::font_weight))]
+pub fn font_weight<N: Nodes>(nodes: &N, node: NodeRef) -> u16
+    requires node_held { N.holds nodes.now node }
+    ensures { result ≡ resolved.font_weight (N.trees nodes.now) node.label }
+{
+    inherited(nodes, node, Property::FontWeight, own_font_weight).unwrap_or(400)
+}
+
+/// The resolved `font-style`.
+#[tactic(auto, unfolding(crate::specs::Resolved::font_style))]
+pub fn font_style<N: Nodes>(nodes: &N, node: NodeRef) -> FontStyle
+    requires node_held { N.holds nodes.now node }
+    ensures { result ≡ resolved.font_style (N.trees nodes.now) node.label }
+{
+    inherited(nodes, node, Property::FontStyle, own_font_style).unwrap_or(FontStyle::Normal)
+}
+
+/// The resolved `font-family`.
+#[tactic(auto, unfolding(crate::specs::Resolved::font_family))]
+pub fn font_family<N: Nodes>(nodes: &N, node: NodeRef) -> Family<'_>
+    requires node_held { N.holds nodes.now node }
+    ensures { family_text result ≡ resolved.font_family (N.trees nodes.now) node.label }
+{
+    inherited(nodes, node, Property::FontFamily, own_font_family).unwrap_or(Family::Serif)
+}
+
+/// The resolved `font-size` in pixels.
+#[tactic(auto, unfolding(crate::specs::Resolved::font_size))]
+pub fn font_size<N: Nodes>(nodes: &N, node: NodeRef) -> u16
+    requires node_held { N.holds nodes.now node }
+    ensures { result ≡ resolved.font_size (N.trees nodes.now) node.label }
+{
+    inherited(nodes, node, Property::FontSize, own_font_size).unwrap_or(16)
+}
+
+/// The resolved `color`.
+#[tactic(auto, unfolding(crate::specs::Resolved::color))]
+pub fn color<N: Nodes>(nodes: &N, node: NodeRef) -> Colour
+    requires node_held { N.holds nodes.now node }
+    ensures { result ≡ resolved.color (N.trees nodes.now) node.label }
+{
+    inherited(nodes, node, Property::Color, own_color).unwrap_or(BLACK)
+}
+
 /// The resolved `background-color`. It isn't inherited.
 #[tactic(auto, unfolding(crate::specs::Resolved::background_color))]
 pub fn background_color<N: Nodes>(nodes: &N, node: NodeRef) -> Colour
-    requires { N.holds nodes.now node }
+    requires node_held { N.holds nodes.now node }
     ensures { result ≡ resolved.background_color (N.trees nodes.now) node.label }
 {
     own_background_color(nodes.content(node)).unwrap_or(TRANSPARENT)
@@ -73,87 +132,19 @@ pub fn background_color<N: Nodes>(nodes: &N, node: NodeRef) -> Colour
 /// The resolved `text-decoration`. It isn't inherited.
 #[tactic(auto, unfolding(crate::specs::Resolved::text_decoration))]
 pub fn text_decoration<N: Nodes>(nodes: &N, node: NodeRef) -> TextDecoration
-    requires { N.holds nodes.now node }
+    requires node_held { N.holds nodes.now node }
     ensures { result ≡ resolved.text_decoration (N.trees nodes.now) node.label }
 {
     own_text_decoration(nodes.content(node)).unwrap_or(NO_LINES)
 }
 
-/// The resolved `white-space`.
-#[tactic(auto, unfolding(crate::specs::Resolved::white_space))]
-pub fn white_space<N: Nodes>(nodes: &N, node: NodeRef) -> WhiteSpace
-    requires { N.holds nodes.now node }
-    ensures { result ≡ resolved.white_space (N.trees nodes.now) node.label }
-{
-    owner(nodes, node, Property::WhiteSpace)
-        .and_then(own_white_space)
-        .unwrap_or(WhiteSpace::Normal)
-}
-
-/// The resolved `font-weight`, 100 to 900.
-#[tactic(auto, unfolding(crate::specs::Resolved::font_weight))]
-pub fn font_weight<N: Nodes>(nodes: &N, node: NodeRef) -> u16
-    requires { N.holds nodes.now node }
-    ensures { result ≡ resolved.font_weight (N.trees nodes.now) node.label }
-{
-    owner(nodes, node, Property::FontWeight)
-        .and_then(own_font_weight)
-        .unwrap_or(400)
-}
-
-/// The resolved `font-style`.
-#[tactic(auto, unfolding(crate::specs::Resolved::font_style))]
-pub fn font_style<N: Nodes>(nodes: &N, node: NodeRef) -> FontStyle
-    requires { N.holds nodes.now node }
-    ensures { result ≡ resolved.font_style (N.trees nodes.now) node.label }
-{
-    owner(nodes, node, Property::FontStyle)
-        .and_then(own_font_style)
-        .unwrap_or(FontStyle::Normal)
-}
-
-/// The resolved `font-size` in pixels.
-#[tactic(auto, unfolding(crate::specs::Resolved::font_size))]
-pub fn font_size<N: Nodes>(nodes: &N, node: NodeRef) -> u16
-    requires { N.holds nodes.now node }
-    ensures { result ≡ resolved.font_size (N.trees nodes.now) node.label }
-{
-    owner(nodes, node, Property::FontSize)
-        .and_then(own_font_size)
-        .unwrap_or(16)
-}
-
-/// The resolved `color`.
-#[tactic(auto, unfolding(crate::specs::Resolved::color))]
-pub fn color<N: Nodes>(nodes: &N, node: NodeRef) -> Colour
-    requires { N.holds nodes.now node }
-    ensures { result ≡ resolved.color (N.trees nodes.now) node.label }
-{
-    owner(nodes, node, Property::Color)
-        .and_then(own_color)
-        .unwrap_or(BLACK)
-}
-
 /// The resolved `text-align`.
 #[tactic(auto, unfolding(crate::specs::Resolved::text_align))]
 pub fn text_align<N: Nodes>(nodes: &N, node: NodeRef) -> TextAlign
-    requires { N.holds nodes.now node }
+    requires node_held { N.holds nodes.now node }
     ensures { result ≡ resolved.text_align (N.trees nodes.now) node.label }
 {
-    owner(nodes, node, Property::TextAlign)
-        .and_then(own_text_align)
-        .unwrap_or(TextAlign::Left)
-}
-
-/// The resolved `font-family`.
-#[tactic(auto, unfolding(crate::specs::Resolved::font_family))]
-pub fn font_family<N: Nodes>(nodes: &N, node: NodeRef) -> Family<'_>
-    requires { N.holds nodes.now node }
-    ensures { family_text result ≡ resolved.font_family (N.trees nodes.now) node.label }
-{
-    owner(nodes, node, Property::FontFamily)
-        .and_then(own_font_family)
-        .unwrap_or(Family::Serif)
+    inherited(nodes, node, Property::TextAlign, own_text_align).unwrap_or(TextAlign::Left)
 }
 
 // The characters of a word.
@@ -182,7 +173,7 @@ pub fn resolved<N: Nodes>(
     node: NodeRef,
     property: Property,
 ) -> Result<Chars, AllocError>
-    requires { N.holds nodes.now node }
+    requires node_held { N.holds nodes.now node }
     ensures { IfOk result (λ text. text ≡ resolved.resolved (N.trees nodes.now) node.label property) }
 {
     let text = match property {

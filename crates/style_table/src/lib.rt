@@ -1,7 +1,7 @@
 //! The styles that elements have where nothing sets one, by the name of the element.
 #![tactic(auto)]
 
-ghost use Rattle.std.specs.Prelude.{◌≡◌, map};
+ghost use Rattle.std.specs.Prelude.{◌≡◌, ℕ, false, List, map};
 ghost use Rattle.std.specs.List.{list_any};
 ghost use Rattle.std.specs.Option.{option_map};
 ghost use Rattle.std.specs.Str.{bytes_eq};
@@ -172,6 +172,27 @@ fn is_link(name: &[u8], has_href: bool) -> bool
     has_href && name == b"a".as_slice()
 }
 
+// The rows of a property. What a link has besides stands in none.
+#[tactic(auto, unfolding(crate::specs::DefaultStyles::default_of, crate::specs::DefaultStyles::default_display, crate::specs::DefaultStyles::display_rows, crate::specs::DefaultStyles::default_white_space, crate::specs::DefaultStyles::white_space_rows, crate::specs::DefaultStyles::default_font_weight, crate::specs::DefaultStyles::font_weight_rows, crate::specs::DefaultStyles::default_font_style, crate::specs::DefaultStyles::font_style_rows, crate::specs::DefaultStyles::default_font_family, crate::specs::DefaultStyles::font_family_rows, crate::specs::DefaultStyles::default_font_size, crate::specs::DefaultStyles::font_size_rows, crate::specs::DefaultStyles::default_background_color, crate::specs::DefaultStyles::background_color_rows, crate::specs::DefaultStyles::default_text_decoration, crate::specs::DefaultStyles::text_decoration_rows, crate::specs::DefaultStyles::default_text_align, crate::specs::DefaultStyles::text_align_rows, crate::specs::DefaultStyles::default_color, crate::specs::DefaultStyles::value_of))]
+fn rows_of(property: Property) -> &'static [NamedRow]
+    ensures { (name : List ℕ) → defaults.value_of
+        (map (λ row. (row.0.now, map (λ known. known.now) row.1.now)) result.now) name
+        ≡ defaults.default_of name false property }
+{
+    match property {
+        Property::Display => &DISPLAY_ROWS,
+        Property::WhiteSpace => &WHITE_SPACE_ROWS,
+        Property::FontWeight => &FONT_WEIGHT_ROWS,
+        Property::FontStyle => &FONT_STYLE_ROWS,
+        Property::FontFamily => &FONT_FAMILY_ROWS,
+        Property::FontSize => &FONT_SIZE_ROWS,
+        Property::Color => &[],
+        Property::BackgroundColor => &BACKGROUND_COLOR_ROWS,
+        Property::TextDecoration => &TEXT_DECORATION_ROWS,
+        Property::TextAlign => &TEXT_ALIGN_ROWS,
+    }
+}
+
 /// The default of a property for an element of this name, in lower case; `has_href` says whether the element has the
 /// attribute `href`. `None` where the table has no row.
 #[tactic(auto, unfolding(crate::specs::DefaultStyles::default_of, crate::specs::DefaultStyles::default_color, crate::specs::DefaultStyles::default_text_decoration))]
@@ -179,19 +200,10 @@ pub fn default_of(name: &[u8], has_href: bool, property: Property) -> Option<Row
     ensures { option_map (λ row. row.text.now) result ≡ defaults.default_of name.now has_href property }
 {
     match property {
-        Property::Display => value_of(&DISPLAY_ROWS, name),
-        Property::WhiteSpace => value_of(&WHITE_SPACE_ROWS, name),
-        Property::FontWeight => value_of(&FONT_WEIGHT_ROWS, name),
-        Property::FontStyle => value_of(&FONT_STYLE_ROWS, name),
-        Property::FontFamily => value_of(&FONT_FAMILY_ROWS, name),
-        Property::FontSize => value_of(&FONT_SIZE_ROWS, name),
         Property::Color if is_link(name, has_href) => Some(Row {
             text: "rgb(0, 0, 238)",
         }),
-        Property::Color => None,
-        Property::BackgroundColor => value_of(&BACKGROUND_COLOR_ROWS, name),
         Property::TextDecoration if is_link(name, has_href) => Some(Row { text: "underline" }),
-        Property::TextDecoration => value_of(&TEXT_DECORATION_ROWS, name),
-        Property::TextAlign => value_of(&TEXT_ALIGN_ROWS, name),
+        _ => value_of(rows_of(property), name),
     }
 }
