@@ -79,7 +79,7 @@ fn gather<N: Nodes, C: Choice<N>>(
             last = Some(*node);
         }
     }
-    NodeList::from_slice(alloc, &kept)
+    Ok(NodeList::from_vec(kept))
 }
 
 /// The nodes that a range contains and that pass a test, in tree order, without those that have an ancestor among

@@ -1,7 +1,5 @@
 -- No node of another tree than the start's is contained in a range, nor in effect.
-use Rattle.std.proofs.Common.{◌≡◌, ◌≢◌, ℕ, zero, suc, ◌<◌, Bool, true, false, not, ◌&&◌, ◌||◌, List, Option, Some, None, refl, sym, ap, ◌∙◌, inl, inr, arith, eqb}
-use Rattle.std.specs.Prelude.{map, IfOk, Result, Ok, Err}
-use Rattle.node_arena.specs.declared.NodeRef.{NodeRef}
+use Rattle.std.proofs.Common.{◌≡◌, ◌≢◌, ℕ, zero, suc, ◌<◌, Bool, true, false, not, ◌&&◌, ◌||◌, Option, Some, None, refl, sym, ap, ◌∙◌, inl, inr, arith, eqb}
 use Rattle.std.proofs.lemmas.Bool.Decides.{eqb_tells}
 use Rattle.dom_model.specs.declared.Content.{Content}
 use Rattle.dom_model.specs.Contents.{length_of}
@@ -21,11 +19,6 @@ use Rattle.node_tests.proofs.Wanting.{passed, passed_root}
 use Rattle.node_tests.proofs.Pieces.{count_in_tree}
 use Rattle.node_tests.proofs.Toward.{through, toward_none}
 use Rattle.node_tests.proofs.Untouched.{all_false, some_trees}
-
--- a copy has what the list has
-pub copied : {E : Type 0} (r : Result (List NodeRef) E) (items : List NodeRef) (labels : List ℕ) → IfOk r (λ list. list ≡ items) → map (λ k. k.label) items ≡ labels → IfOk r (λ list. map (λ k. k.label) list ≡ labels)
-copied (Ok list) items labels same is = ap (map (λ k. k.label)) same ∙ is
-copied (Err e) items labels same is = tt
 
 module _ (f : Forest Content) (once : IsDistinct f) where
   abbrev pub Rooted : ℕ → Type 0

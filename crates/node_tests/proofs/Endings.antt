@@ -11,9 +11,9 @@ use Rattle.dom_model.proofs.Links.{parent_count}
 use Rattle.dom_model.proofs.Walks.{document_first, total_after_document, total_from_whole}
 use Rattle.dom_model.proofs.Within.{within_child, within_step, depth_of-root}
 use Rattle.node_arena.specs.declared.NodeRef.{NodeRef}
-use Rattle.node_tests.specs.BlockPoints.{is_block_boundary}
+use Rattle.node_tests.specs.BlockPoints.{edge, is_block_boundary}
 use Rattle.node_styles.specs.TurnBound.{turn_bound}
-use Rattle.node_tests.specs.LineBreaks.{Place, Turn, edge, end_of, past, own_place, out_to, out_of, child_beside, go_past, turn_to, walk, meets_break}
+use Rattle.node_tests.specs.LineBreaks.{Place, Turn, end_of, past, own_place, out_to, out_of, child_beside, go_past, turn_to, walk, meets_break}
 use Rattle.node_tests.specs.LineBreaks.Turn.{Answer, GoOn}
 use Rattle.node_tests.specs.declared.sides.Side.{Side}
 use Rattle.node_tests.specs.declared.sides.Side.TheVariants.{Before, After}

@@ -1,5 +1,5 @@
 -- A node's tree inside another, and what lies before and after a node below another.
-use Rattle.std.proofs.Common.{◌≡◌, ◌≢◌, ℕ, zero, suc, ◌⊎◌, ◌+◌, ◌<◌, ◌≤◌, true, false, cond, List, ◌∷◌, ◌++◌, refl, sym, ap, ◌∙◌, inl, inr, arith, eqb, nat_lt}
+use Rattle.std.proofs.Common.{◌≡◌, ◌≢◌, ℕ, zero, suc, ◌⊎◌, ◌+◌, ◌<◌, ◌≤◌, true, false, cond, List, ◌∷◌, ◌++◌, refl, sym, ap, ◌∙◌, subst, inl, inr, arith, eqb, nat_lt}
 use Rattle.std.proofs.lemmas.Bool.{lt-ltb, le-ltb}
 use Rattle.std.proofs.lemmas.Bool.Decides.{eqb_tells}
 use Rattle.dom_model.specs.Forest.{Forest, join, tops, count_of, IsDistinct, times, tree_of, preorder_onto}
@@ -117,48 +117,42 @@ module _ {C : Type 0} where
         below : 0 < count_of (tree_of g p) l
         below = rw e (omega (arith, low))
 
+    -- a fact of the node's own tree that goes on to the forest in which that tree stands
+    module _ (P : Forest C → Type 0) (here : (rest : Forest C) → eqb p l ≡ false → IsDistinct ks → P (Tree p d ks rest))
+        (below : (m : ℕ) (c : C) (js rest : Forest C) → eqb m p ≡ false → eqb m l ≡ false → 0 < count_of js p → 0 < count_of js l → P js → P (Tree m c js rest))
+        (after : (m : ℕ) (c : C) (js rest : Forest C) → eqb m p ≡ false → eqb m l ≡ false → count_of js p ≡ 0 → count_of js l ≡ 0 → P rest → P (Tree m c js rest)) where
+      goes_out : (g : Forest C) → IsDistinct g → tree_of g p ≡ Tree p d ks Nil → P g
+      goes_out Nil once e = absurd (let e' = e in cc)
+      goes_out (Tree m c js rest) once e =
+          elim (find_where m js rest p (once p) (in_it (Tree m c js rest) e)) [
+            | Here is t ↦ (
+                let e' : Tree m c js Nil ≡ Tree p d ks Nil = rw t at e in
+                let same : Tree p d ks rest ≡ Tree m c js rest = ap (λ g. join g rest) (sym e') in
+                let once' : IsDistinct (Tree p d ks rest) = subst IsDistinct (sym same) once in
+                subst P same (here rest (off_by_count p l ks rest (once' l) (omega (arith, low))) (once_kids p d ks rest once')))
+            | Below t some none ↦ (
+                let e' = sym (tree-below m c js rest p t none) ∙ e in
+                let low' = under_it js e' in
+                below m c js rest t (off_by_count m l js rest (once l) (omega (arith, low'))) some low' (goes_out js (once_kids m c js rest once) e'))
+            | After t none some ↦ (
+                let e' = sym (tree-after m c js rest p t none) ∙ e in
+                let low' = under_it rest e' in
+                after m c js rest t (off_by_count m l js rest (once l) (omega (arith, low'))) none (omega (arith, once l, low')) (goes_out rest (once_rest m c js rest once) e'))
+          ]
+
     pub later-below : (g : Forest C) → IsDistinct g → tree_of g p ≡ Tree p d ks Nil → later g l ≡ join (later ks l) (later g p)
-    later-below Nil once e = absurd (let e' = e in cc)
-    later-below (Tree m c js rest) once e =
-        elim (find_where m js rest p (once p) (in_it (Tree m c js rest) e)) [
-          | Here is t ↦ (
-              let e' : Tree m c js Nil ≡ Tree p d ks Nil = rw t at e in
-              let same : js ≡ ks = (let u = e' in cc) in
-              let low' : 0 < count_of js l = rw same low in
-              rw (t, off_by_count m l js rest (once l) (omega (arith, low')), has (count_of js l) low') (ap (λ x. join (later x l) rest) same))
-          | Below t some none ↦ (
-              let e' = sym (tree-below m c js rest p t none) ∙ e in
-              let low' = under_it js e' in
-              let ih = later-below js (once_kids m c js rest once) e' in
-              rw (t, has (count_of js p) some, off_by_count m l js rest (once l) (omega (arith, low')), has (count_of js l) low')
-              (ap (λ x. join x rest) ih ∙ join_assoc (later ks l) (later js p) rest))
-          | After t none some ↦ (
-              let e' = sym (tree-after m c js rest p t none) ∙ e in
-              let low' = under_it rest e' in
-              rw (t, hasnt (count_of js p) none, off_by_count m l js rest (once l) (omega (arith, low')), hasnt (count_of js l) (omega (arith, once l, low')))
-              (later-below rest (once_rest m c js rest once) e'))
-        ]
+    later-below =
+        goes_out (λ g. later g l ≡ join (later ks l) (later g p))
+        (λ rest off once. let t = eqb_refl_true p in rw (t, off, has (count_of ks l) low) refl)
+        (λ m c js rest t off some low' same. rw (t, off, has (count_of js p) some, has (count_of js l) low') (ap (λ x. join x rest) same ∙ join_assoc (later ks l) (later js p) rest))
+        (λ m c js rest t off none none' same. rw (t, off, hasnt (count_of js p) none, hasnt (count_of js l) none') same)
 
     pub earlier-below : (g : Forest C) → IsDistinct g → tree_of g p ≡ Tree p d ks Nil → earlier g l ≡ join (earlier g p) (earlier ks l)
-    earlier-below Nil once e = absurd (let e' = e in cc)
-    earlier-below (Tree m c js rest) once e =
-        elim (find_where m js rest p (once p) (in_it (Tree m c js rest) e)) [
-          | Here is t ↦ (
-              let e' : Tree m c js Nil ≡ Tree p d ks Nil = rw t at e in
-              let same : js ≡ ks = (let u = e' in cc) in
-              let low' : 0 < count_of js l = rw same low in
-              rw (t, off_by_count m l js rest (once l) (omega (arith, low')), has (count_of js l) low') (ap (λ x. earlier x l) same))
-          | Below t some none ↦ (
-              let e' = sym (tree-below m c js rest p t none) ∙ e in
-              let low' = under_it js e' in
-              rw (t, has (count_of js p) some, off_by_count m l js rest (once l) (omega (arith, low')), has (count_of js l) low')
-              (earlier-below js (once_kids m c js rest once) e'))
-          | After t none some ↦ (
-              let e' = sym (tree-after m c js rest p t none) ∙ e in
-              let low' = under_it rest e' in
-              rw (t, hasnt (count_of js p) none, off_by_count m l js rest (once l) (omega (arith, low')), hasnt (count_of js l) (omega (arith, once l, low')))
-              (ap (Tree m c js) (earlier-below rest (once_rest m c js rest once) e')))
-        ]
+    earlier-below =
+        goes_out (λ g. earlier g l ≡ join (earlier g p) (earlier ks l))
+        (λ rest off once. let t = eqb_refl_true p in rw (t, off, has (count_of ks l) low) refl)
+        (λ m c js rest t off some low' same. rw (t, off, has (count_of js p) some, has (count_of js l) low') same)
+        (λ m c js rest t off none none' same. rw (t, off, hasnt (count_of js p) none, hasnt (count_of js l) none') (ap (Tree m c js) same))
 
   -- the labels of a forest before others, the last first
   abbrev pub back : Forest C → List ℕ → List ℕ
@@ -189,30 +183,15 @@ module _ {C : Type 0} where
 
   module _ (p l : ℕ) (d : C) (ks : Forest C) (low : 0 < count_of ks l) (ys : List ℕ) where
     pub labels-below : (g : Forest C) (a xs : List ℕ) → IsDistinct g → tree_of g p ≡ Tree p d ks Nil → labels_before_onto a (preorder_onto g xs) l ≡ labels_before_onto (p ∷ labels_before_onto a (preorder_onto g xs) p) (preorder_onto ks ys) l
-    labels-below Nil a xs once e = absurd (let e' = e in cc)
-    labels-below (Tree m c js rest) a xs once e =
-        elim (find_where m js rest p (once p) (in_it p l d ks low (Tree m c js rest) e)) [
-          | Here is t ↦ (
-              let e' : Tree m c js Nil ≡ Tree p d ks Nil = rw t at e in
-              let same : js ≡ ks = (let u = e' in cc) in
-              let low' : 0 < count_of js l = rw same low in
-              rw (t, off_by_count m l js rest (once l) (omega (arith, low')))
-              (only js l (m ∷ a) (preorder_onto rest xs) ys (once_kids m c js rest once) low'
-              ∙ ap (λ x. labels_before_onto (x ∷ a) (preorder_onto js ys) l) is
-              ∙ ap (λ x. labels_before_onto (p ∷ a) (preorder_onto x ys) l) same))
-          | Below t some none ↦ (
-              let e' = sym (tree-below m c js rest p t none) ∙ e in
-              let low' = under_it p l d ks low js e' in
-              rw (t, off_by_count m l js rest (once l) (omega (arith, low')))
-              (labels-below js (m ∷ a) (preorder_onto rest xs) (once_kids m c js rest once) e'))
-          | After t none some ↦ (
-              let e' = sym (tree-after m c js rest p t none) ∙ e in
-              let low' = under_it p l d ks low rest e' in
-              rw (t, off_by_count m l js rest (once l) (omega (arith, low')))
-              (skip js l (m ∷ a) (preorder_onto rest xs) (omega (arith, once l, low'))
-              ∙ labels-below rest (back js (m ∷ a)) xs (once_rest m c js rest once) e'
-              ∙ ap (λ x. labels_before_onto (p ∷ x) (preorder_onto ks ys) l) (sym (skip js p (m ∷ a) (preorder_onto rest xs) none))))
-        ]
+    labels-below g a xs once e =
+        goes_out p l d ks low (λ g. (a xs : List ℕ) → labels_before_onto a (preorder_onto g xs) l ≡ labels_before_onto (p ∷ labels_before_onto a (preorder_onto g xs) p) (preorder_onto ks ys) l)
+        (λ rest off once a xs. let t = eqb_refl_true p in rw (t, off) (only ks l (p ∷ a) (preorder_onto rest xs) ys once low))
+        (λ m c js rest t off some low' same a xs. rw (t, off) (same (m ∷ a) (preorder_onto rest xs)))
+        (λ m c js rest t off none none' same a xs. rw (t, off)
+        (skip js l (m ∷ a) (preorder_onto rest xs) none'
+        ∙ same (back js (m ∷ a)) xs
+        ∙ ap (λ x. labels_before_onto (p ∷ x) (preorder_onto ks ys) l) (sym (skip js p (m ∷ a) (preorder_onto rest xs) none))))
+        g once e a xs
 
   -- ---- siblings
 

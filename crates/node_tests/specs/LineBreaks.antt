@@ -3,7 +3,6 @@
 -- and some.
 use Rattle.std.specs.Prelude.{ℕ, zero, suc, ◌+◌, Bool, true, false, Option, Some, None, if◌then◌else◌}
 use Rattle.dom_model.specs.declared.Content.{Content}
-use Rattle.dom_model.specs.Contents.{length_of}
 use Rattle.dom_model.specs.Forest.{Forest, parent_of}
 use Rattle.dom_model.specs.Places.{index_of}
 use Rattle.node_styles.specs.TurnBound.{turn_bound}
@@ -11,7 +10,7 @@ use Rattle.node_tests.specs.declared.sides.Side.{Side}
 use Rattle.node_tests.specs.declared.sides.Side.TheVariants.{Before, After}
 use Rattle.node_tests.specs.Sides.{other}
 use Rattle.node_tests.specs.Visible.{is_visible}
-use Rattle.node_tests.specs.BlockPoints.{child_before, child_at, is_block_boundary}
+use Rattle.node_tests.specs.BlockPoints.{child_before, child_at, edge, is_block_boundary}
 
 -- a place: a node and an offset in it
 pub record Place : Type 0 where
@@ -24,10 +23,6 @@ pub data Turn : Type 0 where
   GoOn : Place → Turn
 
 -- the place at an end of a node, the first or the last
-abbrev pub edge : Side → Forest Content → ℕ → ℕ
-edge Before f l = 0
-edge After f l = length_of f l
-
 abbrev pub end_of : Side → Forest Content → ℕ → Place
 end_of side f l = record { node = l; offset = edge side f l }
 

@@ -7,6 +7,7 @@ ghost use Rattle.node_arena.specs.Reads.{Names};
 ghost use Rattle.node_tests.specs.BlockPoints as points;
 
 use crate::neighbours::is_nothing;
+use crate::sides::Side;
 use crate::visible::is_visible;
 use live_range::Point;
 use node_arena::{NodeRef, Nodes, is_break};
@@ -76,49 +77,59 @@ pub fn is_root<N: Nodes>(nodes: &N, node: NodeRef) -> bool
     is_nothing(nodes.parent(node))
 }
 
-// The same of a place in a node.
-#[tactic(auto, unfolding(crate::specs::BlockPoints::is_block_start))]
-fn starts_at<N: Nodes>(nodes: &N, node: NodeRef, offset: u32) -> bool
+// The offset at an end of a node.
+fn edge<N: Nodes>(nodes: &N, node: NodeRef, side: Side) -> u32
     requires { N.holds nodes.now node }
-    ensures { result ≡ points.is_block_start (N.trees nodes.now) node.label offset }
+    ensures { result ≡ points.edge side (N.trees nodes.now) node.label }
 {
-    if is_root(nodes, node) && offset == 0 {
-        return true;
+    match side {
+        Side::Before => 0,
+        Side::After => nodes.length(node),
     }
-    starts_after(nodes, child_before(nodes, node, offset))
 }
 
-#[tactic(auto, unfolding(crate::specs::BlockPoints::is_block_end))]
-fn ends_at<N: Nodes>(nodes: &N, node: NodeRef, offset: u32) -> bool
+// Whether an offset is after a visible block or a visible br, or on the other side before a
+// visible block.
+fn is_bounded<N: Nodes>(nodes: &N, node: NodeRef, offset: u32, side: Side) -> bool
     requires { N.holds nodes.now node }
-    ensures { result ≡ points.is_block_end (N.trees nodes.now) node.label offset }
+    ensures { result ≡ points.is_bounded side (N.trees nodes.now) node.label offset }
 {
-    if is_root(nodes, node) && offset == nodes.length(node) {
-        return true;
+    match side {
+        Side::Before => starts_after(nodes, child_before(nodes, node, offset)),
+        Side::After => ends_before(nodes, child_at(nodes, node, offset)),
     }
-    ends_before(nodes, child_at(nodes, node, offset))
+}
+
+// Whether a point is a block start point, or on the other side a block end point.
+fn is_block_point<N: Nodes>(nodes: &N, at: Point, side: Side) -> bool
+    requires { 0 < count_of (N.trees nodes.now) at.label }
+    ensures { result ≡ points.is_block_point side (N.trees nodes.now) at.label at.offset }
+{
+    match nodes.find(at.label) {
+        Some(node) => {
+            (is_root(nodes, node) && at.offset == edge(nodes, node, side))
+                || is_bounded(nodes, node, at.offset, side)
+        }
+        None => unreachable!(),
+    }
 }
 
 /// Whether a point is a block start point: the start of a tree, or after a visible block node or a visible br.
+#[tactic(auto, unfolding(crate::specs::BlockPoints::is_block_start))]
 pub fn is_block_start<N: Nodes>(nodes: &N, at: Point) -> bool
     requires { 0 < count_of (N.trees nodes.now) at.label }
     ensures { result ≡ points.is_block_start (N.trees nodes.now) at.label at.offset }
 {
-    match nodes.find(at.label) {
-        Some(node) => starts_at(nodes, node, at.offset),
-        None => unreachable!(),
-    }
+    is_block_point(nodes, at, Side::Before)
 }
 
 /// Whether a point is a block end point: the end of a tree, or before a visible block node.
+#[tactic(auto, unfolding(crate::specs::BlockPoints::is_block_end))]
 pub fn is_block_end<N: Nodes>(nodes: &N, at: Point) -> bool
     requires { 0 < count_of (N.trees nodes.now) at.label }
     ensures { result ≡ points.is_block_end (N.trees nodes.now) at.label at.offset }
 {
-    match nodes.find(at.label) {
-        Some(node) => ends_at(nodes, node, at.offset),
-        None => unreachable!(),
-    }
+    is_block_point(nodes, at, Side::After)
 }
 
 /// Whether a point is a block start point or a block end point.

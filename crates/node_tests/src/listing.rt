@@ -433,7 +433,7 @@ fn wanted_nodes<N: Nodes>(
     nodes.valid();
     let mut found = Vec::new(alloc);
     if !comes_before(nodes, range.0, range.1) {
-        return NodeList::from_slice(alloc, &found);
+        return Ok(NodeList::from_vec(found));
     }
     let start = node_of(nodes, range.0);
     let end = node_of(nodes, range.1);
@@ -446,7 +446,7 @@ fn wanted_nodes<N: Nodes>(
     };
     let sides = root_sides(&lines);
     push_tree(nodes, root, range, sides, &lines, wanted, &mut found)?;
-    NodeList::from_slice(alloc, &found)
+    Ok(NodeList::from_vec(found))
 }
 
 /// The nodes that a range contains, in tree order. It looks at the nodes from the start to the end of the range and

@@ -1,4 +1,4 @@
-use Rattle.std.proofs.Common.{◌++◌, sym, ap, ◌∙◌, subst, arith, append-nil}
+use Rattle.std.proofs.Common.{◌≡◌, ◌++◌, sym, ap, ◌∙◌, subst, arith, append-nil}
 use Rattle.std.specs.Prelude.{map}
 use Rattle.std.specs.List.{All}
 use Rattle.std.proofs.lemmas.Bool.{and_parts}
@@ -9,6 +9,7 @@ use Rattle.node_tests.proofs.Line.{cut_is, inner_lined}
 use Rattle.node_tests.proofs.Kids.{next_kid, next_smaller, tree_smaller}
 use Rattle.node_tests.proofs.Wanting.{listed_next}
 use Rattle.node_tests.proofs.listing.+push_tree.Goals as goal
+use Rattle.node_tests.proofs.listing.+push_tree.Goals.{After-is_listed}
 
 pub returns-then-lies_between-clause-nodes : goal.returns-then-lies_between-clause-nodes
 returns-then-lies_between-clause-nodes g t c =
@@ -112,17 +113,19 @@ put_at-requires g t c =
     let listed = rw c.in_default.is at c.loop-child.invariant.listed in
     omega (arith, c.count-place.ensures, longer c.args.found.now.items c.loop-child.found.items _ (sym (append-nil _) ∙ listed))
 
+-- whether the node is wanted
+told : (g : _) (t : _) (c : After-is_listed g t) → is_wanted c.args.wanted (g.N.Nodes.trees c.args.nodes.now) c.args.range.0 c.args.range.1 c.args.node.label ≡ c.is_listed.result
+told g t c =
+    let k = c.args.node.label in
+    sym (listed_above c.valid.ensures k c.args.range.0 c.args.range.1 c.requires.ordered c.args.wanted k c.is_contained_above-contained.result c.is_effective_above-effective.result c.is_contained_above-contained.ensures c.is_effective_above-effective.ensures) ∙ sym c.is_listed.ensures
+
 pub returns-in_ok-put_at-clause-nodes : goal.returns-in_ok-put_at-clause-nodes
 returns-in_ok-put_at-clause-nodes g t c =
     let f = g.N.Nodes.trees c.args.nodes.now in
     let law = c.valid.ensures in
-    let start = c.args.range.0 in
-    let end = c.args.range.1 in
-    let k = c.args.node.label in
     let listed = rw c.in_default.is at c.loop-child.invariant.listed in
-    let passes = sym (listed_above law k start end c.requires.ordered c.args.wanted k c.is_contained_above-contained.result c.is_effective_above-effective.result c.is_contained_above-contained.ensures c.is_effective_above-effective.ensures) ∙ sym c.is_listed.ensures ∙ c.if-is_listed.true in
     ap (map (λ r. r.label)) c.in_ok-put_at.ensures
-    ∙ inserted (is_wanted c.args.wanted f start end) f law.distinct c.args.node (law.here c.args.node c.requires.node_held) c.args.found.now.items c.loop-child.found.items c.count-place.result c.count-place.ensures (sym (append-nil _) ∙ listed) passes
+    ∙ inserted (is_wanted c.args.wanted f c.args.range.0 c.args.range.1) f law.distinct c.args.node (law.here c.args.node c.requires.node_held) c.args.found.now.items c.loop-child.found.items c.count-place.result c.count-place.ensures (sym (append-nil _) ∙ listed) (told g t (goal.at.returns-in_ok-put_at-clause-nodes g t c).After-is_listed ∙ c.if-is_listed.true)
 
 pub returns-in_ok-put_at-clause-held : goal.returns-in_ok-put_at-clause-held
 returns-in_ok-put_at-clause-held g t c =
@@ -132,9 +135,5 @@ pub returns-else-is_listed-clause-nodes : goal.returns-else-is_listed-clause-nod
 returns-else-is_listed-clause-nodes g t c =
     let f = g.N.Nodes.trees c.args.nodes.now in
     let law = c.valid.ensures in
-    let start = c.args.range.0 in
-    let end = c.args.range.1 in
-    let k = c.args.node.label in
     let listed = rw c.in_default.is at c.loop-child.invariant.listed in
-    let fails = sym (listed_above law k start end c.requires.ordered c.args.wanted k c.is_contained_above-contained.result c.is_effective_above-effective.result c.is_contained_above-contained.ensures c.is_effective_above-effective.ensures) ∙ sym c.is_listed.ensures ∙ c.if-is_listed.false in
-    left_out (is_wanted c.args.wanted f start end) f law.distinct c.args.node (law.here c.args.node c.requires.node_held) c.args.found.now.items c.loop-child.found.items (sym (append-nil _) ∙ listed) fails
+    left_out (is_wanted c.args.wanted f c.args.range.0 c.args.range.1) f law.distinct c.args.node (law.here c.args.node c.requires.node_held) c.args.found.now.items c.loop-child.found.items (sym (append-nil _) ∙ listed) (told g t (goal.at.returns-else-is_listed-clause-nodes g t c).After-is_listed ∙ c.if-is_listed.false)

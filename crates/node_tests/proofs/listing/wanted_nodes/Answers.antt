@@ -3,7 +3,7 @@ use Rattle.std.specs.Prelude.{map}
 use Rattle.dom_model.specs.Forest.{IsWithin, tree_of}
 use Rattle.node_tests.specs.Listing.{is_wanted}
 use Rattle.node_tests.proofs.Above.{none_wanted}
-use Rattle.node_tests.proofs.Elsewhere.{all_wanted, copied, end_inside}
+use Rattle.node_tests.proofs.Elsewhere.{all_wanted, end_inside}
 use Rattle.node_tests.proofs.Wanting.{passed}
 use Rattle.node_tests.proofs.listing.wanted_nodes.Goals as goal
 
@@ -38,15 +38,12 @@ returns-clause-nodes g c =
     let root = c.root_of-root.result in
     let test = is_wanted c.args.wanted f c.args.range.0 c.args.range.1 in
     let inside : IsWithin f root.label c.args.range.0.label = subst (λ k. IsWithin f root.label k) c.node_of-start.ensures.label c.root_of-root.ensures.within in
-    copied c.from_slice-2.result _ _ c.from_slice-2.ensures
-    (ap (map (λ r. r.label)) c.deref-2.ensures.value
-    ∙ (c.in_ok-push_tree.ensures.nodes
-    ∙ (ap (λ xs. map (λ r. r.label) xs ++ passed test (tree_of f root.label)) c.new-found.ensures.items
-    ∙ all_wanted f law.distinct root.label (law.here root c.root_of-root.ensures.held) c.root_of-root.ensures.root c.args.range.0 c.args.range.1 inside c.args.wanted c.requires.end_held)))
+    ap (map (λ r. r.label)) c.from_vec-2.ensures
+    ∙ c.in_ok-push_tree.ensures.nodes
+    ∙ ap (λ xs. map (λ r. r.label) xs ++ passed test (tree_of f root.label)) c.new-found.ensures.items
+    ∙ all_wanted f law.distinct root.label (law.here root c.root_of-root.ensures.held) c.root_of-root.ensures.root c.args.range.0 c.args.range.1 inside c.args.wanted c.requires.end_held
 
 pub returns-then-not-comes_before-clause-nodes : goal.returns-then-not-comes_before-clause-nodes
 returns-then-not-comes_before-clause-nodes g c =
-    copied c.from_slice.result _ _ c.from_slice.ensures
-    (ap (map (λ r. r.label)) c.deref.ensures.value
-    ∙ (ap (map (λ r. r.label)) c.new-found.ensures.items
-    ∙ none_wanted c.valid.ensures c.args.range.0 c.args.range.1 (sym c.comes_before.ensures ∙ c.if-not-comes_before.true) c.requires.start_held c.requires.end_held c.args.wanted))
+    ap (map (λ r. r.label)) (c.from_vec.ensures ∙ c.new-found.ensures.items)
+    ∙ none_wanted c.valid.ensures c.args.range.0 c.args.range.1 (sym c.comes_before.ensures ∙ c.if-not-comes_before.true) c.requires.start_held c.requires.end_held c.args.wanted
