@@ -22,7 +22,7 @@ use Rattle.wrap_split.specs.Wrap.{wrap}
 use Rattle.inline_value.specs.Ancestors.{fix_ancestors}
 use Rattle.inline_value.specs.Recording.{record_values, restore_values}
 use Rattle.inline_value.specs.Wrappers.{bare}
-use Rattle.block_commands.specs.Gathered.{outermost}
+use Rattle.edit_query.specs.Gathered.{outermost}
 use Rattle.block_extend.specs.Series.{count_series}
 use Rattle.block_commands.specs.Series.{is_next_on_line, has_members}
 

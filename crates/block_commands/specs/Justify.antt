@@ -22,7 +22,8 @@ use Rattle.wrap_split.specs.Target.{is_without_attributes}
 use Rattle.wrap_split.specs.Walks.{turn_bound}
 use Rattle.wrap_split.specs.Wrap.{wrap}
 use Rattle.inline_value.specs.Styling.{unset_style}
-use Rattle.block_commands.specs.Gathered.{outermost, contained}
+use Rattle.edit_query.specs.Gathered.{outermost}
+use Rattle.block_commands.specs.Gathered.{contained}
 use Rattle.block_extend.specs.Series.{count_series, is_next}
 use Rattle.block_commands.specs.Series.{has_members}
 

@@ -7,12 +7,12 @@ ghost use Rattle.edit_doc.specs.Held.{Holds, IfHeld, EachHeld, Keeps};
 ghost use Rattle.edit_doc.specs.Whole.{IsOpen};
 ghost use Rattle.block_commands.specs.FormatBlock as format;
 
-use crate::gathered::outermost;
 use crate::lines::{Formatted, has_outer_block};
 use crate::names::block_name;
 use crate::series::count_line;
 use dom_model::Name;
 use edit_doc::{Doc, EditFault, NodeList, NodeRef};
+use edit_query::outermost;
 use inline_value::{bare, fix_ancestors, record_values, restore_values};
 use node_tests::{has_name, is_single_line};
 use std::alloc::{AllocError, Global};

@@ -9,11 +9,12 @@ ghost use Rattle.edit_doc.specs.Whole.{IsOpen};
 ghost use Rattle.block_commands.specs.Justify as justify;
 
 use crate::aligned::{AlignedSibling, Aligning, Misaligned, aligned_div, is_center};
-use crate::gathered::{contained, outermost};
+use crate::gathered::contained;
 use crate::series::count_siblings;
 use css_value::TextAlign;
 use dom_model::{Chars, Name};
 use edit_doc::{Doc, EditFault, NodeList, NodeRef};
+use edit_query::outermost;
 use inline_value::unset_style;
 use node_tests::has_name;
 use std::alloc::Global;
