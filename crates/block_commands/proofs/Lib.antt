@@ -1,5 +1,5 @@
 mod Above
 pub mod Counting
-pub mod Looping
+mod Looping
 mod ValueNames
 mod Matching

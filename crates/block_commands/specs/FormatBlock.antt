@@ -22,9 +22,9 @@ use Rattle.wrap_split.specs.Wrap.{wrap}
 use Rattle.inline_value.specs.Ancestors.{fix_ancestors}
 use Rattle.inline_value.specs.Recording.{record_values, restore_values}
 use Rattle.inline_value.specs.Wrappers.{bare}
-use Rattle.block_commands.specs.Gathered.{outermost}
+use Rattle.edit_query.specs.Gathered.{outermost}
 use Rattle.block_extend.specs.Series.{count_series}
-use Rattle.block_commands.specs.Series.{is_next_on_line, has_members}
+use Rattle.block_commands.specs.Series.{is_next_on_line, in_turns}
 
 -- ---- formatBlock, step 1: the value, without a `<` and `>` around it, in lower case
 
@@ -125,7 +125,7 @@ format_next name list = given (first_in list) (answer []) (format_first name lis
 
 -- formatBlock, step 4: while the list is not empty
 unfoldable pub format_all : List ℕ → List ℕ → Run (Unit {0})
-format_all name list = look λ s. while_at_most (turn_bound s) has_members (format_next name) list >> done
+format_all name list = in_turns (format_next name) list
 
 -- formatBlock, steps 3 and 4
 unfoldable pub format_list : List ℕ → List ℕ → Run (Unit {0})

@@ -13,18 +13,18 @@ use Rattle.command_value.specs.Alignment.{alignment_value}
 use Rattle.edit_model.specs.State.{State}
 use Rattle.edit_model.specs.Confined.{is_editable_for}
 use Rattle.edit_model.specs.Compositions.{attribute_list_of, set_tag_name}
-use Rattle.edit_model.specs.Run.{Run, ◌>>◌, answer, done, look, for_each, while_at_most, unset_attribute}
+use Rattle.edit_model.specs.Run.{Run, ◌>>◌, answer, done, look, for_each, unset_attribute}
 use Rattle.wrap_split.specs.declared.rule.Blank.{Blank}
 use Rattle.wrap_split.specs.declared.rule.Criterion.TheVariants.{Aligned}
 use Rattle.wrap_split.specs.declared.rule.Recipe.TheVariants.{Make}
 use Rattle.wrap_split.specs.Split.{remove_keeping_children}
 use Rattle.wrap_split.specs.Target.{is_without_attributes}
-use Rattle.wrap_split.specs.Walks.{turn_bound}
 use Rattle.wrap_split.specs.Wrap.{wrap}
 use Rattle.inline_value.specs.Styling.{unset_style}
-use Rattle.block_commands.specs.Gathered.{outermost, contained}
+use Rattle.edit_query.specs.Gathered.{outermost}
+use Rattle.block_commands.specs.Gathered.{contained}
 use Rattle.block_extend.specs.Series.{count_series, is_next}
-use Rattle.block_commands.specs.Series.{has_members}
+use Rattle.block_commands.specs.Series.{in_turns}
 
 -- ---- justify, step 1: elements that align what is in them give that up
 
@@ -96,7 +96,7 @@ align_series alignment list = look λ s.
 
 -- justify, step 3: while the list is not empty
 unfoldable pub align_all : List ℕ → List ℕ → Run (Unit {0})
-align_all alignment list = look λ s. while_at_most (turn_bound s) has_members (align_series alignment) list >> done
+align_all alignment list = in_turns (align_series alignment) list
 
 -- justify, steps 2 and 3
 unfoldable pub align_range : List ℕ → Run (Unit {0})

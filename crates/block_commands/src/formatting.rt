@@ -7,12 +7,13 @@ ghost use Rattle.edit_doc.specs.Held.{Holds, IfHeld, EachHeld, Keeps};
 ghost use Rattle.edit_doc.specs.Whole.{IsOpen};
 ghost use Rattle.block_commands.specs.FormatBlock as format;
 
-use crate::gathered::outermost;
 use crate::lines::{Formatted, has_outer_block};
 use crate::names::block_name;
 use crate::series::count_line;
+use crate::turns::{Turn, in_turns};
 use dom_model::Name;
 use edit_doc::{Doc, EditFault, NodeList, NodeRef};
+use edit_query::outermost;
 use inline_value::{bare, fix_ancestors, record_values, restore_values};
 use node_tests::{has_name, is_single_line};
 use std::alloc::{AllocError, Global};
@@ -192,40 +193,32 @@ fn format_first(
     }
 }
 
-// Step 4, one turn: how many members of the list are done with.
-#[tactic(auto, using(edit_model::proofs::Steps::steps, edit_model::proofs::Steps::exits, edit_model::proofs::Steps::ends), unfolding(crate::specs::FormatBlock::format_next))]
-fn format_next(
-    alloc: Global,
-    doc: &mut Doc,
-    name: &Name,
-    list: &[NodeRef],
-) -> Result<usize, EditFault>
-    requires open { IsOpen doc.old }
-    requires list_held { EachHeld doc.old list.now }
-    requires some { 0 < length list.now }
-    ensures gives { GivesAs (λ count. labels_of (drop count list.now)) result doc.old.state doc.new.state
-        (format.format_next name.now (labels_of list.now)) }
-    ensures within { IfOk result (λ count. count ≤ length list.now) }
-    ensures keeps { Keeps doc.old doc.new }
-{
-    format_first(alloc, doc, name, list, list[0])
+// Step 4, one turn.
+#[derive(Clone, Copy)]
+struct FormatTurn<'a> {
+    name: &'a Name,
+}
+
+impl<'a> Turn for FormatTurn<'a> {
+    ghost use Rattle.block_commands.specs.FormatBlock.{format_next};
+
+    ghost run = { λ s. format_next s.name.now };
+
+    #[tactic(auto, using(edit_model::proofs::Steps::steps, edit_model::proofs::Steps::exits, edit_model::proofs::Steps::ends), unfolding(crate::specs::FormatBlock::format_next))]
+    fn take(&self, alloc: Global, doc: &mut Doc, list: &[NodeRef]) -> Result<usize, EditFault> {
+        format_first(alloc, doc, self.name, list, list[0])
+    }
 }
 
 // Step 4.
-#[tactic(auto, using(edit_model::proofs::Steps::whiles, edit_model::proofs::Steps::exits, crate::proofs::Counting::members_on, crate::proofs::Counting::members_off, crate::proofs::Counting::drop_more, crate::proofs::Counting::exit_count), unfolding(crate::specs::FormatBlock::format_all))]
+#[tactic(auto, unfolding(crate::specs::FormatBlock::format_all))]
 fn format_all(alloc: Global, doc: &mut Doc, name: &Name, list: &[NodeRef]) -> Result<(), EditFault>
     requires open { IsOpen doc.old }
     requires list_held { EachHeld doc.old list.now }
     ensures gives { Gives result doc.old.state doc.new.state (format.format_all name.now (labels_of list.now)) }
     ensures keeps { Keeps doc.old doc.new }
 {
-    let mut left = turn_bound(doc);
-    let mut at: usize = 0;
-    while left > 0 && at < list.len() {
-        at += format_next(alloc, doc, name, &list[at..])?;
-        left -= 1;
-    }
-    Ok(())
+    in_turns(alloc, doc, &FormatTurn { name }, list)
 }
 
 // Steps 3 and 4.

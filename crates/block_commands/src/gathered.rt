@@ -3,61 +3,14 @@
 ghost use Rattle.std.specs.Prelude.{◌≡◌, ◌<◌, IfOk, filter};
 ghost use Rattle.dom_model.specs.Forest.{count_of};
 ghost use Rattle.edit_model.specs.Gives.{labels_of};
-ghost use Rattle.edit_model.specs.Valid.{IsPlacedPair};
 ghost use Rattle.edit_doc.specs.Held.{EachHeld};
 ghost use Rattle.block_commands.specs.Gathered as gathered;
 
-use block_extend::{Choice, block_extend, gather_in};
-use edit_actions::ends_of;
-use edit_doc::{Doc, NodeList, NodeRef, Pair, Point};
+use block_extend::Choice;
+use edit_doc::{Doc, NodeRef, Point};
+use edit_query::extended;
 use node_tests::contained_nodes;
 use std::alloc::{AllocError, Global};
-
-// The ends of the range of two points, block-extended.
-#[tactic(auto, using(edit_actions::proofs::Placed::placed_here))]
-fn extended(doc: &Doc, pair: Pair) -> (Point, Point)
-    requires { IsPlacedPair doc.now.state.trees pair }
-    ensures range { result ≡ gathered.extended doc.now.state.trees pair }
-    ensures start { 0 < count_of doc.now.state.trees result.0.label }
-    ensures end { 0 < count_of doc.now.state.trees result.1.label }
-{
-    block_extend(doc, ends_of(doc, pair))
-}
-
-// Of a range, the nodes that pass, without those that have an ancestor among them.
-fn outermost_in<C: Choice<Doc>>(
-    alloc: Global,
-    doc: &Doc,
-    range: (Point, Point),
-    choice: &C,
-) -> Result<NodeList, AllocError>
-    requires start { 0 < count_of doc.now.state.trees range.0.label }
-    requires end { 0 < count_of doc.now.state.trees range.1.label }
-    ensures held { IfOk result (λ list. EachHeld doc.now list) }
-    ensures nodes { IfOk result
-        (λ list. labels_of list ≡ gathered.outermost_in (C.chosen choice.now doc.now) doc.now.state.trees range) }
-{
-    gather_in(alloc, doc, range, choice)
-}
-
-/// The nodes that the block-extended active range contains and that pass a test, in tree order,
-/// without those that have an ancestor among them. Without a selection there are none.
-#[tactic(auto, unfolding(crate::specs::Gathered::outermost))]
-pub(crate) fn outermost<C: Choice<Doc>>(
-    alloc: Global,
-    doc: &Doc,
-    choice: &C,
-) -> Result<NodeList, AllocError>
-    ensures held { IfOk result (λ list. EachHeld doc.now list) }
-    ensures nodes { IfOk result
-        (λ list. labels_of list ≡ gathered.outermost (C.chosen choice.now doc.now) doc.now.state) }
-{
-    doc.valid();
-    match doc.points().selection() {
-        Some(pair) => outermost_in(alloc, doc, extended(doc, pair), choice),
-        None => NodeList::from_slice(alloc, &[]),
-    }
-}
 
 /// Of a list, the nodes that pass a test.
 pub fn chosen_of<C: Choice<Doc>>(

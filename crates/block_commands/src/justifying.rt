@@ -1,25 +1,25 @@
 //! The justify commands. The steps are those of docs/ALGORITHMS.md.
 
-ghost use Rattle.std.specs.Prelude.{IfOk, ◌≡◌, ◌≤◌, length, drop};
+ghost use Rattle.std.specs.Prelude.{◌≡◌};
 ghost use Rattle.css_value.specs.Values.{text_align_keyword};
-ghost use Rattle.edit_model.specs.Gives.{Gives, GivesAs, GivesMaybe, labels_of};
+ghost use Rattle.edit_model.specs.Gives.{Gives, GivesMaybe, labels_of};
 ghost use Rattle.edit_doc.specs.Held.{Holds, EachHeld, Keeps};
 ghost use Rattle.edit_model.specs.Run.{for_each};
 ghost use Rattle.edit_doc.specs.Whole.{IsOpen};
 ghost use Rattle.block_commands.specs.Justify as justify;
 
 use crate::aligned::{AlignedSibling, Aligning, Misaligned, aligned_div, is_center};
-use crate::gathered::{contained, outermost};
+use crate::gathered::contained;
 use crate::series::count_siblings;
+use crate::turns::{Turn, in_turns};
 use css_value::TextAlign;
 use dom_model::{Chars, Name};
 use edit_doc::{Doc, EditFault, NodeList, NodeRef};
+use edit_query::outermost;
 use inline_value::unset_style;
 use node_tests::has_name;
 use std::alloc::Global;
-use wrap_split::{
-    CopyMade, WrapRule, is_without_attributes, remove_keeping_children, turn_bound, wrap,
-};
+use wrap_split::{CopyMade, WrapRule, is_without_attributes, remove_keeping_children, wrap};
 
 // Step 1: a center becomes a div.
 #[tactic(auto, using(edit_model::proofs::Steps::steps, edit_model::proofs::Steps::exits), unfolding(crate::specs::Justify::name_div))]
@@ -125,28 +125,27 @@ fn wrap_aligned(
     wrap(alloc, doc, members, &WrapRule::new(test, maker))
 }
 
-// Step 3, one turn: how many members the first series of a list has, which are wrapped.
-#[tactic(auto, using(edit_model::proofs::Steps::steps, edit_model::proofs::Steps::exits, edit_query::proofs::Lists::labels_of_front, edit_query::proofs::Lists::labels_of_rest, crate::proofs::Counting::exit_count), unfolding(crate::specs::Justify::align_series))]
-fn align_series(
-    alloc: Global,
-    doc: &mut Doc,
-    alignment: &[char],
-    list: &[NodeRef],
-) -> Result<usize, EditFault>
-    requires open { IsOpen doc.old }
-    requires list_held { EachHeld doc.old list.now }
-    ensures gives { GivesAs (λ count. labels_of (drop count list.now)) result doc.old.state doc.new.state
-        (justify.align_series alignment.now (labels_of list.now)) }
-    ensures within { IfOk result (λ count. count ≤ length list.now) }
-    ensures keeps { Keeps doc.old doc.new }
-{
-    let count = count_siblings(doc, list);
-    wrap_aligned(alloc, doc, alignment, &list[..count])?;
-    Ok(count)
+// Step 3, one turn: the first series of a list is wrapped.
+#[derive(Clone, Copy)]
+struct AlignTurn<'a> {
+    alignment: &'a [char],
+}
+
+impl<'a> Turn for AlignTurn<'a> {
+    ghost use Rattle.block_commands.specs.Justify.{align_series};
+
+    ghost run = { λ s. align_series s.alignment.now };
+
+    #[tactic(auto, using(edit_model::proofs::Steps::steps, edit_model::proofs::Steps::exits, edit_query::proofs::Lists::labels_of_front, edit_query::proofs::Lists::labels_of_rest, crate::proofs::Counting::exit_count), unfolding(crate::specs::Justify::align_series))]
+    fn take(&self, alloc: Global, doc: &mut Doc, list: &[NodeRef]) -> Result<usize, EditFault> {
+        let count = count_siblings(doc, list);
+        wrap_aligned(alloc, doc, self.alignment, &list[..count])?;
+        Ok(count)
+    }
 }
 
 // Step 3.
-#[tactic(auto, using(edit_model::proofs::Steps::whiles, edit_model::proofs::Steps::exits, crate::proofs::Counting::members_on, crate::proofs::Counting::members_off, crate::proofs::Counting::drop_more, crate::proofs::Counting::exit_count), unfolding(crate::specs::Justify::align_all))]
+#[tactic(auto, unfolding(crate::specs::Justify::align_all))]
 fn align_all(
     alloc: Global,
     doc: &mut Doc,
@@ -158,13 +157,7 @@ fn align_all(
     ensures gives { Gives result doc.old.state doc.new.state (justify.align_all alignment.now (labels_of list.now)) }
     ensures keeps { Keeps doc.old doc.new }
 {
-    let mut left = turn_bound(doc);
-    let mut at: usize = 0;
-    while left > 0 && at < list.len() {
-        at += align_series(alloc, doc, alignment, &list[at..])?;
-        left -= 1;
-    }
-    Ok(())
+    in_turns(alloc, doc, &AlignTurn { alignment }, list)
 }
 
 // Steps 2 and 3.

@@ -9,7 +9,9 @@ mod justifying;
 mod lines;
 mod names;
 mod series;
+mod turns;
 
 pub use formatting::format_block;
 pub use gathered::{chosen_of, contained_in};
 pub use justifying::justify;
+pub use turns::{Turn, in_turns};

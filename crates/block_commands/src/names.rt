@@ -44,7 +44,7 @@ pub(crate) fn block_name(alloc: Global, value: &[char]) -> Result<Option<Name>, 
         (λ name. (name ≡ block_name value.now) × (is_formattable_block name ≡ true))) }
 {
     match lowered(alloc, unbracketed(value))? {
-        Some(bytes) if is_formattable_block(&bytes) => Ok(Some(Name::from_slice(alloc, &bytes)?)),
+        Some(bytes) if is_formattable_block(&bytes) => Ok(Some(Name::from_vec(bytes))),
         _ => Ok(None),
     }
 }

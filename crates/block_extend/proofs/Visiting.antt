@@ -1,55 +1,71 @@
--- A walk over the trees from a node on.
+-- A walk over the trees from a node on, that looks for a node that passes a test.
 use Rattle.std.proofs.Common.{◌≡◌, ℕ, ◌<◌, Bool, true, false, ◌||◌, Option, Some, IfSome, refl, sym, ap, ◌∙◌}
 use Rattle.dom_model.specs.declared.Content.{Content}
-use Rattle.dom_model.specs.Forest.{Forest, content_of, first_of, next_of}
+use Rattle.dom_model.specs.Forest.{Forest, count_of, first_of, next_of}
+use Rattle.dom_model.proofs.Parts.{at_label}
 use Rattle.node_arena.specs.declared.NodeRef.{NodeRef}
 use Rattle.node_arena.specs.Held.{label}
 use Rattle.node_arena.specs.Reads.{IsValid, Names}
 use Rattle.node_paths.specs.Onward.{onward_at, IsInner}
 use Rattle.node_paths.proofs.Visiting.{Visit, visit, size_from}
-use Rattle.block_extend.specs.Prohibited.{is_prohibited, has_prohibited}
+use Rattle.block_extend.specs.Descendants.{has_in}
 
 -- where a walk stands: at a node that has a parent, or past the last one
 pub record At (holds : NodeRef → Type 0) (f : Forest Content) (o : Option NodeRef) : Type 0 where
   pub held : IfSome o holds
   pub inner : IsInner f (label o)
 
-module _ {holds : NodeRef → Type 0} {f : Forest Content} {upper : ℕ} (law : IsValid holds f upper) where
-  pub visited : (r : NodeRef) → At holds f (Some r) → (c : Content) → content_of f r.label ≡ Some c → Visit f r.label c
-  visited r at c content = visit f r.label c law.distinct (law.here r at.held) at.inner content
+or_true : (a : Bool) → (a || true) ≡ true
+or_true true = refl
+or_true false = refl
 
-  module _ (r : NodeRef) (c : Content) (v : Visit f r.label c) where
-    pub first_at : (o : Option NodeRef) → Names holds o (first_of f r.label) → At holds f o
-    first_at o named = record { held = named.held; inner = rw named.is v.first }
+module _ {holds : NodeRef → Type 0} {f : Forest Content} {upper : ℕ} (law : IsValid holds f upper) (r : NodeRef) (at : At holds f (Some r)) where
+  abbrev here : 0 < count_of f r.label
+  here = law.here r at.held
 
-    pub next_at : (o : Option NodeRef) → Names holds o (next_of f r.label) → At holds f o
-    next_at o named = record { held = named.held; inner = rw named.is v.next }
+  abbrev content : Content
+  content = (at_label f law.distinct r.label here).content
 
-    pub first_smaller : (o : Option NodeRef) → Names holds o (first_of f r.label) → size_from f (label o) < size_from f (Some r.label)
-    first_smaller o named = rw named.is v.below
+  v : Visit f r.label content
+  v = visit f r.label content law.distinct here at.inner (at_label f law.distinct r.label here).content_is
 
-    pub next_smaller : (o : Option NodeRef) → Names holds o (next_of f r.label) → size_from f (label o) < size_from f (Some r.label)
-    next_smaller o named = rw named.is v.after
+  pub first_at : (o : Option NodeRef) → Names holds o (first_of f r.label) → At holds f o
+  first_at o named = record { held = named.held; inner = rw named.is v.first }
 
-    prohibited_is : has_prohibited (onward_at f (Some r.label)) ≡ (is_prohibited c || (has_prohibited (onward_at f (first_of f r.label)) || has_prohibited (onward_at f (next_of f r.label))))
-    prohibited_is = ap has_prohibited v.is
+  pub next_at : (o : Option NodeRef) → Names holds o (next_of f r.label) → At holds f o
+  next_at o named = record { held = named.held; inner = rw named.is v.next }
 
-    or_true : (a : Bool) → (a || true) ≡ true
-    or_true true = refl
-    or_true false = refl
+  pub first_smaller : (o : Option NodeRef) → Names holds o (first_of f r.label) → size_from f (label o) < size_from f (Some r.label)
+  first_smaller o named = rw named.is v.below
 
-    pub own_prohibited : is_prohibited c ≡ true → true ≡ has_prohibited (onward_at f (Some r.label))
-    own_prohibited e = sym (prohibited_is ∙ ap (λ b. b || (has_prohibited (onward_at f (first_of f r.label)) || has_prohibited (onward_at f (next_of f r.label)))) e)
+  pub next_smaller : (o : Option NodeRef) → Names holds o (next_of f r.label) → size_from f (label o) < size_from f (Some r.label)
+  next_smaller o named = rw named.is v.after
 
-    pub prohibited_below : (o : Option NodeRef) → Names holds o (first_of f r.label) → has_prohibited (onward_at f (label o)) ≡ true → true ≡ has_prohibited (onward_at f (Some r.label))
-    prohibited_below o named e =
-        let below : has_prohibited (onward_at f (first_of f r.label)) ≡ true = ap (λ k. has_prohibited (onward_at f k)) (sym named.is) ∙ e in
-        sym (prohibited_is ∙ ap (λ b. is_prohibited c || (b || has_prohibited (onward_at f (next_of f r.label)))) below ∙ or_true (is_prohibited c))
+  module _ (test : ℕ → Bool) where
+    abbrev from : Option ℕ → Bool
+    from o = has_in test (onward_at f o)
 
-    pub none_here : (o n : Option NodeRef) → Names holds o (first_of f r.label) → Names holds n (next_of f r.label) → is_prohibited c ≡ false → has_prohibited (onward_at f (label o)) ≡ false → has_prohibited (onward_at f (Some r.label)) ≡ has_prohibited (onward_at f (label n))
-    none_here o n first next own below =
-        let under : has_prohibited (onward_at f (first_of f r.label)) ≡ false = ap (λ k. has_prohibited (onward_at f k)) (sym first.is) ∙ below in
-        prohibited_is
-        ∙ ap (λ b. b || (has_prohibited (onward_at f (first_of f r.label)) || has_prohibited (onward_at f (next_of f r.label)))) own
-        ∙ ap (λ b. b || has_prohibited (onward_at f (next_of f r.label))) under
-        ∙ ap (λ k. has_prohibited (onward_at f k)) (sym next.is)
+    abbrev first : Option ℕ
+    first = first_of f r.label
+
+    abbrev next : Option ℕ
+    next = next_of f r.label
+
+    searched : from (Some r.label) ≡ (test r.label || (from first || from next))
+    searched = ap (has_in test) v.is
+
+    pub found_here : test r.label ≡ true → true ≡ from (Some r.label)
+    found_here e = sym (searched ∙ ap (λ b. b || (from first || from next)) e)
+
+    pub found_below : (o : Option NodeRef) → Names holds o first → from (label o) ≡ true → true ≡ from (Some r.label)
+    found_below o named e =
+        let below : from first ≡ true = ap from (sym named.is) ∙ e in
+        sym (searched ∙ ap (λ b. test r.label || (b || from next)) below ∙ or_true (test r.label))
+
+    pub none_here : (o n : Option NodeRef) → Names holds o first → Names holds n next → test r.label ≡ false → from (label o) ≡ false → from (Some r.label) ≡ from (label n)
+    none_here o n at_first at_next not_own not_below =
+        let under : from first ≡ false = ap from (sym at_first.is) ∙ not_below in
+        searched
+        ∙ ap (λ b. b || (from first || from next)) not_own
+        ∙ ap (λ b. b || from next) under
+        ∙ ap from (sym at_next.is)

@@ -2,6 +2,7 @@
 //! *HTML Editing APIs*. Block extension takes no memory; it goes from place to place by links.
 #![tactic(auto)]
 
+mod descendants;
 mod extending;
 mod fitting;
 mod gathering;
@@ -9,6 +10,7 @@ mod places;
 mod prohibited;
 mod series;
 
+pub use descendants::has_descendant;
 pub use extending::block_extend;
 pub use fitting::{allowed_in_div, allowed_in_item, allowed_in_span};
 pub use gathering::{Choice, gather_in};

@@ -1,6 +1,5 @@
 pub mod Turns
 pub mod Absent
-pub mod Kids
 pub mod Counted
 pub mod Rows
 pub mod Recordings

@@ -225,7 +225,7 @@ fn take_out_line(
 {
     let line = line_from(alloc, doc, first)?;
     let values = record_values(alloc, doc, &line)?;
-    let list = NodeList::from_slice(alloc, &line)?;
+    let list = NodeList::from_vec(line);
     split_out(alloc, doc, outer, &list, first)?;
     drop_break_before(doc, first)?;
     Ok(Some(values))

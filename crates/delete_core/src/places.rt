@@ -24,33 +24,21 @@ pub(crate) fn if_inside(doc: &Doc, node: Option<NodeRef>) -> Option<NodeRef>
 }
 
 /// The child at an offset. It counts the children before it.
+#[tactic(auto, using(edit_actions::proofs::Named::finds_named))]
 pub fn child_at(doc: &Doc, node: NodeRef, offset: u32) -> Option<NodeRef>
     requires { Holds doc.now node }
     ensures { Finds doc.now result (points.child_at doc.now.state.trees node.label offset) }
 {
-    doc.valid();
-    let mut child = doc.first_child(node);
-    let mut left = offset;
-    while left > 0 {
-        match child {
-            Some(at) => child = doc.next(at),
-            None => return None,
-        }
-        left -= 1;
-    }
-    child
+    node_tests::child_at(doc, node, offset)
 }
 
-/// The child before an offset. At the end of a node it is found at once.
+/// The child before an offset.
+#[tactic(auto, using(edit_actions::proofs::Named::finds_named))]
 pub fn child_before(doc: &Doc, node: NodeRef, offset: u32) -> Option<NodeRef>
     requires { Holds doc.now node }
     ensures { Finds doc.now result (points.child_before doc.now.state.trees node.label offset) }
 {
-    if offset == 0 {
-        None
-    } else {
-        child_at(doc, node, offset - 1)
-    }
+    node_tests::child_before(doc, node, offset)
 }
 
 /// The start of a node.

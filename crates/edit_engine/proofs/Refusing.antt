@@ -14,7 +14,7 @@ use Rattle.edit_query.specs.ListStates.{is_list_state, list_state}
 use Rattle.edit_query.specs.Queries.{state_of}
 use Rattle.html_names.specs.ElementNames as names
 use Rattle.block_commands.specs.FormatBlock.{block_name, is_formatted, format_list, format_to, format_block}
-use Rattle.block_commands.specs.Gathered.{outermost}
+use Rattle.edit_query.specs.Gathered.{outermost}
 use Rattle.block_commands.specs.Justify.{clear_alignments, align_range, justify}
 use Rattle.list_indent.specs.Commands.{normalize_range, indent_gathered, indent, outdent_gathered, outdent}
 use Rattle.list_toggle.specs.Ranges.{keep_range}

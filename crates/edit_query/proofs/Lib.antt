@@ -3,5 +3,3 @@ pub mod Scripts
 pub mod Throughout
 pub mod Climbing
 pub mod Typing
-pub mod Search
-pub mod ListsBelow

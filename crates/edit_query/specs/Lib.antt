@@ -6,6 +6,7 @@ pub mod Listed
 pub mod Features
 pub mod BlockTypes
 pub mod ListStates
+pub mod Gathered
 pub mod Rows
 pub mod Queries
 pub mod Replies

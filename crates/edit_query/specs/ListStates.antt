@@ -6,15 +6,13 @@ use Rattle.std.specs.Option.{option_map_or}
 use Rattle.dom_model.specs.declared.Content.{Content}
 use Rattle.dom_model.specs.Contents.{has_name}
 use Rattle.dom_model.specs.Editing.{is_editable}
-use Rattle.dom_model.specs.Forest.{Forest, parent_of, first_of}
-use Rattle.dom_model.specs.Forest.Forest.{Nil, Tree}
+use Rattle.dom_model.specs.Forest.{Forest, parent_of}
 use Rattle.live_range.specs.declared.places.Pair.{Pair}
 use Rattle.live_range.specs.declared.places.Point.{Point}
-use Rattle.node_paths.specs.Onward.{onward_at}
 use Rattle.node_styles.specs.Allowed.{allowed_in_name}
 use Rattle.node_styles.specs.NameClasses.{is_indentation}
-use Rattle.node_styles.specs.OwnStyles.{is_named}
 use Rattle.block_extend.specs.BlockExtend.{block_extend}
+use Rattle.block_extend.specs.Descendants.{has_descendant}
 use Rattle.block_extend.specs.Gather.{gathered}
 use Rattle.edit_model.specs.State.{State}
 use Rattle.edit_actions.specs.ActiveRange.{start_of, end_of}
@@ -61,14 +59,9 @@ is_in_item_of ordered f l =
 unfoldable pub belongs : Bool → Forest Content → ℕ → Bool
 belongs ordered f l = is_list_of ordered f l || (is_child_of ordered f l || is_in_item_of ordered f l)
 
--- a node of these trees is such a list
-abbrev pub has_list : Bool → Forest Content → Bool
-has_list ordered Nil = false
-has_list ordered (Tree l c ks rest) = is_named (list_name ordered) c || (has_list ordered ks || has_list ordered rest)
-
 -- a descendant is such a list
 unfoldable pub is_above_list : Bool → Forest Content → ℕ → Bool
-is_above_list ordered f l = has_list ordered (onward_at f (first_of f l))
+is_above_list ordered f l = has_descendant (is_list_of ordered f) f l
 
 -- it belongs to such a list, or one stands below it
 unfoldable pub touches : Bool → Forest Content → ℕ → Bool

@@ -12,6 +12,7 @@
 mod block_types;
 mod carets;
 mod formattable;
+mod gathered;
 mod leaves;
 mod list_states;
 mod listed;
@@ -22,6 +23,7 @@ mod sought;
 
 pub use carets::is_caret;
 pub use formattable::{first_formattable, formattable_nodes};
+pub use gathered::{extended, outermost};
 pub use leaves::nodes_in;
 pub use list_states::{ListState, is_child_of, is_list_of, list_members, list_name, list_state};
 pub use queries::{query, query_state, query_value};

@@ -5,13 +5,12 @@ ghost use Rattle.std.specs.List.{list_all, list_any};
 ghost use Rattle.std.specs.Option.{option_map_or};
 ghost use Rattle.dom_model.specs.Editing.{is_editable};
 ghost use Rattle.dom_model.specs.Forest.{parent_of, count_of};
-ghost use Rattle.node_paths.specs.Onward.{onward_at, IsInner};
 ghost use Rattle.edit_model.specs.Gives.{label_of, labels_of};
 ghost use Rattle.edit_model.specs.Valid.{IsPlacedPair};
 ghost use Rattle.edit_doc.specs.Held.{Holds, IfHeld, EachHeld};
 ghost use Rattle.edit_query.specs.ListStates as lists;
 
-use block_extend::{Choice, allowed_in_item, block_extend, gather_in};
+use block_extend::{Choice, allowed_in_item, block_extend, gather_in, has_descendant};
 use edit_actions::ends_of;
 use edit_doc::{Doc, NodeList, NodeRef, Pair, Point};
 use node_tests::{editing_host, has_name, is_indentation};
@@ -198,21 +197,20 @@ fn belongs(doc: &Doc, ordered: bool, node: NodeRef) -> bool
         || is_in_item_of(doc, ordered, node)
 }
 
-// Whether a list of this kind stands in the tree of a node or of a later sibling.
-fn has_list(doc: &Doc, ordered: bool, first: Option<NodeRef>) -> bool
-    requires held { IfHeld doc.now first }
-    requires inner { IsInner doc.now.state.trees (label_of first) }
-    ensures { result ≡ lists.has_list ordered (onward_at doc.now.state.trees (label_of first)) }
-{
-    doc.valid();
-    let mut at = first;
-    while let Some(node) = at {
-        if is_list_of(doc, ordered, node) || has_list(doc, ordered, doc.first_child(node)) {
-            return true;
-        }
-        at = doc.next(node);
+// The lists of a kind.
+#[derive(Clone, Copy)]
+struct ListOf {
+    ordered: bool,
+}
+
+impl Choice<Doc> for ListOf {
+    ghost use Rattle.edit_query.specs.ListStates.{is_list_of};
+
+    ghost chosen = { λ s d l. is_list_of s.ordered d.state.trees l };
+
+    fn chooses(&self, doc: &Doc, node: NodeRef) -> bool {
+        is_list_of(doc, self.ordered, node)
     }
-    false
 }
 
 // Whether a list of this kind stands below a node.
@@ -221,8 +219,7 @@ fn is_above_list(doc: &Doc, ordered: bool, node: NodeRef) -> bool
     requires { Holds doc.now node }
     ensures { result ≡ lists.is_above_list ordered doc.now.state.trees node.label }
 {
-    doc.valid();
-    has_list(doc, ordered, doc.first_child(node))
+    has_descendant(doc, node, &ListOf { ordered })
 }
 
 #[tactic(auto, unfolding(crate::specs::ListStates::touches))]

@@ -4,5 +4,4 @@ pub mod Ancestors
 pub mod Keeping
 pub mod Series
 pub mod Items
-pub mod Below
 pub mod Names

@@ -1,13 +1,11 @@
 -- The commands indent and outdent (HTML Editing APIs, "the indent command", "the outdent command").
 -- The steps are those of docs/ALGORITHMS.md.
-use Rattle.std.specs.Prelude.{ℕ, Bool, true, false, ◌||◌, ◌&&◌, not, List, [], ◌++◌, map, filter, reverse, codes, Option, Some, None, if◌then◌else◌}
+use Rattle.std.specs.Prelude.{ℕ, Bool, true, ◌||◌, ◌&&◌, not, List, [], ◌++◌, map, filter, reverse, codes, Option, Some, None, if◌then◌else◌}
 use Rattle.std.specs.Option.{option_and_then}
 use Rattle.dom_model.specs.declared.Content.{Content}
 use Rattle.dom_model.specs.Contents.{has_name}
-use Rattle.dom_model.specs.Forest.{Forest, parent_of, children_of, first_of, first_in}
-use Rattle.dom_model.specs.Forest.Forest.{Nil, Tree}
+use Rattle.dom_model.specs.Forest.{Forest, parent_of, children_of, first_in}
 use Rattle.live_range.specs.declared.places.Pair.{Pair}
-use Rattle.live_range.specs.declared.places.Point.{Point}
 use Rattle.point_order.specs.PointOrder.{is_within}
 use Rattle.node_styles.specs.Allowed.{allowed_in_name}
 use Rattle.node_styles.specs.Lineage.{lineage}
@@ -16,14 +14,13 @@ use Rattle.edit_model.specs.Confined.{is_editable_for}
 use Rattle.edit_model.specs.Run.{Run, ◌>>=◌, ◌>>◌, answer, done, look, given, for_each}
 use Rattle.edit_actions.specs.ActiveRange.{start_of, end_of}
 use Rattle.edit_actions.specs.Siblings.{until}
+use Rattle.edit_query.specs.Gathered.{outermost}
 use Rattle.wrap_split.specs.Split.{split_parent}
 use Rattle.wrap_split.specs.Wrap.{first_visible, last_visible}
 use Rattle.inline_value.specs.Ancestors.{fix_ancestors}
 use Rattle.inline_value.specs.Recording.{record_values, restore_values}
-use Rattle.block_extend.specs.BlockExtend.{block_extend}
-use Rattle.block_extend.specs.Gather.{gathered}
+use Rattle.block_extend.specs.Descendants.{has_descendant}
 use Rattle.block_extend.specs.Series.{is_next}
-use Rattle.node_paths.specs.Onward.{onward_at}
 use Rattle.list_indent.specs.Series.{for_series}
 use Rattle.list_indent.specs.Sublists.{is_list, is_item, is_in_list, normalize_sublists}
 use Rattle.list_indent.specs.Indenting.{indent_list}
@@ -51,18 +48,6 @@ range_items s = items_by s.trees s.points.selection
 -- indent and outdent, step 1: each of them, in order
 unfoldable pub normalize_range : Run (Unit {0})
 normalize_range = look λ s. for_each (range_items s) normalize_sublists
-
--- ---- indent and outdent, step 2: what is gathered in the block-extended range
-
-abbrev pub gathered_in : (ℕ → Bool) → Forest Content → Point × Point → List ℕ
-gathered_in test f range = gathered test f range.0 range.1
-
-abbrev pub gathered_by : (ℕ → Bool) → Forest Content → Option Pair → List ℕ
-gathered_by test f None = []
-gathered_by test f (Some pair) = gathered_in test f (block_extend f (start_of f pair) (end_of f pair))
-
-unfoldable pub range_nodes : (State → ℕ → Bool) → State → List ℕ
-range_nodes test s = gathered_by (test s) s.trees s.points.selection
 
 -- ---- indent
 
@@ -96,7 +81,7 @@ indent_nodes list = do
 
 -- indent, step 2, and then from 3 on
 unfoldable pub indent_gathered : Run (Unit {0})
-indent_gathered = look λ s. indent_nodes (range_nodes is_indentable s)
+indent_gathered = look λ s. indent_nodes (outermost (is_indentable s) s)
 
 -- indent, steps 1 to 4
 unfoldable pub indent : Run Bool
@@ -107,14 +92,9 @@ indent = do
 
 -- ---- outdent
 
--- a node of these trees is editable
-abbrev pub has_editable : State → Forest Content → Bool
-has_editable s Nil = false
-has_editable s (Tree l c ks rest) = is_editable_for s l || (has_editable s ks || has_editable s rest)
-
 -- a descendant of n is editable
 unfoldable pub has_editable_below : State → ℕ → Bool
-has_editable_below s n = has_editable s (onward_at s.trees (first_of s.trees n))
+has_editable_below s n = has_descendant (is_editable_for s) s.trees n
 
 -- outdent, step 2: an editable node without editable descendants, or a list, or an item of a list
 unfoldable pub is_outdentable : State → ℕ → Bool
@@ -151,7 +131,7 @@ outdent_nodes list = for_series goes_on_items outdent_series 0 list
 
 -- outdent, step 2, and then 3
 unfoldable pub outdent_gathered : Run (Unit {0})
-outdent_gathered = look λ s. outdent_nodes (range_nodes is_outdentable s)
+outdent_gathered = look λ s. outdent_nodes (outermost (is_outdentable s) s)
 
 -- outdent, steps 1 to 3
 unfoldable pub outdent : Run Bool

@@ -10,13 +10,14 @@ ghost use Rattle.list_indent.specs.Indenting.{indent_list};
 ghost use Rattle.list_indent.specs.Series.{for_series};
 ghost use Rattle.list_indent.specs.Commands.{normalize_range, shown_before, normalize_before, normalize_first, goes_on, indent_nodes, indent_gathered, indent, is_lone, goes_on_items, split_items, outdent_from, outdent_series, outdent_nodes, outdent_gathered, outdent};
 
-use crate::gathering::{Indentable, Outdentable, range_items, range_nodes};
+use crate::gathering::{Indentable, Outdentable, range_items};
 use crate::indenting::indent_list;
 use crate::lists::{is_in_list, is_item, is_list};
 use crate::outdenting::{fix_each, outdent_node};
 use crate::sublists::normalize_sublists;
 use block_extend::{Link, count_series, is_next};
 use edit_doc::{Doc, EditFault, NodeList, NodeRef};
+use edit_query::outermost;
 use inline_value::{record_values, restore_values};
 use node_tests::is_visible;
 use std::alloc::Global;
@@ -140,13 +141,13 @@ fn indent_nodes(alloc: Global, doc: &mut Doc, list: &[NodeRef]) -> Result<(), Ed
 }
 
 // Indent, step 2, and then from 3 on.
-#[tactic(auto, using(edit_model::proofs::Steps::steps, edit_model::proofs::Steps::exits), unfolding(crate::specs::Commands::indent_gathered, crate::specs::Commands::range_nodes))]
+#[tactic(auto, using(edit_model::proofs::Steps::steps, edit_model::proofs::Steps::exits), unfolding(crate::specs::Commands::indent_gathered))]
 fn indent_gathered(alloc: Global, doc: &mut Doc) -> Result<(), EditFault>
     requires open { IsOpen doc.old }
     ensures gives { Gives result doc.old.state doc.new.state indent_gathered }
     ensures keeps { Keeps doc.old doc.new }
 {
-    let list = range_nodes(alloc, doc, &Indentable)?;
+    let list = outermost(alloc, doc, &Indentable)?;
     indent_nodes(alloc, doc, list.as_slice())
 }
 
@@ -257,13 +258,13 @@ fn outdent_nodes(alloc: Global, doc: &mut Doc, list: &[NodeRef]) -> Result<(), E
 }
 
 // Outdent, step 2, and then 3.
-#[tactic(auto, using(edit_model::proofs::Steps::steps, edit_model::proofs::Steps::exits), unfolding(crate::specs::Commands::outdent_gathered, crate::specs::Commands::range_nodes))]
+#[tactic(auto, using(edit_model::proofs::Steps::steps, edit_model::proofs::Steps::exits), unfolding(crate::specs::Commands::outdent_gathered))]
 fn outdent_gathered(alloc: Global, doc: &mut Doc) -> Result<(), EditFault>
     requires open { IsOpen doc.old }
     ensures gives { Gives result doc.old.state doc.new.state outdent_gathered }
     ensures keeps { Keeps doc.old doc.new }
 {
-    let list = range_nodes(alloc, doc, &Outdentable)?;
+    let list = outermost(alloc, doc, &Outdentable)?;
     outdent_nodes(alloc, doc, list.as_slice())
 }
 

@@ -3,17 +3,16 @@
 ghost use Rattle.std.specs.Prelude.{◌≡◌, ◌++◌, ◌∷◌, [], Some, OnOk, IfOk, not, codes, filter};
 ghost use Rattle.dom_model.specs.Contents.{has_name};
 ghost use Rattle.node_styles.specs.Lineage.{lineage};
-ghost use Rattle.node_paths.specs.Onward.{onward_at, IsInner};
 ghost use Rattle.point_order.specs.PointOrder.{is_within};
-ghost use Rattle.edit_model.specs.Gives.{label_of, labels_of};
+ghost use Rattle.edit_model.specs.Gives.{labels_of};
 ghost use Rattle.edit_model.specs.Valid.{IsPlacedPair};
-ghost use Rattle.edit_doc.specs.Held.{Holds, IfHeld, EachHeld};
-ghost use Rattle.list_indent.specs.Commands.{items_over, items_around, items_by, range_items, range_nodes, gathered_by, is_indentable, is_outdentable, has_editable, has_editable_below};
+ghost use Rattle.edit_doc.specs.Held.{Holds, EachHeld};
+ghost use Rattle.list_indent.specs.Commands.{items_over, items_around, items_by, range_items, is_indentable, is_outdentable, has_editable_below};
 
 use crate::lists::{is_in_list, is_item, is_list};
-use block_extend::{Choice, allowed_in_div, block_extend, gather_in};
+use block_extend::{Choice, allowed_in_div, has_descendant};
 use edit_actions::ends_of;
-use edit_doc::{Doc, NodeList, NodeRef, Pair};
+use edit_doc::{Doc, NodeRef, Pair};
 use node_tests::{allowed_in_name, is_within};
 use point_order::node_of;
 use std::alloc::{AllocError, Global};
@@ -133,21 +132,18 @@ impl Choice<Doc> for Indentable {
     }
 }
 
-// Whether an editable node stands in the tree of a node or of a later sibling.
-fn has_editable(doc: &Doc, first: Option<NodeRef>) -> bool
-    requires held { IfHeld doc.now first }
-    requires inner { IsInner doc.now.state.trees (label_of first) }
-    ensures { result ≡ has_editable doc.now.state (onward_at doc.now.state.trees (label_of first)) }
-{
-    doc.valid();
-    let mut at = first;
-    while let Some(node) = at {
-        if doc.is_editable_for(node) || has_editable(doc, doc.first_child(node)) {
-            return true;
-        }
-        at = doc.next(node);
+// The editable nodes.
+#[derive(Clone, Copy)]
+struct Editable;
+
+impl Choice<Doc> for Editable {
+    ghost use Rattle.edit_model.specs.Confined.{is_editable_for};
+
+    ghost chosen = { λ s d l. is_editable_for d.state l };
+
+    fn chooses(&self, doc: &Doc, node: NodeRef) -> bool {
+        doc.is_editable_for(node)
     }
-    false
 }
 
 /// Whether an editable node stands below a node.
@@ -156,8 +152,7 @@ pub fn has_editable_below(doc: &Doc, node: NodeRef) -> bool
     requires { Holds doc.now node }
     ensures { result ≡ has_editable_below doc.now.state node.label }
 {
-    doc.valid();
-    has_editable(doc, doc.first_child(node))
+    has_descendant(doc, node, &Editable)
 }
 
 /// Outdent, step 2: what is gathered.
@@ -175,39 +170,5 @@ impl Choice<Doc> for Outdentable {
             && (!has_editable_below(doc, node)
                 || is_list(doc, node)
                 || (is_item(doc, node) && is_in_list(doc, node)))
-    }
-}
-
-// The nodes of the block-extended range of a pair that are chosen.
-#[tactic(auto, using(edit_actions::proofs::Placed::placed_here))]
-fn gathered_of<C: Choice<Doc>>(
-    alloc: Global,
-    doc: &Doc,
-    pair: Pair,
-    choice: &C,
-) -> Result<NodeList, AllocError>
-    requires { IsPlacedPair doc.now.state.trees pair }
-    ensures held { IfOk result (λ list. EachHeld doc.now list) }
-    ensures nodes { IfOk result
-        (λ list. labels_of list ≡ gathered_by (C.chosen choice.now doc.now) doc.now.state.trees (Some pair)) }
-{
-    let range = block_extend(doc, ends_of(doc, pair));
-    gather_in(alloc, doc, range, choice)
-}
-
-// Indent and outdent, step 2: the nodes of the block-extended active range that are chosen.
-pub(crate) fn range_nodes<C: Choice<Doc>>(
-    alloc: Global,
-    doc: &Doc,
-    choice: &C,
-) -> Result<NodeList, AllocError>
-    ensures held { IfOk result (λ list. EachHeld doc.now list) }
-    ensures nodes { IfOk result (λ list. labels_of list ≡ gathered_by
-        (C.chosen choice.now doc.now) doc.now.state.trees doc.now.state.points.selection) }
-{
-    doc.valid();
-    match doc.points().selection() {
-        Some(pair) => gathered_of(alloc, doc, pair, choice),
-        None => NodeList::from_slice(alloc, &Vec::new(alloc)),
     }
 }

@@ -71,7 +71,7 @@ fn indent_before(
     ensures keeps { Keeps doc.old doc.new }
 {
     let front = children_before(alloc, doc, element, child)?;
-    let list = NodeList::from_slice(alloc, &front)?;
+    let list = NodeList::from_vec(front);
     indent_list(alloc, doc, list)
 }
 
@@ -99,7 +99,7 @@ fn siblings_after(alloc: Global, doc: &Doc, node: NodeRef) -> Result<NodeList, A
     ensures siblings { IfOk result (λ list. labels_of list ≡ siblings_after doc.now.state node.label) }
 {
     let Some(parent) = doc.parent(node) else {
-        return NodeList::from_slice(alloc, &Vec::new(alloc));
+        return Ok(NodeList::from_vec(Vec::new(alloc)));
     };
     let children = doc.children_of(parent)?;
     let at = place_after(&children, node);

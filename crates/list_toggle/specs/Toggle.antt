@@ -6,13 +6,12 @@ use Rattle.std.specs.List.{list_all}
 use Rattle.dom_model.specs.Forest.{first_in}
 use Rattle.block_extend.specs.Series.{is_next}
 use Rattle.inline_value.specs.Wrappers.{bare}
-use Rattle.block_commands.specs.Series.{has_members}
+use Rattle.block_commands.specs.Series.{in_turns}
 use Rattle.edit_model.specs.State.{State}
-use Rattle.edit_model.specs.Run.{Run, ◌>>=◌, ◌>>◌, answer, done, look, given, while_at_most}
+use Rattle.edit_model.specs.Run.{Run, ◌>>=◌, ◌>>◌, answer, done, look, given}
 use Rattle.wrap_split.specs.declared.rule.Criterion.TheVariants.{Named}
 use Rattle.wrap_split.specs.declared.rule.Recipe.TheVariants.{Make}
 use Rattle.wrap_split.specs.Split.{split_parent}
-use Rattle.wrap_split.specs.Walks.{turn_bound}
 use Rattle.wrap_split.specs.Wrap.{wrap}
 use Rattle.inline_value.specs.Recording.{record_values, restore_values}
 use Rattle.edit_query.specs.ListStates.{list_name, is_list_of, is_child_of, is_list_state, list_state}
@@ -90,7 +89,7 @@ enlist_next ordered list = collect_items list >>= place_collected ordered
 
 -- toggle lists, step 6: while members are left
 unfoldable pub enlist_all : Bool → List ℕ → Run (Unit {0})
-enlist_all ordered list = look λ s. while_at_most (turn_bound s) has_members (enlist_next ordered) list >> done
+enlist_all ordered list = in_turns (enlist_next ordered) list
 
 -- toggle lists, step 4, and then 6
 unfoldable pub enlist_lines : Bool → Run (Unit {0})

@@ -1,8 +1,8 @@
 //! Toggle lists. The steps are those of docs/ALGORITHMS.md.
 
-ghost use Rattle.std.specs.Prelude.{◌≡◌, ◌≤◌, ◌<◌, IfOk, length, drop};
+ghost use Rattle.std.specs.Prelude.{◌≡◌, ◌<◌, IfOk};
 ghost use Rattle.std.specs.List.{list_all};
-ghost use Rattle.edit_model.specs.Gives.{Gives, GivesAs, GivesMaybe, labels_of};
+ghost use Rattle.edit_model.specs.Gives.{Gives, GivesMaybe, labels_of};
 ghost use Rattle.edit_doc.specs.Held.{Holds, IfHeld, EachHeld, Keeps};
 ghost use Rattle.edit_doc.specs.Whole.{IsOpen};
 ghost use Rattle.list_indent.specs.Sublists as sublists;
@@ -11,13 +11,14 @@ ghost use Rattle.list_toggle.specs.Toggle as toggle;
 use crate::collecting::collect_items;
 use crate::converting::convert_lists;
 use crate::ranges::{free_range, keep_range, range_lines, range_members};
+use block_commands::{Turn, in_turns};
 use block_extend::{Link, count_series, is_next};
 use edit_doc::{Doc, EditFault, Name, NodeList, NodeRef};
 use edit_query::{is_child_of, is_list_of, list_name, list_state};
 use inline_value::{bare, record_values, restore_values};
 use list_indent::{fix, is_list, normalize_range, outdent_node, split_items};
 use std::alloc::Global;
-use wrap_split::{CopyMade, NamedSibling, WrapRule, split_parent, turn_bound, wrap};
+use wrap_split::{CopyMade, NamedSibling, WrapRule, split_parent, wrap};
 
 // ---- step 5: off
 
@@ -234,28 +235,27 @@ fn place_items(
     place_from(alloc, doc, ordered, list, items[0])
 }
 
-// Step 6, one turn: how many members of the list are done with.
-#[tactic(auto, using(edit_model::proofs::Steps::steps, edit_model::proofs::Steps::exits, block_commands::proofs::Counting::exit_count), unfolding(crate::specs::Toggle::enlist_next, crate::specs::Toggle::place_collected))]
-fn enlist_next(
-    alloc: Global,
-    doc: &mut Doc,
+// Step 6, one turn.
+#[derive(Clone, Copy)]
+struct EnlistTurn {
     ordered: bool,
-    list: &[NodeRef],
-) -> Result<usize, EditFault>
-    requires open { IsOpen doc.old }
-    requires list_held { EachHeld doc.old list.now }
-    ensures gives { GivesAs (λ count. labels_of (drop count list.now)) result doc.old.state doc.new.state
-        (toggle.enlist_next ordered (labels_of list.now)) }
-    ensures within { IfOk result (λ count. count ≤ length list.now) }
-    ensures keeps { Keeps doc.old doc.new }
-{
-    let (items, count) = collect_items(alloc, doc, list)?;
-    place_items(alloc, doc, ordered, &items)?;
-    Ok(count)
+}
+
+impl Turn for EnlistTurn {
+    ghost use Rattle.list_toggle.specs.Toggle.{enlist_next};
+
+    ghost run = { λ s. enlist_next s.ordered };
+
+    #[tactic(auto, using(edit_model::proofs::Steps::steps, edit_model::proofs::Steps::exits, block_commands::proofs::Counting::exit_count), unfolding(crate::specs::Toggle::enlist_next, crate::specs::Toggle::place_collected))]
+    fn take(&self, alloc: Global, doc: &mut Doc, list: &[NodeRef]) -> Result<usize, EditFault> {
+        let (items, count) = collect_items(alloc, doc, list)?;
+        place_items(alloc, doc, self.ordered, &items)?;
+        Ok(count)
+    }
 }
 
 // Step 6.
-#[tactic(auto, using(edit_model::proofs::Steps::whiles, edit_model::proofs::Steps::exits, block_commands::proofs::Counting::members_on, block_commands::proofs::Counting::members_off, block_commands::proofs::Counting::drop_more, block_commands::proofs::Counting::exit_count), unfolding(crate::specs::Toggle::enlist_all))]
+#[tactic(auto, unfolding(crate::specs::Toggle::enlist_all))]
 fn enlist_all(
     alloc: Global,
     doc: &mut Doc,
@@ -267,13 +267,7 @@ fn enlist_all(
     ensures gives { Gives result doc.old.state doc.new.state (toggle.enlist_all ordered (labels_of list.now)) }
     ensures keeps { Keeps doc.old doc.new }
 {
-    let mut left = turn_bound(doc);
-    let mut at: usize = 0;
-    while left > 0 && at < list.len() {
-        at += enlist_next(alloc, doc, ordered, &list[at..])?;
-        left -= 1;
-    }
-    Ok(())
+    in_turns(alloc, doc, &EnlistTurn { ordered }, list)
 }
 
 // Step 4, and then 6.
