@@ -1,4 +1,5 @@
--- The active range, and the editing host that a command works in (HTML Editing APIs, "affected editing host").
+-- The active range, and the editing host that a command works in (HTML Editing APIs, "affected
+-- editing host").
 use Rattle.std.specs.Prelude.{ℕ, Option}
 use Rattle.std.specs.Option.{option_and_then}
 use Rattle.dom_model.specs.declared.Content.{Content}

@@ -11,7 +11,8 @@ first_parent s (x ∷ xs) = either (parent_of s.trees x) (first_parent s xs)
 -- the members whose parent is o
 unfoldable pub members : State → ℕ → List ℕ → List ℕ
 members s o [] = []
-members s o (x ∷ xs) = if is_label (parent_of s.trees x) o then x ∷ members s o xs else members s o xs
+members s o (x ∷ xs) =
+    if is_label (parent_of s.trees x) o then x ∷ members s o xs else members s o xs
 
 -- the members before a
 unfoldable pub until : ℕ → List ℕ → List ℕ

@@ -31,7 +31,8 @@ fn host_of_pair(doc: &Doc, pair: Pair) -> Option<NodeRef>
     node_tests::affected_host(doc, ends_of(doc, pair))
 }
 
-/// The affected editing host of a command on the active range. It costs the ancestors of the range's ends.
+/// The affected editing host of a command on the active range. It costs the ancestors of the
+/// range's ends.
 #[tactic(auto, unfolding(crate::specs::ActiveRange::affected_host))]
 pub fn affected_host(doc: &Doc) -> Option<NodeRef>
     ensures { Finds doc.now result (affected_host doc.now.state) }

@@ -1,6 +1,6 @@
-//! What the algorithms of editing commands have in common, over a document under edits: lists of siblings, moves
-//! and insertions beside a node, copies of an element's name and attributes, and the ends and the host of the
-//! active range.
+//! What the algorithms of editing commands have in common, over a document under edits: lists of
+//! siblings, moves and insertions beside a node, copies of an element's name and attributes, and
+//! the ends and the host of the active range.
 //!
 //! Tests that only read are those of `node_tests`; the edits themselves are calls of [`Doc`].
 #![tactic(auto)]

@@ -27,7 +27,8 @@ pub fn insert_before(doc: &mut Doc, other: NodeRef, node: NodeRef) -> Result<(),
     requires open { IsOpen doc.old }
     requires other_held { Holds doc.old other }
     requires node_held { Holds doc.old node }
-    ensures gives { Gives result doc.old.state doc.new.state (insert_before other.label node.label) }
+    ensures gives { Gives result doc.old.state doc.new.state
+        (insert_before other.label node.label) }
     ensures keeps { Keeps doc.old doc.new }
 {
     let Some(parent) = doc.parent(other) else {
@@ -54,7 +55,8 @@ pub fn insert_after(doc: &mut Doc, other: NodeRef, node: NodeRef) -> Result<(), 
     Ok(())
 }
 
-/// Moves a node to just before another one. Where that has no parent, or the node may not go there, it stays.
+/// Moves a node to just before another one. Where that has no parent, or the node may not go there,
+/// it stays.
 #[tactic(auto, using(edit_model::proofs::Steps::steps, edit_model::proofs::Steps::exits), unfolding(edit_model::specs::Moves::move_before))]
 pub fn move_before(doc: &mut Doc, other: NodeRef, node: NodeRef) -> Result<(), EditFault>
     requires open { IsOpen doc.old }
@@ -70,7 +72,8 @@ pub fn move_before(doc: &mut Doc, other: NodeRef, node: NodeRef) -> Result<(), E
     Ok(())
 }
 
-/// Moves a node to just after another one. Where that has no parent, or the node may not go there, it stays.
+/// Moves a node to just after another one. Where that has no parent, or the node may not go there,
+/// it stays.
 #[tactic(auto, using(edit_model::proofs::Steps::steps, edit_model::proofs::Steps::exits), unfolding(edit_model::specs::Moves::move_after))]
 pub fn move_after(doc: &mut Doc, other: NodeRef, node: NodeRef) -> Result<(), EditFault>
     requires open { IsOpen doc.old }
@@ -87,13 +90,15 @@ pub fn move_after(doc: &mut Doc, other: NodeRef, node: NodeRef) -> Result<(), Ed
     Ok(())
 }
 
-/// Moves each node of a list to just before another one, in the order of the list. A node that may not go there stays.
+/// Moves each node of a list to just before another one, in the order of the list. A node that may
+/// not go there stays.
 #[tactic(auto, using(edit_model::proofs::Steps::eachs, edit_model::proofs::Steps::exits), unfolding(edit_model::specs::Moves::move_all_before))]
 pub fn move_all_before(doc: &mut Doc, list: &[NodeRef], other: NodeRef) -> Result<(), EditFault>
     requires open { IsOpen doc.old }
     requires list_held { EachHeld doc.old list.now }
     requires other_held { Holds doc.old other }
-    ensures gives { Gives result doc.old.state doc.new.state (move_all_before (labels_of list.now) other.label) }
+    ensures gives { Gives result doc.old.state doc.new.state
+        (move_all_before (labels_of list.now) other.label) }
     ensures keeps { Keeps doc.old doc.new }
 {
     for node in list {
@@ -102,14 +107,15 @@ pub fn move_all_before(doc: &mut Doc, list: &[NodeRef], other: NodeRef) -> Resul
     Ok(())
 }
 
-/// Moves each node of a list to just after another one, the last one first, so that they stand in the order of the
-/// list.
+/// Moves each node of a list to just after another one, the last one first, so that they stand in
+/// the order of the list.
 #[tactic(auto, using(edit_model::proofs::Steps::backs, edit_model::proofs::Steps::exits), unfolding(edit_model::specs::Moves::move_all_after))]
 pub fn move_all_after(doc: &mut Doc, list: &[NodeRef], other: NodeRef) -> Result<(), EditFault>
     requires open { IsOpen doc.old }
     requires list_held { EachHeld doc.old list.now }
     requires other_held { Holds doc.old other }
-    ensures gives { Gives result doc.old.state doc.new.state (move_all_after (labels_of list.now) other.label) }
+    ensures gives { Gives result doc.old.state doc.new.state
+        (move_all_after (labels_of list.now) other.label) }
     ensures keeps { Keeps doc.old doc.new }
 {
     let mut left = list.len();
@@ -134,14 +140,15 @@ pub fn move_first(doc: &mut Doc, parent: NodeRef, node: NodeRef) -> Result<(), E
     Ok(())
 }
 
-/// Moves each node of a list to the front of another one, the last one first, so that they stand in the order of
-/// the list.
+/// Moves each node of a list to the front of another one, the last one first, so that they stand in
+/// the order of the list.
 #[tactic(auto, using(edit_model::proofs::Steps::backs, edit_model::proofs::Steps::exits), unfolding(edit_model::specs::Moves::move_all_first))]
 pub fn move_all_first(doc: &mut Doc, list: &[NodeRef], parent: NodeRef) -> Result<(), EditFault>
     requires open { IsOpen doc.old }
     requires list_held { EachHeld doc.old list.now }
     requires parent_held { Holds doc.old parent }
-    ensures gives { Gives result doc.old.state doc.new.state (move_all_first (labels_of list.now) parent.label) }
+    ensures gives { Gives result doc.old.state doc.new.state
+        (move_all_first (labels_of list.now) parent.label) }
     ensures keeps { Keeps doc.old doc.new }
 {
     let mut left = list.len();
@@ -152,8 +159,8 @@ pub fn move_all_first(doc: &mut Doc, list: &[NodeRef], parent: NodeRef) -> Resul
     Ok(())
 }
 
-/// Removes a node, whose children come to stand in its place as they are. No line break is put or removed there: where
-/// lines have to stay apart, the parent of the children is split in its place.
+/// Removes a node, whose children come to stand in its place as they are. No line break is put or
+/// removed there: where lines have to stay apart, the parent of the children is split in its place.
 #[tactic(auto, using(edit_model::proofs::Steps::steps, edit_model::proofs::Steps::exits), unfolding(edit_model::specs::Moves::unwrap))]
 pub fn unwrap(doc: &mut Doc, node: NodeRef) -> Result<(), EditFault>
     requires open { IsOpen doc.old }

@@ -1,4 +1,5 @@
--- Block nodes, hidden nodes, and whitespace nodes (HTML Editing APIs, "block node", "whitespace node").
+-- Block nodes, hidden nodes, and whitespace nodes (HTML Editing APIs, "block node", "whitespace
+-- node").
 use Rattle.std.specs.Prelude.{ℕ, ◌==◌, Bool, true, false, ◌||◌, List, Option, Some, None}
 use Rattle.std.specs.List.{list_all}
 use Rattle.std.specs.Option.{option_map_or, unwrap_or}
@@ -35,7 +36,8 @@ is_no_box _ = false
 -- the Document, or an element whose display is that of a block
 unfoldable pub is_block_content : Content → Bool
 is_block_content Document = true
-is_block_content (Element name attributes) = is_block_display (own_or_inline (Element name attributes))
+is_block_content (Element name attributes) =
+    is_block_display (own_or_inline (Element name attributes))
 is_block_content (Words chars) = false
 is_block_content (Remark chars) = false
 
@@ -72,7 +74,8 @@ collapses white_space_values.PreWrap c = false
 -- Words that is empty, or whose characters all collapse under the parent's white-space
 abbrev pub is_whitespace_under : Option ℕ → Forest Content → List ℕ → Bool
 is_whitespace_under None f chars = is_empty chars
-is_whitespace_under (Some p) f chars = is_empty chars || list_all (collapses (white_space f p)) chars
+is_whitespace_under (Some p) f chars =
+    is_empty chars || list_all (collapses (white_space f p)) chars
 
 abbrev pub is_whitespace_in : Forest Content → Option ℕ → Content → Bool
 is_whitespace_in f parent Document = false

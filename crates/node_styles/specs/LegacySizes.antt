@@ -1,4 +1,5 @@
--- The sizes 1 to 7 of the attribute `size` of font, and of the command fontSize. A text is a list of characters.
+-- The sizes 1 to 7 of the attribute `size` of font, and of the command fontSize. A text is a list
+-- of characters.
 use Rattle.std.specs.Prelude.{ℕ, ◌+◌, ◌-◌, ◌==◌, not, ◌&&◌, min, max, if◌then◌else◌, List, [], ◌∷◌, Option, Some, None}
 use Rattle.std.specs.Char.{is_ascii_digit}
 use Rattle.std.specs.List.{list_all}
@@ -8,7 +9,8 @@ use Rattle.css_value.specs.Numbers.{decimal}
 
 -- one or more digits
 abbrev pub number_of : List ℕ → Option ℕ
-number_of digits = if not (is_empty digits) && list_all is_ascii_digit digits then Some (decimal digits) else None
+number_of digits =
+    if not (is_empty digits) && list_all is_ascii_digit digits then Some (decimal digits) else None
 
 -- the nearest of 1 to 7
 abbrev pub within_sizes : ℕ → ℕ

@@ -16,7 +16,8 @@ abbrev pub lineage_from : List Ancestor → Forest Content → ℕ → Option (L
 lineage_from above Nil l = None
 lineage_from above (Tree m c ks rest) l =
     if m == l then Some (record { label = m; content = c } ∷ above)
-    else option_or (lineage_from (record { label = m; content = c } ∷ above) ks l) (lineage_from above rest l)
+    else option_or (lineage_from (record { label = m; content = c } ∷ above) ks l)
+    (lineage_from above rest l)
 
 -- the node of a label and its ancestors, the innermost first
 unfoldable pub lineage : Forest Content → ℕ → List Ancestor

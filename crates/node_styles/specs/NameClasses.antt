@@ -1,5 +1,5 @@
--- Elements by their names, and what their styles set (HTML Editing APIs, "single-line container", "indentation
--- element", "simple indentation element", "removeFormat candidate").
+-- Elements by their names, and what their styles set (HTML Editing APIs, "single-line container",
+-- "indentation element", "simple indentation element", "removeFormat candidate").
 use Rattle.std.specs.Prelude.{ℕ, Bool, false, ◌&&◌, ◌||◌, List, is_some, bytes_eq, codes}
 use Rattle.std.specs.List.{list_any, list_all}
 use Rattle.std.specs.Option.{option_map_or}
@@ -17,7 +17,8 @@ use Rattle.node_styles.specs.OwnStyles.{is_named, declared}
 
 -- an element whose name passes
 abbrev pub has_name_in : (List ℕ → Bool) → Forest Content → ℕ → Bool
-has_name_in test f l = option_map_or (λ c. option_map_or test (name_in c) false) (content_of f l) false
+has_name_in test f l =
+    option_map_or (λ c. option_map_or test (name_in c) false) (content_of f l) false
 
 unfoldable pub is_non_list_single_line : Forest Content → ℕ → Bool
 is_non_list_single_line f l = has_name_in names.is_non_list_single_line_container f l
@@ -34,7 +35,8 @@ sets_margin c = list_any (λ margin. is_some (declared c margin)) margin_names
 
 -- a blockquote, or a div with a margin
 unfoldable pub is_indentation_content : Content → Bool
-is_indentation_content c = is_named (codes "blockquote") c || (is_named (codes "div") c && sets_margin c)
+is_indentation_content c =
+    is_named (codes "blockquote") c || (is_named (codes "div") c && sets_margin c)
 
 unfoldable pub is_indentation : Forest Content → ℕ → Bool
 is_indentation f l = option_map_or is_indentation_content (content_of f l) false
@@ -46,7 +48,8 @@ is_plain_attribute a =
     && sets_only BoxNames (names_of (declarations_in a.value)))
 
 unfoldable pub is_simple_indentation_content : Content → Bool
-is_simple_indentation_content c = is_indentation_content c && option_map_or (list_all is_plain_attribute)
+is_simple_indentation_content c =
+    is_indentation_content c && option_map_or (list_all is_plain_attribute)
     (attributes_in c) false
 
 unfoldable pub is_simple_indentation : Forest Content → ℕ → Bool
@@ -54,4 +57,5 @@ is_simple_indentation f l = option_map_or is_simple_indentation_content (content
 
 -- editable with this host, and of a name that removeFormat takes out
 unfoldable pub is_format_candidate : Forest Content → ℕ → ℕ → Bool
-is_format_candidate f host l = is_editable f host l && has_name_in names.is_remove_format_candidate f l
+is_format_candidate f host l =
+    is_editable f host l && has_name_in names.is_remove_format_candidate f l

@@ -1,4 +1,5 @@
--- The values that an element itself gives a property: by its style, by a hint of an attribute, or by its name.
+-- The values that an element itself gives a property: by its style, by a hint of an attribute, or
+-- by its name.
 use Rattle.std.specs.Prelude.{ℕ, Bool, false, if◌then◌else◌, List, [], ◌∷◌, Option, Some, None, is_some, map, bytes_eq, codes}
 use Rattle.std.specs.Char.{to_ascii_lowercase}
 use Rattle.std.specs.Option.{option_map, option_map_or, option_and_then, option_or}
@@ -33,12 +34,14 @@ is_named name c = option_map_or (λ own. bytes_eq own name) (name_in c) false
 
 -- what the style attribute declares of a property, valid or not
 unfoldable pub declared : Content → List ℕ → Option (List ℕ)
-declared c name = option_and_then (λ text. declarations.value_of (declarations.declarations_in text) name)
+declared c name =
+    option_and_then (λ text. declarations.value_of (declarations.declarations_in text) name)
     (attribute c (codes "style"))
 
 -- the default by the element's name
 unfoldable pub defaulted : Content → Property → Option (List ℕ)
-defaulted c property = option_and_then (λ name. default_of name (is_some (attribute c (codes "href"))) property)
+defaulted c property =
+    option_and_then (λ name. default_of name (is_some (attribute c (codes "href"))) property)
     (name_in c)
 
 -- what a font's attribute gives
@@ -82,7 +85,8 @@ unfoldable pub family_hint : Content → Option (List ℕ)
 family_hint c = option_and_then family_of (font_attribute c (codes "face"))
 
 unfoldable pub size_hint : Content → Option ℕ
-size_hint c = option_map pixels_of (option_and_then legacy_size_of (font_attribute c (codes "size")))
+size_hint c =
+    option_map pixels_of (option_and_then legacy_size_of (font_attribute c (codes "size")))
 
 unfoldable pub align_hint : Content → Option TextAlign
 align_hint c =
@@ -91,7 +95,8 @@ align_hint c =
     else None
 
 -- the valid value of the style, else the hint, else the default
-abbrev pub own : {V : Type 0} → (List ℕ → Option V) → List ℕ → Option V → Property → Content → Option V
+abbrev pub own : {V : Type 0} → (List ℕ → Option V) → List ℕ → Option V → Property → Content
+    → Option V
 own read name hint p c = option_or (option_and_then read (declared c name))
     (option_or hint (option_and_then read (defaulted c p)))
 
@@ -120,7 +125,8 @@ unfoldable pub own_background_color : Content → Option Colour
 own_background_color c = own colour_of (codes "background-color") None property.BackgroundColor c
 
 unfoldable pub own_text_decoration : Content → Option TextDecoration
-own_text_decoration c = own text_decoration_of (codes "text-decoration") None property.TextDecoration c
+own_text_decoration c =
+    own text_decoration_of (codes "text-decoration") None property.TextDecoration c
 
 unfoldable pub own_text_align : Content → Option TextAlign
 own_text_align c = own text_align_of (codes "text-align") (align_hint c) property.TextAlign c

@@ -1,5 +1,5 @@
--- The resolved value of a property: the element's own value, else, where the property is inherited, that of the nearest
--- ancestor that has one, else the initial value.
+-- The resolved value of a property: the element's own value, else, where the property is inherited,
+-- that of the nearest ancestor that has one, else the initial value.
 use Rattle.std.specs.Prelude.{ℕ, List, Option, is_some, codes, decimal}
 use Rattle.std.specs.Option.{option_and_then, unwrap_or}
 use Rattle.dom_model.specs.declared.Content.{Content}

@@ -1,4 +1,5 @@
--- What the texts of the table of defaults stand for, where the code has them. No public clause cites this module.
+-- What the texts of the table of defaults stand for, where the code has them. No public clause
+-- cites this module.
 use Rattle.std.specs.Prelude.{ℕ, true, false, if◌then◌else◌, List, Option, Some, None, bytes_eq, codes}
 use Rattle.css_value.specs.declared.decoration.TextDecoration.{TextDecoration}
 
@@ -15,7 +16,8 @@ pixels_of text =
 
 abbrev pub lines_of : List ℕ → Option TextDecoration
 lines_of text =
-    if bytes_eq text (codes "underline") then Some (record { underline = true; overline = false; line_through = false })
+    if bytes_eq text (codes "underline") then
+    Some (record { underline = true; overline = false; line_through = false })
     else (if bytes_eq text (codes "line-through") then Some (record {
       underline = false;
       overline = false;

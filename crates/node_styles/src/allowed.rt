@@ -47,7 +47,8 @@ pub fn are_spaces(chars: &[char]) -> bool
 // Whether a child of which this is true is barred by an element among the parent and its ancestors.
 fn is_barred_below<N: Nodes>(nodes: &N, is_such: bool, parent: NodeRef, wanted: Trait) -> bool
     requires { N.holds nodes.now parent }
-    ensures { result ≡ (is_such && line.has_in_lineage (has_trait wanted) (N.trees nodes.now) parent.label) }
+    ensures { result
+        ≡ (is_such && line.has_in_lineage (has_trait wanted) (N.trees nodes.now) parent.label) }
 {
     is_such && has_in_lineage(nodes, parent, &wanted)
 }
@@ -103,7 +104,8 @@ pub fn allowed_in_name<N: Nodes>(nodes: &N, child: NodeRef, parent: &[u8]) -> bo
 // Whether a node is an element in which no text but spaces stands.
 fn is_textless_node<N: Nodes>(nodes: &N, node: NodeRef) -> bool
     requires { N.holds nodes.now node }
-    ensures { result ≡ option_map_or allowed.is_textless (name_of (N.trees nodes.now) node.label) Bool.false }
+    ensures { result
+        ≡ option_map_or allowed.is_textless (name_of (N.trees nodes.now) node.label) Bool.false }
 {
     match nodes.content(node) {
         Content::Element { name, .. } => is_textless(name.as_slice()),

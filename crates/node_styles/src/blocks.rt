@@ -56,8 +56,8 @@ pub fn has_no_box(content: &Content) -> bool
     }
 }
 
-/// Whether a node is a block node: the Document, or an element whose `display` isn't `inline`, `inline-block`,
-/// `inline-table` or `none`.
+/// Whether a node is a block node: the Document, or an element whose `display` isn't `inline`,
+/// `inline-block`, `inline-table` or `none`.
 #[tactic(auto, unfolding(crate::specs::Blocks::is_block))]
 pub fn is_block<N: Nodes>(nodes: &N, node: NodeRef) -> bool
     requires { N.holds nodes.now node }
@@ -70,7 +70,8 @@ pub fn is_block<N: Nodes>(nodes: &N, node: NodeRef) -> bool
 #[tactic(auto, unfolding(crate::specs::Blocks::nearest_block))]
 pub fn nearest_block<N: Nodes>(nodes: &N, node: NodeRef) -> Option<NodeRef>
     requires { N.holds nodes.now node }
-    ensures { Names (N.holds nodes.now) result (blocks.nearest_block (N.trees nodes.now) node.label) }
+    ensures { Names (N.holds nodes.now) result
+        (blocks.nearest_block (N.trees nodes.now) node.label) }
 {
     let parent = nodes.parent(node)?;
     nearest(nodes, parent, &Trait::Block)
@@ -117,8 +118,9 @@ fn is_whitespace_under<N: Nodes>(nodes: &N, parent: Option<NodeRef>, chars: &[ch
     }
 }
 
-/// Whether a node is a whitespace node: Words that is empty, or that has only tabs, LF, CR and spaces where its
-/// parent's `white-space` is `normal` or `nowrap`, or only tabs, CR and spaces where it is `pre-line`.
+/// Whether a node is a whitespace node: Words that is empty, or that has only tabs, LF, CR and
+/// spaces where its parent's `white-space` is `normal` or `nowrap`, or only tabs, CR and spaces
+/// where it is `pre-line`.
 #[tactic(auto, unfolding(crate::specs::Blocks::is_whitespace))]
 pub fn is_whitespace<N: Nodes>(nodes: &N, node: NodeRef) -> bool
     requires { N.holds nodes.now node }

@@ -38,8 +38,9 @@ fn within_sizes(number: u8) -> u8
     number.clamp(1, 7)
 }
 
-/// The size 1 to 7 that the attribute `size` of a font, or the value of the command fontSize, stands for: digits, or a
-/// sign and digits, which are relative to 3; what is past 1 or 7 is 1 or 7.
+/// The size 1 to 7 that the attribute `size` of a font, or the value of the command fontSize,
+/// stands for: digits, or a sign and digits, which are relative to 3; what is past 1 or 7 is 1 or
+/// 7.
 #[tactic(auto, unfolding(crate::specs::LegacySizes::legacy_size_of))]
 pub fn read_legacy_size(text: &[char]) -> Option<u8>
     ensures { result ≡ sizes.legacy_size_of text.now }
@@ -138,7 +139,8 @@ fn hinted_alignment(text: &[char]) -> Option<TextAlign>
 // Whether the attribute align of this element is a hint.
 #[tactic(auto, unfolding(crate::specs::OwnStyles::aligned_names))]
 fn takes_align(content: &Content) -> bool
-    ensures { result ≡ option_map_or (names.is_one_of own.aligned_names) (name_in content.now) Bool.false }
+    ensures { result
+        ≡ option_map_or (names.is_one_of own.aligned_names) (name_in content.now) Bool.false }
 {
     match content {
         Content::Element { name, .. } => is_one_of(&ALIGNED_NAMES, name.as_slice()),

@@ -1,8 +1,10 @@
-//! What a node's style and name say of it: the resolved values of style properties, blocks and whitespace, the
-//! classes of elements that editing commands speak of, and which node may stand in which.
+//! What a node's style and name say of it: the resolved values of style properties, blocks and
+//! whitespace, the classes of elements that editing commands speak of, and which node may stand in
+//! which.
 //!
-//! Styles come from the attribute `style`, from the hints of `font` and of `align`, and from a table by names;
-//! there are no style sheets. The terms are those of the W3C's *HTML Editing APIs*. Only [`resolved`] takes memory.
+//! Styles come from the attribute `style`, from the hints of `font` and of `align`, and from a
+//! table by names; there are no style sheets. The terms are those of the W3C's *HTML Editing APIs*.
+//! Only [`resolved`] takes memory.
 #![tactic(auto)]
 
 mod allowed;

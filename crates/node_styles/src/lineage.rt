@@ -18,8 +18,8 @@ use html_names::{has_inline_contents, is_heading};
 use node_arena::{Content, Kind, NodeRef, Nodes};
 use style_table::Property;
 
-/// How many turns a loop of an algorithm or a test takes at most: two for each node of the document, one for each
-/// character, and two.
+/// How many turns a loop of an algorithm or a test takes at most: two for each node of the
+/// document, one for each character, and two.
 pub fn turn_bound<N: Nodes>(nodes: &N) -> u128
     ensures { result ≡ bound.turn_bound (N.trees nodes.now) }
 {
@@ -90,9 +90,11 @@ fn has_heading_name(content: &Content) -> bool
 /// The innermost of a node and its ancestors that passes a test.
 pub fn nearest<N: Nodes, T: Test>(nodes: &N, node: NodeRef, wanted: &T) -> Option<NodeRef>
     requires { N.holds nodes.now node }
-    ensures found { IfSome result (λ r. IsNearest (T.test wanted.now) (N.holds nodes.now) (N.trees nodes.now)
+    ensures found { IfSome result (λ r.
+        IsNearest (T.test wanted.now) (N.holds nodes.now) (N.trees nodes.now)
         node.label r) }
-    ensures none { IfNone result (line.nearest (T.test wanted.now) (N.trees nodes.now) node.label ≡ None) }
+    ensures none { IfNone result (line.nearest (T.test wanted.now) (N.trees nodes.now) node.label
+        ≡ None) }
 {
     nodes.valid();
     let mut at = node;
@@ -117,7 +119,9 @@ pub fn has_in_lineage<N: Nodes, T: Test>(nodes: &N, node: NodeRef, wanted: &T) -
 /// Whether a node is an element of this name.
 pub fn is_named<N: Nodes>(nodes: &N, node: NodeRef, name: &[u8]) -> bool
     requires { N.holds nodes.now node }
-    ensures { result ≡ option_map_or (own.is_named name.now) (content_of (N.trees nodes.now) node.label) Bool.false }
+    ensures { result
+        ≡ option_map_or (own.is_named name.now) (content_of (N.trees nodes.now) node.label)
+        Bool.false }
 {
     is_element_named(nodes.content(node), name)
 }

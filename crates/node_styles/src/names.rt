@@ -101,7 +101,9 @@ fn are_plain(attributes: &Attributes) -> bool
 }
 
 fn has_plain_attributes(content: &Content) -> bool
-    ensures { result ≡ option_map_or (list_all classes.is_plain_attribute) (attributes_in content.now) Bool.false }
+    ensures { result
+        ≡ option_map_or (list_all classes.is_plain_attribute) (attributes_in content.now)
+        Bool.false }
 {
     match content {
         Content::Element { attributes, .. } => are_plain(attributes),
@@ -109,8 +111,8 @@ fn has_plain_attributes(content: &Content) -> bool
     }
 }
 
-/// Whether a node is a simple indentation element: an indentation element whose attributes are only `dir` and a
-/// style that sets nothing but margins, paddings and borders.
+/// Whether a node is a simple indentation element: an indentation element whose attributes are only
+/// `dir` and a style that sets nothing but margins, paddings and borders.
 #[tactic(auto, unfolding(crate::specs::NameClasses::is_simple_indentation, crate::specs::NameClasses::is_simple_indentation_content))]
 pub fn is_simple_indentation<N: Nodes>(nodes: &N, node: NodeRef) -> bool
     requires { N.holds nodes.now node }
@@ -120,8 +122,8 @@ pub fn is_simple_indentation<N: Nodes>(nodes: &N, node: NodeRef) -> bool
     is_indentation_content(content) && has_plain_attributes(content)
 }
 
-/// Whether a node is a removeFormat candidate: editable with `host` as its editing host, and of a name that the command
-/// takes out.
+/// Whether a node is a removeFormat candidate: editable with `host` as its editing host, and of a
+/// name that the command takes out.
 #[tactic(auto, unfolding(crate::specs::NameClasses::is_format_candidate))]
 pub fn is_format_candidate<N: Nodes>(nodes: &N, host: NodeRef, node: NodeRef) -> bool
     requires host_held { N.holds nodes.now host }

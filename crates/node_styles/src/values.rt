@@ -50,7 +50,8 @@ fn inherited<'a, N: Nodes, V, F: FnOnce(&'a Content) -> Option<V>>(
 ) -> Option<V>
     requires node_held { N.holds nodes.now node }
     requires callable { F.IsAlwaysCallable own }
-    ensures { MatchOption (nearest (has_own property) (N.trees nodes.now) node.label) (result ≡ None)
+    ensures { MatchOption (nearest (has_own property) (N.trees nodes.now) node.label) (result
+        ≡ None)
         (λ owner. FnOnceReturnsAt F.FnOnce own owner.content result) }
 {
     let owner = nearest(nodes, node, &Trait::Own(property))?;
@@ -164,8 +165,8 @@ fn print_font_family(alloc: Global, family: Family) -> Result<Vec<char>, AllocEr
     }
 }
 
-/// The resolved value of a property as a text: a weight as a number, a size as `Npx`, a colour as `rgb(r, g, b)`
-/// or, for `transparent`, as `rgba(0, 0, 0, 0)`.
+/// The resolved value of a property as a text: a weight as a number, a size as `Npx`, a colour as
+/// `rgb(r, g, b)` or, for `transparent`, as `rgba(0, 0, 0, 0)`.
 #[tactic(auto, unfolding(crate::specs::Resolved::resolved))]
 pub fn resolved<N: Nodes>(
     alloc: Global,
@@ -174,7 +175,8 @@ pub fn resolved<N: Nodes>(
     property: Property,
 ) -> Result<Chars, AllocError>
     requires node_held { N.holds nodes.now node }
-    ensures { IfOk result (λ text. text ≡ resolved.resolved (N.trees nodes.now) node.label property) }
+    ensures { IfOk result (λ text. text
+        ≡ resolved.resolved (N.trees nodes.now) node.label property) }
 {
     let text = match property {
         Property::Display => display(nodes, node).print(alloc),

@@ -25,4 +25,5 @@ common_host f a b = option_map (λ k. k.label) (find (is_host_of f b) (lineage f
 
 -- none where a node is neither editable nor a host
 unfoldable pub affected_host : Forest Content → ℕ → ℕ → Option ℕ
-affected_host f start end = if takes_commands f start && takes_commands f end then common_host f start end else None
+affected_host f start end =
+    if takes_commands f start && takes_commands f end then common_host f start end else None

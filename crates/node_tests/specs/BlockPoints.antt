@@ -1,5 +1,5 @@
--- Places where a block starts or ends (HTML Editing APIs, "block start point", "block end point", "block boundary
--- point").
+-- Places where a block starts or ends (HTML Editing APIs, "block start point", "block end point",
+-- "block boundary point").
 use Rattle.std.specs.Prelude.{ℕ, zero, suc, ◌==◌, Bool, false, ◌&&◌, ◌||◌, Option, None, is_none, slice_get}
 use Rattle.std.specs.Option.{option_map_or}
 use Rattle.dom_model.specs.declared.Content.{Content}

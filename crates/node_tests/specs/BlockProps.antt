@@ -1,4 +1,5 @@
--- Collapsed block props (HTML Editing APIs): what holds a line open in a block and is seen in no other way.
+-- Collapsed block props (HTML Editing APIs): what holds a line open in a block and is seen in no
+-- other way.
 use Rattle.std.specs.Prelude.{ℕ, Bool, true, false, not, ◌&&◌, ◌||◌}
 use Rattle.dom_model.specs.declared.Content.{Content}
 use Rattle.dom_model.specs.Contents.{is_element_at}
@@ -20,7 +21,8 @@ is_break_prop f l = is_collapsed_break f l && not (is_extraneous_break f l)
 unfoldable pub is_inline_element : Forest Content → ℕ → Bool
 is_inline_element f l = is_element_at f l && not (is_block f l)
 
--- such a break, or an inline element whose children are all invisible or props, with at least one prop
+-- such a break, or an inline element whose children are all invisible or props, with at least one
+-- prop
 abbrev pub is_prop : Forest Content → ℕ → Props → Bool
 is_prop f l kids = is_break_prop f l || (is_inline_element f l && (kids.every && kids.some))
 

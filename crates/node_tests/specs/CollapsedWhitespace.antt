@@ -20,12 +20,14 @@ is_words f l = option_map_or is_words_content (content_of f l) false
 unfoldable pub is_solid : Forest Content → ℕ → Bool
 is_solid f l = is_image f l || (is_words f l && not (is_whitespace f l))
 
--- what a node decides of whether whitespace beside it collapses, if it decides it: at a block or a break it does, at a
--- solid node it doesn't
+-- what a node decides of whether whitespace beside it collapses, if it decides it: at a block or a
+-- break it does, at a solid node it doesn't
 unfoldable pub decides : Forest Content → ℕ → Option Bool
-decides f l = if is_block f l || is_break f l then Some true else (if is_solid f l then Some false else None)
+decides f l =
+    if is_block f l || is_break f l then Some true else (if is_solid f l then Some false else None)
 
--- the first of these nodes that decides; past the last the block is left, and the whitespace collapses
+-- the first of these nodes that decides; past the last the block is left, and the whitespace
+-- collapses
 unfoldable pub collapses_at : Forest Content → List ℕ → Bool
 collapses_at f [] = true
 collapses_at f (l ∷ ls) = unwrap_or (decides f l) (collapses_at f ls)

@@ -1,6 +1,6 @@
--- Whether a node follows or precedes a line break (HTML Editing APIs, "follows a line break", "precedes a line
--- break"): the standard's walks from place to place. A walk takes at most so many turns as the document has places,
--- and some.
+-- Whether a node follows or precedes a line break (HTML Editing APIs, "follows a line break",
+-- "precedes a line break"): the standard's walks from place to place. A walk takes at most so many
+-- turns as the document has places, and some.
 use Rattle.std.specs.Prelude.{ℕ, zero, suc, ◌+◌, Bool, true, false, Option, Some, None, if◌then◌else◌}
 use Rattle.dom_model.specs.declared.Content.{Content}
 use Rattle.dom_model.specs.Forest.{Forest, parent_of}

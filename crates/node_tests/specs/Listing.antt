@@ -47,7 +47,8 @@ pub record LiesAfter (f : Forest Content) (p : Point) (k : ℕ) : Type 0 where
   pub comes : (x o : ℕ) → IsWithin f k x → is_before f p (record { label = x; offset = o }) ≡ true
   pub none : (x o : ℕ) → IsWithin f k x → is_before f (record { label = x; offset = o }) p ≡ false
 
--- a point of a node's tree, outside a child of the node: the child follows the point, or precedes it
+-- a point of a node's tree, outside a child of the node: the child follows the point, or precedes
+-- it
 abbrev pub Follows : Forest Content → Point → ℕ → ℕ → Type 0
 Follows f p top k =
     ((p.label ≡ top) × (p.offset ≤ index_of f k))
@@ -64,25 +65,31 @@ IsAhead f k None = Unit {0}
 IsAhead f k (Some m) = index_of f k < index_of f m
 
 -- how the children of a node lie to a point
-pub record Reaches (holds : NodeRef → Type 0) (f : Forest Content) (p : Point) (top : ℕ) (reach : Reach) : Type 0 where
+pub record Reaches (holds : NodeRef → Type 0) (f : Forest Content) (p : Point) (top : ℕ)
+    (reach : Reach) : Type 0 where
   pub held : IfSome reach.child (λ r. holds r)
   pub under : (m : ℕ) → label reach.child ≡ Some m → parent_of f m ≡ Some top
-  pub before : (k : ℕ) → parent_of f k ≡ Some top → IsAhead f k (label reach.child) → LiesBefore f p k
+  pub before : (k : ℕ) → parent_of f k ≡ Some top → IsAhead f k (label reach.child)
+      → LiesBefore f p k
       × (IsWithin f top p.label → Precedes f p top k)
-  pub after : (k m : ℕ) → parent_of f k ≡ Some top → label reach.child ≡ Some m → index_of f m < index_of f k
+  pub after : (k m : ℕ) → parent_of f k ≡ Some top → label reach.child ≡ Some m
+      → index_of f m < index_of f k
       → LiesAfter f p k × (IsWithin f top p.label → Follows f p top k)
   pub inside : (m : ℕ) → label reach.child ≡ Some m → reach.holds ≡ true → IsWithin f m p.label
   pub beyond : (m : ℕ) → label reach.child ≡ Some m → reach.holds ≡ false → LiesAfter f p m
       × (IsWithin f top p.label → Follows f p top m)
 
 -- the first child that lies after the point
-pub record Ends (holds : NodeRef → Type 0) (f : Forest Content) (p : Point) (top : ℕ) (reach : Reach)
+pub record Ends (holds : NodeRef → Type 0) (f : Forest Content) (p : Point) (top : ℕ)
+    (reach : Reach)
     (stop : Option NodeRef) : Type 0 where
   pub held : IfSome stop (λ r. holds r)
   pub under : (s : ℕ) → label stop ≡ Some s → parent_of f s ≡ Some top
-  pub after : (k s : ℕ) → parent_of f k ≡ Some top → label stop ≡ Some s → index_of f s ≤ index_of f k
+  pub after : (k s : ℕ) → parent_of f k ≡ Some top → label stop ≡ Some s
+      → index_of f s ≤ index_of f k
       → LiesAfter f p k × (IsWithin f top p.label → Follows f p top k)
-  pub near : (k m : ℕ) → parent_of f k ≡ Some top → IsAhead f k (label stop) → label reach.child ≡ Some m
+  pub near : (k m : ℕ) → parent_of f k ≡ Some top → IsAhead f k (label stop) → label reach.child
+      ≡ Some m
       → (k ≡ m → reach.holds ≡ true) × (index_of f k ≤ index_of f m)
 
 -- what is known of the tree of a node is so
@@ -92,15 +99,17 @@ pub record Lies (f : Forest Content) (start end : Point) (sides : Sides) (k : �
   pub starts : sides.after ≡ false → IsWithin f k start.label
   pub ends : sides.before ≡ false → IsWithin f k end.label
 
--- so many nodes lead up from a node to one above it: the last of them is a child of that one, and each other a
--- child of the next
+-- so many nodes lead up from a node to one above it: the last of them is a child of that one, and
+-- each other a child of the next
 abbrev pub Leads : (NodeRef → Type 0) → Forest Content → List NodeRef → ℕ → ℕ → ℕ → Type 0
 Leads holds f line l zero top = l ≡ top
 Leads holds f line l (suc n) top =
-    (r : NodeRef) × (slice_get line n ≡ Some r) × holds r × (parent_of f r.label ≡ Some top) × IsWithin f r.label l
+    (r : NodeRef) × (slice_get line n ≡ Some r) × holds r × (parent_of f r.label ≡ Some top)
+    × IsWithin f r.label l
     × Leads holds f line l n r.label
 
--- where an end of the range stands in the tree of a node, the nodes that are left lead up from it to the node
+-- where an end of the range stands in the tree of a node, the nodes that are left lead up from it
+-- to the node
 pub record Lined (holds : NodeRef → Type 0) (f : Forest Content) (start end : Point) (lines : Lines)
     (sides : Sides) (k : ℕ) : Type 0 where
   pub from : sides.after ≡ false → Leads holds f lines.start.items start.label sides.start_left k

@@ -1,5 +1,5 @@
--- Which nodes a range contains (DOM Standard, "contained"), and which it contains in effect (HTML Editing APIs,
--- "effectively contained").
+-- Which nodes a range contains (DOM Standard, "contained"), and which it contains in effect (HTML
+-- Editing APIs, "effectively contained").
 use Rattle.std.specs.Prelude.{ℕ, ◌==◌, Bool, true, false, not, ◌&&◌, ◌||◌, List}
 use Rattle.std.specs.List.{filter}
 use Rattle.dom_model.specs.declared.Content.{Content}
@@ -20,14 +20,17 @@ is_contained f start end l =
 unfoldable pub is_partial : Forest Content → Point → Point → ℕ → Bool
 is_partial f start end l =
     is_words f l
-    && (((l == start.label) && not (start.offset == length_of f l)) || ((l == end.label) && not (end.offset == 0)))
+    && (((l == start.label) && not (start.offset == length_of f l))
+    || ((l == end.label) && not (end.offset == 0)))
 
 -- the start, or the end, of the range cuts Words below a node
 unfoldable pub start_cuts : Forest Content → Point → ℕ → Bool
-start_cuts f start l = is_words f start.label && is_within f l start.label && not (start.offset == 0)
+start_cuts f start l =
+    is_words f start.label && is_within f l start.label && not (start.offset == 0)
 
 unfoldable pub end_cuts : Forest Content → Point → ℕ → Bool
-end_cuts f end l = is_words f end.label && is_within f l end.label && not (end.offset == length_of f end.label)
+end_cuts f end l =
+    is_words f end.label && is_within f l end.label && not (end.offset == length_of f end.label)
 
 unfoldable pub is_cut : Forest Content → Point → Point → ℕ → Bool
 is_cut f start end l = start_cuts f start l || end_cuts f end l
@@ -40,17 +43,19 @@ abbrev pub has_trees : Forest Content → Bool
 has_trees Nil = false
 has_trees (Tree l c ks rest) = true
 
--- each root of these trees is contained, is partial, or has children which all are so in their turn, while no end
--- of the range cuts Words below it
+-- each root of these trees is contained, is partial, or has children which all are so in their
+-- turn, while no end of the range cuts Words below it
 abbrev pub all_effective : Forest Content → Point → Point → Forest Content → Bool
 all_effective f start end Nil = true
 all_effective f start end (Tree l c ks rest) =
-    (is_touched f start end l || (not (is_cut f start end l) && (has_trees ks && all_effective f start end ks)))
+    (is_touched f start end l
+    || (not (is_cut f start end l) && (has_trees ks && all_effective f start end ks)))
     && all_effective f start end rest
 
 -- no node is where the range is collapsed
 unfoldable pub is_effectively_contained : Forest Content → Point → Point → ℕ → Bool
-is_effectively_contained f start end l = is_before f start end && all_effective f start end (tree_of f l)
+is_effectively_contained f start end l =
+    is_before f start end && all_effective f start end (tree_of f l)
 
 -- the nodes in tree order
 unfoldable pub contained_nodes : Forest Content → Point → Point → List ℕ

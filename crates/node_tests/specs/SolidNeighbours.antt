@@ -1,5 +1,5 @@
--- The solid neighbours of a br, and which brs break no line (HTML Editing APIs, "extraneous line break", "collapsed
--- line break").
+-- The solid neighbours of a br, and which brs break no line (HTML Editing APIs, "extraneous line
+-- break", "collapsed line break").
 use Rattle.std.specs.Prelude.{ℕ, Bool, true, false, not, ◌&&◌, List, [], ◌∷◌, Option, Some, None, if◌then◌else◌, codes}
 use Rattle.std.specs.Option.{option_map_or, option_or, unwrap_or}
 use Rattle.dom_model.specs.declared.Content.{Content}
@@ -22,16 +22,18 @@ met f l =
     else (if is_solid f l then Some Solid
     else None))
 
--- of what is met in the front of trees and in the rest of them, what a walk to this side meets first
+-- of what is met in the front of trees and in the rest of them, what a walk to this side meets
+-- first
 abbrev pub nearer : Side → Option Neighbour → Option Neighbour → Option Neighbour
 nearer Before front rest = option_or rest front
 nearer After front rest = option_or front rest
 
--- what a walk to this side meets first in trees, where a node is met before what it holds; f is the forest that the
--- trees stand in
+-- what a walk to this side meets first in trees, where a node is met before what it holds; f is the
+-- forest that the trees stand in
 abbrev pub first_met : Side → Forest Content → Forest Content → Option Neighbour
 first_met side f Nil = None
-first_met side f (Tree l c ks rest) = nearer side (option_or (met f l) (first_met side f ks)) (first_met side f rest)
+first_met side f (Tree l c ks rest) =
+    nearer side (option_or (met f l) (first_met side f ks)) (first_met side f rest)
 
 -- the solid neighbour on this side in the nearest block, whose start and end are block edges too
 unfoldable pub neighbour_on : Side → Forest Content → ℕ → Neighbour
@@ -52,12 +54,14 @@ is_sole _ = false
 -- its parent is an li that has no other child
 unfoldable pub is_sole_in_item : Forest Content → ℕ → Bool
 is_sole_in_item f l =
-    option_map_or (λ p. has_name f p (codes "li") && is_sole (children_of f p)) (parent_of f l) false
+    option_map_or (λ p. has_name f p (codes "li") && is_sole (children_of f p)) (parent_of f l)
+    false
 
 -- a br after text or an image and before a block edge, which shows no line of its own
 unfoldable pub is_extraneous_break : Forest Content → ℕ → Bool
 is_extraneous_break f l =
-    is_break f l && is_block_edge (neighbour_on After f l) && is_solid_neighbour (neighbour_on Before f l)
+    is_break f l && is_block_edge (neighbour_on After f l)
+    && is_solid_neighbour (neighbour_on Before f l)
     && not (is_sole_in_item f l)
 
 -- a br after a block edge or a br, and before a block edge

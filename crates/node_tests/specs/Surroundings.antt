@@ -1,5 +1,5 @@
--- What stands round a node in its nearest block: the nodes before and after it in tree order, and the trees that
--- lie wholly before and after it.
+-- What stands round a node in its nearest block: the nodes before and after it in tree order, and
+-- the trees that lie wholly before and after it.
 use Rattle.std.specs.Prelude.{ℕ, List, [], ◌∷◌, Option, Some, None, if◌then◌else◌, ◌==◌, nat_lt}
 use Rattle.dom_model.specs.declared.Content.{Content}
 use Rattle.dom_model.specs.Forest.{Forest, join, count_of, preorder, tree_of}
@@ -16,7 +16,8 @@ labels_after (x ∷ xs) l = if x == l then xs else labels_after xs l
 -- the labels before l, the nearest first, where `passed` stand before the list
 abbrev pub labels_before_onto : List ℕ → List ℕ → ℕ → List ℕ
 labels_before_onto passed [] l = passed
-labels_before_onto passed (x ∷ xs) l = if x == l then passed else labels_before_onto (x ∷ passed) xs l
+labels_before_onto passed (x ∷ xs) l =
+    if x == l then passed else labels_before_onto (x ∷ passed) xs l
 
 abbrev pub labels_before : List ℕ → ℕ → List ℕ
 labels_before xs l = labels_before_onto [] xs l

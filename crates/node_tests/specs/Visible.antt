@@ -19,10 +19,12 @@ shows f l = is_block f l || (is_words f l && not (is_collapsed_whitespace f l)) 
 unfoldable pub is_boxless : Forest Content → ℕ → Bool
 is_boxless f l = is_no_box (display f l)
 
--- in trees that stand in f a node shows, and no node above it in these trees nor itself has display none
+-- in trees that stand in f a node shows, and no node above it in these trees nor itself has display
+-- none
 abbrev pub shows_in : Forest Content → Forest Content → Bool
 shows_in f Nil = false
-shows_in f (Tree l c ks rest) = (not (is_boxless f l) && (shows f l || shows_in f ks)) || shows_in f rest
+shows_in f (Tree l c ks rest) =
+    (not (is_boxless f l) && (shows f l || shows_in f ks)) || shows_in f rest
 
 -- the node or one below it shows, and no ancestor has display none
 unfoldable pub is_visible : Forest Content → ℕ → Bool
@@ -30,4 +32,5 @@ is_visible f l = not (is_hidden f l) && shows_in f (tree_of f l)
 
 -- editable with this host, visible, and Words, an image or a br
 unfoldable pub is_formattable : Forest Content → ℕ → ℕ → Bool
-is_formattable f host l = is_editable f host l && (is_words f l || is_image f l || is_break f l) && is_visible f l
+is_formattable f host l =
+    is_editable f host l && (is_words f l || is_image f l || is_break f l) && is_visible f l

@@ -16,7 +16,8 @@ use node_styles::is_block;
 /// The child at an offset.
 pub fn child_at<N: Nodes>(nodes: &N, node: NodeRef, offset: u32) -> Option<NodeRef>
     requires { N.holds nodes.now node }
-    ensures { Names (N.holds nodes.now) result (points.child_at (N.trees nodes.now) node.label offset) }
+    ensures { Names (N.holds nodes.now) result
+        (points.child_at (N.trees nodes.now) node.label offset) }
 {
     nodes.valid();
     let mut child = nodes.first_child(node);
@@ -34,7 +35,8 @@ pub fn child_at<N: Nodes>(nodes: &N, node: NodeRef, offset: u32) -> Option<NodeR
 /// The child before an offset.
 pub fn child_before<N: Nodes>(nodes: &N, node: NodeRef, offset: u32) -> Option<NodeRef>
     requires { N.holds nodes.now node }
-    ensures { Names (N.holds nodes.now) result (points.child_before (N.trees nodes.now) node.label offset) }
+    ensures { Names (N.holds nodes.now) result
+        (points.child_before (N.trees nodes.now) node.label offset) }
 {
     if offset == 0 {
         None
@@ -114,7 +116,8 @@ fn is_block_point<N: Nodes>(nodes: &N, at: Point, side: Side) -> bool
     }
 }
 
-/// Whether a point is a block start point: the start of a tree, or after a visible block node or a visible br.
+/// Whether a point is a block start point: the start of a tree, or after a visible block node or a
+/// visible br.
 #[tactic(auto, unfolding(crate::specs::BlockPoints::is_block_start))]
 pub fn is_block_start<N: Nodes>(nodes: &N, at: Point) -> bool
     requires { 0 < count_of (N.trees nodes.now) at.label }

@@ -34,7 +34,8 @@ enum Turn {
 fn end_of<N: Nodes>(nodes: &N, node: NodeRef, side: Side) -> Gap
     requires { N.holds nodes.now node }
     ensures held { HoldsGap (N.holds nodes.now) result }
-    ensures place { StandsAt (N.trees nodes.now) result (line_breaks.end_of side (N.trees nodes.now) node.label) }
+    ensures place { StandsAt (N.trees nodes.now) result
+        (line_breaks.end_of side (N.trees nodes.now) node.label) }
 {
     nodes.valid();
     match side {
@@ -106,7 +107,8 @@ fn is_boundary<N: Nodes>(nodes: &N, at: Gap) -> bool
 fn turn_to<N: Nodes>(nodes: &N, at: Gap, side: Side) -> Turn
     requires { HoldsGap (N.holds nodes.now) at }
     ensures { (place : line_breaks.Place) → StandsAt (N.trees nodes.now) at place
-        → Comes (N.holds nodes.now) (N.trees nodes.now) result (line_breaks.turn_to side (N.trees nodes.now) place) }
+        → Comes (N.holds nodes.now) (N.trees nodes.now) result
+        (line_breaks.turn_to side (N.trees nodes.now) place) }
 {
     if is_boundary(nodes, at) {
         return Turn::Answer(true);
@@ -118,12 +120,13 @@ fn turn_to<N: Nodes>(nodes: &N, at: Gap, side: Side) -> Turn
     }
 }
 
-// So many turns that a walk from a node which takes more is cut short. In the document a walk passes the start or
-// the end of a node at each turn, so it ends by itself; only outside it do the nodes and characters of the document
-// have to be counted.
+// So many turns that a walk from a node which takes more is cut short. In the document a walk
+// passes the start or the end of a node at each turn, so it ends by itself; only outside it do the
+// nodes and characters of the document have to be counted.
 fn turns<N: Nodes>(nodes: &N, node: NodeRef) -> u128
     requires { N.holds nodes.now node }
-    ensures { (side : sides.Side) → line_breaks.walk (line_breaks.turn_to side (N.trees nodes.now)) result
+    ensures { (side : sides.Side)
+        → line_breaks.walk (line_breaks.turn_to side (N.trees nodes.now)) result
         (line_breaks.end_of side (N.trees nodes.now) node.label)
         ≡ line_breaks.meets_break side (N.trees nodes.now) node.label }
 {
@@ -152,7 +155,8 @@ fn meets_break<N: Nodes>(nodes: &N, node: NodeRef, side: Side) -> bool
     true
 }
 
-/// Whether a node follows a line break: from its start back, a block boundary comes before anything visible.
+/// Whether a node follows a line break: from its start back, a block boundary comes before anything
+/// visible.
 #[tactic(auto, unfolding(crate::specs::LineBreaks::follows_break))]
 pub fn follows_break<N: Nodes>(nodes: &N, node: NodeRef) -> bool
     requires { N.holds nodes.now node }
@@ -161,7 +165,8 @@ pub fn follows_break<N: Nodes>(nodes: &N, node: NodeRef) -> bool
     meets_break(nodes, node, Side::Before)
 }
 
-/// Whether a node precedes a line break: from its end on, a block boundary comes before anything visible.
+/// Whether a node precedes a line break: from its end on, a block boundary comes before anything
+/// visible.
 #[tactic(auto, unfolding(crate::specs::LineBreaks::precedes_break))]
 pub fn precedes_break<N: Nodes>(nodes: &N, node: NodeRef) -> bool
     requires { N.holds nodes.now node }

@@ -1,9 +1,10 @@
-//! Tests of nodes that look at what stands round them: collapsed whitespace, line breaks that show no line, what is
-//! visible, where blocks start and end, and what a range contains. The terms are those of the W3C's *HTML Editing
-//! APIs* and of the DOM Standard. A test takes no memory; it walks from node to node by links.
+//! Tests of nodes that look at what stands round them: collapsed whitespace, line breaks that show
+//! no line, what is visible, where blocks start and end, and what a range contains. The terms are
+//! those of the W3C's *HTML Editing APIs* and of the DOM Standard. A test takes no memory; it walks
+//! from node to node by links.
 //!
-//! The crate hands on the tests of `node_arena`, `node_styles` and `point_order`, so that a caller has all tests of
-//! nodes in one place.
+//! The crate hands on the tests of `node_arena`, `node_styles` and `point_order`, so that a caller
+//! has all tests of nodes in one place.
 #![tactic(auto)]
 
 mod affected;

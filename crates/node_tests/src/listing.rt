@@ -24,17 +24,17 @@ enum Wanted {
     Effective,
 }
 
-/// Where a point stands among the children of a node: those before the child lie before the point, and those after
-/// it lie after the point. The child has the point in its own tree, or lies after it too. With no child, all lie
-/// before the point.
+/// Where a point stands among the children of a node: those before the child lie before the point,
+/// and those after it lie after the point. The child has the point in its own tree, or lies after
+/// it too. With no child, all lie before the point.
 #[derive(Clone, Copy)]
 struct Reach {
     child: Option<NodeRef>,
     holds: bool,
 }
 
-/// What is found once of the ends of a range: the nodes on the way up from each to a child of the root, and whether
-/// it cuts Words.
+/// What is found once of the ends of a range: the nodes on the way up from each to a child of the
+/// root, and whether it cuts Words.
 #[derive(Drop)]
 struct Lines {
     start: Vec<NodeRef>,
@@ -43,8 +43,8 @@ struct Lines {
     end_cuts: bool,
 }
 
-/// Whether a tree lies after the start of a range, and before its end. Where it doesn't, that point stands in the
-/// tree, and so many nodes of the line to it stand below the root of the tree.
+/// Whether a tree lies after the start of a range, and before its end. Where it doesn't, that point
+/// stands in the tree, and so many nodes of the line to it stand below the root of the tree.
 #[derive(Clone, Copy)]
 struct Sides {
     after: bool,
@@ -99,9 +99,11 @@ fn reach_of<N: Nodes>(
 ) -> Reach
     requires node_held { N.holds nodes.now node }
     requires inside { IsWithin (N.trees nodes.now) node.label point.label }
-    requires leads { Leads (N.holds nodes.now) (N.trees nodes.now) line.now point.label left node.label }
+    requires leads { Leads (N.holds nodes.now) (N.trees nodes.now) line.now point.label left
+        node.label }
     ensures reaches { Reaches (N.holds nodes.now) (N.trees nodes.now) point node.label result }
-    ensures own { point.label ≡ node.label → label result.child ≡ child_at (N.trees nodes.now) node.label point.offset }
+    ensures own { point.label ≡ node.label → label result.child
+        ≡ child_at (N.trees nodes.now) node.label point.offset }
     ensures leads { (m : ℕ) → result.holds ≡ Bool.true → label result.child ≡ Some m
         → Leads (N.holds nodes.now) (N.trees nodes.now) line.now point.label (left - 1) m }
 {
@@ -128,13 +130,17 @@ fn start_reach<N: Nodes>(
 ) -> Reach
     requires node_held { N.holds nodes.now node }
     requires after { sides.after ≡ Bool.true → LiesAfter (N.trees nodes.now) start node.label }
-    requires inside { sides.after ≡ Bool.false → IsWithin (N.trees nodes.now) node.label start.label }
-    requires leads { sides.after ≡ Bool.false → Leads (N.holds nodes.now) (N.trees nodes.now) line.now
+    requires inside { sides.after ≡ Bool.false
+        → IsWithin (N.trees nodes.now) node.label start.label }
+    requires leads { sides.after ≡ Bool.false
+        → Leads (N.holds nodes.now) (N.trees nodes.now) line.now
         start.label sides.start_left node.label }
     ensures reaches { Reaches (N.holds nodes.now) (N.trees nodes.now) start node.label result }
-    ensures first { sides.after ≡ Bool.true → label result.child ≡ first_of (N.trees nodes.now) node.label }
+    ensures first { sides.after ≡ Bool.true → label result.child
+        ≡ first_of (N.trees nodes.now) node.label }
     ensures leads { (m : ℕ) → result.holds ≡ Bool.true → label result.child ≡ Some m
-        → Leads (N.holds nodes.now) (N.trees nodes.now) line.now start.label (sides.start_left - 1) m }
+        → Leads (N.holds nodes.now) (N.trees nodes.now) line.now start.label (sides.start_left - 1)
+        m }
 {
     nodes.valid();
     if sides.after {
@@ -156,8 +162,10 @@ fn end_reach<N: Nodes>(
 ) -> Reach
     requires node_held { N.holds nodes.now node }
     requires before { sides.before ≡ Bool.true → LiesBefore (N.trees nodes.now) end node.label }
-    requires inside { sides.before ≡ Bool.false → IsWithin (N.trees nodes.now) node.label end.label }
-    requires leads { sides.before ≡ Bool.false → Leads (N.holds nodes.now) (N.trees nodes.now) line.now
+    requires inside { sides.before ≡ Bool.false
+        → IsWithin (N.trees nodes.now) node.label end.label }
+    requires leads { sides.before ≡ Bool.false
+        → Leads (N.holds nodes.now) (N.trees nodes.now) line.now
         end.label sides.end_left node.label }
     ensures reaches { Reaches (N.holds nodes.now) (N.trees nodes.now) end node.label result }
     ensures own { sides.before ≡ Bool.false → end.label ≡ node.label → label result.child
@@ -204,12 +212,14 @@ fn inner_sides(sides: Sides, start: Reach, end: Reach, node: NodeRef) -> Sides
 
 // Whether an end of the range cuts Words in a tree.
 fn is_cut_within(lines: &Lines, sides: Sides) -> bool
-    ensures { result ≡ ((not sides.after && lines.now.start_cuts) || (not sides.before && lines.now.end_cuts)) }
+    ensures { result
+        ≡ ((not sides.after && lines.now.start_cuts) || (not sides.before && lines.now.end_cuts)) }
 {
     (!sides.after && lines.start_cuts) || (!sides.before && lines.end_cuts)
 }
 
-// Whether a range contains a node in whose tree an end of it stands: only where the end is past the end of the node.
+// Whether a range contains a node in whose tree an end of it stands: only where the end is past the
+// end of the node.
 fn is_contained_above<N: Nodes>(
     nodes: &N,
     node: NodeRef,
@@ -237,7 +247,8 @@ fn is_contained_above<N: Nodes>(
     nodes.length(node) < range.1.offset
 }
 
-// Whether a range effectively contains such a node, by whether it contains it and effectively contains all children.
+// Whether a range effectively contains such a node, by whether it contains it and effectively
+// contains all children.
 #[tactic(auto, unfolding(crate::specs::Ranges::is_touched))]
 fn is_effective_above<N: Nodes>(
     nodes: &N,
@@ -249,7 +260,8 @@ fn is_effective_above<N: Nodes>(
     whole: bool,
 ) -> bool
     requires node_held { N.holds nodes.now node }
-    requires contained { contained ≡ ranges.is_contained (N.trees nodes.now) range.0 range.1 node.label }
+    requires contained { contained
+        ≡ ranges.is_contained (N.trees nodes.now) range.0 range.1 node.label }
     requires cut { cut ≡ ranges.is_cut (N.trees nodes.now) range.0 range.1 node.label }
     requires first { label first ≡ first_of (N.trees nodes.now) node.label }
     requires whole { whole ≡ ranges.all_effective (N.trees nodes.now) range.0 range.1
@@ -302,7 +314,8 @@ fn put_at(found: &mut Vec<NodeRef>, place: usize, node: NodeRef) -> Result<(), A
 fn push_all<N: Nodes>(nodes: &N, node: NodeRef, found: &mut Vec<NodeRef>) -> Result<(), AllocError>
     requires node_held { N.holds nodes.now node }
     requires found_held { All (N.holds nodes.now) found.old.items }
-    ensures nodes { OnOk result (map (λ r. r.label) found.new.items ≡ map (λ r. r.label) found.old.items
+    ensures nodes { OnOk result (map (λ r. r.label) found.new.items
+        ≡ map (λ r. r.label) found.old.items
         ++ preorder (tree_of (N.trees nodes.now) node.label)) }
     ensures held { OnOk result (All (N.holds nodes.now) found.new.items) }
 {
@@ -316,9 +329,9 @@ fn push_all<N: Nodes>(nodes: &N, node: NodeRef, found: &mut Vec<NodeRef>) -> Res
     Ok(())
 }
 
-// Puts the wanted nodes of the tree of a node behind those found before, and answers whether the range effectively
-// contains the node. It looks at no child that lies before the range or after it, and tests no node that lies
-// between its ends.
+// Puts the wanted nodes of the tree of a node behind those found before, and answers whether the
+// range effectively contains the node. It looks at no child that lies before the range or after it,
+// and tests no node that lies between its ends.
 fn push_tree<N: Nodes>(
     nodes: &N,
     node: NodeRef,
@@ -332,16 +345,21 @@ fn push_tree<N: Nodes>(
     requires start_held { 0 < count_of (N.trees nodes.now) range.0.label }
     requires end_held { 0 < count_of (N.trees nodes.now) range.1.label }
     requires sides { Lies (N.trees nodes.now) range.0 range.1 sides node.label }
-    requires lined { Lined (N.holds nodes.now) (N.trees nodes.now) range.0 range.1 lines.now sides node.label }
-    requires start_cuts { lines.now.start_cuts ≡ ranges.start_cuts (N.trees nodes.now) range.0 range.0.label }
-    requires end_cuts { lines.now.end_cuts ≡ ranges.end_cuts (N.trees nodes.now) range.1 range.1.label }
+    requires lined { Lined (N.holds nodes.now) (N.trees nodes.now) range.0 range.1 lines.now sides
+        node.label }
+    requires start_cuts { lines.now.start_cuts
+        ≡ ranges.start_cuts (N.trees nodes.now) range.0 range.0.label }
+    requires end_cuts { lines.now.end_cuts
+        ≡ ranges.end_cuts (N.trees nodes.now) range.1 range.1.label }
     requires ordered { is_before (N.trees nodes.now) range.0 range.1 ≡ Bool.true }
     requires found_held { All (N.holds nodes.now) found.old.items }
-    ensures nodes { OnOk result (map (λ r. r.label) found.new.items ≡ map (λ r. r.label) found.old.items
+    ensures nodes { OnOk result (map (λ r. r.label) found.new.items
+        ≡ map (λ r. r.label) found.old.items
         ++ filter (is_wanted wanted (N.trees nodes.now) range.0 range.1)
         (preorder (tree_of (N.trees nodes.now) node.label))) }
     ensures held { OnOk result (All (N.holds nodes.now) found.new.items) }
-    ensures effective { IfOk result (λ e. e ≡ ranges.all_effective (N.trees nodes.now) range.0 range.1
+    ensures effective { IfOk result (λ e. e
+        ≡ ranges.all_effective (N.trees nodes.now) range.0 range.1
         (tree_of (N.trees nodes.now) node.label)) }
 {
     nodes.valid();
@@ -401,7 +419,8 @@ fn line_to<N: Nodes>(
     requires top_held { N.holds nodes.now top }
     requires node_held { N.holds nodes.now node }
     requires inside { IsWithin (N.trees nodes.now) top.label node.label }
-    ensures { IfOk result (λ line. Leads (N.holds nodes.now) (N.trees nodes.now) line.items node.label
+    ensures { IfOk result (λ line.
+        Leads (N.holds nodes.now) (N.trees nodes.now) line.items node.label
         (length line.items) top.label) }
 {
     nodes.valid();
@@ -427,7 +446,8 @@ fn wanted_nodes<N: Nodes>(
     requires start_held { 0 < count_of (N.trees nodes.now) range.0.label }
     requires end_held { 0 < count_of (N.trees nodes.now) range.1.label }
     ensures nodes { IfOk result (λ list. map (λ r. r.label) list
-        ≡ filter (is_wanted wanted (N.trees nodes.now) range.0 range.1) (preorder (N.trees nodes.now))) }
+        ≡ filter (is_wanted wanted (N.trees nodes.now) range.0 range.1)
+        (preorder (N.trees nodes.now))) }
     ensures held { IfOk result (λ list. All (N.holds nodes.now) list) }
 {
     nodes.valid();
@@ -449,8 +469,9 @@ fn wanted_nodes<N: Nodes>(
     Ok(NodeList::from_vec(found))
 }
 
-/// The nodes that a range contains, in tree order. It looks at the nodes from the start to the end of the range and
-/// those above them, and at the children before an end only where that end is a place among them.
+/// The nodes that a range contains, in tree order. It looks at the nodes from the start to the end
+/// of the range and those above them, and at the children before an end only where that end is a
+/// place among them.
 #[tactic(auto, unfolding(crate::specs::Listing::is_wanted, crate::specs::Ranges::contained_nodes))]
 pub fn contained_nodes<N: Nodes>(
     alloc: Global,
@@ -466,8 +487,9 @@ pub fn contained_nodes<N: Nodes>(
     wanted_nodes(alloc, nodes, range, Wanted::Contained)
 }
 
-/// The nodes that a range effectively contains, in tree order. It looks at the nodes from the start to the end of
-/// the range and those above them, and at the children before an end only where that end is a place among them.
+/// The nodes that a range effectively contains, in tree order. It looks at the nodes from the start
+/// to the end of the range and those above them, and at the children before an end only where that
+/// end is a place among them.
 #[tactic(auto, unfolding(crate::specs::Listing::is_wanted, crate::specs::Ranges::effective_nodes))]
 pub fn effective_nodes<N: Nodes>(
     alloc: Global,

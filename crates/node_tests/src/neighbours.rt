@@ -55,7 +55,8 @@ pub(crate) fn met_at<N: Nodes>(nodes: &N, node: NodeRef) -> Option<Neighbour>
     }
 }
 
-/// What is met first on a side of the tree of a node in its nearest block. A block is met before what it holds.
+/// What is met first on a side of the tree of a node in its nearest block. A block is met before
+/// what it holds.
 pub(crate) fn neighbour_on<N: Nodes>(nodes: &N, node: NodeRef, side: Side) -> Neighbour
     requires { N.holds nodes.now node }
     ensures { result ≡ neighbours.neighbour_on side (N.trees nodes.now) node.label }
@@ -123,8 +124,8 @@ fn is_sole_in_item<N: Nodes>(nodes: &N, node: NodeRef) -> bool
     }
 }
 
-/// Whether a node is an extraneous line break: a br after Words or an image and before the edge of a block, other
-/// than the sole child of an li.
+/// Whether a node is an extraneous line break: a br after Words or an image and before the edge of
+/// a block, other than the sole child of an li.
 #[tactic(auto, unfolding(crate::specs::SolidNeighbours::is_extraneous_break))]
 pub fn is_extraneous_break<N: Nodes>(nodes: &N, node: NodeRef) -> bool
     requires { N.holds nodes.now node }
@@ -136,7 +137,8 @@ pub fn is_extraneous_break<N: Nodes>(nodes: &N, node: NodeRef) -> bool
         && !is_sole_in_item(nodes, node)
 }
 
-/// Whether a node is a collapsed line break: a br after the edge of a block or a br, and before the edge of a block.
+/// Whether a node is a collapsed line break: a br after the edge of a block or a br, and before the
+/// edge of a block.
 #[tactic(auto, unfolding(crate::specs::SolidNeighbours::is_collapsed_break))]
 pub fn is_collapsed_break<N: Nodes>(nodes: &N, node: NodeRef) -> bool
     requires { N.holds nodes.now node }

@@ -31,8 +31,9 @@ fn either(a: bool, b: bool) -> bool
     a || b
 }
 
-/// Whether a node is a collapsed block prop: a collapsed line break that isn't extraneous, or an inline element whose
-/// children are all invisible or collapsed block props, with at least one such prop.
+/// Whether a node is a collapsed block prop: a collapsed line break that isn't extraneous, or an
+/// inline element whose children are all invisible or collapsed block props, with at least one such
+/// prop.
 pub fn is_block_prop<N: Nodes>(nodes: &N, node: NodeRef) -> bool
     requires { N.holds nodes.now node }
     ensures { result ≡ props.is_block_prop (N.trees nodes.now) node.label }

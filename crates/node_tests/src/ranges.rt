@@ -84,8 +84,8 @@ fn is_touched<N: Nodes>(nodes: &N, node: NodeRef, range: (Point, Point)) -> bool
     is_contained(nodes, node, range) || is_partial(nodes, node, range)
 }
 
-// Whether a range that isn't collapsed effectively contains a node. Where it does so with the first child and the last,
-// all children between them lie in the range, so these two tell.
+// Whether a range that isn't collapsed effectively contains a node. Where it does so with the first
+// child and the last, all children between them lie in the range, so these two tell.
 fn is_effective<N: Nodes>(nodes: &N, node: NodeRef, range: (Point, Point)) -> bool
     requires node_held { N.holds nodes.now node }
     requires start_held { 0 < count_of (N.trees nodes.now) range.0.label }
@@ -113,15 +113,16 @@ fn is_effective<N: Nodes>(nodes: &N, node: NodeRef, range: (Point, Point)) -> bo
     }
 }
 
-/// Whether a range effectively contains a node: it contains it, or the node is Words of which a part lies in the
-/// range, or the node has children that are all effectively contained while no end of the range cuts Words below
-/// it. A collapsed range does so with no node.
+/// Whether a range effectively contains a node: it contains it, or the node is Words of which a
+/// part lies in the range, or the node has children that are all effectively contained while no end
+/// of the range cuts Words below it. A collapsed range does so with no node.
 #[tactic(auto, unfolding(crate::specs::Ranges::is_effectively_contained))]
 pub fn is_effectively_contained<N: Nodes>(nodes: &N, node: NodeRef, range: (Point, Point)) -> bool
     requires node_held { N.holds nodes.now node }
     requires start_held { 0 < count_of (N.trees nodes.now) range.0.label }
     requires end_held { 0 < count_of (N.trees nodes.now) range.1.label }
-    ensures { result ≡ ranges.is_effectively_contained (N.trees nodes.now) range.0 range.1 node.label }
+    ensures { result
+        ≡ ranges.is_effectively_contained (N.trees nodes.now) range.0 range.1 node.label }
 {
     comes_before(nodes, range.0, range.1) && is_effective(nodes, node, range)
 }

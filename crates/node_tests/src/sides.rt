@@ -37,7 +37,8 @@ pub(crate) fn sibling<N: Nodes>(nodes: &N, node: NodeRef, side: Side) -> Option<
 // The child that a walk to a side comes to first.
 fn near_child<N: Nodes>(nodes: &N, node: NodeRef, side: Side) -> Option<NodeRef>
     requires { N.holds nodes.now node }
-    ensures { Names (N.holds nodes.now) result (sides.near_child side (N.trees nodes.now) node.label) }
+    ensures { Names (N.holds nodes.now) result
+        (sides.near_child side (N.trees nodes.now) node.label) }
 {
     match side {
         Side::Before => nodes.last_child(node),

@@ -26,7 +26,8 @@ fn shows<N: Nodes>(nodes: &N, node: NodeRef) -> bool
 // Whether something shows in the tree of a node, where no ancestor of it hides that.
 fn shows_inside<N: Nodes>(nodes: &N, node: NodeRef) -> bool
     requires { N.holds nodes.now node }
-    ensures { result ≡ visible.shows_in (N.trees nodes.now) (tree_of (N.trees nodes.now) node.label) }
+    ensures { result
+        ≡ visible.shows_in (N.trees nodes.now) (tree_of (N.trees nodes.now) node.label) }
 {
     nodes.valid();
     if has_no_box(nodes, node) {
@@ -60,8 +61,8 @@ fn has_no_box<N: Nodes>(nodes: &N, node: NodeRef) -> bool
     is_no_box(display(nodes, node))
 }
 
-/// Whether a node is visible: it or a node below it is a block node, Words that is no collapsed whitespace, an
-/// image or a br that isn't extraneous, and no `display: none` hides that.
+/// Whether a node is visible: it or a node below it is a block node, Words that is no collapsed
+/// whitespace, an image or a br that isn't extraneous, and no `display: none` hides that.
 #[tactic(auto, unfolding(crate::specs::Visible::is_visible))]
 pub fn is_visible<N: Nodes>(nodes: &N, node: NodeRef) -> bool
     requires { N.holds nodes.now node }
@@ -70,7 +71,8 @@ pub fn is_visible<N: Nodes>(nodes: &N, node: NodeRef) -> bool
     !is_hidden(nodes, node) && shows_inside(nodes, node)
 }
 
-/// Whether a node is formattable: editable with `host` as its editing host, visible, and Words, an img or a br.
+/// Whether a node is formattable: editable with `host` as its editing host, visible, and Words, an
+/// img or a br.
 #[tactic(auto, unfolding(crate::specs::Visible::is_formattable))]
 pub fn is_formattable<N: Nodes>(nodes: &N, host: NodeRef, node: NodeRef) -> bool
     requires host_held { N.holds nodes.now host }

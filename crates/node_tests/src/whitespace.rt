@@ -10,8 +10,8 @@ use crate::sides::Side;
 use node_arena::{Content, NodeRef, Nodes};
 use node_styles::{is_hidden, is_whitespace};
 
-// Whether whitespace collapses at what stands before it: at the first node on the way back that decides. A node is
-// met after what it holds.
+// Whether whitespace collapses at what stands before it: at the first node on the way back that
+// decides. A node is met after what it holds.
 fn collapses_before<N: Nodes>(nodes: &N, node: NodeRef) -> bool
     requires { N.holds nodes.now node }
     ensures { result ≡ whitespace.collapses_at (N.trees nodes.now)
@@ -50,7 +50,9 @@ fn collapses_before<N: Nodes>(nodes: &N, node: NodeRef) -> bool
 fn collapses_after<N: Nodes>(nodes: &N, node: NodeRef) -> bool
     requires held { N.holds nodes.now node }
     requires leaf { first_of (N.trees nodes.now) node.label ≡ None }
-    ensures { result ≡ whitespace.collapses_at (N.trees nodes.now) (before.nodes_after (N.trees nodes.now) node.label) }
+    ensures { result
+        ≡ whitespace.collapses_at (N.trees nodes.now)
+        (before.nodes_after (N.trees nodes.now) node.label) }
 {
     nodes.valid();
     !is_solid_neighbour(neighbour_on(nodes, node, Side::After))
@@ -65,8 +67,8 @@ fn is_empty_words(content: &Content) -> bool
     }
 }
 
-/// Whether a node is a collapsed whitespace node: a whitespace node that is empty or hidden by `display: none`, or
-/// beside which no text or image of its block stands on one side.
+/// Whether a node is a collapsed whitespace node: a whitespace node that is empty or hidden by
+/// `display: none`, or beside which no text or image of its block stands on one side.
 #[tactic(auto, unfolding(crate::specs::CollapsedWhitespace::is_collapsed_whitespace))]
 pub fn is_collapsed_whitespace<N: Nodes>(nodes: &N, node: NodeRef) -> bool
     requires { N.holds nodes.now node }

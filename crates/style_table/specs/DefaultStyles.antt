@@ -1,5 +1,5 @@
--- The styles that elements have where nothing sets one. Each table stands for one property: a row has the value and the
--- names of the elements that have it. Names and values are lists of bytes.
+-- The styles that elements have where nothing sets one. Each table stands for one property: a row
+-- has the value and the names of the elements that have it. Names and values are lists of bytes.
 use Rattle.std.specs.Prelude.{ℕ, Bool, List, [], ◌∷◌, Option, codes, find, ◌&&◌, Some, None, if◌then◌else◌}
 use Rattle.std.specs.List.{list_any}
 use Rattle.std.specs.Option.{option_map}
@@ -16,13 +16,30 @@ abbrev pub has_name : List ℕ → DefaultRow → Bool
 has_name name row = list_any (λ known. bytes_eq known name) row.1
 
 unfoldable pub display_rows : List DefaultRow
-display_rows =
-    (codes "block", (codes "p" ∷ codes "div" ∷ codes "body" ∷ codes "html" ∷ codes "h1" ∷ codes "h2" ∷ codes "h3" ∷ codes "ul" ∷ codes "ol" ∷ codes "blockquote" ∷ codes "address" ∷ codes "article" ∷ codes "aside" ∷ codes "center" ∷ codes "dd" ∷ codes "details" ∷ codes "dir" ∷ codes "dl" ∷ codes "dt" ∷ codes "fieldset" ∷ codes "figcaption" ∷ codes "figure" ∷ codes "footer" ∷ codes "form" ∷ codes "h4" ∷ codes "h5" ∷ codes "h6" ∷ codes "header" ∷ codes "hgroup" ∷ codes "hr" ∷ codes "legend" ∷ codes "listing" ∷ codes "main" ∷ codes "menu" ∷ codes "nav" ∷ codes "pre" ∷ codes "section" ∷ codes "summary" ∷ []))
-    ∷ (codes "block", (codes "caption" ∷ codes "col" ∷ codes "colgroup" ∷ codes "tbody" ∷ codes "td" ∷ codes "tfoot" ∷ codes "th" ∷ codes "thead" ∷ codes "tr" ∷ []))
+display_rows = (
+  codes "block",
+  (codes "p" ∷ codes "div" ∷ codes "body" ∷ codes "html" ∷ codes "h1" ∷ codes "h2"
+      ∷ codes "h3" ∷ codes "ul" ∷ codes "ol" ∷ codes "blockquote" ∷ codes "address"
+      ∷ codes "article" ∷ codes "aside" ∷ codes "center" ∷ codes "dd" ∷ codes "details"
+      ∷ codes "dir" ∷ codes "dl" ∷ codes "dt" ∷ codes "fieldset" ∷ codes "figcaption"
+      ∷ codes "figure" ∷ codes "footer" ∷ codes "form" ∷ codes "h4" ∷ codes "h5" ∷ codes "h6"
+      ∷ codes "header" ∷ codes "hgroup" ∷ codes "hr" ∷ codes "legend" ∷ codes "listing"
+      ∷ codes "main" ∷ codes "menu" ∷ codes "nav" ∷ codes "pre" ∷ codes "section"
+      ∷ codes "summary" ∷ []),
+)
+    ∷ (
+      codes "block",
+      (codes "caption" ∷ codes "col" ∷ codes "colgroup" ∷ codes "tbody" ∷ codes "td"
+          ∷ codes "tfoot" ∷ codes "th" ∷ codes "thead" ∷ codes "tr" ∷ []),
+    )
     ∷ (codes "list-item", (codes "li" ∷ []))
     ∷ (codes "table", (codes "table" ∷ []))
     ∷ (codes "inline-block", (codes "button" ∷ codes "input" ∷ codes "select" ∷ []))
-    ∷ (codes "none", (codes "area" ∷ codes "base" ∷ codes "head" ∷ codes "link" ∷ codes "meta" ∷ codes "param" ∷ codes "source" ∷ codes "track" ∷ []))
+    ∷ (
+      codes "none",
+      (codes "area" ∷ codes "base" ∷ codes "head" ∷ codes "link" ∷ codes "meta" ∷ codes "param"
+          ∷ codes "source" ∷ codes "track" ∷ []),
+    )
     ∷ []
 
 unfoldable pub white_space_rows : List DefaultRow
@@ -32,18 +49,26 @@ white_space_rows =
     ∷ []
 
 unfoldable pub font_weight_rows : List DefaultRow
-font_weight_rows =
-    (codes "700", (codes "b" ∷ codes "strong" ∷ codes "th" ∷ codes "h1" ∷ codes "h2" ∷ codes "h3" ∷ codes "h4" ∷ codes "h5" ∷ codes "h6" ∷ []))
+font_weight_rows = (
+  codes "700",
+  (codes "b" ∷ codes "strong" ∷ codes "th" ∷ codes "h1" ∷ codes "h2" ∷ codes "h3" ∷ codes "h4"
+      ∷ codes "h5" ∷ codes "h6" ∷ []),
+)
     ∷ []
 
 unfoldable pub font_style_rows : List DefaultRow
-font_style_rows =
-    (codes "italic", (codes "address" ∷ codes "cite" ∷ codes "dfn" ∷ codes "em" ∷ codes "i" ∷ codes "var" ∷ []))
+font_style_rows = (
+  codes "italic",
+  (codes "address" ∷ codes "cite" ∷ codes "dfn" ∷ codes "em" ∷ codes "i" ∷ codes "var" ∷ []),
+)
     ∷ []
 
 unfoldable pub font_family_rows : List DefaultRow
-font_family_rows =
-    (codes "monospace", (codes "code" ∷ codes "kbd" ∷ codes "listing" ∷ codes "pre" ∷ codes "samp" ∷ codes "tt" ∷ []))
+font_family_rows = (
+  codes "monospace",
+  (codes "code" ∷ codes "kbd" ∷ codes "listing" ∷ codes "pre" ∷ codes "samp" ∷ codes "tt"
+      ∷ []),
+)
     ∷ []
 
 unfoldable pub font_size_rows : List DefaultRow
@@ -116,7 +141,8 @@ default_text_decoration name has_href =
 unfoldable pub default_text_align : List ℕ → Option (List ℕ)
 default_text_align name = value_of text_align_rows name
 
--- the default of a property for an element of this name; has_href says whether the element has the attribute href
+-- the default of a property for an element of this name; has_href says whether the element has the
+-- attribute href
 unfoldable pub default_of : List ℕ → Bool → Property → Option (List ℕ)
 default_of name has_href property.Display = default_display name
 default_of name has_href property.WhiteSpace = default_white_space name

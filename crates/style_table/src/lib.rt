@@ -22,7 +22,8 @@ pub enum Property {
     TextAlign,
 }
 
-/// A default: the value as a style prints it, a weight as a number, a size in `px`, and a colour as `rgb(r, g, b)`.
+/// A default: the value as a style prints it, a weight as a number, a size in `px`, and a colour as
+/// `rgb(r, g, b)`.
 #[derive(Clone, Copy, Debug, PartialEq, Eq)]
 pub struct Row {
     pub text: &'static str,
@@ -193,11 +194,12 @@ fn rows_of(property: Property) -> &'static [NamedRow]
     }
 }
 
-/// The default of a property for an element of this name, in lower case; `has_href` says whether the element has the
-/// attribute `href`. `None` where the table has no row.
+/// The default of a property for an element of this name, in lower case; `has_href` says whether
+/// the element has the attribute `href`. `None` where the table has no row.
 #[tactic(auto, unfolding(crate::specs::DefaultStyles::default_of, crate::specs::DefaultStyles::default_color, crate::specs::DefaultStyles::default_text_decoration))]
 pub fn default_of(name: &[u8], has_href: bool, property: Property) -> Option<Row>
-    ensures { option_map (λ row. row.text.now) result ≡ defaults.default_of name.now has_href property }
+    ensures { option_map (λ row. row.text.now) result
+        ≡ defaults.default_of name.now has_href property }
 {
     match property {
         Property::Color if is_link(name, has_href) => Some(Row {

@@ -1,5 +1,5 @@
--- Removing line breaks (HTML Editing APIs, "remove extraneous line breaks before", "at the end of" and "from" a node).
--- The steps are those of docs/ALGORITHMS.md.
+-- Removing line breaks (HTML Editing APIs, "remove extraneous line breaks before", "at the end of"
+-- and "from" a node). The steps are those of docs/ALGORITHMS.md.
 use Rattle.std.specs.Prelude.{ℕ, ◌&&◌, not, Option, Some, None, if◌then◌else◌}
 use Rattle.dom_model.specs.Forest.{is_label, parent_of, prev_of, last_of}
 use Rattle.node_tests.specs.SolidNeighbours.{is_extraneous_break}
@@ -12,11 +12,12 @@ use Rattle.wrap_split.specs.Walks.{turn_bound, walk, preceding, is_invisible}
 unfoldable pub last_below : State → ℕ → ℕ
 last_below s r = walk (last_of s.trees) (turn_bound s) r
 
--- remove line breaks before, step 3, and at the end, step 2: back in tree order, from a node that is invisible, no
--- extraneous line break, and not where to stop
+-- remove line breaks before, step 3, and at the end, step 2: back in tree order, from a node that
+-- is invisible, no extraneous line break, and not where to stop
 unfoldable pub back_step : State → Option ℕ → ℕ → Option ℕ
 back_step s stop r =
-    if is_invisible s r && (not (is_extraneous_break s.trees r) && not (is_label stop r)) then preceding s.trees r
+    if is_invisible s r && (not (is_extraneous_break s.trees r) && not (is_label stop r)) then
+    preceding s.trees r
     else None
 
 -- remove line breaks before, step 3, and at the end, step 2: as long as such a node is come to
@@ -46,7 +47,8 @@ break_at_end s n = back s (Some n) (last_below s n)
 -- remove line breaks before, steps 1 to 4
 unfoldable pub breaks_before : ℕ → Run (Unit {0})
 breaks_before n = look λ s. given (prev_of s.trees n) done λ p.
-    if is_editable_for s (last_break_before s n p) && is_extraneous_break s.trees (last_break_before s n p)
+    if is_editable_for s (last_break_before s n p)
+    && is_extraneous_break s.trees (last_break_before s n p)
     then remove (last_break_before s n p) >> done
     else done
 

@@ -21,7 +21,8 @@ unfoldable pub break_before : Bool → ℕ → Run (Unit {0})
 break_before wanted a = look λ s.
     if wanted && not (follows_break s.trees a) then (make_break >>= insert_before a) else done
 
--- split the parent, steps 5 and 10: a new br after z, where it is wanted and z doesn't precede a line break
+-- split the parent, steps 5 and 10: a new br after z, where it is wanted and z doesn't precede a
+-- line break
 unfoldable pub break_after : Bool → ℕ → Run (Unit {0})
 break_after wanted z = look λ s.
     if wanted && not (precedes_break s.trees z) then (make_break >>= insert_after z) else done
@@ -30,7 +31,8 @@ break_after wanted z = look λ s.
 unfoldable pub clear_before : ℕ → List ℕ → Run (Unit {0})
 clear_before o list = look λ s. if starts_in s o list then breaks_before o else done
 
--- split the parent, step 6: the children before the member a go to a copy of o before it; o loses its id
+-- split the parent, step 6: the children before the member a go to a copy of o before it; o loses
+-- its id
 unfoldable pub copied : ℕ → ℕ → Run (Unit {0})
 copied o a = look λ s. do
   x ← make_element (tag_of s.trees o) (attribute_list_of s.trees o)
@@ -42,20 +44,25 @@ copied o a = look λ s. do
 unfoldable pub copy_front : ℕ → List ℕ → ℕ → Run (Unit {0})
 copy_front o list a = look λ s. if starts_in s o list then done else copied o a
 
--- split the parent, step 9: where the member z is inline and no br, a br that the block o then begins with goes
+-- split the parent, step 9: where the member z is inline and no br, a br that the block o then
+-- begins with goes
 unfoldable pub drop_first_break : ℕ → ℕ → Run (Unit {0})
 drop_first_break o z = look λ s. given (first_of s.trees o) done λ c.
-    if not (is_block s.trees z) && (not (is_break s.trees z) && (is_break s.trees c && is_block s.trees o))
+    if not (is_block s.trees z)
+    && (not (is_break s.trees z) && (is_break s.trees c && is_block s.trees o))
     then remove c >> done else done
 
--- split the parent, step 10: an emptied o goes, and a br comes where one is wanted after the member z
+-- split the parent, step 10: an emptied o goes, and a br comes where one is wanted after the member
+-- z
 unfoldable pub close : ℕ → ℕ → Bool → Run (Unit {0})
 close o z wanted = look λ s.
     if is_none (first_of s.trees o) then (remove o >> break_after wanted z) else breaks_before o
 
--- split the parent, step 11: where the member z is the last child of a node, the line breaks at the end of that go
+-- split the parent, step 11: where the member z is the last child of a node, the line breaks at the
+-- end of that go
 unfoldable pub tidy_after : ℕ → Run (Unit {0})
-tidy_after z = look λ s. if is_none (next_of s.trees z) then given (parent_of s.trees z) done breaks_at_end else done
+tidy_after z = look λ s. if is_none (next_of s.trees z) then
+    given (parent_of s.trees z) done breaks_at_end else done
 
 -- split the parent, step 5: the members stand at the end of o, and not at its start
 unfoldable pub split_end : ℕ → List ℕ → ℕ → Bool → Run (Unit {0})
@@ -95,11 +102,14 @@ split_at o list a z = look λ s.
 
 -- split the parent, from step 2 on, with the first and the last member
 unfoldable pub split_members : ℕ → List ℕ → Run (Unit {0})
-split_members o list = given (first_in list) done λ a. given (last_in list) done λ z. split_at o list a z
+split_members o list =
+    given (first_in list) done λ a. given (last_in list) done λ z. split_at o list a z
 
--- split the parent, step 1: of the list, those that have a parent, and the same parent as the first of them, are taken
+-- split the parent, step 1: of the list, those that have a parent, and the same parent as the first
+-- of them, are taken
 unfoldable pub split_parent : List ℕ → Run (Unit {0})
-split_parent list = look λ s. given (first_parent s list) done λ o. split_members o (members s o list)
+split_parent list =
+    look λ s. given (first_parent s list) done λ o. split_members o (members s o list)
 
 -- the parent of one node is split around it; it answers the node, for a loop of this
 unfoldable pub split_around : ℕ → Run ℕ

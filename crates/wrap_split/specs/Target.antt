@@ -1,4 +1,5 @@
--- The node that a list is wrapped in: a sibling that meets a criterion, or else what a recipe makes.
+-- The node that a list is wrapped in: a sibling that meets a criterion, or else what a recipe
+-- makes.
 use Rattle.std.specs.Prelude.{◌≡◌, ℕ, Bool, true, false, not, ◌&&◌, ◌||◌, List, [], ◌∷◌, Option, Some, None, Result, Ok, Err, if◌then◌else◌, bytes_eq, codes, map}
 use Rattle.std.specs.Char.{to_ascii_lowercase}
 use Rattle.std.specs.List.{list_all}
@@ -32,20 +33,24 @@ is_without_attributes f l = option_map_or has_none (attributes_of f l) false
 
 -- one declaration: text-align with this value
 abbrev pub is_text_align : List ℕ → List Declaration → Bool
-is_text_align alignment (d ∷ []) = bytes_eq d.name (codes "text-align") && bytes_eq d.value alignment
+is_text_align alignment (d ∷ []) =
+    bytes_eq d.name (codes "text-align") && bytes_eq d.value alignment
 is_text_align alignment _ = false
 
--- an align that equals the alignment without regard to case, or a style that sets only text-align to it
+-- an align that equals the alignment without regard to case, or a style that sets only text-align
+-- to it
 unfoldable pub aligns : List ℕ → Attribute → Bool
 aligns alignment a =
-    (bytes_eq a.name (codes "align") && bytes_eq (map to_ascii_lowercase a.value) (map to_ascii_lowercase alignment))
+    (bytes_eq a.name (codes "align")
+    && bytes_eq (map to_ascii_lowercase a.value) (map to_ascii_lowercase alignment))
     || (bytes_eq a.name (codes "style") && is_text_align alignment (declarations_in a.value))
 
 -- a div with such attributes, at least one, and no others
 unfoldable pub is_aligned : Forest Content → ℕ → List ℕ → Bool
 is_aligned f l alignment =
     has_name f l (codes "div")
-    && option_map_or (λ list. not (has_none list) && list_all (aligns alignment) list) (attributes_of f l) false
+    && option_map_or (λ list. not (has_none list) && list_all (aligns alignment) list)
+    (attributes_of f l) false
 
 -- Never is met by no node; SameValue by a simple modifiable element that gives the command the
 -- value and has it; Named by an element of the name, where it is bare without attributes
@@ -60,7 +65,8 @@ abbrev pub if_fits : Criterion → State → Option ℕ → Option ℕ
 if_fits c s None = None
 if_fits c s (Some n) = if is_editable_for s n && meets c s.trees n then Some n else None
 
--- wrap, step 5: the sibling before a, or else the one after z, that is editable and meets the criterion
+-- wrap, step 5: the sibling before a, or else the one after z, that is editable and meets the
+-- criterion
 unfoldable pub beside : Criterion → ℕ → ℕ → State → Option ℕ
 beside c a z s = either (if_fits c s (prev_of s.trees a)) (if_fits c s (next_of s.trees z))
 

@@ -25,7 +25,8 @@ walk step (suc n) l = followed (step l) l (walk step n)
 abbrev pub last_within : Forest Content → ℕ → Option ℕ
 last_within f l = last_in (preorder (tree_of f l))
 
--- the node before another in tree order: the last one in the tree of its previous sibling, or else its parent
+-- the node before another in tree order: the last one in the tree of its previous sibling, or else
+-- its parent
 unfoldable pub preceding : Forest Content → ℕ → Option ℕ
 preceding f l = option_map_or (last_within f) (prev_of f l) (parent_of f l)
 

@@ -1,4 +1,5 @@
--- Wrapping a list of siblings (HTML Editing APIs, "wrap"). The steps are those of docs/ALGORITHMS.md.
+-- Wrapping a list of siblings (HTML Editing APIs, "wrap"). The steps are those of
+-- docs/ALGORITHMS.md.
 use Rattle.std.specs.Prelude.{ℕ, zero, suc, Bool, true, false, ◌&&◌, not, List, [], ◌∷◌, ◌++◌, Option, Some, None, if◌then◌else◌, is_none}
 use Rattle.dom_model.specs.Forest.{either, parent_of, prev_of, next_of, children_of, first_of, last_of, first_in, last_in}
 use Rattle.dom_model.specs.Places.{index_of}
@@ -29,7 +30,8 @@ if_break s (Some b) = if is_break s.trees b then Some b else None
 
 -- wrap, step 3: the br after an inline node that is no br
 unfoldable pub break_next : State → ℕ → Option ℕ
-break_next s z = if not (is_block s.trees z) && not (is_break s.trees z) then if_break s (next_of s.trees z) else None
+break_next s z = if not (is_block s.trees z) && not (is_break s.trees z) then
+    if_break s (next_of s.trees z) else None
 
 abbrev pub if_hidden : State → Option ℕ → Option ℕ
 if_hidden s None = None
@@ -42,7 +44,8 @@ list_on (Some q) list on = on q
 -- wrap, step 4: the invisible nodes before a come before the list, one a turn; and those after z
 unfoldable pub extended_front : State → ℕ → ℕ → List ℕ → List ℕ
 extended_front s zero a list = list
-extended_front s (suc n) a list = list_on (if_hidden s (prev_of s.trees a)) list λ q. extended_front s n q (q ∷ list)
+extended_front s (suc n) a list =
+    list_on (if_hidden s (prev_of s.trees a)) list λ q. extended_front s n q (q ∷ list)
 
 -- wrap, step 4: the invisible nodes after z, one a turn
 unfoldable pub hidden_after : State → ℕ → ℕ → List ℕ
@@ -100,7 +103,8 @@ prepend_break p = make_break >>= λ x. look λ s. insert p (first_of s.trees p) 
 -- wrap, steps 8 and 11: whether a br has to part what p ends with from what comes after it there
 unfoldable pub needs_br : State → ℕ → Option ℕ → Option ℕ → Bool
 needs_br s p before after =
-    is_block s.trees p && (is_inline s before && (is_inline s after && is_other s (last_of s.trees p)))
+    is_block s.trees p
+    && (is_inline s before && (is_inline s after && is_other s (last_of s.trees p)))
 
 -- wrap, step 9: and what p begins with from the list that comes before it there
 unfoldable pub joins_front : State → ℕ → List ℕ → Bool
@@ -111,12 +115,14 @@ joins_front s p list =
 
 -- wrap, steps 8 and 11
 unfoldable pub separate_with_br : ℕ → Option ℕ → Option ℕ → Run (Unit {0})
-separate_with_br p before after = look λ s. if needs_br s p before after then append_break p else done
+separate_with_br p before after =
+    look λ s. if needs_br s p before after then append_break p else done
 
 -- wrap, step 8
 unfoldable pub append_all : ℕ → List ℕ → Run (Unit {0})
 append_all p list = look λ s.
-    separate_with_br p (last_visible s (children_of s.trees p)) (first_visible s list) >> move_each_last list p
+    separate_with_br p (last_visible s (children_of s.trees p)) (first_visible s list)
+    >> move_each_last list p
 
 -- wrap, step 9
 unfoldable pub parted_front : ℕ → List ℕ → Run (Unit {0})
@@ -128,21 +134,25 @@ prepend_all p list = parted_front p list >> move_all_first list p
 
 -- wrap, steps 8 and 9: a is the first member
 unfoldable pub moved_in : ℕ → List ℕ → ℕ → Run (Unit {0})
-moved_in p list a = look λ s. if is_earlier s.trees p a then append_all p list else prepend_all p list
+moved_in p list a =
+    look λ s. if is_earlier s.trees p a then append_all p list else prepend_all p list
 
 -- ---- the whole
 
 -- wrap, step 6: the points at the place of p come after it
 unfoldable pub grow_at : ℕ → Run (Unit {0})
-grow_at p = look λ s. given (parent_of s.trees p) done λ q. grow (record { label = q; offset = index_of s.trees p })
+grow_at p = look λ s. given (parent_of s.trees p) done λ q.
+    grow (record { label = q; offset = index_of s.trees p })
 
 -- wrap, step 6: a p without a parent is put before a; points there then come after it
 unfoldable pub insert_if_loose : ℕ → ℕ → Run (Unit {0})
-insert_if_loose p a = look λ s. if is_none (parent_of s.trees p) then (insert_before a p >> grow_at p) else done
+insert_if_loose p a =
+    look λ s. if is_none (parent_of s.trees p) then (insert_before a p >> grow_at p) else done
 
 -- wrap, step 10
 unfoldable pub drop_empty : ℕ → Run (Unit {0})
-drop_empty o = look λ s. if is_editable_for s o && is_none (first_of s.trees o) then remove o >> done else done
+drop_empty o =
+    look λ s. if is_editable_for s o && is_none (first_of s.trees o) then remove o >> done else done
 
 -- wrap, step 10, with the first member's former parent, if there was one
 unfoldable pub drop_parent : Option ℕ → Run (Unit {0})
@@ -188,7 +198,8 @@ wrap_ends c r list a z = target c r a z >>= into_target c list a
 -- wrap, from step 5 on, with the first and the last member of the widened list
 unfoldable pub wrap_list : Criterion → Recipe → List ℕ → Run (Option ℕ)
 wrap_list c r list =
-    given (first_in list) (answer None) λ a. given (last_in list) (answer None) λ z. wrap_ends c r list a z
+    given (first_in list) (answer None) λ a. given (last_in list) (answer None) λ z.
+    wrap_ends c r list a z
 
 -- wrap, steps 2 to 4, and then from 5 on
 unfoldable pub wrap_members : Criterion → Recipe → List ℕ → Run (Option ℕ)
@@ -196,6 +207,8 @@ wrap_members c r list = look λ s.
     given (first_in list) (answer None) λ a. given (last_in list) (answer None) λ z.
     if all_hidden s list then answer None else wrap_list c r (widened s list a z)
 
--- wrap, step 1: of the list, those that have a parent, and the same parent as the first of them, are taken
+-- wrap, step 1: of the list, those that have a parent, and the same parent as the first of them,
+-- are taken
 unfoldable pub wrap : Criterion → Recipe → List ℕ → Run (Option ℕ)
-wrap c r list = look λ s. given (first_parent s list) (answer None) λ o. wrap_members c r (members s o list)
+wrap c r list =
+    look λ s. given (first_parent s list) (answer None) λ o. wrap_members c r (members s o list)

@@ -30,7 +30,8 @@ pub fn last_below(doc: &Doc, node: NodeRef) -> NodeRef
     at
 }
 
-// Back in tree order, from a node that is invisible, no extraneous line break, and not where to stop: one turn.
+// Back in tree order, from a node that is invisible, no extraneous line break, and not where to
+// stop: one turn.
 #[tactic(auto, unfolding(crate::specs::Breaks::back_step))]
 fn back_step(doc: &Doc, stop: Option<NodeRef>, node: NodeRef) -> Option<NodeRef>
     requires { Holds doc.now node }

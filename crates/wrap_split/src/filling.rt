@@ -64,7 +64,8 @@ fn prepend_break(alloc: Global, doc: &mut Doc, node: NodeRef) -> Result<(), Edit
     Ok(())
 }
 
-// Wrap, steps 8 and 11: whether a br has to part what the node ends with from what comes after it there.
+// Wrap, steps 8 and 11: whether a br has to part what the node ends with from what comes after it
+// there.
 #[tactic(auto, unfolding(crate::specs::Wrap::needs_br))]
 fn needs_br(doc: &Doc, node: NodeRef, before: Option<NodeRef>, after: Option<NodeRef>) -> bool
     requires node_held { Holds doc.now node }
@@ -78,7 +79,8 @@ fn needs_br(doc: &Doc, node: NodeRef, before: Option<NodeRef>, after: Option<Nod
         && is_other(doc, doc.last_child(node))
 }
 
-// Wrap, step 9: whether a br has to part what the node begins with from the list that comes before it there.
+// Wrap, step 9: whether a br has to part what the node begins with from the list that comes before
+// it there.
 #[tactic(auto, using(edit_model::proofs::Steps::ends), unfolding(crate::specs::Wrap::joins_front))]
 fn joins_front(doc: &Doc, node: NodeRef, list: &[NodeRef]) -> bool
     requires some { 0 < length list.now }
@@ -126,7 +128,8 @@ fn move_append_all(
     requires open { IsOpen doc.old }
     requires node_held { Holds doc.old node }
     requires list_held { EachHeld doc.old list.now }
-    ensures gives { Gives result doc.old.state doc.new.state (append_all node.label (labels_of list.now)) }
+    ensures gives { Gives result doc.old.state doc.new.state
+        (append_all node.label (labels_of list.now)) }
     ensures keeps { Keeps doc.old doc.new }
 {
     let before = last_visible_child(doc, node);
@@ -147,7 +150,8 @@ fn part_front(
     requires some { 0 < length list.now }
     requires node_held { Holds doc.old node }
     requires list_held { EachHeld doc.old list.now }
-    ensures gives { Gives result doc.old.state doc.new.state (parted_front node.label (labels_of list.now)) }
+    ensures gives { Gives result doc.old.state doc.new.state
+        (parted_front node.label (labels_of list.now)) }
     ensures keeps { Keeps doc.old doc.new }
 {
     if joins_front(doc, node, list) {
@@ -168,7 +172,8 @@ fn move_prepend_all(
     requires some { 0 < length list.now }
     requires node_held { Holds doc.old node }
     requires list_held { EachHeld doc.old list.now }
-    ensures gives { Gives result doc.old.state doc.new.state (prepend_all node.label (labels_of list.now)) }
+    ensures gives { Gives result doc.old.state doc.new.state
+        (prepend_all node.label (labels_of list.now)) }
     ensures keeps { Keeps doc.old doc.new }
 {
     part_front(alloc, doc, node, list)?;
@@ -189,7 +194,8 @@ pub(crate) fn move_in(
     requires node_held { Holds doc.old node }
     requires list_held { EachHeld doc.old list.now }
     requires first_held { Holds doc.old first }
-    ensures gives { Gives result doc.old.state doc.new.state (moved_in node.label (labels_of list.now) first.label) }
+    ensures gives { Gives result doc.old.state doc.new.state
+        (moved_in node.label (labels_of list.now) first.label) }
     ensures keeps { Keeps doc.old doc.new }
 {
     if is_earlier(doc, node, first) {
@@ -214,7 +220,8 @@ pub(crate) fn put_before(doc: &mut Doc, node: NodeRef, first: NodeRef) -> Result
     requires open { IsOpen doc.old }
     requires node_held { Holds doc.old node }
     requires first_held { Holds doc.old first }
-    ensures gives { Gives result doc.old.state doc.new.state (insert_if_loose node.label first.label) }
+    ensures gives { Gives result doc.old.state doc.new.state
+        (insert_if_loose node.label first.label) }
     ensures keeps { Keeps doc.old doc.new }
 {
     if doc.parent(node).is_none() {
@@ -254,7 +261,8 @@ fn move_children(doc: &mut Doc, node: NodeRef, from: NodeRef) -> Result<(), Edit
     doc.move_each_last(&children, node)
 }
 
-// Wrap, step 11: moves the children of the sibling after a node to its end, and removes the sibling.
+// Wrap, step 11: moves the children of the sibling after a node to its end, and removes the
+// sibling.
 #[tactic(auto, using(edit_model::proofs::Steps::steps, edit_model::proofs::Steps::exits), unfolding(crate::specs::Wrap::merged))]
 pub(crate) fn merge(
     alloc: Global,

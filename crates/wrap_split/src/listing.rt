@@ -87,7 +87,8 @@ fn if_hidden(doc: &Doc, node: Option<NodeRef>) -> Option<NodeRef>
 fn with_break(doc: &Doc, list: Vec<NodeRef>, last: NodeRef) -> Result<Vec<NodeRef>, AllocError>
     requires list_held { EachHeld doc.now list.items }
     requires last_held { Holds doc.now last }
-    ensures gives { IfOk result (λ v. labels_of v.items ≡ with_break doc.now.state (labels_of list.items) last.label) }
+    ensures gives { IfOk result (λ v. labels_of v.items
+        ≡ with_break doc.now.state (labels_of list.items) last.label) }
     ensures held { IfOk result (λ v. EachHeld doc.now v.items) }
 {
     let mut list = list;
@@ -107,7 +108,8 @@ fn with_hidden_before(
     requires list_held { EachHeld doc.now reversed.items }
     requires first_held { Holds doc.now first }
     ensures gives { IfOk result
-        (λ v. labels_of (reverse v.items) ≡ extended doc.now.state (labels_of (reverse reversed.items)) first.label) }
+        (λ v. labels_of (reverse v.items)
+        ≡ extended doc.now.state (labels_of (reverse reversed.items)) first.label) }
     ensures held { IfOk result (λ v. EachHeld doc.now v.items) }
 {
     let mut reversed = reversed;
@@ -129,7 +131,8 @@ fn with_hidden_before(
 fn extended(doc: &Doc, list: Vec<NodeRef>, first: NodeRef) -> Result<Vec<NodeRef>, AllocError>
     requires list_held { EachHeld doc.now list.items }
     requires first_held { Holds doc.now first }
-    ensures gives { IfOk result (λ v. labels_of v.items ≡ extended doc.now.state (labels_of list.items) first.label) }
+    ensures gives { IfOk result (λ v. labels_of v.items
+        ≡ extended doc.now.state (labels_of list.items) first.label) }
     ensures held { IfOk result (λ v. EachHeld doc.now v.items) }
 {
     let mut list = list;
@@ -149,7 +152,8 @@ fn with_hidden_after(
     requires list_held { EachHeld doc.now list.items }
     requires last_held { Holds doc.now last }
     ensures gives { IfOk result (λ v. labels_of v.items
-        ≡ labels_of list.items ++ hidden_after doc.now.state (turn_bound doc.now.state) last.label) }
+        ≡ labels_of list.items
+        ++ hidden_after doc.now.state (turn_bound doc.now.state) last.label) }
     ensures held { IfOk result (λ v. EachHeld doc.now v.items) }
 {
     let mut list = list;
@@ -170,7 +174,8 @@ fn with_hidden_after(
 #[tactic(auto, using(edit_model::proofs::Steps::ends), unfolding(crate::specs::Wrap::extended_back))]
 fn extended_back(doc: &Doc, list: Vec<NodeRef>) -> Result<Vec<NodeRef>, AllocError>
     requires { EachHeld doc.now list.items }
-    ensures gives { IfOk result (λ v. labels_of v.items ≡ extended_back doc.now.state (labels_of list.items)) }
+    ensures gives { IfOk result (λ v. labels_of v.items
+        ≡ extended_back doc.now.state (labels_of list.items)) }
     ensures held { IfOk result (λ v. EachHeld doc.now v.items) }
 {
     if list.len() == 0 {
@@ -192,7 +197,8 @@ pub(crate) fn widened(
     requires first_held { Holds doc.now first }
     requires last_held { Holds doc.now last }
     ensures gives { IfOk result
-        (λ v. labels_of v.items ≡ widened doc.now.state (labels_of list.items) first.label last.label) }
+        (λ v. labels_of v.items
+        ≡ widened doc.now.state (labels_of list.items) first.label last.label) }
     ensures held { IfOk result (λ v. EachHeld doc.now v.items) }
 {
     let list = with_break(doc, list, last)?;

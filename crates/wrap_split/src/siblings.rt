@@ -10,7 +10,8 @@ use node_tests::is_visible;
 // The first child of a node that is visible.
 pub(crate) fn first_visible_child(doc: &Doc, node: NodeRef) -> Option<NodeRef>
     requires { Holds doc.now node }
-    ensures { Finds doc.now result (first_visible doc.now.state (children_of doc.now.state.trees node.label)) }
+    ensures { Finds doc.now result
+        (first_visible doc.now.state (children_of doc.now.state.trees node.label)) }
 {
     doc.valid();
     let mut at = doc.first_child(node);
@@ -26,7 +27,8 @@ pub(crate) fn first_visible_child(doc: &Doc, node: NodeRef) -> Option<NodeRef>
 // The last child of a node that is visible.
 pub(crate) fn last_visible_child(doc: &Doc, node: NodeRef) -> Option<NodeRef>
     requires { Holds doc.now node }
-    ensures { Finds doc.now result (last_visible doc.now.state (children_of doc.now.state.trees node.label)) }
+    ensures { Finds doc.now result
+        (last_visible doc.now.state (children_of doc.now.state.trees node.label)) }
 {
     doc.valid();
     let mut at = doc.last_child(node);

@@ -1,5 +1,5 @@
-//! Splitting the parent of a list of siblings, and removing a node while its children stay. The steps are those of
-//! docs/ALGORITHMS.md.
+//! Splitting the parent of a list of siblings, and removing a node while its children stay. The
+//! steps are those of docs/ALGORITHMS.md.
 
 ghost use Rattle.std.specs.Prelude.{◌≡◌};
 ghost use Rattle.edit_model.specs.Gives.{Gives, GivesAs, labels_of};
@@ -16,7 +16,8 @@ use edit_doc::{Doc, EditFault, Name, NodeList, NodeRef};
 use node_tests::{follows_break, has_name, is_block, is_break, is_image, precedes_break};
 use std::alloc::Global;
 
-// Split the parent, step 8: puts a new br before a node, if it is wanted and the node doesn't follow a line break.
+// Split the parent, step 8: puts a new br before a node, if it is wanted and the node doesn't
+// follow a line break.
 #[tactic(auto, using(edit_model::proofs::Steps::steps, edit_model::proofs::Steps::exits), unfolding(crate::specs::Split::break_before))]
 fn break_before(alloc: Global, doc: &mut Doc, wanted: bool, node: NodeRef) -> Result<(), EditFault>
     requires open { IsOpen doc.old }
@@ -31,8 +32,8 @@ fn break_before(alloc: Global, doc: &mut Doc, wanted: bool, node: NodeRef) -> Re
     Ok(())
 }
 
-// Split the parent, steps 5 and 10: puts a new br after a node, if it is wanted and the node doesn't precede a line
-// break.
+// Split the parent, steps 5 and 10: puts a new br after a node, if it is wanted and the node
+// doesn't precede a line break.
 #[tactic(auto, using(edit_model::proofs::Steps::steps, edit_model::proofs::Steps::exits), unfolding(crate::specs::Split::break_after))]
 fn break_after(alloc: Global, doc: &mut Doc, wanted: bool, node: NodeRef) -> Result<(), EditFault>
     requires open { IsOpen doc.old }
@@ -52,7 +53,8 @@ fn break_after(alloc: Global, doc: &mut Doc, wanted: bool, node: NodeRef) -> Res
 fn clear_before(doc: &mut Doc, node: NodeRef, list: &[NodeRef]) -> Result<(), EditFault>
     requires open { IsOpen doc.old }
     requires node_held { Holds doc.old node }
-    ensures gives { Gives result doc.old.state doc.new.state (clear_before node.label (labels_of list.now)) }
+    ensures gives { Gives result doc.old.state doc.new.state
+        (clear_before node.label (labels_of list.now)) }
     ensures keeps { Keeps doc.old doc.new }
 {
     if starts_in(doc, node, list) {
@@ -61,8 +63,8 @@ fn clear_before(doc: &mut Doc, node: NodeRef, list: &[NodeRef]) -> Result<(), Ed
     Ok(())
 }
 
-// Split the parent, step 6: moves the children before the first member to a copy of the node before it. The node loses
-// its id.
+// Split the parent, step 6: moves the children before the first member to a copy of the node before
+// it. The node loses its id.
 #[tactic(auto, using(edit_model::proofs::Steps::steps, edit_model::proofs::Steps::exits), unfolding(crate::specs::Split::copied))]
 fn copied(alloc: Global, doc: &mut Doc, node: NodeRef, first: NodeRef) -> Result<(), EditFault>
     requires open { IsOpen doc.old }
@@ -91,7 +93,8 @@ fn copy_front(
 ) -> Result<(), EditFault>
     requires open { IsOpen doc.old }
     requires node_held { Holds doc.old node }
-    ensures gives { Gives result doc.old.state doc.new.state (copy_front node.label (labels_of list.now) first.label) }
+    ensures gives { Gives result doc.old.state doc.new.state
+        (copy_front node.label (labels_of list.now) first.label) }
     ensures keeps { Keeps doc.old doc.new }
 {
     if starts_in(doc, node, list) {
@@ -100,13 +103,15 @@ fn copy_front(
     copied(alloc, doc, node, first)
 }
 
-// Split the parent, step 9: removes a br that a block begins with, where the last member is inline and no br.
+// Split the parent, step 9: removes a br that a block begins with, where the last member is inline
+// and no br.
 #[tactic(auto, using(edit_model::proofs::Steps::steps, edit_model::proofs::Steps::exits), unfolding(crate::specs::Split::drop_first_break))]
 fn drop_first_break(doc: &mut Doc, node: NodeRef, last: NodeRef) -> Result<(), EditFault>
     requires open { IsOpen doc.old }
     requires node_held { Holds doc.old node }
     requires last_held { Holds doc.old last }
-    ensures gives { Gives result doc.old.state doc.new.state (drop_first_break node.label last.label) }
+    ensures gives { Gives result doc.old.state doc.new.state
+        (drop_first_break node.label last.label) }
     ensures keeps { Keeps doc.old doc.new }
 {
     let Some(child) = doc.first_child(node) else {
@@ -118,7 +123,8 @@ fn drop_first_break(doc: &mut Doc, node: NodeRef, last: NodeRef) -> Result<(), E
     Ok(())
 }
 
-// Split the parent, step 10: removes an emptied node, and puts a br where one is wanted after the last member.
+// Split the parent, step 10: removes an emptied node, and puts a br where one is wanted after the
+// last member.
 #[tactic(auto, using(edit_model::proofs::Steps::steps, edit_model::proofs::Steps::exits), unfolding(crate::specs::Split::close))]
 fn close(
     alloc: Global,
@@ -140,7 +146,8 @@ fn close(
     break_after(alloc, doc, wanted, last)
 }
 
-// Split the parent, step 11: removes the line breaks at the end of the parent, where the last member is its last child.
+// Split the parent, step 11: removes the line breaks at the end of the parent, where the last
+// member is its last child.
 #[tactic(auto, using(edit_model::proofs::Steps::steps, edit_model::proofs::Steps::exits), unfolding(crate::specs::Split::tidy_after))]
 fn tidy_after(doc: &mut Doc, last: NodeRef) -> Result<(), EditFault>
     requires open { IsOpen doc.old }
@@ -282,7 +289,8 @@ fn split_members(
     requires open { IsOpen doc.old }
     requires node_held { Holds doc.old node }
     requires list_held { EachHeld doc.old list.now }
-    ensures gives { Gives result doc.old.state doc.new.state (split_members node.label (labels_of list.now)) }
+    ensures gives { Gives result doc.old.state doc.new.state
+        (split_members node.label (labels_of list.now)) }
     ensures keeps { Keeps doc.old doc.new }
 {
     if list.len() == 0 {
@@ -306,8 +314,8 @@ fn split_parent_of(alloc: Global, doc: &mut Doc, list: &[NodeRef]) -> Result<(),
     split_members(alloc, doc, parent, &kept)
 }
 
-/// Splits the parent of a list of siblings, so that they come to stand beside it. Of the list, the members that have a
-/// parent, and the same one as the first of them, are taken.
+/// Splits the parent of a list of siblings, so that they come to stand beside it. Of the list, the
+/// members that have a parent, and the same one as the first of them, are taken.
 pub fn split_parent(alloc: Global, doc: &mut Doc, list: &NodeList) -> Result<(), EditFault>
     requires open { IsOpen doc.old }
     requires list_held { EachHeld doc.old list.now }
@@ -322,7 +330,8 @@ pub fn split_parent(alloc: Global, doc: &mut Doc, list: &NodeList) -> Result<(),
 pub fn split_around(alloc: Global, doc: &mut Doc, node: NodeRef) -> Result<(), EditFault>
     requires open { IsOpen doc.old }
     requires node_held { Holds doc.old node }
-    ensures gives { GivesAs (λ v. node.label) result doc.old.state doc.new.state (split_around node.label) }
+    ensures gives { GivesAs (λ v. node.label) result doc.old.state doc.new.state
+        (split_around node.label) }
     ensures keeps { Keeps doc.old doc.new }
 {
     split_parent_of(alloc, doc, &[node])

@@ -16,7 +16,8 @@ pub(crate) fn if_fits<C: Meets, M: Makes>(
     rule: &WrapRule<C, M>,
 ) -> Option<NodeRef>
     requires node_held { IfHeld doc.now node }
-    ensures { Finds doc.now result (if_fits (C.criterion rule.now.test) doc.now.state (label_of node)) }
+    ensures { Finds doc.now result
+        (if_fits (C.criterion rule.now.test) doc.now.state (label_of node)) }
 {
     let node = node?;
     if doc.is_editable_for(node) && rule.test.meets(doc, node) {
@@ -33,7 +34,8 @@ fn made_by<C: Meets, M: Makes>(
     rule: &WrapRule<C, M>,
 ) -> Result<Option<NodeRef>, EditFault>
     requires open { IsOpen doc.old }
-    ensures gives { GivesMaybe result doc.old.state doc.new.state (made_by (M.recipe rule.now.maker)) }
+    ensures gives { GivesMaybe result doc.old.state doc.new.state
+        (made_by (M.recipe rule.now.maker)) }
     ensures held { IfOk result (λ made. IfHeld doc.new made) }
     ensures keeps { Keeps doc.old doc.new }
 {

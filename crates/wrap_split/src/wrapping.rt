@@ -25,7 +25,8 @@ fn merge_next<C: Meets, M: Makes>(
 ) -> Result<(), EditFault>
     requires open { IsOpen doc.old }
     requires node_held { Holds doc.old node }
-    ensures gives { Gives result doc.old.state doc.new.state (merge_next (C.criterion rule.now.test) node.label) }
+    ensures gives { Gives result doc.old.state doc.new.state
+        (merge_next (C.criterion rule.now.test) node.label) }
     ensures keeps { Keeps doc.old doc.new }
 {
     let next = doc.next(node);
@@ -52,7 +53,8 @@ fn fill_from<C: Meets, M: Makes>(
     requires first_held { Holds doc.old from.0 }
     requires parent_held { IfHeld doc.old from.1 }
     ensures gives { GivesMaybe result doc.old.state doc.new.state
-        (filled_from (C.criterion rule.now.test) node.label (labels_of list.now) from.0.label (label_of from.1)) }
+        (filled_from (C.criterion rule.now.test) node.label (labels_of list.now) from.0.label
+        (label_of from.1)) }
     ensures held { IfOk result (λ found. IfHeld doc.new found) }
     ensures keeps { Keeps doc.old doc.new }
 {
@@ -104,7 +106,8 @@ fn wrap_ends<C: Meets, M: Makes>(
     requires first_held { Holds doc.old first }
     requires last_held { Holds doc.old last }
     ensures gives { GivesMaybe result doc.old.state doc.new.state
-        (wrap_ends (C.criterion rule.now.test) (M.recipe rule.now.maker) (labels_of list.now) first.label last.label) }
+        (wrap_ends (C.criterion rule.now.test) (M.recipe rule.now.maker) (labels_of list.now)
+        first.label last.label) }
     ensures held { IfOk result (λ found. IfHeld doc.new found) }
     ensures keeps { Keeps doc.old doc.new }
 {
@@ -146,7 +149,8 @@ fn wrap_members<C: Meets, M: Makes>(
     requires open { IsOpen doc.old }
     requires list_held { EachHeld doc.old list.items }
     ensures gives { GivesMaybe result doc.old.state doc.new.state
-        (wrap_members (C.criterion rule.now.test) (M.recipe rule.now.maker) (labels_of list.items)) }
+        (wrap_members (C.criterion rule.now.test) (M.recipe rule.now.maker)
+        (labels_of list.items)) }
     ensures held { IfOk result (λ found. IfHeld doc.new found) }
     ensures keeps { Keeps doc.old doc.new }
 {
