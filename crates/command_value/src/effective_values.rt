@@ -27,6 +27,13 @@ use node_styles::{
 };
 use std::alloc::{AllocError, Global};
 
+/// Whether a content is that of an a with the attribute href.
+pub fn is_link(content: &Content) -> bool
+    ensures { result ≡ effective.is_link content.now }
+{
+    is_element_named(content, b"a") && attribute(content, b"href").is_some()
+}
+
 // An a with the attribute href.
 #[derive(Clone, Copy)]
 struct LinkTest;
@@ -35,7 +42,7 @@ impl Test for LinkTest {
     ghost test = { λ s. effective.is_link };
 
     fn passes(&self, content: &Content) -> bool {
-        is_element_named(content, b"a") && attribute(content, b"href").is_some()
+        is_link(content)
     }
 }
 

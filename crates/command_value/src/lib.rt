@@ -13,7 +13,7 @@ mod value;
 mod worked_values;
 
 pub use alignments::alignment;
-pub use effective_values::{effective, effective_value};
+pub use effective_values::{effective, effective_value, is_link};
 pub use equivalence::{alike, equivalent};
 pub use matching::{has_alike_value, is_activated, meets_value, specifies, specifies_other};
 pub use modifiable::{

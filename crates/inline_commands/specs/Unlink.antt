@@ -1,16 +1,15 @@
 -- The command unlink (HTML Editing APIs, "the unlink command"): the links in the active range, and
 -- around its ends, lose their href. The steps are those of docs/ALGORITHMS.md.
-use Rattle.std.specs.Prelude.{ℕ, Bool, true, false, ◌||◌, ◌&&◌, List, [], codes, is_some, Option, Some, None, filter}
+use Rattle.std.specs.Prelude.{ℕ, Bool, true, false, ◌||◌, ◌&&◌, List, [], Option, Some, None, filter}
 use Rattle.std.specs.Option.{option_map_or}
 use Rattle.dom_model.specs.declared.Content.{Content}
-use Rattle.dom_model.specs.AttributeList.{value_of}
-use Rattle.dom_model.specs.Contents.{attributes_of, has_name}
-use Rattle.dom_model.specs.Forest.{Forest, preorder, tree_of}
+use Rattle.dom_model.specs.Forest.{Forest, content_of, preorder, tree_of}
 use Rattle.html_names.specs.declared.commands.Command.TheVariants as command
 use Rattle.live_range.specs.declared.places.Pair.{Pair}
 use Rattle.live_range.specs.declared.places.Point.{Point}
 use Rattle.point_order.specs.PointOrder.{is_before, is_ancestor}
 use Rattle.node_tests.specs.Ranges.{is_contained}
+use Rattle.command_value.specs.EffectiveValues as content
 use Rattle.edit_model.specs.State.{State}
 use Rattle.edit_model.specs.Run.{Run, ◌>>◌, answer, look, for_each}
 use Rattle.edit_actions.specs.ActiveRange.{start_of, end_of}
@@ -18,9 +17,7 @@ use Rattle.inline_value.specs.Selections.{clear_one}
 
 -- an a with the attribute href
 unfoldable pub is_link : Forest Content → ℕ → Bool
-is_link f l =
-    has_name f l (codes "a")
-    && option_map_or (λ list. is_some (value_of list (codes "href"))) (attributes_of f l) false
+is_link f l = option_map_or content.is_link (content_of f l) false
 
 -- contained in the range, where that isn't collapsed, or an ancestor of the node of one of its ends
 unfoldable pub is_touched : Forest Content → Point → Point → ℕ → Bool

@@ -1,7 +1,6 @@
 //! The links that unlink is for.
 
-ghost use Rattle.std.specs.Prelude.{◌≡◌, ◌++◌, ◌∷◌, ◌<◌, ◌≤◌, [], true, OnOk, IfOk, drop, filter, length, map, not, reverse};
-ghost use Rattle.dom_model.specs.Contents.{is_element_at};
+ghost use Rattle.std.specs.Prelude.{◌≡◌, ◌++◌, ◌∷◌, ◌<◌, ◌≤◌, [], OnOk, IfOk, drop, filter, length, map, not, reverse};
 ghost use Rattle.dom_model.specs.Forest.{count_of};
 ghost use Rattle.point_order.specs.PointOrder.{is_ancestor};
 ghost use Rattle.edit_model.specs.Valid.{IsPlacedPair};
@@ -12,7 +11,7 @@ ghost use Rattle.inline_commands.specs.Linking.{links_above};
 ghost use Rattle.inline_commands.specs.Merging.{around, beyond, links_inside, merged};
 ghost use Rattle.inline_commands.specs.Unlink.{is_link, links_of_pair};
 
-use dom_model::Content;
+use command_value::is_link as is_link_content;
 use edit_actions::ends_of;
 use edit_doc::{Doc, NodeRef, Pair, Point};
 use node_tests::contained_nodes;
@@ -23,15 +22,9 @@ use std::alloc::{AllocError, Global};
 #[tactic(auto, unfolding(crate::specs::Unlink::is_link))]
 fn is_link(doc: &Doc, node: NodeRef) -> bool
     requires { Holds doc.now node }
-    ensures link { result ≡ is_link doc.now.state.trees node.label }
-    ensures element { result ≡ true → is_element_at doc.now.state.trees node.label ≡ true }
+    ensures { result ≡ is_link doc.now.state.trees node.label }
 {
-    match doc.content(node) {
-        Content::Element { name, attributes } => {
-            name.as_slice() == b"a".as_slice() && attributes.get(b"href").is_some()
-        }
-        _ => false,
-    }
+    is_link_content(doc.content(node))
 }
 
 // Appends a node, if it is a link.

@@ -7,7 +7,7 @@ use Rattle.inline_commands.proofs.links.push_if_link.Goals as goal
 
 pub returns-in_ok-push-clause-ok : goal.returns-in_ok-push-clause-ok
 returns-in_ok-push-clause-ok c =
-    let t : is_link c.args.doc.now.state.trees c.args.node.label ≡ true = sym c.is_link.ensures.link ∙ c.if-is_link.true in
+    let t : is_link c.args.doc.now.state.trees c.args.node.label ≡ true = sym c.is_link.ensures ∙ c.if-is_link.true in
     rw t (ap labels_of c.in_ok-push.ensures.items ∙ labels_of_push_end c.args.list.now.items c.args.node)
 
 pub returns-in_ok-push-clause-held : goal.returns-in_ok-push-clause-held
