@@ -7,7 +7,8 @@ use Rattle.dom_model.specs.Forest.{Forest}
 use Rattle.html_names.specs.ElementNames.{is_prohibited_child}
 use Rattle.block_extend.specs.Descendants.{has_descendant}
 
-unfoldable pub is_prohibited : Forest Content → ℕ → Bool
+-- an element that may not stand in a paragraph
+abbrev pub is_prohibited : Forest Content → ℕ → Bool
 is_prohibited f l = option_map_or is_prohibited_child (name_of f l) false
 
 -- a descendant of the node is one

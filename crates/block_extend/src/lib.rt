@@ -14,5 +14,5 @@ pub use descendants::has_descendant;
 pub use extending::block_extend;
 pub use fitting::{allowed_in_div, allowed_in_item, allowed_in_span};
 pub use gathering::{Choice, gather_in};
-pub use prohibited::is_above_prohibited;
+pub use prohibited::{is_above_prohibited, is_prohibited};
 pub use series::{Link, count_series, is_next};

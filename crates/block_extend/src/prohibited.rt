@@ -1,12 +1,23 @@
 //! Prohibited paragraph children below a node.
 
 ghost use Rattle.std.specs.Prelude.{◌≡◌};
-ghost use Rattle.block_extend.specs.Prohibited.{is_above_prohibited};
+ghost use Rattle.block_extend.specs.Prohibited.{is_prohibited, is_above_prohibited};
 
 use crate::descendants::has_descendant;
 use crate::gathering::Choice;
 use html_names::is_prohibited_child;
 use node_arena::{Content, NodeRef, Nodes};
+
+/// Whether a node is an element that may not stand in a paragraph.
+pub fn is_prohibited<N: Nodes>(nodes: &N, node: NodeRef) -> bool
+    requires { N.holds nodes.now node }
+    ensures { result ≡ is_prohibited (N.trees nodes.now) node.label }
+{
+    match nodes.content(node) {
+        Content::Element { name, .. } => is_prohibited_child(name.as_slice()),
+        _ => false,
+    }
+}
 
 #[derive(Clone, Copy)]
 struct Prohibited;
@@ -16,12 +27,8 @@ impl<N: Nodes> Choice<N> for Prohibited {
 
     ghost chosen = { λ s d l. is_prohibited (N.trees d) l };
 
-    #[tactic(auto, unfolding(crate::specs::Prohibited::is_prohibited))]
     fn chooses(&self, nodes: &N, node: NodeRef) -> bool {
-        match nodes.content(node) {
-            Content::Element { name, .. } => is_prohibited_child(name.as_slice()),
-            _ => false,
-        }
+        is_prohibited(nodes, node)
     }
 }
 

@@ -31,7 +31,7 @@ fn asked_if_enabled(
     if is_enabled(doc, command) {
         query(alloc, doc, affected_host(doc), kind, command)
     } else {
-        no_reply(alloc, kind)
+        Ok(no_reply(alloc, kind))
     }
 }
 
@@ -62,6 +62,6 @@ pub(crate) fn ask(
 {
     match Command::named(name) {
         Some(command) => reply_for(alloc, doc, kind, command),
-        None => no_reply(alloc, kind),
+        None => Ok(no_reply(alloc, kind)),
     }
 }

@@ -28,4 +28,4 @@ pub use leaves::nodes_in;
 pub use list_states::{ListState, is_child_of, is_list_of, list_members, list_name, list_state};
 pub use queries::{query, query_state, query_value};
 pub use reply::{Reply, no_reply};
-pub use rows::legacy_text;
+pub use rows::{container_bytes, legacy_text};

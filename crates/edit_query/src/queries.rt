@@ -83,7 +83,7 @@ pub fn query(
         QueryKind::Indeterm => Ok(Reply::Flag(own_indeterm(alloc, doc, host, command)?)),
         QueryKind::State => Ok(Reply::Flag(query_state(alloc, doc, host, command)?)),
         QueryKind::Value => Ok(Reply::Wording(query_value(alloc, doc, host, command)?)),
-        QueryKind::Enabled => no_reply(alloc, QueryKind::Enabled),
-        QueryKind::Supported => no_reply(alloc, QueryKind::Supported),
+        QueryKind::Enabled => Ok(no_reply(alloc, QueryKind::Enabled)),
+        QueryKind::Supported => Ok(no_reply(alloc, QueryKind::Supported)),
     }
 }

@@ -290,15 +290,11 @@ fn legacy_value(alloc: Global, value: Option<Chars>) -> Result<Chars, AllocError
     }
 }
 
-// The name of the default single-line container.
-fn container_name(alloc: Global, paragraphs: bool) -> Result<Chars, AllocError>
-    ensures { IfOk result (λ name. name ≡ container_name paragraphs) }
+/// The name of the default single-line container.
+pub fn container_bytes(paragraphs: bool) -> &'static [u8]
+    ensures { result.now ≡ container_name paragraphs }
 {
-    if paragraphs {
-        chars_of(alloc, b"p")
-    } else {
-        chars_of(alloc, b"div")
-    }
+    if paragraphs { b"p" } else { b"div" }
 }
 
 /// The value of a command.
@@ -323,7 +319,9 @@ pub(crate) fn own_value(
         | Command::JustifyCenter
         | Command::JustifyRight
         | Command::JustifyFull => first_alignment(alloc, doc, host),
-        Command::DefaultParagraphSeparator => container_name(alloc, doc.flags().paragraphs),
+        Command::DefaultParagraphSeparator => {
+            chars_of(alloc, container_bytes(doc.flags().paragraphs))
+        }
         _ => Chars::from_slice(alloc, &[]),
     }
 }

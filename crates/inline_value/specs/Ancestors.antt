@@ -3,9 +3,8 @@
 use Rattle.std.specs.Prelude.{ℕ, Bool, true, false, ◌||◌, ◌&&◌, not, [], ◌∷◌, codes, if◌then◌else◌}
 use Rattle.std.specs.List.{list_any}
 use Rattle.std.specs.Option.{option_map_or}
-use Rattle.dom_model.specs.Contents.{has_name, name_of}
+use Rattle.dom_model.specs.Contents.{has_name}
 use Rattle.dom_model.specs.Forest.{parent_of, children_of}
-use Rattle.html_names.specs.ElementNames.{is_prohibited_child}
 use Rattle.node_styles.specs.Allowed.{allowed_in, name_allowed_in}
 use Rattle.edit_model.specs.State.{State}
 use Rattle.edit_model.specs.Confined.{is_editable_for, is_inside}
@@ -17,12 +16,13 @@ use Rattle.wrap_split.specs.declared.rule.Recipe.TheVariants.{Make}
 use Rattle.wrap_split.specs.Split.{split_parent, split_around}
 use Rattle.wrap_split.specs.Walks.{turn_bound}
 use Rattle.wrap_split.specs.Wrap.{wrap}
+use Rattle.block_extend.specs.Prohibited as prohibited
 use Rattle.edit_query.specs.Rows.{container_name}
 use Rattle.inline_value.specs.Forcing.{ancestors}
 use Rattle.inline_value.specs.Recording.{record_values, restore_values}
 
 unfoldable pub is_prohibited : State → ℕ → Bool
-is_prohibited s n = option_map_or is_prohibited_child (name_of s.trees n) false
+is_prohibited s n = prohibited.is_prohibited s.trees n
 
 -- the node may stand in one of its ancestors that are inside
 unfoldable pub has_place : State → ℕ → Bool

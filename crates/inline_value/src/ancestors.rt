@@ -12,9 +12,9 @@ ghost use Rattle.edit_query.specs.Rows.{container_name};
 ghost use Rattle.inline_value.specs.Ancestors.{is_prohibited, has_place, is_misplaced, lifted, lift, is_description, wrap_description, hosts_none, split_out, part_child, part_children, lift_renamed, rename, replace_misplaced, fix_ancestors};
 
 use crate::recording::{record_values, restore_values};
-use dom_model::{Attributes, Content, Name};
+use dom_model::{Attributes, Name};
 use edit_doc::{Doc, EditFault, NodeList, NodeRef};
-use html_names::is_prohibited_child;
+use edit_query::container_bytes;
 use node_tests::{allowed_in, has_name, name_allowed_in};
 use std::alloc::{AllocError, Global};
 use wrap_split::{
@@ -27,13 +27,7 @@ pub fn is_prohibited(doc: &Doc, node: NodeRef) -> bool
     requires { Holds doc.now node }
     ensures { result ≡ is_prohibited doc.now.state node.label }
 {
-    match doc.content(node) {
-        Content::Element {
-            name,
-            attributes: _,
-        } => is_prohibited_child(name.as_slice()),
-        _ => false,
-    }
+    block_extend::is_prohibited(doc, node)
 }
 
 // Whether an ancestor is inside, and a node may stand in it.
@@ -219,11 +213,7 @@ fn lift_renamed(alloc: Global, doc: &mut Doc, node: NodeRef) -> Result<(), EditF
 pub fn container_name(alloc: Global, paragraphs: bool) -> Result<Name, AllocError>
     ensures { IfOk result (λ name. name ≡ container_name paragraphs) }
 {
-    if paragraphs {
-        Name::from_slice(alloc, b"p")
-    } else {
-        Name::from_slice(alloc, b"div")
-    }
+    Name::from_slice(alloc, container_bytes(paragraphs))
 }
 
 // Fix disallowed ancestors, steps 2 c and 2 d: the node becomes a default single-line container.
