@@ -1,5 +1,5 @@
--- The block-extended range (HTML Editing APIs, "block-extend"): a range with its ends taken out to where lines of
--- blocks start and end. The steps are those of docs/ALGORITHMS.md.
+-- The block-extended range (HTML Editing APIs, "block-extend"): a range with its ends taken out to
+-- where lines of blocks start and end. The steps are those of docs/ALGORITHMS.md.
 use Rattle.std.specs.Prelude.{ℕ, zero, suc, ◌+◌, ◌-◌, ◌==◌, nat_lt, Bool, false, Option, Some, None, if◌then◌else◌, codes}
 use Rattle.std.specs.Option.{option_map, option_and_then, unwrap_or}
 use Rattle.dom_model.specs.declared.Content.{Content}
@@ -18,11 +18,13 @@ use Rattle.block_extend.specs.declared.places.Way.TheVariants.{Back, OutBefore, 
 
 -- the place in the parent of a node that is this many places after the one before the node
 abbrev pub out_of : Forest Content → ℕ → ℕ → Option Point
-out_of f l places = option_map (λ p. record { label = p; offset = index_of f l + places }) (parent_of f l)
+out_of f l places =
+    option_map (λ p. record { label = p; offset = index_of f l + places }) (parent_of f l)
 
 -- the place before: at the start of a node, that before the node
 unfoldable pub back : Forest Content → Point → Option Point
-back f at = if at.offset == 0 then out_of f at.label 0 else Some (record { label = at.label; offset = at.offset - 1 })
+back f at = if at.offset == 0 then out_of f at.label 0
+    else Some (record { label = at.label; offset = at.offset - 1 })
 
 -- the place after: at the end of a node, that after the node
 unfoldable pub forth : Forest Content → Point → Option Point
@@ -57,10 +59,12 @@ abbrev pub led : Option Point → Point → (Point → Point) → Point
 led None at on = at
 led (Some next) at on = on next
 
--- from a place on, as long as a step leads on, until it comes to a place where steps stop; at most so many turns
+-- from a place on, as long as a step leads on, until it comes to a place where steps stop; at most
+-- so many turns
 unfoldable pub walk : Way → Forest Content → ℕ → Point → Point
 walk way f zero at = at
-walk way f (suc n) at = led (step way f at) at λ next. if stops way f next then next else walk way f n next
+walk way f (suc n) at =
+    led (step way f at) at λ next. if stops way f next then next else walk way f n next
 
 -- ---- the two ends
 
@@ -71,7 +75,8 @@ out_of_item f places at = unwrap_or (option_and_then (λ l. out_of f l places)
 
 -- block-extend, step 2: back to a block boundary point, but from a block start point
 unfoldable pub to_block_start : Forest Content → Point → Point
-to_block_start f at = if is_block_start f at.label at.offset then at else walk Back f (turn_bound f) at
+to_block_start f at =
+    if is_block_start f at.label at.offset then at else walk Back f (turn_bound f) at
 
 -- block-extend, step 3: out of each node whose start it is
 unfoldable pub to_outer_start : Forest Content → Point → Point

@@ -1,5 +1,5 @@
--- Places told by the children beside them, and what the code of this crate looks at. No public clause cites this
--- module.
+-- Places told by the children beside them, and what the code of this crate looks at. No public
+-- clause cites this module.
 use Rattle.std.specs.Prelude.{◌≡◌, ℕ, Bool, false, Option, Some, None}
 use Rattle.dom_model.specs.declared.Content.{Content}
 use Rattle.dom_model.specs.Forest.{Forest}

@@ -11,11 +11,13 @@ use Rattle.point_order.specs.PointOrder.{is_ancestor}
 abbrev pub gather_on : Forest Content → List ℕ → List ℕ → List ℕ
 gather_on f taken [] = []
 gather_on f taken (x ∷ xs) =
-    if list_any (λ t. is_ancestor f t x) taken then gather_on f taken xs else x ∷ gather_on f (x ∷ taken) xs
+    if list_any (λ t. is_ancestor f t x) taken then gather_on f taken xs else x
+    ∷ gather_on f (x ∷ taken) xs
 
 unfoldable pub gather : Forest Content → List ℕ → List ℕ
 gather f list = gather_on f [] list
 
--- the nodes that a range contains and that pass a test, in tree order, without those that have an ancestor among them
+-- the nodes that a range contains and that pass a test, in tree order, without those that have an
+-- ancestor among them
 unfoldable pub gathered : (ℕ → Bool) → Forest Content → Point → Point → List ℕ
 gathered test f start end = gather f (filter test (contained_nodes f start end))

@@ -1,6 +1,6 @@
--- Series in lists of nodes: the first member, and the members after it for as long as each goes on from the one
--- before. Algorithms take lists series by series (HTML Editing APIs, "while the first member is the nextSibling of
--- the last member").
+-- Series in lists of nodes: the first member, and the members after it for as long as each goes on
+-- from the one before. Algorithms take lists series by series (HTML Editing APIs, "while the first
+-- member is the nextSibling of the last member").
 use Rattle.std.specs.Prelude.{ℕ, ◌+◌, Bool, List, [], ◌∷◌, if◌then◌else◌}
 use Rattle.dom_model.specs.declared.Content.{Content}
 use Rattle.dom_model.specs.Forest.{Forest, is_label, next_of}

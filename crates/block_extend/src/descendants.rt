@@ -12,7 +12,8 @@ use node_arena::{NodeRef, Nodes};
 fn has_onward<N: Nodes, C: Choice<N>>(nodes: &N, first: Option<NodeRef>, choice: &C) -> bool
     requires held { IfSome first (N.holds nodes.now) }
     requires inner { IsInner (N.trees nodes.now) (label first) }
-    ensures { result ≡ has_in (C.chosen choice.now nodes.now) (onward_at (N.trees nodes.now) (label first)) }
+    ensures { result
+        ≡ has_in (C.chosen choice.now nodes.now) (onward_at (N.trees nodes.now) (label first)) }
 {
     nodes.valid();
     let mut at = first;
@@ -28,11 +29,13 @@ fn has_onward<N: Nodes, C: Choice<N>>(nodes: &N, first: Option<NodeRef>, choice:
     false
 }
 
-/// Whether a descendant of a node passes a test. It walks what stands below the node, as far as the first.
+/// Whether a descendant of a node passes a test. It walks what stands below the node, as far as the
+/// first.
 #[tactic(auto, unfolding(crate::specs::Descendants::has_descendant))]
 pub fn has_descendant<N: Nodes, C: Choice<N>>(nodes: &N, node: NodeRef, choice: &C) -> bool
     requires { N.holds nodes.now node }
-    ensures { result ≡ has_descendant (C.chosen choice.now nodes.now) (N.trees nodes.now) node.label }
+    ensures { result
+        ≡ has_descendant (C.chosen choice.now nodes.now) (N.trees nodes.now) node.label }
 {
     nodes.valid();
     has_onward(nodes, nodes.first_child(node), choice)

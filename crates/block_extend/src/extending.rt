@@ -33,12 +33,13 @@ impl Test for ItemTest {
     }
 }
 
-// Step after step, until a place where the steps stop. Only the characters of Words count in the bound, so a walk
-// inside a comment may come to it.
+// Step after step, until a place where the steps stop. Only the characters of Words count in the
+// bound, so a walk inside a comment may come to it.
 fn walk<N: Nodes>(nodes: &N, way: Way, start: Place) -> Place
     requires { Stands (N.holds nodes.now) (N.trees nodes.now) start }
     ensures stands { Stands (N.holds nodes.now) (N.trees nodes.now) result }
-    ensures place { gaps.point_of result ≡ extend.walk way (N.trees nodes.now) (turn_bound (N.trees nodes.now))
+    ensures place { gaps.point_of result
+        ≡ extend.walk way (N.trees nodes.now) (turn_bound (N.trees nodes.now))
         (gaps.point_of start) }
 {
     let mut left = turn_bound(nodes);
@@ -59,7 +60,8 @@ fn walk<N: Nodes>(nodes: &N, way: Way, start: Place) -> Place
 // Steps 1 and 4: the innermost li that the node is or is in.
 fn item_of<N: Nodes>(nodes: &N, node: NodeRef) -> Option<NodeRef>
     requires { N.holds nodes.now node }
-    ensures { Names (N.holds nodes.now) result (nearest_label (is_named (codes "li")) (N.trees nodes.now) node.label) }
+    ensures { Names (N.holds nodes.now) result
+        (nearest_label (is_named (codes "li")) (N.trees nodes.now) node.label) }
 {
     nearest(nodes, node, &ItemTest)
 }
@@ -101,7 +103,8 @@ fn after_item<N: Nodes>(nodes: &N, point: Point) -> Place
 fn to_block_start<N: Nodes>(nodes: &N, at: Place) -> Place
     requires { Stands (N.holds nodes.now) (N.trees nodes.now) at }
     ensures stands { Stands (N.holds nodes.now) (N.trees nodes.now) result }
-    ensures place { gaps.point_of result ≡ extend.to_block_start (N.trees nodes.now) (gaps.point_of at) }
+    ensures place { gaps.point_of result
+        ≡ extend.to_block_start (N.trees nodes.now) (gaps.point_of at) }
 {
     if is_start(nodes, at) {
         at
@@ -115,7 +118,8 @@ fn to_block_start<N: Nodes>(nodes: &N, at: Place) -> Place
 fn to_block_end<N: Nodes>(nodes: &N, at: Place) -> Place
     requires { Stands (N.holds nodes.now) (N.trees nodes.now) at }
     ensures stands { Stands (N.holds nodes.now) (N.trees nodes.now) result }
-    ensures place { gaps.point_of result ≡ extend.to_block_end (N.trees nodes.now) (gaps.point_of at) }
+    ensures place { gaps.point_of result
+        ≡ extend.to_block_end (N.trees nodes.now) (gaps.point_of at) }
 {
     if is_end(nodes, at) {
         at
@@ -150,9 +154,9 @@ fn extended_end<N: Nodes>(nodes: &N, point: Point) -> Point
     point_of(at)
 }
 
-/// The block-extended range: its start and its end, taken out to where lines of blocks start and end. A walk goes
-/// over the children and ancestors on its way by links; only the place where it begins is found by counting
-/// children.
+/// The block-extended range: its start and its end, taken out to where lines of blocks start and
+/// end. A walk goes over the children and ancestors on its way by links; only the place where it
+/// begins is found by counting children.
 #[tactic(auto, unfolding(crate::specs::BlockExtend::block_extend))]
 pub fn block_extend<N: Nodes>(nodes: &N, range: (Point, Point)) -> (Point, Point)
     requires start { 0 < count_of (N.trees nodes.now) range.0.label }

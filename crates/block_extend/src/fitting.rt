@@ -1,6 +1,7 @@
 //! Whether a node may stand in a div, in an item of a list, or in a span.
 //!
-//! Most blocks are paragraphs, of which one comparison tells it. The tables of names take a hundred.
+//! Most blocks are paragraphs, of which one comparison tells it. The tables of names take a
+//! hundred.
 
 ghost use Rattle.std.specs.Prelude.{◌≡◌, codes};
 ghost use Rattle.node_styles.specs.Allowed.{allowed_in_name};

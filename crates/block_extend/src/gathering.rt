@@ -39,8 +39,8 @@ fn is_below<N: Nodes>(nodes: &N, last: Option<NodeRef>, node: NodeRef) -> bool
     }
 }
 
-// Whether a node is taken after the one that was taken last: it doesn't stand below that one, which is looked at
-// first, and passes the test.
+// Whether a node is taken after the one that was taken last: it doesn't stand below that one, which
+// is looked at first, and passes the test.
 fn is_taken<N: Nodes, C: Choice<N>>(
     nodes: &N,
     last: Option<NodeRef>,
@@ -55,8 +55,8 @@ fn is_taken<N: Nodes, C: Choice<N>>(
     !is_below(nodes, last, node) && choice.chooses(nodes, node)
 }
 
-// The members of a list that pass a test, without those that have an ancestor among them. They are in tree order,
-// so only the member that was taken last can be an ancestor of the next one.
+// The members of a list that pass a test, without those that have an ancestor among them. They are
+// in tree order, so only the member that was taken last can be an ancestor of the next one.
 fn gather<N: Nodes, C: Choice<N>>(
     alloc: Global,
     nodes: &N,
@@ -67,7 +67,8 @@ fn gather<N: Nodes, C: Choice<N>>(
     requires order { IsInOrder (N.trees nodes.now) (filter (C.chosen choice.now nodes.now)
         (map (λ r. r.label) list.now)) }
     ensures nodes { IfOk result (λ kept. map (λ r. r.label) kept
-        ≡ gather (N.trees nodes.now) (filter (C.chosen choice.now nodes.now) (map (λ r. r.label) list.now))) }
+        ≡ gather (N.trees nodes.now)
+        (filter (C.chosen choice.now nodes.now) (map (λ r. r.label) list.now))) }
     ensures held { IfOk result (λ kept. All (N.holds nodes.now) kept) }
 {
     nodes.valid();
@@ -82,8 +83,8 @@ fn gather<N: Nodes, C: Choice<N>>(
     Ok(NodeList::from_vec(kept))
 }
 
-/// The nodes that a range contains and that pass a test, in tree order, without those that have an ancestor among
-/// them. Nodes below one of them aren't tested.
+/// The nodes that a range contains and that pass a test, in tree order, without those that have an
+/// ancestor among them. Nodes below one of them aren't tested.
 #[tactic(auto, unfolding(crate::specs::Gather::gathered))]
 pub fn gather_in<N: Nodes, C: Choice<N>>(
     alloc: Global,

@@ -1,5 +1,6 @@
-//! The block-extended range, and the nodes of a range that a block command goes over. The terms are those of the W3C's
-//! *HTML Editing APIs*. Block extension takes no memory; it goes from place to place by links.
+//! The block-extended range, and the nodes of a range that a block command goes over. The terms are
+//! those of the W3C's *HTML Editing APIs*. Block extension takes no memory; it goes from place to
+//! place by links.
 #![tactic(auto)]
 
 mod descendants;

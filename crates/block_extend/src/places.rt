@@ -20,7 +20,8 @@ pub(crate) struct Place {
     pub after: Option<NodeRef>,
 }
 
-/// How a walk goes: to the place before or after, or only out of nodes from their start or their end.
+/// How a walk goes: to the place before or after, or only out of nodes from their start or their
+/// end.
 #[derive(Clone, Copy)]
 pub(crate) enum Way {
     Back,
@@ -57,7 +58,8 @@ pub(crate) fn place_at<N: Nodes>(nodes: &N, node: NodeRef, offset: u32) -> Place
 /// The place before a node, in its parent.
 pub(crate) fn place_before<N: Nodes>(nodes: &N, node: NodeRef) -> Option<Place>
     requires { N.holds nodes.now node }
-    ensures { Leads (N.holds nodes.now) (N.trees nodes.now) result (extend.out_of (N.trees nodes.now) node.label 0) }
+    ensures { Leads (N.holds nodes.now) (N.trees nodes.now) result
+        (extend.out_of (N.trees nodes.now) node.label 0) }
 {
     nodes.valid();
     match nodes.parent(node) {
@@ -74,7 +76,8 @@ pub(crate) fn place_before<N: Nodes>(nodes: &N, node: NodeRef) -> Option<Place>
 /// The place after a node, in its parent.
 pub(crate) fn place_after<N: Nodes>(nodes: &N, node: NodeRef) -> Option<Place>
     requires { N.holds nodes.now node }
-    ensures { Leads (N.holds nodes.now) (N.trees nodes.now) result (extend.out_of (N.trees nodes.now) node.label 1) }
+    ensures { Leads (N.holds nodes.now) (N.trees nodes.now) result
+        (extend.out_of (N.trees nodes.now) node.label 1) }
 {
     nodes.valid();
     match nodes.parent(node) {

@@ -32,7 +32,8 @@ impl<N: Nodes> Choice<N> for Prohibited {
     }
 }
 
-/// Whether a prohibited paragraph child stands below a node. It walks what stands below the node, as far as the first.
+/// Whether a prohibited paragraph child stands below a node. It walks what stands below the node,
+/// as far as the first.
 #[tactic(auto, unfolding(crate::specs::Prohibited::is_above_prohibited))]
 pub fn is_above_prohibited<N: Nodes>(nodes: &N, node: NodeRef) -> bool
     requires { N.holds nodes.now node }

@@ -32,12 +32,13 @@ pub fn is_next<N: Nodes>(nodes: &N, last: NodeRef, node: NodeRef) -> bool
     }
 }
 
-/// How many members the first series of a list has: the first member, and the members after it for as long as each
-/// goes on from the one before.
+/// How many members the first series of a list has: the first member, and the members after it for
+/// as long as each goes on from the one before.
 #[tactic(auto, using(crate::proofs::Counting::series))]
 pub fn count_series<N: Nodes, L: Link<N>>(nodes: &N, list: &[NodeRef], link: &L) -> usize
     requires { All (N.holds nodes.now) list.now }
-    ensures count { result ≡ count_series (L.linked link.now nodes.now) (map (λ r. r.label) list.now) }
+    ensures count { result
+        ≡ count_series (L.linked link.now nodes.now) (map (λ r. r.label) list.now) }
     ensures some { 0 < length list.now → 0 < result }
     ensures within { result ≤ length list.now }
 {

@@ -1,5 +1,5 @@
--- The values that inline commands have at a node (HTML Editing APIs, "effective command value"). A value is a text
--- or null.
+-- The values that inline commands have at a node (HTML Editing APIs, "effective command value"). A
+-- value is a text or null.
 use Rattle.std.specs.Prelude.{ℕ, zero, suc, Bool, true, false, ◌&&◌, if◌then◌else◌, List, [], ◌∷◌, Option, Some, None, is_some, codes, decimal}
 use Rattle.std.specs.List.{find, list_any}
 use Rattle.std.specs.Option.{option_map_or, option_and_then, unwrap_or}
@@ -37,12 +37,14 @@ is_link c = is_named (codes "a") c && is_some (attribute c (codes "href"))
 
 -- the href of the innermost a that has one
 unfoldable pub link_in : List Ancestor → Option (List ℕ)
-link_in line = option_and_then (λ k. attribute k.content (codes "href")) (find (λ k. is_link k.content) line)
+link_in line =
+    option_and_then (λ k. attribute k.content (codes "href")) (find (λ k. is_link k.content) line)
 
 abbrev pub background : Content → Colour
 background c = unwrap_or (own_background_color c) transparent
 
--- the background of the innermost that has one, as far as the ancestors are elements and the turns last
+-- the background of the innermost that has one, as far as the ancestors are elements and the turns
+-- last
 abbrev pub background_in : ℕ → List Ancestor → Colour
 background_in turns [] = transparent
 background_in turns (k ∷ []) = background k.content
@@ -78,7 +80,8 @@ draws drawn c = option_map_or (has_word drawn) (own_text_decoration c) false
 
 -- a line that one of them draws
 unfoldable pub line_in : DecorationLine → List Ancestor → Option (List ℕ)
-line_in drawn line = if list_any (λ k. draws drawn k.content) line then Some (line_word drawn) else None
+line_in drawn line =
+    if list_any (λ k. draws drawn k.content) line then Some (line_word drawn) else None
 
 abbrev pub value_in : ℕ → Subject → List Ancestor → Option (List ℕ)
 value_in turns Link line = link_in line
@@ -86,10 +89,12 @@ value_in turns Background line = Some (colour_text (background_in turns line))
 value_in turns Script line = script_in line
 value_in turns (Line drawn) line = line_in drawn line
 value_in turns Weight line = Some (decimal (inherited_in own_font_weight 400 line))
-value_in turns Slant line = Some (font_style_keyword (inherited_in own_font_style font_style.Normal line))
+value_in turns Slant line =
+    Some (font_style_keyword (inherited_in own_font_style font_style.Normal line))
 value_in turns Family line = Some (inherited_in own_font_family (codes "serif") line)
 value_in turns Size line = Some (pixels_text (inherited_in own_font_size 16 line))
-value_in turns Foreground line = Some (colour_text (inherited_in own_color (opaque_colour 0 0 0) line))
+value_in turns Foreground line =
+    Some (colour_text (inherited_in own_color (opaque_colour 0 0 0) line))
 value_in turns Nothing line = None
 
 -- ---- of any node
@@ -109,8 +114,10 @@ if_any value (k ∷ line) = value (k ∷ line)
 
 -- null of what is no element and stands in none
 unfoldable pub effective : Forest Content → ℕ → Command → Option (List ℕ)
-effective f l command = if_any (value_in (turn_bound f) (subject command)) (element_line (lineage f l))
+effective f l command =
+    if_any (value_in (turn_bound f) (subject command)) (element_line (lineage f l))
 
 -- the command counts as on
 unfoldable pub is_activated : Forest Content → ℕ → Command → Bool
-is_activated f l command = option_map_or (is_one_of (activated_values command)) (effective f l command) false
+is_activated f l command =
+    option_map_or (is_one_of (activated_values command)) (effective f l command) false

@@ -1,5 +1,5 @@
--- Which values of an inline command are the same (HTML Editing APIs, "equivalent values", "loosely equivalent
--- values"). A value is a text or null.
+-- Which values of an inline command are the same (HTML Editing APIs, "equivalent values", "loosely
+-- equivalent values"). A value is a text or null.
 use Rattle.std.specs.Prelude.{ℕ, ◌==◌, Bool, true, false, not, ◌&&◌, ◌||◌, if◌then◌else◌, List, Option, Some, None, bytes_eq, codes}
 use Rattle.std.specs.Option.{option_map_or}
 use Rattle.css_value.specs.declared.colours.Colour.{Colour}
@@ -16,14 +16,16 @@ are_bold a b =
 
 -- the components of a colour; `rgba(0, 0, 0, 0)` has those of transparent
 unfoldable pub components : List ℕ → Option Colour
-components text = if bytes_eq (codes "rgba(0, 0, 0, 0)") text then Some transparent else colour_of text
+components text =
+    if bytes_eq (codes "rgba(0, 0, 0, 0)") text then Some transparent else colour_of text
 
 abbrev pub is_same_bool : Bool → Bool → Bool
 is_same_bool true b = b
 is_same_bool false b = not b
 
 abbrev pub is_same_colour : Colour → Colour → Bool
-is_same_colour a b = (a.red == b.red) && (a.green == b.green) && (a.blue == b.blue) && is_same_bool a.clear b.clear
+is_same_colour a b =
+    (a.red == b.red) && (a.green == b.green) && (a.blue == b.blue) && is_same_bool a.clear b.clear
 
 abbrev pub are_same_colours : Option Colour → Option Colour → Bool
 are_same_colours (Some a) (Some b) = is_same_colour a b
@@ -57,11 +59,13 @@ equivalent command (Some a) None = false
 
 -- a keyword and its size
 abbrev pub is_keyword_of : List ℕ → List ℕ → Bool
-is_keyword_of keyword size = option_map_or (λ px. bytes_eq (pixels_text px) size) (keyword_size keyword) false
+is_keyword_of keyword size =
+    option_map_or (λ px. bytes_eq (pixels_text px) size) (keyword_size keyword) false
 
 unfoldable pub are_alike : Command → List ℕ → List ℕ → Bool
 are_alike command a b =
-    are_equivalent command a b || (is_size_command command && (is_keyword_of a b || is_keyword_of b a))
+    are_equivalent command a b
+    || (is_size_command command && (is_keyword_of a b || is_keyword_of b a))
 
 unfoldable pub alike : Command → Option (List ℕ) → Option (List ℕ) → Bool
 alike command None None = true

@@ -1,5 +1,5 @@
--- What the code of command values has between: the lineage of a node that may not be there, where its inline part
--- ends, and the names of weights. No public clause cites this module.
+-- What the code of command values has between: the lineage of a node that may not be there, where
+-- its inline part ends, and the names of weights. No public clause cites this module.
 use Rattle.std.specs.Prelude.{ℕ, ◌==◌, Bool, ◌&&◌, ◌||◌, bytes_eq, codes, if◌then◌else◌, List, [], Option, Some, None}
 use Rattle.dom_model.specs.declared.Content.{Content}
 use Rattle.dom_model.specs.Contents.{is_element_at}
@@ -25,7 +25,8 @@ is_inline_end name c = is_named name c || is_block_content c
 -- bold is 700, and normal 400
 abbrev pub is_named_weight : ℕ → List ℕ → Bool
 is_named_weight weight text =
-    ((weight == 700) && bytes_eq (codes "bold") text) || ((weight == 400) && bytes_eq (codes "normal") text)
+    ((weight == 700) && bytes_eq (codes "bold") text)
+    || ((weight == 400) && bytes_eq (codes "normal") text)
 
 -- the weights at which bold counts as on
 abbrev pub is_heavy : ℕ → Bool

@@ -1,5 +1,5 @@
--- The values that an element itself gives inline commands (HTML Editing APIs, "specified command value"). A value
--- is a text or null.
+-- The values that an element itself gives inline commands (HTML Editing APIs, "specified command
+-- value"). A value is a text or null.
 use Rattle.std.specs.Prelude.{ℕ, Bool, true, false, if◌then◌else◌, List, [], ◌∷◌, Option, Some, None, is_some, codes}
 use Rattle.std.specs.Option.{option_map, option_map_or, option_and_then, option_or}
 use Rattle.dom_model.specs.declared.Content.{Content}
@@ -40,7 +40,8 @@ link_of c = if is_named (codes "a") c then attribute c (codes "href") else None
 -- an inline element alone gives a background
 abbrev pub background_of : Content → Option (List ℕ)
 background_of c =
-    if is_inline_display (own_or_inline c) then if_read colour_of (declared c (codes "background-color")) else None
+    if is_inline_display (own_or_inline c) then
+    if_read colour_of (declared c (codes "background-color")) else None
 
 abbrev pub script_of : Content → Option (List ℕ)
 script_of c =
@@ -59,7 +60,8 @@ gives_line line c (Some text) = has_line text line
 gives_line line c None = is_line_element line c
 
 abbrev pub line_of : DecorationLine → Content → Option (List ℕ)
-line_of line c = if gives_line line c (declared c (codes "text-decoration")) then Some (line_word line) else None
+line_of line c =
+    if gives_line line c (declared c (codes "text-decoration")) then Some (line_word line) else None
 
 -- the valid value of the style, as it is written, else what the name stands for
 abbrev pub weight_of : Content → Option (List ℕ)
@@ -74,17 +76,20 @@ slant_of c =
 
 -- the valid value of the style, as it is written, else the hint of a font
 abbrev pub family_in : Content → Option (List ℕ)
-family_in c = option_or (option_and_then family_of (declared c (codes "font-family"))) (family_hint c)
+family_in c =
+    option_or (option_and_then family_of (declared c (codes "font-family"))) (family_hint c)
 
 abbrev pub hinted_size : Content → Option (List ℕ)
-hinted_size c = option_map size_keyword (option_and_then legacy_size_of (font_attribute c (codes "size")))
+hinted_size c =
+    option_map size_keyword (option_and_then legacy_size_of (font_attribute c (codes "size")))
 
 abbrev pub size_of : Content → Option (List ℕ)
 size_of c = option_or (if_read font_size_of (declared c (codes "font-size"))) (hinted_size c)
 
 abbrev pub foreground_of : Content → Option (List ℕ)
 foreground_of c =
-    option_or (if_read colour_of (declared c (codes "color"))) (if_read colour_of (font_attribute c (codes "color")))
+    option_or (if_read colour_of (declared c (codes "color")))
+    (if_read colour_of (font_attribute c (codes "color")))
 
 abbrev pub given_by : Subject → Content → Option (List ℕ)
 given_by Link c = link_of c

@@ -1,5 +1,5 @@
--- What the values of an inline command are about (HTML Editing APIs, "relevant CSS property", "inline command activated
--- values").
+-- What the values of an inline command are about (HTML Editing APIs, "relevant CSS property",
+-- "inline command activated values").
 use Rattle.std.specs.Prelude.{Option, Some, None}
 use Rattle.css_value.specs.declared.decoration.DecorationLine.TheVariants.{Underline, LineThrough}
 use Rattle.html_names.specs.declared.commands.Command.{Command}

@@ -26,8 +26,8 @@ impl Test for BoxTest {
     }
 }
 
-/// The alignment value of a node: the `text-align` of the nearest element, the node itself or an ancestor, whose
-/// `display` is neither `inline` nor `none`.
+/// The alignment value of a node: the `text-align` of the nearest element, the node itself or an
+/// ancestor, whose `display` is neither `inline` nor `none`.
 pub fn alignment<N: Nodes>(nodes: &N, node: NodeRef) -> TextAlign
     requires { N.holds nodes.now node }
     ensures { result ≡ spec.alignment (N.trees nodes.now) node.label }

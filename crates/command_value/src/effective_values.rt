@@ -107,12 +107,13 @@ pub(crate) fn link_value<N: Nodes>(nodes: &N, element: NodeRef) -> Option<&[char
     }
 }
 
-// How many turns a walk from a node takes at most. In the document it comes to the Document before that many, so only
-// outside it do the nodes and characters of the document have to be counted.
+// How many turns a walk from a node takes at most. In the document it comes to the Document before
+// that many, so only outside it do the nodes and characters of the document have to be counted.
 fn turns<N: Nodes>(nodes: &N, node: NodeRef) -> u128
     requires { N.holds nodes.now node }
     ensures { effective.background_in result (lineage (N.trees nodes.now) node.label)
-        ≡ effective.background_in (turn_bound (N.trees nodes.now)) (lineage (N.trees nodes.now) node.label) }
+        ≡ effective.background_in (turn_bound (N.trees nodes.now))
+        (lineage (N.trees nodes.now) node.label) }
 {
     nodes.valid();
     if nodes.is_within(nodes.document(), node) {
@@ -158,7 +159,8 @@ pub(crate) fn background_value<N: Nodes>(nodes: &N, element: NodeRef) -> Colour
     background_color(nodes, at)
 }
 
-// Whether an element of a name stands among an element and its ancestors as long as they are inline.
+// Whether an element of a name stands among an element and its ancestors as long as they are
+// inline.
 pub(crate) fn is_among_inline<N: Nodes>(nodes: &N, element: NodeRef, name: &'static [u8]) -> bool
     requires { N.holds nodes.now element }
     ensures { result ≡ list_any (λ k. is_named name.now k.content)
@@ -173,7 +175,8 @@ pub(crate) fn is_among_inline<N: Nodes>(nodes: &N, element: NodeRef, name: &'sta
 #[tactic(auto, unfolding(crate::specs::EffectiveValues::script_in))]
 pub(crate) fn script_value<N: Nodes>(nodes: &N, element: NodeRef) -> Option<&[char]>
     requires { N.holds nodes.now element }
-    ensures { option_copied result ≡ effective.script_in (lineage (N.trees nodes.now) element.label) }
+    ensures { option_copied result
+        ≡ effective.script_in (lineage (N.trees nodes.now) element.label) }
 {
     let is_sub = is_among_inline(nodes, element, b"sub");
     let is_sup = is_among_inline(nodes, element, b"sup");
@@ -189,7 +192,9 @@ pub(crate) fn script_value<N: Nodes>(nodes: &N, element: NodeRef) -> Option<&[ch
 #[tactic(auto, unfolding(node_styles::specs::Lineage::has_in_lineage))]
 pub(crate) fn draws_line<N: Nodes>(nodes: &N, element: NodeRef, line: DecorationLine) -> bool
     requires { N.holds nodes.now element }
-    ensures { result ≡ list_any (λ k. effective.draws line k.content) (lineage (N.trees nodes.now) element.label) }
+    ensures { result
+        ≡ list_any (λ k.
+        effective.draws line k.content) (lineage (N.trees nodes.now) element.label) }
 {
     has_in_lineage(nodes, element, &LineTest { line })
 }
@@ -201,7 +206,8 @@ pub(crate) fn line_value<N: Nodes>(
     line: DecorationLine,
 ) -> Option<&[char]>
     requires { N.holds nodes.now element }
-    ensures { option_copied result ≡ effective.line_in line (lineage (N.trees nodes.now) element.label) }
+    ensures { option_copied result
+        ≡ effective.line_in line (lineage (N.trees nodes.now) element.label) }
 {
     if draws_line(nodes, element, line) {
         Some(line_chars(line))
@@ -271,7 +277,8 @@ pub fn effective<N: Nodes>(
     command: Command,
 ) -> Result<Option<Chars>, AllocError>
     requires { N.holds nodes.now node }
-    ensures { IfOk result (λ text. text ≡ effective.effective (N.trees nodes.now) node.label command) }
+    ensures { IfOk result (λ text. text
+        ≡ effective.effective (N.trees nodes.now) node.label command) }
 {
     effective_value(nodes, node, command).print(alloc)
 }

@@ -112,8 +112,8 @@ pub fn equivalent(command: Command, a: Option<&Chars>, b: Option<&Chars>) -> boo
     }
 }
 
-/// Whether two values of a command are alike ("loosely equivalent"): equivalent, or for fontSize a keyword and its
-/// size in pixels.
+/// Whether two values of a command are alike ("loosely equivalent"): equivalent, or for fontSize a
+/// keyword and its size in pixels.
 #[tactic(auto, unfolding(crate::specs::Equivalence::alike))]
 pub fn alike(command: Command, a: Option<&Chars>, b: Option<&Chars>) -> bool
     ensures { result ≡ spec.alike command (option_copied a.entry) (option_copied b.entry) }

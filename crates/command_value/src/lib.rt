@@ -1,5 +1,6 @@
-//! The values that inline commands have at a node, and the elements that such commands may change. The terms are
-//! those of the W3C's *HTML Editing APIs*: a value is a text or null. Only the calls that answer texts take memory.
+//! The values that inline commands have at a node, and the elements that such commands may change.
+//! The terms are those of the W3C's *HTML Editing APIs*: a value is a text or null. Only the calls
+//! that answer texts take memory.
 #![tactic(auto)]
 
 mod alignments;

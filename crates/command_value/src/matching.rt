@@ -220,7 +220,8 @@ pub fn has_alike_value<N: Nodes>(
     value: Option<&[char]>,
 ) -> bool
     requires { N.holds nodes.now node }
-    ensures { result ≡ equivalence.alike command (effective.effective (N.trees nodes.now) node.label command)
+    ensures { result
+        ≡ equivalence.alike command (effective.effective (N.trees nodes.now) node.label command)
         (option_copied value.entry) }
 {
     match value {
@@ -237,8 +238,8 @@ pub fn specifies<N: Nodes>(nodes: &N, node: NodeRef, command: Command) -> bool
     specified_value(nodes, node, command).is_some()
 }
 
-/// Whether a node gives the command another value than this one: its specified command value is neither null nor
-/// equivalent to it.
+/// Whether a node gives the command another value than this one: its specified command value is
+/// neither null nor equivalent to it.
 #[tactic(auto, unfolding(crate::specs::Modifiable::specifies_other))]
 pub fn specifies_other<N: Nodes>(
     nodes: &N,
@@ -247,14 +248,16 @@ pub fn specifies_other<N: Nodes>(
     value: Option<&[char]>,
 ) -> bool
     requires { N.holds nodes.now node }
-    ensures { result ≡ modifiable.specifies_other (N.trees nodes.now) node.label command (option_copied value.entry) }
+    ensures { result
+        ≡ modifiable.specifies_other (N.trees nodes.now) node.label command
+        (option_copied value.entry) }
 {
     let own = specified_value(nodes, node, command);
     own.is_some() && !is_equivalent(command, own, value)
 }
 
-/// Whether a node is a simple modifiable element whose specified command value is equivalent to this one, and whose
-/// effective command value is alike to it.
+/// Whether a node is a simple modifiable element whose specified command value is equivalent to
+/// this one, and whose effective command value is alike to it.
 #[tactic(auto, unfolding(crate::specs::Modifiable::meets_value))]
 pub fn meets_value<N: Nodes>(nodes: &N, node: NodeRef, command: Command, value: &[char]) -> bool
     requires { N.holds nodes.now node }

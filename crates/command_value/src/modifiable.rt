@@ -50,20 +50,23 @@ fn is_plain_font(content: &Content, name: &[u8]) -> bool
 }
 
 fn is_styled_bold(content: &Content, name: &[u8], value: &[char]) -> bool
-    ensures { result ≡ spec.is_styled_bold content.now (record { name = name.now; value = value.now }) }
+    ensures { result
+        ≡ spec.is_styled_bold content.now (record { name = name.now; value = value.now }) }
 {
     is_named_in(content, &[b"b", b"strong"]) && is_style_of(name, value, Only::FontWeight)
 }
 
 fn is_styled_italic(content: &Content, name: &[u8], value: &[char]) -> bool
-    ensures { result ≡ spec.is_styled_italic content.now (record { name = name.now; value = value.now }) }
+    ensures { result
+        ≡ spec.is_styled_italic content.now (record { name = name.now; value = value.now }) }
 {
     is_named_in(content, &[b"i", b"em"]) && is_style_of(name, value, Only::FontStyle)
 }
 
 // A style that sets one property other than text-decoration.
 fn is_styled_span(content: &Content, name: &[u8], value: &[char]) -> bool
-    ensures { result ≡ spec.is_styled_span content.now (record { name = name.now; value = value.now }) }
+    ensures { result
+        ≡ spec.is_styled_span content.now (record { name = name.now; value = value.now }) }
 {
     is_named_in(content, &[b"a", b"font", b"span"])
         && is_style_of(name, value, Only::AnyOne)
@@ -91,7 +94,8 @@ fn is_one_line(style: &[char]) -> bool
 
 // A style that sets text-decoration alone, to one word.
 fn is_styled_line(content: &Content, name: &[u8], value: &[char]) -> bool
-    ensures { result ≡ spec.is_styled_line content.now (record { name = name.now; value = value.now }) }
+    ensures { result
+        ≡ spec.is_styled_line content.now (record { name = name.now; value = value.now }) }
 {
     is_named_in(content, &[b"a", b"font", b"s", b"span", b"strike", b"u"])
         && is_style_of(name, value, Only::TextDecoration)
@@ -101,7 +105,8 @@ fn is_styled_line(content: &Content, name: &[u8], value: &[char]) -> bool
 // Whether an element with this one attribute is simple modifiable.
 #[tactic(auto, unfolding(crate::specs::Modifiable::is_simple_with))]
 fn is_simple_with(content: &Content, name: &[u8], value: &[char]) -> bool
-    ensures { result ≡ spec.is_simple_with content.now (record { name = name.now; value = value.now }) }
+    ensures { result
+        ≡ spec.is_simple_with content.now (record { name = name.now; value = value.now }) }
 {
     is_bare(content, name, value)
         || is_plain_link(content, name)
@@ -137,7 +142,8 @@ fn is_simple_content(content: &Content) -> bool
 
 // Whether each attribute has one of these names.
 fn has_only(names: &[&[u8]], attributes: &Attributes) -> bool
-    ensures { result ≡ list_all (λ a. list_any (λ row. bytes_eq row.now a.name) names.now) attributes.now }
+    ensures { result
+        ≡ list_all (λ a. list_any (λ row. bytes_eq row.now a.name) names.now) attributes.now }
 {
     for place in 0..attributes.len() {
         if let Some((name, value)) = attributes.at(place) {

@@ -220,7 +220,8 @@ fn specified_in(content: &Content, command: Command) -> Option<&[char]>
     }
 }
 
-/// The specified command value of a node, as its style, its attributes or its name have it; `None` is null.
+/// The specified command value of a node, as its style, its attributes or its name have it; `None`
+/// is null.
 #[tactic(auto, unfolding(crate::specs::SpecifiedValues::specified))]
 pub fn specified_value<N: Nodes>(nodes: &N, node: NodeRef, command: Command) -> Option<&[char]>
     requires { N.holds nodes.now node }
@@ -237,7 +238,8 @@ pub fn specified<N: Nodes>(
     command: Command,
 ) -> Result<Option<Chars>, AllocError>
     requires { N.holds nodes.now node }
-    ensures { IfOk result (λ text. text ≡ specified.specified (N.trees nodes.now) node.label command) }
+    ensures { IfOk result (λ text. text
+        ≡ specified.specified (N.trees nodes.now) node.label command) }
 {
     match specified_value(nodes, node, command) {
         Some(text) => Ok(Some(Chars::from_slice(alloc, text)?)),

@@ -13,15 +13,18 @@ use Rattle.edit_model.specs.Compositions.{tag_of}
 
 -- the parent is editable with this host, and the node is no element with a formattable block name
 unfoldable pub goes_up : Forest Content → ℕ → ℕ → Bool
-goes_up f host l = not (is_formattable_block f l) && option_map_or (is_editable f host) (parent_of f l) false
+goes_up f host l =
+    not (is_formattable_block f l) && option_map_or (is_editable f host) (parent_of f l) false
 
 -- up from a node, for as long as it goes
 unfoldable pub block_at : Forest Content → ℕ → ℕ → Option ℕ
-block_at f host l = option_map (λ k. k.label) (find (λ k. not (goes_up f host k.label)) (lineage f l))
+block_at f host l =
+    option_map (λ k. k.label) (find (λ k. not (goes_up f host k.label)) (lineage f l))
 
 -- an editable element with a formattable block name, and no prohibited paragraph child below it
 unfoldable pub is_typed : Forest Content → ℕ → ℕ → Bool
-is_typed f host b = is_editable f host b && (is_formattable_block f b && not (is_above_prohibited f b))
+is_typed f host b =
+    is_editable f host b && (is_formattable_block f b && not (is_above_prohibited f b))
 
 -- its name; of another node empty
 unfoldable pub type_in : Forest Content → ℕ → ℕ → List ℕ

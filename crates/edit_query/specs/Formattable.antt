@@ -13,7 +13,8 @@ use Rattle.edit_actions.specs.ActiveRange.{start_of, end_of}
 
 -- those of the range of a pair of points, editable with this host
 unfoldable pub formattable_between : Forest Content → ℕ → Pair → List ℕ
-formattable_between f host pair = filter (is_formattable f host) (effective_nodes f (start_of f pair) (end_of f pair))
+formattable_between f host pair =
+    filter (is_formattable f host) (effective_nodes f (start_of f pair) (end_of f pair))
 
 -- without a host nothing is editable, and without a selection nothing is contained
 abbrev pub formattable_for : Forest Content → Option ℕ → Option Pair → List ℕ

@@ -1,5 +1,6 @@
--- The list state of the active range (HTML Editing APIs, "selection's list state"): which kind of list the lines of the
--- block-extended range stand in. A kind is told by whether its lists are ordered.
+-- The list state of the active range (HTML Editing APIs, "selection's list state"): which kind of
+-- list the lines of the block-extended range stand in. A kind is told by whether its lists are
+-- ordered.
 use Rattle.std.specs.Prelude.{ℕ, Bool, true, false, not, ◌&&◌, ◌||◌, List, [], ◌∷◌, Option, Some, None, codes, if◌then◌else◌}
 use Rattle.std.specs.List.{list_all, list_any}
 use Rattle.std.specs.Option.{option_map_or}
@@ -32,14 +33,18 @@ is_any_list f l = is_list_of true f l || is_list_of false f l
 
 -- ---- the list members of a range
 
--- an editable node that is no indentation element, and that is an ol or ul, or a child of one, or may stand in an li
+-- an editable node that is no indentation element, and that is an ol or ul, or a child of one, or
+-- may stand in an li
 unfoldable pub is_member : Forest Content → ℕ → ℕ → Bool
 is_member f host l =
     is_editable f host l
     && (not (is_indentation f l)
-    && (is_any_list f l || (option_map_or (is_any_list f) (parent_of f l) false || allowed_in_name f l (codes "li"))))
+    && (is_any_list f l
+    || (option_map_or (is_any_list f) (parent_of f l) false
+    || allowed_in_name f l (codes "li"))))
 
--- those that the range contains and that have no ancestor among them, in tree order; without a host nothing is editable
+-- those that the range contains and that have no ancestor among them, in tree order; without a host
+-- nothing is editable
 abbrev pub members_in : Forest Content → Option ℕ → Point × Point → List ℕ
 members_in f None range = []
 members_in f (Some host) range = gathered (is_member f host) f range.0 range.1
@@ -57,7 +62,8 @@ is_in_item_of ordered f l =
 
 -- it is such a list, a child of one, or the child of an li child of one
 unfoldable pub belongs : Bool → Forest Content → ℕ → Bool
-belongs ordered f l = is_list_of ordered f l || (is_child_of ordered f l || is_in_item_of ordered f l)
+belongs ordered f l =
+    is_list_of ordered f l || (is_child_of ordered f l || is_in_item_of ordered f l)
 
 -- a descendant is such a list
 unfoldable pub is_above_list : Bool → Forest Content → ℕ → Bool
@@ -74,7 +80,8 @@ belongs_purely ordered f l =
 
 -- ---- the list state
 
--- where not all members belong purely to one kind: by whether one touches an ol, and whether one touches a ul
+-- where not all members belong purely to one kind: by whether one touches an ol, and whether one
+-- touches a ul
 abbrev pub mixed_state : Bool → Bool → ListState
 mixed_state true true = Mixed
 mixed_state true false = MixedOrdered
@@ -88,12 +95,14 @@ abbrev pub state_of_members : Forest Content → List ℕ → ListState
 state_of_members f [] = Nothing
 state_of_members f (l ∷ ls) =
     if list_all (belongs_purely true f) (l ∷ ls) then Ordered
-    else (if list_all (belongs_purely false f) (l ∷ ls) then Unordered else touched_state f (l ∷ ls))
+    else (if list_all (belongs_purely false f) (l ∷ ls) then Unordered
+    else touched_state f (l ∷ ls))
 
 -- without a selection nothing is contained
 abbrev pub state_by : Forest Content → Option ℕ → Option Pair → ListState
 state_by f host None = Nothing
-state_by f host (Some pair) = state_of_members f (members_in f host (block_extend f (start_of f pair) (end_of f pair)))
+state_by f host (Some pair) =
+    state_of_members f (members_in f host (block_extend f (start_of f pair) (end_of f pair)))
 
 unfoldable pub list_state : State → Option ℕ → ListState
 list_state s host = state_by s.trees host s.points.selection

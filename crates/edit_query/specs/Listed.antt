@@ -34,7 +34,8 @@ are_aligned f a (l ∷ ls) = list_all (λ n. is_aligned f a n) (l ∷ ls)
 
 -- the effective value of subscript, which is that of superscript too, is "mixed"
 abbrev pub is_mixed : Forest Content → ℕ → Bool
-is_mixed f l = option_map_or (λ text. bytes_eq text (codes "mixed")) (effective f l command.Subscript) false
+is_mixed f l =
+    option_map_or (λ text. bytes_eq text (codes "mixed")) (effective f l command.Subscript) false
 
 unfoldable pub has_mixed : Forest Content → List ℕ → Bool
 has_mixed f ls = list_any (is_mixed f) ls

@@ -20,7 +20,8 @@ use Rattle.edit_query.specs.Listed.{is_partly_on, is_partly_aligned, are_aligned
 abbrev pub is_on_at_start : State → Command → Bool
 is_on_at_start s c = option_map_or (λ l. is_activated s.trees l c) (start_node s) false
 
--- the command is on at all formattable nodes in the range, or where there is none at the range's start
+-- the command is on at all formattable nodes in the range, or where there is none at the range's
+-- start
 abbrev pub is_on_throughout : State → Command → List ℕ → Bool
 is_on_throughout s c [] = is_on_at_start s c
 is_on_throughout s c (l ∷ ls) = list_all (λ n. is_activated s.trees n c) (l ∷ ls)
@@ -28,10 +29,12 @@ is_on_throughout s c (l ∷ ls) = list_all (λ n. is_activated s.trees n c) (l �
 unfoldable pub is_on : State → Option ℕ → Command → Bool
 is_on s host c = is_on_throughout s c (formattable_nodes s host)
 
--- the effective value of the first formattable node in the range, or where there is none that at the range's start
+-- the effective value of the first formattable node in the range, or where there is none that at
+-- the range's start
 unfoldable pub first_value : State → Option ℕ → Command → Option (List ℕ)
 first_value s host c =
-    option_and_then (λ l. effective s.trees l c) (option_or (first_formattable s host) (start_node s))
+    option_and_then (λ l.
+    effective s.trees l c) (option_or (first_formattable s host) (start_node s))
 
 -- two leaves of the block-extended range have different types; without a host there are no leaves
 abbrev pub types_differ : State → Option ℕ → Bool
@@ -47,7 +50,8 @@ first_type s (Some host) = option_map_or (type_of s.trees host) (first_leaf s (S
 abbrev pub first_alignment : State → Option ℕ → List ℕ
 first_alignment s host = option_map_or (alignment_value s.trees) (first_leaf s host) (codes "left")
 
--- the digit of the legacy size, 1 to 7, of a size of a font (HTML Editing APIs, "legacy font size for")
+-- the digit of the legacy size, 1 to 7, of a size of a font (HTML Editing APIs, "legacy font size
+-- for")
 abbrev pub legacy_text : List ℕ → List ℕ
 legacy_text text = option_map_or (λ px. (48 + legacy_size px) ∷ []) (font_size_of text) []
 
@@ -60,23 +64,36 @@ container_name paragraphs = if paragraphs then codes "p" else codes "div"
 abbrev pub own_indeterm : State → Option ℕ → Command → Bool
 own_indeterm s host command.Bold = is_partly_on s.trees command.Bold (formattable_nodes s host)
 own_indeterm s host command.Italic = is_partly_on s.trees command.Italic (formattable_nodes s host)
-own_indeterm s host command.Underline = is_partly_on s.trees command.Underline (formattable_nodes s host)
-own_indeterm s host command.Strikethrough = is_partly_on s.trees command.Strikethrough (formattable_nodes s host)
+own_indeterm s host command.Underline =
+    is_partly_on s.trees command.Underline (formattable_nodes s host)
+own_indeterm s host command.Strikethrough =
+    is_partly_on s.trees command.Strikethrough (formattable_nodes s host)
 own_indeterm s host command.Subscript =
-    is_partly_on s.trees command.Subscript (formattable_nodes s host) || has_mixed s.trees (formattable_nodes s host)
+    is_partly_on s.trees command.Subscript (formattable_nodes s host)
+    || has_mixed s.trees (formattable_nodes s host)
 own_indeterm s host command.Superscript =
-    is_partly_on s.trees command.Superscript (formattable_nodes s host) || has_mixed s.trees (formattable_nodes s host)
-own_indeterm s host command.CreateLink = have_other_values s.trees command.CreateLink (formattable_nodes s host)
-own_indeterm s host command.FontName = have_other_values s.trees command.FontName (formattable_nodes s host)
-own_indeterm s host command.FontSize = have_other_values s.trees command.FontSize (formattable_nodes s host)
-own_indeterm s host command.ForeColor = have_other_values s.trees command.ForeColor (formattable_nodes s host)
-own_indeterm s host command.BackColor = have_other_values s.trees command.BackColor (formattable_nodes s host)
-own_indeterm s host command.HiliteColor = have_other_values s.trees command.HiliteColor (formattable_nodes s host)
+    is_partly_on s.trees command.Superscript (formattable_nodes s host)
+    || has_mixed s.trees (formattable_nodes s host)
+own_indeterm s host command.CreateLink =
+    have_other_values s.trees command.CreateLink (formattable_nodes s host)
+own_indeterm s host command.FontName =
+    have_other_values s.trees command.FontName (formattable_nodes s host)
+own_indeterm s host command.FontSize =
+    have_other_values s.trees command.FontSize (formattable_nodes s host)
+own_indeterm s host command.ForeColor =
+    have_other_values s.trees command.ForeColor (formattable_nodes s host)
+own_indeterm s host command.BackColor =
+    have_other_values s.trees command.BackColor (formattable_nodes s host)
+own_indeterm s host command.HiliteColor =
+    have_other_values s.trees command.HiliteColor (formattable_nodes s host)
 own_indeterm s host command.FormatBlock = types_differ s host
 own_indeterm s host command.JustifyLeft = is_partly_aligned s.trees text_align.Left (leaves s host)
-own_indeterm s host command.JustifyCenter = is_partly_aligned s.trees text_align.Center (leaves s host)
-own_indeterm s host command.JustifyRight = is_partly_aligned s.trees text_align.Right (leaves s host)
-own_indeterm s host command.JustifyFull = is_partly_aligned s.trees text_align.Justify (leaves s host)
+own_indeterm s host command.JustifyCenter =
+    is_partly_aligned s.trees text_align.Center (leaves s host)
+own_indeterm s host command.JustifyRight =
+    is_partly_aligned s.trees text_align.Right (leaves s host)
+own_indeterm s host command.JustifyFull =
+    is_partly_aligned s.trees text_align.Justify (leaves s host)
 own_indeterm s host command.InsertOrderedList = is_mixed_state true (list_state s host)
 own_indeterm s host command.InsertUnorderedList = is_mixed_state false (list_state s host)
 own_indeterm s host _ = false
@@ -101,7 +118,8 @@ own_state s host _ = false
 abbrev pub own_value : State → Option ℕ → Command → List ℕ
 own_value s host command.CreateLink = unwrap_or (first_value s host command.CreateLink) []
 own_value s host command.FontName = unwrap_or (first_value s host command.FontName) []
-own_value s host command.FontSize = option_map_or legacy_text (first_value s host command.FontSize) []
+own_value s host command.FontSize =
+    option_map_or legacy_text (first_value s host command.FontSize) []
 own_value s host command.ForeColor = unwrap_or (first_value s host command.ForeColor) []
 own_value s host command.BackColor = unwrap_or (first_value s host command.BackColor) []
 own_value s host command.HiliteColor = unwrap_or (first_value s host command.HiliteColor) []

@@ -12,7 +12,8 @@ use dom_model::Content;
 use edit_doc::{Doc, NodeRef};
 use node_tests::{is_editable, is_formattable_block};
 
-// Whether the parent of a node is editable, and the node is no element with a formattable block name.
+// Whether the parent of a node is editable, and the node is no element with a formattable block
+// name.
 #[tactic(auto, unfolding(crate::specs::BlockTypes::goes_up))]
 fn goes_up(doc: &Doc, host: NodeRef, node: NodeRef, parent: NodeRef) -> bool
     requires host_held { Holds doc.now host }
@@ -42,7 +43,8 @@ fn block_at(doc: &Doc, host: NodeRef, node: NodeRef) -> NodeRef
     at
 }
 
-// Whether a node is an editable element with a formattable block name, and no prohibited paragraph child below it.
+// Whether a node is an editable element with a formattable block name, and no prohibited paragraph
+// child below it.
 #[tactic(auto, unfolding(crate::specs::BlockTypes::is_typed))]
 fn is_typed(doc: &Doc, host: NodeRef, block: NodeRef) -> bool
     requires host_held { Holds doc.now host }
@@ -82,8 +84,9 @@ fn type_in(doc: &Doc, host: NodeRef, block: NodeRef) -> &[u8]
     }
 }
 
-/// The type of a node: the name of the block with a formattable block name that it is or stands in, unless a prohibited
-/// paragraph child stands below that block; else the empty text (HTML Editing APIs, "the formatBlock command").
+/// The type of a node: the name of the block with a formattable block name that it is or stands in,
+/// unless a prohibited paragraph child stands below that block; else the empty text (HTML Editing
+/// APIs, "the formatBlock command").
 #[tactic(auto, unfolding(crate::specs::BlockTypes::type_of))]
 pub(crate) fn type_of(doc: &Doc, host: NodeRef, node: NodeRef) -> &[u8]
     requires host_held { Holds doc.now host }
@@ -93,13 +96,15 @@ pub(crate) fn type_of(doc: &Doc, host: NodeRef, node: NodeRef) -> &[u8]
     type_in(doc, host, block_at(doc, host, node))
 }
 
-// Whether what nodes have as their type in a block is another than this, which it is in the block of the node before.
+// Whether what nodes have as their type in a block is another than this, which it is in the block
+// of the node before.
 #[tactic(auto, using(crate::proofs::Typing::same_text))]
 fn is_other(doc: &Doc, host: NodeRef, block: NodeRef, before: NodeRef, wanted: &[u8]) -> bool
     requires host_held { Holds doc.now host }
     requires block_held { Holds doc.now block }
     requires before { type_in doc.now.state.trees host.label before.label ≡ wanted.now }
-    ensures { result ≡ not (bytes_eq (type_in doc.now.state.trees host.label block.label) wanted.now) }
+    ensures { result
+        ≡ not (bytes_eq (type_in doc.now.state.trees host.label block.label) wanted.now) }
 {
     block.label != before.label && type_in(doc, host, block) != wanted
 }

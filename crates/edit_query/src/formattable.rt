@@ -59,15 +59,16 @@ fn first_between(
     requires host_held { Holds doc.now host }
     requires placed { IsPlacedPair doc.now.state.trees pair }
     ensures { IfOk result
-        (λ node. Finds doc.now node (first_in (formattable_between doc.now.state.trees host.label pair))) }
+        (λ node. Finds doc.now node
+        (first_in (formattable_between doc.now.state.trees host.label pair))) }
 {
     let list = effective_between(alloc, doc, pair)?;
     Ok(first_sought(doc, host, Sought::Formattable, list.as_slice()))
 }
 
-/// The formattable nodes, those with `host` as their editing host, that the active range effectively contains, in tree
-/// order (HTML Editing APIs, "formattable node", "effectively contained"). There are none without a host, without a
-/// selection, and at a caret.
+/// The formattable nodes, those with `host` as their editing host, that the active range
+/// effectively contains, in tree order (HTML Editing APIs, "formattable node", "effectively
+/// contained"). There are none without a host, without a selection, and at a caret.
 #[tactic(auto, unfolding(crate::specs::Formattable::formattable_nodes))]
 pub fn formattable_nodes(
     alloc: Global,
@@ -76,7 +77,8 @@ pub fn formattable_nodes(
 ) -> Result<Vec<NodeRef>, AllocError>
     requires { IfHeld doc.now host }
     ensures held { IfOk result (λ list. EachHeld doc.now list.items) }
-    ensures nodes { IfOk result (λ list. labels_of list.items ≡ formattable_nodes doc.now.state (label_of host)) }
+    ensures nodes { IfOk result (λ list. labels_of list.items
+        ≡ formattable_nodes doc.now.state (label_of host)) }
 {
     doc.valid();
     match (host, doc.points().selection()) {
@@ -93,7 +95,8 @@ pub fn first_formattable(
     host: Option<NodeRef>,
 ) -> Result<Option<NodeRef>, AllocError>
     requires { IfHeld doc.now host }
-    ensures { IfOk result (λ node. Finds doc.now node (first_formattable doc.now.state (label_of host))) }
+    ensures { IfOk result (λ node.
+        Finds doc.now node (first_formattable doc.now.state (label_of host))) }
 {
     doc.valid();
     match (host, doc.points().selection()) {

@@ -35,7 +35,8 @@ fn outermost_in<C: Choice<Doc>>(
     requires end { 0 < count_of doc.now.state.trees range.1.label }
     ensures held { IfOk result (λ list. EachHeld doc.now list) }
     ensures nodes { IfOk result
-        (λ list. labels_of list ≡ gathered.outermost_in (C.chosen choice.now doc.now) doc.now.state.trees range) }
+        (λ list. labels_of list
+        ≡ gathered.outermost_in (C.chosen choice.now doc.now) doc.now.state.trees range) }
 {
     gather_in(alloc, doc, range, choice)
 }

@@ -57,7 +57,8 @@ fn leaves_between(
     requires host_held { Holds doc.now host }
     requires placed { IsPlacedPair doc.now.state.trees pair }
     ensures held { IfOk result (λ list. EachHeld doc.now list.items) }
-    ensures nodes { IfOk result (λ list. labels_of list.items ≡ leaves_between doc.now.state.trees host.label pair) }
+    ensures nodes { IfOk result (λ list. labels_of list.items
+        ≡ leaves_between doc.now.state.trees host.label pair) }
 {
     let list = extended_nodes(alloc, doc, pair)?;
     sought_of(alloc, doc, host, Sought::Leaf, list.as_slice())
@@ -73,14 +74,16 @@ fn first_between(
 ) -> Result<Option<NodeRef>, AllocError>
     requires host_held { Holds doc.now host }
     requires placed { IsPlacedPair doc.now.state.trees pair }
-    ensures { IfOk result (λ node. Finds doc.now node (first_in (leaves_between doc.now.state.trees host.label pair))) }
+    ensures { IfOk result (λ node.
+        Finds doc.now node (first_in (leaves_between doc.now.state.trees host.label pair))) }
 {
     let list = extended_nodes(alloc, doc, pair)?;
     Ok(first_sought(doc, host, Sought::Leaf, list.as_slice()))
 }
 
-/// The visible nodes without children, editable with `host` as their editing host, that the block-extended active range
-/// contains, in tree order. There are none without a host and without a selection.
+/// The visible nodes without children, editable with `host` as their editing host, that the
+/// block-extended active range contains, in tree order. There are none without a host and without a
+/// selection.
 #[tactic(auto, unfolding(crate::specs::Leaves::leaves))]
 pub(crate) fn leaves(
     alloc: Global,
@@ -89,7 +92,8 @@ pub(crate) fn leaves(
 ) -> Result<Vec<NodeRef>, AllocError>
     requires { IfHeld doc.now host }
     ensures held { IfOk result (λ list. EachHeld doc.now list.items) }
-    ensures nodes { IfOk result (λ list. labels_of list.items ≡ leaves doc.now.state (label_of host)) }
+    ensures nodes { IfOk result (λ list. labels_of list.items
+        ≡ leaves doc.now.state (label_of host)) }
 {
     doc.valid();
     match (host, doc.points().selection()) {

@@ -152,7 +152,8 @@ pub fn list_members(
     requires start { 0 < count_of doc.now.state.trees range.0.label }
     requires end { 0 < count_of doc.now.state.trees range.1.label }
     ensures held { IfOk result (λ list. EachHeld doc.now list) }
-    ensures nodes { IfOk result (λ list. labels_of list ≡ lists.members_in doc.now.state.trees (label_of host) range) }
+    ensures nodes { IfOk result (λ list. labels_of list
+        ≡ lists.members_in doc.now.state.trees (label_of host) range) }
 {
     match host {
         Some(own) => gather_members(alloc, doc, own, range),
@@ -230,7 +231,8 @@ fn touches(doc: &Doc, ordered: bool, node: NodeRef) -> bool
     belongs(doc, ordered, node) || is_above_list(doc, ordered, node)
 }
 
-// Whether a node belongs to a list of this kind, and is no list of the other kind nor stands above one.
+// Whether a node belongs to a list of this kind, and is no list of the other kind nor stands above
+// one.
 #[tactic(auto, unfolding(crate::specs::ListStates::belongs_purely))]
 fn belongs_purely(doc: &Doc, ordered: bool, node: NodeRef) -> bool
     requires { Holds doc.now node }
@@ -243,7 +245,8 @@ fn belongs_purely(doc: &Doc, ordered: bool, node: NodeRef) -> bool
 #[tactic(auto, using(edit_model::proofs::Steps::labels_of_drop, edit_model::proofs::Steps::labels_of_end))]
 fn all_belong_purely(doc: &Doc, ordered: bool, list: &[NodeRef]) -> bool
     requires { EachHeld doc.now list.now }
-    ensures { result ≡ list_all (lists.belongs_purely ordered doc.now.state.trees) (labels_of list.now) }
+    ensures { result
+        ≡ list_all (lists.belongs_purely ordered doc.now.state.trees) (labels_of list.now) }
 {
     for node in list {
         if !belongs_purely(doc, ordered, *node) {
@@ -304,7 +307,8 @@ fn state_between(
     pair: Pair,
 ) -> Result<ListState, AllocError>
     requires { IsPlacedPair doc.now.state.trees pair }
-    ensures { IfOk result (λ state. state ≡ lists.state_by doc.now.state.trees (label_of host) (Some pair)) }
+    ensures { IfOk result (λ state. state
+        ≡ lists.state_by doc.now.state.trees (label_of host) (Some pair)) }
 {
     let list = list_members(alloc, doc, host, block_extend(doc, ends_of(doc, pair)))?;
     Ok(state_of_members(doc, list.as_slice()))

@@ -130,7 +130,8 @@ pub(crate) fn has_mixed(doc: &Doc, list: &[NodeRef]) -> bool
 // Whether a text is that of a value. Only the text of a colour is made for it.
 fn is_text_of(alloc: Global, value: Value<'_>, text: &[char]) -> Result<bool, AllocError>
     ensures { IfOk result
-        (λ same. same ≡ option_map_or (λ own. bytes_eq own text.now) (value_text value.entry) Bool.false) }
+        (λ same. same
+        ≡ option_map_or (λ own. bytes_eq own text.now) (value_text value.entry) Bool.false) }
 {
     Ok(match value {
         Value::Null => false,
@@ -144,7 +145,8 @@ fn is_text_of(alloc: Global, value: Value<'_>, text: &[char]) -> Result<bool, Al
 
 // Whether a value has this text; `None` is null.
 fn is_same_value(alloc: Global, value: Value<'_>, text: Option<&Chars>) -> Result<bool, AllocError>
-    ensures { IfOk result (λ same. same ≡ is_same_value (value_text value.entry) (option_copied text.entry)) }
+    ensures { IfOk result (λ same. same
+        ≡ is_same_value (value_text value.entry) (option_copied text.entry)) }
 {
     match text {
         Some(text) => is_text_of(alloc, value, text.as_slice()),
@@ -181,7 +183,8 @@ pub(crate) fn have_other_values(
     list: &[NodeRef],
 ) -> Result<bool, AllocError>
     requires { EachHeld doc.now list.now }
-    ensures { IfOk result (λ other. other ≡ have_other_values doc.now.state.trees command (labels_of list.now)) }
+    ensures { IfOk result (λ other. other
+        ≡ have_other_values doc.now.state.trees command (labels_of list.now)) }
 {
     match list {
         [] => Ok(false),

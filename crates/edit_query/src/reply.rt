@@ -7,7 +7,8 @@ use dom_model::Chars;
 use html_names::QueryKind;
 use std::alloc::Global;
 
-/// What a question about a command is answered (HTML Editing APIs, "methods to query and execute commands").
+/// What a question about a command is answered (HTML Editing APIs, "methods to query and execute
+/// commands").
 #[derive(Drop)]
 pub enum Reply {
     /// Whether it is so: of every kind of question but `value`.

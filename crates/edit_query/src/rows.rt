@@ -50,14 +50,15 @@ fn is_partly_aligned(
 ) -> Result<bool, AllocError>
     requires { IfHeld doc.now host }
     ensures { IfOk result
-        (λ flag. flag ≡ is_partly_aligned doc.now.state.trees wanted (leaves doc.now.state (label_of host))) }
+        (λ flag. flag
+        ≡ is_partly_aligned doc.now.state.trees wanted (leaves doc.now.state (label_of host))) }
 {
     let list = leaves(alloc, doc, host)?;
     Ok(is_partly(doc, Feature::Aligned(wanted), &list))
 }
 
-/// Whether a command is on at some and off at other nodes that it formats, or they have different values, types or
-/// alignments, or stand in lists in part.
+/// Whether a command is on at some and off at other nodes that it formats, or they have different
+/// values, types or alignments, or stand in lists in part.
 pub(crate) fn own_indeterm(
     alloc: Global,
     doc: &Doc,
@@ -106,7 +107,8 @@ fn is_on_at_start(doc: &Doc, command: Command) -> bool
     }
 }
 
-// Whether a command is on at all formattable nodes of a range, or where there is none at the active range's start.
+// Whether a command is on at all formattable nodes of a range, or where there is none at the active
+// range's start.
 #[tactic(auto, using(crate::proofs::Throughout::some, crate::proofs::Throughout::none), unfolding(crate::specs::Formattable::formattable_between))]
 fn is_on_between(
     alloc: Global,
@@ -154,7 +156,8 @@ fn are_aligned(
 ) -> Result<bool, AllocError>
     requires { IfHeld doc.now host }
     ensures { IfOk result
-        (λ flag. flag ≡ are_aligned doc.now.state.trees wanted (leaves doc.now.state (label_of host))) }
+        (λ flag. flag
+        ≡ are_aligned doc.now.state.trees wanted (leaves doc.now.state (label_of host))) }
 {
     let list = leaves(alloc, doc, host)?;
     Ok(!list.is_empty() && is_at_all(doc, Feature::Aligned(wanted), &list))
