@@ -1,5 +1,7 @@
+mod commands;
 mod documents;
 mod extending;
+mod fixtures;
 mod nodes;
 mod queries;
 mod styles;

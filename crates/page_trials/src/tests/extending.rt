@@ -1,10 +1,10 @@
 //! Block-extended ranges, and the outermost nodes of a list.
 
+use crate::tests::fixtures::{Look, Page, check_pages, labels, node_of, range_of};
 use block_extend::{Choice, block_extend, gather_in, is_above_prohibited};
 use node_arena::{Arena, NodeRef};
 use std::alloc::Global;
 use std::test::Fail;
-use trial_pages::{Look, Page, check_pages, labels, node_of, range_of};
 
 // A place: the label of a node and an offset.
 type At = (u32, u32);

@@ -1,5 +1,6 @@
 //! What is asked of inline commands.
 
+use crate::tests::fixtures::{Trial, begin, chars, found, page_of, point};
 use css_value::has_codes;
 use dom_model::Chars;
 use edit_doc::{Doc, Setting};
@@ -7,7 +8,6 @@ use edit_query::{Reply, query};
 use html_names::{Command, QueryKind};
 use std::alloc::{AllocError, Global};
 use std::test::Fail;
-use trial_pages::{Trial, begin, chars, found, page_of, point};
 
 // What an editing host of the label 1 holds, the ends of a range, a command, and its answers: whether it is
 // indeterminate, its state and its value.

@@ -1,5 +1,6 @@
 //! Command values.
 
+use crate::tests::fixtures::{Look, Page, chars, check_pages, node_of};
 use command_value::{
     alignment, alike, effective, equivalent, has_alike_value, is_activated, is_modifiable_element,
     is_simple_modifiable_element, meets_value, specified, specifies, specifies_other,
@@ -9,7 +10,6 @@ use html_names::Command;
 use node_arena::Arena;
 use std::alloc::{AllocError, Global};
 use std::test::Fail;
-use trial_pages::{Look, Page, chars, check_pages, node_of};
 
 // The label of a node, a command, its effective and its specified value.
 struct Valued(u32, Command, Option<&'static str>, Option<&'static str>);

@@ -3,10 +3,10 @@
 ghost use Rattle.edit_doc.specs.Held.{Keeps};
 ghost use Rattle.edit_doc.specs.Whole.{IsOpen};
 
+use crate::tests::fixtures::node_of;
 use edit_doc::{Chars, Doc, Name};
 use std::alloc::Global;
 use std::test::Fail;
-use trial_pages::node_of;
 
 /// An edit of the nodes of these labels. The label 0 before which nothing can stand says that a node goes to the end.
 pub enum Act {

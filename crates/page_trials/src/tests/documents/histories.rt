@@ -4,6 +4,7 @@ ghost use Rattle.std.specs.Prelude.{◌≡◌, ◌<◌, IfOk};
 ghost use Rattle.edit_doc.specs.Whole.{IsClosed, IsOpen};
 
 use super::acts::{Act, make_each};
+use crate::tests::fixtures::{Trial, begin, found, point};
 use edit_doc::{Chars, Committed, Doc, Flags, Pair, Setting};
 use html_names::Command;
 use page_write::write_html;
@@ -12,7 +13,6 @@ use std::marker::Brand;
 use std::sync::ledger::{Blank, Ledger};
 use std::test::Fail;
 use step_count::Steps;
-use trial_pages::{Trial, begin, found, point};
 
 // 1 div (2 "ab", 3 b (4 "cd"), 5 i (6 "ef"), 7 p (8 "gh", 9 img))
 const PAGE: &str =

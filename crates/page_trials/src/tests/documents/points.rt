@@ -1,10 +1,10 @@
 //! What edits do to points at every place of a page.
 
 use super::acts::{Act, make_act};
+use crate::tests::fixtures::{Trial, begin, found};
 use edit_doc::{Doc, Point};
 use std::alloc::Global;
 use std::test::Fail;
-use trial_pages::{Trial, begin, found};
 
 // 1 div (2 "ab", 3 b (4 "cd"), 5 i (6 "ef"))
 const PAGE: &str = "<div contenteditable=\"true\">ab<b>cd</b><i>ef</i></div>";

@@ -1,9 +1,9 @@
 //! Tails that are extracted.
 
+use crate::tests::fixtures::{Act, Row, check_rows, node_of, point};
 use edit_doc::{Attributes, Doc, Name};
 use std::alloc::Global;
 use std::test::Fail;
-use trial_pages::{Act, Row, check_rows, node_of, point};
 
 // The tail of the node of a label from a point on goes to a new div at the end of the host.
 struct Tail(u32, (u32, u32));

@@ -1,10 +1,10 @@
 //! Which nodes follow and precede line breaks.
 
+use crate::tests::fixtures::{Look, Page, check_pages, node_of};
 use node_arena::Arena;
 use node_tests::{follows_break, precedes_break};
 use std::alloc::Global;
 use std::test::Fail;
-use trial_pages::{Look, Page, check_pages, node_of};
 
 // Nodes by their labels, with whether each follows and precedes a line break.
 struct Beside(&'static [(u32, bool, bool)]);

@@ -4,12 +4,12 @@ ghost use Rattle.std.specs.Prelude.{IfOk};
 ghost use Rattle.edit_doc.specs.Held.{Holds};
 ghost use Rattle.edit_doc.specs.Whole.{IsClosed};
 
+use crate::tests::fixtures::{Trial, begin, found, range_of};
 use edit_doc::{Attributes, Doc, Name, NodeRef};
 use node_tests::{contained_nodes, effective_nodes, resolved};
 use std::alloc::Global;
 use std::test::Fail;
 use style_table::Property;
-use trial_pages::{Trial, begin, found, range_of};
 
 // A loose `b` with a text in it, in a document that is empty.
 fn bold_text(doc: &mut Doc, alloc: Global) -> Result<(NodeRef, NodeRef), Fail>

@@ -3,12 +3,12 @@
 ghost use Rattle.std.specs.Prelude.{◌<◌};
 ghost use Rattle.dom_model.specs.Forest.{count_of};
 
+use crate::tests::fixtures::{Look, Page, check_pages, labels, point_of, range_of};
 use live_range::Point;
 use node_arena::Arena;
 use node_tests::*;
 use std::alloc::{AllocError, Global};
 use std::test::Fail;
-use trial_pages::{Look, Page, check_pages, labels, point_of, range_of};
 
 // Points, each the label of a node and an offset, with whether it is a block start point and a block end point.
 struct Points(&'static [(u32, u32, bool, bool)]);

@@ -2,11 +2,11 @@
 
 ghost use Rattle.node_arena.specs.Held.{Holds};
 
+use crate::tests::fixtures::{Look, Page, check_pages, node_of};
 use node_arena::{Arena, NodeRef};
 use node_tests::*;
 use std::alloc::{AllocError, Global};
 use std::test::Fail;
-use trial_pages::{Look, Page, check_pages, node_of};
 
 // Nodes by their labels with the letters of the tests that each meets: editable, block, visible, whitespace, collapsed
 // whitespace, extraneous break (x), collapsed break (k), collapsed block prop.

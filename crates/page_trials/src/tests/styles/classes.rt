@@ -1,10 +1,10 @@
 //! The classes of elements, and which nodes may stand in which.
 
+use crate::tests::fixtures::{Look, Page, check_pages, node_of};
 use node_arena::Arena;
 use node_tests::*;
 use std::alloc::Global;
 use std::test::Fail;
-use trial_pages::{Look, Page, check_pages, node_of};
 
 const MIXED: &str =
     "<table> <tr><td>a</td></tr></table><ul><li>b</li></ul><a href=\"u\"><b>c</b></a><h1>d</h1><p>e</p>";

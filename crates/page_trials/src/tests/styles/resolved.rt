@@ -1,11 +1,11 @@
 //! Resolved styles.
 
+use crate::tests::fixtures::{Look, Page, chars, check_pages, node_of};
 use node_arena::Arena;
 use node_tests::*;
 use std::alloc::Global;
 use std::test::Fail;
 use style_table::Property;
-use trial_pages::{Look, Page, chars, check_pages, node_of};
 
 // A property, and its resolved value at the node of a label.
 struct Resolved(Property, u32, &'static str);

@@ -2,9 +2,9 @@
 
 ghost use Rattle.edit_doc.specs.Whole.{IsOpen};
 
+use crate::tests::fixtures::{Act, Row, check_rows, node_of};
 use std::alloc::Global;
 use std::test::Fail;
-use trial_pages::{Act, Row, check_rows, node_of};
 use wrap_split::{Doc, breaks_at_end, breaks_before};
 
 // Removes the line breaks before the node of a label.

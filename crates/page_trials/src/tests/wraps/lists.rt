@@ -1,10 +1,10 @@
 //! Lists that are wrapped.
 
 use super::listed;
+use crate::tests::fixtures::{Act, Row, check_rows};
 use dom_model::{Attributes, Name};
 use std::alloc::{AllocError, Global};
 use std::test::Fail;
-use trial_pages::{Act, Row, check_rows};
 use wrap_split::{
     Blank, CopyMade, Doc, IndentationSibling, NamedSibling, NoSibling, NothingMade, WrapRule, wrap,
 };

@@ -4,9 +4,9 @@ ghost use Rattle.std.specs.Prelude.{IfOk};
 ghost use Rattle.edit_doc.specs.Whole.{IsOpen};
 
 use super::listed;
+use crate::tests::fixtures::{Act, Row, check_rows, node_of};
 use std::alloc::{AllocError, Global};
 use std::test::Fail;
-use trial_pages::{Act, Row, check_rows, node_of};
 use wrap_split::{Doc, remove_keeping_children, split_parent};
 
 static SPLITS: [Row<Split>; 21] = [

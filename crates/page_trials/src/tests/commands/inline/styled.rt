@@ -1,11 +1,11 @@
 //! Values that are forced while the CSS styling flag is set.
 
 use super::{Change, How};
+use crate::tests::fixtures::{Act, Row, check_rows};
 use edit_doc::{Doc, Flags};
 use html_names::Command;
 use std::alloc::Global;
 use std::test::Fail;
-use trial_pages::{Act, Row, check_rows};
 
 // A change under the flag.
 struct Styled(Change);

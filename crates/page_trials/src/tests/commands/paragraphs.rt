@@ -2,11 +2,11 @@
 //! range stand by labels (1 is the host), where the caret stands once a paragraph was inserted, and
 //! what the host then holds. The nodes that are made have the labels that come next.
 
+use crate::tests::fixtures::{Act, At, Row, check_rows, point, selects};
 use edit_doc::{Doc, Flags};
 use std::alloc::Global;
 use std::test::Fail;
 use text_insertion::insert_paragraph;
-use trial_pages::{Act, At, Row, check_rows, point, selects};
 
 // The ends of a range that is parted, and the caret after it.
 struct Parted(At, At, At);

@@ -1,9 +1,9 @@
 //! Values that stand in one another.
 
 use super::{Change, How};
+use crate::tests::fixtures::{Row, check_rows};
 use html_names::Command;
 use std::test::Fail;
-use trial_pages::{Row, check_rows};
 
 static NESTED: [Row<Change>; 24] = [
     // values of the pages at which values are told

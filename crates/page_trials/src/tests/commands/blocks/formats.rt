@@ -2,8 +2,8 @@
 
 use super::Block::{Format, Refused};
 use super::Lines;
+use crate::tests::fixtures::{Row, check_rows};
 use std::test::Fail;
-use trial_pages::{Row, check_rows};
 
 static FORMATTED: [Row<Lines>; 47] = [
     // lines of a host, and paragraphs; values in any case, with or without angle brackets

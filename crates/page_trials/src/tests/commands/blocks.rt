@@ -7,6 +7,7 @@ mod indents;
 ghost use Rattle.std.specs.Prelude.{IfOk};
 ghost use Rattle.edit_doc.specs.Whole.{IsOpen};
 
+use crate::tests::fixtures::{Act, Row, begin_in, chars, check_rows, node_of, point};
 use Block::{Align, Format, Indent, Outdent, Refused};
 use block_commands::{format_block, justify};
 use css_value::TextAlign;
@@ -14,7 +15,6 @@ use edit_doc::{Attributes, Doc, EditFault, Name};
 use list_indent::{indent, outdent};
 use std::alloc::Global;
 use std::test::Fail;
-use trial_pages::{Act, Row, begin_in, chars, check_rows, node_of, point};
 
 // What is done to the lines of a range.
 #[derive(Clone, Copy)]

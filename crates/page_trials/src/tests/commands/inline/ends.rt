@@ -1,10 +1,10 @@
 //! The ends of the active range, at which texts are split.
 
+use crate::tests::fixtures::{Act, Row, check_rows, point};
 use edit_doc::{Doc, Pair};
 use inline_value::split_ends;
 use std::alloc::Global;
 use std::test::Fail;
-use trial_pages::{Act, Row, check_rows, point};
 
 // The anchor and the focus, and those once both ends are split; and the label that then comes next, which tells how
 // many texts were split.

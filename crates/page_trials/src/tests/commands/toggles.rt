@@ -2,11 +2,11 @@
 //! an ordered one, the ends of a range by labels (1 is the host) before and after it, and what the
 //! host then holds.
 
+use crate::tests::fixtures::{Act, At, Row, check_rows, point, selects};
 use edit_doc::Doc;
 use list_toggle::toggle_lists;
 use std::alloc::Global;
 use std::test::Fail;
-use trial_pages::{Act, At, Row, check_rows, point, selects};
 
 // Whether the list is ordered, and the ends of the range before and after it.
 struct Toggled(bool, (At, At), (At, At));

@@ -1,9 +1,9 @@
-//! What `page_trials` and `command_trials` share: pages, their nodes, documents of them, and tables of what is done
-//! to documents.
+//! What the tests share: pages, their nodes, documents of them, and tables of what is done to
+//! documents.
 //!
-//! Pages and documents are let go here alone, each on one way: where one goes, its proof takes up to a minute, and
-//! again on each way out of the function that owns it. So tests say by a trait what they do with one.
-#![tactic(auto)]
+//! Pages and documents are let go here alone, each on one way: where one goes, its proof takes up to
+//! a minute, and again on each way out of the function that owns it. So tests say by a trait what
+//! they do with one.
 
 ghost use Rattle.std.specs.Prelude.{◌≡◌, ◌<◌, IfOk};
 ghost use Rattle.dom_model.specs.Forest.{count_of};

@@ -3,6 +3,7 @@
 
 ghost use Rattle.edit_doc.specs.Whole.{IsOpen};
 
+use crate::tests::fixtures::{Act, Row, chars, check_rows, point};
 use edit_doc::{Doc, EditFault, Setting};
 use html_names::Command;
 use inline_commands::{
@@ -11,7 +12,6 @@ use inline_commands::{
 use inline_value::record_states;
 use std::alloc::Global;
 use std::test::Fail;
-use trial_pages::{Act, Row, chars, check_rows, point};
 
 // The action of a command with a value on a range, and what it answers.
 struct Action((u32, u32), (u32, u32), Command, &'static str, bool);

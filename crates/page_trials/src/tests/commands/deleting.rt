@@ -3,6 +3,7 @@
 
 ghost use Rattle.edit_doc.specs.Whole.{IsOpen};
 
+use crate::tests::fixtures::{Act, At, Row, check_rows, point, selects};
 use delete_core::{
     canonical_spaces, canonicalize, delete_selection, first_equivalent, last_equivalent,
 };
@@ -11,7 +12,6 @@ use html_names::Command;
 use std::alloc::Global;
 use std::test::Fail;
 use text_commands::delete;
-use trial_pages::{Act, At, Row, check_rows, point, selects};
 
 // The command with an anchor and a focus, and those that it leaves.
 struct Delete(At, At, At, At);

@@ -2,11 +2,11 @@
 
 use super::Block::{Indent, Outdent};
 use super::Lines;
+use crate::tests::fixtures::{Act, Row, check_rows, node_of};
 use edit_doc::{Doc, Flags};
 use list_indent::normalize_sublists;
 use std::alloc::Global;
 use std::test::Fail;
-use trial_pages::{Act, Row, check_rows, node_of};
 
 static INDENTED: [Row<Lines>; 37] = [
     // lines come into a blockquote

@@ -2,9 +2,9 @@
 
 use super::Block::Align;
 use super::Lines;
+use crate::tests::fixtures::{Row, check_rows};
 use css_value::TextAlign;
 use std::test::Fail;
-use trial_pages::{Row, check_rows};
 
 static ALIGNED: [Row<Lines>; 36] = [
     // lines come into a div

@@ -5,6 +5,7 @@
 ghost use Rattle.std.specs.Prelude.{IfOk};
 ghost use Rattle.edit_doc.specs.Whole.{IsOpen};
 
+use crate::tests::fixtures::{Act, At, Row, chars, check_rows, point, selects};
 use Override::{Off, On, Wording};
 use dom_model::Chars;
 use edit_doc::{Doc, Setting};
@@ -12,7 +13,6 @@ use html_names::Command;
 use std::alloc::{AllocError, Global};
 use std::test::Fail;
 use text_insertion::insert_text;
-use trial_pages::{Act, At, Row, chars, check_rows, point, selects};
 
 // A text that is typed over a range, and the caret after it.
 struct Typed(At, At, &'static str, At);

@@ -10,6 +10,7 @@ ghost use Rattle.std.specs.Prelude.{IfOk};
 ghost use Rattle.edit_doc.specs.Held.{EachHeld, Holds};
 ghost use Rattle.edit_doc.specs.Whole.{IsOpen};
 
+use crate::tests::fixtures::{Act, Row, chars, check_rows, node_of, point};
 use edit_doc::{Doc, EditFault, NodeRef};
 use html_names::Command;
 use inline_value::{
@@ -17,7 +18,6 @@ use inline_value::{
 };
 use std::alloc::{AllocError, Global};
 use std::test::Fail;
-use trial_pages::{Act, Row, chars, check_rows, node_of, point};
 use wrap_split::remove_keeping_children;
 
 // What is done to a node.

@@ -1,9 +1,9 @@
 //! Islands and nested hosts in the way of values.
 
 use super::{Change, How};
+use crate::tests::fixtures::{Row, check_rows};
 use html_names::Command;
 use std::test::Fail;
-use trial_pages::{Row, check_rows};
 
 static LOCKED: [Row<Change>; 16] = [
     // the value goes from the text, and stays on what stands beside it

@@ -4,12 +4,12 @@
 
 ghost use Rattle.edit_doc.specs.Whole.{IsOpen};
 
+use crate::tests::fixtures::{Act, At, Row, chars, check_rows, point, selects};
 use Object::{Image, LineBreak, Refused, Rule};
 use edit_doc::Doc;
 use insert_objects::{insert_horizontal_rule, insert_image, insert_line_break};
 use std::alloc::Global;
 use std::test::Fail;
-use trial_pages::{Act, At, Row, chars, check_rows, point, selects};
 
 // What is inserted.
 #[derive(Clone, Copy)]

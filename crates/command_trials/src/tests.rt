@@ -1,8 +1,0 @@
-mod blocks;
-mod commands;
-mod deleting;
-mod inline;
-mod objects;
-mod paragraphs;
-mod toggles;
-mod typing;
