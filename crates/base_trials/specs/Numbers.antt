@@ -22,11 +22,14 @@ swapped_twice f g h i j n p q =
       ]
     ]
 
-pub swap_twice : (xs : List ℕ) (i j : ℕ) → i < length xs → j < length xs → swap (swap xs i j) i j ≡ xs
+pub swap_twice : (xs : List ℕ) (i j : ℕ) → i < length xs → j < length xs → swap (swap xs i j) i j
+    ≡ xs
 swap_twice xs i j h k =
     let ys = swap xs i j in
     let l : length ys ≡ length xs = length-swap xs i j in
     let h' : i < length ys = omega arith in
     let k' : j < length ys = omega arith in
     same_lists (swap ys i j) xs (length-swap ys i j ∙ l)
-    (λ n d lt. swapped_twice (λ m. get_or xs m d) (λ m. get_or ys m d) (λ m. get_or (swap ys i j) m d) i j n (swapped_from_swap xs ys i j d h k refl) (swapped_from_swap ys (swap ys i j) i j d h' k' refl))
+    (λ n d lt. swapped_twice (λ m. get_or xs m d) (λ m. get_or ys m d) (λ m.
+    get_or (swap ys i j) m d) i j n (swapped_from_swap xs ys i j d h k refl)
+    (swapped_from_swap ys (swap ys i j) i j d h' k' refl))

@@ -1,11 +1,13 @@
-//! Tests of the libraries below pages and documents: values, names, points, nodes, steps, logs, and the lines and pages
-//! that are read. They stand in a crate of their own, since a crate with tests is proved twice.
+//! Tests of the libraries below pages and documents: values, names, points, nodes, steps, logs, and
+//! the lines and pages that are read. They stand in a crate of their own, since a crate with tests
+//! is proved twice.
 //!
-//! A module a library or two: `values` for `css_value`, `names` for `html_names`, `style_table` and `command_gate`,
-//! `texts` for `escaped_text` and `dom_model`, `streams` for `edit_io`, `points` for `live_range`, `logs` for `undo_log`
-//! and `step_count`, `arenas` for `node_arena` and `point_order`, `styles` for `node_styles`, `steps` for `edit_steps`,
-//! `parts` for `edit_parts`, `pages` for `page_read` and `page_write`, `acts` for `script_read`, `lines` and `applying`
-//! for `step_text`, `faults` for what the faults of all of them print. `trees` makes the nodes.
+//! A module a library or two: `values` for `css_value`, `names` for `html_names`, `style_table` and
+//! `command_gate`, `texts` for `escaped_text` and `dom_model`, `streams` for `edit_io`, `points`
+//! for `live_range`, `logs` for `undo_log` and `step_count`, `arenas` for `node_arena` and
+//! `point_order`, `styles` for `node_styles`, `steps` for `edit_steps`, `parts` for `edit_parts`,
+//! `pages` for `page_read` and `page_write`, `acts` for `script_read`, `lines` and `applying` for
+//! `step_text`, `faults` for what the faults of all of them print. `trees` makes the nodes.
 #![tactic(auto)]
 
 #[cfg(test)]

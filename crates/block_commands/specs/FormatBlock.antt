@@ -30,7 +30,8 @@ use Rattle.block_commands.specs.Series.{is_next_on_line, in_turns}
 
 unfoldable pub unbracketed : List ℕ → List ℕ
 unbracketed value =
-    if nat_le 2 (length value) && ((slice_index value 0 == 60) && (slice_index value (length value - 1) == 62))
+    if nat_le 2 (length value)
+    && ((slice_index value 0 == 60) && (slice_index value (length value - 1) == 62))
     then take (length value - 2) (drop 1 value)
     else value
 
@@ -52,7 +53,8 @@ is_formatted s l = is_editable_for s l && (is_line s.trees l && not (is_above_pr
 
 -- an editable block with no other block in it
 unfoldable pub is_outer_block : State → ℕ → Bool
-is_outer_block s e = is_editable_for s e && (is_formattable_block s.trees e && not (is_above_prohibited s.trees e))
+is_outer_block s e =
+    is_editable_for s e && (is_formattable_block s.trees e && not (is_above_prohibited s.trees e))
 
 abbrev pub lineage_at : Forest Content → Option ℕ → List Ancestor
 lineage_at f None = []
@@ -60,7 +62,8 @@ lineage_at f (Some p) = lineage f p
 
 -- an ancestor is one
 unfoldable pub has_outer_block : State → ℕ → Bool
-has_outer_block s n = list_any (λ k. is_outer_block s k.label) (lineage_at s.trees (parent_of s.trees n))
+has_outer_block s n =
+    list_any (λ k. is_outer_block s k.label) (lineage_at s.trees (parent_of s.trees n))
 
 -- formatBlock, step 3: one node
 unfoldable pub leave_blocks : ℕ → Run (Unit {0})
@@ -86,7 +89,8 @@ is_apart name = bytes_eq name (codes "div") || bytes_eq name (codes "p")
 -- step 4 c
 unfoldable pub wrap_block : List ℕ → List ℕ → Run (Option ℕ)
 wrap_block name list =
-    if is_apart name then wrap Never (Make (bare name)) list else wrap (Named name true) (Make (bare name)) list
+    if is_apart name then wrap Never (Make (bare name)) list
+    else wrap (Named name true) (Make (bare name)) list
 
 -- step 4 d
 unfoldable pub fixed : Option ℕ → Run (Unit {0})
@@ -117,7 +121,8 @@ format_series name list = look λ s.
 -- formatBlock, step 4: one turn, with the first member; it answers what is left of the list
 unfoldable pub format_first : List ℕ → List ℕ → ℕ → Run (List ℕ)
 format_first name list x = look λ s.
-    if is_single_line s.trees x then (format_container name x >> answer (drop 1 list)) else format_series name list
+    if is_single_line s.trees x then (format_container name x >> answer (drop 1 list))
+    else format_series name list
 
 -- formatBlock, step 4: one turn
 unfoldable pub format_next : List ℕ → List ℕ → Run (List ℕ)
@@ -138,4 +143,5 @@ format_to name = look λ s. format_list name (outermost (is_formatted s) s) >> a
 -- formatBlock, step 1, and then from 2 on
 unfoldable pub format_block : List ℕ → Run Bool
 format_block value =
-    if names.is_formattable_block (block_name value) then format_to (block_name value) else answer false
+    if names.is_formattable_block (block_name value) then format_to (block_name value)
+    else answer false

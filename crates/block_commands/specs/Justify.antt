@@ -34,11 +34,13 @@ sets_alignment text = is_some (style.value_of (style.declarations_in text) (code
 
 abbrev pub has_alignment : List Attribute → Bool
 has_alignment list =
-    is_some (value_of list (codes "align")) || option_map_or sets_alignment (value_of list (codes "style")) false
+    is_some (value_of list (codes "align"))
+    || option_map_or sets_alignment (value_of list (codes "style")) false
 
 -- or a center
 unfoldable pub gives_alignment : State → ℕ → Bool
-gives_alignment s e = has_alignment (attribute_list_of s.trees e) || has_name s.trees e (codes "center")
+gives_alignment s e =
+    has_alignment (attribute_list_of s.trees e) || has_name s.trees e (codes "center")
 
 unfoldable pub is_aligning : State → ℕ → Bool
 is_aligning s e = gives_alignment s e && is_editable_for s e
@@ -47,11 +49,13 @@ is_aligning s e = gives_alignment s e && is_editable_for s e
 unfoldable pub is_plain : Forest Content → ℕ → Bool
 is_plain f e =
     is_without_attributes f e
-    && (has_name f e (codes "div") || (has_name f e (codes "span") || has_name f e (codes "center")))
+    && (has_name f e (codes "div")
+    || (has_name f e (codes "span") || has_name f e (codes "center")))
 
 -- justify, step 1: a center becomes a div
 unfoldable pub name_div : ℕ → Run (Unit {0})
-name_div e = look λ s. if has_name s.trees e (codes "center") then set_tag_name e (codes "div") >> done else done
+name_div e = look λ s. if has_name s.trees e (codes "center") then
+    set_tag_name e (codes "div") >> done else done
 
 -- justify, step 1: a plain element goes, and its children stay
 unfoldable pub drop_plain : ℕ → Run (Unit {0})
@@ -73,7 +77,8 @@ clear_alignments = look λ s. for_each (contained (is_aligning s) s) clear_align
 unfoldable pub is_misaligned : List ℕ → State → ℕ → Bool
 is_misaligned alignment s l =
     is_editable_for s l
-    && (allowed_in_name s.trees l (codes "div") && not (bytes_eq (alignment_value s.trees l) alignment))
+    && (allowed_in_name s.trees l (codes "div")
+    && not (bytes_eq (alignment_value s.trees l) alignment))
 
 -- ---- justify, step 3: they are wrapped, series by series
 
@@ -81,7 +86,11 @@ is_misaligned alignment s l =
 abbrev pub aligned_div : List ℕ → Blank
 aligned_div alignment = record {
   name = codes "div";
-  attributes = record { name = codes "style"; value = codes "text-align: " ++ (alignment ++ codes ";") } ∷ [];
+  attributes = record {
+    name = codes "style";
+    value = codes "text-align: "
+        ++ (alignment ++ codes ";");
+  } ∷ [];
 }
 
 -- justify, step 3: a series is wrapped

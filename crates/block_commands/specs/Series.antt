@@ -7,9 +7,11 @@ use Rattle.edit_model.specs.State.{State}
 use Rattle.block_extend.specs.Series.{is_next}
 use Rattle.wrap_split.specs.Walks.{turn_bound}
 
--- y is the next sibling of x, and on one line with it: y is no single-line container, and x is no br
+-- y is the next sibling of x, and on one line with it: y is no single-line container, and x is no
+-- br
 unfoldable pub is_next_on_line : State → ℕ → ℕ → Bool
-is_next_on_line s x y = is_next s.trees x y && (not (is_single_line s.trees y) && not (is_break s.trees x))
+is_next_on_line s x y =
+    is_next s.trees x y && (not (is_single_line s.trees y) && not (is_break s.trees x))
 
 abbrev pub has_members : State → List ℕ → Bool
 has_members s [] = false

@@ -23,7 +23,8 @@ use wrap_split::{Blank, Meets};
 
 // Whether two texts are the same without regard to ASCII case.
 fn is_same_in_any_case(text: &[char], other: &[char]) -> bool
-    ensures { result ≡ bytes_eq (map to_ascii_lowercase text.now) (map to_ascii_lowercase other.now) }
+    ensures { result
+        ≡ bytes_eq (map to_ascii_lowercase text.now) (map to_ascii_lowercase other.now) }
 {
     if text.len() != other.len() {
         return false;
@@ -60,7 +61,8 @@ fn aligns(name: &[u8], value: &[char], alignment: &[char]) -> bool
 
 // Whether the attribute at a place aligns so.
 fn aligns_at(attributes: &Attributes, place: usize, alignment: &[char]) -> bool
-    ensures { result ≡ option_map_or (target.aligns alignment.now) (slice_get attributes.now place) false }
+    ensures { result
+        ≡ option_map_or (target.aligns alignment.now) (slice_get attributes.now place) false }
 {
     match attributes.at(place) {
         Some((name, value)) => aligns(name, value.as_slice(), alignment),

@@ -43,7 +43,8 @@ fn leave_blocks(alloc: Global, doc: &mut Doc, node: NodeRef) -> Result<(), EditF
 fn leave_each(alloc: Global, doc: &mut Doc, list: &[NodeRef]) -> Result<(), EditFault>
     requires open { IsOpen doc.old }
     requires list_held { EachHeld doc.old list.now }
-    ensures gives { Gives result doc.old.state doc.new.state (format.leave_each (labels_of list.now)) }
+    ensures gives { Gives result doc.old.state doc.new.state
+        (format.leave_each (labels_of list.now)) }
     ensures keeps { Keeps doc.old doc.new }
 {
     for node in list {
@@ -57,7 +58,8 @@ fn leave_each(alloc: Global, doc: &mut Doc, list: &[NodeRef]) -> Result<(), Edit
 fn split_blocks(alloc: Global, doc: &mut Doc, list: &[NodeRef]) -> Result<(), EditFault>
     requires open { IsOpen doc.old }
     requires list_held { EachHeld doc.old list.now }
-    ensures gives { Gives result doc.old.state doc.new.state (format.split_blocks (labels_of list.now)) }
+    ensures gives { Gives result doc.old.state doc.new.state
+        (format.split_blocks (labels_of list.now)) }
     ensures keeps { Keeps doc.old doc.new }
 {
     let values = record_values(alloc, doc, list)?;
@@ -65,7 +67,8 @@ fn split_blocks(alloc: Global, doc: &mut Doc, list: &[NodeRef]) -> Result<(), Ed
     restore_values(alloc, doc, &values)
 }
 
-// Step 4 c: a list is wrapped in an element of the name; but for div and p, one beside it without attributes serves.
+// Step 4 c: a list is wrapped in an element of the name; but for div and p, one beside it without
+// attributes serves.
 #[tactic(auto, using(edit_model::proofs::Steps::steps, edit_model::proofs::Steps::exits), unfolding(crate::specs::FormatBlock::wrap_block, crate::specs::FormatBlock::is_apart))]
 fn wrap_block(
     alloc: Global,
@@ -75,7 +78,8 @@ fn wrap_block(
 ) -> Result<Option<NodeRef>, EditFault>
     requires open { IsOpen doc.old }
     requires list_held { EachHeld doc.old list.now }
-    ensures gives { GivesMaybe result doc.old.state doc.new.state (format.wrap_block name.now (labels_of list.now)) }
+    ensures gives { GivesMaybe result doc.old.state doc.new.state
+        (format.wrap_block name.now (labels_of list.now)) }
     ensures held { IfOk result (λ made. IfHeld doc.new made) }
     ensures keeps { Keeps doc.old doc.new }
 {
@@ -99,7 +103,8 @@ fn wrap_block(
 fn make_block(alloc: Global, doc: &mut Doc, name: &Name, list: &[NodeRef]) -> Result<(), EditFault>
     requires open { IsOpen doc.old }
     requires list_held { EachHeld doc.old list.now }
-    ensures gives { Gives result doc.old.state doc.new.state (format.made_block name.now (labels_of list.now)) }
+    ensures gives { Gives result doc.old.state doc.new.state
+        (format.made_block name.now (labels_of list.now)) }
     ensures keeps { Keeps doc.old doc.new }
 {
     match wrap_block(alloc, doc, name, list)? {
@@ -140,7 +145,8 @@ fn format_container(
 ) -> Result<(), EditFault>
     requires open { IsOpen doc.old }
     requires node_held { Holds doc.old node }
-    ensures gives { Gives result doc.old.state doc.new.state (format.format_container name.now node.label) }
+    ensures gives { Gives result doc.old.state doc.new.state
+        (format.format_container name.now node.label) }
     ensures keeps { Keeps doc.old doc.new }
 {
     let children = doc.children_of(node)?;
@@ -157,7 +163,8 @@ fn format_series(
 ) -> Result<usize, EditFault>
     requires open { IsOpen doc.old }
     requires list_held { EachHeld doc.old list.now }
-    ensures gives { GivesAs (λ count. labels_of (drop count list.now)) result doc.old.state doc.new.state
+    ensures gives { GivesAs (λ count. labels_of (drop count list.now)) result doc.old.state
+        doc.new.state
         (format.format_series name.now (labels_of list.now)) }
     ensures within { IfOk result (λ count. count ≤ length list.now) }
     ensures keeps { Keeps doc.old doc.new }
@@ -180,7 +187,8 @@ fn format_first(
     requires list_held { EachHeld doc.old list.now }
     requires first_held { Holds doc.old first }
     requires some { 0 < length list.now }
-    ensures gives { GivesAs (λ count. labels_of (drop count list.now)) result doc.old.state doc.new.state
+    ensures gives { GivesAs (λ count. labels_of (drop count list.now)) result doc.old.state
+        doc.new.state
         (format.format_first name.now (labels_of list.now) first.label) }
     ensures within { IfOk result (λ count. count ≤ length list.now) }
     ensures keeps { Keeps doc.old doc.new }
@@ -215,7 +223,8 @@ impl<'a> Turn for FormatTurn<'a> {
 fn format_all(alloc: Global, doc: &mut Doc, name: &Name, list: &[NodeRef]) -> Result<(), EditFault>
     requires open { IsOpen doc.old }
     requires list_held { EachHeld doc.old list.now }
-    ensures gives { Gives result doc.old.state doc.new.state (format.format_all name.now (labels_of list.now)) }
+    ensures gives { Gives result doc.old.state doc.new.state
+        (format.format_all name.now (labels_of list.now)) }
     ensures keeps { Keeps doc.old doc.new }
 {
     in_turns(alloc, doc, &FormatTurn { name }, list)
@@ -226,7 +235,8 @@ fn format_all(alloc: Global, doc: &mut Doc, name: &Name, list: &[NodeRef]) -> Re
 fn format_list(alloc: Global, doc: &mut Doc, name: &Name, list: &[NodeRef]) -> Result<(), EditFault>
     requires open { IsOpen doc.old }
     requires list_held { EachHeld doc.old list.now }
-    ensures gives { Gives result doc.old.state doc.new.state (format.format_list name.now (labels_of list.now)) }
+    ensures gives { Gives result doc.old.state doc.new.state
+        (format.format_list name.now (labels_of list.now)) }
     ensures keeps { Keeps doc.old doc.new }
 {
     split_blocks(alloc, doc, list)?;

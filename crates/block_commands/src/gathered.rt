@@ -44,7 +44,8 @@ pub fn contained_in<C: Choice<Doc>>(
     requires end { 0 < count_of doc.now.state.trees range.1.label }
     ensures held { IfOk result (λ list. EachHeld doc.now list.items) }
     ensures nodes { IfOk result
-        (λ list. labels_of list.items ≡ gathered.contained_in (C.chosen choice.now doc.now) doc.now.state.trees range) }
+        (λ list. labels_of list.items
+        ≡ gathered.contained_in (C.chosen choice.now doc.now) doc.now.state.trees range) }
 {
     let list = contained_nodes(alloc, doc, range)?;
     chosen_of(alloc, doc, choice, list.as_slice())
@@ -60,7 +61,8 @@ pub(crate) fn contained<C: Choice<Doc>>(
 ) -> Result<Vec<NodeRef>, AllocError>
     ensures held { IfOk result (λ list. EachHeld doc.now list.items) }
     ensures nodes { IfOk result
-        (λ list. labels_of list.items ≡ gathered.contained (C.chosen choice.now doc.now) doc.now.state) }
+        (λ list. labels_of list.items
+        ≡ gathered.contained (C.chosen choice.now doc.now) doc.now.state) }
 {
     doc.valid();
     match doc.points().selection() {

@@ -82,7 +82,8 @@ fn clear_alignment(alloc: Global, doc: &mut Doc, node: NodeRef) -> Result<(), Ed
 fn clear_each(alloc: Global, doc: &mut Doc, list: &[NodeRef]) -> Result<(), EditFault>
     requires open { IsOpen doc.old }
     requires list_held { EachHeld doc.old list.now }
-    ensures gives { Gives result doc.old.state doc.new.state (for_each (labels_of list.now) justify.clear_alignment) }
+    ensures gives { Gives result doc.old.state doc.new.state
+        (for_each (labels_of list.now) justify.clear_alignment) }
     ensures keeps { Keeps doc.old doc.new }
 {
     for node in list {
@@ -112,7 +113,8 @@ fn wrap_aligned(
 ) -> Result<Option<NodeRef>, EditFault>
     requires open { IsOpen doc.old }
     requires list_held { EachHeld doc.old list.now }
-    ensures gives { GivesMaybe result doc.old.state doc.new.state (justify.wrap_aligned alignment.now (labels_of list.now)) }
+    ensures gives { GivesMaybe result doc.old.state doc.new.state
+        (justify.wrap_aligned alignment.now (labels_of list.now)) }
     ensures keeps { Keeps doc.old doc.new }
 {
     let test = AlignedSibling {
@@ -154,7 +156,8 @@ fn align_all(
 ) -> Result<(), EditFault>
     requires open { IsOpen doc.old }
     requires list_held { EachHeld doc.old list.now }
-    ensures gives { Gives result doc.old.state doc.new.state (justify.align_all alignment.now (labels_of list.now)) }
+    ensures gives { Gives result doc.old.state doc.new.state
+        (justify.align_all alignment.now (labels_of list.now)) }
     ensures keeps { Keeps doc.old doc.new }
 {
     in_turns(alloc, doc, &AlignTurn { alignment }, list)
@@ -164,7 +167,8 @@ fn align_all(
 #[tactic(auto, using(edit_model::proofs::Steps::steps, edit_model::proofs::Steps::exits), unfolding(crate::specs::Justify::align_range))]
 fn align_range(alloc: Global, doc: &mut Doc, alignment: TextAlign) -> Result<(), EditFault>
     requires open { IsOpen doc.old }
-    ensures gives { Gives result doc.old.state doc.new.state (justify.align_range (text_align_keyword alignment)) }
+    ensures gives { Gives result doc.old.state doc.new.state
+        (justify.align_range (text_align_keyword alignment)) }
     ensures keeps { Keeps doc.old doc.new }
 {
     let list = outermost(alloc, doc, &Misaligned { alignment })?;
@@ -176,7 +180,8 @@ fn align_range(alloc: Global, doc: &mut Doc, alignment: TextAlign) -> Result<(),
 #[tactic(auto, using(edit_model::proofs::Steps::steps, edit_model::proofs::Steps::exits), unfolding(crate::specs::Justify::justify))]
 pub fn justify(alloc: Global, doc: &mut Doc, alignment: TextAlign) -> Result<bool, EditFault>
     requires open { IsOpen doc.old }
-    ensures gives { Gives result doc.old.state doc.new.state (justify.justify (text_align_keyword alignment)) }
+    ensures gives { Gives result doc.old.state doc.new.state
+        (justify.justify (text_align_keyword alignment)) }
     ensures keeps { Keeps doc.old doc.new }
 {
     clear_alignments(alloc, doc)?;

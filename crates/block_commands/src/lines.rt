@@ -1,4 +1,5 @@
-//! The nodes that formatBlock is for, and the blocks that they leave. The steps are those of docs/ALGORITHMS.md.
+//! The nodes that formatBlock is for, and the blocks that they leave. The steps are those of
+//! docs/ALGORITHMS.md.
 
 ghost use Rattle.std.specs.Prelude.{◌≡◌};
 ghost use Rattle.edit_doc.specs.Held.{Holds};

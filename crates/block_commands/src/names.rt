@@ -24,7 +24,8 @@ fn unbracketed(value: &[char]) -> &[char]
 
 // A text in lower case as bytes, where it has ASCII alone.
 fn lowered(alloc: Global, text: &[char]) -> Result<Option<Vec<u8>>, AllocError>
-    ensures { IfOk result (λ read. MatchOption read (is_formattable_block (map to_ascii_lowercase text.now) ≡ false)
+    ensures { IfOk result (λ read.
+        MatchOption read (is_formattable_block (map to_ascii_lowercase text.now) ≡ false)
         (λ bytes. bytes.items ≡ map to_ascii_lowercase text.now)) }
 {
     let mut bytes = Vec::new(alloc);
@@ -37,10 +38,12 @@ fn lowered(alloc: Global, text: &[char]) -> Result<Option<Vec<u8>>, AllocError>
     Ok(Some(bytes))
 }
 
-/// The formattable block name that a value gives, without regard to ASCII case and to a `<` and `>` around it.
+/// The formattable block name that a value gives, without regard to ASCII case and to a `<` and `>`
+/// around it.
 #[tactic(auto, unfolding(crate::specs::FormatBlock::block_name))]
 pub(crate) fn block_name(alloc: Global, value: &[char]) -> Result<Option<Name>, AllocError>
-    ensures { IfOk result (λ read. MatchOption read (is_formattable_block (block_name value.now) ≡ false)
+    ensures { IfOk result (λ read.
+        MatchOption read (is_formattable_block (block_name value.now) ≡ false)
         (λ name. (name ≡ block_name value.now) × (is_formattable_block name ≡ true))) }
 {
     match lowered(alloc, unbracketed(value))? {

@@ -25,7 +25,8 @@ pub trait Turn {
         requires open { IsOpen doc.old }
         requires list_held { EachHeld doc.old list.now }
         requires some { 0 < length list.now }
-        ensures gives { GivesAs (λ count. labels_of (drop count list.now)) result doc.old.state doc.new.state
+        ensures gives { GivesAs (λ count. labels_of (drop count list.now)) result doc.old.state
+            doc.new.state
             (run self.now (labels_of list.now)) }
         ensures within { IfOk result (λ count. count ≤ length list.now) }
         ensures keeps { Keeps doc.old doc.new };
@@ -41,7 +42,8 @@ pub fn in_turns<T: Turn>(
 ) -> Result<(), EditFault>
     requires open { IsOpen doc.old }
     requires list_held { EachHeld doc.old list.now }
-    ensures gives { Gives result doc.old.state doc.new.state (in_turns (T.run turn.now) (labels_of list.now)) }
+    ensures gives { Gives result doc.old.state doc.new.state
+        (in_turns (T.run turn.now) (labels_of list.now)) }
     ensures keeps { Keeps doc.old doc.new }
 {
     let mut left = turn_bound(doc);

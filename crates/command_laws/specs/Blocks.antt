@@ -1,4 +1,5 @@
--- The laws of the block commands: of each, that its run keeps the order and leaves the states of contenteditable.
+-- The laws of the block commands: of each, that its run keeps the order and leaves the states of
+-- contenteditable.
 use Rattle.std.specs.Prelude.{ℕ, List}
 use Rattle.edit_laws.specs.Stateless.{Stateless}
 use Rattle.edit_laws.specs.OrderPreserving.{OrderPreserving}

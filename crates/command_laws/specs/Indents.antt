@@ -1,4 +1,5 @@
--- The laws of indent and outdent: of each, that its run keeps the order and leaves the states of contenteditable.
+-- The laws of indent and outdent: of each, that its run keeps the order and leaves the states of
+-- contenteditable.
 use Rattle.edit_laws.specs.Stateless.{Stateless}
 use Rattle.edit_laws.specs.OrderPreserving.{OrderPreserving}
 use Rattle.list_indent.specs.Commands.{indent, outdent}

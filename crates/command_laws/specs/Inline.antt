@@ -1,5 +1,5 @@
--- The laws of the inline commands, and of what other commands take from them: of each, that its run keeps the order
--- and leaves the states of contenteditable.
+-- The laws of the inline commands, and of what other commands take from them: of each, that its run
+-- keeps the order and leaves the states of contenteditable.
 use Rattle.std.specs.Prelude.{ℕ, List}
 use Rattle.html_names.specs.declared.commands.Command.{Command}
 use Rattle.edit_laws.specs.Stateless.{Stateless}

@@ -1,5 +1,5 @@
--- The laws of toggling ordered and unordered lists: that its run keeps the order and leaves the states of
--- contenteditable.
+-- The laws of toggling ordered and unordered lists: that its run keeps the order and leaves the
+-- states of contenteditable.
 use Rattle.std.specs.Prelude.{Bool}
 use Rattle.edit_laws.specs.Stateless.{Stateless}
 use Rattle.edit_laws.specs.OrderPreserving.{OrderPreserving}

@@ -1,5 +1,5 @@
--- The laws of inserting line breaks, rules and images: of each, that its run leaves the states of contenteditable.
--- All erase what is selected, so there is no law of order.
+-- The laws of inserting line breaks, rules and images: of each, that its run leaves the states of
+-- contenteditable. All erase what is selected, so there is no law of order.
 use Rattle.std.specs.Prelude.{ℕ, List}
 use Rattle.edit_laws.specs.Stateless.{Stateless}
 use Rattle.insert_objects.specs.Image.{insert_image}

@@ -1,5 +1,5 @@
--- The laws of inserting text and paragraphs: of each, that its run leaves the states of contenteditable. Both erase
--- what is selected, so there is no law of order.
+-- The laws of inserting text and paragraphs: of each, that its run leaves the states of
+-- contenteditable. Both erase what is selected, so there is no law of order.
 use Rattle.std.specs.Prelude.{ℕ, List}
 use Rattle.edit_laws.specs.Stateless.{Stateless}
 use Rattle.text_insertion.specs.Paragraph.{insert_paragraph}

@@ -16,7 +16,8 @@ use Rattle.wrap_split.specs.declared.rule.Recipe.TheVariants.{Nothing, Make}
 use Rattle.edit_actions.specs.Siblings.{first_parent, members}
 use Rattle.wrap_split.specs.Wrap.{wrap}
 
--- the name that a criterion asks for is neither img nor hr; no other criterion is met by an image or a rule
+-- the name that a criterion asks for is neither img nor hr; no other criterion is met by an image
+-- or a rule
 abbrev pub NamesNoThing : Criterion → Type 0
 NamesNoThing (Named name bare) = is_thing name ≡ false
 NamesNoThing _ = Unit {0}
@@ -39,7 +40,8 @@ ListsWrap =
     → MakesNoThing r → IsKeeping s
     → children_of s.trees o ≡ front ++ (list ++ rest) → KeepsOrder s (final (wrap c r list) s)
 
--- of any nodes, where those that are taken, the children of the first parent, are consecutive and in order
+-- of any nodes, where those that are taken, the children of the first parent, are consecutive and
+-- in order
 abbrev pub TakenWrap : Type 0
 TakenWrap =
     (c : Criterion) (r : Recipe) (front list rest : List ℕ) (o : ℕ) (s : State) → NamesNoThing c
@@ -49,8 +51,10 @@ TakenWrap =
 
 -- of one node
 abbrev pub OneWraps : Type 0
-OneWraps = (c : Criterion) (r : Recipe) (n : ℕ) → NamesNoThing c → MakesNoThing r → OrderPreserving (wrap c r (n ∷ []))
+OneWraps = (c : Criterion) (r : Recipe) (n : ℕ) → NamesNoThing c → MakesNoThing r
+    → OrderPreserving (wrap c r (n ∷ []))
 
 -- wrapping leaves the states of contenteditable
 abbrev pub WrapsStateless : Type 0
-WrapsStateless = (c : Criterion) (r : Recipe) (list : List ℕ) → MakesNoState r → Stateless (wrap c r list)
+WrapsStateless =
+    (c : Criterion) (r : Recipe) (list : List ℕ) → MakesNoState r → Stateless (wrap c r list)

@@ -7,7 +7,8 @@ pub fn toggle_style_keeps_order()
     ensures { StylesKeepOrder }
 {}
 
-/// Bold, italic, underline and strikethrough give no node a state of contenteditable, and take none away.
+/// Bold, italic, underline and strikethrough give no node a state of contenteditable, and take none
+/// away.
 pub fn toggle_style_is_stateless()
     ensures { StylesAreStateless }
 {}

@@ -1,4 +1,5 @@
-//! The laws of commands, and of the algorithms that they share, each the contract of a function that does nothing.
+//! The laws of commands, and of the algorithms that they share, each the contract of a function
+//! that does nothing.
 #![tactic(auto)]
 
 mod blocks;

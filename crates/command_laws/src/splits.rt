@@ -2,8 +2,8 @@
 
 ghost use Rattle.command_laws.specs.SplitLaws.{ParentsSplit, ParentOfOneSplits, NodesGoAndChildrenStay, SplitsStateless};
 
-/// Splitting the parent of a list keeps the order of characters, images and rules, where the list has consecutive
-/// children of a node.
+/// Splitting the parent of a list keeps the order of characters, images and rules, where the list
+/// has consecutive children of a node.
 pub fn parents_split()
     ensures { ParentsSplit }
 {}

@@ -7,8 +7,8 @@ pub fn insert_text_is_stateless()
     ensures { InsertTextIsStateless }
 {}
 
-/// Inserting a paragraph gives no node a state of contenteditable, and takes none away: its second half takes the
-/// attributes of a container that has no state.
+/// Inserting a paragraph gives no node a state of contenteditable, and takes none away: its second
+/// half takes the attributes of a container that has no state.
 pub fn insert_paragraph_is_stateless()
     ensures { InsertParagraphIsStateless }
 {}

@@ -1,4 +1,5 @@
--- Deleting the selection (HTML Editing APIs, "delete the selection"), whole. The steps are those of docs/ALGORITHMS.md.
+-- Deleting the selection (HTML Editing APIs, "delete the selection"), whole. The steps are those of
+-- docs/ALGORITHMS.md.
 use Rattle.std.specs.Prelude.{ℕ, ◌==◌, Bool, true, false, ◌&&◌, List, [], Option, if◌then◌else◌}
 use Rattle.dom_model.specs.Forest.{Forest}
 use Rattle.live_range.specs.declared.places.Pair.{Pair}
@@ -28,11 +29,13 @@ erase_across m p q b c = do
 -- step 5, or from 6 on
 unfoldable pub erase : Manner → Point → Point → Option ℕ → Option ℕ → Run (Unit {0})
 erase m p q b c = look λ s.
-    if (p.label == q.label) && is_own_text s p.label then erase_within m.backward p q else erase_across m p q b c
+    if (p.label == q.label) && is_own_text s p.label then erase_within m.backward p q
+    else erase_across m p q b c
 
 -- steps 3 and 4, and then from 5 on
 unfoldable pub delete_recorded : Manner → Point → Point → Run (List Override)
-delete_recorded m p q = look λ s. erase m p q (block_of_end s p.label) (block_of_end s q.label) >> answer (states_of s)
+delete_recorded m p q =
+    look λ s. erase m p q (block_of_end s p.label) (block_of_end s q.label) >> answer (states_of s)
 
 -- step 2, and then from 3 on
 unfoldable pub delete_selected : Manner → Point → Point → Run (List Override)
@@ -41,13 +44,15 @@ delete_selected m p q = select p q >> delete_recorded m p q
 -- step 1, and then from 2 on
 unfoldable pub delete_range : Manner → Point → Point → Run (List Override)
 delete_range m p q = look λ s.
-    if comes_before s.trees p q then delete_selected m (out_of_start s.trees p) (out_of_end s.trees q)
+    if comes_before s.trees p q then
+    delete_selected m (out_of_start s.trees p) (out_of_end s.trees q)
     else (collapse_selection m.backward >> answer [])
 
 -- delete the selection, step 1: with the equivalent points of the ends
 unfoldable pub delete_between : Manner → Run (List Override)
 delete_between m = look λ s. given s.points.selection (answer []) λ pair.
-    delete_range m (last_equivalent s.trees (start_of s.trees pair)) (first_equivalent s.trees (end_of s.trees pair))
+    delete_range m (last_equivalent s.trees (start_of s.trees pair))
+    (first_equivalent s.trees (end_of s.trees pair))
 
 -- delete the selection, steps 1 to 15
 unfoldable pub delete_selection : Bool → Bool → Bool → Run (List Override)

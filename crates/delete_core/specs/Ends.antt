@@ -1,5 +1,5 @@
--- The ends of what a deletion deletes (HTML Editing APIs, "delete the selection", steps 1 to 3), and the caret that it
--- leaves. The steps are those of docs/ALGORITHMS.md.
+-- The ends of what a deletion deletes (HTML Editing APIs, "delete the selection", steps 1 to 3),
+-- and the caret that it leaves. The steps are those of docs/ALGORITHMS.md.
 use Rattle.std.specs.Prelude.{ℕ, ◌==◌, Bool, ◌||◌, ◌&&◌, not, Option, Some, None, codes, unwrap_or, if◌then◌else◌}
 use Rattle.dom_model.specs.declared.Content.{Content}
 use Rattle.dom_model.specs.Contents.{has_name, length_of}
@@ -22,24 +22,30 @@ end_for backward f pair = if backward then end_of f pair else start_of f pair
 
 -- delete the selection, steps 1, 5 and 9: the selection is collapsed
 unfoldable pub collapse_selection : Bool → Run (Unit {0})
-collapse_selection backward = look λ s. given s.points.selection done λ pair. collapse (end_for backward s.trees pair)
+collapse_selection backward =
+    look λ s. given s.points.selection done λ pair. collapse (end_for backward s.trees pair)
 
--- delete the selection, steps 1 and 8: the whitespace at the start and at the end of the active range
+-- delete the selection, steps 1 and 8: the whitespace at the start and at the end of the active
+-- range
 unfoldable pub canonicalize_start : Bool → Run (Unit {0})
-canonicalize_start fix = look λ s. given s.points.selection done λ pair. canonicalize fix (start_of s.trees pair)
+canonicalize_start fix =
+    look λ s. given s.points.selection done λ pair. canonicalize fix (start_of s.trees pair)
 
 -- delete the selection, steps 1 and 8: at the end of the active range
 unfoldable pub canonicalize_end : Bool → Run (Unit {0})
-canonicalize_end fix = look λ s. given s.points.selection done λ pair. canonicalize fix (end_of s.trees pair)
+canonicalize_end fix =
+    look λ s. given s.points.selection done λ pair. canonicalize fix (end_of s.trees pair)
 
 -- step 2: from the start of a text to before it, and from the end of a text to after it
 unfoldable pub out_of_start : Forest Content → Point → Point
-out_of_start f p = unwrap_or (if is_words f p.label && (p.offset == 0) then before_node f p.label else None) p
+out_of_start f p =
+    unwrap_or (if is_words f p.label && (p.offset == 0) then before_node f p.label else None) p
 
 -- delete the selection, step 2: and from the end of a text to after it
 unfoldable pub out_of_end : Forest Content → Point → Point
 out_of_end f p =
-    unwrap_or (if is_words f p.label && (p.offset == length_of f p.label) then after_node f p.label else None) p
+    unwrap_or (if is_words f p.label && (p.offset == length_of f p.label) then after_node f p.label
+    else None) p
 
 -- step 3: up from an inline node, as long as the parent is inside
 unfoldable pub up_inline : State → ℕ → Option ℕ
@@ -55,7 +61,8 @@ is_cell f l = has_name f l (codes "td") || has_name f l (codes "th")
 
 unfoldable pub may_merge : State → ℕ → Bool
 may_merge s l =
-    (is_block s.trees l || is_label s.host l) && (name_allowed_in (codes "span") s.trees l && not (is_cell s.trees l))
+    (is_block s.trees l || is_label s.host l)
+    && (name_allowed_in (codes "span") s.trees l && not (is_cell s.trees l))
 
 abbrev pub if_mergeable : State → ℕ → Option ℕ
 if_mergeable s l = if may_merge s l then Some l else None

@@ -41,7 +41,8 @@ next_point f p =
 -- the previous equivalent point, steps 1 to 4
 unfoldable pub previous_point : Forest Content → Point → Option Point
 previous_point f p =
-    if length_of f p.label == 0 then None else (if p.offset == 0 then out_before f p.label else into_before f p)
+    if length_of f p.label == 0 then None
+    else (if p.offset == 0 then out_before f p.label else into_before f p)
 
 -- the last equivalent point, and the first one
 unfoldable pub last_equivalent : Forest Content → Point → Point

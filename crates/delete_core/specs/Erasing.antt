@@ -1,5 +1,5 @@
--- What a deletion removes (HTML Editing APIs, "delete the selection", steps 5 to 8). The steps are those of
--- docs/ALGORITHMS.md.
+-- What a deletion removes (HTML Editing APIs, "delete the selection", steps 5 to 8). The steps are
+-- those of docs/ALGORITHMS.md.
 use Rattle.std.specs.Prelude.{ℕ, ◌-◌, ◌==◌, Bool, false, ◌||◌, ◌&&◌, not, List, [], Option, Some, None, codes, if◌then◌else◌}
 use Rattle.std.specs.List.{list_any}
 use Rattle.std.specs.Option.{option_map_or}
@@ -38,11 +38,13 @@ erase_within backward p q = do
 -- delete the selection, step 6: a text loses its characters from the start on
 unfoldable pub cut_after : Point → Run (Unit {0})
 cut_after p = look λ s.
-    if is_own_text s p.label then replace p.label p.offset (length_of s.trees p.label - p.offset) [] >> done else done
+    if is_own_text s p.label then
+    replace p.label p.offset (length_of s.trees p.label - p.offset) [] >> done else done
 
 -- delete the selection, step 8: a text loses its characters before the end
 unfoldable pub cut_before : Point → Run (Unit {0})
-cut_before q = look λ s. if is_own_text s q.label then replace q.label 0 q.offset [] >> done else done
+cut_before q =
+    look λ s. if is_own_text s q.label then replace q.label 0 q.offset [] >> done else done
 
 -- ---- delete the selection, step 7: the nodes between the ends
 
@@ -54,9 +56,11 @@ is_table_part f l =
 unfoldable pub is_removable : State → ℕ → Bool
 is_removable s l = is_editable_for s l && not (is_table_part s.trees l)
 
--- the editable nodes of the active range that are no parts of a table, without what stands below one of them
+-- the editable nodes of the active range that are no parts of a table, without what stands below
+-- one of them
 abbrev pub removable_between : State → Pair → List ℕ
-removable_between s pair = gathered (is_removable s) s.trees (start_of s.trees pair) (end_of s.trees pair)
+removable_between s pair =
+    gathered (is_removable s) s.trees (start_of s.trees pair) (end_of s.trees pair)
 
 -- delete the selection, step 7: those of the active range
 unfoldable pub removable_nodes : State → List ℕ
@@ -84,7 +88,8 @@ removed_up (Some p) = look λ s. remove p >> answer (parent_of s.trees p)
 
 abbrev pub is_strippable : State → Option ℕ → Bool
 is_strippable s None = false
-is_strippable s (Some p) = is_editable_for s p && (not (is_block s.trees p) && (length_of s.trees p == 0))
+is_strippable s (Some p) =
+    is_editable_for s p && (not (is_block s.trees p) && (length_of s.trees p == 0))
 
 -- delete the selection, step 7: inline nodes that are left empty go, from p up
 unfoldable pub strip_empty : ℕ → Run (Unit {0})
@@ -92,7 +97,8 @@ strip_empty p = look λ s. while_at_most (turn_bound s) is_strippable removed_up
 
 -- delete the selection, step 7: where `strip` is off, those stay in which the start stands
 unfoldable pub strip_from : Bool → ℕ → ℕ → Run (Unit {0})
-strip_from strip start p = look λ s. if strip || not (is_within s.trees p start) then strip_empty p else done
+strip_from strip start p =
+    look λ s. if strip || not (is_within s.trees p start) then strip_empty p else done
 
 -- delete the selection, step 7: one node, with its parent p
 unfoldable pub remove_under : Bool → ℕ → ℕ → ℕ → Run (Unit {0})

@@ -62,7 +62,8 @@ is_apart b s l = option_map_or (λ p. not (p == b)) (parent_of s.trees l) false
 -- step 11 b: the one child of a parent other than b
 unfoldable pub is_sole : ℕ → State → ℕ → Bool
 is_sole b s c =
-    is_editable_for s c && (is_none (prev_of s.trees c) && (is_none (next_of s.trees c) && is_apart b s c))
+    is_editable_for s c
+    && (is_none (prev_of s.trees c) && (is_none (next_of s.trees c) && is_apart b s c))
 
 -- delete the selection, step 11 b: c goes, and its former parent is the next c
 unfoldable pub drop_sole : ℕ → Run ℕ
@@ -71,7 +72,9 @@ drop_sole c = look λ s. given (parent_of s.trees c) (answer c) λ p. remove c >
 -- step 11 b: a new br, where lines before and after a block would join once it goes
 unfoldable pub parts_lines : State → ℕ → Bool
 parts_lines s c =
-    is_editable_for s c && (is_block s.trees c && (is_inline s (prev_of s.trees c) && is_inline s (next_of s.trees c)))
+    is_editable_for s c
+    && (is_block s.trees c
+    && (is_inline s (prev_of s.trees c) && is_inline s (next_of s.trees c)))
 
 -- delete the selection, step 11 b: that br, just after c
 unfoldable pub part_lines : ℕ → Run (Unit {0})
@@ -101,7 +104,8 @@ split_line list k = split_parent list >> answer k
 unfoldable pub split_out : ℕ → List ℕ → ℕ → Run (Unit {0})
 split_out b list k = look λ s. while_at_most (turn_bound s) (is_apart b) (split_line list) k >> done
 
--- splitting the parent of a line that begins with k changes nothing, so a loop of it may end. Only proofs cite it.
+-- splitting the parent of a line that begins with k changes nothing, so a loop of it may end. Only
+-- proofs cite it.
 unfoldable pub is_stuck : State → ℕ → Bool
 is_stuck s k =
     option_map_or
@@ -126,7 +130,8 @@ take_line b k = look λ s. if is_block s.trees k then answer None else take_out_
 
 -- steps 11 b to 11 f
 unfoldable pub merge_content : ℕ → ℕ → Run (Option (List Recorded))
-merge_content b c = look λ s. given (first_of s.trees c) (drop_block b c >> answer None) (take_line b)
+merge_content b c =
+    look λ s. given (first_of s.trees c) (drop_block b c >> answer None) (take_line b)
 
 -- step 11
 unfoldable pub merge_inner : ℕ → ℕ → Run (Option (List Recorded))
@@ -143,7 +148,8 @@ drop_last_break b after = look λ s. given (last_of s.trees b) done λ z.
 -- delete the selection, step 12: the line after q goes to the end of b
 unfoldable pub take_following : ℕ → ℕ → Run (Option (List Recorded))
 take_following b q = look λ s.
-    move_each_last (line_at s (next_of s.trees q)) b >> answer (Some (values_of s (line_at s (next_of s.trees q))))
+    move_each_last (line_at s (next_of s.trees q)) b
+    >> answer (Some (values_of s (line_at s (next_of s.trees q))))
 
 -- delete the selection, step 12
 unfoldable pub merge_outer : ℕ → ℕ → Run (Option (List Recorded))
@@ -186,11 +192,13 @@ merged b c = look λ s.
 
 abbrev pub is_list_before : List ℕ → State → ℕ → Bool
 is_list_before name s l =
-    has_name s.trees l name && option_map_or (λ n. is_inside s n && has_name s.trees n name) (next_of s.trees l) false
+    has_name s.trees l name
+    && option_map_or (λ n. is_inside s n && has_name s.trees n name) (next_of s.trees l) false
 
 -- a list that is inside, with a list of the same kind after it
 unfoldable pub joins_next : State → ℕ → Bool
-joins_next s l = is_inside s l && (is_list_before (codes "ol") s l || is_list_before (codes "ul") s l)
+joins_next s l =
+    is_inside s l && (is_list_before (codes "ol") s l || is_list_before (codes "ul") s l)
 
 -- the deepest such one that b is or stands in
 unfoldable pub list_to_join : State → ℕ → Option ℕ
@@ -247,10 +255,13 @@ are_mergeable s b c = is_inside s b && (is_inside s c && not (b == c))
 
 -- delete the selection, step 9, and then from 10 on, with two blocks
 unfoldable pub merge_both : Bool → ℕ → ℕ → Run (Unit {0})
-merge_both backward b c = look λ s. if are_mergeable s b c then merge b c else collapse_selection backward
+merge_both backward b c =
+    look λ s. if are_mergeable s b c then merge b c else collapse_selection backward
 
 -- delete the selection, step 9, and then from 10 on, of blocks that there may be
 unfoldable pub merge_if : Bool → Bool → Option ℕ → Option ℕ → Run (Unit {0})
 merge_if merging backward b c =
-    if merging then (given b (collapse_selection backward) λ x. given c (collapse_selection backward) (merge_both backward x))
+    if merging then
+    (given b (collapse_selection backward) λ x.
+    given c (collapse_selection backward) (merge_both backward x))
     else collapse_selection backward

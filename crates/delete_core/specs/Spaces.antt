@@ -37,4 +37,5 @@ canonical_spaces zero start end = []
 canonical_spaces (suc zero) start end = one_space start end
 canonical_spaces (suc (suc zero)) start end = two_spaces start end
 canonical_spaces (suc (suc (suc zero))) start end = three_spaces start end
-canonical_spaces (suc (suc (suc (suc n)))) start end = pair_of_spaces start ++ canonical_spaces (suc (suc n)) start end
+canonical_spaces (suc (suc (suc (suc n)))) start end =
+    pair_of_spaces start ++ canonical_spaces (suc (suc n)) start end

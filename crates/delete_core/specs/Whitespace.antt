@@ -69,7 +69,8 @@ blank_before f p = blank_in f p.label (char_before f p)
 -- ---- steps into a child and out to the parent, both inside
 
 unfoldable pub into_child_before : State → Point → Option Point
-into_child_before s p = option_map (end_in s.trees) (if_inside s (child_before s.trees p.label p.offset))
+into_child_before s p =
+    option_map (end_in s.trees) (if_inside s (child_before s.trees p.label p.offset))
 
 unfoldable pub into_child_at : State → Point → Option Point
 into_child_at s p = option_map start_in (if_inside s (child_at s.trees p.label p.offset))
@@ -80,18 +81,21 @@ out_to_start s l = before_in s.trees l (if_inside s (parent_of s.trees l))
 unfoldable pub out_to_end : State → ℕ → Option Point
 out_to_end s l = after_in s.trees l (if_inside s (parent_of s.trees l))
 
--- the point is the start of a node that is there and follows a line break, or the end of one that precedes one
+-- the point is the start of a node that is there and follows a line break, or the end of one that
+-- precedes one
 unfoldable pub starts_line : Forest Content → Point → Bool
 starts_line f p = is_there f p.label && ((p.offset == 0) && follows_break f p.label)
 
 unfoldable pub ends_line : Forest Content → Point → Bool
-ends_line f p = is_there f p.label && ((p.offset == length_of f p.label) && precedes_break f p.label)
+ends_line f p =
+    is_there f p.label && ((p.offset == length_of f p.label) && precedes_break f p.label)
 
 -- ---- canonicalize whitespace, step 2: back to where the blanks begin
 
 -- step 2, second line
 unfoldable pub out_back : State → Point → Option Point
-out_back s p = if (p.offset == 0) && not (follows_break s.trees p.label) then out_to_start s p.label else None
+out_back s p =
+    if (p.offset == 0) && not (follows_break s.trees p.label) then out_to_start s p.label else None
 
 -- step 2, third line
 unfoldable pub over_blank : State → Point → Option Point
@@ -120,12 +124,17 @@ taken_to a p = record a { end = p }
 
 -- past a blank, which counts
 abbrev pub passed : Scan → ℕ → Scan
-passed a c = record a { end = at a.end.label (a.end.offset + 1); count = a.count + 1; after_soft = (c == soft) }
+passed a c = record a {
+  end = at a.end.label (a.end.offset + 1);
+  count = a.count + 1;
+  after_soft = (c == soft);
+}
 
 -- step 4, second line
 unfoldable pub out_on : State → Point → Option Point
 out_on s p =
-    if (p.offset == length_of s.trees p.label) && not (precedes_break s.trees p.label) then out_to_end s p.label
+    if (p.offset == length_of s.trees p.label) && not (precedes_break s.trees p.label) then
+    out_to_end s p.label
     else None
 
 -- step 4, first and second line
@@ -217,7 +226,8 @@ gone_to a p = record a { place = p }
 -- step 7, third line
 unfoldable pub lay_char : List ℕ → Laid → ℕ → Run Laid
 lay_char spaces a c =
-    given (slice_get spaces a.laid) (answer a) λ space. put_space a.place c space >> answer (next_laid a)
+    given (slice_get spaces a.laid) (answer a) λ space. put_space a.place c space
+    >> answer (next_laid a)
 
 -- step 7, second line
 unfoldable pub lay_out : Laid → Run Laid
@@ -230,7 +240,8 @@ lay_text spaces a = look λ s. given (char_at s.trees a.place) (lay_out a) (lay_
 -- step 7, first line, and then the others
 unfoldable pub lay_turn : List ℕ → Laid → Run Laid
 lay_turn spaces a = look λ s.
-    given (child_at s.trees a.place.label a.place.offset) (lay_text spaces a) λ k. answer (gone_to a (start_in k))
+    given (child_at s.trees a.place.label a.place.offset) (lay_text spaces a) λ k.
+    answer (gone_to a (start_in k))
 
 -- canonicalize whitespace, step 7: before the end, with characters of the sequence left
 unfoldable pub lays : List ℕ → Point → State → Laid → Bool
@@ -239,7 +250,8 @@ lays spaces end s a = nat_lt a.laid (length spaces) && comes_before s.trees a.pl
 -- step 7
 unfoldable pub lay_all : List ℕ → Point → Point → Run (Unit {0})
 lay_all spaces start end = look λ s.
-    while_at_most (turn_bound s) (lays spaces end) (lay_turn spaces) (record { place = start; laid = 0 }) >> done
+    while_at_most (turn_bound s) (lays spaces end) (lay_turn spaces)
+    (record { place = start; laid = 0 }) >> done
 
 -- ---- the whole
 
@@ -257,4 +269,5 @@ canonicalize_from fix p = do
 -- canonicalize whitespace, step 1, and then from 2 on
 unfoldable pub canonicalize : Bool → Point → Run (Unit {0})
 canonicalize fix p = look λ s.
-    if is_there s.trees p.label && is_inside s p.label then canonicalize_from fix (start_of_blanks s p) else done
+    if is_there s.trees p.label && is_inside s p.label then
+    canonicalize_from fix (start_of_blanks s p) else done

@@ -108,7 +108,8 @@ fn delete_recorded(
 ) -> Result<Overrides, EditFault>
     requires open { IsOpen doc.old }
     requires stretch_held { StretchHeld doc.old stretch }
-    ensures gives { Gives result doc.old.state doc.new.state (delete_recorded manner stretch.start stretch.end) }
+    ensures gives { Gives result doc.old.state doc.new.state
+        (delete_recorded manner stretch.start stretch.end) }
     ensures keeps { Keeps doc.old doc.new }
 {
     let block = block_of_end(doc, stretch.start_node);
@@ -196,7 +197,8 @@ pub fn delete_selection(
     backward: bool,
 ) -> Result<Overrides, EditFault>
     requires open { IsOpen doc.old }
-    ensures gives { Gives result doc.old.state doc.new.state (delete_selection merge strip backward) }
+    ensures gives { Gives result doc.old.state doc.new.state
+        (delete_selection merge strip backward) }
     ensures keeps { Keeps doc.old doc.new }
 {
     canonicalize_start(alloc, doc, true)?;

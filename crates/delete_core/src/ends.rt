@@ -1,4 +1,5 @@
-//! The ends of what a deletion deletes, and the caret that it leaves. The steps are those of docs/ALGORITHMS.md.
+//! The ends of what a deletion deletes, and the caret that it leaves. The steps are those of
+//! docs/ALGORITHMS.md.
 
 ghost use Rattle.std.specs.Prelude.{◌≡◌, ◌<◌};
 ghost use Rattle.dom_model.specs.Forest.{count_of};
@@ -149,7 +150,8 @@ pub(crate) fn is_cell(doc: &Doc, node: NodeRef) -> bool
     has_name(doc, node, b"td") || has_name(doc, node, b"th")
 }
 
-// Step 3: whether a node is a block, or the affected host, in which text may stand, and no cell of a table.
+// Step 3: whether a node is a block, or the affected host, in which text may stand, and no cell of
+// a table.
 #[tactic(auto, unfolding(crate::specs::Ends::may_merge))]
 fn may_merge(doc: &Doc, node: NodeRef) -> bool
     requires { Holds doc.now node }

@@ -228,7 +228,8 @@ fn strip_from(doc: &mut Doc, strip: bool, start: NodeRef, node: NodeRef) -> Resu
     requires open { IsOpen doc.old }
     requires start_held { Holds doc.old start }
     requires node_held { Holds doc.old node }
-    ensures gives { Gives result doc.old.state doc.new.state (strip_from strip start.label node.label) }
+    ensures gives { Gives result doc.old.state doc.new.state
+        (strip_from strip start.label node.label) }
     ensures keeps { Keeps doc.old doc.new }
 {
     if strip || !is_within(doc, node, start) {
@@ -251,7 +252,8 @@ fn remove_under(
     requires start_held { Holds doc.old start }
     requires node_held { Holds doc.old node }
     requires parent_held { Holds doc.old parent }
-    ensures gives { Gives result doc.old.state doc.new.state (remove_under strip start.label node.label parent.label) }
+    ensures gives { Gives result doc.old.state doc.new.state
+        (remove_under strip start.label node.label parent.label) }
     ensures keeps { Keeps doc.old doc.new }
 {
     doc.remove(node)?;
@@ -271,7 +273,8 @@ fn remove_node(
     requires open { IsOpen doc.old }
     requires start_held { Holds doc.old start }
     requires node_held { Holds doc.old node }
-    ensures gives { Gives result doc.old.state doc.new.state (remove_node strip start.label node.label) }
+    ensures gives { Gives result doc.old.state doc.new.state
+        (remove_node strip start.label node.label) }
     ensures keeps { Keeps doc.old doc.new }
 {
     let Some(parent) = doc.parent(node) else {

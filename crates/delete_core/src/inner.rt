@@ -117,7 +117,8 @@ fn drop_parted(alloc: Global, doc: &mut Doc, node: NodeRef) -> Result<(), EditFa
 fn drop_soles(doc: &mut Doc, outer: NodeRef, node: NodeRef) -> Result<NodeRef, EditFault>
     requires open { IsOpen doc.old }
     requires node_held { Holds doc.old node }
-    ensures gives { GivesNode result doc.old.state doc.new.state (drop_soles outer.label node.label) }
+    ensures gives { GivesNode result doc.old.state doc.new.state
+        (drop_soles outer.label node.label) }
     ensures held { IfOk result (λ r. Holds doc.new r) }
     ensures keeps { Keeps doc.old doc.new }
 {
@@ -175,7 +176,8 @@ fn split_out(
     requires line_held { EachHeld doc.old line.now }
     requires first_held { Holds doc.old first }
     requires head { first_in (labels_of line.now) ≡ Some first.label }
-    ensures gives { Gives result doc.old.state doc.new.state (split_out outer.label (labels_of line.now) first.label) }
+    ensures gives { Gives result doc.old.state doc.new.state
+        (split_out outer.label (labels_of line.now) first.label) }
     ensures keeps { Keeps doc.old doc.new }
 {
     let mut turns = turn_bound(doc);
@@ -219,7 +221,8 @@ fn take_out_line(
 ) -> Result<Option<Values>, EditFault>
     requires open { IsOpen doc.old }
     requires first_held { Holds doc.old first }
-    ensures gives { GivesAs recorded_in result doc.old.state doc.new.state (take_out_line outer.label first.label) }
+    ensures gives { GivesAs recorded_in result doc.old.state doc.new.state
+        (take_out_line outer.label first.label) }
     ensures held { IfOk result (ValuesHeld doc.new) }
     ensures keeps { Keeps doc.old doc.new }
 {
@@ -241,7 +244,8 @@ fn take_line(
 ) -> Result<Option<Values>, EditFault>
     requires open { IsOpen doc.old }
     requires first_held { Holds doc.old first }
-    ensures gives { GivesAs recorded_in result doc.old.state doc.new.state (take_line outer.label first.label) }
+    ensures gives { GivesAs recorded_in result doc.old.state doc.new.state
+        (take_line outer.label first.label) }
     ensures held { IfOk result (ValuesHeld doc.new) }
     ensures keeps { Keeps doc.old doc.new }
 {
@@ -262,7 +266,8 @@ fn merge_content(
     requires open { IsOpen doc.old }
     requires outer_held { Holds doc.old outer }
     requires inner_held { Holds doc.old inner }
-    ensures gives { GivesAs recorded_in result doc.old.state doc.new.state (merge_content outer.label inner.label) }
+    ensures gives { GivesAs recorded_in result doc.old.state doc.new.state
+        (merge_content outer.label inner.label) }
     ensures held { IfOk result (ValuesHeld doc.new) }
     ensures keeps { Keeps doc.old doc.new }
 {
@@ -285,7 +290,8 @@ pub(crate) fn merge_inner(
     requires open { IsOpen doc.old }
     requires outer_held { Holds doc.old outer }
     requires inner_held { Holds doc.old inner }
-    ensures gives { GivesAs recorded_in result doc.old.state doc.new.state (merge_inner outer.label inner.label) }
+    ensures gives { GivesAs recorded_in result doc.old.state doc.new.state
+        (merge_inner outer.label inner.label) }
     ensures held { IfOk result (ValuesHeld doc.new) }
     ensures keeps { Keeps doc.old doc.new }
 {

@@ -1,5 +1,5 @@
-//! Canonicalize whitespace, steps 6 and 7: the canonical sequence in place of the blanks. The steps are those of
-//! docs/ALGORITHMS.md.
+//! Canonicalize whitespace, steps 6 and 7: the canonical sequence in place of the blanks. The steps
+//! are those of docs/ALGORITHMS.md.
 
 ghost use Rattle.std.specs.Prelude.{◌≡◌, ◌<◌, IfOk, Ok, slice_get};
 ghost use Rattle.dom_model.specs.Forest.{count_of};
@@ -54,7 +54,8 @@ fn put_space(
     requires open { IsOpen doc.old }
     requires node_held { Holds doc.old node }
     requires small { offset < 4294967295 }
-    ensures gives { Gives result doc.old.state doc.new.state (put_space (at node.label offset) character space) }
+    ensures gives { Gives result doc.old.state doc.new.state
+        (put_space (at node.label offset) character space) }
     ensures keeps { Keeps doc.old doc.new }
 {
     if character == space {

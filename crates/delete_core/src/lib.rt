@@ -1,7 +1,8 @@
 //! Deleting: canonical whitespace, equivalent points, and deleting the selection (W3C, *HTML
 //! Editing APIs*), over a document under edits.
 //!
-//! Each call is proved to make one run of elementary edits, which its definition composes step by step.
+//! Each call is proved to make one run of elementary edits, which its definition composes step by
+//! step.
 #![tactic(auto)]
 
 mod blanks;

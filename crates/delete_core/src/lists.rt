@@ -26,7 +26,8 @@ fn is_list_before(doc: &Doc, name: &[u8], node: NodeRef) -> bool
     }
 }
 
-// Delete the selection, step 14: whether a node is a list that is inside, with a list of the same kind after it.
+// Delete the selection, step 14: whether a node is a list that is inside, with a list of the same
+// kind after it.
 #[tactic(auto, unfolding(crate::specs::Merging::joins_next))]
 fn joins_next(doc: &Doc, node: NodeRef) -> bool
     requires { Holds doc.now node }

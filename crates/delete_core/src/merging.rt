@@ -47,7 +47,8 @@ fn merged(
     requires open { IsOpen doc.old }
     requires block_held { Holds doc.old block }
     requires other_held { Holds doc.old other }
-    ensures gives { GivesAs recorded_in result doc.old.state doc.new.state (merged block.label other.label) }
+    ensures gives { GivesAs recorded_in result doc.old.state doc.new.state
+        (merged block.label other.label) }
     ensures held { IfOk result (ValuesHeld doc.new) }
     ensures keeps { Keeps doc.old doc.new }
 {
@@ -80,7 +81,8 @@ fn finish(alloc: Global, doc: &mut Doc, block: NodeRef, values: &Values) -> Resu
     requires open { IsOpen doc.old }
     requires block_held { Holds doc.old block }
     requires values_held { EachHeld doc.old (nodes_of values.now) }
-    ensures gives { Gives result doc.old.state doc.new.state (finish block.label (entries_of values.now)) }
+    ensures gives { Gives result doc.old.state doc.new.state
+        (finish block.label (entries_of values.now)) }
     ensures keeps { Keeps doc.old doc.new }
 {
     join_lists(doc, block)?;
@@ -126,7 +128,8 @@ fn merge_both(
     requires open { IsOpen doc.old }
     requires block_held { Holds doc.old block }
     requires other_held { Holds doc.old other }
-    ensures gives { Gives result doc.old.state doc.new.state (merge_both backward block.label other.label) }
+    ensures gives { Gives result doc.old.state doc.new.state
+        (merge_both backward block.label other.label) }
     ensures keeps { Keeps doc.old doc.new }
 {
     if are_mergeable(doc, block, other) {

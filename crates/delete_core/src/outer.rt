@@ -25,7 +25,8 @@ fn drop_last_break(doc: &mut Doc, block: NodeRef, after: Option<NodeRef>) -> Res
     requires open { IsOpen doc.old }
     requires block_held { Holds doc.old block }
     requires after_held { IfHeld doc.old after }
-    ensures gives { Gives result doc.old.state doc.new.state (drop_last_break block.label (label_of after)) }
+    ensures gives { Gives result doc.old.state doc.new.state
+        (drop_last_break block.label (label_of after)) }
     ensures keeps { Keeps doc.old doc.new }
 {
     let Some(last) = doc.last_child(block) else {
@@ -48,7 +49,8 @@ fn take_following(
     requires open { IsOpen doc.old }
     requires block_held { Holds doc.old block }
     requires child_held { Holds doc.old child }
-    ensures gives { GivesAs recorded_in result doc.old.state doc.new.state (take_following block.label child.label) }
+    ensures gives { GivesAs recorded_in result doc.old.state doc.new.state
+        (take_following block.label child.label) }
     ensures held { IfOk result (ValuesHeld doc.new) }
     ensures keeps { Keeps doc.old doc.new }
 {
@@ -58,7 +60,8 @@ fn take_following(
     Ok(Some(values))
 }
 
-/// Delete the selection, step 12: merges a block with one in which it stands. Answers the values to restore.
+/// Delete the selection, step 12: merges a block with one in which it stands. Answers the values to
+/// restore.
 #[tactic(auto, using(edit_model::proofs::Steps::steps, edit_model::proofs::Steps::exits, edit_model::proofs::Steps::actions, crate::proofs::Recordings::recordings), unfolding(crate::specs::Merging::merge_outer))]
 pub(crate) fn merge_outer(
     alloc: Global,
@@ -69,7 +72,8 @@ pub(crate) fn merge_outer(
     requires open { IsOpen doc.old }
     requires block_held { Holds doc.old block }
     requires outer_held { Holds doc.old outer }
-    ensures gives { GivesAs recorded_in result doc.old.state doc.new.state (merge_outer block.label outer.label) }
+    ensures gives { GivesAs recorded_in result doc.old.state doc.new.state
+        (merge_outer block.label outer.label) }
     ensures held { IfOk result (ValuesHeld doc.new) }
     ensures keeps { Keeps doc.old doc.new }
 {
@@ -124,7 +128,8 @@ fn take_children(
     requires open { IsOpen doc.old }
     requires block_held { Holds doc.old block }
     requires other_held { Holds doc.old other }
-    ensures gives { GivesAs recorded_in result doc.old.state doc.new.state (take_children block.label other.label) }
+    ensures gives { GivesAs recorded_in result doc.old.state doc.new.state
+        (take_children block.label other.label) }
     ensures held { IfOk result (ValuesHeld doc.new) }
     ensures keeps { Keeps doc.old doc.new }
 {
@@ -147,7 +152,8 @@ pub(crate) fn merge_beside(
     requires open { IsOpen doc.old }
     requires block_held { Holds doc.old block }
     requires other_held { Holds doc.old other }
-    ensures gives { GivesAs recorded_in result doc.old.state doc.new.state (merge_beside block.label other.label) }
+    ensures gives { GivesAs recorded_in result doc.old.state doc.new.state
+        (merge_beside block.label other.label) }
     ensures held { IfOk result (ValuesHeld doc.new) }
     ensures keeps { Keeps doc.old doc.new }
 {

@@ -111,7 +111,8 @@ pub fn after_node(doc: &Doc, node: NodeRef) -> Option<Point>
     after_in(doc, node, doc.parent(node))
 }
 
-/// The point just after the node of a point; there is none where the node isn't there or is the root of a tree.
+/// The point just after the node of a point; there is none where the node isn't there or is the
+/// root of a tree.
 #[tactic(auto, using(crate::proofs::Absent::absent), unfolding(crate::specs::Places::after_node))]
 pub(crate) fn after_there(doc: &Doc, at: Point) -> Option<Point>
     ensures { result ≡ after_node doc.now.state.trees at.label }

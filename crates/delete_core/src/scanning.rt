@@ -1,4 +1,5 @@
-//! Canonicalize whitespace, steps 3 and 4: the blanks from where they begin. The steps are those of docs/ALGORITHMS.md.
+//! Canonicalize whitespace, steps 3 and 4: the blanks from where they begin. The steps are those of
+//! docs/ALGORITHMS.md.
 
 ghost use Rattle.std.specs.Prelude.{◌≡◌, ◌<◌, IfOk};
 ghost use Rattle.dom_model.specs.Forest.{count_of};

@@ -34,11 +34,13 @@ fn push_two(spaces: &mut Vec<char>, first: char, second: char) -> Result<(), All
     Ok(())
 }
 
-// The canonical space sequence, steps 1, 2, 4 and 5: what it has at its end, which is at most three blanks.
+// The canonical space sequence, steps 1, 2, 4 and 5: what it has at its end, which is at most three
+// blanks.
 #[tactic(auto, using(crate::proofs::Counted::pushes, crate::proofs::Counted::counts))]
 fn push_last(spaces: &mut Vec<char>, count: usize, start: bool, end: bool) -> Result<(), AllocError>
     requires { count < 4 }
-    ensures { OnOk result (spaces.new.items ≡ spaces.old.items ++ canonical_spaces count start end) }
+    ensures { OnOk result (spaces.new.items ≡ spaces.old.items
+        ++ canonical_spaces count start end) }
 {
     if count == 0 {
         return Ok(());

@@ -1,5 +1,5 @@
-//! Steps of canonicalizing whitespace from point to point, in which nothing is edited. The steps are those of
-//! docs/ALGORITHMS.md.
+//! Steps of canonicalizing whitespace from point to point, in which nothing is edited. The steps
+//! are those of docs/ALGORITHMS.md.
 
 ghost use Rattle.std.specs.Prelude.{◌≡◌};
 ghost use Rattle.delete_core.specs.Whitespace.{into_child_before, into_child_at, out_to_start, out_to_end, out_back, over_blank, back_step, start_of_blanks, out_on, on_step, out_front, trim_step};

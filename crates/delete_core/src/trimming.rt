@@ -1,4 +1,5 @@
-//! Canonicalize whitespace, step 5: blanks at the end of a line. The steps are those of docs/ALGORITHMS.md.
+//! Canonicalize whitespace, step 5: blanks at the end of a line. The steps are those of
+//! docs/ALGORITHMS.md.
 
 ghost use Rattle.std.specs.Prelude.{◌≡◌, ◌<◌, true};
 ghost use Rattle.dom_model.specs.Forest.{count_of};

@@ -1,8 +1,8 @@
 //! hedit: reads an HTML page and a session of acts on it, and answers them.
 //!
-//! `hedit run` reads a session from standard input, `hedit replay` a page and the steps of a log, and
-//! `hedit check` a bare page; `hedit bulk N` reads nothing, and makes a session of its own. What is
-//! written and which status ends the program is proved at [`edit_session::run_session`].
+//! `hedit run` reads a session from standard input, `hedit replay` a page and the steps of a log,
+//! and `hedit check` a bare page; `hedit bulk N` reads nothing, and makes a session of its own.
+//! What is written and which status ends the program is proved at [`edit_session::run_session`].
 #![tactic(auto)]
 
 #[cfg(test)]

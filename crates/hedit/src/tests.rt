@@ -263,7 +263,8 @@ const BOLD: &str =
 const MADE_BOLD: &str =
     "ok\ntrue\n<div contenteditable=\"true\"><p>f<b>oob</b>ar</p></div>\n<div contenteditable=\"true\">\n  <p>\n    \"f\"\n    <b>\n      \"oob\"\n    \"ar\"\nanchor 0/0/1/0:0\nfocus 0/0/1/0:3\nnodes 7 chars 6 next 7 edits 6 undo 1 redo 0\n";
 
-// A session from a source of pieces of seven bytes that fails at one call, into a sink of pieces of five that does so.
+// A session from a source of pieces of seven bytes that fails at one call, into a sink of pieces of
+// five that does so.
 fn answer_failing(
     alloc: Global,
     session: &str,

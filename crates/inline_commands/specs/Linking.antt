@@ -1,4 +1,5 @@
--- The command createLink (HTML Editing APIs, "the createLink command"). The steps are those of docs/ALGORITHMS.md.
+-- The command createLink (HTML Editing APIs, "the createLink command"). The steps are those of
+-- docs/ALGORITHMS.md.
 use Rattle.std.specs.Prelude.{ℕ, Bool, true, false, List, [], ◌∷◌, codes, filter, reverse, Some, if◌then◌else◌}
 use Rattle.dom_model.specs.declared.Content.{Content}
 use Rattle.dom_model.specs.Forest.{Forest}
@@ -16,7 +17,8 @@ links_above f n = filter (is_link f) (reverse (ancestors f n))
 
 -- createLink, step 2: an editable link gets the value as its href
 unfoldable pub relink : List ℕ → ℕ → Run (Unit {0})
-relink v e = look λ s. if is_editable_for s e then set_attribute e (codes "href") v >> done else done
+relink v e =
+    look λ s. if is_editable_for s e then set_attribute e (codes "href") v >> done else done
 
 -- createLink, step 2: the links around one node
 unfoldable pub relink_above : List ℕ → ℕ → Run (Unit {0})

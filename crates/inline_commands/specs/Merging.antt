@@ -1,4 +1,5 @@
--- The list of the links that a range touches, made from its parts. No public clause cites this module.
+-- The list of the links that a range touches, made from its parts. No public clause cites this
+-- module.
 use Rattle.std.specs.Prelude.{ℕ, List, [], ◌∷◌, ◌++◌, filter, if◌then◌else◌}
 use Rattle.dom_model.specs.declared.Content.{Content}
 use Rattle.dom_model.specs.Forest.{Forest}
@@ -9,7 +10,8 @@ use Rattle.inline_commands.specs.Unlink.{is_link}
 
 -- the links that a range contains; one that isn't in order contains none
 abbrev pub links_inside : Forest Content → Point → Point → List ℕ
-links_inside f start end = if is_before f start end then filter (is_link f) (contained_nodes f start end) else []
+links_inside f start end =
+    if is_before f start end then filter (is_link f) (contained_nodes f start end) else []
 
 -- the members from the front on for as long as each stands above x
 abbrev pub around : Forest Content → List ℕ → ℕ → List ℕ
@@ -21,7 +23,8 @@ abbrev pub beyond : Forest Content → List ℕ → ℕ → List ℕ
 beyond f [] x = []
 beyond f (b ∷ bs) x = if is_ancestor f b x then beyond f bs x else b ∷ bs
 
--- the members of both lists, each of the first before the first one of the second that it stands above
+-- the members of both lists, each of the first before the first one of the second that it stands
+-- above
 abbrev pub merged : Forest Content → List ℕ → List ℕ → List ℕ
 merged f bs [] = bs
 merged f bs (x ∷ xs) = around f bs x ++ x ∷ merged f (beyond f bs x) xs

@@ -1,4 +1,5 @@
--- The command removeFormat (HTML Editing APIs, "the removeFormat command"). The steps are those of docs/ALGORITHMS.md.
+-- The command removeFormat (HTML Editing APIs, "the removeFormat command"). The steps are those of
+-- docs/ALGORITHMS.md.
 use Rattle.std.specs.Prelude.{ℕ, Bool, true, false, List, filter, None}
 use Rattle.std.specs.Option.{option_map_or}
 use Rattle.dom_model.specs.Forest.{parent_of}

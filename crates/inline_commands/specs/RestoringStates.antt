@@ -1,5 +1,5 @@
--- Restoring recorded states and values (HTML Editing APIs, "restore states and values"). The steps are those of
--- docs/ALGORITHMS.md.
+-- Restoring recorded states and values (HTML Editing APIs, "restore states and values"). The steps
+-- are those of docs/ALGORITHMS.md.
 use Rattle.std.specs.Prelude.{ℕ, Bool, false, not, List, bytes_eq, Option, Some, None, is_none, if◌then◌else◌}
 use Rattle.std.specs.Option.{option_map_or}
 use Rattle.html_names.specs.declared.commands.Command.{Command}
@@ -21,7 +21,8 @@ use Rattle.inline_commands.specs.ValueCommands.{apply_value}
 
 -- ---- restore states and values, step 2: without a formattable node
 
--- restore states and values, step 2: the entry becomes the override of its command; null is passed over
+-- restore states and values, step 2: the entry becomes the override of its command; null is passed
+-- over
 abbrev pub override_by : Command → Setting → Run (Unit {0})
 override_by c Absent = done
 override_by c setting = set_setting c setting
@@ -50,7 +51,8 @@ restore_on c = look λ s. if state_of s s.host c then done else toggle_state c
 unfoldable pub restore_off : Command → Run (Unit {0})
 restore_off c = look λ s. if state_of s s.host c then toggle_state c else done
 
--- restore states and values, step 4: a font or a colour that isn't equivalent to the command's value
+-- restore states and values, step 4: a font or a colour that isn't equivalent to the command's
+-- value
 unfoldable pub restore_shown : Command → List ℕ → Run (Unit {0})
 restore_shown c v = look λ s.
     if equivalent c (Some v) (Some (value_of s s.host c)) then done else (apply_value c v >> done)
@@ -71,12 +73,14 @@ is_other_value s c v = differs_from s c v (setting_of s.overrides c)
 
 -- restore states and values, step 5: a link
 unfoldable pub restore_link : List ℕ → Run (Unit {0})
-restore_link v = look λ s. if is_other_value s command.CreateLink v then create_link v >> done else done
+restore_link v =
+    look λ s. if is_other_value s command.CreateLink v then create_link v >> done else done
 
 -- restore states and values, step 6: a size, by the legacy size of its pixels
 unfoldable pub restore_size : List ℕ → Run (Unit {0})
 restore_size v = look λ s.
-    if is_other_value s command.FontSize v then apply_value command.FontSize (legacy_text v) >> done else done
+    if is_other_value s command.FontSize v then apply_value command.FontSize (legacy_text v) >> done
+    else done
 
 -- restore states and values, steps 4 to 6: a text, by its command
 abbrev pub restore_text : Command → List ℕ → Run (Unit {0})
@@ -103,4 +107,5 @@ restore_entry o = restore_setting o.command o.setting
 -- restore states and values, step 1, and then 2, or 3 to 6 for each entry in order
 unfoldable pub restore_states : List Override → Run (Unit {0})
 restore_states list = look λ s.
-    if is_none (first_formattable s s.host) then for_each list set_override else for_each list restore_entry
+    if is_none (first_formattable s s.host) then for_each list set_override
+    else for_each list restore_entry

@@ -22,11 +22,13 @@ is_link f l = option_map_or content.is_link (content_of f l) false
 -- contained in the range, where that isn't collapsed, or an ancestor of the node of one of its ends
 unfoldable pub is_touched : Forest Content → Point → Point → ℕ → Bool
 is_touched f start end l =
-    (is_before f start end && is_contained f start end l) || (is_ancestor f l start.label || is_ancestor f l end.label)
+    (is_before f start end && is_contained f start end l)
+    || (is_ancestor f l start.label || is_ancestor f l end.label)
 
 -- the links that a range touches, in tree order
 unfoldable pub links_in : Forest Content → Point → Point → List ℕ
-links_in f start end = filter (λ l. is_link f l && is_touched f start end l) (preorder (tree_of f 0))
+links_in f start end =
+    filter (λ l. is_link f l && is_touched f start end l) (preorder (tree_of f 0))
 
 abbrev pub links_of_pair : Forest Content → Pair → List ℕ
 links_of_pair f pair = links_in f (start_of f pair) (end_of f pair)

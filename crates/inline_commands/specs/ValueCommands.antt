@@ -15,7 +15,8 @@ use Rattle.inline_value.specs.Selections.{set_value}
 unfoldable pub size_value : List ℕ → Option (List ℕ)
 size_value v = option_map size_keyword (legacy_size_of v)
 
--- apply a value, step 3: the value where it is a colour, or else with "#" before it where that is one
+-- apply a value, step 3: the value where it is a colour, or else with "#" before it where that is
+-- one
 unfoldable pub if_colour : List ℕ → Option (List ℕ)
 if_colour v = if is_some (colour_of v) then Some v else None
 

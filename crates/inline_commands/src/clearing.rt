@@ -53,9 +53,10 @@ fn touched_links(alloc: Global, doc: &Doc) -> Result<Vec<NodeRef>, AllocError>
     }
 }
 
-/// The command unlink: of the links that the active range touches, an editable one whose one attribute is href
-/// gives way to its children, and another editable one loses its href. It answers true, also where there is none.
-/// It looks at the nodes from the start to the end of the range and those above them.
+/// The command unlink: of the links that the active range touches, an editable one whose one
+/// attribute is href gives way to its children, and another editable one loses its href. It answers
+/// true, also where there is none. It looks at the nodes from the start to the end of the range and
+/// those above them.
 #[tactic(auto, using(edit_model::proofs::Steps::steps, edit_model::proofs::Steps::exits), unfolding(crate::specs::Unlink::unlink))]
 pub fn unlink(alloc: Global, doc: &mut Doc) -> Result<bool, EditFault>
     requires open { IsOpen doc.old }

@@ -22,7 +22,8 @@ use wrap_split::{split_around, turn_bound};
 fn unwrap_each(doc: &mut Doc, list: &[NodeRef]) -> Result<(), EditFault>
     requires open { IsOpen doc.old }
     requires list_held { EachHeld doc.old list.now }
-    ensures gives { Gives result doc.old.state doc.new.state (for_each (labels_of list.now) unwrap) }
+    ensures gives { Gives result doc.old.state doc.new.state
+        (for_each (labels_of list.now) unwrap) }
     ensures keeps { Keeps doc.old doc.new }
 {
     for node in list {
@@ -75,7 +76,8 @@ fn part_from_format(alloc: Global, doc: &mut Doc, node: NodeRef) -> Result<(), E
 fn part_each(alloc: Global, doc: &mut Doc, list: &[NodeRef]) -> Result<(), EditFault>
     requires open { IsOpen doc.old }
     requires list_held { EachHeld doc.old list.now }
-    ensures gives { Gives result doc.old.state doc.new.state (for_each (labels_of list.now) part_from_format) }
+    ensures gives { Gives result doc.old.state doc.new.state
+        (for_each (labels_of list.now) part_from_format) }
     ensures keeps { Keeps doc.old doc.new }
 {
     for node in list {

@@ -41,7 +41,8 @@ fn relink_each(
 ) -> Result<(), EditFault>
     requires open { IsOpen doc.old }
     requires list_held { EachHeld doc.old list.now }
-    ensures gives { Gives result doc.old.state doc.new.state (for_each (labels_of list.now) (relink value.now)) }
+    ensures gives { Gives result doc.old.state doc.new.state
+        (for_each (labels_of list.now) (relink value.now)) }
     ensures keeps { Keeps doc.old doc.new }
 {
     for node in list {
@@ -77,7 +78,8 @@ fn relink_around(
 ) -> Result<(), EditFault>
     requires open { IsOpen doc.old }
     requires list_held { EachHeld doc.old list.now }
-    ensures gives { Gives result doc.old.state doc.new.state (for_each (labels_of list.now) (relink_above value.now)) }
+    ensures gives { Gives result doc.old.state doc.new.state
+        (for_each (labels_of list.now) (relink_above value.now)) }
     ensures keeps { Keeps doc.old doc.new }
 {
     for node in list {

@@ -68,7 +68,8 @@ pub(crate) fn links_above(
 ) -> Result<Vec<NodeRef>, AllocError>
     requires { Holds doc.now node }
     ensures held { IfOk result (λ list. EachHeld doc.now list.items) }
-    ensures links { IfOk result (λ list. labels_of list.items ≡ links_above doc.now.state.trees node.label) }
+    ensures links { IfOk result (λ list. labels_of list.items
+        ≡ links_above doc.now.state.trees node.label) }
 {
     doc.valid();
     let mut list = Vec::new(alloc);
@@ -102,7 +103,8 @@ fn links_inside(alloc: Global, doc: &Doc, range: (Point, Point)) -> Result<Vec<N
     requires start_there { 0 < count_of doc.now.state.trees range.0.label }
     requires end_there { 0 < count_of doc.now.state.trees range.1.label }
     ensures held { IfOk result (λ list. EachHeld doc.now list.items) }
-    ensures links { IfOk result (λ list. labels_of list.items ≡ links_inside doc.now.state.trees range.0 range.1) }
+    ensures links { IfOk result (λ list. labels_of list.items
+        ≡ links_inside doc.now.state.trees range.0 range.1) }
 {
     if !comes_before(doc, range.0, range.1) {
         return Ok(Vec::new(alloc));
@@ -151,8 +153,8 @@ fn links_beside(
     not_above(alloc, doc, &above, other)
 }
 
-// Appends the nodes in a list from a place on for as long as each stands above a node. It answers at which place it
-// stopped.
+// Appends the nodes in a list from a place on for as long as each stands above a node. It answers
+// at which place it stopped.
 fn push_around(
     list: &mut Vec<NodeRef>,
     doc: &Doc,
@@ -182,8 +184,8 @@ fn push_around(
     Ok(at)
 }
 
-// Appends two lists in tree order: each node of the first, which are ancestors of one node, before the first node
-// of the second that it stands above.
+// Appends two lists in tree order: each node of the first, which are ancestors of one node, before
+// the first node of the second that it stands above.
 fn push_merged(
     list: &mut Vec<NodeRef>,
     doc: &Doc,
@@ -206,13 +208,15 @@ fn push_merged(
     Ok(())
 }
 
-/// The links that unlink is for, in tree order: those around the start of the range, and with those that it
-/// contains those around its end alone. It looks at the nodes from the start to the end and those above them.
+/// The links that unlink is for, in tree order: those around the start of the range, and with those
+/// that it contains those around its end alone. It looks at the nodes from the start to the end and
+/// those above them.
 #[tactic(auto, using(edit_actions::proofs::Placed::placed_here))]
 pub(crate) fn links_of(alloc: Global, doc: &Doc, pair: Pair) -> Result<Vec<NodeRef>, AllocError>
     requires { IsPlacedPair doc.now.state.trees pair }
     ensures held { IfOk result (λ list. EachHeld doc.now list.items) }
-    ensures links { IfOk result (λ list. labels_of list.items ≡ links_of_pair doc.now.state.trees pair) }
+    ensures links { IfOk result (λ list. labels_of list.items
+        ≡ links_of_pair doc.now.state.trees pair) }
 {
     doc.valid();
     let (start, end) = ends_of(doc, pair);

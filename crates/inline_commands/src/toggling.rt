@@ -1,4 +1,5 @@
-//! The commands that turn a style, or a script, on and off. The steps are those of docs/ALGORITHMS.md.
+//! The commands that turn a style, or a script, on and off. The steps are those of
+//! docs/ALGORITHMS.md.
 
 ghost use Rattle.std.specs.Prelude.{◌≡◌};
 ghost use Rattle.std.specs.Option.{option_copied};

@@ -76,7 +76,8 @@ fn apply_colour(
     command: Command,
 ) -> Result<bool, EditFault>
     requires open { IsOpen doc.old }
-    ensures gives { Gives result doc.old.state doc.new.state (take command (colour_value value.now)) }
+    ensures gives { Gives result doc.old.state doc.new.state
+        (take command (colour_value value.now)) }
     ensures keeps { Keeps doc.old doc.new }
 {
     if Colour::read(value).is_some() {

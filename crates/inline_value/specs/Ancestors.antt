@@ -1,5 +1,5 @@
--- Fixing disallowed ancestors of a node (HTML Editing APIs, "fix disallowed ancestors"). The steps are those of
--- docs/ALGORITHMS.md.
+-- Fixing disallowed ancestors of a node (HTML Editing APIs, "fix disallowed ancestors"). The steps
+-- are those of docs/ALGORITHMS.md.
 use Rattle.std.specs.Prelude.{ℕ, Bool, true, false, ◌||◌, ◌&&◌, not, [], ◌∷◌, codes, if◌then◌else◌}
 use Rattle.std.specs.List.{list_any}
 use Rattle.std.specs.Option.{option_map_or}
@@ -54,7 +54,8 @@ description_list = record { name = codes "dl"; attributes = [] }
 unfoldable pub wrap_description : ℕ → Run (Unit {0})
 wrap_description n = wrap (Named (codes "dl") true) (Make description_list) (n ∷ []) >> done
 
--- fix disallowed ancestors, step 2 b: the host takes no paragraph, or the node is no prohibited paragraph child
+-- fix disallowed ancestors, step 2 b: the host takes no paragraph, or the node is no prohibited
+-- paragraph child
 unfoldable pub hosts_none : State → Bool
 hosts_none s = not (option_map_or (λ h. name_allowed_in (codes "p") s.trees h) s.host false)
 
@@ -90,4 +91,5 @@ replace_misplaced n = look λ s.
 -- fix disallowed ancestors, step 1, and then 2 or 3
 unfoldable pub fix_ancestors : ℕ → Run (Unit {0})
 fix_ancestors n = look λ s.
-    if not (is_editable_for s n) then done else (if has_place s n then lift n else replace_misplaced n)
+    if not (is_editable_for s n) then done
+    else (if has_place s n then lift n else replace_misplaced n)

@@ -1,4 +1,5 @@
--- Clearing the value of an element (HTML Editing APIs, "clear the value"). The steps are those of docs/ALGORITHMS.md.
+-- Clearing the value of an element (HTML Editing APIs, "clear the value"). The steps are those of
+-- docs/ALGORITHMS.md.
 use Rattle.std.specs.Prelude.{ℕ, ◌||◌, not, List, [], ◌∷◌, codes, Option, Some, None, is_none, if◌then◌else◌}
 use Rattle.dom_model.specs.Contents.{has_name}
 use Rattle.dom_model.specs.Forest.{children_of}
@@ -37,11 +38,13 @@ property_name property.TextAlign = codes "text-align"
 -- property with its last word
 unfoldable pub write_words : ℕ → List ℕ → Run (Unit {0})
 write_words e text =
-    if is_empty text then unset_style e (codes "text-decoration") else set_style e (codes "text-decoration") text
+    if is_empty text then unset_style e (codes "text-decoration")
+    else set_style e (codes "text-decoration") text
 
 -- clear the value, step 3: the word of a line goes
 unfoldable pub drop_line : DecorationLine → ℕ → Run (Unit {0})
-drop_line line e = look λ s. given (decoration_of s e) done λ text. write_words e (without_line text line)
+drop_line line e =
+    look λ s. given (decoration_of s e) done λ text. write_words e (without_line text line)
 
 -- clear the value, step 3: for strikethrough and underline alone
 abbrev pub drop_word : Subject → ℕ → Run (Unit {0})
@@ -66,7 +69,8 @@ drop_attribute name attribute e = look λ s.
 
 -- clear the value, step 5: from a font
 unfoldable pub drop_hint : Command → ℕ → Run (Unit {0})
-drop_hint command e = given (hint_of (subject command)) done λ hint. drop_attribute (codes "font") hint e
+drop_hint command e =
+    given (hint_of (subject command)) done λ hint. drop_attribute (codes "font") hint e
 
 -- clear the value, step 6
 abbrev pub drop_link : Subject → ℕ → Run (Unit {0})

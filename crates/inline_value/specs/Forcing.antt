@@ -1,4 +1,5 @@
--- Forcing a value on a node (HTML Editing APIs, "force the value"). The steps are those of docs/ALGORITHMS.md.
+-- Forcing a value on a node (HTML Editing APIs, "force the value"). The steps are those of
+-- docs/ALGORITHMS.md.
 use Rattle.std.specs.Prelude.{ℕ, zero, suc, Bool, true, false, ◌||◌, ◌&&◌, not, List, [], ◌∷◌, codes, map, Option, Some, is_none, if◌then◌else◌}
 use Rattle.dom_model.specs.declared.Content.{Content}
 use Rattle.dom_model.specs.Contents.{has_name, is_element_at}
@@ -67,7 +68,8 @@ joined command v n = do
 -- force the value, step 5, line a: the links around the node become spans
 unfoldable pub rename_link : ℕ → Run (Unit {0})
 rename_link e = look λ s.
-    if is_editable_for s e && has_name s.trees e (codes "a") then (set_tag_name e (codes "span") >> done) else done
+    if is_editable_for s e && has_name s.trees e (codes "a") then
+    (set_tag_name e (codes "span") >> done) else done
 
 -- force the value, step 5, line a: each of them, the nearest first
 unfoldable pub rename_links : ℕ → Run (Unit {0})
@@ -85,7 +87,8 @@ make_blank b = make_element b.name b.attributes
 -- force the value, step 5: line a, and then the element by lines a to e
 unfoldable pub make_wrapper : Command → List ℕ → ℕ → Run ℕ
 make_wrapper command v n =
-    clear_way (subject command) n >> look λ s. make_blank (wrapper_for s.flags.css_styling command v)
+    clear_way (subject command) n >> look λ s.
+    make_blank (wrapper_for s.flags.css_styling command v)
 
 -- ---- force the value, step 7: a new element that doesn't give the value gets a style
 
@@ -138,11 +141,13 @@ unless_alike command v n = look λ s.
 -- force the value, step 2, and then from 3 on
 unfoldable pub force_node : Command → List ℕ → ℕ → Run Bool
 force_node command v n = look λ s.
-    if is_phrase s n then (joined command v n >> unless_alike command v n) else unless_alike command v n
+    if is_phrase s n then (joined command v n >> unless_alike command v n)
+    else unless_alike command v n
 
 -- force the value, step 1, and then from 2 on
 unfoldable pub force_self : Command → List ℕ → ℕ → Run Bool
-force_self command v n = look λ s. if is_none (parent_of s.trees n) then answer false else force_node command v n
+force_self command v n =
+    look λ s. if is_none (parent_of s.trees n) then answer false else force_node command v n
 
 -- ---- and its children
 
@@ -152,7 +157,8 @@ heirs s n = if is_editable_for s n then children_of s.trees n else []
 
 -- force the value, steps 4 and 9: one that gives another value is passed over
 unfoldable pub force_child : (ℕ → Run (Unit {0})) → Command → List ℕ → ℕ → Run (Unit {0})
-force_child again command v k = look λ s. if specifies_other s.trees k command (Some v) then done else again k
+force_child again command v k =
+    look λ s. if specifies_other s.trees k command (Some v) then done else again k
 
 -- force the value, steps 4 and 9: on the children, where they are next
 unfoldable pub force_heirs : (ℕ → Run (Unit {0})) → Command → List ℕ → ℕ → Bool → Run (Unit {0})
@@ -162,7 +168,8 @@ force_heirs again command v n wanted =
 -- force the value, steps 1 to 9; `fuel` says how deep it may be nested
 unfoldable pub forced : ℕ → Command → List ℕ → ℕ → Run (Unit {0})
 forced zero command v n = done
-forced (suc fuel) command v n = force_self command v n >>= force_heirs (forced fuel command v) command v n
+forced (suc fuel) command v n =
+    force_self command v n >>= force_heirs (forced fuel command v) command v n
 
 -- force the value, steps 1 to 9, nested as deep as the document has nodes
 unfoldable pub force_value : Command → List ℕ → ℕ → Run (Unit {0})

@@ -25,8 +25,10 @@ override command setting = record { command = command; setting = setting }
 -- record current overrides, step 1: the commands, in order
 unfoldable pub overriding_commands : List Command
 overriding_commands =
-    command.CreateLink ∷ command.Bold ∷ command.Italic ∷ command.Strikethrough ∷ command.Subscript ∷ command.Superscript
-    ∷ command.Underline ∷ command.FontName ∷ command.FontSize ∷ command.ForeColor ∷ command.HiliteColor ∷ []
+    command.CreateLink ∷ command.Bold ∷ command.Italic ∷ command.Strikethrough ∷ command.Subscript
+    ∷ command.Superscript
+    ∷ command.Underline ∷ command.FontName ∷ command.FontSize ∷ command.ForeColor
+    ∷ command.HiliteColor ∷ []
 
 abbrev pub is_set : Setting → Bool
 is_set Absent = false
@@ -35,7 +37,8 @@ is_set _ = true
 abbrev pub overrides_among : State → List Command → List Override
 overrides_among s [] = []
 overrides_among s (c ∷ commands) =
-    if is_set (setting_of s.overrides c) then override c (setting_of s.overrides c) ∷ overrides_among s commands
+    if is_set (setting_of s.overrides c) then override c (setting_of s.overrides c)
+    ∷ overrides_among s commands
     else overrides_among s commands
 
 -- record current overrides, step 1
@@ -70,8 +73,10 @@ answered s c = override c (Text (value_of s s.host c))
 -- record current states and values, step 2
 unfoldable pub states_at : State → ℕ → List Override
 states_at s n =
-    override_at s.trees n command.CreateLink ∷ on_at s.trees n command.Bold ∷ on_at s.trees n command.Italic
-    ∷ on_at s.trees n command.Strikethrough ∷ on_at s.trees n command.Subscript ∷ on_at s.trees n command.Superscript
+    override_at s.trees n command.CreateLink ∷ on_at s.trees n command.Bold
+    ∷ on_at s.trees n command.Italic
+    ∷ on_at s.trees n command.Strikethrough ∷ on_at s.trees n command.Subscript
+    ∷ on_at s.trees n command.Superscript
     ∷ on_at s.trees n command.Underline ∷ answered s command.FontName
     ∷ answered s command.ForeColor ∷ answered s command.HiliteColor
     ∷ override_at s.trees n command.FontSize ∷ []

@@ -1,5 +1,5 @@
--- Pushing values down to the children of an ancestor (HTML Editing APIs, "push down values"). The steps are those of
--- docs/ALGORITHMS.md.
+-- Pushing values down to the children of an ancestor (HTML Editing APIs, "push down values"). The
+-- steps are those of docs/ALGORITHMS.md.
 use Rattle.std.specs.Prelude.{ℕ, Bool, false, ◌==◌, ◌||◌, ◌&&◌, not, List, [], ◌∷◌, Option, Some, None, is_some, is_none, reverse, if◌then◌else◌}
 use Rattle.std.specs.List.{list_any}
 use Rattle.std.specs.Option.{option_map_or}
@@ -16,7 +16,8 @@ use Rattle.inline_value.specs.Forcing.{has_alike, force, ancestors}
 
 -- an editable element whose value isn't alike to v
 abbrev pub is_other : State → Command → Option (List ℕ) → ℕ → Bool
-is_other s command v e = is_editable_for s e && (is_element_at s.trees e && not (has_alike s e command v))
+is_other s command v e =
+    is_editable_for s e && (is_element_at s.trees e && not (has_alike s e command v))
 
 abbrev pub leading : (ℕ → Bool) → List ℕ → List ℕ
 leading test [] = []
@@ -33,13 +34,16 @@ has_element_above s n = option_map_or (is_element_at s.trees) (parent_of s.trees
 unfoldable pub needs_none : State → Command → Option (List ℕ) → ℕ → Bool
 needs_none s command v n = not (has_element_above s n) || has_alike s n command v
 
--- push down, step 5: a child is passed over that is the node, is the next ancestor, or gives another value
+-- push down, step 5: a child is passed over that is the node, is the next ancestor, or gives
+-- another value
 abbrev pub is_passed : State → Command → Option (List ℕ) → ℕ → Option ℕ → ℕ → Bool
-is_passed s command w n next k = (k == n) || (is_label next k || specifies_other s.trees k command w)
+is_passed s command w n next k =
+    (k == n) || (is_label next k || specifies_other s.trees k command w)
 
 -- push down, step 5: on any other child the value is forced
 unfoldable pub push_to : Command → Option (List ℕ) → ℕ → Option ℕ → ℕ → Run (Unit {0})
-push_to command w n next k = look λ s. if is_passed s command w n next k then done else force command w k
+push_to command w n next k =
+    look λ s. if is_passed s command w n next k then done else force command w k
 
 -- push down, step 5: the element e is cleared where it gives a value
 unfoldable pub clear_level : Command → ℕ → Run (Unit {0})
@@ -64,7 +68,8 @@ push_levels command w n (e ∷ list) = look λ s.
 
 -- push down, step 4: the parent of the outermost ancestor hasn't the value
 abbrev pub lacks_above : State → Command → Option (List ℕ) → ℕ → Bool
-lacks_above s command v e = option_map_or (λ p. not (has_alike s p command v)) (parent_of s.trees e) false
+lacks_above s command v e =
+    option_map_or (λ p. not (has_alike s p command v)) (parent_of s.trees e) false
 
 -- push down, step 3: no value is given there, and one is wanted; step 4
 unfoldable pub is_hopeless : State → Command → Option (List ℕ) → ℕ → Bool
@@ -74,7 +79,8 @@ is_hopeless s command v e =
 -- push down, steps 3 to 5, where e is the outermost
 unfoldable pub push_from : Command → Option (List ℕ) → ℕ → List ℕ → ℕ → Run (Unit {0})
 push_from command v n list e = look λ s.
-    if is_hopeless s command v e then done else push_levels command (specified s.trees e command) n (reverse list)
+    if is_hopeless s command v e then done
+    else push_levels command (specified s.trees e command) n (reverse list)
 
 -- push down, step 2, and then from 3 on
 unfoldable pub push_listed : Command → Option (List ℕ) → ℕ → List ℕ → Run (Unit {0})
@@ -82,7 +88,8 @@ push_listed command v n list = given (last_in list) done λ e. push_from command
 
 -- an ancestor gives a value
 unfoldable pub is_given_above : State → Command → ℕ → Bool
-is_given_above s command n = list_any (λ e. is_some (specified s.trees e command)) (ancestors s.trees n)
+is_given_above s command n =
+    list_any (λ e. is_some (specified s.trees e command)) (ancestors s.trees n)
 
 -- steps 1 to 4 end: a value is wanted, and no ancestor gives one
 unfoldable pub keeps_values : State → Command → Option (List ℕ) → ℕ → Bool

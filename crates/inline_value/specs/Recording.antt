@@ -53,11 +53,13 @@ record_values list = look λ s. answer (values_of s list)
 -- restore the values, step 1, with u as the value that is given now
 abbrev pub restored_to : Command → ℕ → Option (List ℕ) → Option (List ℕ) → Run (Unit {0})
 restored_to command n None u = if is_some u then push_down command None n else done
-restored_to command n (Some w) u = if equivalent command u (Some w) then done else force command (Some w) n
+restored_to command n (Some w) u =
+    if equivalent command u (Some w) then done else force command (Some w) n
 
 -- restore the values, step 1: one entry
 unfoldable pub restore_value : Recorded → Run (Unit {0})
-restore_value r = look λ s. restored_to r.command r.node r.value (given_value s.trees r.node r.command)
+restore_value r =
+    look λ s. restored_to r.command r.node r.value (given_value s.trees r.node r.command)
 
 -- restore the values, step 1: each entry, in order
 unfoldable pub restore_values : List Recorded → Run (Unit {0})

@@ -1,5 +1,5 @@
--- Reordering modifiable descendants (HTML Editing APIs, "reorder modifiable descendants"). The steps are those of
--- docs/ALGORITHMS.md.
+-- Reordering modifiable descendants (HTML Editing APIs, "reorder modifiable descendants"). The
+-- steps are those of docs/ALGORITHMS.md.
 use Rattle.std.specs.Prelude.{ℕ, Bool, ◌==◌, ◌||◌, ◌&&◌, not, List, Option, Some, None, is_none, if◌then◌else◌}
 use Rattle.dom_model.specs.declared.Content.{Content}
 use Rattle.dom_model.specs.Forest.{Forest, next_of, first_of, children_of}
@@ -14,7 +14,8 @@ use Rattle.wrap_split.specs.Walks.{turn_bound, walk}
 
 -- a simple modifiable element whose specified value is equivalent to v
 unfoldable pub gives_value : Forest Content → ℕ → Command → List ℕ → Bool
-gives_value f l command v = is_simple_modifiable f l && equivalent command (specified f l command) (Some v)
+gives_value f l command v =
+    is_simple_modifiable f l && equivalent command (specified f l command) (Some v)
 
 -- the first child, where it is the only one and modifiable
 abbrev pub if_sole : Forest Content → Option ℕ → Option ℕ

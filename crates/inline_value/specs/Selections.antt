@@ -1,5 +1,5 @@
--- Setting a value on the selection (HTML Editing APIs, "set the selection's value"). The steps are those of
--- docs/ALGORITHMS.md.
+-- Setting a value on the selection (HTML Editing APIs, "set the selection's value"). The steps are
+-- those of docs/ALGORITHMS.md.
 use Rattle.std.specs.Prelude.{ℕ, Bool, false, ◌==◌, ◌&&◌, not, List, [], filter, Option, Some, None, is_none, if◌then◌else◌}
 use Rattle.std.specs.Option.{option_map_or}
 use Rattle.dom_model.specs.declared.Content.{Content}
@@ -32,7 +32,8 @@ use Rattle.edit_query.specs.Formattable.{first_formattable}
 unfoldable pub is_amid : State → Point → Bool
 is_amid s at =
     is_words s.trees at.label
-    && (is_editable_for s at.label && (not (at.offset == 0) && not (at.offset == length_of s.trees at.label)))
+    && (is_editable_for s at.label
+    && (not (at.offset == 0) && not (at.offset == length_of s.trees at.label)))
 
 -- the later of two points
 abbrev pub at_least : Forest Content → Point → Point → Point
@@ -55,7 +56,8 @@ start_text tail = set_start (record { label = tail; offset = 0 })
 
 -- split the ends, step 1, with the point where the range starts
 unfoldable pub split_at_start : Point → Run (Unit {0})
-split_at_start at = look λ s. if is_amid s at then (split_words at.label at.offset >>= start_text) else done
+split_at_start at =
+    look λ s. if is_amid s at then (split_words at.label at.offset >>= start_text) else done
 
 -- split the ends, step 2
 unfoldable pub split_at_end : Point → Run (Unit {0})
@@ -93,7 +95,8 @@ elements_in_range s = filter (is_element_at s.trees) (editable_in_range s)
 -- ---- set the value, step 1: without a formattable node the overrides are set
 
 abbrev pub state_setting : Command → Option (List ℕ) → Setting
-state_setting command v = if option_map_or (is_one_of (activated_values command)) v false then On else Off
+state_setting command v =
+    if option_map_or (is_one_of (activated_values command)) v false then On else Off
 
 abbrev pub value_setting : Option (List ℕ) → Setting
 value_setting None = Absent
@@ -122,7 +125,8 @@ unset_rival _ = done
 
 -- set the value, step 1: the command's override, and that of its rival
 unfoldable pub set_overrides : Command → Option (List ℕ) → Run (Unit {0})
-set_overrides command v = given (override_for command v) done (set_setting command) >> unset_rival command
+set_overrides command v =
+    given (override_for command v) done (set_setting command) >> unset_rival command
 
 -- ---- set the value, steps 3 and 4
 

@@ -46,7 +46,9 @@ abbrev pub font_of_size : ℕ → Blank
 font_of_size n = with_attribute (codes "font") (codes "size") ((48 + n) ∷ [])
 
 unfoldable pub size_font : Bool → List ℕ → Option Blank
-size_font css v = option_and_then (λ n. if not css || (n == 7) then Some (font_of_size n) else None) (size_of_keyword v)
+size_font css v =
+    option_and_then (λ n. if not css || (n == 7) then Some (font_of_size n)
+    else None) (size_of_keyword v)
 
 -- line c: a sub or a sup
 unfoldable pub script_element : List ℕ → Option Blank
@@ -62,7 +64,8 @@ named_for word name v = if bytes_eq word v then Some (bare name) else None
 -- line d: a font with a colour that isn't transparent
 abbrev pub colour_font_of : Option Colour → Option Blank
 colour_font_of None = None
-colour_font_of (Some c) = if c.clear then None else Some (with_attribute (codes "font") (codes "color") (hex_text c))
+colour_font_of (Some c) =
+    if c.clear then None else Some (with_attribute (codes "font") (codes "color") (hex_text c))
 
 unfoldable pub colour_font : List ℕ → Option Blank
 colour_font v = colour_font_of (colour_of v)

@@ -157,7 +157,8 @@ pub fn split_out(alloc: Global, doc: &mut Doc, child: NodeRef) -> Result<(), Edi
     restore_values(alloc, doc, &values)
 }
 
-// Fix disallowed ancestors, step 2 d: a child leaves the node where it may not stand in a paragraph.
+// Fix disallowed ancestors, step 2 d: a child leaves the node where it may not stand in a
+// paragraph.
 #[tactic(auto, using(edit_model::proofs::Steps::steps, edit_model::proofs::Steps::exits), unfolding(crate::specs::Ancestors::part_child))]
 fn part_child(alloc: Global, doc: &mut Doc, child: NodeRef) -> Result<(), EditFault>
     requires open { IsOpen doc.old }
@@ -176,7 +177,8 @@ fn part_child(alloc: Global, doc: &mut Doc, child: NodeRef) -> Result<(), EditFa
 fn part_each(alloc: Global, doc: &mut Doc, list: &[NodeRef]) -> Result<(), EditFault>
     requires open { IsOpen doc.old }
     requires list_held { EachHeld doc.old list.now }
-    ensures gives { Gives result doc.old.state doc.new.state (for_each (labels_of list.now) part_child) }
+    ensures gives { Gives result doc.old.state doc.new.state
+        (for_each (labels_of list.now) part_child) }
     ensures keeps { Keeps doc.old doc.new }
 {
     for child in list {

@@ -45,7 +45,8 @@ pub(crate) fn property_name(property: Property) -> &'static [u8]
 fn write_words(alloc: Global, doc: &mut Doc, node: NodeRef, text: &[char]) -> Result<(), EditFault>
     requires open { IsOpen doc.old }
     requires node_held { Holds doc.old node }
-    ensures gives { Gives result doc.old.state doc.new.state (spec.write_words node.label text.now) }
+    ensures gives { Gives result doc.old.state doc.new.state
+        (spec.write_words node.label text.now) }
     ensures keeps { Keeps doc.old doc.new }
 {
     if text.is_empty() {
@@ -80,7 +81,8 @@ fn drop_line(
 fn drop_word(alloc: Global, doc: &mut Doc, node: NodeRef, command: Command) -> Result<(), EditFault>
     requires open { IsOpen doc.old }
     requires node_held { Holds doc.old node }
-    ensures gives { Gives result doc.old.state doc.new.state (spec.drop_word (subject command) node.label) }
+    ensures gives { Gives result doc.old.state doc.new.state
+        (spec.drop_word (subject command) node.label) }
     ensures keeps { Keeps doc.old doc.new }
 {
     match subject_of(command) {
@@ -99,7 +101,8 @@ fn drop_property(
 ) -> Result<(), EditFault>
     requires open { IsOpen doc.old }
     requires node_held { Holds doc.old node }
-    ensures gives { Gives result doc.old.state doc.new.state (spec.drop_property command node.label) }
+    ensures gives { Gives result doc.old.state doc.new.state
+        (spec.drop_property command node.label) }
     ensures keeps { Keeps doc.old doc.new }
 {
     match relevant_property(command) {
@@ -131,7 +134,8 @@ fn drop_attribute(
 ) -> Result<(), EditFault>
     requires open { IsOpen doc.old }
     requires node_held { Holds doc.old node }
-    ensures gives { Gives result doc.old.state doc.new.state (spec.drop_attribute name.now attribute.now node.label) }
+    ensures gives { Gives result doc.old.state doc.new.state
+        (spec.drop_attribute name.now attribute.now node.label) }
     ensures keeps { Keeps doc.old doc.new }
 {
     if has_name(doc, node, name) {
@@ -160,7 +164,8 @@ fn drop_hint(alloc: Global, doc: &mut Doc, node: NodeRef, command: Command) -> R
 fn drop_link(alloc: Global, doc: &mut Doc, node: NodeRef, command: Command) -> Result<(), EditFault>
     requires open { IsOpen doc.old }
     requires node_held { Holds doc.old node }
-    ensures gives { Gives result doc.old.state doc.new.state (spec.drop_link (subject command) node.label) }
+    ensures gives { Gives result doc.old.state doc.new.state
+        (spec.drop_link (subject command) node.label) }
     ensures keeps { Keeps doc.old doc.new }
 {
     match subject_of(command) {
@@ -180,7 +185,8 @@ fn span_for(
 ) -> Result<NodeList, EditFault>
     requires open { IsOpen doc.old }
     requires node_held { Holds doc.old node }
-    ensures gives { GivesAs labels_of result doc.old.state doc.new.state (spec.span_for command node.label) }
+    ensures gives { GivesAs labels_of result doc.old.state doc.new.state
+        (spec.span_for command node.label) }
     ensures held { IfOk result (λ list. EachHeld doc.new list) }
     ensures keeps { Keeps doc.old doc.new }
 {
@@ -202,7 +208,8 @@ fn strip(
 ) -> Result<NodeList, EditFault>
     requires open { IsOpen doc.old }
     requires node_held { Holds doc.old node }
-    ensures gives { GivesAs labels_of result doc.old.state doc.new.state (spec.stripped command node.label) }
+    ensures gives { GivesAs labels_of result doc.old.state doc.new.state
+        (spec.stripped command node.label) }
     ensures held { IfOk result (λ list. EachHeld doc.new list) }
     ensures keeps { Keeps doc.old doc.new }
 {
@@ -218,7 +225,8 @@ fn strip(
 fn unwrapped(alloc: Global, doc: &mut Doc, node: NodeRef) -> Result<NodeList, EditFault>
     requires open { IsOpen doc.old }
     requires node_held { Holds doc.old node }
-    ensures gives { GivesAs labels_of result doc.old.state doc.new.state (spec.unwrapped node.label) }
+    ensures gives { GivesAs labels_of result doc.old.state doc.new.state
+        (spec.unwrapped node.label) }
     ensures held { IfOk result (λ list. EachHeld doc.new list) }
     ensures keeps { Keeps doc.old doc.new }
 {
@@ -239,7 +247,8 @@ pub fn clear_value(
 ) -> Result<NodeList, EditFault>
     requires open { IsOpen doc.old }
     requires node_held { Holds doc.old node }
-    ensures gives { GivesAs labels_of result doc.old.state doc.new.state (spec.clear_value command node.label) }
+    ensures gives { GivesAs labels_of result doc.old.state doc.new.state
+        (spec.clear_value command node.label) }
     ensures held { IfOk result (λ list. EachHeld doc.new list) }
     ensures keeps { Keeps doc.old doc.new }
 {

@@ -51,7 +51,8 @@ fn reorder_at(
 ) -> Result<(), EditFault>
     requires open { IsOpen doc.old }
     requires at_held { IfHeld doc.old at }
-    ensures gives { Gives result doc.old.state doc.new.state (spec.reorder_at command value.now (label_of at)) }
+    ensures gives { Gives result doc.old.state doc.new.state
+        (spec.reorder_at command value.now (label_of at)) }
     ensures keeps { Keeps doc.old doc.new }
 {
     match at {
@@ -71,7 +72,8 @@ fn reorder_prev(
 ) -> Result<(), EditFault>
     requires open { IsOpen doc.old }
     requires node_held { Holds doc.old node }
-    ensures gives { Gives result doc.old.state doc.new.state (spec.reorder_prev command value.now node.label) }
+    ensures gives { Gives result doc.old.state doc.new.state
+        (spec.reorder_prev command value.now node.label) }
     ensures keeps { Keeps doc.old doc.new }
 {
     let prev = doc.prev(node);
@@ -89,7 +91,8 @@ fn reorder_next(
 ) -> Result<(), EditFault>
     requires open { IsOpen doc.old }
     requires node_held { Holds doc.old node }
-    ensures gives { Gives result doc.old.state doc.new.state (spec.reorder_next command value.now node.label) }
+    ensures gives { Gives result doc.old.state doc.new.state
+        (spec.reorder_next command value.now node.label) }
     ensures keeps { Keeps doc.old doc.new }
 {
     let next = doc.next(node);
@@ -107,7 +110,8 @@ fn join(
 ) -> Result<(), EditFault>
     requires open { IsOpen doc.old }
     requires node_held { Holds doc.old node }
-    ensures gives { Gives result doc.old.state doc.new.state (spec.joined command value.now node.label) }
+    ensures gives { Gives result doc.old.state doc.new.state
+        (spec.joined command value.now node.label) }
     ensures keeps { Keeps doc.old doc.new }
 {
     reorder_prev(alloc, doc, value, node, command)?;
@@ -139,7 +143,8 @@ fn rename_link(alloc: Global, doc: &mut Doc, node: NodeRef) -> Result<(), EditFa
 fn rename_each(alloc: Global, doc: &mut Doc, list: &[NodeRef]) -> Result<(), EditFault>
     requires open { IsOpen doc.old }
     requires list_held { EachHeld doc.old list.now }
-    ensures gives { Gives result doc.old.state doc.new.state (for_each (labels_of list.now) spec.rename_link) }
+    ensures gives { Gives result doc.old.state doc.new.state
+        (for_each (labels_of list.now) spec.rename_link) }
     ensures keeps { Keeps doc.old doc.new }
 {
     for node in list {
@@ -165,7 +170,8 @@ fn rename_links(alloc: Global, doc: &mut Doc, node: NodeRef) -> Result<(), EditF
 fn clear_way(alloc: Global, doc: &mut Doc, node: NodeRef, command: Command) -> Result<(), EditFault>
     requires open { IsOpen doc.old }
     requires node_held { Holds doc.old node }
-    ensures gives { Gives result doc.old.state doc.new.state (spec.clear_way (subject command) node.label) }
+    ensures gives { Gives result doc.old.state doc.new.state
+        (spec.clear_way (subject command) node.label) }
     ensures keeps { Keeps doc.old doc.new }
 {
     match subject_of(command) {
@@ -185,7 +191,8 @@ fn make_wrapper(
 ) -> Result<NodeRef, EditFault>
     requires open { IsOpen doc.old }
     requires node_held { Holds doc.old node }
-    ensures gives { GivesNode result doc.old.state doc.new.state (spec.make_wrapper command value.now node.label) }
+    ensures gives { GivesNode result doc.old.state doc.new.state
+        (spec.make_wrapper command value.now node.label) }
     ensures held { IfOk result (λ made. Holds doc.new made) }
     ensures keeps { Keeps doc.old doc.new }
 {
@@ -205,7 +212,8 @@ fn set_property(
 ) -> Result<(), EditFault>
     requires open { IsOpen doc.old }
     requires node_held { Holds doc.old node }
-    ensures gives { Gives result doc.old.state doc.new.state (spec.set_relevant command value.now node.label) }
+    ensures gives { Gives result doc.old.state doc.new.state
+        (spec.set_relevant command value.now node.label) }
     ensures keeps { Keeps doc.old doc.new }
 {
     match relevant_property(command) {
@@ -246,7 +254,8 @@ fn style_wrapper(
 ) -> Result<(), EditFault>
     requires open { IsOpen doc.old }
     requires made_held { Holds doc.old made }
-    ensures gives { Gives result doc.old.state doc.new.state (spec.style_wrapper command value.now made.label) }
+    ensures gives { Gives result doc.old.state doc.new.state
+        (spec.style_wrapper command value.now made.label) }
     ensures keeps { Keeps doc.old doc.new }
 {
     if has_alike(doc, Some(value), made, command) {
@@ -262,7 +271,8 @@ fn take_back(doc: &mut Doc, node: NodeRef, made: NodeRef) -> Result<bool, EditFa
     requires open { IsOpen doc.old }
     requires node_held { Holds doc.old node }
     requires made_held { Holds doc.old made }
-    ensures gives { Gives result doc.old.state doc.new.state (spec.taken_back node.label made.label) }
+    ensures gives { Gives result doc.old.state doc.new.state
+        (spec.taken_back node.label made.label) }
     ensures keeps { Keeps doc.old doc.new }
 {
     move_before(doc, made, node)?;
@@ -278,8 +288,8 @@ fn lacks(doc: &Doc, value: &[char], node: NodeRef, command: Command) -> bool
     matches!(doc.kind(node), Kind::Element) && !has_alike(doc, Some(value), node, command)
 }
 
-// Force the value, step 9: an element that hasn't taken the value comes out again. Answers whether its children are to
-// be given it.
+// Force the value, step 9: an element that hasn't taken the value comes out again. Answers whether
+// its children are to be given it.
 #[tactic(auto, using(edit_model::proofs::Steps::steps, edit_model::proofs::Steps::exits), unfolding(crate::specs::Forcing::confirm_value))]
 fn confirm_value(
     doc: &mut Doc,
@@ -291,7 +301,8 @@ fn confirm_value(
     requires open { IsOpen doc.old }
     requires node_held { Holds doc.old node }
     requires made_held { Holds doc.old made }
-    ensures gives { Gives result doc.old.state doc.new.state (spec.confirm_value command value.now node.label made.label) }
+    ensures gives { Gives result doc.old.state doc.new.state
+        (spec.confirm_value command value.now node.label made.label) }
     ensures keeps { Keeps doc.old doc.new }
 {
     if lacks(doc, value, node, command) {
@@ -314,7 +325,8 @@ fn put_in(
     requires open { IsOpen doc.old }
     requires node_held { Holds doc.old node }
     requires made_held { Holds doc.old made }
-    ensures gives { Gives result doc.old.state doc.new.state (spec.put_in command value.now node.label made.label) }
+    ensures gives { Gives result doc.old.state doc.new.state
+        (spec.put_in command value.now node.label made.label) }
     ensures keeps { Keeps doc.old doc.new }
 {
     insert_before(doc, node, made)?; // step 6
@@ -334,7 +346,8 @@ fn wrap_node(
 ) -> Result<bool, EditFault>
     requires open { IsOpen doc.old }
     requires node_held { Holds doc.old node }
-    ensures gives { Gives result doc.old.state doc.new.state (spec.wrapped command value.now node.label) }
+    ensures gives { Gives result doc.old.state doc.new.state
+        (spec.wrapped command value.now node.label) }
     ensures keeps { Keeps doc.old doc.new }
 {
     let made = make_wrapper(alloc, doc, value, node, command)?;
@@ -352,7 +365,8 @@ fn unless_alike(
 ) -> Result<bool, EditFault>
     requires open { IsOpen doc.old }
     requires node_held { Holds doc.old node }
-    ensures gives { Gives result doc.old.state doc.new.state (spec.unless_alike command value.now node.label) }
+    ensures gives { Gives result doc.old.state doc.new.state
+        (spec.unless_alike command value.now node.label) }
     ensures keeps { Keeps doc.old doc.new }
 {
     if !is_visible(doc, node) || has_alike(doc, Some(value), node, command) {
@@ -375,7 +389,8 @@ fn force_node(
 ) -> Result<bool, EditFault>
     requires open { IsOpen doc.old }
     requires node_held { Holds doc.old node }
-    ensures gives { Gives result doc.old.state doc.new.state (spec.force_node command value.now node.label) }
+    ensures gives { Gives result doc.old.state doc.new.state
+        (spec.force_node command value.now node.label) }
     ensures keeps { Keeps doc.old doc.new }
 {
     if is_phrase(doc, node) {
@@ -384,8 +399,8 @@ fn force_node(
     unless_alike(alloc, doc, value, node, command)
 }
 
-// Force the value, step 1, and then from 2 on, for the node itself. Answers whether its children are to be given the
-// value.
+// Force the value, step 1, and then from 2 on, for the node itself. Answers whether its children
+// are to be given the value.
 #[tactic(auto, using(edit_model::proofs::Steps::steps, edit_model::proofs::Steps::exits), unfolding(crate::specs::Forcing::force_self))]
 fn force_self(
     alloc: Global,
@@ -396,7 +411,8 @@ fn force_self(
 ) -> Result<bool, EditFault>
     requires open { IsOpen doc.old }
     requires node_held { Holds doc.old node }
-    ensures gives { Gives result doc.old.state doc.new.state (spec.force_self command value.now node.label) }
+    ensures gives { Gives result doc.old.state doc.new.state
+        (spec.force_self command value.now node.label) }
     ensures keeps { Keeps doc.old doc.new }
 {
     if doc.parent(node).is_none() {
@@ -410,7 +426,8 @@ fn force_self(
 fn heirs(alloc: Global, doc: &Doc, node: NodeRef) -> Result<Vec<NodeRef>, AllocError>
     requires { Holds doc.now node }
     ensures held { IfOk result (λ list. EachHeld doc.now list.items) }
-    ensures labels { IfOk result (λ list. labels_of list.items ≡ spec.heirs doc.now.state node.label) }
+    ensures labels { IfOk result (λ list. labels_of list.items
+        ≡ spec.heirs doc.now.state node.label) }
 {
     if doc.is_editable_for(node) {
         doc.children_of(node)
@@ -456,7 +473,8 @@ fn force_each(
     requires open { IsOpen doc.old }
     requires list_held { EachHeld doc.old list.now }
     ensures gives { Gives result doc.old.state doc.new.state
-        (for_each (labels_of list.now) (spec.force_child (spec.forced fuel command value.now) command value.now)) }
+        (for_each (labels_of list.now)
+        (spec.force_child (spec.forced fuel command value.now) command value.now)) }
     ensures keeps { Keeps doc.old doc.new }
 {
     for child in list {
@@ -478,7 +496,8 @@ fn forced(
 ) -> Result<(), EditFault>
     requires open { IsOpen doc.old }
     requires node_held { Holds doc.old node }
-    ensures gives { Gives result doc.old.state doc.new.state (spec.forced fuel command value.now node.label) }
+    ensures gives { Gives result doc.old.state doc.new.state
+        (spec.forced fuel command value.now node.label) }
     ensures keeps { Keeps doc.old doc.new }
 {
     if fuel == 0 {
@@ -502,15 +521,16 @@ fn force_value(
 ) -> Result<(), EditFault>
     requires open { IsOpen doc.old }
     requires node_held { Holds doc.old node }
-    ensures gives { Gives result doc.old.state doc.new.state (spec.force_value command value.now node.label) }
+    ensures gives { Gives result doc.old.state doc.new.state
+        (spec.force_value command value.now node.label) }
     ensures keeps { Keeps doc.old doc.new }
 {
     let fuel = doc.counts().nodes;
     forced(alloc, doc, fuel, value, node, command)
 }
 
-/// Makes a node have a value, by an element around it or around its children (HTML Editing APIs, "force the value"). A
-/// null value, `None`, is forced on no node.
+/// Makes a node have a value, by an element around it or around its children (HTML Editing APIs,
+/// "force the value"). A null value, `None`, is forced on no node.
 #[tactic(auto, using(edit_model::proofs::Steps::steps, edit_model::proofs::Steps::exits), unfolding(crate::specs::Forcing::force))]
 pub fn force(
     alloc: Global,

@@ -2,7 +2,8 @@
 //! set on the selection. These are the algorithms of the W3C's *HTML Editing APIs* that inline
 //! commands, block commands and deletion share, over a document under edits.
 //!
-//! Each call is proved to make one run of elementary edits, which its definition composes step by step.
+//! Each call is proved to make one run of elementary edits, which its definition composes step by
+//! step.
 #![tactic(auto)]
 
 mod ancestors;

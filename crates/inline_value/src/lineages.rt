@@ -12,7 +12,8 @@ use std::alloc::{AllocError, Global};
 pub(crate) fn ancestors(alloc: Global, doc: &Doc, node: NodeRef) -> Result<Vec<NodeRef>, AllocError>
     requires { Holds doc.now node }
     ensures held { IfOk result (λ list. EachHeld doc.now list.items) }
-    ensures labels { IfOk result (λ list. labels_of list.items ≡ ancestors doc.now.state.trees node.label) }
+    ensures labels { IfOk result (λ list. labels_of list.items
+        ≡ ancestors doc.now.state.trees node.label) }
 {
     doc.valid();
     let mut list = Vec::new(alloc);

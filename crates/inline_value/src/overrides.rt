@@ -1,5 +1,5 @@
-//! Recording the overrides of commands, and the states and values of the first formattable node. The steps are those of
-//! docs/ALGORITHMS.md.
+//! Recording the overrides of commands, and the states and values of the first formattable node.
+//! The steps are those of docs/ALGORITHMS.md.
 
 ghost use Rattle.std.specs.Prelude.{◌≡◌, ◌++◌, ◌∷◌, [], IfOk, OnOk, map};
 ghost use Rattle.edit_doc.specs.Held.{Holds};
@@ -28,7 +28,8 @@ static OVERRIDING_COMMANDS: [Command; 11] = [
     Command::HiliteColor,
 ];
 
-// The commands of which it is recorded whether they are on, and those whose answers are recorded, in order.
+// The commands of which it is recorded whether they are on, and those whose answers are recorded,
+// in order.
 static STATE_COMMANDS: [Command; 6] = [
     Command::Bold,
     Command::Italic,
@@ -94,7 +95,8 @@ fn is_set(setting: &Setting) -> bool
 
 // Puts the override of a command behind those found before, where it is set.
 fn push_override(doc: &Doc, command: Command, found: &mut Vec<Override>) -> Result<(), AllocError>
-    ensures { OnOk result (found.new.items ≡ found.old.items ++ overrides_among doc.now.state (command ∷ [])) }
+    ensures { OnOk result (found.new.items ≡ found.old.items
+        ++ overrides_among doc.now.state (command ∷ [])) }
 {
     let setting = doc.setting(command);
     if is_set(setting) {
@@ -180,7 +182,8 @@ fn push_states(
 ) -> Result<(), AllocError>
     requires { Holds doc.now node }
     ensures { OnOk result
-        (found.new.items ≡ found.old.items ++ map (on_at doc.now.state.trees node.label) commands.now) }
+        (found.new.items ≡ found.old.items
+        ++ map (on_at doc.now.state.trees node.label) commands.now) }
 {
     for command in commands {
         found.push(on_at(doc, node, *command))?;
@@ -195,7 +198,8 @@ fn push_answers(
     commands: &[Command],
     found: &mut Vec<Override>,
 ) -> Result<(), AllocError>
-    ensures { OnOk result (found.new.items ≡ found.old.items ++ map (answered doc.now.state) commands.now) }
+    ensures { OnOk result (found.new.items ≡ found.old.items
+        ++ map (answered doc.now.state) commands.now) }
 {
     for command in commands {
         found.push(answered(alloc, doc, *command)?)?;

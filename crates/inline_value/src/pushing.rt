@@ -86,7 +86,8 @@ fn has_element_above(doc: &Doc, node: NodeRef) -> bool
 #[tactic(auto, unfolding(crate::specs::Pushing::needs_none))]
 fn needs_none(doc: &Doc, value: Option<&[char]>, node: NodeRef, command: Command) -> bool
     requires { Holds doc.now node }
-    ensures { result ≡ spec.needs_none doc.now.state command (option_copied value.entry) node.label }
+    ensures { result
+        ≡ spec.needs_none doc.now.state command (option_copied value.entry) node.label }
 {
     !has_element_above(doc, node) || has_alike(doc, value, node, command)
 }
@@ -105,7 +106,8 @@ fn push_to(
     requires open { IsOpen doc.old }
     requires child_held { Holds doc.old child }
     ensures gives { Gives result doc.old.state doc.new.state
-        (spec.push_to command (option_copied value.entry) ends.0.label (label_of ends.1) child.label) }
+        (spec.push_to command (option_copied value.entry) ends.0.label (label_of ends.1)
+        child.label) }
     ensures keeps { Keeps doc.old doc.new }
 {
     if child.label == ends.0.label
@@ -158,7 +160,8 @@ fn clear_level(
     Ok(())
 }
 
-// Push down, step 5: one turn, for the ancestor `above`, where `ends` is the node and the next ancestor.
+// Push down, step 5: one turn, for the ancestor `above`, where `ends` is the node and the next
+// ancestor.
 #[tactic(auto, using(edit_model::proofs::Steps::steps, edit_model::proofs::Steps::exits), unfolding(crate::specs::Pushing::push_level))]
 fn push_level(
     alloc: Global,
@@ -171,7 +174,8 @@ fn push_level(
     requires open { IsOpen doc.old }
     requires above_held { Holds doc.old above }
     ensures gives { Gives result doc.old.state doc.new.state
-        (spec.push_level command (option_copied value.entry) ends.0.label (label_of ends.1) above.label) }
+        (spec.push_level command (option_copied value.entry) ends.0.label (label_of ends.1)
+        above.label) }
     ensures keeps { Keeps doc.old doc.new }
 {
     let children = doc.children_of(above)?;
@@ -217,7 +221,8 @@ fn push_levels(
     requires list_held { EachHeld doc.old list.now }
     requires few { left ≤ length list.now }
     ensures gives { Gives result doc.old.state doc.new.state
-        (spec.push_levels command (option_copied value.entry) node.label (reverse (labels_of (take left list.now)))) }
+        (spec.push_levels command (option_copied value.entry) node.label
+        (reverse (labels_of (take left list.now)))) }
     ensures keeps { Keeps doc.old doc.new }
 {
     if left == 0 {
@@ -234,7 +239,8 @@ fn push_levels(
 // Push down, step 4: whether the parent of the outermost ancestor hasn't the value.
 fn lacks_above(doc: &Doc, value: Option<&[char]>, node: NodeRef, command: Command) -> bool
     requires { Holds doc.now node }
-    ensures { result ≡ spec.lacks_above doc.now.state command (option_copied value.entry) node.label }
+    ensures { result
+        ≡ spec.lacks_above doc.now.state command (option_copied value.entry) node.label }
 {
     match doc.parent(node) {
         Some(parent) => !has_alike(doc, value, parent, command),
@@ -246,7 +252,8 @@ fn lacks_above(doc: &Doc, value: Option<&[char]>, node: NodeRef, command: Comman
 #[tactic(auto, unfolding(crate::specs::Pushing::is_hopeless))]
 fn is_hopeless(doc: &Doc, value: Option<&[char]>, node: NodeRef, command: Command) -> bool
     requires { Holds doc.now node }
-    ensures { result ≡ spec.is_hopeless doc.now.state command (option_copied value.entry) node.label }
+    ensures { result
+        ≡ spec.is_hopeless doc.now.state command (option_copied value.entry) node.label }
 {
     value.is_some() && (!specifies(doc, node, command) || lacks_above(doc, value, node, command))
 }
@@ -265,7 +272,8 @@ fn push_from(
     requires list_held { EachHeld doc.old list.now }
     requires outer_held { Holds doc.old ends.1 }
     ensures gives { Gives result doc.old.state doc.new.state
-        (spec.push_from command (option_copied value.entry) ends.0.label (labels_of list.now) ends.1.label) }
+        (spec.push_from command (option_copied value.entry) ends.0.label (labels_of list.now)
+        ends.1.label) }
     ensures keeps { Keeps doc.old doc.new }
 {
     if is_hopeless(doc, value, ends.1, command) {
@@ -304,7 +312,8 @@ fn is_given_above(doc: &Doc, node: NodeRef, command: Command) -> bool
 #[tactic(auto, unfolding(crate::specs::Pushing::keeps_values))]
 fn keeps_values(doc: &Doc, value: Option<&[char]>, node: NodeRef, command: Command) -> bool
     requires { Holds doc.now node }
-    ensures { result ≡ spec.keeps_values doc.now.state command (option_copied value.entry) node.label }
+    ensures { result
+        ≡ spec.keeps_values doc.now.state command (option_copied value.entry) node.label }
 {
     value.is_some() && !is_given_above(doc, node, command)
 }
@@ -338,8 +347,8 @@ fn push_listed(
     )
 }
 
-/// Takes from a node the values other than this one that its ancestors give it, by giving them to their other children
-/// (HTML Editing APIs, "push down values"). `None` is null.
+/// Takes from a node the values other than this one that its ancestors give it, by giving them to
+/// their other children (HTML Editing APIs, "push down values"). `None` is null.
 #[tactic(auto, using(edit_model::proofs::Steps::steps, edit_model::proofs::Steps::exits), unfolding(crate::specs::Pushing::push_down))]
 pub fn push_down(
     alloc: Global,

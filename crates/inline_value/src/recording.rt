@@ -79,7 +79,8 @@ fn giver(doc: &Doc, node: NodeRef, command: Command) -> Option<NodeRef>
     ensures held { IfHeld doc.now result }
     ensures value { option_and_then (λ l. specified doc.now.state.trees l command) (label_of result)
         ≡ given_value doc.now.state.trees node.label command }
-    ensures some { IfSome result (λ r. is_some (specified doc.now.state.trees r.label command) ≡ Bool.true) }
+    ensures some { IfSome result (λ r. is_some (specified doc.now.state.trees r.label command)
+        ≡ Bool.true) }
 {
     doc.valid();
     let mut at = node;
@@ -130,7 +131,8 @@ fn is_given_as(doc: &Doc, node: NodeRef, command: Command, value: &[char]) -> bo
 fn value_at(alloc: Global, doc: &Doc, node: NodeRef, command: Command) -> Result<Value, AllocError>
     requires { Holds doc.now node }
     ensures node { IfOk result (λ entry. entry.node ≡ node) }
-    ensures value { IfOk result (λ entry. entry_of entry ≡ value_at doc.now.state node.label command) }
+    ensures value { IfOk result (λ entry. entry_of entry
+        ≡ value_at doc.now.state node.label command) }
 {
     let value = match given_value(doc, node, command) {
         Some(text) => Some(Chars::from_slice(alloc, text)?),
@@ -163,10 +165,12 @@ fn push_values(
     Ok(())
 }
 
-/// Of each node in order, the values that it has of nine commands, each from the nearest element that gives one.
+/// Of each node in order, the values that it has of nine commands, each from the nearest element
+/// that gives one.
 pub fn record_values(alloc: Global, doc: &Doc, list: &[NodeRef]) -> Result<Values, AllocError>
     requires list_held { EachHeld doc.now list.now }
-    ensures values { IfOk result (λ values. entries_of values ≡ values_of doc.now.state (labels_of list.now)) }
+    ensures values { IfOk result (λ values. entries_of values
+        ≡ values_of doc.now.state (labels_of list.now)) }
     ensures held { IfOk result (λ values. EachHeld doc.now (nodes_of values)) }
 {
     let mut items = Vec::new(alloc);
@@ -198,7 +202,8 @@ fn restore_null(
     Ok(())
 }
 
-// Restore the values, step 1, where a text was recorded: it is forced where another value is given now, or none.
+// Restore the values, step 1, where a text was recorded: it is forced where another value is given
+// now, or none.
 #[tactic(auto, using(edit_model::proofs::Steps::steps, edit_model::proofs::Steps::exits))]
 fn restore_text(
     alloc: Global,
@@ -210,7 +215,8 @@ fn restore_text(
     requires open { IsOpen doc.old }
     requires node_held { Holds doc.old node }
     ensures gives { Gives result doc.old.state doc.new.state
-        (restored_to command node.label (Some value.now) (given_value doc.old.state.trees node.label command)) }
+        (restored_to command node.label (Some value.now)
+        (given_value doc.old.state.trees node.label command)) }
     ensures keeps { Keeps doc.old doc.new }
 {
     if !is_given_as(doc, node, command, value) {
@@ -238,7 +244,8 @@ fn restore_value(alloc: Global, doc: &mut Doc, entry: &Value) -> Result<(), Edit
 fn restore_each(alloc: Global, doc: &mut Doc, list: &[Value]) -> Result<(), EditFault>
     requires open { IsOpen doc.old }
     requires list_held { EachHeld doc.old (nodes_of list.now) }
-    ensures gives { Gives result doc.old.state doc.new.state (restore_values (entries_of list.now)) }
+    ensures gives { Gives result doc.old.state doc.new.state
+        (restore_values (entries_of list.now)) }
     ensures keeps { Keeps doc.old doc.new }
 {
     for entry in list {
@@ -252,7 +259,8 @@ fn restore_each(alloc: Global, doc: &mut Doc, list: &[Value]) -> Result<(), Edit
 pub fn restore_values(alloc: Global, doc: &mut Doc, values: &Values) -> Result<(), EditFault>
     requires open { IsOpen doc.old }
     requires values_held { EachHeld doc.old (nodes_of values.now) }
-    ensures gives { Gives result doc.old.state doc.new.state (restore_values (entries_of values.now)) }
+    ensures gives { Gives result doc.old.state doc.new.state
+        (restore_values (entries_of values.now)) }
     ensures keeps { Keeps doc.old doc.new }
 {
     restore_each(alloc, doc, values.as_slice())

@@ -21,7 +21,8 @@ use wrap_split::turn_bound;
 #[tactic(auto, unfolding(command_value::specs::Modifiable::specifies_other, command_value::specs::Equivalence::equivalent))]
 fn has_equivalent(doc: &Doc, node: NodeRef, value: &[char], command: Command) -> bool
     requires { Holds doc.now node }
-    ensures { result ≡ equivalent command (specified doc.now.state.trees node.label command) (Some value.now) }
+    ensures { result
+        ≡ equivalent command (specified doc.now.state.trees node.label command) (Some value.now) }
 {
     specifies(doc, node, command) && !specifies_other(doc, node, command, Some(value))
 }
@@ -52,7 +53,8 @@ fn sole_child(doc: &Doc, node: NodeRef) -> Option<NodeRef>
 #[tactic(auto, unfolding(crate::specs::Reordering::reorder_step))]
 fn reorder_step(doc: &Doc, node: NodeRef, value: &[char], command: Command) -> Option<NodeRef>
     requires { Holds doc.now node }
-    ensures { Finds doc.now result (spec.reorder_step doc.now.state.trees command value.now node.label) }
+    ensures { Finds doc.now result
+        (spec.reorder_step doc.now.state.trees command value.now node.label) }
 {
     if is_modifiable_element(doc, node) && !gives_value(doc, node, value, command) {
         sole_child(doc, node)
@@ -109,7 +111,8 @@ pub fn reorder(
 ) -> Result<(), EditFault>
     requires open { IsOpen doc.old }
     requires node_held { Holds doc.old node }
-    ensures gives { Gives result doc.old.state doc.new.state (spec.reorder command value.now node.label) }
+    ensures gives { Gives result doc.old.state doc.new.state
+        (spec.reorder command value.now node.label) }
     ensures keeps { Keeps doc.old doc.new }
 {
     let inner = reordered(doc, node, value, command);

@@ -63,7 +63,8 @@ fn set_start_of(doc: &mut Doc, pair: Pair, at: Point) -> Result<(), EditFault>
     requires open { IsOpen doc.old }
     requires placed { IsPlacedPair doc.old.state.trees pair }
     requires there { 0 < count_of doc.old.state.trees at.label }
-    ensures gives { Gives result doc.old.state doc.new.state (with_start doc.old.state.trees pair at) }
+    ensures gives { Gives result doc.old.state doc.new.state
+        (with_start doc.old.state.trees pair at) }
     ensures keeps { Keeps doc.old doc.new }
 {
     if doc.is_before(pair.focus, pair.anchor) {
@@ -178,7 +179,8 @@ fn editable_of(alloc: Global, doc: &Doc, list: &[NodeRef]) -> Result<Vec<NodeRef
     requires { EachHeld doc.now list.now }
     ensures held { IfOk result (λ kept. EachHeld doc.now kept.items) }
     ensures nodes { IfOk result
-        (λ kept. labels_of kept.items ≡ filter (is_editable_for doc.now.state) (labels_of list.now)) }
+        (λ kept. labels_of kept.items
+        ≡ filter (is_editable_for doc.now.state) (labels_of list.now)) }
 {
     let mut kept = Vec::new(alloc);
     for node in list {
@@ -194,7 +196,8 @@ fn elements_of(alloc: Global, doc: &Doc, list: &[NodeRef]) -> Result<Vec<NodeRef
     requires { EachHeld doc.now list.now }
     ensures held { IfOk result (λ kept. EachHeld doc.now kept.items) }
     ensures nodes { IfOk result
-        (λ kept. labels_of kept.items ≡ filter (is_element_at doc.now.state.trees) (labels_of list.now)) }
+        (λ kept. labels_of kept.items
+        ≡ filter (is_element_at doc.now.state.trees) (labels_of list.now)) }
 {
     let mut kept = Vec::new(alloc);
     for node in list {
@@ -351,7 +354,8 @@ fn set_overrides(
     command: Command,
 ) -> Result<(), EditFault>
     requires open { IsOpen doc.old }
-    ensures gives { Gives result doc.old.state doc.new.state (set_overrides command (option_copied value.entry)) }
+    ensures gives { Gives result doc.old.state doc.new.state
+        (set_overrides command (option_copied value.entry)) }
     ensures keeps { Keeps doc.old doc.new }
 {
     set_override(alloc, doc, value, command)?;
@@ -382,7 +386,8 @@ fn clear_each(
 ) -> Result<(), EditFault>
     requires open { IsOpen doc.old }
     requires list_held { EachHeld doc.old list.now }
-    ensures gives { Gives result doc.old.state doc.new.state (for_each (labels_of list.now) (clear_one command)) }
+    ensures gives { Gives result doc.old.state doc.new.state
+        (for_each (labels_of list.now) (clear_one command)) }
     ensures keeps { Keeps doc.old doc.new }
 {
     for node in list {
@@ -472,7 +477,8 @@ fn give_nodes(
     command: Command,
 ) -> Result<(), EditFault>
     requires open { IsOpen doc.old }
-    ensures gives { Gives result doc.old.state doc.new.state (give_nodes command (option_copied value.entry)) }
+    ensures gives { Gives result doc.old.state doc.new.state
+        (give_nodes command (option_copied value.entry)) }
     ensures keeps { Keeps doc.old doc.new }
 {
     let list = editable_in_range(alloc, doc)?;
@@ -488,7 +494,8 @@ fn give_range(
     command: Command,
 ) -> Result<(), EditFault>
     requires open { IsOpen doc.old }
-    ensures gives { Gives result doc.old.state doc.new.state (give_range command (option_copied value.entry)) }
+    ensures gives { Gives result doc.old.state doc.new.state
+        (give_range command (option_copied value.entry)) }
     ensures keeps { Keeps doc.old doc.new }
 {
     split_ends(alloc, doc)?;
@@ -506,7 +513,8 @@ pub fn set_value(
     command: Command,
 ) -> Result<(), EditFault>
     requires open { IsOpen doc.old }
-    ensures gives { Gives result doc.old.state doc.new.state (set_value command (option_copied value.entry)) }
+    ensures gives { Gives result doc.old.state doc.new.state
+        (set_value command (option_copied value.entry)) }
     ensures keeps { Keeps doc.old doc.new }
 {
     // step 1

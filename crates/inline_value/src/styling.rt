@@ -80,9 +80,10 @@ fn write_style(
     write_text(alloc, doc, node, text)
 }
 
-/// Sets a property, by its name in lower case, in the style of an element: it keeps its place among the declarations or
-/// goes last. A value that would not be read back as that one value changes none; the declarations are written back all
-/// the same. On a node that is no element nothing changes.
+/// Sets a property, by its name in lower case, in the style of an element: it keeps its place among
+/// the declarations or goes last. A value that would not be read back as that one value changes
+/// none; the declarations are written back all the same. On a node that is no element nothing
+/// changes.
 #[tactic(auto, using(edit_model::proofs::Steps::steps, edit_model::proofs::Steps::exits), unfolding(crate::specs::Styling::set_style))]
 pub fn set_style(
     alloc: Global,
@@ -93,7 +94,8 @@ pub fn set_style(
 ) -> Result<(), EditFault>
     requires open { IsOpen doc.old }
     requires node_held { Holds doc.old node }
-    ensures gives { Gives result doc.old.state doc.new.state (set_style node.label name.now value.now) }
+    ensures gives { Gives result doc.old.state doc.new.state
+        (set_style node.label name.now value.now) }
     ensures keeps { Keeps doc.old doc.new }
 {
     let mut list = declarations_of(alloc, doc, node)?;
@@ -101,8 +103,8 @@ pub fn set_style(
     write_style(alloc, doc, node, &list)
 }
 
-/// Unsets a property, by its name in lower case, in the style of an element, and writes the other declarations back. An
-/// attribute that then declares nothing goes.
+/// Unsets a property, by its name in lower case, in the style of an element, and writes the other
+/// declarations back. An attribute that then declares nothing goes.
 #[tactic(auto, using(edit_model::proofs::Steps::steps, edit_model::proofs::Steps::exits), unfolding(crate::specs::Styling::unset_style))]
 pub fn unset_style(
     alloc: Global,

@@ -1,4 +1,5 @@
--- The insertImage command (HTML Editing APIs, "the insertImage command"). The steps are those of docs/ALGORITHMS.md.
+-- The insertImage command (HTML Editing APIs, "the insertImage command"). The steps are those of
+-- docs/ALGORITHMS.md.
 use Rattle.std.specs.Prelude.{ℕ, ◌==◌, Bool, false, true, ◌&&◌, List, [], ◌∷◌, Option, Some, None, is_none, codes, if◌then◌else◌}
 use Rattle.dom_model.specs.declared.attributes.Attribute.{Attribute}
 use Rattle.dom_model.specs.Contents.{is_break}
@@ -13,12 +14,14 @@ use Rattle.insert_objects.specs.Putting.{from_start_inside, collapse_after, put}
 -- insertImage, step 3: the br that is all that a block has, where the point is the block's start
 abbrev pub if_lone_break : State → Option ℕ → Option ℕ
 if_lone_break s None = None
-if_lone_break s (Some k) = if is_break s.trees k && is_none (next_of s.trees k) then Some k else None
+if_lone_break s (Some k) =
+    if is_break s.trees k && is_none (next_of s.trees k) then Some k else None
 
 -- insertImage, step 3: such a br, where the point is the start of a block
 unfoldable pub lone_break : State → Point → Option ℕ
 lone_break s p =
-    if (p.offset == 0) && is_block s.trees p.label then if_lone_break s (first_of s.trees p.label) else None
+    if (p.offset == 0) && is_block s.trees p.label then if_lone_break s (first_of s.trees p.label)
+    else None
 
 -- insertImage, step 3: it goes
 unfoldable pub drop_lone_break : Point → Run (Unit {0})

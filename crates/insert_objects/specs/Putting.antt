@@ -47,7 +47,8 @@ leave_text p = look λ s. if is_past s p then collapse_after p.label else collap
 -- steps 2 and 3
 unfoldable pub part_text : Point → Run (Unit {0})
 part_text p = look λ s.
-    if cuts_text s.trees p then split_at p else (if has_chars_at s.trees p.label then leave_text p else done)
+    if cuts_text s.trees p then split_at p
+    else (if has_chars_at s.trees p.label then leave_text p else done)
 
 -- put an element, steps 2 and 3, at the start of the active range
 unfoldable pub part_start : Run (Unit {0})

@@ -1,5 +1,5 @@
--- The insertHorizontalRule command (HTML Editing APIs, "the insertHorizontalRule command"). The steps are those of
--- docs/ALGORITHMS.md. It answers true.
+-- The insertHorizontalRule command (HTML Editing APIs, "the insertHorizontalRule command"). The
+-- steps are those of docs/ALGORITHMS.md. It answers true.
 use Rattle.std.specs.Prelude.{◌==◌, Bool, false, true, ◌&&◌, not, [], Option, None, codes, if◌then◌else◌}
 use Rattle.dom_model.specs.Contents.{length_of}
 use Rattle.dom_model.specs.Forest.{is_label}
@@ -17,12 +17,14 @@ use Rattle.insert_objects.specs.Putting.{from_start_inside, collapse_after, put}
 -- insertHorizontalRule, step 1: from the start of a node to before it, and from its end to after
 -- it, up to the affected host
 unfoldable pub out_of_start : State → Point → Option Point
-out_of_start s p = if (p.offset == 0) && not (is_label s.host p.label) then before_node s.trees p.label else None
+out_of_start s p =
+    if (p.offset == 0) && not (is_label s.host p.label) then before_node s.trees p.label else None
 
 -- insertHorizontalRule, step 1: and from its end
 unfoldable pub out_of_end : State → Point → Option Point
 out_of_end s p =
-    if (p.offset == length_of s.trees p.label) && not (is_label s.host p.label) then after_node s.trees p.label
+    if (p.offset == length_of s.trees p.label) && not (is_label s.host p.label) then
+    after_node s.trees p.label
     else None
 
 -- insertHorizontalRule, step 1: as far out as it goes
@@ -35,7 +37,8 @@ outermost_end s p = walk_points (out_of_end s) (turn_bound s) p
 
 -- insertHorizontalRule, step 1: what lies between the two is selected
 abbrev pub select_widened : State → Pair → Run (Unit {0})
-select_widened s pair = select (outermost_start s (start_of s.trees pair)) (outermost_end s (end_of s.trees pair))
+select_widened s pair =
+    select (outermost_start s (start_of s.trees pair)) (outermost_end s (end_of s.trees pair))
 
 -- insertHorizontalRule, step 1
 unfoldable pub widen_range : Run (Unit {0})

@@ -115,7 +115,8 @@ fn part_start(doc: &mut Doc) -> Result<(), EditFault>
     part_text(doc, node, start)
 }
 
-/// Puts a new element at the start of the active range, and answers it. A text around that is split.
+/// Puts a new element at the start of the active range, and answers it. A text around that is
+/// split.
 #[tactic(auto, using(edit_model::proofs::Steps::steps, edit_model::proofs::Steps::exits), unfolding(crate::specs::Putting::put))]
 pub(crate) fn put(
     alloc: Global,
@@ -124,7 +125,8 @@ pub(crate) fn put(
     attributes: &Attributes,
 ) -> Result<NodeRef, EditFault>
     requires open { IsOpen doc.old }
-    ensures gives { GivesNode result doc.old.state doc.new.state (putting.put name.now attributes.now) }
+    ensures gives { GivesNode result doc.old.state doc.new.state
+        (putting.put name.now attributes.now) }
     ensures held { IfOk result (λ made. Holds doc.new made) }
     ensures keeps { Keeps doc.old doc.new }
 {

@@ -30,12 +30,14 @@ use Rattle.list_indent.specs.Outdenting.{outdent_node}
 
 -- the items among a node and its ancestors, in tree order
 unfoldable pub items_over : Forest Content → ℕ → List ℕ
-items_over f n = filter (λ l. has_name f l (codes "li")) (reverse (map (λ k. k.label) (lineage f n)))
+items_over f n =
+    filter (λ l. has_name f l (codes "li")) (reverse (map (λ k. k.label) (lineage f n)))
 
--- the items around two nodes of which the first isn't after the second, in tree order: those around the first, and then
--- those around the second alone
+-- the items around two nodes of which the first isn't after the second, in tree order: those around
+-- the first, and then those around the second alone
 unfoldable pub items_around : Forest Content → ℕ → ℕ → List ℕ
-items_around f start end = items_over f start ++ filter (λ l. not (is_within f l start)) (items_over f end)
+items_around f start end =
+    items_over f start ++ filter (λ l. not (is_within f l start)) (items_over f end)
 
 abbrev pub items_by : Forest Content → Option Pair → List ℕ
 items_by f None = []
@@ -54,13 +56,16 @@ normalize_range = look λ s. for_each (range_items s) normalize_sublists
 -- indent, step 2: an editable node that may stand in a div or an ol
 unfoldable pub is_indentable : State → ℕ → Bool
 is_indentable s n =
-    is_editable_for s n && (allowed_in_name s.trees n (codes "div") || allowed_in_name s.trees n (codes "ol"))
+    is_editable_for s n
+    && (allowed_in_name s.trees n (codes "div") || allowed_in_name s.trees n (codes "ol"))
 
 -- indent, step 3: the last visible sibling before n
 unfoldable pub shown_before : State → ℕ → Option ℕ
-shown_before s n = option_and_then (λ p. last_visible s (until n (children_of s.trees p))) (parent_of s.trees n)
+shown_before s n =
+    option_and_then (λ p. last_visible s (until n (children_of s.trees p))) (parent_of s.trees n)
 
--- indent, step 3, where n is the first visible node: the item before an item of a list is normalized
+-- indent, step 3, where n is the first visible node: the item before an item of a list is
+-- normalized
 unfoldable pub normalize_before : ℕ → Run (Unit {0})
 normalize_before n = look λ s.
     if is_item s n && is_in_list s n then given (shown_before s n) done normalize_sublists else done
@@ -99,7 +104,8 @@ has_editable_below s n = has_descendant (is_editable_for s) s.trees n
 -- outdent, step 2: an editable node without editable descendants, or a list, or an item of a list
 unfoldable pub is_outdentable : State → ℕ → Bool
 is_outdentable s n =
-    is_editable_for s n && (not (has_editable_below s n) || (is_list s n || (is_item s n && is_in_list s n)))
+    is_editable_for s n
+    && (not (has_editable_below s n) || (is_list s n || (is_item s n && is_in_list s n)))
 
 -- outdent, step 3: a member that is outdented alone, a list or what stands in none
 unfoldable pub is_lone : State → ℕ → Bool

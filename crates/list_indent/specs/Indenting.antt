@@ -1,4 +1,5 @@
--- Indenting a list of siblings (HTML Editing APIs, "indent"). The steps are those of docs/ALGORITHMS.md.
+-- Indenting a list of siblings (HTML Editing APIs, "indent"). The steps are those of
+-- docs/ALGORITHMS.md.
 use Rattle.std.specs.Prelude.{ℕ, false, List, codes, Option, Some, None, if◌then◌else◌}
 use Rattle.dom_model.specs.Forest.{parent_of, first_in}
 use Rattle.edit_model.specs.State.{State}
@@ -17,7 +18,8 @@ if_list s (Some p) = if is_list s p then Some p else None
 
 -- indent a list, step 2: into a list of the name of p, which the members stand in
 unfoldable pub nested : List ℕ → ℕ → Run (Unit {0})
-nested list p = look λ s. wrap (Named (tag_of s.trees p) false) (Make (bare (tag_of s.trees p))) list >> done
+nested list p =
+    look λ s. wrap (Named (tag_of s.trees p) false) (Make (bare (tag_of s.trees p))) list >> done
 
 -- indent a list, step 3: into a simple indentation element
 abbrev pub fixed : Option ℕ → Run (Unit {0})

@@ -50,7 +50,8 @@ indents simple s n = if simple then is_simple_indentation s.trees n else is_inde
 -- an editable element that is passed on the way up
 unfoldable pub is_passed : Bool → State → ℕ → Bool
 is_passed simple s a =
-    is_editable_for s a && (is_element_at s.trees a && (not (indents simple s a) && not (is_list s a)))
+    is_editable_for s a
+    && (is_element_at s.trees a && (not (indents simple s a) && not (is_list s a)))
 
 abbrev pub beyond : (ℕ → Bool) → List ℕ → Option ℕ
 beyond test [] = None
@@ -88,7 +89,8 @@ unwrapped n children = do
 -- outdent a node, step 5: it becomes a div, or it goes
 unfoldable pub released : ℕ → List ℕ → Run (Unit {0})
 released n children = look λ s.
-    if not (is_without_attributes s.trees n) && not (is_in_list s n) then to_div n else unwrapped n children
+    if not (is_without_attributes s.trees n) && not (is_in_list s n) then to_div n
+    else unwrapped n children
 
 -- outdent a node, step 5: then disallowed ancestors of the children are fixed
 unfoldable pub dissolved : ℕ → List ℕ → Run (Unit {0})
@@ -126,7 +128,8 @@ rest_after t (x ∷ xs) = if x == t then xs else rest_after t xs
 
 -- the siblings after t
 unfoldable pub siblings_after : State → ℕ → List ℕ
-siblings_after s t = option_map_or (λ p. rest_after t (children_of s.trees p)) (parent_of s.trees t) []
+siblings_after s t =
+    option_map_or (λ p. rest_after t (children_of s.trees p)) (parent_of s.trees t) []
 
 -- outdent a node, step 7: the siblings after t are indented
 unfoldable pub indent_after : ℕ → Run (Unit {0})

@@ -5,7 +5,8 @@ use Rattle.edit_model.specs.Run.{Run, ◌>>◌, done, look}
 use Rattle.block_extend.specs.Series.{count_after}
 
 -- so many members were taken already, with the series before
-unfoldable pub for_series : (State → ℕ → ℕ → Bool) → (List ℕ → Run (Unit {0})) → ℕ → List ℕ → Run (Unit {0})
+unfoldable pub for_series : (State → ℕ → ℕ → Bool) → (List ℕ → Run (Unit {0})) → ℕ → List ℕ
+    → Run (Unit {0})
 for_series on body taken [] = done
 for_series on body (suc taken) (x ∷ xs) = for_series on body taken xs
 for_series on body zero (x ∷ xs) = look λ s.

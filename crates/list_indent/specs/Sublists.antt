@@ -69,16 +69,19 @@ part_child item follower c = look λ s.
 
 -- normalize sublists, step 2: one turn
 unfoldable pub part_last : ℕ → Option ℕ → Run (Option ℕ)
-part_last item follower = look λ s. given (last_of s.trees item) (answer follower) (part_child item follower)
+part_last item follower =
+    look λ s. given (last_of s.trees item) (answer follower) (part_child item follower)
 
 -- normalize sublists, step 2: while a list is among the item's children
 unfoldable pub part_sublists : ℕ → Run (Unit {0})
-part_sublists item = look λ s. while_at_most (turn_bound s) (has_sublist item) (part_last item) None >> done
+part_sublists item =
+    look λ s. while_at_most (turn_bound s) (has_sublist item) (part_last item) None >> done
 
 -- normalize sublists, step 1: an editable item of an editable parent
 unfoldable pub is_normalizable : State → ℕ → Bool
 is_normalizable s n =
-    is_item s n && (is_editable_for s n && option_map_or (is_editable_for s) (parent_of s.trees n) false)
+    is_item s n && (is_editable_for s n
+    && option_map_or (is_editable_for s) (parent_of s.trees n) false)
 
 -- normalize sublists, step 1, and then 2
 unfoldable pub normalize_sublists : ℕ → Run (Unit {0})

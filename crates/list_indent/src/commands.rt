@@ -28,7 +28,8 @@ use wrap_split::{first_visible, split_parent};
 pub fn normalize_each(alloc: Global, doc: &mut Doc, list: &[NodeRef]) -> Result<(), EditFault>
     requires open { IsOpen doc.old }
     requires list_held { EachHeld doc.old list.now }
-    ensures gives { Gives result doc.old.state doc.new.state (for_each (labels_of list.now) normalize_sublists) }
+    ensures gives { Gives result doc.old.state doc.new.state
+        (for_each (labels_of list.now) normalize_sublists) }
     ensures keeps { Keeps doc.old doc.new }
 {
     for node in list {
@@ -37,7 +38,8 @@ pub fn normalize_each(alloc: Global, doc: &mut Doc, list: &[NodeRef]) -> Result<
     Ok(())
 }
 
-/// Indent and outdent, step 1: normalizes the sublists of the items around the ends of the active range.
+/// Indent and outdent, step 1: normalizes the sublists of the items around the ends of the active
+/// range.
 #[tactic(auto, using(edit_model::proofs::Steps::steps, edit_model::proofs::Steps::exits), unfolding(crate::specs::Commands::normalize_range))]
 pub fn normalize_range(alloc: Global, doc: &mut Doc) -> Result<(), EditFault>
     requires open { IsOpen doc.old }
@@ -86,7 +88,8 @@ fn normalize_before(alloc: Global, doc: &mut Doc, node: NodeRef) -> Result<(), E
 fn normalize_first(alloc: Global, doc: &mut Doc, list: &[NodeRef]) -> Result<(), EditFault>
     requires open { IsOpen doc.old }
     requires list_held { EachHeld doc.old list.now }
-    ensures gives { Gives result doc.old.state doc.new.state (normalize_first (labels_of list.now)) }
+    ensures gives { Gives result doc.old.state doc.new.state
+        (normalize_first (labels_of list.now)) }
     ensures keeps { Keeps doc.old doc.new }
 {
     let Some(node) = first_visible(doc, list) else {
@@ -114,7 +117,8 @@ impl Link<Doc> for Siblings {
 fn indent_each(alloc: Global, doc: &mut Doc, list: &[NodeRef]) -> Result<(), EditFault>
     requires open { IsOpen doc.old }
     requires list_held { EachHeld doc.old list.now }
-    ensures gives { Gives result doc.old.state doc.new.state (for_series goes_on indent_list 0 (labels_of list.now)) }
+    ensures gives { Gives result doc.old.state doc.new.state
+        (for_series goes_on indent_list 0 (labels_of list.now)) }
     ensures keeps { Keeps doc.old doc.new }
 {
     let mut at = 0;
@@ -213,7 +217,8 @@ fn outdent_from(
     requires open { IsOpen doc.old }
     requires list_held { EachHeld doc.old list.now }
     requires first_held { Holds doc.old first }
-    ensures gives { Gives result doc.old.state doc.new.state (outdent_from (labels_of list.now) first.label) }
+    ensures gives { Gives result doc.old.state doc.new.state
+        (outdent_from (labels_of list.now) first.label) }
     ensures keeps { Keeps doc.old doc.new }
 {
     if is_lone(doc, first) {

@@ -1,4 +1,5 @@
-//! The items around the active range, and the nodes of the block-extended range that indent and outdent go over.
+//! The items around the active range, and the nodes of the block-extended range that indent and
+//! outdent go over.
 
 ghost use Rattle.std.specs.Prelude.{◌≡◌, ◌++◌, ◌∷◌, [], Some, OnOk, IfOk, not, codes, filter};
 ghost use Rattle.dom_model.specs.Contents.{has_name};
@@ -37,7 +38,8 @@ pub fn push_items(list: &mut Vec<NodeRef>, doc: &Doc, node: NodeRef) -> Result<(
     requires each_held { EachHeld doc.now list.old.items }
     ensures held { EachHeld doc.now list.new.items }
     ensures ok { OnOk result
-        (labels_of list.new.items ≡ labels_of list.old.items ++ items_over doc.now.state.trees node.label) }
+        (labels_of list.new.items ≡ labels_of list.old.items
+        ++ items_over doc.now.state.trees node.label) }
 {
     doc.valid();
     match doc.parent(node) {
@@ -97,7 +99,8 @@ fn items_around(
 fn items_of(alloc: Global, doc: &Doc, pair: Pair) -> Result<Vec<NodeRef>, AllocError>
     requires { IsPlacedPair doc.now.state.trees pair }
     ensures held { IfOk result (λ list. EachHeld doc.now list.items) }
-    ensures items { IfOk result (λ list. labels_of list.items ≡ items_by doc.now.state.trees (Some pair)) }
+    ensures items { IfOk result (λ list. labels_of list.items
+        ≡ items_by doc.now.state.trees (Some pair)) }
 {
     let (start, end) = ends_of(doc, pair);
     items_around(alloc, doc, node_of(doc, start), node_of(doc, end))

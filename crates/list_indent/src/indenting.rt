@@ -28,7 +28,8 @@ fn nest(alloc: Global, doc: &mut Doc, list: NodeList, parent: NodeRef) -> Result
     requires open { IsOpen doc.old }
     requires list_held { EachHeld doc.old list }
     requires parent_held { Holds doc.old parent }
-    ensures gives { Gives result doc.old.state doc.new.state (nested (labels_of list) parent.label) }
+    ensures gives { Gives result doc.old.state doc.new.state
+        (nested (labels_of list) parent.label) }
     ensures keeps { Keeps doc.old doc.new }
 {
     let name = tag_of(alloc, doc, parent)?;
@@ -99,7 +100,8 @@ fn indent_from(
     requires open { IsOpen doc.old }
     requires list_held { EachHeld doc.old list }
     requires first_held { Holds doc.old first }
-    ensures gives { Gives result doc.old.state doc.new.state (indent_from (labels_of list) first.label) }
+    ensures gives { Gives result doc.old.state doc.new.state
+        (indent_from (labels_of list) first.label) }
     ensures keeps { Keeps doc.old doc.new }
 {
     let parent = doc.parent(first);

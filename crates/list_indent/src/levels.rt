@@ -29,7 +29,8 @@ fn child_on_way(
     below: Option<NodeRef>,
 ) -> Option<NodeRef>
     requires { Holds doc.now element }
-    ensures { Finds doc.now result (child_on_way doc.now.state element.label node.label (label_of below)) }
+    ensures { Finds doc.now result
+        (child_on_way doc.now.state element.label node.label (label_of below)) }
 {
     doc.valid();
     let mut at = doc.first_child(element);
@@ -67,7 +68,8 @@ fn indent_before(
 ) -> Result<(), EditFault>
     requires open { IsOpen doc.old }
     requires element_held { Holds doc.old element }
-    ensures gives { Gives result doc.old.state doc.new.state (indent_before element.label child.label) }
+    ensures gives { Gives result doc.old.state doc.new.state
+        (indent_before element.label child.label) }
     ensures keeps { Keeps doc.old doc.new }
 {
     let front = children_before(alloc, doc, element, child)?;
@@ -96,7 +98,8 @@ fn place_after(list: &[NodeRef], node: NodeRef) -> usize
 fn siblings_after(alloc: Global, doc: &Doc, node: NodeRef) -> Result<NodeList, AllocError>
     requires { Holds doc.now node }
     ensures held { IfOk result (λ list. EachHeld doc.now list) }
-    ensures siblings { IfOk result (λ list. labels_of list ≡ siblings_after doc.now.state node.label) }
+    ensures siblings { IfOk result (λ list. labels_of list
+        ≡ siblings_after doc.now.state node.label) }
 {
     let Some(parent) = doc.parent(node) else {
         return Ok(NodeList::from_vec(Vec::new(alloc)));
@@ -129,7 +132,8 @@ fn part_around(
     requires open { IsOpen doc.old }
     requires element_held { Holds doc.old element }
     requires child_held { Holds doc.old child }
-    ensures gives { Gives result doc.old.state doc.new.state (part_around element.label child.label) }
+    ensures gives { Gives result doc.old.state doc.new.state
+        (part_around element.label child.label) }
     ensures keeps { Keeps doc.old doc.new }
 {
     drop_break(doc, child)?;
@@ -148,7 +152,8 @@ fn part_level(
 ) -> Result<(), EditFault>
     requires open { IsOpen doc.old }
     requires element_held { Holds doc.old element }
-    ensures gives { Gives result doc.old.state doc.new.state (part_level node.label (label_of below) element.label) }
+    ensures gives { Gives result doc.old.state doc.new.state
+        (part_level node.label (label_of below) element.label) }
     ensures keeps { Keeps doc.old doc.new }
 {
     let Some(child) = child_on_way(doc, element, node, below) else {
@@ -180,7 +185,8 @@ pub(crate) fn part_levels(
 ) -> Result<(), EditFault>
     requires open { IsOpen doc.old }
     requires way_held { EachHeld doc.old way.now }
-    ensures gives { Gives result doc.old.state doc.new.state (part_levels node.label (reverse (labels_of way.now))) }
+    ensures gives { Gives result doc.old.state doc.new.state
+        (part_levels node.label (reverse (labels_of way.now))) }
     ensures keeps { Keeps doc.old doc.new }
 {
     let mut left = way.len();

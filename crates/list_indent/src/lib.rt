@@ -2,7 +2,8 @@
 //! document under edits, and go again. These are the algorithms on lists of the W3C's *HTML Editing
 //! APIs*, and the commands indent and outdent.
 //!
-//! Each call is proved to make one run of elementary edits, which its definition composes step by step.
+//! Each call is proved to make one run of elementary edits, which its definition composes step by
+//! step.
 #![tactic(auto)]
 
 mod commands;

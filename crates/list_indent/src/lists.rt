@@ -55,7 +55,8 @@ pub(crate) fn is_blank(doc: &Doc, node: NodeRef) -> bool
 // Whether an ol or ul is among the children of a node.
 pub(crate) fn has_list(doc: &Doc, node: NodeRef) -> bool
     requires { Holds doc.now node }
-    ensures { result ≡ list_any (is_list doc.now.state) (children_of doc.now.state.trees node.label) }
+    ensures { result
+        ≡ list_any (is_list doc.now.state) (children_of doc.now.state.trees node.label) }
 {
     doc.valid();
     let mut at = doc.first_child(node);

@@ -38,7 +38,8 @@ fn name_div(alloc: Global, doc: &mut Doc, node: NodeRef) -> Result<(), EditFault
 fn unset_boxes(alloc: Global, doc: &mut Doc, node: NodeRef) -> Result<(), EditFault>
     requires open { IsOpen doc.old }
     requires node_held { Holds doc.old node }
-    ensures gives { Gives result doc.old.state doc.new.state (for_each box_names (unset_style node.label)) }
+    ensures gives { Gives result doc.old.state doc.new.state
+        (for_each box_names (unset_style node.label)) }
     ensures keeps { Keeps doc.old doc.new }
 {
     let names = box_names();
@@ -48,7 +49,8 @@ fn unset_boxes(alloc: Global, doc: &mut Doc, node: NodeRef) -> Result<(), EditFa
     Ok(())
 }
 
-// Outdent a node, step 3: takes dir and the box properties from an indentation element, which becomes a div.
+// Outdent a node, step 3: takes dir and the box properties from an indentation element, which
+// becomes a div.
 #[tactic(auto, using(edit_model::proofs::Steps::steps, edit_model::proofs::Steps::exits), unfolding(crate::specs::Outdenting::unboxed))]
 fn unbox(alloc: Global, doc: &mut Doc, node: NodeRef) -> Result<(), EditFault>
     requires open { IsOpen doc.old }
@@ -114,19 +116,23 @@ fn if_indents(doc: &Doc, simple: bool, node: NodeRef) -> Option<NodeRef>
     }
 }
 
-/// A way up: the ancestors that it passes, the nearest first, and the indentation element that it leads to, if it does.
+/// A way up: the ancestors that it passes, the nearest first, and the indentation element that it
+/// leads to, if it does.
 #[derive(Drop)]
 struct Way {
     passed: Vec<NodeRef>,
     end: Option<NodeRef>,
 }
 
-// Outdent a node, step 4: the way up to the next indentation element; with `simple`, to a simple one.
+// Outdent a node, step 4: the way up to the next indentation element; with `simple`, to a simple
+// one.
 fn way_by(alloc: Global, doc: &Doc, simple: bool, node: NodeRef) -> Result<Way, AllocError>
     requires { Holds doc.now node }
     ensures held { IfOk result (λ way. EachHeld doc.now way.passed.items) }
-    ensures passed { IfOk result (λ way. labels_of way.passed.items ≡ passed_by simple doc.now.state node.label) }
-    ensures end { IfOk result (λ way. Finds doc.now way.end (indenter_by simple doc.now.state node.label)) }
+    ensures passed { IfOk result (λ way. labels_of way.passed.items
+        ≡ passed_by simple doc.now.state node.label) }
+    ensures end { IfOk result (λ way.
+        Finds doc.now way.end (indenter_by simple doc.now.state node.label)) }
 {
     doc.valid();
     let mut passed = Vec::new(alloc);
@@ -147,7 +153,8 @@ fn way_by(alloc: Global, doc: &Doc, simple: bool, node: NodeRef) -> Result<Way, 
 fn way_of(alloc: Global, doc: &Doc, node: NodeRef) -> Result<Way, AllocError>
     requires { Holds doc.now node }
     ensures held { IfOk result (λ way. EachHeld doc.now way.passed.items) }
-    ensures passed { IfOk result (λ way. labels_of way.passed.items ≡ passed doc.now.state node.label) }
+    ensures passed { IfOk result (λ way. labels_of way.passed.items
+        ≡ passed doc.now.state node.label) }
     ensures end { IfOk result (λ way. Finds doc.now way.end (indenter doc.now.state node.label)) }
 {
     let way = way_by(alloc, doc, true, node)?;
@@ -168,7 +175,8 @@ fn unwrap(
     requires open { IsOpen doc.old }
     requires node_held { Holds doc.old node }
     requires children_held { EachHeld doc.old children.now }
-    ensures gives { Gives result doc.old.state doc.new.state (unwrapped node.label (labels_of children.now)) }
+    ensures gives { Gives result doc.old.state doc.new.state
+        (unwrapped node.label (labels_of children.now)) }
     ensures keeps { Keeps doc.old doc.new }
 {
     let values = record_values(alloc, doc, children)?;
@@ -187,7 +195,8 @@ fn release(
     requires open { IsOpen doc.old }
     requires node_held { Holds doc.old node }
     requires children_held { EachHeld doc.old children.now }
-    ensures gives { Gives result doc.old.state doc.new.state (released node.label (labels_of children.now)) }
+    ensures gives { Gives result doc.old.state doc.new.state
+        (released node.label (labels_of children.now)) }
     ensures keeps { Keeps doc.old doc.new }
 {
     if !is_without_attributes(doc, node) && !is_in_list(doc, node) {
@@ -202,7 +211,8 @@ fn release(
 pub(crate) fn fix_each(alloc: Global, doc: &mut Doc, list: &[NodeRef]) -> Result<(), EditFault>
     requires open { IsOpen doc.old }
     requires list_held { EachHeld doc.old list.now }
-    ensures gives { Gives result doc.old.state doc.new.state (for_each (labels_of list.now) fix_ancestors) }
+    ensures gives { Gives result doc.old.state doc.new.state
+        (for_each (labels_of list.now) fix_ancestors) }
     ensures keeps { Keeps doc.old doc.new }
 {
     for node in list {
@@ -341,9 +351,9 @@ fn keeps_place(doc: &Doc, node: NodeRef) -> bool
     !is_indentation(doc, node) && !is_list(doc, node) && !is_indented(doc, node)
 }
 
-/// Outdents a node: an indentation element goes, or is one no more; a list in none gives way to its items; any
-/// other node comes out of the indentation element around it, in which what stands beside it is indented again. A
-/// node that isn't editable stays as it is.
+/// Outdents a node: an indentation element goes, or is one no more; a list in none gives way to its
+/// items; any other node comes out of the indentation element around it, in which what stands
+/// beside it is indented again. A node that isn't editable stays as it is.
 #[tactic(auto, using(edit_model::proofs::Steps::steps, edit_model::proofs::Steps::exits), unfolding(crate::specs::Outdenting::outdent_node))]
 pub fn outdent_node(alloc: Global, doc: &mut Doc, node: NodeRef) -> Result<(), EditFault>
     requires open { IsOpen doc.old }

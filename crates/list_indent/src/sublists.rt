@@ -70,7 +70,8 @@ fn follower_of(
     requires open { IsOpen doc.old }
     requires item_held { Holds doc.old item }
     requires follower_held { IfHeld doc.old follower }
-    ensures gives { GivesNode result doc.old.state doc.new.state (follower_of item.label (label_of follower)) }
+    ensures gives { GivesNode result doc.old.state doc.new.state
+        (follower_of item.label (label_of follower)) }
     ensures held { IfOk result (λ r. Holds doc.new r) }
     ensures keeps { Keeps doc.old doc.new }
 {
@@ -86,7 +87,8 @@ fn hand_on(doc: &mut Doc, child: NodeRef, follower: NodeRef) -> Result<Option<No
     requires open { IsOpen doc.old }
     requires child_held { Holds doc.old child }
     requires follower_held { Holds doc.old follower }
-    ensures gives { GivesMaybe result doc.old.state doc.new.state (handed_on child.label follower.label) }
+    ensures gives { GivesMaybe result doc.old.state doc.new.state
+        (handed_on child.label follower.label) }
     ensures held { IfOk result (λ found. IfHeld doc.new found) }
     ensures keeps { Keeps doc.old doc.new }
 {
@@ -130,7 +132,8 @@ fn part_last(
     requires open { IsOpen doc.old }
     requires item_held { Holds doc.old item }
     requires follower_held { IfHeld doc.old follower }
-    ensures gives { GivesMaybe result doc.old.state doc.new.state (part_last item.label (label_of follower)) }
+    ensures gives { GivesMaybe result doc.old.state doc.new.state
+        (part_last item.label (label_of follower)) }
     ensures held { IfOk result (λ found. IfHeld doc.new found) }
     ensures keeps { Keeps doc.old doc.new }
 {

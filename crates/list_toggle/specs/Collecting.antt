@@ -1,4 +1,5 @@
--- Toggle lists, step 6 a: siblings of a list become items, series by series. The steps are those of docs/ALGORITHMS.md.
+-- Toggle lists, step 6 a: siblings of a list become items, series by series. The steps are those of
+-- docs/ALGORITHMS.md.
 use Rattle.std.specs.Prelude.{ℕ, Bool, true, false, not, ◌&&◌, ◌||◌, List, [], ◌++◌, take, drop, codes, Option, Some, None, if◌then◌else◌}
 use Rattle.dom_model.specs.Contents.{has_name, is_break}
 use Rattle.dom_model.specs.Forest.{first_in, last_in}
@@ -39,7 +40,8 @@ rename_item l = set_tag_name l (codes "li") >>= made_one
 -- other members go into an item line by line: siblings that are inline, up to a br
 unfoldable pub goes_on_line : State → ℕ → ℕ → Bool
 goes_on_line s x y =
-    is_next s.trees x y && (not (is_block s.trees y) && (not (is_block s.trees x) && not (is_break s.trees x)))
+    is_next s.trees x y
+    && (not (is_block s.trees y) && (not (is_block s.trees x) && not (is_break s.trees x)))
 
 -- toggle lists, step 6 a: a line is wrapped in a new li
 unfoldable pub wrap_item : List ℕ → Run (Option ℕ)

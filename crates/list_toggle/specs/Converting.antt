@@ -22,7 +22,8 @@ is_fit ordered s (Some n) = is_editable_for s n && is_list_of ordered s.trees n
 
 -- one stands beside l
 unfoldable pub is_beside_fit : Bool → State → ℕ → Bool
-is_beside_fit ordered s l = is_fit ordered s (prev_of s.trees l) || is_fit ordered s (next_of s.trees l)
+is_beside_fit ordered s l =
+    is_fit ordered s (prev_of s.trees l) || is_fit ordered s (next_of s.trees l)
 
 -- toggle lists, step 3: the children of a list go into the one beside it, and keep their values
 unfoldable pub join : Bool → List ℕ → Run (Unit {0})
@@ -38,11 +39,13 @@ join_list ordered l = look λ s. join ordered (children_of s.trees l)
 
 -- toggle lists, step 3: a list without such a neighbour takes the name of the kind
 unfoldable pub name_list : Bool → ℕ → Run (Unit {0})
-name_list ordered l = look λ s. if is_element_at s.trees l then set_tag_name l (list_name ordered) >> done else done
+name_list ordered l =
+    look λ s. if is_element_at s.trees l then set_tag_name l (list_name ordered) >> done else done
 
 -- toggle lists, step 3: one list of the other kind
 unfoldable pub convert_list : Bool → ℕ → Run (Unit {0})
-convert_list ordered l = look λ s. if is_beside_fit ordered s l then join_list ordered l else name_list ordered l
+convert_list ordered l =
+    look λ s. if is_beside_fit ordered s l then join_list ordered l else name_list ordered l
 
 -- toggle lists, step 3: each list of the other kind, in tree order
 unfoldable pub convert_lists : Bool → Run (Unit {0})

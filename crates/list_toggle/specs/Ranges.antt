@@ -25,9 +25,11 @@ extended_pair f pair = pair_of (block_extend f (start_of f pair) (end_of f pair)
 
 -- toggle lists, step 2
 unfoldable pub keep_range : Run (Unit {0})
-keep_range = look λ s. given s.points.selection done λ pair. set_scratch (extended_pair s.trees pair)
+keep_range =
+    look λ s. given s.points.selection done λ pair. set_scratch (extended_pair s.trees pair)
 
--- when its members are listed it is let go: its ends come to the start of the document, where no edit has to move them
+-- when its members are listed it is let go: its ends come to the start of the document, where no
+-- edit has to move them
 abbrev pub document_start : Point
 document_start = record { label = 0; offset = 0 }
 
@@ -46,7 +48,8 @@ is_other_list ordered s l = is_editable_for s l && is_list_of (not ordered) s.tr
 
 abbrev pub other_lists_by : Bool → State → Option Pair → List ℕ
 other_lists_by ordered s None = []
-other_lists_by ordered s (Some pair) = contained_in (is_other_list ordered s) s.trees (ends_in s.trees pair)
+other_lists_by ordered s (Some pair) =
+    contained_in (is_other_list ordered s) s.trees (ends_in s.trees pair)
 
 unfoldable pub other_lists : Bool → State → List ℕ
 other_lists ordered s = other_lists_by ordered s s.points.scratch

@@ -29,11 +29,13 @@ use Rattle.list_toggle.specs.Ranges.{keep_range, free_range, range_members, rang
 -- series of siblings end before a list of the kind, which is outdented alone
 unfoldable pub goes_on_out : Bool → State → ℕ → ℕ → Bool
 goes_on_out ordered s x y =
-    is_next s.trees x y && (not (is_list_of ordered s.trees x) && not (is_list_of ordered s.trees y))
+    is_next s.trees x y
+    && (not (is_list_of ordered s.trees x) && not (is_list_of ordered s.trees y))
 
 -- toggle lists, step 5: x alone, or a series that begins with it
 unfoldable pub release_from : Bool → List ℕ → ℕ → Run (Unit {0})
-release_from ordered list x = look λ s. if is_list_of ordered s.trees x then outdent_node x else split_items list
+release_from ordered list x =
+    look λ s. if is_list_of ordered s.trees x then outdent_node x else split_items list
 
 -- toggle lists, step 5: one turn
 unfoldable pub release_series : Bool → List ℕ → Run (Unit {0})
@@ -51,7 +53,8 @@ release_lines ordered = look λ s. free_range >> release_all ordered (range_memb
 
 -- toggle lists, step 6 c and d: in one of the kind that is there, or else in a new one
 unfoldable pub wrap_list : Bool → List ℕ → Run (Option ℕ)
-wrap_list ordered items = wrap (Named (list_name ordered) false) (Make (bare (list_name ordered))) items
+wrap_list ordered items =
+    wrap (Named (list_name ordered) false) (Make (bare (list_name ordered))) items
 
 -- step 6 c: out of a list of the other kind
 unfoldable pub move_items : Bool → List ℕ → Run (Unit {0})
@@ -73,7 +76,8 @@ stays ordered s items a = is_child_of ordered s.trees a || list_all (is_list s) 
 unfoldable pub place_from : Bool → List ℕ → ℕ → Run (Unit {0})
 place_from ordered items a = look λ s.
     if stays ordered s items a then done
-    else (if is_child_of (not ordered) s.trees a then move_items ordered items else enlist ordered items)
+    else (if is_child_of (not ordered) s.trees a then move_items ordered items
+    else enlist ordered items)
 
 -- toggle lists, step 6 b to d
 unfoldable pub place_items : Bool → List ℕ → Run (Unit {0})

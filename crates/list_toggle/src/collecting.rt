@@ -69,7 +69,8 @@ impl Link<Doc> for SameLine {
 fn wrap_item(alloc: Global, doc: &mut Doc, line: &[NodeRef]) -> Result<Option<NodeRef>, EditFault>
     requires open { IsOpen doc.old }
     requires line_held { EachHeld doc.old line.now }
-    ensures gives { GivesMaybe result doc.old.state doc.new.state (collect.wrap_item (labels_of line.now)) }
+    ensures gives { GivesMaybe result doc.old.state doc.new.state
+        (collect.wrap_item (labels_of line.now)) }
     ensures held { IfOk result (λ made. IfHeld doc.new made) }
     ensures keeps { Keeps doc.old doc.new }
 {
@@ -168,7 +169,8 @@ fn push_made(doc: &Doc, items: &mut Vec<NodeRef>, made: Option<NodeRef>) -> Resu
     requires items_held { EachHeld doc.now items.old.items }
     requires made_held { IfHeld doc.now made }
     ensures held { OnOk result (EachHeld doc.now items.new.items) }
-    ensures nodes { OnOk result (labels_of items.new.items ≡ labels_of items.old.items ++ one_of (label_of made)) }
+    ensures nodes { OnOk result (labels_of items.new.items ≡ labels_of items.old.items
+        ++ one_of (label_of made)) }
 {
     if let Some(item) = made {
         items.push(item)?;
@@ -189,7 +191,8 @@ fn collect_next(
     requires list_held { EachHeld doc.old list.now }
     requires some { 0 < length list.now }
     ensures gives { GivesAs (λ count. (labels_of items.new.items, labels_of (drop count list.now)))
-        result doc.old.state doc.new.state (collect.collect_next (labels_of items.old.items, labels_of list.now)) }
+        result doc.old.state doc.new.state
+        (collect.collect_next (labels_of items.old.items, labels_of list.now)) }
     ensures held { IfOk result (λ count. EachHeld doc.new items.new.items) }
     ensures within { IfOk result (λ count. count ≤ length list.now) }
     ensures keeps { Keeps doc.old doc.new }

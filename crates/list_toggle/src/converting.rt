@@ -1,4 +1,5 @@
-//! Toggle lists, step 3: the lists of the other kind become lists of the kind, or go into one beside them.
+//! Toggle lists, step 3: the lists of the other kind become lists of the kind, or go into one
+//! beside them.
 
 ghost use Rattle.std.specs.Prelude.{◌≡◌};
 ghost use Rattle.edit_model.specs.Gives.{Gives, label_of, labels_of};
@@ -40,7 +41,8 @@ fn is_beside_fit(doc: &Doc, ordered: bool, node: NodeRef) -> bool
 fn join(alloc: Global, doc: &mut Doc, ordered: bool, children: NodeList) -> Result<(), EditFault>
     requires open { IsOpen doc.old }
     requires children_held { EachHeld doc.old children }
-    ensures gives { Gives result doc.old.state doc.new.state (convert.join ordered (labels_of children)) }
+    ensures gives { Gives result doc.old.state doc.new.state
+        (convert.join ordered (labels_of children)) }
     ensures keeps { Keeps doc.old doc.new }
 {
     let values = record_values(alloc, doc, children.as_slice())?;
@@ -56,7 +58,8 @@ fn join(alloc: Global, doc: &mut Doc, ordered: bool, children: NodeList) -> Resu
 fn join_list(alloc: Global, doc: &mut Doc, ordered: bool, node: NodeRef) -> Result<(), EditFault>
     requires open { IsOpen doc.old }
     requires node_held { Holds doc.old node }
-    ensures gives { Gives result doc.old.state doc.new.state (convert.join_list ordered node.label) }
+    ensures gives { Gives result doc.old.state doc.new.state
+        (convert.join_list ordered node.label) }
     ensures keeps { Keeps doc.old doc.new }
 {
     let children = NodeList::from_slice(alloc, &doc.children_of(node)?)?;
@@ -68,7 +71,8 @@ fn join_list(alloc: Global, doc: &mut Doc, ordered: bool, node: NodeRef) -> Resu
 fn name_list(alloc: Global, doc: &mut Doc, ordered: bool, node: NodeRef) -> Result<(), EditFault>
     requires open { IsOpen doc.old }
     requires node_held { Holds doc.old node }
-    ensures gives { Gives result doc.old.state doc.new.state (convert.name_list ordered node.label) }
+    ensures gives { Gives result doc.old.state doc.new.state
+        (convert.name_list ordered node.label) }
     ensures keeps { Keeps doc.old doc.new }
 {
     if is_element(doc, node) {
@@ -83,7 +87,8 @@ fn name_list(alloc: Global, doc: &mut Doc, ordered: bool, node: NodeRef) -> Resu
 fn convert_list(alloc: Global, doc: &mut Doc, ordered: bool, node: NodeRef) -> Result<(), EditFault>
     requires open { IsOpen doc.old }
     requires node_held { Holds doc.old node }
-    ensures gives { Gives result doc.old.state doc.new.state (convert.convert_list ordered node.label) }
+    ensures gives { Gives result doc.old.state doc.new.state
+        (convert.convert_list ordered node.label) }
     ensures keeps { Keeps doc.old doc.new }
 {
     if is_beside_fit(doc, ordered, node) {

@@ -2,7 +2,8 @@
 //! leave them. This is the algorithm of the commands insertOrderedList and insertUnorderedList of
 //! the W3C's *HTML Editing APIs*, over a document under edits.
 //!
-//! The call is proved to make one run of elementary edits, which its definition composes step by step.
+//! The call is proved to make one run of elementary edits, which its definition composes step by
+//! step.
 #![tactic(auto)]
 
 mod collecting;

@@ -1,4 +1,5 @@
-//! Toggle lists, steps 2 to 4: the block-extended active range, and the lists and list members that it contains.
+//! Toggle lists, steps 2 to 4: the block-extended active range, and the lists and list members that
+//! it contains.
 
 ghost use Rattle.std.specs.Prelude.{◌≡◌, Some, IfOk};
 ghost use Rattle.edit_model.specs.Action.{Scratch, acted};
@@ -96,7 +97,8 @@ fn other_lists_of(
 ) -> Result<Vec<NodeRef>, AllocError>
     requires { IsPlacedPair doc.now.state.trees pair }
     ensures held { IfOk result (λ list. EachHeld doc.now list.items) }
-    ensures nodes { IfOk result (λ list. labels_of list.items ≡ other_lists_by ordered doc.now.state (Some pair)) }
+    ensures nodes { IfOk result (λ list. labels_of list.items
+        ≡ other_lists_by ordered doc.now.state (Some pair)) }
 {
     contained_in(alloc, doc, ends_of(doc, pair), &OtherList { ordered })
 }

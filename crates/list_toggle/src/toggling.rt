@@ -74,7 +74,8 @@ fn release_series(
 ) -> Result<(), EditFault>
     requires open { IsOpen doc.old }
     requires list_held { EachHeld doc.old list.now }
-    ensures gives { Gives result doc.old.state doc.new.state (toggle.release_series ordered (labels_of list.now)) }
+    ensures gives { Gives result doc.old.state doc.new.state
+        (toggle.release_series ordered (labels_of list.now)) }
     ensures keeps { Keeps doc.old doc.new }
 {
     if list.as_slice().len() == 0 {
@@ -94,7 +95,8 @@ fn release_all(
 ) -> Result<(), EditFault>
     requires open { IsOpen doc.old }
     requires list_held { EachHeld doc.old list.now }
-    ensures gives { Gives result doc.old.state doc.new.state (toggle.release_all ordered (labels_of list.now)) }
+    ensures gives { Gives result doc.old.state doc.new.state
+        (toggle.release_all ordered (labels_of list.now)) }
     ensures keeps { Keeps doc.old doc.new }
 {
     let mut at = 0;
@@ -132,7 +134,8 @@ fn wrap_list(
 ) -> Result<Option<NodeRef>, EditFault>
     requires open { IsOpen doc.old }
     requires items_held { EachHeld doc.old items }
-    ensures gives { GivesMaybe result doc.old.state doc.new.state (toggle.wrap_list ordered (labels_of items)) }
+    ensures gives { GivesMaybe result doc.old.state doc.new.state
+        (toggle.wrap_list ordered (labels_of items)) }
     ensures held { IfOk result (λ made. IfHeld doc.new made) }
     ensures keeps { Keeps doc.old doc.new }
 {
@@ -147,7 +150,8 @@ fn wrap_list(
 fn move_items(alloc: Global, doc: &mut Doc, ordered: bool, items: NodeList) -> Result<(), EditFault>
     requires open { IsOpen doc.old }
     requires items_held { EachHeld doc.old items }
-    ensures gives { Gives result doc.old.state doc.new.state (toggle.move_items ordered (labels_of items)) }
+    ensures gives { Gives result doc.old.state doc.new.state
+        (toggle.move_items ordered (labels_of items)) }
     ensures keeps { Keeps doc.old doc.new }
 {
     let values = record_values(alloc, doc, items.as_slice())?;
@@ -161,7 +165,8 @@ fn move_items(alloc: Global, doc: &mut Doc, ordered: bool, items: NodeList) -> R
 fn enlist(alloc: Global, doc: &mut Doc, ordered: bool, items: NodeList) -> Result<(), EditFault>
     requires open { IsOpen doc.old }
     requires items_held { EachHeld doc.old items }
-    ensures gives { Gives result doc.old.state doc.new.state (toggle.enlist ordered (labels_of items)) }
+    ensures gives { Gives result doc.old.state doc.new.state
+        (toggle.enlist ordered (labels_of items)) }
     ensures keeps { Keeps doc.old doc.new }
 {
     let made = wrap_list(alloc, doc, ordered, items)?;
@@ -203,7 +208,8 @@ fn place_from(
     requires open { IsOpen doc.old }
     requires items_held { EachHeld doc.old items }
     requires first_held { Holds doc.old first }
-    ensures gives { Gives result doc.old.state doc.new.state (toggle.place_from ordered (labels_of items) first.label) }
+    ensures gives { Gives result doc.old.state doc.new.state
+        (toggle.place_from ordered (labels_of items) first.label) }
     ensures keeps { Keeps doc.old doc.new }
 {
     if stays(doc, ordered, items.as_slice(), first) {
@@ -225,7 +231,8 @@ fn place_items(
 ) -> Result<(), EditFault>
     requires open { IsOpen doc.old }
     requires items_held { EachHeld doc.old items.now }
-    ensures gives { Gives result doc.old.state doc.new.state (toggle.place_items ordered (labels_of items.now)) }
+    ensures gives { Gives result doc.old.state doc.new.state
+        (toggle.place_items ordered (labels_of items.now)) }
     ensures keeps { Keeps doc.old doc.new }
 {
     if items.len() == 0 {
@@ -264,7 +271,8 @@ fn enlist_all(
 ) -> Result<(), EditFault>
     requires open { IsOpen doc.old }
     requires list_held { EachHeld doc.old list.now }
-    ensures gives { Gives result doc.old.state doc.new.state (toggle.enlist_all ordered (labels_of list.now)) }
+    ensures gives { Gives result doc.old.state doc.new.state
+        (toggle.enlist_all ordered (labels_of list.now)) }
     ensures keeps { Keeps doc.old doc.new }
 {
     in_turns(alloc, doc, &EnlistTurn { ordered }, list)

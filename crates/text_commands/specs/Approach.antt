@@ -52,7 +52,8 @@ drop_child a k = remove k >> answer (moved_to a (at a.at.label (a.at.offset - 1)
 -- step 3 a: the sibling before the node at whose start the point stands
 unfoldable pub hidden_prev : State → Point → Option ℕ
 hidden_prev s p =
-    if not (is_affected_host s p.label) && (p.offset == 0) then if_hidden s (prev_of s.trees p.label) else None
+    if not (is_affected_host s p.label) && (p.offset == 0) then
+    if_hidden s (prev_of s.trees p.label) else None
 
 -- delete, step 3 a: it goes
 unfoldable pub drop_prev : Approach → ℕ → Run Approach
@@ -84,11 +85,13 @@ drop_link a k = remove_keeping_children k >> answer (ended a)
 -- step 3 e: into a child that is no block, br or img
 abbrev pub if_enterable : State → Option ℕ → Option ℕ
 if_enterable s None = None
-if_enterable s (Some k) = if is_block s.trees k || (is_break s.trees k || is_image s.trees k) then None else Some k
+if_enterable s (Some k) =
+    if is_block s.trees k || (is_break s.trees k || is_image s.trees k) then None else Some k
 
 -- delete, step 3 e: the end of such a child
 unfoldable pub into_child : State → Point → Option Point
-into_child s p = option_map (end_in s.trees) (if_enterable s (child_before s.trees p.label p.offset))
+into_child s p =
+    option_map (end_in s.trees) (if_enterable s (child_before s.trees p.label p.offset))
 
 -- steps 3 e and 3 f
 unfoldable pub enter_or_stop : Approach → Run Approach
@@ -100,7 +103,8 @@ unlink_or_enter a = look λ s. given (link_before s a.at) (enter_or_stop a) (dro
 
 -- from step 3 c on
 unfoldable pub leave_or_enter : Approach → Run Approach
-leave_or_enter a = look λ s. given (out_of_node s a.at) (unlink_or_enter a) λ p. answer (moved_to a p)
+leave_or_enter a =
+    look λ s. given (out_of_node s a.at) (unlink_or_enter a) λ p. answer (moved_to a p)
 
 -- from step 3 b on
 unfoldable pub hide_or_move : Approach → Run Approach
@@ -117,7 +121,8 @@ go_back p = look λ s. while_at_most (turn_bound s) goes_on back_turn (begun_at 
 -- ---- delete, step 7: out to where something stands before the point
 
 unfoldable pub out_of_start : State → Point → Option Point
-out_of_start s p = if (p.offset == 0) && not (is_affected_host s p.label) then before_node s.trees p.label else None
+out_of_start s p = if (p.offset == 0) && not (is_affected_host s p.label) then
+    before_node s.trees p.label else None
 
 -- delete, step 7: the child before the point goes, or it stops
 unfoldable pub hide_or_stop : Approach → Run Approach

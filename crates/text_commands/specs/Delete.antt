@@ -59,7 +59,8 @@ is_table s (Some k) = has_name s.trees k (codes "table")
 
 -- nothing stands before the point in the host, or it is the start of a table
 unfoldable pub is_kept_from : State → Point → Bool
-is_kept_from s q = (is_affected_host s q.label && (q.offset == 0)) || is_table s (child_at s.trees q.label q.offset)
+is_kept_from s q = (is_affected_host s q.label && (q.offset == 0))
+    || is_table s (child_at s.trees q.label q.offset)
 
 unfoldable pub follows_table : State → Point → Bool
 follows_table s q = is_table s (child_before s.trees q.label q.offset)
@@ -73,7 +74,8 @@ select_before q = select (one_before q) q >> answer true
 -- a br after another one or after a block
 unfoldable pub is_empty_line : State → ℕ → Bool
 is_empty_line s k =
-    is_break s.trees k && option_map_or (λ r. is_break s.trees r || is_block s.trees r) (prev_of s.trees k) false
+    is_break s.trees k
+    && option_map_or (λ r. is_break s.trees r || is_block s.trees r) (prev_of s.trees k) false
 
 abbrev pub is_line : State → Option ℕ → Bool
 is_line s None = false
@@ -108,7 +110,8 @@ is_entry_at s (Some k) = is_entry s k
 -- entries on both sides
 unfoldable pub parts_entries : State → Point → Bool
 parts_entries s q =
-    is_entry_at s (child_at s.trees q.label q.offset) && is_entry_at s (child_before s.trees q.label q.offset)
+    is_entry_at s (child_at s.trees q.label q.offset)
+    && is_entry_at s (child_before s.trees q.label q.offset)
 
 -- down to the end of what stands before
 unfoldable pub into_last : State → Point → Option Point
@@ -130,7 +133,8 @@ start_or q (Some k) = start_in k
 -- step 12: from where to where, between entries and elsewhere
 unfoldable pub join_entries : Point → Run Bool
 join_entries q = look λ s. do
-  select (end_or s.trees q (child_before s.trees q.label q.offset)) (start_or q (child_at s.trees q.label q.offset))
+  select (end_or s.trees q (child_before s.trees q.label q.offset))
+      (start_or q (child_at s.trees q.label q.offset))
   erased true
 
 -- delete, steps 12 and 13, elsewhere than between entries
@@ -154,7 +158,8 @@ erase_or_join p q = look λ s. if follows_line s p q then erase_line p q else jo
 -- step 9, or from 10 on
 unfoldable pub select_or_join : Point → Point → Run Bool
 select_or_join p q = look λ s.
-    if is_kept_from s q then answer true else (if follows_table s q then select_before q else erase_or_join p q)
+    if is_kept_from s q then answer true
+    else (if follows_table s q then select_before q else erase_or_join p q)
 
 -- step 8, or from 9 on
 unfoldable pub outdent_or_join : Point → Point → Run Bool
@@ -171,7 +176,8 @@ lift_or_cross p = look λ s. if starts_entry s p then lift_entry p.label else de
 -- step 4 or 5, or from 6 on
 unfoldable pub delete_before : Point → Run Bool
 delete_before p = look λ s.
-    if follows_single s p then erase_single p else (if is_block s.trees p.label then lift_or_cross p else answer true)
+    if follows_single s p then erase_single p
+    else (if is_block s.trees p.label then lift_or_cross p else answer true)
 
 -- after step 3
 unfoldable pub delete_approached : Approach → Run Bool
@@ -183,7 +189,8 @@ delete_from p = go_back p >>= delete_approached
 
 -- delete, from step 3 on, with the start of the active range
 unfoldable pub delete_at_start : Run Bool
-delete_at_start = look λ s. given s.points.selection (answer true) λ pair. delete_from (start_of s.trees pair)
+delete_at_start =
+    look λ s. given s.points.selection (answer true) λ pair. delete_from (start_of s.trees pair)
 
 -- steps 2 to 13
 unfoldable pub delete_at_caret : Run Bool

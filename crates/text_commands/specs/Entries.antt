@@ -39,7 +39,8 @@ items_from f (Some p) = items_over f p
 
 -- delete, step 6: their sublists are normalized
 unfoldable pub normalize_around : ℕ → Run (Unit {0})
-normalize_around n = look λ s. for_each (items_from s.trees (parent_of s.trees n)) normalize_sublists
+normalize_around n =
+    look λ s. for_each (items_from s.trees (parent_of s.trees n)) normalize_sublists
 
 -- delete, step 6: the entry n leaves its list
 unfoldable pub lift_entry : ℕ → Run Bool
@@ -80,7 +81,8 @@ bare_nodes s p = bare_in s (block_extend s.trees p p)
 unfoldable pub outdent_line : Point → Run Bool
 outdent_line p = look λ s. for_each (bare_nodes s p) outdent_node >> answer true
 
--- ---- delete, step 11: the line that the entry before ends with is closed, and an empty one is put after it
+-- ---- delete, step 11: the line that the entry before ends with is closed, and an empty one is put
+-- after it
 
 abbrev pub opens_inline : State → Option ℕ → Bool
 opens_inline s None = false

@@ -382,7 +382,8 @@ fn climb_turn(doc: &mut Doc, way: Approach) -> Result<Approach, EditFault>
     }
 }
 
-/// Step 7: out from the start of a node to where something stands before the point. What shows nothing there goes.
+/// Step 7: out from the start of a node to where something stands before the point. What shows
+/// nothing there goes.
 #[tactic(auto, using(edit_model::proofs::Steps::whiles, edit_model::proofs::Steps::exits), unfolding(crate::specs::Approach::climb))]
 pub(crate) fn climb(doc: &mut Doc, start: Point) -> Result<Approach, EditFault>
     requires open { IsOpen doc.old }

@@ -25,7 +25,8 @@ fn extend(doc: &mut Doc, focus: Point)
 // Keeps a point that goes along with edits.
 fn keep(doc: &mut Doc, at: Point)
     requires open { IsOpen doc.old }
-    ensures kept { doc.new ≡ with_state doc.old (acted (Scratch record { anchor = at; focus = at }) doc.old.state) }
+    ensures kept { doc.new
+        ≡ with_state doc.old (acted (Scratch record { anchor = at; focus = at }) doc.old.state) }
     ensures keeps { Keeps doc.old doc.new }
 {
     doc.set_scratch(Pair {

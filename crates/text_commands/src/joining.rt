@@ -1,4 +1,5 @@
-//! Delete, steps 9 to 13: what stands before the start of a block. The steps are those of docs/ALGORITHMS.md.
+//! Delete, steps 9 to 13: what stands before the start of a block. The steps are those of
+//! docs/ALGORITHMS.md.
 
 ghost use Rattle.std.specs.Prelude.{◌≡◌, ◌<◌};
 ghost use Rattle.dom_model.specs.Forest.{count_of};
@@ -71,7 +72,8 @@ fn is_line(doc: &Doc, node: Option<NodeRef>) -> bool
     }
 }
 
-// Step 10: whether a rule or an empty line stands before a point, and the caret is at the start of its node.
+// Step 10: whether a rule or an empty line stands before a point, and the caret is at the start of
+// its node.
 #[tactic(auto, unfolding(crate::specs::Delete::follows_line))]
 fn follows_line(doc: &Doc, caret: Point, node: NodeRef, at: Point) -> bool
     requires held { Holds doc.now node }

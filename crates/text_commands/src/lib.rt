@@ -1,8 +1,9 @@
-//! The command delete, as an action on a document under edits: between a command's begin and its end. It answers
-//! whether the command was taken (HTML Editing APIs, "action"). The actions of insertText and insertParagraph are
-//! handed on from `text_insertion`.
+//! The command delete, as an action on a document under edits: between a command's begin and its
+//! end. It answers whether the command was taken (HTML Editing APIs, "action"). The actions of
+//! insertText and insertParagraph are handed on from `text_insertion`.
 //!
-//! Each call is proved to make one run of elementary edits, which its definition composes step by step.
+//! Each call is proved to make one run of elementary edits, which its definition composes step by
+//! step.
 #![tactic(auto)]
 
 mod approach;

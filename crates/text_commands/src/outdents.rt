@@ -80,7 +80,8 @@ fn bare_nodes(alloc: Global, doc: &Doc, at: Point) -> Result<NodeList, AllocErro
 fn outdent_each(alloc: Global, doc: &mut Doc, list: &[NodeRef]) -> Result<(), EditFault>
     requires open { IsOpen doc.old }
     requires list_held { EachHeld doc.old list.now }
-    ensures gives { Gives result doc.old.state doc.new.state (for_each (labels_of list.now) outdenting.outdent_node) }
+    ensures gives { Gives result doc.old.state doc.new.state
+        (for_each (labels_of list.now) outdenting.outdent_node) }
     ensures keeps { Keeps doc.old doc.new }
 {
     for node in list {

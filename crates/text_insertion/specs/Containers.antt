@@ -49,10 +49,12 @@ nearest_entry s l = walk (up_to_entry s) (turn_bound s) l
 
 -- step 3: a p or div gives way to the entry in which it stands
 unfoldable pub is_plain_block : State → ℕ → Bool
-is_plain_block s c = is_editable_for s c && (has_name s.trees c (codes "p") || has_name s.trees c (codes "div"))
+is_plain_block s c =
+    is_editable_for s c && (has_name s.trees c (codes "p") || has_name s.trees c (codes "div"))
 
 unfoldable pub entry_over : State → ℕ → ℕ
-entry_over s c = if is_plain_block s c && is_entry s (nearest_entry s c) then nearest_entry s c else c
+entry_over s c =
+    if is_plain_block s c && is_entry s (nearest_entry s c) then nearest_entry s c else c
 
 -- step 3
 unfoldable pub container_of : State → ℕ → ℕ
@@ -71,7 +73,8 @@ abbrev pub first_between : State → Point × Point → Option ℕ
 first_between s range = find (is_line_content s) (nodes_in s.trees range)
 
 abbrev pub first_around : State → Pair → Option ℕ
-first_around s pair = first_between s (block_extend s.trees (start_of s.trees pair) (end_of s.trees pair))
+first_around s pair =
+    first_between s (block_extend s.trees (start_of s.trees pair) (end_of s.trees pair))
 
 -- step 4: the first one in the block-extended range
 unfoldable pub first_content : State → Option ℕ
@@ -94,11 +97,13 @@ insert_container = do
 -- insert a paragraph, step 4: it may stand there
 unfoldable pub takes_container : State → Bool
 takes_container s =
-    option_map_or (λ p. name_allowed_in (container_name s.flags.paragraphs) s.trees p.label) (active_start s) false
+    option_map_or (λ p. name_allowed_in (container_name s.flags.paragraphs) s.trees p.label)
+    (active_start s) false
 
 -- insert a paragraph, step 4, where nothing can be wrapped: this ends the algorithm
 unfoldable pub add_container : Run (Option ℕ)
-add_container = look λ s. if takes_container s then (insert_container >> answer None) else answer None
+add_container =
+    look λ s. if takes_container s then (insert_container >> answer None) else answer None
 
 -- step 4: the siblings after z that may stand in a paragraph, one a turn
 abbrev pub if_paragraph_child : State → Option ℕ → Option ℕ
@@ -107,7 +112,8 @@ if_paragraph_child s (Some k) = if allowed_in_name s.trees k (codes "p") then So
 
 unfoldable pub contents_after : State → ℕ → ℕ → List ℕ
 contents_after s zero z = []
-contents_after s (suc n) z = list_on (if_paragraph_child s (next_of s.trees z)) [] λ q. q ∷ contents_after s n q
+contents_after s (suc n) z =
+    list_on (if_paragraph_child s (next_of s.trees z)) [] λ q. q ∷ contents_after s n q
 
 -- insert a paragraph, step 4: the line that begins with k
 unfoldable pub contents_from : State → ℕ → List ℕ

@@ -21,13 +21,16 @@ is_stray s n = is_description s n && not (has_place s n)
 
 -- insert a paragraph, step 6, and delete, step 6: it gets the default container's name
 unfoldable pub rename_stray : ℕ → Run ℕ
-rename_stray n = look λ s. if is_stray s n then set_tag_name n (container_name s.flags.paragraphs) else answer n
+rename_stray n =
+    look λ s. if is_stray s n then set_tag_name n (container_name s.flags.paragraphs) else answer n
 
 -- ---- insert a paragraph, step 6: an entry with nothing in it leaves its list
 
 -- the one child of c is a br
 unfoldable pub has_sole_break : State → ℕ → Bool
-has_sole_break s c = option_map_or (λ k. is_break s.trees k && is_none (next_of s.trees k)) (first_of s.trees c) false
+has_sole_break s c =
+    option_map_or (λ k. is_break s.trees k && is_none (next_of s.trees k)) (first_of s.trees c)
+    false
 
 unfoldable pub is_empty_entry : State → ℕ → Bool
 is_empty_entry s c = is_entry s c && (is_none (first_of s.trees c) || has_sole_break s c)

@@ -21,15 +21,18 @@ use Rattle.delete_core.specs.Erasing.{shows_child}
 use Rattle.delete_core.specs.Places.{start_in, end_in, before_node, after_node, walk_points}
 use Rattle.text_insertion.specs.Start.{active_start}
 
--- ---- insert a paragraph, step 7: out of the nodes that the point starts, and then of those that it ends, up to a prohibited
+-- ---- insert a paragraph, step 7: out of the nodes that the point starts, and then of those that
+-- it ends, up to a prohibited
 -- paragraph child
 
 unfoldable pub leave_start : State → Point → Option Point
-leave_start s p = if (p.offset == 0) && not (is_prohibited s p.label) then before_node s.trees p.label else None
+leave_start s p =
+    if (p.offset == 0) && not (is_prohibited s p.label) then before_node s.trees p.label else None
 
 unfoldable pub leave_end : State → Point → Option Point
 leave_end s p =
-    if (p.offset == length_of s.trees p.label) && not (is_prohibited s p.label) then after_node s.trees p.label
+    if (p.offset == length_of s.trees p.label) && not (is_prohibited s p.label) then
+    after_node s.trees p.label
     else None
 
 unfoldable pub outer_start : State → Point → Point
@@ -56,7 +59,8 @@ ends_line s q c = is_break_alone s.trees (nodes_in s.trees (q, end_in s.trees c)
 unfoldable pub is_heading_at : State → ℕ → Bool
 is_heading_at s c = option_map_or names.is_heading (name_of s.trees c) false
 
--- step 8: after a whole heading comes a plain container, after a whole dt a dd, and after a whole dd a dt
+-- step 8: after a whole heading comes a plain container, after a whole dt a dd, and after a whole
+-- dd a dt
 unfoldable pub name_after : State → ℕ → List ℕ
 name_after s c =
     if is_heading_at s c then container_name s.flags.paragraphs
@@ -68,7 +72,8 @@ second_name s q c = if ends_line s q c then name_after s c else tag_of s.trees c
 
 -- step 8: it has the attributes of c, but for the id
 unfoldable pub make_second : Point → ℕ → Run ℕ
-make_second q c = look λ s. make_element (second_name s q c) (unset_in (attribute_list_of s.trees c) (codes "id"))
+make_second q c =
+    look λ s. make_element (second_name s q c) (unset_in (attribute_list_of s.trees c) (codes "id"))
 
 -- step 8
 unfoldable pub part_at : Point → ℕ → Run ℕ

@@ -48,7 +48,8 @@ split_text p = cut_text p >> leave_text p
 
 unfoldable pub holds_lines : State → ℕ → Bool
 holds_lines s c =
-    has_name s.trees c (codes "address") || (has_name s.trees c (codes "listing") || has_name s.trees c (codes "pre"))
+    has_name s.trees c (codes "address")
+    || (has_name s.trees c (codes "listing") || has_name s.trees c (codes "pre"))
 
 -- step 5: a br at the end of c shows a line only with another one after it
 unfoldable pub is_last_below : State → ℕ → ℕ → Bool
@@ -74,7 +75,8 @@ break_line p c = make_break >>= break_with p c
 -- step 5 or 6, or from 7 on
 unfoldable pub part_line : Point → ℕ → Run (Unit {0})
 part_line p c = look λ s.
-    if holds_lines s c then break_line p c else (if is_empty_entry s c then leave_list c else part_container c)
+    if holds_lines s c then break_line p c
+    else (if is_empty_entry s c then leave_list c else part_container c)
 
 -- insert a paragraph, from step 5 on, unless step 4 ended the algorithm
 abbrev pub part_line_if : Point → Option ℕ → Run (Unit {0})

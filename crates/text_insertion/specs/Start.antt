@@ -1,4 +1,5 @@
--- The start of the active range: what is erased before something is inserted there, and nodes that are put there.
+-- The start of the active range: what is erased before something is inserted there, and nodes that
+-- are put there.
 use Rattle.std.specs.Prelude.{ℕ, ◌==◌, Bool, ◌&&◌, not, Option, Some, None, if◌then◌else◌}
 use Rattle.std.specs.Option.{option_map}
 use Rattle.dom_model.specs.declared.Content.{Content}

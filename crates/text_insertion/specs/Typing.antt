@@ -59,7 +59,8 @@ put_text c = do
 
 -- insert text, step 5: with the start of the active range
 unfoldable pub put_at : ℕ → Point → Run (Unit {0})
-put_at c p = look λ s. if is_words s.trees p.label then put_in_text c p else (drop_sole_break p.label >> put_text c)
+put_at c p = look λ s. if is_words s.trees p.label then put_in_text c p
+    else (drop_sole_break p.label >> put_text c)
 
 -- step 5
 unfoldable pub put_char : ℕ → Run (Unit {0})
@@ -103,7 +104,8 @@ insert_char c = erase true false false >> insert_char_inside c
 
 -- step 2: each of several characters in order
 unfoldable pub insert_several : List ℕ → Run (Unit {0})
-insert_several value = look λ s. if is_none (start_inside s) then done else for_each value insert_char
+insert_several value =
+    look λ s. if is_none (start_inside s) then done else for_each value insert_char
 
 -- step 2: several characters, none, or one
 unfoldable pub insert_chars : List ℕ → Run (Unit {0})

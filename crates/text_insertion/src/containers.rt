@@ -1,4 +1,5 @@
-//! Insert a paragraph, step 3: the single-line container of a line. The steps are those of docs/ALGORITHMS.md.
+//! Insert a paragraph, step 3: the single-line container of a line. The steps are those of
+//! docs/ALGORITHMS.md.
 
 ghost use Rattle.std.specs.Prelude.{◌≡◌};
 ghost use Rattle.edit_model.specs.Gives.{label_of};

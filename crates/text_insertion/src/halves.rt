@@ -173,7 +173,9 @@ fn second_name(alloc: Global, doc: &Doc, at: Point, container: NodeRef) -> Resul
 fn second_attributes(alloc: Global, doc: &Doc, container: NodeRef) -> Result<Attributes, AllocError>
     requires { Holds doc.now container }
     ensures { IfOk result
-        (λ list. list ≡ unset_in (compositions.attribute_list_of doc.now.state.trees container.label) (codes "id")) }
+        (λ list. list
+        ≡ unset_in (compositions.attribute_list_of doc.now.state.trees container.label)
+        (codes "id")) }
 {
     let mut list = attributes_of(alloc, doc, container)?;
     list.unset(b"id");
@@ -191,7 +193,8 @@ fn make_second(
     requires open { IsOpen doc.old }
     requires here { 0 < count_of doc.old.state.trees at.label }
     requires container_held { Holds doc.old container }
-    ensures gives { GivesNode result doc.old.state doc.new.state (halves.make_second at container.label) }
+    ensures gives { GivesNode result doc.old.state doc.new.state
+        (halves.make_second at container.label) }
     ensures held { IfOk result (λ r. Holds doc.new r) }
     ensures keeps { Keeps doc.old doc.new }
 {
@@ -211,7 +214,8 @@ fn part_at(
     requires open { IsOpen doc.old }
     requires here { 0 < count_of doc.old.state.trees at.label }
     requires container_held { Holds doc.old container }
-    ensures gives { GivesNode result doc.old.state doc.new.state (halves.part_at at container.label) }
+    ensures gives { GivesNode result doc.old.state doc.new.state
+        (halves.part_at at container.label) }
     ensures held { IfOk result (λ r. Holds doc.new r) }
     ensures keeps { Keeps doc.old doc.new }
 {
@@ -274,7 +278,8 @@ fn fill_both(alloc: Global, doc: &mut Doc, first: NodeRef, second: NodeRef) -> R
     requires open { IsOpen doc.old }
     requires first_held { Holds doc.old first }
     requires second_held { Holds doc.old second }
-    ensures gives { Gives result doc.old.state doc.new.state (halves.fill_both first.label second.label) }
+    ensures gives { Gives result doc.old.state doc.new.state
+        (halves.fill_both first.label second.label) }
     ensures keeps { Keeps doc.old doc.new }
 {
     fill_hidden(alloc, doc, first)?;
@@ -295,7 +300,8 @@ fn close_both(
     requires open { IsOpen doc.old }
     requires first_held { Holds doc.old first }
     requires second_held { Holds doc.old second }
-    ensures gives { Gives result doc.old.state doc.new.state (halves.close_both first.label second.label) }
+    ensures gives { Gives result doc.old.state doc.new.state
+        (halves.close_both first.label second.label) }
     ensures keeps { Keeps doc.old doc.new }
 {
     let first = deepest_last(doc, first);
@@ -325,7 +331,8 @@ pub(crate) fn part_container(
 ) -> Result<(), EditFault>
     requires open { IsOpen doc.old }
     requires container_held { Holds doc.old container }
-    ensures gives { Gives result doc.old.state doc.new.state (halves.part_container container.label) }
+    ensures gives { Gives result doc.old.state doc.new.state
+        (halves.part_container container.label) }
     ensures keeps { Keeps doc.old doc.new }
 {
     let Some(start) = active_start(doc) else {

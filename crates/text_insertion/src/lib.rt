@@ -1,7 +1,8 @@
 //! Inserting text and paragraphs, as actions on a document under edits: between a command's begin
 //! and its end. Each answers whether the command was taken (HTML Editing APIs, "action").
 //!
-//! Each call is proved to make one run of elementary edits, which its definition composes step by step.
+//! Each call is proved to make one run of elementary edits, which its definition composes step by
+//! step.
 #![tactic(auto)]
 
 mod containers;

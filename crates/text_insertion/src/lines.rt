@@ -44,7 +44,8 @@ fn is_line_content(doc: &Doc, node: NodeRef) -> bool
 #[tactic(auto, using(edit_model::proofs::Steps::labels_of_drop, edit_model::proofs::Steps::labels_of_end))]
 fn first_content_in(doc: &Doc, list: &[NodeRef]) -> Option<NodeRef>
     requires { EachHeld doc.now list.now }
-    ensures { Finds doc.now result (find (containers.is_line_content doc.now.state) (labels_of list.now)) }
+    ensures { Finds doc.now result
+        (find (containers.is_line_content doc.now.state) (labels_of list.now)) }
 {
     for node in list {
         if is_line_content(doc, *node) {
@@ -61,7 +62,8 @@ fn first_between(
 ) -> Result<Option<NodeRef>, AllocError>
     requires start { 0 < count_of doc.now.state.trees range.0.label }
     requires end { 0 < count_of doc.now.state.trees range.1.label }
-    ensures { IfOk result (λ found. Finds doc.now found (containers.first_between doc.now.state range)) }
+    ensures { IfOk result (λ found.
+        Finds doc.now found (containers.first_between doc.now.state range)) }
 {
     let list = nodes_in(alloc, doc, range)?;
     Ok(first_content_in(doc, list.as_slice()))
@@ -161,7 +163,8 @@ fn with_contents_after(
     requires list_held { EachHeld doc.now list.items }
     requires last_held { Holds doc.now last }
     ensures gives { IfOk result (λ v. labels_of v.items
-        ≡ labels_of list.items ++ containers.contents_after doc.now.state (turn_bound doc.now.state) last.label) }
+        ≡ labels_of list.items
+        ++ containers.contents_after doc.now.state (turn_bound doc.now.state) last.label) }
     ensures held { IfOk result (λ v. EachHeld doc.now v.items) }
 {
     let mut list = list;
@@ -182,7 +185,8 @@ fn with_contents_after(
 #[tactic(auto, unfolding(crate::specs::Containers::contents_from))]
 fn contents_from(alloc: Global, doc: &Doc, first: NodeRef) -> Result<Vec<NodeRef>, AllocError>
     requires { Holds doc.now first }
-    ensures gives { IfOk result (λ v. labels_of v.items ≡ containers.contents_from doc.now.state first.label) }
+    ensures gives { IfOk result (λ v. labels_of v.items
+        ≡ containers.contents_from doc.now.state first.label) }
     ensures held { IfOk result (λ v. EachHeld doc.now v.items) }
 {
     let mut list = Vec::new(alloc);
@@ -195,7 +199,8 @@ fn contents_from(alloc: Global, doc: &Doc, first: NodeRef) -> Result<Vec<NodeRef
 fn wrap_line(alloc: Global, doc: &mut Doc, first: NodeRef) -> Result<Option<NodeRef>, EditFault>
     requires open { IsOpen doc.old }
     requires first_held { Holds doc.old first }
-    ensures gives { GivesMaybe result doc.old.state doc.new.state (containers.wrap_line first.label) }
+    ensures gives { GivesMaybe result doc.old.state doc.new.state
+        (containers.wrap_line first.label) }
     ensures held { IfOk result (λ made. IfHeld doc.new made) }
     ensures keeps { Keeps doc.old doc.new }
 {
@@ -237,7 +242,8 @@ pub(crate) fn own_container(
 ) -> Result<Option<NodeRef>, EditFault>
     requires open { IsOpen doc.old }
     requires node_held { Holds doc.old node }
-    ensures gives { GivesMaybe result doc.old.state doc.new.state (containers.own_container node.label) }
+    ensures gives { GivesMaybe result doc.old.state doc.new.state
+        (containers.own_container node.label) }
     ensures held { IfOk result (λ container. IfHeld doc.new container) }
     ensures keeps { Keeps doc.old doc.new }
 {

@@ -116,7 +116,8 @@ fn break_again(
 ) -> Result<(), EditFault>
     requires open { IsOpen doc.old }
     requires container_held { Holds doc.old container }
-    ensures gives { Gives result doc.old.state doc.new.state (command.break_again container.label made.label) }
+    ensures gives { Gives result doc.old.state doc.new.state
+        (command.break_again container.label made.label) }
     ensures keeps { Keeps doc.old doc.new }
 {
     if last_below(doc, container).label == made.label {
@@ -138,7 +139,8 @@ fn break_with(
     requires open { IsOpen doc.old }
     requires container_held { Holds doc.old container }
     requires made_held { Holds doc.old made }
-    ensures gives { Gives result doc.old.state doc.new.state (command.break_with at container.label made.label) }
+    ensures gives { Gives result doc.old.state doc.new.state
+        (command.break_with at container.label made.label) }
     ensures keeps { Keeps doc.old doc.new }
 {
     let offset = at.offset.checked_add(1).ok_or(AllocError)?;
@@ -156,7 +158,8 @@ fn break_with(
 fn break_line(alloc: Global, doc: &mut Doc, at: Point, container: NodeRef) -> Result<(), EditFault>
     requires open { IsOpen doc.old }
     requires container_held { Holds doc.old container }
-    ensures gives { Gives result doc.old.state doc.new.state (command.break_line at container.label) }
+    ensures gives { Gives result doc.old.state doc.new.state
+        (command.break_line at container.label) }
     ensures keeps { Keeps doc.old doc.new }
 {
     let made = make_break(alloc, doc)?;
@@ -168,7 +171,8 @@ fn break_line(alloc: Global, doc: &mut Doc, at: Point, container: NodeRef) -> Re
 fn part_line(alloc: Global, doc: &mut Doc, at: Point, container: NodeRef) -> Result<(), EditFault>
     requires open { IsOpen doc.old }
     requires container_held { Holds doc.old container }
-    ensures gives { Gives result doc.old.state doc.new.state (command.part_line at container.label) }
+    ensures gives { Gives result doc.old.state doc.new.state
+        (command.part_line at container.label) }
     ensures keeps { Keeps doc.old doc.new }
 {
     if holds_lines(doc, container) {

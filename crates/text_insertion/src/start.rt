@@ -1,4 +1,5 @@
-//! The start of the active range: what is erased before something is inserted there, and nodes that are put there.
+//! The start of the active range: what is erased before something is inserted there, and nodes that
+//! are put there.
 
 ghost use Rattle.std.specs.Prelude.{◌≡◌, ◌<◌, IfSome};
 ghost use Rattle.dom_model.specs.Contents.{has_chars_at};

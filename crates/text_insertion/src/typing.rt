@@ -181,7 +181,8 @@ fn type_with(
     overrides: &Overrides,
 ) -> Result<(), EditFault>
     requires open { IsOpen doc.old }
-    ensures gives { Gives result doc.old.state doc.new.state (typing.type_with put at overrides.now) }
+    ensures gives { Gives result doc.old.state doc.new.state
+        (typing.type_with put at overrides.now) }
     ensures keeps { Keeps doc.old doc.new }
 {
     select(doc, at, at);
@@ -247,7 +248,8 @@ fn insert_char(alloc: Global, doc: &mut Doc, put: char) -> Result<(), EditFault>
 #[tactic(auto, using(edit_model::proofs::Steps::steps, edit_model::proofs::Steps::exits, crate::proofs::Chars::turns))]
 fn insert_each(alloc: Global, doc: &mut Doc, value: &[char]) -> Result<(), EditFault>
     requires open { IsOpen doc.old }
-    ensures gives { Gives result doc.old.state doc.new.state (for_each value.now typing.insert_char) }
+    ensures gives { Gives result doc.old.state doc.new.state
+        (for_each value.now typing.insert_char) }
     ensures keeps { Keeps doc.old doc.new }
 {
     for put in value {

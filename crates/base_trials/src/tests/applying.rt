@@ -86,7 +86,8 @@ fn refusal(alloc: Global, arena: &mut Arena, line: Line) -> Result<Option<StepFa
     Ok(apply_step(arena, step(alloc, line)?).err())
 }
 
-// The document has 1 <p> with 2 "x" and 3 <b></b>, then 4 <div></div>. Loose are 5 <i> with 6 "x", and a comment, 7.
+// The document has 1 <p> with 2 "x" and 3 <b></b>, then 4 <div></div>. Loose are 5 <i> with 6 "x",
+// and a comment, 7.
 fn page(alloc: Global, arena: &mut Arena) -> Result<(), Fail> {
     let made = [
         Line::Element(1, b"p"),

@@ -154,7 +154,8 @@ static OTHERS: [&str; 117] = [
     "MAKE 4 <b>",
 ];
 
-// Whether the line stands for a step that prints as the line. Every other line is refused for its syntax.
+// Whether the line stands for a step that prints as the line. Every other line is refused for its
+// syntax.
 fn is_line(alloc: Global, line: &[u8]) -> Result<bool, Fail> {
     match read_step(alloc, line) {
         Ok(step) => Ok(print_step(alloc, &step)?.as_slice() == line),

@@ -25,17 +25,37 @@ impl Invertible<Numbers> for Edit {
     ghost use Rattle.std.proofs.Common.{rules};
     ghost use Rattle.std.proofs.lemmas.Grind.{common_steps};
 
-    ghost fits = { λ e xs. elim e as (λ _. Type 0) [ Write at value ↦ at < length xs | Swap left right ↦ (left < length xs) × (right < length xs) ] };
+    ghost fits = { λ e xs.
+        elim e as (λ _.
+        Type 0) [
+          | Write at value ↦ at < length xs
+          | Swap left right ↦ (left < length xs)
+              × (right < length xs)
+        ] };
 
-    ghost applied = { λ e xs. elim e as (λ _. List ℕ) [ Write at value ↦ slice_set xs at value | Swap left right ↦ swap xs left right ] };
+    ghost applied = { λ e xs. elim e as (λ _.
+        List ℕ) [ Write at value ↦ slice_set xs at value | Swap left right ↦ swap xs left right ] };
 
-    ghost inverse = { λ e xs. elim e [ Write at value ↦ Write at (slice_index xs at) | Swap left right ↦ Swap left right ] };
+    ghost inverse = { λ e xs. elim e
+        [ Write at value ↦ Write at (slice_index xs at) | Swap left right ↦ Swap left right ] };
 
-    ghost fits_again = { elim [ Write at value ↦ Prim.search (rules, common_steps) | Swap left right ↦ Prim.search (rules, common_steps) ] };
+    ghost fits_again = { elim [
+      | Write at value ↦ Prim.search (rules, common_steps)
+      | Swap left right ↦ Prim.search
+          (rules, common_steps)
+    ] };
 
-    ghost state_again = { elim [ Write at value ↦ λ s h. write_twice s at value | Swap left right ↦ λ s h. swap_twice s left right h.0 h.1 ] };
+    ghost state_again = { elim [
+      | Write at value ↦ λ s h. write_twice s at value
+      | Swap left right ↦ λ s h.
+          swap_twice s left right h.0 h.1
+    ] };
 
-    ghost step_again = { elim [ Write at value ↦ Prim.search (rules, common_steps) | Swap left right ↦ λ s h. refl ] };
+    ghost step_again = { elim [
+      | Write at value ↦ Prim.search (rules, common_steps)
+      | Swap left right ↦ λ s h.
+          refl
+    ] };
 
     fn apply(&mut self, numbers: &mut Numbers) {
         match *self {
@@ -48,7 +68,8 @@ impl Invertible<Numbers> for Edit {
     }
 }
 
-// A state and the log of its edits, as a caller keeps them: the log follows the state at every moment.
+// A state and the log of its edits, as a caller keeps them: the log follows the state at every
+// moment.
 #[derive(Drop)]
 struct Session<T: Invertible<S> + Drop, S: Drop, L: Ledger> {
     log: UndoLog<T>,
@@ -183,7 +204,8 @@ enum Call {
     PopOldest,
 }
 
-// A call, its answer, and afterwards the numbers and what `undo_len`, `redo_len` and `entry_len` answer.
+// A call, its answer, and afterwards the numbers and what `undo_len`, `redo_len` and `entry_len`
+// answer.
 type Row = (Call, usize, Numbers, [usize; 3]);
 
 // At a depth of 2, from 1 2 3 4.
@@ -292,7 +314,8 @@ fn answer<L: Ledger>(
     Ok(answer)
 }
 
-// Whether a log has these lengths, has the next entry where it has one to redo, and has dropped one or none.
+// Whether a log has these lengths, has the next entry where it has one to redo, and has dropped one
+// or none.
 fn has_lengths(log: &UndoLog<Edit>, lens: [usize; 3], dropped: bool) -> bool {
     let has_next = match log.next_entry() {
         Some(steps) => !steps.is_empty(),

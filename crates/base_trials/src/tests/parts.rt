@@ -1,4 +1,5 @@
-//! The parts of a document under edits: the numbers of trees, what texts become, points and overrides.
+//! The parts of a document under edits: the numbers of trees, what texts become, points and
+//! overrides.
 
 ghost use Rattle.std.specs.Prelude.{◌≡◌, ◌<◌, IsTrue, IfSome};
 ghost use Rattle.edit_model.specs.Valid.{IsPlacedPair};
@@ -21,7 +22,8 @@ use std::sync::ledger::{Blank, Ledger};
 use std::test::Fail;
 use step_count::Steps;
 
-// Nodes, characters, whether the tree bears nothing, whether the node is in the document, and the label of its root.
+// Nodes, characters, whether the tree bears nothing, whether the node is in the document, and the
+// label of its root.
 fn shown(arena: &Arena, node: NodeRef) -> Option<(u32, u64, bool, bool, u32)> {
     if !arena.holds(node) {
         return None;

@@ -28,7 +28,8 @@ fn pair(label: u32, anchor: u32, focus: u32) -> Pair {
     }
 }
 
-// What becomes of a point by each edit. Helpers whose contracts say nothing keep the proof of the tests short.
+// What becomes of a point by each edit. Helpers whose contracts say nothing keep the proof of the
+// tests short.
 
 fn caret(point: Point) -> Option<Pair> {
     Some(Pair {
@@ -131,8 +132,8 @@ fn remove(points: &mut Points, gone: &[u32], parent: u32, index: u32) {
     points.removed(gone, parent, index);
 }
 
-// An edit: an insertion at 2 of 7, a removal of the tree of 8 and 9 from there, a move, a replacement of three
-// characters of 7 from 2 on by one, a split of 7 at 2, and a growth at 2 of 7.
+// An edit: an insertion at 2 of 7, a removal of the tree of 8 and 9 from there, a move, a
+// replacement of three characters of 7 from 2 on by one, a split of 7 at 2, and a growth at 2 of 7.
 #[derive(Clone, Copy, Debug)]
 enum Edit {
     Insert,

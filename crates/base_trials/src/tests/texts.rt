@@ -31,7 +31,8 @@ fn set(list: &mut Attributes, alloc: Global, name: &[u8], value: char) -> Result
     Ok(())
 }
 
-// Sets and inserts attributes, and answers whether they stand in the order in which their names came.
+// Sets and inserts attributes, and answers whether they stand in the order in which their names
+// came.
 fn keeps_the_order(alloc: Global, list: &mut Attributes) -> Result<bool, Fail> {
     set(list, alloc, b"b", '1')?;
     set(list, alloc, b"a", '2')?;

@@ -28,7 +28,8 @@ pub(crate) fn words(alloc: Global, arena: &mut Arena, text: &[char]) -> Result<N
 
 /// Whether a node may have children.
 pub(crate) fn can_hold(arena: &Arena, parent: NodeRef) -> bool
-    ensures { IsTrue result → Holds arena.now parent × (is_parent_at arena.now.trees parent.label ≡ true) }
+    ensures { IsTrue result → Holds arena.now parent
+        × (is_parent_at arena.now.trees parent.label ≡ true) }
 {
     if !arena.holds(parent) {
         return false;
@@ -96,8 +97,9 @@ pub(crate) trait Trial {
     fn run(&self, alloc: Global, arena: &mut Arena) -> Result<Self::Found, Fail>;
 }
 
-/// What a trial finds in an arena with room for so many nodes beside the document. Arenas are let go here alone,
-/// since the proof of that takes long, and again on each way out of the function that owns one.
+/// What a trial finds in an arena with room for so many nodes beside the document. Arenas are let
+/// go here alone, since the proof of that takes long, and again on each way out of the function
+/// that owns one.
 pub(crate) fn found<T: Trial>(alloc: Global, room: u16, trial: &T) -> Result<T::Found, Fail> {
     let mut arena = Arena::new(alloc, room as u32 + 1)?;
     trial.run(alloc, &mut arena)

@@ -45,8 +45,8 @@ static STYLES: [(&str, &str); 32] = [
     ("--x:1;margin:0 auto", "--x: 1; margin: 0 auto;"),
 ];
 
-// What stands after `display:` in a style text, and how the property's value then prints: nothing where it is
-// invalid or isn't set. So are the tables below it of the other properties.
+// What stands after `display:` in a style text, and how the property's value then prints: nothing
+// where it is invalid or isn't set. So are the tables below it of the other properties.
 static DISPLAYS: [(&str, &str); 37] = [
     ("block", "block"),
     ("inline", "inline"),
@@ -361,7 +361,8 @@ static TEXT_ALIGNS: [(&str, &str); 33] = [
     ("left; text-align:", "left"),
 ];
 
-// A value of text-decoration, a line, whether the value has the line's word, and the value without it.
+// A value of text-decoration, a line, whether the value has the line's word, and the value without
+// it.
 static LINES: [(&str, DecorationLine, bool, &str); 13] = [
     ("underline", DecorationLine::Underline, true, ""),
     ("none", DecorationLine::Underline, false, "none"),

@@ -1,5 +1,5 @@
-//! Sessions that insert objects, and sessions in which commands are denied: rows of pages and acts, and what they
-//! answer.
+//! Sessions that insert objects, and sessions in which commands are denied: rows of pages and acts,
+//! and what they answer.
 use super::{Row, assert_rows};
 use std::test::Fail;
 

@@ -1,5 +1,5 @@
-//! Documents under edits: what each edit does to points at every place of a page, and that commands taken back,
-//! undone and redone give what was before, or after, them.
+//! Documents under edits: what each edit does to points at every place of a page, and that commands
+//! taken back, undone and redone give what was before, or after, them.
 
 mod acts;
 mod histories;

@@ -44,7 +44,8 @@ static EXTENDED: [Page<Extended>; 7] = [
         "<div contenteditable=\"true\"><p>a</p></div>",
         Extended(((1, 0), (1, 0)), ((0, 0), (1, 0))),
     ),
-    // a comment's characters don't count for the turns that the walk may take: eight in this document
+    // a comment's characters don't count for the turns that the walk may take: eight in this
+    // document
     Page(
         "<div contenteditable=\"true\"><!--0123456789012345678901234567890123456789012345678901234567890123456789012345678901234567890123456789--></div>",
         Extended(((2, 100), (2, 100)), ((2, 92), (0, 1))),

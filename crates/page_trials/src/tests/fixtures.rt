@@ -1,9 +1,9 @@
 //! What the tests share: pages, their nodes, documents of them, and tables of what is done to
 //! documents.
 //!
-//! Pages and documents are let go here alone, each on one way: where one goes, its proof takes up to
-//! a minute, and again on each way out of the function that owns it. So tests say by a trait what
-//! they do with one.
+//! Pages and documents are let go here alone, each on one way: where one goes, its proof takes up
+//! to a minute, and again on each way out of the function that owns it. So tests say by a trait
+//! what they do with one.
 
 ghost use Rattle.std.specs.Prelude.{◌≡◌, ◌<◌, IfOk};
 ghost use Rattle.dom_model.specs.Forest.{count_of};
@@ -170,7 +170,8 @@ pub trait Act {
 /// A row of a table: what the editing host holds, what is done, and what the host then holds.
 pub struct Row<A>(pub &'static str, pub A, pub &'static str);
 
-// The page that the act leaves, in a command of its own; or a word that is no page where that answered otherwise.
+// The page that the act leaves, in a command of its own; or a word that is no page where that
+// answered otherwise.
 impl<A: Act> Trial for Row<A> {
     type Found = String;
 

@@ -9,8 +9,8 @@ use html_names::{Command, QueryKind};
 use std::alloc::{AllocError, Global};
 use std::test::Fail;
 
-// What an editing host of the label 1 holds, the ends of a range, a command, and its answers: whether it is
-// indeterminate, its state and its value.
+// What an editing host of the label 1 holds, the ends of a range, a command, and its answers:
+// whether it is indeterminate, its state and its value.
 struct Question(
     &'static str,
     (u32, u32),

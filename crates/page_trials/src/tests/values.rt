@@ -543,7 +543,8 @@ fn states_of_commands(rt: HostRuntime) -> Result<(), Fail> {
     check_pages(rt.alloc(), &STATES)
 }
 
-// A command, a value, and whether the element of the label 1 gives the command that value and has it.
+// A command, a value, and whether the element of the label 1 gives the command that value and has
+// it.
 struct Meets(Command, &'static str, bool);
 
 impl Look for Meets {

@@ -1,7 +1,7 @@
 //! Lists that are wrapped, parents that are split, and line breaks that are removed.
 //!
-//! Each row of a table is what an editing host holds, what is done to nodes of it by their labels (1 is the host),
-//! and what it then holds.
+//! Each row of a table is what an editing host holds, what is done to nodes of it by their labels
+//! (1 is the host), and what it then holds.
 
 mod breaks;
 mod lists;

@@ -56,8 +56,8 @@ impl Act for Lines {
     }
 }
 
-// The label of a host inside a paragraph, in which something is done to lines. A paragraph may not stand there, so
-// blocks that are made there stay.
+// The label of a host inside a paragraph, in which something is done to lines. A paragraph may not
+// stand there, so blocks that are made there stay.
 struct Hosted(u32, Lines);
 
 impl Act for Hosted {
@@ -111,8 +111,8 @@ fn hosts_stand_in_paragraphs(rt: HostRuntime) -> Result<(), Fail> {
     check_rows(rt.alloc(), &HOSTED)
 }
 
-// A void element gets two line breaks, and something is done to the second one. Its parent is never split, so the
-// loops that split it end by their bound.
+// A void element gets two line breaks, and something is done to the second one. Its parent is never
+// split, so the loops that split it end by their bound.
 struct Filled(u32, Block);
 
 impl Act for Filled {

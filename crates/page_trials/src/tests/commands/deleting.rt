@@ -1,5 +1,5 @@
-//! Deleting: each row of a table is what an editing host holds, where the caret or the ends of a range stand by
-//! labels (1 is the host), where they stand after it, and what the host then holds.
+//! Deleting: each row of a table is what an editing host holds, where the caret or the ends of a
+//! range stand by labels (1 is the host), where they stand after it, and what the host then holds.
 
 ghost use Rattle.edit_doc.specs.Whole.{IsOpen};
 
@@ -192,7 +192,8 @@ static DELETED: [Row<Delete>; 46] = [
         "<div><p>foobar</p></div>",
     ),
     Row("a<p>b</p>", Delete((4, 0), (4, 0), (1, 1), (1, 1)), "ab"),
-    // 2 "x", 3 u (4 p (5 a)): the u goes with the a, and from then on splitting the parent of the a changes nothing
+    // 2 "x", 3 u (4 p (5 a)): the u goes with the a, and from then on splitting the parent of the a
+    // changes nothing
     Row(
         "x<u><p><a></a></p></u>",
         Delete((5, 0), (5, 0), (1, 1), (1, 1)),

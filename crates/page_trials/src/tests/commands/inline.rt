@@ -1,5 +1,6 @@
-//! Values that are cleared, forced, pushed down, restored and set on the selection: each row of a table is what an
-//! editing host holds, what is done to a node of it by its label (1 is the host), and what the host then holds.
+//! Values that are cleared, forced, pushed down, restored and set on the selection: each row of a
+//! table is what an editing host holds, what is done to a node of it by its label (1 is the host),
+//! and what the host then holds.
 
 mod ends;
 mod locked;
@@ -40,7 +41,8 @@ enum How {
 struct Change(How, u32, Command, Option<&'static str>);
 
 static ROWS: [Row<Change>; 55] = [
-    // an element that does nothing else gives way, another one loses what it says, or becomes a span
+    // an element that does nothing else gives way, another one loses what it says, or becomes a
+    // span
     Row("<b>a</b>", Change(How::Clear, 2, Command::Bold, None), "a"),
     Row(
         "<b class=\"c\">a</b>",

@@ -1,5 +1,6 @@
-//! Commands on inline values: each row of a table is what an editing host holds, the ends of a range by labels (1
-//! is the host), a command and its value, what it answers, and what the host then holds.
+//! Commands on inline values: each row of a table is what an editing host holds, the ends of a
+//! range by labels (1 is the host), a command and its value, what it answers, and what the host
+//! then holds.
 
 ghost use Rattle.edit_doc.specs.Whole.{IsOpen};
 
@@ -148,8 +149,8 @@ fn commands_change_pages(rt: HostRuntime) -> Result<(), Fail> {
     check_rows(rt.alloc(), &ROWS)
 }
 
-// Records the states and values of "ab", which is bold, and restores them at a range. A caret gets the overrides,
-// or there are none.
+// Records the states and values of "ab", which is bold, and restores them at a range. A caret gets
+// the overrides, or there are none.
 struct Restore {
     from: (u32, u32),
     to: (u32, u32),

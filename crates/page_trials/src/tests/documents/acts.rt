@@ -8,7 +8,8 @@ use edit_doc::{Chars, Doc, Name};
 use std::alloc::Global;
 use std::test::Fail;
 
-/// An edit of the nodes of these labels. The label 0 before which nothing can stand says that a node goes to the end.
+/// An edit of the nodes of these labels. The label 0 before which nothing can stand says that a
+/// node goes to the end.
 pub enum Act {
     Element(&'static str),
     Words(&'static [char]),

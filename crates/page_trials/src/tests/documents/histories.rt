@@ -115,8 +115,8 @@ fn settings_of(alloc: Global, doc: &Doc) -> Result<String, AllocError> {
     Ok(text)
 }
 
-// What a document shows in each view of the history: its nodes with their parents and earlier siblings, its text, its
-// selection and marks, and its numbers with the bound on its depth.
+// What a document shows in each view of the history: its nodes with their parents and earlier
+// siblings, its text, its selection and marks, and its numbers with the bound on its depth.
 fn shown(alloc: Global, doc: &Doc) -> Result<String, Fail> {
     let mut text = tree_of(alloc, doc)?;
     let points = points_of(alloc, doc)?;
@@ -324,8 +324,8 @@ fn is_edited(doc: &Doc, is: &str) -> bool
     is.starts_with(EDITED) && has_lengths(doc, 1, 0, 20) && three_deep
 }
 
-// Whether the edits are made, in one command or in two of which the second joins the entry of the first, and undo
-// and redo lead between what is shown before and after them.
+// Whether the edits are made, in one command or in two of which the second joins the entry of the
+// first, and undo and redo lead between what is shown before and after them.
 #[derive(Clone, Copy)]
 struct Undone {
     resumes: bool,

@@ -10,7 +10,8 @@ use node_tests::*;
 use std::alloc::{AllocError, Global};
 use std::test::Fail;
 
-// Points, each the label of a node and an offset, with whether it is a block start point and a block end point.
+// Points, each the label of a node and an offset, with whether it is a block start point and a
+// block end point.
 struct Points(&'static [(u32, u32, bool, bool)]);
 
 impl Look for Points {
@@ -67,8 +68,8 @@ fn blocks_start_and_end(rt: HostRuntime) -> Result<(), Fail> {
     check_pages(rt.alloc(), &POINTS)
 }
 
-// A start and an end, each the label of a node and an offset, and the labels of the nodes that the range contains,
-// and contains in effect.
+// A start and an end, each the label of a node and an offset, and the labels of the nodes that the
+// range contains, and contains in effect.
 type Row = ((u32, u32), (u32, u32), &'static [u32], &'static [u32]);
 
 struct Ranges(&'static [Row]);

@@ -8,8 +8,9 @@ use node_tests::*;
 use std::alloc::{AllocError, Global};
 use std::test::Fail;
 
-// Nodes by their labels with the letters of the tests that each meets: editable, block, visible, whitespace, collapsed
-// whitespace, extraneous break (x), collapsed break (k), collapsed block prop.
+// Nodes by their labels with the letters of the tests that each meets: editable, block, visible,
+// whitespace, collapsed whitespace, extraneous break (x), collapsed break (k), collapsed block
+// prop.
 struct Lettered(&'static [(u32, &'static str)]);
 
 impl Look for Lettered {

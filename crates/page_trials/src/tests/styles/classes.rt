@@ -80,8 +80,8 @@ fn names_are_allowed(rt: HostRuntime) -> Result<(), Fail> {
     check_pages(rt.alloc(), &NAMES)
 }
 
-// Whether the first element is: a non-list single-line container, a single-line container, a formattable block, an
-// indentation element, and a simple one.
+// Whether the first element is: a non-list single-line container, a single-line container, a
+// formattable block, an indentation element, and a simple one.
 struct Classes([bool; 5]);
 
 impl Look for Classes {

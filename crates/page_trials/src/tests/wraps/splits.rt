@@ -132,7 +132,8 @@ static COUNTED: [Row<Counted>; 4] = [
     ),
 ];
 
-// Splits the parent of the node of a label, ends the command with so many edits, and this label comes next.
+// Splits the parent of the node of a label, ends the command with so many edits, and this label
+// comes next.
 struct Counted {
     label: u32,
     edits: usize,

@@ -6,8 +6,8 @@ use inline_value::split_ends;
 use std::alloc::Global;
 use std::test::Fail;
 
-// The anchor and the focus, and those once both ends are split; and the label that then comes next, which tells how
-// many texts were split.
+// The anchor and the focus, and those once both ends are split; and the label that then comes next,
+// which tells how many texts were split.
 struct Ends(((u32, u32), (u32, u32)), ((u32, u32), (u32, u32)), u32);
 
 impl Act for Ends {
