@@ -132,6 +132,7 @@ unfoldable pub while_at_most : {A : Type 0} → ℕ → (State → A → Bool) �
 while_at_most zero test body a = answer a
 while_at_most (suc n) test body a =
     look (λ s. if test s a then (body a >>= while_at_most n test body) else answer a)
+
 -- ---- the runs of one action: an edit answers whether it is made, and making a node answers its
 -- label
 
