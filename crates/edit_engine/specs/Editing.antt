@@ -1,6 +1,6 @@
 -- An editor: the state of its document, the history that undo goes through, and whether it is typing.
-use Rattle.std.specs.Prelude.{◌≡◌, ℕ, ◌<◌, Bool, true, false, List, [], ◌∷◌, length, zero, suc, refl}
-use Rattle.std.specs.Coded.{Coded, code_by, coded×, coded_bool}
+use Rattle.std.specs.Prelude.{◌≡◌, ℕ, ◌<◌, Bool, true, false, List, [], ◌∷◌, length, zero, suc, Option, None, refl}
+use Rattle.std.specs.Coded.{Coded, code_by, coded×, coded_ℕ, coded_bool, coded_list, coded_option}
 use Rattle.dom_model.specs.ArenaState.{ArenaState as Arena}
 use Rattle.edit_model.specs.State.{State}
 use Rattle.edit_model.specs.History.{Entry, History, undone_state, undone_history, redone_state, redone_history}
@@ -16,6 +16,26 @@ abbrev pub editing_code : Coded Editing
 editing_code =
     code_by (State × (History × Bool)) (coded× state_code (coded× history_code coded_bool))
     (λ e. (e.state, (e.history, e.typing))) (λ c. record { state = c.0; history = c.1.0; typing = c.1.1 }) (λ _. refl)
+
+-- what a contract sees of an editor: with the label of the node in each slot
+pub record EditorValue : Type 0 where
+  pub editing : Editing
+  pub held : List (Option ℕ)
+
+abbrev pub value_code : Coded EditorValue
+value_code =
+    code_by (Editing × List (Option ℕ)) (coded× editing_code (coded_list (coded_option coded_ℕ)))
+    (λ v. (v.editing, v.held)) (λ c. record { editing = c.0; held = c.1 }) (λ _. refl)
+
+abbrev pub value_of : Whole → Bool → EditorValue
+value_of d typing = record {
+  editing = record { state = d.state; history = d.history; typing = typing };
+  held = d.held;
+}
+
+-- the document, in which no command is running
+abbrev pub document : EditorValue → Whole
+document v = record { state = v.editing.state; history = v.editing.history; began = None; held = v.held }
 
 -- the editor of a page's nodes, without selection, marks, overrides and history
 abbrev pub new_editing : Arena → ℕ → Editing

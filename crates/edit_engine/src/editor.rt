@@ -8,7 +8,7 @@ ghost use Rattle.edit_doc.specs.Whole.{HasNoLoose, IsClosed, first_edits};
 ghost use Rattle.command_gate.specs.Denied.{is_denied};
 ghost use Rattle.edit_engine.specs.Commands.{action_of};
 ghost use Rattle.edit_engine.specs.Confinement.{KeepsOutside, KeepsMarks, KeepsIslands, KeepsCharacters};
-ghost use Rattle.edit_engine.specs.Editing.{Editing, IsJoinable, new_editing, undone, redone};
+ghost use Rattle.edit_engine.specs.Editing.{EditorValue, IsJoinable, document, new_editing, undone, redone};
 ghost use Rattle.edit_engine.specs.Execution.{gated_outcome, outcome, command_outcome, run_outcome, Tells};
 ghost use Rattle.edit_engine.specs.Logs.{log_text};
 ghost use Rattle.edit_engine.specs.Places.{pair_at, selecting, unselecting, marking, unmarking, IsCrowded};
@@ -46,13 +46,13 @@ pub struct Editor {
 }
 
 impl Model for Editor {
-    ghost use Rattle.edit_engine.specs.Editing.{Editing, editing_code, IsResting};
+    ghost use Rattle.edit_engine.specs.Editing.{EditorValue, value_code, value_of, IsResting};
 
-    ghost Value = { Editing };
+    ghost Value = { EditorValue };
 
-    ghost coded = { editing_code };
+    ghost coded = { value_code };
 
-    ghost view = { λ e. record { state = e.doc.state; history = e.doc.history; typing = e.typing } };
+    ghost view = { λ e. value_of e.doc e.typing };
 
     ghost invariant = { λ e. IsResting e.doc e.typing };
 }
@@ -63,24 +63,43 @@ impl Editor {
     pub fn new(alloc: Global, arena: Arena, undo_depth: usize) -> Result<Editor, AllocError>
         requires depth { 0 < undo_depth }
         requires loose { HasNoLoose arena }
-        ensures { IfOk result (λ e. e ≡ new_editing arena undo_depth) }
+        ensures made { IfOk result (λ e. e.editing ≡ new_editing arena undo_depth) }
+        ensures needed { IfOk result (λ e. HoldsOnlyNeeded (document e)) }
     {
         let doc = Doc::new(alloc, arena, undo_depth)?;
-        Ok(Editor { doc, typing: false })
+        let editor = Editor { doc, typing: false };
+        editor.kept_nodes();
+        Ok(editor)
+    }
+
+    // Which nodes the editor holds, for proofs. It does nothing.
+    fn kept_nodes(&self)
+        ensures { HoldsOnlyNeeded (document self.now) }
+    {
+        self.doc.kept_nodes();
     }
 
     /// Executes the command that a name names, in any case. It is taken whole, or the editor is as before.
     pub fn exec(&mut self, alloc: Global, name: &str, value: &[char]) -> Result<Answer, ExecFault>
-        ensures tells { Tells result self.old self.new (outcome self.old name.now value.now) }
-        ensures confined { KeepsOutside self.old self.new }
-        ensures marks { KeepsMarks self.old self.new }
-        ensures islands { KeepsIslands self.old self.new }
-        ensures characters { KeepsCharacters name.now self.old self.new }
+        ensures tells { Tells result self.old.editing self.new.editing
+            (outcome self.old.editing name.now value.now) }
+        ensures confined { KeepsOutside self.old.editing self.new.editing }
+        ensures marks { KeepsMarks self.old.editing self.new.editing }
+        ensures islands { KeepsIslands self.old.editing self.new.editing }
+        ensures characters { KeepsCharacters name.now self.old.editing self.new.editing }
+        ensures needed { HoldsOnlyNeeded (document self.new) }
     {
         self.doc.valid();
         match Command::named(name) {
-            Some(command) => self.exec_command(alloc, command, value),
-            None => Ok(Answer::No),
+            Some(command) => {
+                let answer = self.exec_command(alloc, command, value);
+                self.kept_nodes();
+                answer
+            }
+            None => {
+                self.kept_nodes();
+                Ok(Answer::No)
+            }
         }
     }
 
@@ -94,14 +113,17 @@ impl Editor {
         value: &[char],
     ) -> Result<Answer, ExecFault>
         ensures denied { is_denied gate.now name.now ≡ true → (result ≡ Ok Answer.No) × (self.new ≡ self.old) }
-        ensures tells { Tells result self.old self.new (gated_outcome gate.now self.old name.now value.now) }
-        ensures confined { KeepsOutside self.old self.new }
-        ensures marks { KeepsMarks self.old self.new }
-        ensures islands { KeepsIslands self.old self.new }
-        ensures characters { KeepsCharacters name.now self.old self.new }
+        ensures tells { Tells result self.old.editing self.new.editing
+            (gated_outcome gate.now self.old.editing name.now value.now) }
+        ensures confined { KeepsOutside self.old.editing self.new.editing }
+        ensures marks { KeepsMarks self.old.editing self.new.editing }
+        ensures islands { KeepsIslands self.old.editing self.new.editing }
+        ensures characters { KeepsCharacters name.now self.old.editing self.new.editing }
+        ensures needed { HoldsOnlyNeeded (document self.new) }
     {
         self.doc.valid();
         if gate.denies(name.as_bytes()) {
+            self.kept_nodes();
             return Ok(Answer::No);
         }
         self.exec(alloc, name, value)
@@ -114,7 +136,8 @@ impl Editor {
         command: Command,
         value: &[char],
     ) -> Result<Answer, ExecFault>
-        ensures { Tells result self.old self.new (command_outcome self.old value.now command) }
+        ensures { Tells result self.old.editing self.new.editing
+            (command_outcome self.old.editing value.now command) }
     {
         if !is_enabled(&self.doc, command) {
             return Ok(Answer::No);
@@ -127,7 +150,8 @@ impl Editor {
 
     // Runs a command.
     fn run(&mut self, alloc: Global, command: Command, value: &[char]) -> Result<Answer, ExecFault>
-        ensures { Tells result self.old self.new (run_outcome self.old command (action_of command value.now)) }
+        ensures { Tells result self.old.editing self.new.editing
+            (run_outcome self.old.editing command (action_of command value.now)) }
     {
         self.doc.valid();
         let joining = joins(self.typing, command);
@@ -143,16 +167,16 @@ impl Editor {
 
     /// The answer to a question about the command that a name names, in any case.
     pub fn query(&self, alloc: Global, kind: QueryKind, name: &str) -> Result<Reply, AllocError>
-        ensures { IfOk result (λ reply. reply ≡ reply_of self.now.state kind name.now) }
+        ensures { IfOk result (λ reply. reply ≡ reply_of self.now.editing.state kind name.now) }
     {
         ask(alloc, &self.doc, kind, name)
     }
 
     /// Selects from the anchor to the focus. It takes no memory.
     pub fn select(&mut self, anchor: &Place, focus: &Place) -> Result<(), PlaceFault>
-        ensures { MatchOption (pair_at self.old.state.trees anchor.now focus.now)
+        ensures { MatchOption (pair_at self.old.editing.state.trees anchor.now focus.now)
             ((result ≡ Err PlaceFault.BadPlace) × (self.new ≡ self.old))
-            (λ pair. (result ≡ Ok tt) × (self.new ≡ selecting self.old pair)) }
+            (λ pair. (result ≡ Ok tt) × (self.new.editing ≡ selecting self.old.editing pair)) }
     {
         match pair_at(&self.doc, anchor, focus) {
             Some(pair) => {
@@ -166,7 +190,7 @@ impl Editor {
 
     /// Gives up the selection.
     pub fn unselect(&mut self)
-        ensures { self.new ≡ unselecting self.old }
+        ensures { self.new.editing ≡ unselecting self.old.editing }
     {
         self.doc.unselect();
         self.typing = false;
@@ -175,12 +199,13 @@ impl Editor {
     /// Gives a name to a pair of points. A mark of that name keeps its place, and a new one goes last.
     pub fn mark(&mut self, name: &Name, anchor: &Place, focus: &Place) -> Result<(), PlaceFault>
         ensures bad_place { (result ≡ Err PlaceFault.BadPlace) ↔
-            (pair_at self.old.state.trees anchor.now focus.now ≡ None) }
-        ensures too_many { result ≡ Err PlaceFault.TooManyMarks → IsCrowded self.old name.now }
+            (pair_at self.old.editing.state.trees anchor.now focus.now ≡ None) }
+        ensures too_many { result ≡ Err PlaceFault.TooManyMarks
+            → IsCrowded self.old.editing name.now }
         ensures marked { OnOk result ((pair : Pair) ×
-            (pair_at self.old.state.trees anchor.now focus.now ≡ Some pair) ×
-            (self.new ≡ marking self.old name.now pair)) }
-        ensures crowded { IsCrowded self.old name.now →
+            (pair_at self.old.editing.state.trees anchor.now focus.now ≡ Some pair) ×
+            (self.new.editing ≡ marking self.old.editing name.now pair)) }
+        ensures crowded { IsCrowded self.old.editing name.now →
             (result ≡ Err PlaceFault.BadPlace) ⊎ (result ≡ Err PlaceFault.TooManyMarks) }
         ensures err { OnErr result (self.new ≡ self.old) }
     {
@@ -196,8 +221,8 @@ impl Editor {
 
     /// Takes the name's mark out, and answers whether there was one.
     pub fn unmark(&mut self, name: &Name) -> bool
-        ensures answer { result ≡ has_mark name.now self.old.state.points }
-        ensures unmarked { self.new ≡ unmarking self.old name.now }
+        ensures answer { result ≡ has_mark name.now self.old.editing.state.points }
+        ensures unmarked { self.new.editing ≡ unmarking self.old.editing name.now }
     {
         self.typing = false;
         self.doc.unset_mark(name.as_slice())
@@ -205,31 +230,36 @@ impl Editor {
 
     /// Takes the entry before the cursor back. False where there is none. It takes no memory.
     pub fn undo<L: Ledger>(&mut self, steps: &mut Steps<L>) -> bool
-        ensures answer { IsTrue result ↔ (0 < length self.old.history.undo) }
-        ensures undone { self.new ≡ undone self.old }
-        ensures count { steps.new ≡ steps.old + first_edits self.old.history.undo }
+        ensures answer { IsTrue result ↔ (0 < length self.old.editing.history.undo) }
+        ensures undone { self.new.editing ≡ undone self.old.editing }
+        ensures needed { HoldsOnlyNeeded (document self.new) }
+        ensures count { steps.new ≡ steps.old + first_edits self.old.editing.history.undo }
     {
         let taken = self.doc.undo(steps);
         self.typing &= !taken;
+        self.kept_nodes();
         taken
     }
 
     /// Takes the entry after the cursor forth again. False where there is none. It takes no memory.
     pub fn redo<L: Ledger>(&mut self, steps: &mut Steps<L>) -> bool
-        ensures answer { IsTrue result ↔ (0 < length self.old.history.redo) }
-        ensures redone { self.new ≡ redone self.old }
-        ensures count { steps.new ≡ steps.old + first_edits self.old.history.redo }
+        ensures answer { IsTrue result ↔ (0 < length self.old.editing.history.redo) }
+        ensures redone { self.new.editing ≡ redone self.old.editing }
+        ensures needed { HoldsOnlyNeeded (document self.new) }
+        ensures count { steps.new ≡ steps.old + first_edits self.old.editing.history.redo }
     {
         let taken = self.doc.redo(steps);
         self.typing &= !taken;
+        self.kept_nodes();
         taken
     }
 
     /// What is printed of the editor, in whole lines. A path that names no node is refused before any memory is taken.
     #[tactic(auto, unfolding(crate::specs::Views::stat_line))]
     pub fn view(&self, alloc: Global, kind: &ViewKind) -> Result<Vec<u8>, ViewFault>
-        ensures text { IfOk result (λ text. view_text self.now kind.now ≡ Some text.items) }
-        ensures bad_place { (result ≡ Err ViewFault.BadPlace) ↔ (view_text self.now kind.now ≡ None) }
+        ensures text { IfOk result (λ text. view_text self.now.editing kind.now ≡ Some text.items) }
+        ensures bad_place { (result ≡ Err ViewFault.BadPlace)
+            ↔ (view_text self.now.editing kind.now ≡ None) }
     {
         match kind {
             ViewKind::Html => Ok(html_line(alloc, &self.doc)?),
@@ -247,8 +277,8 @@ impl Editor {
     /// line for each node that its commands made and its edits name, and a line for each edit.
     #[tactic(auto, unfolding(crate::specs::Logs::log_steps))]
     pub fn log(&mut self, alloc: Global) -> Result<Vec<u8>, LogFault>
-        ensures text { IfOk result (λ text. text.items ≡ log_text self.old.history) }
-        ensures cut { (result ≡ Err LogFault.LogCut) ↔ (self.old.history.dropped ≡ true) }
+        ensures text { IfOk result (λ text. text.items ≡ log_text self.old.editing.history) }
+        ensures cut { (result ≡ Err LogFault.LogCut) ↔ (self.old.editing.history.dropped ≡ true) }
         ensures stays { self.new ≡ self.old }
     {
         if self.doc.has_dropped() {
@@ -263,7 +293,7 @@ impl Editor {
     /// the characters of no comment, as every run does, and left the document at no step deeper
     /// than 1,000. It does nothing.
     pub fn log_replays(&self)
-        ensures { LogReplays self.now }
+        ensures { LogReplays self.now.editing }
     {
         self.doc.led_onward();
     }
@@ -272,10 +302,11 @@ impl Editor {
     /// in a loose tree with a node that a change of a kept entry names.
     pub fn document(&self) -> &Doc
         ensures closed { IsClosed result.now }
-        ensures state { result.now.state ≡ self.now.state }
-        ensures history { result.now.history ≡ self.now.history }
+        ensures state { result.now.state ≡ self.now.editing.state }
+        ensures history { result.now.history ≡ self.now.editing.history }
+        ensures held { result.now.held ≡ self.now.held }
         ensures needed { HoldsOnlyNeeded result.now }
-        ensures joinable { self.now.typing ≡ true → IsJoinable result.now.history }
+        ensures joinable { self.now.editing.typing ≡ true → IsJoinable result.now.history }
     {
         self.doc.kept_nodes();
         &self.doc

@@ -2,7 +2,7 @@
 //! and what is printed.
 //!
 //! A command (HTML Editing APIs, "execCommand()") is taken whole or not at all. Contracts see an editor as the state of
-//! its document and the history of views that undo and redo go through.
+//! its document, the history of views that undo and redo go through, and the nodes that are held.
 #![tactic(auto)]
 
 mod actions;

@@ -1,6 +1,8 @@
 //! Undo and redo of an entry, where nobody counts the edits that it has.
 
 ghost use Rattle.std.specs.Prelude.{◌≡◌, ◌↔◌, ◌<◌, IsTrue, length};
+ghost use Rattle.edit_doc.specs.Kept.{HoldsOnlyNeeded};
+ghost use Rattle.edit_engine.specs.Editing.{document};
 ghost use Rattle.edit_engine.specs.Turning.{entries_of, turned_by};
 
 use crate::editor::Editor;
@@ -22,8 +24,9 @@ impl Editor {
         requires name { blank.name ≡ L.name }
         requires parts { blank.parts ≡ L.parts }
         requires some { 0 < blank.parts }
-        ensures answer { IsTrue result ↔ (0 < length (entries_of turn self.old.history)) }
-        ensures turned { self.new ≡ turned_by turn self.old }
+        ensures answer { IsTrue result ↔ (0 < length (entries_of turn self.old.editing.history)) }
+        ensures turned { self.new.editing ≡ turned_by turn self.old.editing }
+        ensures needed { HoldsOnlyNeeded (document self.new) }
     {
         let mut steps = Steps::<L>::open(blank);
         match turn {
@@ -34,8 +37,9 @@ impl Editor {
 
     /// Undoes or redoes an entry, as `undo` and `redo` do. Nothing is counted as it runs. False where there is none.
     pub fn turn(&mut self, turn: Turn) -> bool
-        ensures answer { IsTrue result ↔ (0 < length (entries_of turn self.old.history)) }
-        ensures turned { self.new ≡ turned_by turn self.old }
+        ensures answer { IsTrue result ↔ (0 < length (entries_of turn self.old.editing.history)) }
+        ensures turned { self.new.editing ≡ turned_by turn self.old.editing }
+        ensures needed { HoldsOnlyNeeded (document self.new) }
     {
         self.turn_uncounted::<Brand>(turn, Blank::new(1))
     }

@@ -28,8 +28,10 @@ fn truth(flag: bool) -> &'static [u8]
 }
 
 fn select(editor: &mut Editor, anchor: &Place, focus: &Place) -> &'static [u8]
-    ensures text { result.now ≡ (select_reply editor.old (pair_at editor.old.state.trees anchor.now focus.now)).text }
-    ensures after { editor.new ≡ (select_reply editor.old (pair_at editor.old.state.trees anchor.now focus.now)).after }
+    ensures text { result.now ≡ (select_reply editor.old.editing
+        (pair_at editor.old.editing.state.trees anchor.now focus.now)).text }
+    ensures after { editor.new.editing ≡ (select_reply editor.old.editing
+        (pair_at editor.old.editing.state.trees anchor.now focus.now)).after }
 {
     match editor.select(anchor, focus) {
         Ok(()) => b"ok\n",
@@ -43,10 +45,10 @@ fn mark(
     anchor: &Place,
     focus: &Place,
 ) -> Result<&'static [u8], AllocError>
-    ensures text { IfOk result (λ text. text.now ≡ (mark_reply editor.old name.now
-        (pair_at editor.old.state.trees anchor.now focus.now)).text) }
-    ensures after { OnOk result (editor.new ≡ (mark_reply editor.old name.now
-        (pair_at editor.old.state.trees anchor.now focus.now)).after) }
+    ensures text { IfOk result (λ text. text.now ≡ (mark_reply editor.old.editing name.now
+        (pair_at editor.old.editing.state.trees anchor.now focus.now)).text) }
+    ensures after { OnOk result (editor.new.editing ≡ (mark_reply editor.old.editing name.now
+        (pair_at editor.old.editing.state.trees anchor.now focus.now)).after) }
 {
     match editor.mark(name, anchor, focus) {
         Ok(()) => Ok(b"ok\n"),
@@ -75,10 +77,10 @@ fn exec(
     value: &Chars,
 ) -> Result<&'static [u8], AllocError>
     requires { is_name name.now ≡ true }
-    ensures text { IfOk result (λ text. text.now ≡ (exec_reply editor.old
-        (gated_outcome gate.now editor.old name.now value.now)).text) }
-    ensures after { OnOk result (editor.new ≡ (exec_reply editor.old
-        (gated_outcome gate.now editor.old name.now value.now)).after) }
+    ensures text { IfOk result (λ text. text.now ≡ (exec_reply editor.old.editing
+        (gated_outcome gate.now editor.old.editing name.now value.now)).text) }
+    ensures after { OnOk result (editor.new.editing ≡ (exec_reply editor.old.editing
+        (gated_outcome gate.now editor.old.editing name.now value.now)).after) }
 {
     match editor.exec_gated(alloc, gate, text_of(name), value.as_slice()) {
         Ok(Answer::Yes) => Ok(b"true\n"),
@@ -106,7 +108,8 @@ fn query(
     name: &Name,
 ) -> Result<Vec<u8>, AllocError>
     requires { is_name name.now ≡ true }
-    ensures { IfOk result (λ bytes. bytes.items ≡ query_text (reply_of editor.now.state kind name.now)) }
+    ensures { IfOk result (λ bytes. bytes.items
+        ≡ query_text (reply_of editor.now.editing.state kind name.now)) }
 {
     match editor.query(alloc, kind, text_of(name))? {
         Reply::Flag(flag) => truth(flag).to_vec(alloc),
@@ -116,9 +119,10 @@ fn query(
 
 // Undoes or redoes as many entries as are asked for and there.
 fn turn_through(editor: &mut Editor, turn: Turn, count: u32) -> u32
-    ensures count { result ≡ min count (length (entries_of turn editor.old.history)) }
-    ensures after { editor.new ≡ turned
-        (min count (length (entries_of turn editor.old.history))) (turned_by turn) editor.old }
+    ensures count { result ≡ min count (length (entries_of turn editor.old.editing.history)) }
+    ensures after { editor.new.editing ≡ turned
+        (min count (length (entries_of turn editor.old.editing.history)))
+        (turned_by turn) editor.old.editing }
 {
     let mut taken = 0;
     while taken < count && editor.turn(turn) {
@@ -141,8 +145,8 @@ fn redo_text(alloc: Global, count: u32) -> Result<String, AllocError>
 
 #[tactic(auto, unfolding(crate::specs::Replies::undo_reply))]
 fn answer_undo(alloc: Global, editor: &mut Editor, count: u32) -> Result<Vec<u8>, AllocError>
-    ensures text { IfOk result (λ bytes. bytes.items ≡ (undo_reply editor.old count).text) }
-    ensures after { OnOk result (editor.new ≡ (undo_reply editor.old count).after) }
+    ensures text { IfOk result (λ bytes. bytes.items ≡ (undo_reply editor.old.editing count).text) }
+    ensures after { OnOk result (editor.new.editing ≡ (undo_reply editor.old.editing count).after) }
 {
     let taken = turn_through(editor, Turn::Undo, count);
     Ok(undo_text(alloc, taken)?.into_bytes())
@@ -150,15 +154,15 @@ fn answer_undo(alloc: Global, editor: &mut Editor, count: u32) -> Result<Vec<u8>
 
 #[tactic(auto, unfolding(crate::specs::Replies::redo_reply))]
 fn answer_redo(alloc: Global, editor: &mut Editor, count: u32) -> Result<Vec<u8>, AllocError>
-    ensures text { IfOk result (λ bytes. bytes.items ≡ (redo_reply editor.old count).text) }
-    ensures after { OnOk result (editor.new ≡ (redo_reply editor.old count).after) }
+    ensures text { IfOk result (λ bytes. bytes.items ≡ (redo_reply editor.old.editing count).text) }
+    ensures after { OnOk result (editor.new.editing ≡ (redo_reply editor.old.editing count).after) }
 {
     let taken = turn_through(editor, Turn::Redo, count);
     Ok(redo_text(alloc, taken)?.into_bytes())
 }
 
 fn view(alloc: Global, editor: &Editor, kind: &ViewKind) -> Result<Vec<u8>, AllocError>
-    ensures { IfOk result (λ bytes. bytes.items ≡ shown (view_text editor.now kind.now)) }
+    ensures { IfOk result (λ bytes. bytes.items ≡ shown (view_text editor.now.editing kind.now)) }
 {
     match editor.view(alloc, kind) {
         Ok(text) => Ok(text),
@@ -169,7 +173,7 @@ fn view(alloc: Global, editor: &Editor, kind: &ViewKind) -> Result<Vec<u8>, Allo
 
 #[tactic(auto, unfolding(crate::specs::Replies::log_reply))]
 fn log(alloc: Global, editor: &mut Editor) -> Result<Vec<u8>, AllocError>
-    ensures text { IfOk result (λ bytes. bytes.items ≡ log_reply editor.old) }
+    ensures text { IfOk result (λ bytes. bytes.items ≡ log_reply editor.old.editing) }
     ensures after { editor.new ≡ editor.old }
 {
     match editor.log(alloc) {
@@ -187,8 +191,10 @@ fn take(
     act: Act,
 ) -> Result<Vec<u8>, AllocError>
     requires { IsNamed act }
-    ensures text { IfOk result (λ bytes. bytes.items ≡ (act_reply gate.now editor.old act).text) }
-    ensures after { OnOk result (editor.new ≡ (act_reply gate.now editor.old act).after) }
+    ensures text { IfOk result (λ bytes. bytes.items
+        ≡ (act_reply gate.now editor.old.editing act).text) }
+    ensures after { OnOk result (editor.new.editing
+        ≡ (act_reply gate.now editor.old.editing act).after) }
 {
     match act {
         Act::Select { anchor, focus } => select(editor, &anchor, &focus).to_vec(alloc),
@@ -222,8 +228,10 @@ fn answer_act(
     editor: &mut Editor,
     line: &[u8],
 ) -> Result<Vec<u8>, AllocError>
-    ensures text { IfOk result (λ bytes. bytes.items ≡ (read_reply gate.now editor.old (line_of line.now)).text) }
-    ensures after { OnOk result (editor.new ≡ (read_reply gate.now editor.old (line_of line.now)).after) }
+    ensures text { IfOk result (λ bytes. bytes.items
+        ≡ (read_reply gate.now editor.old.editing (line_of line.now)).text) }
+    ensures after { OnOk result (editor.new.editing
+        ≡ (read_reply gate.now editor.old.editing (line_of line.now)).after) }
 {
     match read_line(alloc, line) {
         Ok(act) => take(alloc, gate, editor, act),
@@ -243,8 +251,10 @@ pub fn answer_line(
     editor: &mut Editor,
     line: &[u8],
 ) -> Result<Vec<u8>, AllocError>
-    ensures text { IfOk result (λ bytes. bytes.items ≡ (line_reply gate.now editor.old line.now).text) }
-    ensures after { OnOk result (editor.new ≡ (line_reply gate.now editor.old line.now).after) }
+    ensures text { IfOk result (λ bytes. bytes.items
+        ≡ (line_reply gate.now editor.old.editing line.now).text) }
+    ensures after { OnOk result (editor.new.editing
+        ≡ (line_reply gate.now editor.old.editing line.now).after) }
 {
     if line.is_empty() {
         return Ok(Vec::new(alloc));

@@ -121,9 +121,11 @@ fn act<O: Sink>(
     line: &[u8],
     output: &mut O,
 ) -> Status
-    ensures follows { Follows (transcript_of Status.Done (line_reply gate.now editor.old line.now).text)
+    ensures follows { Follows
+        (transcript_of Status.Done (line_reply gate.now editor.old.editing line.now).text)
         (O.taken output.old) (O.taken output.new) (O.faults output.old) (O.faults output.new) result }
-    ensures after { result ≡ Status.Done → editor.new ≡ (line_reply gate.now editor.old line.now).after }
+    ensures after { result ≡ Status.Done
+        → editor.new.editing ≡ (line_reply gate.now editor.old.editing line.now).after }
 {
     match answer_line(alloc, gate, editor, line) {
         Ok(text) => answer(output, &text, Status::Done),
@@ -139,7 +141,8 @@ fn run_acts<O: Sink>(
     acts: &[u8],
     output: &mut O,
 ) -> Status
-    ensures { Follows (transcript_of Status.Done (replies_to gate.now editor.old (lines_of acts.now)))
+    ensures { Follows
+        (transcript_of Status.Done (replies_to gate.now editor.old.editing (lines_of acts.now)))
         (O.taken output.old) (O.taken output.new) (O.faults output.old) (O.faults output.new) result }
 {
     let mut rest = acts;

@@ -72,8 +72,8 @@ module _ {M : Type 1} {𝓤 : Ura M} {𝓛 : Logic 𝓤} {K : Type 0} {Γ : List
 
 module _ {M : Type 1} {𝓤 : Ura M} {𝓛 : Logic 𝓤} {K : Type 0} {Γ : List (Item 𝓤)} {G : Goal 𝓤 𝓛.H} where
   pub handle_out : K → (d : Handle.Denot) (vs : List Val)
-      → ((h : Val) → d.editing ≡ None → vs ≡ both (ptr_val null_ptr) h ∷ [] → Good (layout Z) h → Seq K 𝓛 (‵ (Z.own_val d.alloc (h ∷ [])) ∷ Γ) G)
-      → ((b o : ℕ) (x : R.Denot) (h : Val) → d.editing ≡ Some x → vs ≡ both (vptr b o) h ∷ [] → Good (layout Z) h → Testable (block_ptr b o)
+      → ((h : Val) → d.value ≡ None → vs ≡ both (ptr_val null_ptr) h ∷ [] → Good (layout Z) h → Seq K 𝓛 (‵ (Z.own_val d.alloc (h ∷ [])) ∷ Γ) G)
+      → ((b o : ℕ) (x : R.Denot) (h : Val) → d.value ≡ Some x → vs ≡ both (vptr b o) h ∷ [] → Good (layout Z) h → Testable (block_ptr b o)
       → Seq K 𝓛 (‵ (boxed d.alloc (block_ptr b o) x) ∷ ‵ (Z.own_val d.alloc (h ∷ [])) ∷ Γ) G)
       → Seq K 𝓛 (‵ (Handle.own_val d vs) ∷ Γ) G
   handle_out t d vs none one =
@@ -81,16 +81,16 @@ module _ {M : Type 1} {𝓤 : Ura M} {𝓛 : Logic 𝓤} {K : Type 0} {Γ : List
       let is : (p : Ptr) → d.state ≡ p → vs ≡ vstruct (of_list (ptr_val p ∷ h ∷ [])) ∷ [] = λ p e.
       subst (λ (q : Ptr). vs ≡ vstruct (of_list (ptr_val q ∷ h ∷ [])) ∷ []) e
       (subst (λ (ws : List Val). vs ≡ vstruct (of_list (ptr_val d.state ∷ (ws ++ []))) ∷ []) ea (subst (λ (ps : List Val). vs ≡ vstruct (of_list (ps ++ (vss.1.0 ++ []))) ∷ []) ep ev)) in
-      either_held t d.alloc d.state d.editing (λ e n. none h n (is null_ptr e) fits) (λ b o x e s test. one b o x h s (is (block_ptr b o) e) fits test)))))
+      either_held t d.alloc d.state d.value (λ e n. none h n (is null_ptr e) fits) (λ b o x e s test. one b o x h s (is (block_ptr b o) e) fits test)))))
 
   pub closed_in : K → (h : Val) (a : Global)
-      → Step K 𝓛 (‵ (Handle.own_val (record { state = null_ptr; alloc = a; editing = None }) (both (ptr_val null_ptr) h ∷ [])) ∷ Γ) G (‵ (Z.own_val a (h ∷ [])) ∷ Γ) G
+      → Step K 𝓛 (‵ (Handle.own_val (record { state = null_ptr; alloc = a; value = None }) (both (ptr_val null_ptr) h ∷ [])) ∷ Γ) G (‵ (Z.own_val a (h ∷ [])) ∷ Γ) G
   closed_in t h a = step (λ s. let v : Val = both (ptr_val null_ptr) h in
       nothing t $ nothing t $ move t (2 ∷ 0 ∷ []) $ fjoin t $ feq_i t (List Val) (ptr_val null_ptr ∷ []) (ptr_val null_ptr ∷ []) refl $ fjoin t $ feq_i t (List Val) (v ∷ []) (v ∷ []) refl $ fjoin t $
       fpack t (Valss (RawPtr ∷ Z ∷ [])) (within (shape handle.the_type) (null_ptr, (heap.the_field.into a, tt)) (v ∷ [])) (ptr_val null_ptr ∷ [], (h ∷ [], tt)) $ fjoin t $ s)
 
   pub open_in : K → (b o : ℕ) (h : Val) (a : Global) (x : R.Denot)
-      → Step K 𝓛 (‵ (Handle.own_val (record { state = block_ptr b o; alloc = a; editing = Some x }) (both (vptr b o) h ∷ [])) ∷ Γ) G (‵ (boxed a (block_ptr b o) x) ∷ ‵ (Z.own_val a (h ∷ [])) ∷ Γ) G
+      → Step K 𝓛 (‵ (Handle.own_val (record { state = block_ptr b o; alloc = a; value = Some x }) (both (vptr b o) h ∷ [])) ∷ Γ) G (‵ (boxed a (block_ptr b o) x) ∷ ‵ (Z.own_val a (h ∷ [])) ∷ Γ) G
   open_in t b o h a x = step (λ s. let v : Val = both (vptr b o) h in
       nothing t $ move t (2 ∷ 0 ∷ []) $ fjoin t $ feq_i t (List Val) (vptr b o ∷ []) (vptr b o ∷ []) refl $ fjoin t $ feq_i t (List Val) (v ∷ []) (v ∷ []) refl $ fjoin t $
       fpack t (Valss (RawPtr ∷ Z ∷ [])) (within (shape handle.the_type) (block_ptr b o, (heap.the_field.into a, tt)) (v ∷ [])) (vptr b o ∷ [], (h ∷ [], tt)) $ fjoin t $ s)

@@ -1,6 +1,6 @@
 -- What the calls of an editor's handle tell.
 use Rattle.std.specs.Prelude.{◌≡◌, ◌⊎◌, ⊤, ℕ, ◌<◌, ◌≤◌, ◌++◌, ◌==◌, nat_lt, List, length, drop, Bool, true, false, encode_utf8_all, Option, Some, None, Ok, if◌then◌else◌}
-use Rattle.std.specs.Option.{option_and_then, IsSomeAnd}
+use Rattle.std.specs.Option.{option_and_then, option_map, IsSomeAnd}
 use Rattle.std.specs.Str.{IsUtf8, chars}
 use Rattle.dom_model.specs.ArenaState.{ArenaState}
 use Rattle.html_names.specs.declared.query.QueryKind.{QueryKind}
@@ -18,7 +18,7 @@ use Rattle.edit_query.specs.declared.reply.Reply.{Reply}
 use Rattle.edit_query.specs.declared.reply.Reply.TheVariants as reply
 use Rattle.edit_engine.specs.declared.answers.ViewKind.{ViewKind}
 use Rattle.edit_engine.specs.declared.answers.ViewKind.TheVariants.{Html, Tree, Points, Stat}
-use Rattle.edit_engine.specs.Editing.{Editing, new_editing}
+use Rattle.edit_engine.specs.Editing.{Editing, EditorValue, new_editing}
 use Rattle.edit_engine.specs.Execution.{Outcome, Acted, outcome}
 use Rattle.edit_engine.specs.Execution as exec
 use Rattle.edit_engine.specs.Places.{pair_at, selecting, marking, unmarking, IsCrowded}
@@ -30,6 +30,10 @@ use Rattle.hedit_c.specs.declared.editor.status.Status.{Status}
 use Rattle.hedit_c.specs.declared.editor.status.Status.TheVariants.{Done, No, Memory, PageRefused, TooSmall, Full, Deep, BadPlace, TooManyMarks, BadArgument, Closed}
 
 -- ---- the handle
+
+-- the editor that a handle holds, without its slots
+abbrev pub editing_of : Option EditorValue → Option Editing
+editing_of value = option_map (λ v. v.editing) value
 
 -- the number of the status, and what the call has done to the editor; a closed handle stays closed
 abbrev pub Leaves : ℕ → Option Editing → Option Editing

@@ -7,7 +7,7 @@ ghost use Rattle.std.specs.Prelude.{◌≡◌, None};
 ghost use Rattle.std.specs.Option.{option_map};
 ghost use Rattle.edit_engine.specs.Editing.{undone, redone};
 ghost use Rattle.edit_engine.specs.Places.{unselecting};
-ghost use Rattle.hedit_c.specs.Calls.{Leaves, Asks, Opens, ExecTells, QueryTells, ViewTells, SelectTells, MarkTells, UnmarkTells, place, taken_status, unselect_status};
+ghost use Rattle.hedit_c.specs.Calls.{editing_of, Leaves, Asks, Opens, ExecTells, QueryTells, ViewTells, SelectTells, MarkTells, UnmarkTells, place, taken_status, unselect_status};
 ghost use Rattle.hedit_c.specs.Statuses.{number_of};
 
 mod acts;
@@ -40,7 +40,7 @@ pub extern "C" fn hedit_open(
     undo_depth: usize,
     refusal: &mut Refusal,
 ) -> u32
-    ensures { Opens result editor.new.editing refusal.new page.now label_cap undo_depth }
+    ensures { Opens result (editing_of editor.new.value) refusal.new page.now label_cap undo_depth }
 {
     *editor = Handle::closed(alloc);
     match open(alloc, page, label_cap, undo_depth, refusal) {
@@ -55,7 +55,7 @@ pub extern "C" fn hedit_open(
 /// Closes the editor, and gives its memory back. A closed handle stays closed.
 #[unsafe(no_mangle)]
 pub extern "C" fn hedit_close(alloc: Global, editor: &mut Handle)
-    ensures { editor.new.editing ≡ None }
+    ensures { editor.new.value ≡ None }
 {
     *editor = Handle::closed(alloc);
 }
@@ -63,7 +63,7 @@ pub extern "C" fn hedit_close(alloc: Global, editor: &mut Handle)
 /// Executes the command that a name names, in any case, with a value in UTF-8.
 #[unsafe(no_mangle)]
 pub extern "C" fn hedit_exec(alloc: Global, editor: &mut Handle, name: &[u8], value: &[u8]) -> u32
-    ensures { Leaves result editor.old.editing editor.new.editing
+    ensures { Leaves result (editing_of editor.old.value) (editing_of editor.new.value)
         (λ status old new. ExecTells status old new name.now value.now) }
 {
     let Some(mut held) = editor.take(alloc) else {
@@ -77,8 +77,9 @@ pub extern "C" fn hedit_exec(alloc: Global, editor: &mut Handle, name: &[u8], va
 /// Takes the entry before the cursor of the history back.
 #[unsafe(no_mangle)]
 pub extern "C" fn hedit_undo(alloc: Global, editor: &mut Handle) -> u32
-    ensures status { result ≡ number_of (taken_status editor.old.editing (λ e. e.history.undo)) }
-    ensures undone { editor.new.editing ≡ option_map undone editor.old.editing }
+    ensures status { result
+        ≡ number_of (taken_status (editing_of editor.old.value) (λ e. e.history.undo)) }
+    ensures undone { editing_of editor.new.value ≡ option_map undone (editing_of editor.old.value) }
 {
     let Some(mut held) = editor.take(alloc) else {
         return Status::Closed.number();
@@ -91,8 +92,9 @@ pub extern "C" fn hedit_undo(alloc: Global, editor: &mut Handle) -> u32
 /// Takes the entry after the cursor of the history forth again.
 #[unsafe(no_mangle)]
 pub extern "C" fn hedit_redo(alloc: Global, editor: &mut Handle) -> u32
-    ensures status { result ≡ number_of (taken_status editor.old.editing (λ e. e.history.redo)) }
-    ensures redone { editor.new.editing ≡ option_map redone editor.old.editing }
+    ensures status { result
+        ≡ number_of (taken_status (editing_of editor.old.value) (λ e. e.history.redo)) }
+    ensures redone { editing_of editor.new.value ≡ option_map redone (editing_of editor.old.value) }
 {
     let Some(mut held) = editor.take(alloc) else {
         return Status::Closed.number();
@@ -113,7 +115,7 @@ pub extern "C" fn hedit_select(
     focus: &[u32],
     focus_offset: u32,
 ) -> u32
-    ensures { Leaves result editor.old.editing editor.new.editing
+    ensures { Leaves result (editing_of editor.old.value) (editing_of editor.new.value)
         (λ status old new. SelectTells status old new
         (place anchor.now anchor_offset) (place focus.now focus_offset)) }
 {
@@ -133,8 +135,9 @@ pub extern "C" fn hedit_select(
 /// Gives up the selection.
 #[unsafe(no_mangle)]
 pub extern "C" fn hedit_unselect(alloc: Global, editor: &mut Handle) -> u32
-    ensures status { result ≡ number_of (unselect_status editor.old.editing) }
-    ensures unselected { editor.new.editing ≡ option_map unselecting editor.old.editing }
+    ensures status { result ≡ number_of (unselect_status (editing_of editor.old.value)) }
+    ensures unselected { editing_of editor.new.value
+        ≡ option_map unselecting (editing_of editor.old.value) }
 {
     let Some(mut held) = editor.take(alloc) else {
         return Status::Closed.number();
@@ -155,7 +158,7 @@ pub extern "C" fn hedit_mark(
     focus: &[u32],
     focus_offset: u32,
 ) -> u32
-    ensures { Leaves result editor.old.editing editor.new.editing
+    ensures { Leaves result (editing_of editor.old.value) (editing_of editor.new.value)
         (λ status old new. MarkTells status old new name.now
         (place anchor.now anchor_offset) (place focus.now focus_offset)) }
 {
@@ -176,7 +179,7 @@ pub extern "C" fn hedit_mark(
 /// Takes the mark of a name out.
 #[unsafe(no_mangle)]
 pub extern "C" fn hedit_unmark(alloc: Global, editor: &mut Handle, name: &[u8]) -> u32
-    ensures { Leaves result editor.old.editing editor.new.editing
+    ensures { Leaves result (editing_of editor.old.value) (editing_of editor.new.value)
         (λ status old new. UnmarkTells status old new name.now) }
 {
     let Some(mut held) = editor.take(alloc) else {
@@ -199,8 +202,8 @@ pub extern "C" fn hedit_query(
     buffer: &mut [u8],
     length: &mut usize,
 ) -> u32
-    ensures stays { editor.new.editing ≡ editor.old.editing }
-    ensures told { Asks result editor.old.editing buffer.old buffer.new
+    ensures stays { editor.new.value ≡ editor.old.value }
+    ensures told { Asks result (editing_of editor.old.value) buffer.old buffer.new
         (λ status e. QueryTells status e kind name.now flag.new buffer.old buffer.new length.new) }
 {
     let Some(held) = editor.take(alloc) else {
@@ -221,8 +224,8 @@ pub extern "C" fn hedit_view(
     buffer: &mut [u8],
     length: &mut usize,
 ) -> u32
-    ensures stays { editor.new.editing ≡ editor.old.editing }
-    ensures told { Asks result editor.old.editing buffer.old buffer.new
+    ensures stays { editor.new.value ≡ editor.old.value }
+    ensures told { Asks result (editing_of editor.old.value) buffer.old buffer.new
         (λ status e. ViewTells status e kind buffer.old buffer.new length.new) }
 {
     let Some(held) = editor.take(alloc) else {

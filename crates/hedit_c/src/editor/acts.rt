@@ -14,7 +14,8 @@ use script_read::Place;
 use std::alloc::Global;
 
 fn exec_chars(alloc: Global, editor: &mut Editor, name: &str, value: &Chars) -> Status
-    ensures { ExecAnswers result editor.old editor.new (outcome editor.old name.now value.now) }
+    ensures { ExecAnswers result editor.old.editing editor.new.editing
+        (outcome editor.old.editing name.now value.now) }
 {
     match editor.exec(alloc, name, value.as_slice()) {
         Ok(Answer::Yes) => Status::Done,
@@ -26,8 +27,8 @@ fn exec_chars(alloc: Global, editor: &mut Editor, name: &str, value: &Chars) -> 
 }
 
 fn exec_text(alloc: Global, editor: &mut Editor, name: &str, value: &str) -> Status
-    ensures { ExecAnswers result editor.old editor.new
-        (outcome editor.old name.now (chars value.now)) }
+    ensures { ExecAnswers result editor.old.editing editor.new.editing
+        (outcome editor.old.editing name.now (chars value.now)) }
 {
     match Chars::from_text(alloc, value) {
         Ok(value) => exec_chars(alloc, editor, name, &value),
@@ -37,7 +38,7 @@ fn exec_text(alloc: Global, editor: &mut Editor, name: &str, value: &str) -> Sta
 
 /// Executes a command by its name and its value, both in UTF-8.
 pub(crate) fn exec(alloc: Global, editor: &mut Editor, name: &[u8], value: &[u8]) -> Status
-    ensures { ExecTells result editor.old editor.new name.now value.now }
+    ensures { ExecTells result editor.old.editing editor.new.editing name.now value.now }
 {
     match (str::from_utf8(name), str::from_utf8(value)) {
         (Ok(name), Ok(value)) => exec_text(alloc, editor, name, value),
@@ -47,23 +48,23 @@ pub(crate) fn exec(alloc: Global, editor: &mut Editor, name: &[u8], value: &[u8]
 
 /// Takes one entry back. Nothing is counted as it runs.
 pub(crate) fn undo(editor: &mut Editor) -> bool
-    ensures answer { result ≡ nat_lt 0 (length editor.old.history.undo) }
-    ensures undone { editor.new ≡ undone editor.old }
+    ensures answer { result ≡ nat_lt 0 (length editor.old.editing.history.undo) }
+    ensures undone { editor.new.editing ≡ undone editor.old.editing }
 {
     editor.turn(Turn::Undo)
 }
 
 /// Takes one entry forth again. Nothing is counted as it runs.
 pub(crate) fn redo(editor: &mut Editor) -> bool
-    ensures answer { result ≡ nat_lt 0 (length editor.old.history.redo) }
-    ensures redone { editor.new ≡ redone editor.old }
+    ensures answer { result ≡ nat_lt 0 (length editor.old.editing.history.redo) }
+    ensures redone { editor.new.editing ≡ redone editor.old.editing }
 {
     editor.turn(Turn::Redo)
 }
 
 // Selects from one place to another.
 fn select_places(editor: &mut Editor, anchor: &Place, focus: &Place) -> Status
-    ensures { SelectTells result editor.old editor.new anchor.now focus.now }
+    ensures { SelectTells result editor.old.editing editor.new.editing anchor.now focus.now }
 {
     match editor.select(anchor, focus) {
         Ok(()) => Status::Done,
@@ -73,7 +74,7 @@ fn select_places(editor: &mut Editor, anchor: &Place, focus: &Place) -> Status
 
 // Gives a name to what is between two places.
 fn mark_places(editor: &mut Editor, name: &Name, anchor: &Place, focus: &Place) -> Status
-    ensures { MarkTells result editor.old editor.new name.now anchor.now focus.now }
+    ensures { MarkTells result editor.old.editing editor.new.editing name.now anchor.now focus.now }
 {
     match editor.mark(name, anchor, focus) {
         Ok(()) => Status::Done,
@@ -90,7 +91,7 @@ pub(crate) fn select(
     anchor: (&[u32], u32),
     focus: (&[u32], u32),
 ) -> Status
-    ensures { SelectTells result editor.old editor.new
+    ensures { SelectTells result editor.old.editing editor.new.editing
         (place anchor.entry.0.now anchor.entry.1) (place focus.entry.0.now focus.entry.1) }
 {
     let Ok(anchor) = place_of(alloc, anchor.0, anchor.1) else {
@@ -110,7 +111,7 @@ pub(crate) fn mark(
     anchor: (&[u32], u32),
     focus: (&[u32], u32),
 ) -> Status
-    ensures { MarkTells result editor.old editor.new name.now
+    ensures { MarkTells result editor.old.editing editor.new.editing name.now
         (place anchor.entry.0.now anchor.entry.1) (place focus.entry.0.now focus.entry.1) }
 {
     let Ok(name) = Name::from_slice(alloc, name) else {
@@ -127,7 +128,7 @@ pub(crate) fn mark(
 
 /// Takes the mark of a name out.
 pub(crate) fn unmark(alloc: Global, editor: &mut Editor, name: &[u8]) -> Status
-    ensures { UnmarkTells result editor.old editor.new name.now }
+    ensures { UnmarkTells result editor.old.editing editor.new.editing name.now }
 {
     match Name::from_slice(alloc, name) {
         Ok(name) => Status::answer(editor.unmark(&name)),

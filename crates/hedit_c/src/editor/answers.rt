@@ -74,7 +74,8 @@ pub(crate) fn query(
     buffer: &mut [u8],
     length: &mut usize,
 ) -> Status
-    ensures { QueryTells result editor.now kind name.now flag.new buffer.old buffer.new length.new }
+    ensures { QueryTells result editor.now.editing kind name.now flag.new
+        buffer.old buffer.new length.new }
 {
     let (Some(kind), Ok(name)) = (query_kind(kind), str::from_utf8(name)) else {
         return Status::BadArgument;
@@ -93,7 +94,7 @@ pub(crate) fn view(
     buffer: &mut [u8],
     length: &mut usize,
 ) -> Status
-    ensures { ViewTells result editor.now kind buffer.old buffer.new length.new }
+    ensures { ViewTells result editor.now.editing kind buffer.old buffer.new length.new }
 {
     let Some(kind) = view_kind(kind) else {
         return Status::BadArgument;

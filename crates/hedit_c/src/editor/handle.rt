@@ -3,7 +3,7 @@
 ghost use Rattle.std.specs.Prelude.{◌≡◌, MatchOption, Option, None, Some};
 ghost use Rattle.std.specs.Coded.{coded_option};
 ghost use Rattle.std.specs.contracts.impls.GlobalAllocator.TheImpl.{ghosts};
-ghost use Rattle.edit_engine.specs.Editing.{Editing, editing_code};
+ghost use Rattle.edit_engine.specs.Editing.{EditorValue, value_code};
 ghost use Rattle.edit_engine.specs.contracts.editor.Editor.{the_row};
 ghost use Rattle.hedit_c.specs.Held.{held};
 
@@ -21,17 +21,17 @@ pub struct Handle {
     // C may not see the type of an editor.
     state: *mut u8,
     alloc: Global,
-    pub ghost editing: { Option Editing } by { coded_option editing_code },
+    pub ghost value: { Option EditorValue } by { coded_option value_code },
 }
 
 impl Model for Handle {
-    ghost also_owns = { λ h. held (ghosts.dealloc_token h.alloc) the_row h.state h.editing };
+    ghost also_owns = { λ h. held (ghosts.dealloc_token h.alloc) the_row h.state h.value };
 }
 
 impl Handle {
     /// A handle without an editor.
     pub(crate) fn closed(alloc: Global) -> Handle
-        ensures { result.editing ≡ None }
+        ensures { result.value ≡ None }
     {
         Handle {
             state: null_mut(),
@@ -40,7 +40,7 @@ impl Handle {
     }
 
     fn of_raw(raw: RawBox<Editor, Global>) -> Handle
-        ensures { result.editing ≡ Some raw.value }
+        ensures { result.value ≡ Some raw.value }
     {
         let RawBox { at, alloc } = raw;
         Handle {
@@ -50,8 +50,8 @@ impl Handle {
     }
 
     fn into_raw(self) -> Option<RawBox<Editor, Global>>
-        ensures { MatchOption result (self.editing ≡ None)
-            (λ raw. self.editing ≡ Some raw.value) }
+        ensures { MatchOption result (self.value ≡ None)
+            (λ raw. self.value ≡ Some raw.value) }
     {
         let Handle { state, alloc } = self;
         if state.is_null() {
@@ -66,15 +66,15 @@ impl Handle {
 
     // The handle of an editor.
     fn of(editor: Box<Editor>) -> Handle
-        ensures { result.editing ≡ Some editor.value }
+        ensures { result.value ≡ Some editor.value }
     {
         Handle::of_raw(RawBox::of(editor))
     }
 
     // The handle's editor.
     fn into_editor(self) -> Option<Box<Editor>>
-        ensures { MatchOption result (self.editing ≡ None)
-            (λ editor. self.editing ≡ Some editor.value) }
+        ensures { MatchOption result (self.value ≡ None)
+            (λ editor. self.value ≡ Some editor.value) }
     {
         match self.into_raw() {
             Some(raw) => Some(raw.into_box()),
@@ -84,16 +84,16 @@ impl Handle {
 
     /// Takes the editor out. The handle is closed then.
     pub(crate) fn take(&mut self, alloc: Global) -> Option<Box<Editor>>
-        ensures taken { MatchOption result (self.old.editing ≡ None)
-            (λ editor. self.old.editing ≡ Some editor.value) }
-        ensures closed { self.new.editing ≡ None }
+        ensures taken { MatchOption result (self.old.value ≡ None)
+            (λ editor. self.old.value ≡ Some editor.value) }
+        ensures closed { self.new.value ≡ None }
     {
         replace(self, Handle::closed(alloc)).into_editor()
     }
 
     /// Puts an editor in, in the place of what it holds.
     pub(crate) fn put(&mut self, editor: Box<Editor>)
-        ensures { self.new.editing ≡ Some editor.value }
+        ensures { self.new.value ≡ Some editor.value }
     {
         *self = Handle::of(editor);
     }

@@ -41,7 +41,7 @@ fn refuse(fault: PageFault, refusal: &mut Refusal) -> Status
 fn editor_of(alloc: Global, arena: Arena, undo_depth: usize) -> Option<Box<Editor>>
     requires depth { 0 < undo_depth }
     requires loose { HasNoLoose arena }
-    ensures { IfSome result (λ editor. editor.value ≡ new_editing arena undo_depth) }
+    ensures { IfSome result (λ editor. editor.value.editing ≡ new_editing arena undo_depth) }
 {
     let editor = Editor::new(alloc, arena, undo_depth).ok()?;
     Box::new(alloc, editor).ok()
@@ -56,7 +56,7 @@ pub(crate) fn open(
     refusal: &mut Refusal,
 ) -> Result<Box<Editor>, Status>
     ensures { MatchResult result
-        (λ editor. IsOpened editor.value page.now label_cap undo_depth)
+        (λ editor. IsOpened editor.value.editing page.now label_cap undo_depth)
         (λ status. NotOpened status refusal.new page.now label_cap undo_depth) }
 {
     if label_cap == 0 || undo_depth == 0 {

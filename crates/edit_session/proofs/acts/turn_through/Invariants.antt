@@ -8,8 +8,8 @@ use Rattle.edit_session.proofs.acts.turn_through.Given as goal
 abbrev pub invariant-loop-taken : goal.invariant-loop-taken
 invariant-loop-taken l = record {
   within : l.taken ≤ l.count;
-  left : l.taken + min (l.count - l.taken) (length (entries_of l.turn l.editor.history)) ≡ min l.count (length (entries_of l.turn l.initial.editor.history));
-  after : turned (min (l.count - l.taken) (length (entries_of l.turn l.editor.history))) (turned_by l.turn) l.editor ≡ turned (min l.count (length (entries_of l.turn l.initial.editor.history))) (turned_by l.turn) l.initial.editor;
+  left : l.taken + min (l.count - l.taken) (length (entries_of l.turn l.editor.editing.history)) ≡ min l.count (length (entries_of l.turn l.initial.editor.editing.history));
+  after : turned (min (l.count - l.taken) (length (entries_of l.turn l.editor.editing.history))) (turned_by l.turn) l.editor.editing ≡ turned (min l.count (length (entries_of l.turn l.initial.editor.editing.history))) (turned_by l.turn) l.initial.editor.editing;
 }
 
 abbrev pub decreases-loop-taken : goal.decreases-loop-taken

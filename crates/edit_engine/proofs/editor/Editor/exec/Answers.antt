@@ -1,4 +1,5 @@
-use Rattle.std.proofs.Common.{sym, ◌∙◌, inl, refl}
+use Rattle.std.proofs.Common.{sym, ap, ◌∙◌, inl, refl}
+use Rattle.edit_engine.specs.Editing.{EditorValue}
 use Rattle.edit_engine.specs.Execution.{Tells, outcome}
 use Rattle.edit_engine.proofs.Confining.{standing, changes, outside_kept, marks_kept, islands_kept, characters_kept}
 use Rattle.edit_engine.proofs.Outcomes.{named_outcome, unnamed_outcome}
@@ -6,31 +7,33 @@ use Rattle.edit_engine.proofs.editor.Editor.exec.Goals as goal
 
 pub returns-in-Some : goal.returns-in-Some
 returns-in-Some c =
-    let old = c.args.self.now in
-    let new = c.exec_command.new.self in
+    let old = c.args.self.now.editing in
+    let new = c.exec_command-answer.new.self.editing in
     let name = c.args.name.now in
     let v = c.args.value.now in
-    let stands = standing c.self.inside.doc c.self.inside.typing old c.self.view_is c.self.invariant c.valid.ensures in
-    let tells : Tells c.exec_command.result old new (outcome old name v) = rw (named_outcome old name v c.in-Some.command (sym c.named.ensures.value ∙ c.in-Some.is)) c.exec_command.ensures in
-    let k = changes c.exec_command.result old new name v tells in
+    let stands = standing c.self.inside.doc c.self.inside.typing old (ap (λ (e : EditorValue). e.editing) c.self.view_is) c.self.invariant c.valid.ensures in
+    let tells : Tells c.exec_command-answer.result old new (outcome old name v) = rw (named_outcome old name v c.in-Some.command (sym c.named.ensures.value ∙ c.in-Some.is)) c.exec_command-answer.ensures in
+    let k = changes c.exec_command-answer.result old new name v tells in
     record {
       tells = tells;
       confined = outside_kept old new name v stands k;
       marks = marks_kept old new name v stands k;
       islands = islands_kept old new name v stands k;
       characters = characters_kept old new name v stands k;
+      needed = c.kept_nodes.ensures;
     }
 
 pub returns-in-None : goal.returns-in-None
 returns-in-None c =
-    let old = c.args.self.now in
+    let old = c.args.self.now.editing in
     let name = c.args.name.now in
     let v = c.args.value.now in
-    let stands = standing c.self.inside.doc c.self.inside.typing old c.self.view_is c.self.invariant c.valid.ensures in
+    let stands = standing c.self.inside.doc c.self.inside.typing old (ap (λ (e : EditorValue). e.editing) c.self.view_is) c.self.invariant c.valid.ensures in
     record {
       tells = (inl (unnamed_outcome old name v (sym c.named.ensures.value ∙ c.in-None.is)), refl);
       confined = outside_kept old old name v stands (inl refl);
       marks = marks_kept old old name v stands (inl refl);
       islands = islands_kept old old name v stands (inl refl);
       characters = characters_kept old old name v stands (inl refl);
+      needed = c.kept_nodes-in-None.ensures;
     }

@@ -1,16 +1,17 @@
 use Rattle.std.proofs.Common.{◌≡◌, true, false, true≢false, sym, ap, ◌∙◌, inl, refl}
 use Rattle.command_gate.specs.Denied.{is_denied}
+use Rattle.edit_engine.specs.Editing.{EditorValue}
 use Rattle.edit_engine.proofs.Confining.{standing, outside_kept, marks_kept, islands_kept, characters_kept}
 use Rattle.edit_engine.proofs.Outcomes.{denied_outcome, allowed_outcome}
 use Rattle.edit_engine.proofs.editor.Editor.exec_gated.Goals as goal
 
 pub returns-then-denies : goal.returns-then-denies
 returns-then-denies g c =
-    let old = c.args.self.now in
+    let old = c.args.self.now.editing in
     let name = c.args.name.now in
     let v = c.args.value.now in
     let denied = c.args.gate.now in
-    let stands = standing c.self.inside.doc c.self.inside.typing old c.self.view_is c.self.invariant c.valid.ensures in
+    let stands = standing c.self.inside.doc c.self.inside.typing old (ap (λ (e : EditorValue). e.editing) c.self.view_is) c.self.invariant c.valid.ensures in
     let is : is_denied denied name ≡ true = ap (is_denied denied) (sym c.as_bytes.ensures.value) ∙ (sym c.denies.ensures ∙ c.if-denies.true) in
     record {
       denied = λ _. (refl, refl);
@@ -19,11 +20,12 @@ returns-then-denies g c =
       marks = marks_kept old old name v stands (inl refl);
       islands = islands_kept old old name v stands (inl refl);
       characters = characters_kept old old name v stands (inl refl);
+      needed = c.kept_nodes.ensures;
     }
 
 pub returns : goal.returns
 returns g c =
-    let old = c.args.self.now in
+    let old = c.args.self.now.editing in
     let name = c.args.name.now in
     let denied = c.args.gate.now in
     let is : is_denied denied name ≡ false = ap (is_denied denied) (sym c.as_bytes.ensures.value) ∙ (sym c.denies.ensures ∙ c.if-denies.false) in
@@ -34,4 +36,5 @@ returns g c =
       marks = c.exec.ensures.marks;
       islands = c.exec.ensures.islands;
       characters = c.exec.ensures.characters;
+      needed = c.exec.ensures.needed;
     }

@@ -1,7 +1,7 @@
-use Rattle.std.proofs.Common.{◌≡◌, true, false, sym, ◌∙◌, subst, Ok, Err, Option, inr}
+use Rattle.std.proofs.Common.{◌≡◌, true, false, sym, ap, ◌∙◌, subst, Ok, Err, Option, inr}
 use Rattle.undo_log.specs.declared.log.Committed.{Committed}
 use Rattle.edit_engine.specs.Commands.{row_of, action_of}
-use Rattle.edit_engine.specs.Editing.{Editing}
+use Rattle.edit_engine.specs.Editing.{Editing, EditorValue}
 use Rattle.edit_engine.specs.Execution.{Acted, Tells, run_outcome}
 use Rattle.edit_engine.specs.Running.{IsRefused, Ran}
 use Rattle.edit_engine.specs.declared.answers.ExecFault.{ExecFault}
@@ -33,7 +33,7 @@ returns-in-Ok-Some c =
     let m = action_of c.args.command c.args.value.now in
     let after = c.types_on-self-inside.result in
     let t = taken w new typing c.args.command m c.joins-joining.result after c.in-Ok-Some.field-0 c.in-Ok-Some.committed c.joins-joining.ensures c.in-Ok-Some.field-0-is c.in-Ok-Some.ensures c.types_on-self-inside.ensures in
-    subst (λ (e : Editing). run_outcome e c.args.command m ≡ Acted true (shown new after)) c.self.view_is (made_outcome w new typing c.args.command m after t.made t.on)
+    subst (λ (e : Editing). run_outcome e c.args.command m ≡ Acted true (shown new after)) (ap (λ (v : EditorValue). v.editing) c.self.view_is) (made_outcome w new typing c.args.command m after t.made t.on)
 
 pub returns-in-Ok-None : goal.returns-in-Ok-None
 returns-in-Ok-None c =
@@ -43,7 +43,8 @@ returns-in-Ok-None c =
     let m = action_of c.args.command c.args.value.now in
     let is : IsRefused w new (row_of c.args.command).keeping m = subst (λ (o : Option Committed). Ran (Ok o) w new c.joins-joining.result (row_of c.args.command).keeping m) c.in-Ok-None.field-0-is c.in-Ok-None.ensures in
     let r = refused_tells w new typing c.args.command m is in
-    (inr (subst (λ (e : Editing). run_outcome e c.args.command m ≡ Acted false (shown new typing)) c.self.view_is r.0), r.1 ∙ c.self.view_is)
+    let is_old = ap (λ (v : EditorValue). v.editing) c.self.view_is in
+    (inr (subst (λ (e : Editing). run_outcome e c.args.command m ≡ Acted false (shown new typing)) is_old r.0), r.1 ∙ is_old)
 
 pub returns-in-Err : goal.returns-in-Err
 returns-in-Err c =
@@ -53,5 +54,5 @@ returns-in-Err c =
     let m = action_of c.args.command c.args.value.now in
     let back = c.in-Err.ensures in
     let r = failed_tells w new typing c.args.command m c.in-Err.fault back.0 back.1 in
-    subst (λ (e : Editing). Tells (Err c.from.result) e (shown new typing) (run_outcome e c.args.command m)) c.self.view_is
+    subst (λ (e : Editing). Tells (Err c.from.result) e (shown new typing) (run_outcome e c.args.command m)) (ap (λ (v : EditorValue). v.editing) c.self.view_is)
     (subst (λ (x : ExecFault). Tells (Err x) (shown w typing) (shown new typing) (run_outcome (shown w typing) c.args.command m)) (sym c.from.ensures) r)

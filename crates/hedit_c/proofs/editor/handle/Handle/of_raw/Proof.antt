@@ -45,4 +45,4 @@ of_raw_spec 𝓤 𝓛 𝓜 𝓡 wired =
     sets ! (of_opd ! (get ! refl)) refl (tt, tt) $ sets ! (agg ! (and_then ! (get ! refl) (and_then ! (get ! refl) (no_more !)))) refl typed $
     open_in ! b o h v.alloc v.value $ use0 𝓛 (raw (fact 𝓤 Told)) (fact_i 𝓤 Told (emp 𝓤) refl) $ nothing ! $ nothing ! $ fjoin ! $
     returns ! (look_at ! 0 refl) $ free_all ! refl $ keep ! (4 ∷ 0 ∷ 2 ∷ 1 ∷ []) $
-    by ! (leaves 𝓛 ended hs c z w (record { state = block_ptr b o; alloc = v.alloc; editing = Some v.value }) (tt, tt) (tt, tt)))))
+    by ! (leaves 𝓛 ended hs c z w (record { state = block_ptr b o; alloc = v.alloc; value = Some v.value }) (tt, tt) (tt, tt)))))
