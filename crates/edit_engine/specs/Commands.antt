@@ -28,7 +28,8 @@ use Rattle.text_insertion.specs.Typing.{insert_text}
 -- ---- one row a command
 
 abbrev pub facts : (keeping needs_host recording : Bool) → Row
-facts keeping needs_host recording = record { keeping = keeping; needs_host = needs_host; recording = recording }
+facts keeping needs_host recording =
+    record { keeping = keeping; needs_host = needs_host; recording = recording }
 
 abbrev pub row_of : Command → Row
 row_of command.Bold = facts true true false
@@ -81,7 +82,8 @@ flags_taken flags = set_flags flags >> answer true
 unfoldable pub set_css_styling : Bool → Run Bool
 set_css_styling on = look λ s. flags_taken (record s.flags { css_styling = on })
 
--- defaultParagraphSeparator, step 1: the default single-line container is p or div; any other value is refused
+-- defaultParagraphSeparator, step 1: the default single-line container is p or div; any other value
+-- is refused
 abbrev pub separator_set : Flags → List ℕ → Option Flags
 separator_set flags value =
     if is_value value (codes "p") then Some (record flags { paragraphs = true })
@@ -127,7 +129,8 @@ own_action command.InsertLineBreak value = insert_line_break
 own_action command.InsertHorizontalRule value = insert_horizontal_rule
 own_action command.InsertImage value = insert_image value
 
--- the action as it is taken, with the overrides recorded before and restored after it where the command does so
+-- the action as it is taken, with the overrides recorded before and restored after it where the
+-- command does so
 abbrev pub action_of : Command → List ℕ → Run Bool
 action_of c value = framed (row_of c).recording (own_action c value)
 

@@ -15,15 +15,19 @@ use Rattle.edit_laws.specs.Order.{KeepsLeaves}
 use Rattle.edit_engine.specs.Commands.{row_of}
 use Rattle.edit_engine.specs.Editing.{Editing}
 
--- the document without the children of the affected host is as before; without an affected host all of it is
+-- the document without the children of the affected host is as before; without an affected host all
+-- of it is
 abbrev pub KeepsOutside : Editing → Editing → Type 0
 KeepsOutside old new =
-    outside_by (affected_host old.state) new.state.trees ≡ outside_by (affected_host old.state) old.state.trees
+    outside_by (affected_host old.state) new.state.trees
+    ≡ outside_by (affected_host old.state) old.state.trees
 
--- the marks keep their names and their order, and one whose points both stand apart from the host its place
+-- the marks keep their names and their order, and one whose points both stand apart from the host
+-- its place
 abbrev pub KeepsMarks : Editing → Editing → Type 0
 KeepsMarks old new =
-    AllZip (KeepsMark (affected_host old.state) old.state.trees) old.state.points.marks new.state.points.marks
+    AllZip (KeepsMark (affected_host old.state) old.state.trees) old.state.points.marks
+    new.state.points.marks
 
 -- the last entry is now one more, with the edits of the state in which a command ended
 pub record HasEntry (old new : Editing) (ended : State) : Type 0 where
@@ -58,5 +62,6 @@ KeepsIslands old new =
 -- characters, images and rules in the same order, and at most blanks may be missing
 abbrev pub KeepsCharacters : List ℕ → Editing → Editing → Type 0
 KeepsCharacters name old new =
-    (c : Command) (h : ℕ) → command_named name ≡ Some c → (row_of c).keeping ≡ true → affected_host old.state ≡ Some h
+    (c : Command) (h : ℕ) → command_named name ≡ Some c → (row_of c).keeping ≡ true
+    → affected_host old.state ≡ Some h
     → KeepsLeaves (below old.state.trees h) (below new.state.trees h)

@@ -1,4 +1,5 @@
--- An editor: the state of its document, the history that undo goes through, and whether it is typing.
+-- An editor: the state of its document, the history that undo goes through, and whether it is
+-- typing.
 use Rattle.std.specs.Prelude.{◌≡◌, ℕ, ◌<◌, Bool, true, false, List, [], ◌∷◌, length, zero, suc, Option, None, refl}
 use Rattle.std.specs.Coded.{Coded, code_by, coded×, coded_ℕ, coded_bool, coded_list, coded_option}
 use Rattle.dom_model.specs.ArenaState.{ArenaState as Arena}
@@ -15,7 +16,8 @@ pub record Editing : Type 0 where
 abbrev pub editing_code : Coded Editing
 editing_code =
     code_by (State × (History × Bool)) (coded× state_code (coded× history_code coded_bool))
-    (λ e. (e.state, (e.history, e.typing))) (λ c. record { state = c.0; history = c.1.0; typing = c.1.1 }) (λ _. refl)
+    (λ e. (e.state, (e.history, e.typing))) (λ c.
+    record { state = c.0; history = c.1.0; typing = c.1.1 }) (λ _. refl)
 
 -- what a contract sees of an editor: with the label of the node in each slot
 pub record EditorValue : Type 0 where
@@ -35,7 +37,12 @@ value_of d typing = record {
 
 -- the document, in which no command is running
 abbrev pub document : EditorValue → Whole
-document v = record { state = v.editing.state; history = v.editing.history; began = None; held = v.held }
+document v = record {
+  state = v.editing.state;
+  history = v.editing.history;
+  began = None;
+  held = v.held;
+}
 
 -- the editor of a page's nodes, without selection, marks, overrides and history
 abbrev pub new_editing : Arena → ℕ → Editing
@@ -61,7 +68,8 @@ pub record IsResting (doc : Whole) (typing : Bool) : Type 0 where
   pub closed : IsClosed doc
   pub joinable : typing ≡ true → IsJoinable doc.history
 
--- ---- through the history; nothing changes where no entry lies that way, and one that is taken ends the typing
+-- ---- through the history; nothing changes where no entry lies that way, and one that is taken
+-- ends the typing
 
 abbrev pub typing_past : List Entry → Bool → Bool
 typing_past [] typing = typing
@@ -82,6 +90,6 @@ redone e = record {
 }
 
 -- so many times
-unfoldable pub turned : ℕ → (Editing → Editing) → Editing → Editing
-turned zero turn e = e
-turned (suc n) turn e = turned n turn (turn e)
+unfoldable pub turned_times : ℕ → (Editing → Editing) → Editing → Editing
+turned_times zero turn e = e
+turned_times (suc n) turn e = turned_times n turn (turn e)

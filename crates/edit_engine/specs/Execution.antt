@@ -46,11 +46,13 @@ answered s keeping m = value m (began s keeping)
 abbrev pub joins : Editing → Command → Bool
 joins e c = e.typing && types_text c
 
--- an insertText with an edit begins the typing, and one without leaves it as it is; any other command ends it
+-- an insertText with an edit begins the typing, and one without leaves it as it is; any other
+-- command ends it
 abbrev pub typing_after : Editing → Command → State → Bool
 typing_after e c t = types_text c && (e.typing || nat_lt 0 (length t.edits))
 
--- the editor after a run of a command: with an edit the history has an entry for it, or its last one is longer
+-- the editor after a run of a command: with an edit the history has an entry for it, or its last
+-- one is longer
 abbrev pub after_run : Editing → Command → State → Editing
 after_run e c t = record {
   state = rested t;
@@ -72,7 +74,8 @@ run_outcome e c m =
 unfoldable pub command_outcome : Editing → List ℕ → Command → Outcome
 command_outcome e v c =
     if not (is_enabled e.state c) then Refused
-    else (if nat_lt depth_limit (page_depth e.state.trees) then Deep else run_outcome e c (action_of c v))
+    else (if nat_lt depth_limit (page_depth e.state.trees) then Deep
+    else run_outcome e c (action_of c v))
 
 -- execute a command, step 1, and then from 2 on
 unfoldable pub outcome : Editing → List ℕ → List ℕ → Outcome

@@ -1,4 +1,5 @@
--- The log of an editor: the entries that undo would take, from the first to the last, as lines of steps.
+-- The log of an editor: the entries that undo would take, from the first to the last, as lines of
+-- steps.
 use Rattle.std.specs.Prelude.{ℕ, List, [], ◌∷◌, ◌++◌, map, reverse, codes}
 use Rattle.std.specs.List.{flat_map}
 use Rattle.dom_model.specs.declared.Content.{Content}
@@ -16,7 +17,8 @@ use Rattle.step_text.specs.declared.line.StepLine.TheVariants as steps
 -- a node that was made: no command makes a Document or a comment, and no step could
 abbrev pub content_steps : ℕ → Content → List StepLine
 content_steps label content.Document = []
-content_steps label (content.Element name attributes) = steps.Make label (made.Element name attributes) ∷ []
+content_steps label (content.Element name attributes) =
+    steps.Make label (made.Element name attributes) ∷ []
 content_steps label (content.Words words) = steps.Make label (made.Words words) ∷ []
 content_steps label (content.Remark words) = []
 

@@ -13,7 +13,8 @@ use Rattle.edit_model.specs.Action.{Select, Unselect, acted}
 use Rattle.edit_engine.specs.Editing.{Editing, stopped_at}
 
 abbrev pub point_in : Forest Content → ℕ → ℕ → Option Point
-point_in f offset l = if nat_le offset (length_of f l) then Some (record { label = l; offset = offset }) else None
+point_in f offset l =
+    if nat_le offset (length_of f l) then Some (record { label = l; offset = offset }) else None
 
 -- the point at a place; none where the path names no node, or the offset is past the node's length
 unfoldable pub point_at : Forest Content → Place → Option Point

@@ -25,7 +25,8 @@ path_or_none f (Some l) = node_text f l
 
 -- editable or not, and the host with which the node is editable
 abbrev pub host_words : Forest Content → Option ℕ → List ℕ
-host_words f host = tested (codes "editable") (is_some host) ++ codes " host " ++ path_or_none f host
+host_words f host =
+    tested (codes "editable") (is_some host) ++ codes " host " ++ path_or_none f host
 
 unfoldable pub text_words : Forest Content → ℕ → List ℕ
 text_words f l =
@@ -35,15 +36,19 @@ text_words f l =
 
 unfoldable pub break_words : Forest Content → ℕ → List ℕ
 break_words f l =
-    tested (codes " extraneous") (is_extraneous_break f l) ++ tested (codes " collapsed-break") (is_collapsed_break f l)
+    tested (codes " extraneous") (is_extraneous_break f l)
+    ++ tested (codes " collapsed-break") (is_collapsed_break f l)
     ++ tested (codes " prop") (is_block_prop f l)
 
 -- the resolved value of an element's property; other nodes have none
 unfoldable pub style_text : Forest Content → ℕ → Property → List ℕ
-style_text f l property = if is_element_at f l then encode_utf8_all (resolved f l property) else codes "-"
+style_text f l property =
+    if is_element_at f l then encode_utf8_all (resolved f l property) else codes "-"
 
 unfoldable pub style_words : Forest Content → ℕ → List ℕ
-style_words f l = codes " display " ++ style_text f l Display ++ codes " white-space " ++ style_text f l WhiteSpace
+style_words f l = codes " display " ++ style_text f l Display ++ codes " white-space "
+    ++ style_text f l WhiteSpace
 
 unfoldable pub probe_line : Forest Content → ℕ → List ℕ
-probe_line f l = host_words f (editing_host f l) ++ text_words f l ++ break_words f l ++ style_words f l ++ codes "\n"
+probe_line f l = host_words f (editing_host f l) ++ text_words f l ++ break_words f l
+    ++ style_words f l ++ codes "\n"

@@ -1,5 +1,5 @@
--- The questions that can be asked of a command (HTML Editing APIs, "queryCommandState()" and the like): when the
--- command itself is asked.
+-- The questions that can be asked of a command (HTML Editing APIs, "queryCommandState()" and the
+-- like): when the command itself is asked.
 use Rattle.std.specs.Prelude.{ℕ, true, List, if◌then◌else◌}
 use Rattle.std.specs.Option.{option_map_or}
 use Rattle.html_names.specs.Commands.{command_named}
@@ -16,7 +16,8 @@ use Rattle.edit_actions.specs.ActiveRange.{affected_host}
 
 -- a command that isn't enabled isn't asked
 unfoldable pub asked_if_enabled : State → QueryKind → Command → Reply
-asked_if_enabled s kind c = if is_enabled s c then query_in s (affected_host s) kind c else no_reply kind
+asked_if_enabled s kind c =
+    if is_enabled s c then query_in s (affected_host s) kind c else no_reply kind
 
 abbrev pub reply_for : State → QueryKind → Command → Reply
 reply_for s Supported c = reply.Flag true

@@ -24,7 +24,8 @@ can_be_made (Element name attributes) = true
 can_be_made (Words chars) = true
 can_be_made (Remark chars) = false
 
--- a change of characters is one of a text, and of no comment, where each node has the content that is told
+-- a change of characters is one of a text, and of no comment, where each node has the content that
+-- is told
 abbrev pub ChangesText : (ℕ → Option Content) → Change → Type 0
 ChangesText content (SetText n words) = option_map_or is_text (content n) false ≡ true
 ChangesText content _ = Unit {0}
@@ -60,10 +61,12 @@ pub record WasNext (page : Forest Content) (es : List Entry) (next : ℕ) : Type
 -- the log replayed on the page is refused nowhere, and gives the document of the editor
 pub record Replays (e : Editing) (next cap : ℕ) : Type 0 where
   pub result : Labelled
-  pub ok : replayed (log_steps e.history) (record { trees = page_of e; next = next; cap = cap }) ≡ Ok result
+  pub ok : replayed (log_steps e.history) (record { trees = page_of e; next = next; cap = cap })
+      ≡ Ok result
   pub document : document_of result.trees ≡ e.state.trees
 
 -- wherever the cap is one that the editor's labels stay below, and its entries can be replayed
 abbrev pub LogReplays : Editing → Type 0
-LogReplays e = (next cap : ℕ) → WasNext (page_of e) e.history.undo next → next ≤ cap → e.state.next ≤ cap
+LogReplays e =
+    (next cap : ℕ) → WasNext (page_of e) e.history.undo next → next ≤ cap → e.state.next ≤ cap
     → Each IsPlainEntry e.history.undo → Replays e next cap

@@ -10,7 +10,8 @@ use Rattle.edit_model.specs.Gives.{Fails}
 use Rattle.edit_doc.specs.Whole.{Whole}
 use Rattle.edit_engine.specs.Execution.{ran, answered}
 
--- the run is made, within the cap, and answers true; it has an entry of its own, or joins the last one
+-- the run is made, within the cap, and answers true; it has an entry of its own, or joins the last
+-- one
 pub record IsMade (old new : Whole) (joining keeping : Bool) (m : Run Bool) : Type 0 where
   pub state : new.state ≡ rested (ran old.state keeping m)
   pub history : new.history ≡ recorded joining old.state (ran old.state keeping m) old.history
@@ -39,7 +40,10 @@ abbrev pub TellsEdits : Committed → State → Type 0
 TellsEdits c t = has_entry c ≡ nat_lt 0 (length t.edits)
 
 -- what a call leaves that makes a run as one command, whatever the run
-abbrev pub Ran : Result (Option Committed) EditFault → Whole → Whole → (joining keeping : Bool) → Run Bool → Type 0
-Ran (Ok (Some c)) old new joining keeping m = IsMade old new joining keeping m × TellsEdits c (ran old.state keeping m)
+abbrev pub Ran : Result (Option Committed) EditFault → Whole → Whole → (joining keeping : Bool)
+    → Run Bool → Type 0
+Ran (Ok (Some c)) old new joining keeping m =
+    IsMade old new joining keeping m × TellsEdits c (ran old.state keeping m)
 Ran (Ok None) old new joining keeping m = IsRefused old new keeping m
-Ran (Err fault) old new joining keeping m = IsTakenBack old new × Fails fault (ran old.state keeping m)
+Ran (Err fault) old new joining keeping m =
+    IsTakenBack old new × Fails fault (ran old.state keeping m)

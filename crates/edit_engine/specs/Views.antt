@@ -16,12 +16,14 @@ use Rattle.edit_engine.specs.Probe.{probe_line}
 -- how many nodes and characters the document has, and the next label
 abbrev pub document_numbers : (nodes chars next : ℕ) → List ℕ
 document_numbers nodes chars next =
-    codes "nodes " ++ decimal nodes ++ codes " chars " ++ decimal chars ++ codes " next " ++ decimal next
+    codes "nodes " ++ decimal nodes ++ codes " chars " ++ decimal chars ++ codes " next "
+    ++ decimal next
 
 -- the edits of the entry that undo would take, and how many entries undo and redo would take
 abbrev pub history_numbers : (edits undo redo : ℕ) → List ℕ
 history_numbers edits undo redo =
-    codes " edits " ++ decimal edits ++ codes " undo " ++ decimal undo ++ codes " redo " ++ decimal redo ++ codes "\n"
+    codes " edits " ++ decimal edits ++ codes " undo " ++ decimal undo ++ codes " redo "
+    ++ decimal redo ++ codes "\n"
 
 unfoldable pub stat_line : Editing → List ℕ
 stat_line e =

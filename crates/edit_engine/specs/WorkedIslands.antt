@@ -11,7 +11,8 @@ use Rattle.edit_actions.specs.ActiveRange.{host_of_pair}
 -- <div contenteditable=""><p>a<span contenteditable="false">i</span></p></div>
 abbrev pub locked_span : Forest Content
 locked_span =
-    Tree 4 (Element (codes "span") (record { name = codes "contenteditable"; value = codes "false" } ∷ []))
+    Tree 4 (Element (codes "span") (record { name = codes "contenteditable"; value = codes "false" }
+    ∷ []))
     (Tree 5 (Words (codes "i")) Nil Nil) Nil
 
 abbrev pub locked_page : Forest Content
@@ -22,8 +23,10 @@ locked_page =
 
 -- a caret in the first text
 abbrev pub first_caret : Pair
-first_caret = record { anchor = record { label = 3; offset = 0 }; focus = record { label = 3; offset = 0 } }
+first_caret =
+    record { anchor = record { label = 3; offset = 0 }; focus = record { label = 3; offset = 0 } }
 
 -- the host of the caret is the div, and the span is an island of it
 abbrev pub LockedSpanIsIsland : Type 0
-LockedSpanIsIsland = (host_of_pair locked_page first_caret ≡ Some 1) × (is_island locked_page 1 4 ≡ true)
+LockedSpanIsIsland =
+    (host_of_pair locked_page first_caret ≡ Some 1) × (is_island locked_page 1 4 ≡ true)

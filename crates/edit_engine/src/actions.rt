@@ -143,7 +143,8 @@ fn recorded_act(
     value: &[char],
 ) -> Result<bool, EditFault>
     requires open { IsOpen doc.old }
-    ensures gives { Gives result doc.old.state doc.new.state (recorded_action (own_action command value.now)) }
+    ensures gives { Gives result doc.old.state doc.new.state
+        (recorded_action (own_action command value.now)) }
     ensures keeps { Keeps doc.old doc.new }
 {
     let list = record_overrides(alloc, doc)?;
@@ -176,7 +177,8 @@ pub(crate) fn joins(typing: bool, command: Command) -> bool
     typing && types_text(command)
 }
 
-/// Whether the editor is typing after the command: an insertText begins it by an edit, and goes on without one.
+/// Whether the editor is typing after the command: an insertText begins it by an edit, and goes on
+/// without one.
 pub(crate) fn types_on(typing: bool, command: Command, committed: Committed) -> bool
     ensures { result ≡ (types_text command && (typing || has_entry committed)) }
 {
@@ -187,7 +189,8 @@ pub(crate) fn types_on(typing: bool, command: Command, committed: Committed) -> 
 fn open(doc: &mut Doc, joining: bool, keeping: bool) -> Result<(), AllocError>
     requires closed { IsClosed doc.old }
     requires joinable { joining ≡ true → IsJoinable doc.old.history × (keeping ≡ false) }
-    ensures opened { IfOk result (λ _. doc.new ≡ opened (affected_host doc.old.state) keeping joining doc.old) }
+    ensures opened { IfOk result (λ _. doc.new
+        ≡ opened (affected_host doc.old.state) keeping joining doc.old) }
     ensures err { OnErr result (doc.new ≡ doc.old) }
 {
     let host = affected_host(doc);
@@ -208,8 +211,10 @@ pub(crate) fn run_command(
     value: &[char],
 ) -> Result<Option<Committed>, EditFault>
     requires closed { IsClosed doc.old }
-    requires joinable { joining ≡ true → IsJoinable doc.old.history × ((row_of command).keeping ≡ false) }
-    ensures { Ran result doc.old doc.new joining (row_of command).keeping (action_of command value.now) }
+    requires joinable { joining ≡ true → IsJoinable doc.old.history
+        × ((row_of command).keeping ≡ false) }
+    ensures { Ran result doc.old doc.new joining (row_of command).keeping
+        (action_of command value.now) }
 {
     open(doc, joining, row_of(command).keeping)?;
     match take_action(alloc, doc, command, value) {

@@ -14,7 +14,8 @@ pub(crate) struct Row {
     pub(crate) keeping: bool,
     /// Whether it is enabled only where there is an affected editing host.
     pub(crate) needs_host: bool,
-    /// Whether it records the overrides before its action, and restores them where the range is collapsed after it.
+    /// Whether it records the overrides before its action, and restores them where the range is
+    /// collapsed after it.
     pub(crate) recording: bool,
 }
 

@@ -79,7 +79,8 @@ impl Editor {
         self.doc.kept_nodes();
     }
 
-    /// Executes the command that a name names, in any case. It is taken whole, or the editor is as before.
+    /// Executes the command that a name names, in any case. It is taken whole, or the editor is as
+    /// before.
     pub fn exec(&mut self, alloc: Global, name: &str, value: &[char]) -> Result<Answer, ExecFault>
         ensures tells { Tells result self.old.editing self.new.editing
             (outcome self.old.editing name.now value.now) }
@@ -112,7 +113,8 @@ impl Editor {
         name: &str,
         value: &[char],
     ) -> Result<Answer, ExecFault>
-        ensures denied { is_denied gate.now name.now ≡ true → (result ≡ Ok Answer.No) × (self.new ≡ self.old) }
+        ensures denied { is_denied gate.now name.now ≡ true → (result ≡ Ok Answer.No)
+            × (self.new ≡ self.old) }
         ensures tells { Tells result self.old.editing self.new.editing
             (gated_outcome gate.now self.old.editing name.now value.now) }
         ensures confined { KeepsOutside self.old.editing self.new.editing }
@@ -196,7 +198,8 @@ impl Editor {
         self.typing = false;
     }
 
-    /// Gives a name to a pair of points. A mark of that name keeps its place, and a new one goes last.
+    /// Gives a name to a pair of points. A mark of that name keeps its place, and a new one goes
+    /// last.
     pub fn mark(&mut self, name: &Name, anchor: &Place, focus: &Place) -> Result<(), PlaceFault>
         ensures bad_place { (result ≡ Err PlaceFault.BadPlace) ↔
             (pair_at self.old.editing.state.trees anchor.now focus.now ≡ None) }
@@ -254,7 +257,8 @@ impl Editor {
         taken
     }
 
-    /// What is printed of the editor, in whole lines. A path that names no node is refused before any memory is taken.
+    /// What is printed of the editor, in whole lines. A path that names no node is refused before
+    /// any memory is taken.
     #[tactic(auto, unfolding(crate::specs::Views::stat_line))]
     pub fn view(&self, alloc: Global, kind: &ViewKind) -> Result<Vec<u8>, ViewFault>
         ensures text { IfOk result (λ text. view_text self.now.editing kind.now ≡ Some text.items) }

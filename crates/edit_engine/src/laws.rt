@@ -4,7 +4,8 @@ ghost use Rattle.edit_engine.specs.PlainRuns.{RunsArePlain};
 ghost use Rattle.edit_engine.specs.Refusals.{RefusalsLeave};
 ghost use Rattle.edit_engine.specs.WorkedIslands.{LockedSpanIsIsland};
 
-/// A command's action that answers false leaves the state as it was, so that taking the command back loses nothing.
+/// A command's action that answers false leaves the state as it was, so that taking the command
+/// back loses nothing.
 pub fn refusals_leave_the_state()
     ensures { RefusalsLeave }
 {}

@@ -1,8 +1,9 @@
 //! An editor of a document: commands, questions about them, the selection and marks, undo and redo,
 //! and what is printed.
 //!
-//! A command (HTML Editing APIs, "execCommand()") is taken whole or not at all. Contracts see an editor as the state of
-//! its document, the history of views that undo and redo go through, and the nodes that are held.
+//! A command (HTML Editing APIs, "execCommand()") is taken whole or not at all. Contracts see an
+//! editor as the state of its document, the history of views that undo and redo go through, and the
+//! nodes that are held.
 #![tactic(auto)]
 
 mod actions;

@@ -67,7 +67,8 @@ fn step_of(edit: LoggedEdit) -> StepLine
 }
 
 fn push_all_made(bytes: &mut Vec<u8>, nodes: Vec<MadeNode>) -> Result<(), AllocError>
-    ensures { OnOk result (bytes.new.items ≡ bytes.old.items ++ step_lines (flat_map made_steps nodes.items)) }
+    ensures { OnOk result (bytes.new.items ≡ bytes.old.items
+        ++ step_lines (flat_map made_steps nodes.items)) }
 {
     for node in nodes {
         push_made(bytes, node)?;
@@ -76,7 +77,8 @@ fn push_all_made(bytes: &mut Vec<u8>, nodes: Vec<MadeNode>) -> Result<(), AllocE
 }
 
 fn push_edits(bytes: &mut Vec<u8>, edits: Vec<LoggedEdit>) -> Result<(), AllocError>
-    ensures { OnOk result (bytes.new.items ≡ bytes.old.items ++ step_lines (map edit_step edits.items)) }
+    ensures { OnOk result (bytes.new.items ≡ bytes.old.items
+        ++ step_lines (map edit_step edits.items)) }
 {
     for edit in edits {
         push_line(bytes, &step_of(edit))?;

@@ -36,7 +36,8 @@ fn push_node(
 ) -> Result<(), AllocError>
     requires closed { IsClosed doc.now }
     requires held { IfHeld doc.now node }
-    ensures ok { OnOk result (bytes.new.items ≡ bytes.old.items ++ path_or_none doc.now.state.trees (label node)) }
+    ensures ok { OnOk result (bytes.new.items ≡ bytes.old.items
+        ++ path_or_none doc.now.state.trees (label node)) }
 {
     match node {
         None => bytes.extend_from_slice(b"none"),
@@ -57,7 +58,8 @@ fn push_host(
 ) -> Result<(), AllocError>
     requires closed { IsClosed doc.now }
     requires held { IfHeld doc.now host }
-    ensures ok { OnOk result (bytes.new.items ≡ bytes.old.items ++ host_words doc.now.state.trees (label host)) }
+    ensures ok { OnOk result (bytes.new.items ≡ bytes.old.items
+        ++ host_words doc.now.state.trees (label host)) }
 {
     push_test(bytes, b"editable", host.is_some())?;
     bytes.extend_from_slice(b" host ")?;
@@ -67,7 +69,8 @@ fn push_host(
 #[tactic(auto, unfolding(crate::specs::Probe::text_words))]
 fn push_text_tests(bytes: &mut Vec<u8>, doc: &Doc, node: NodeRef) -> Result<(), AllocError>
     requires { Holds doc.now node }
-    ensures ok { OnOk result (bytes.new.items ≡ bytes.old.items ++ text_words doc.now.state.trees node.label) }
+    ensures ok { OnOk result (bytes.new.items ≡ bytes.old.items
+        ++ text_words doc.now.state.trees node.label) }
 {
     push_test(bytes, b" block", is_block(doc, node))?;
     push_test(bytes, b" visible", is_visible(doc, node))?;
@@ -83,7 +86,8 @@ fn push_text_tests(bytes: &mut Vec<u8>, doc: &Doc, node: NodeRef) -> Result<(), 
 #[tactic(auto, unfolding(crate::specs::Probe::break_words))]
 fn push_break_tests(bytes: &mut Vec<u8>, doc: &Doc, node: NodeRef) -> Result<(), AllocError>
     requires { Holds doc.now node }
-    ensures ok { OnOk result (bytes.new.items ≡ bytes.old.items ++ break_words doc.now.state.trees node.label) }
+    ensures ok { OnOk result (bytes.new.items ≡ bytes.old.items
+        ++ break_words doc.now.state.trees node.label) }
 {
     push_test(bytes, b" extraneous", is_extraneous_break(doc, node))?;
     push_test(bytes, b" collapsed-break", is_collapsed_break(doc, node))?;
@@ -100,7 +104,8 @@ fn push_style(
     property: Property,
 ) -> Result<(), AllocError>
     requires { Holds doc.now node }
-    ensures ok { OnOk result (bytes.new.items ≡ bytes.old.items ++ style_text doc.now.state.trees node.label property) }
+    ensures ok { OnOk result (bytes.new.items ≡ bytes.old.items
+        ++ style_text doc.now.state.trees node.label property) }
 {
     if !is_element(doc, node) {
         return bytes.extend_from_slice(b"-");
@@ -117,7 +122,8 @@ fn push_styles(
     node: NodeRef,
 ) -> Result<(), AllocError>
     requires { Holds doc.now node }
-    ensures ok { OnOk result (bytes.new.items ≡ bytes.old.items ++ style_words doc.now.state.trees node.label) }
+    ensures ok { OnOk result (bytes.new.items ≡ bytes.old.items
+        ++ style_words doc.now.state.trees node.label) }
 {
     bytes.extend_from_slice(b" display ")?;
     push_style(alloc, bytes, doc, node, Property::Display)?;

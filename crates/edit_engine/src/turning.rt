@@ -35,7 +35,8 @@ impl Editor {
         }
     }
 
-    /// Undoes or redoes an entry, as `undo` and `redo` do. Nothing is counted as it runs. False where there is none.
+    /// Undoes or redoes an entry, as `undo` and `redo` do. Nothing is counted as it runs. False
+    /// where there is none.
     pub fn turn(&mut self, turn: Turn) -> bool
         ensures answer { IsTrue result ↔ (0 < length (entries_of turn self.old.editing.history)) }
         ensures turned { self.new.editing ≡ turned_by turn self.old.editing }

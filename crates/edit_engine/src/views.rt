@@ -37,7 +37,8 @@ pub(crate) fn tree_lines(alloc: Global, doc: &Doc) -> Result<Vec<u8>, AllocError
 
 pub(crate) fn points_lines(alloc: Global, doc: &Doc) -> Result<Vec<u8>, AllocError>
     requires { IsClosed doc.now }
-    ensures { IfOk result (λ text. text.items ≡ point_lines doc.now.state.trees doc.now.state.points) }
+    ensures { IfOk result (λ text. text.items
+        ≡ point_lines doc.now.state.trees doc.now.state.points) }
 {
     doc.valid();
     let arena = doc.arena();
@@ -66,7 +67,8 @@ fn history_numbers(
 pub(crate) fn stat_line(alloc: Global, doc: &Doc) -> Result<Vec<u8>, AllocError>
     requires { IsClosed doc.now }
     ensures { IfOk result (λ text. text.items ≡
-        document_numbers (node_count doc.now.state.trees) (char_count doc.now.state.trees) doc.now.state.next
+        document_numbers (node_count doc.now.state.trees) (char_count doc.now.state.trees)
+        doc.now.state.next
         ++ history_numbers (first_edits doc.now.history.undo)
         (length doc.now.history.undo) (length doc.now.history.redo)) }
 {

@@ -4,17 +4,17 @@ use Rattle.std.specs.Prelude.{min, IsTrue, ◌↔◌}
 use Rattle.edit_model.specs.History.{Entry, undone_state, undone_history, redone_state, redone_history}
 use Rattle.edit_engine.specs.declared.turning.Turn.{Turn}
 use Rattle.edit_engine.specs.declared.turning.Turn.TheVariants.{Undo, Redo}
-use Rattle.edit_engine.specs.Editing.{Editing, undone, redone, turned}
+use Rattle.edit_engine.specs.Editing.{Editing, undone, redone, turned_times}
 use Rattle.edit_engine.specs.Turning.{entries_of, turned_by}
 
 -- one turn more
-pub turn_more : (n m : ℕ) (turn : Editing → Editing) (e : Editing) → n ≡ suc m → turned n turn e ≡ turned m turn (turn e)
-unfolding turned
-turn_more n m turn e is = ap (λ k. turned k turn e) is
+pub turn_more : (n m : ℕ) (turn : Editing → Editing) (e : Editing) → n ≡ suc m → turned_times n turn e ≡ turned_times m turn (turn e)
+unfolding turned_times
+turn_more n m turn e is = ap (λ k. turned_times k turn e) is
 
-pub turn_none : (n : ℕ) (turn : Editing → Editing) (e : Editing) → n ≡ 0 → turned n turn e ≡ e
-unfolding turned
-turn_none n turn e is = ap (λ k. turned k turn e) is
+pub turn_none : (n : ℕ) (turn : Editing → Editing) (e : Editing) → n ≡ 0 → turned_times n turn e ≡ e
+unfolding turned_times
+turn_none n turn e is = ap (λ k. turned_times k turn e) is
 
 undone_length : (e : Editing) → 0 < length e.history.undo → length e.history.undo ≡ suc (length (undone e).history.undo)
 unfolding undone_history

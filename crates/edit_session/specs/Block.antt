@@ -1,4 +1,5 @@
--- The page block that opens a session: a line `page <<WORD`, the lines of the page, and a line WORD. The acts follow.
+-- The page block that opens a session: a line `page <<WORD`, the lines of the page, and a line
+-- WORD. The acts follow.
 use Rattle.std.specs.Prelude.{◌≡◌, ◌≢◌, ◌++◌, ◌≤◌, All, true, ℕ, Bool, ◌&&◌, nat_lt, nat_le, nat_eq, ◌==◌, List, [], ◌∷◌, length, drop, codes, bytes_eq, Option, Some, None, unwrap_or, if◌then◌else◌}
 use Rattle.std.specs.Char.{is_ascii_alphanumeric}
 use Rattle.edit_session.specs.declared.block.PageBlock.{PageBlock}
@@ -21,9 +22,11 @@ end_of text = unwrap_or (position (λ b. b == 10) text) (length text)
 
 -- 1 to 32 ASCII letters and digits
 abbrev pub is_word : List ℕ → Bool
-is_word word = nat_lt 0 (length word) && (nat_le (length word) 32 && list_all is_ascii_alphanumeric word)
+is_word word =
+    nat_lt 0 (length word) && (nat_le (length word) 32 && list_all is_ascii_alphanumeric word)
 
--- what an input begins with: no opening line, no closing line after it, or a page and the lines of the acts
+-- what an input begins with: no opening line, no closing line after it, or a page and the lines of
+-- the acts
 pub data Block : Type 0 where
   NoOpening : Block
   NoClosing : Block
@@ -39,7 +42,8 @@ abbrev pub NoneIs : List ℕ → List (List ℕ) → Type 0
 NoneIs word lines = All (λ line. line ≢ word) lines
 
 abbrev pub IsBlock : List (List ℕ) → Block → Type 0
-IsBlock lines NoOpening = (line word : List ℕ) (rest : List (List ℕ)) → lines ≡ line ∷ rest → ¬ (IsOpening line word)
+IsBlock lines NoOpening =
+    (line word : List ℕ) (rest : List (List ℕ)) → lines ≡ line ∷ rest → ¬ (IsOpening line word)
 IsBlock lines NoClosing = (line word : List ℕ) × (rest : List (List ℕ)) × (lines ≡ line ∷ rest)
     × IsOpening line word × NoneIs word rest
 IsBlock lines (Whole page acts) =
@@ -52,7 +56,8 @@ IsBlock lines (Whole page acts) =
 -- the word of an opening line
 abbrev pub opening_word : List ℕ → Option (List ℕ)
 opening_word line =
-    if starts_with nat_eq line (codes "page <<") && is_word (drop 7 line) then Some (drop 7 line) else None
+    if starts_with nat_eq line (codes "page <<") && is_word (drop 7 line) then Some (drop 7 line)
+    else None
 
 -- the lines before the first that equals the word, and those after it
 pub record Cut : Type 0 where
@@ -92,7 +97,7 @@ ActsWithin n parted.NoClosing = Unit {0}
 ActsWithin n (parted.Whole page acts) = length acts.now ≤ n
 
 -- what the program's value shows
-abbrev pub shown : PageBlock → Block
-shown parted.NoOpening = NoOpening
-shown parted.NoClosing = NoClosing
-shown (parted.Whole page acts) = Whole page.now (lines_of acts.now)
+abbrev pub shown_block : PageBlock → Block
+shown_block parted.NoOpening = NoOpening
+shown_block parted.NoClosing = NoClosing
+shown_block (parted.Whole page acts) = Whole page.now (lines_of acts.now)

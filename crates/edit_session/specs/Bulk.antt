@@ -1,4 +1,5 @@
--- The session that `bulk` makes from a number: a page of so many paragraphs, and acts on all of them.
+-- The session that `bulk` makes from a number: a page of so many paragraphs, and acts on all of
+-- them.
 use Rattle.std.specs.Prelude.{ℕ, zero, suc, ◌-◌, List, [], ◌++◌, length, codes}
 use Rattle.std.specs.Fmt.{decimal}
 
@@ -17,7 +18,8 @@ bulk_page count = codes "<div contenteditable=\"true\">" ++ paragraphs count ++ 
 
 -- from the start of the first text to the end of the last
 abbrev pub select_text : (last length : ℕ) → List ℕ
-select_text last length = codes "select 0/0/0:0 0/" ++ decimal last ++ codes "/0:" ++ decimal length ++ codes "\n"
+select_text last length =
+    codes "select 0/0/0:0 0/" ++ decimal last ++ codes "/0:" ++ decimal length ++ codes "\n"
 
 abbrev pub select_line : ℕ → List ℕ
 select_line count = select_text (count - 1) (length (item_text count))

@@ -1,5 +1,5 @@
--- The names that `--deny` takes: 1 to 16 different names of 1 to 64 ASCII letters, digits and `-`, with a comma
--- between. Case doesn't matter, and a repeated name counts once.
+-- The names that `--deny` takes: 1 to 16 different names of 1 to 64 ASCII letters, digits and `-`,
+-- with a comma between. Case doesn't matter, and a repeated name counts once.
 use Rattle.std.specs.Prelude.{ℕ, Bool, ◌&&◌, nat_le, List, [], ◌∷◌, length, map, Option, Some, None, if◌then◌else◌}
 use Rattle.std.specs.List.{list_all}
 use Rattle.script_read.specs.Acts.{is_name}

@@ -8,14 +8,15 @@ use Rattle.edit_session.specs.Transcript.{Transcript, refused, word_of, transcri
 use Rattle.edit_session.specs.declared.session.Status.{Status}
 use Rattle.edit_session.specs.declared.session.Status.TheVariants.{Done, Usage, ReadFault, WriteFault, Memory, PageRefused, TooLong, StepRefused}
 
--- The status and what a sink took, where this was to be answered: a prefix of the text, all of it with the status
--- that was to be answered, and any other status for a cause. A sink's count of faults is looked at before and
--- after.
+-- The status and what a sink took, where this was to be answered: a prefix of the text, all of it
+-- with the status that was to be answered, and any other status for a cause. A sink's count of
+-- faults is looked at before and after.
 pub record Follows (want : Transcript) (before after : Option (List ℕ)) (count count_after : ℕ)
     (status : Status) : Type 0 where
   pub written : TakesPrefix before after want.text
   pub whole : status ≡ want.status → after ≡ with_end before want.text
-  pub cause : (status ≡ want.status) ⊎ (((status ≡ WriteFault) × Rose count count_after) ⊎ (status ≡ Memory))
+  pub cause : (status ≡ want.status)
+      ⊎ (((status ≡ WriteFault) × Rose count count_after) ⊎ (status ≡ Memory))
   pub counted : count ≤ count_after
 
 -- what a fault of the page is to answer: its line, or anything where memory ran out
@@ -49,9 +50,11 @@ abbrev pub WasRead : (reading : Bool) (before after : Option (List ℕ)) → Lis
 WasRead true before after text = (before ≡ with_front text after) × IsAtEnd after
 WasRead false before after text = (after ≡ before) × (text ≡ [])
 
--- The words ask for an order, its text was read, and the transcript of that has this status and is written whole.
+-- The words ask for an order, its text was read, and the transcript of that has this status and is
+-- written whole.
 pub record IsAnswered
-    (words : List (List ℕ)) (left left_after taken taken_after : Option (List ℕ)) (status : Status) : Type 0 where
+    (words : List (List ℕ)) (left left_after taken taken_after : Option (List ℕ))
+    (status : Status) : Type 0 where
   pub order : Order
   pub ordered : IsOrder words order
   pub text : List ℕ
@@ -69,16 +72,18 @@ ReadFailed status reads reads_after = (status ≡ ReadFault) × Rose reads reads
 abbrev pub WriteFailed : Status → (writes writes_after : ℕ) → Type 0
 WriteFailed status writes writes_after = (status ≡ WriteFault) × Rose writes writes_after
 
--- A whole run over an input that the source shows. What was written is a prefix of the transcript, all of it with the
--- transcript's status. Any other status has its cause: a read that failed, a write that failed, or no memory. Nothing
--- comes in the place of Usage; and no failed write in the place of TooLong, with which nothing is written.
+-- A whole run over an input that the source shows. What was written is a prefix of the transcript,
+-- all of it with the transcript's status. Any other status has its cause: a read that failed, a
+-- write that failed, or no memory. Nothing comes in the place of Usage; and no failed write in the
+-- place of TooLong, with which nothing is written.
 pub record RunFollows
     (want : Transcript) (before after : Option (List ℕ)) (reads reads_after writes writes_after : ℕ)
     (status : Status) : Type 0 where
   pub written : TakesPrefix before after want.text
   pub whole : status ≡ want.status → after ≡ with_end before want.text
   pub cause : (status ≡ want.status)
-      ⊎ (ReadFailed status reads reads_after ⊎ (WriteFailed status writes writes_after ⊎ (status ≡ Memory)))
+      ⊎ (ReadFailed status reads reads_after
+      ⊎ (WriteFailed status writes writes_after ⊎ (status ≡ Memory)))
   pub usage : want.status ≡ Usage → status ≡ Usage
   pub too_long : want.status ≡ TooLong
       → (status ≡ TooLong) ⊎ (ReadFailed status reads reads_after ⊎ (status ≡ Memory))

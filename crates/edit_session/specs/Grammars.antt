@@ -12,7 +12,8 @@ use Rattle.edit_session.specs.Transcript.{depth_limit}
 pub record RestsOnGrammars : Type 0 where
   pub orders : (words : List (List ℕ)) (order : Order)
       → (order_of words ≡ Some order) ↔ IsOrder words order
-  pub blocks : (lines : List (List ℕ)) (block : Block) → (block_in lines ≡ block) ↔ IsBlock lines block
+  pub blocks : (lines : List (List ℕ)) (block : Block) → (block_in lines ≡ block)
+      ↔ IsBlock lines block
   pub pages : (cap : ℕ) (bytes : List ℕ) (reading : Reading)
       → (page_reading depth_limit cap bytes ≡ reading) ↔ IsReading depth_limit cap bytes reading
   pub acts : (line : List ℕ) (meaning : Line) → (line_of line ≡ meaning) ↔ IsLine line meaning

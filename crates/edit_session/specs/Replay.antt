@@ -9,7 +9,8 @@ use Rattle.step_text.specs.declared.line.StepLine.TheVariants.{Entry, Make, Inse
 use Rattle.edit_session.specs.declared.replay.Refusal.{Refusal}
 use Rattle.edit_session.specs.declared.replay.Tally.{Tally}
 
--- ---- counts: the entries that began, and the steps that were taken other than those that make a node
+-- ---- counts: the entries that began, and the steps that were taken other than those that make a
+-- node
 
 abbrev pub none_yet : Tally
 none_yet = record { entries = 0; steps = 0 }
@@ -46,13 +47,15 @@ unfoldable pub line_replayed : List ℕ → Replayed → Result Replayed StepFau
 line_replayed line r = step_replayed (step_in line) r
 
 -- more lines, the first of which has this number; or the first that doesn't fit
-abbrev pub onward : ℕ → (Replayed → Result Replayed Refusal) → Result Replayed StepFault → Result Replayed Refusal
+abbrev pub onward : ℕ → (Replayed → Result Replayed Refusal) → Result Replayed StepFault
+    → Result Replayed Refusal
 onward number more (Ok after) = more after
 onward number more (Err fault) = Err (record { number = number; fault = fault })
 
 unfoldable pub lines_replayed : ℕ → List (List ℕ) → Replayed → Result Replayed Refusal
 lines_replayed number [] r = Ok r
-lines_replayed number (line ∷ lines) r = onward number (lines_replayed (number + 1) lines) (line_replayed line r)
+lines_replayed number (line ∷ lines) r =
+    onward number (lines_replayed (number + 1) lines) (line_replayed line r)
 
 unfoldable pub replay : List (List ℕ) → Labelled → Result Replayed Refusal
 replay lines document = lines_replayed 1 lines (replayed none_yet document)

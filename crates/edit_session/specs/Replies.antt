@@ -13,7 +13,7 @@ use Rattle.edit_query.specs.declared.reply.Reply.{Reply}
 use Rattle.edit_query.specs.declared.reply.Reply.TheVariants as reply
 use Rattle.edit_engine.specs.declared.answers.ViewKind.{ViewKind}
 use Rattle.edit_engine.specs.declared.answers.ViewKind.TheVariants as view
-use Rattle.edit_engine.specs.Editing.{Editing, undone, redone, turned}
+use Rattle.edit_engine.specs.Editing.{Editing, undone, redone, turned_times}
 use Rattle.edit_engine.specs.Execution.{Outcome, Refused, Deep, Full, Acted, gated_outcome}
 use Rattle.edit_engine.specs.Logs.{log_text}
 use Rattle.edit_engine.specs.Places.{pair_at, selecting, unselecting, marking, unmarking}
@@ -47,7 +47,8 @@ is_crowded e name = (length e.state.points.marks == 16) && not (has_mark name e.
 abbrev pub mark_reply : Editing → List ℕ → Option Pair → Replied
 mark_reply e name None = replied bad_place e
 mark_reply e name (Some pair) =
-    if is_crowded e name then replied (codes "! 5 too many marks\n") e else replied (codes "ok\n") (marking e name pair)
+    if is_crowded e name then replied (codes "! 5 too many marks\n") e
+    else replied (codes "ok\n") (marking e name pair)
 
 abbrev pub unmark_reply : Editing → List ℕ → Replied
 unmark_reply e name = replied (truth (has_mark name e.state.points)) (unmarking e name)
@@ -71,11 +72,13 @@ taken word count = word ++ decimal count ++ codes "\n"
 
 unfoldable pub undo_reply : Editing → ℕ → Replied
 undo_reply e n =
-    replied (taken (codes "undo ") (min n (length e.history.undo))) (turned (min n (length e.history.undo)) undone e)
+    replied (taken (codes "undo ") (min n (length e.history.undo)))
+    (turned_times (min n (length e.history.undo)) undone e)
 
 unfoldable pub redo_reply : Editing → ℕ → Replied
 redo_reply e n =
-    replied (taken (codes "redo ") (min n (length e.history.redo))) (turned (min n (length e.history.redo)) redone e)
+    replied (taken (codes "redo ") (min n (length e.history.redo)))
+    (turned_times (min n (length e.history.redo)) redone e)
 
 -- ---- what is printed; a path may name no node
 

@@ -45,7 +45,12 @@ depth_limit = 200
 -- the editor with which a session on a page begins
 abbrev pub page_editing : (cap undo : ℕ) → Siblings → Editing
 page_editing cap undo children =
-    new_editing (record { trees = document_of children; next = suc (size children); cap = cap; held = [] }) undo
+    new_editing (record {
+      trees = document_of children;
+      next = suc (size children);
+      cap = cap;
+      held = [];
+    }) undo
 
 -- ---- pages
 
@@ -65,11 +70,14 @@ word_of BadTag = codes "bad-tag"
 
 -- `! page PLACE KIND`
 abbrev pub refused : ℕ → List ℕ → Transcript
-refused place word = transcript_of PageRefused (codes "! page " ++ decimal place ++ codes " " ++ word ++ codes "\n")
+refused place word =
+    transcript_of PageRefused (codes "! page " ++ decimal place ++ codes " " ++ word ++ codes "\n")
 
--- `page ok nodes N chars C`; the Document is one of the nodes, and the characters are those of texts
+-- `page ok nodes N chars C`; the Document is one of the nodes, and the characters are those of
+-- texts
 abbrev pub numbers_text : (nodes chars : ℕ) → List ℕ
-numbers_text nodes chars = codes "page ok nodes " ++ decimal nodes ++ codes " chars " ++ decimal chars ++ codes "\n"
+numbers_text nodes chars =
+    codes "page ok nodes " ++ decimal nodes ++ codes " chars " ++ decimal chars ++ codes "\n"
 
 abbrev pub numbers_line : Forest Content → List ℕ
 numbers_line trees = numbers_text (node_count trees) (char_count trees)
@@ -82,18 +90,21 @@ checked (Refused place kind) = refused place (word_of kind)
 -- `run`: the page, and then the acts
 abbrev pub acted : Limits → List (List ℕ) → Reading → Transcript
 acted limits acts (Children children) =
-    transcript_of Done (replies_to limits.denied (page_editing limits.cap limits.undo children) acts)
+    transcript_of Done
+    (replies_to limits.denied (page_editing limits.cap limits.undo children) acts)
 acted limits acts (Refused place kind) = refused place (word_of kind)
 
 abbrev pub run_block : Limits → (size : ℕ) → Block → Transcript
 run_block limits size NoOpening = refused 0 (codes "no-opening")
 run_block limits size NoClosing = refused size (codes "no-closing")
-run_block limits size (Whole page acts) = acted limits acts (page_reading depth_limit limits.cap page)
+run_block limits size (Whole page acts) =
+    acted limits acts (page_reading depth_limit limits.cap page)
 
 -- ---- step lines
 
 abbrev pub page_document : Siblings → Labelled
-page_document children = record { trees = document_of children; next = suc (size children); cap = greatest_cap }
+page_document children =
+    record { trees = document_of children; next = suc (size children); cap = greatest_cap }
 
 -- how a fault of a line is printed
 abbrev pub fault_word : StepFault → List ℕ
@@ -119,7 +130,8 @@ document_line nodes chars next = document_numbers nodes chars next ++ codes "\n"
 
 abbrev pub replayed_text : Tally → (trees : Forest Content) (next : ℕ) → List ℕ
 replayed_text t trees next =
-    tally_text t ++ document_line (node_count trees) (char_count trees) next ++ document_html trees ++ codes "\n"
+    tally_text t ++ document_line (node_count trees) (char_count trees) next ++ document_html trees
+    ++ codes "\n"
 
 abbrev pub replay_ended : Result Replayed Refusal → Transcript
 replay_ended (Ok r) = transcript_of Done (replayed_text r.tally r.document.trees r.document.next)
@@ -133,7 +145,8 @@ replayed_on lines (Refused place kind) = refused place (word_of kind)
 abbrev pub replay_block : (size : ℕ) → Block → Transcript
 replay_block size NoOpening = refused 0 (codes "no-opening")
 replay_block size NoClosing = refused size (codes "no-closing")
-replay_block size (Whole page lines) = replayed_on lines (page_reading depth_limit greatest_cap page)
+replay_block size (Whole page lines) =
+    replayed_on lines (page_reading depth_limit greatest_cap page)
 
 -- ---- orders: a row for each
 
@@ -142,15 +155,18 @@ abbrev pub gives : Order → List ℕ → Transcript
 gives Check text = checked (page_reading depth_limit greatest_cap text)
 gives (Run limits) text = run_block limits (length text) (block_of text)
 gives Replay text = replay_block (length text) (block_of text)
-gives (Bulk count) text = run_block usual_limits (length (bulk_text count)) (block_of (bulk_text count))
+gives (Bulk count) text =
+    run_block usual_limits (length (bulk_text count)) (block_of (bulk_text count))
 
 -- ---- the whole
 
 -- an input that is read must not be too long
 abbrev pub order_transcript : List ℕ → Order → Transcript
 order_transcript input order =
-    if reads_input order && nat_lt input_limit (length input) then transcript_of TooLong [] else gives order input
+    if reads_input order && nat_lt input_limit (length input) then transcript_of TooLong []
+    else gives order input
 
 -- the words are looked at first, then the length of the input, then the page, then the acts
 abbrev pub transcript : List (List ℕ) → List ℕ → Transcript
-transcript words input = option_map_or (order_transcript input) (order_of words) (transcript_of Usage [])
+transcript words input =
+    option_map_or (order_transcript input) (order_of words) (transcript_of Usage [])

@@ -1,5 +1,5 @@
--- The words of the command line, after the program's name: `check`, `replay`, `bulk` and a number, or `run` and its
--- options.
+-- The words of the command line, after the program's name: `check`, `replay`, `bulk` and a number,
+-- or `run` and its options.
 use Rattle.std.specs.Prelude.{◌≡◌, ◌⊎◌, ℕ, Bool, true, false, ◌&&◌, nat_lt, nat_le, nat_eq, List, [], ◌∷◌, ◌++◌, length, drop, codes, bytes_eq, Option, Some, None, is_some, unwrap_or, if◌then◌else◌}
 use denote.Ref.{Bor}
 use Rattle.std.specs.Option.{option_map, option_and_then, option_map_or}
@@ -13,8 +13,8 @@ use Rattle.edit_session.specs.declared.words.Setting.TheVariants.{Cap, Undo, Den
 use Rattle.edit_session.specs.declared.words.Options.{Options}
 use Rattle.edit_session.specs.declared.words.Limits as read_limits
 
--- What bounds a session: labels stay below the cap, so many entries are kept for undo, and these names of commands
--- are denied.
+-- What bounds a session: labels stay below the cap, so many entries are kept for undo, and these
+-- names of commands are denied.
 pub record Limits : Type 0 where
   pub cap : ℕ
   pub undo : ℕ
@@ -55,7 +55,8 @@ usual_undo = 100
 
 -- a number from 1 to the greatest; numbers are those of acts
 abbrev pub amount_of : ℕ → List ℕ → Option ℕ
-amount_of greatest text = option_and_then (λ n. if nat_lt 0 n && nat_le n greatest then Some n else None)
+amount_of greatest text =
+    option_and_then (λ n. if nat_lt 0 n && nat_le n greatest then Some n else None)
     (number_of text)
 
 -- an option with its value
@@ -77,7 +78,11 @@ pub record Given : Type 0 where
   pub deny : Option (List (List ℕ))
 
 abbrev pub given_in : Options → Given
-given_in o = record { cap = o.cap; undo = o.undo; deny = option_map (λ text. names_in text.now) o.deny }
+given_in o = record {
+  cap = o.cap;
+  undo = o.undo;
+  deny = option_map (λ text. names_in text.now) o.deny;
+}
 
 abbrev pub is_given : Given → Setting → Bool
 is_given g Cap = is_some g.cap
@@ -95,7 +100,11 @@ none_given = record { cap = None; undo = None; deny = None }
 -- what holds in a session: what is given, and else what is usual
 abbrev pub limits_of : Given → Limits
 limits_of g =
-    record { cap = unwrap_or g.cap greatest_cap; undo = unwrap_or g.undo usual_undo; denied = unwrap_or g.deny [] }
+    record {
+      cap = unwrap_or g.cap greatest_cap;
+      undo = unwrap_or g.undo usual_undo;
+      denied = unwrap_or g.deny [];
+    }
 
 -- what holds where nothing is given
 abbrev pub usual_limits : Limits
@@ -124,13 +133,15 @@ bulk_count_of text = if nat_le (length text) 4 then amount_of greatest_bulk text
 
 -- ---- the grammar: which words ask for which order
 
--- the words begin with an option and the text of its value, as two words or as one, and rest follows
+-- the words begin with an option and the text of its value, as two words or as one, and rest
+-- follows
 abbrev pub IsSetting : Setting → Choice → List (List ℕ) → List (List ℕ) → Type 0
 IsSetting s choice words rest =
     (text : List ℕ) × (choice_of s text ≡ Some choice)
     × ((words ≡ name_of s ∷ text ∷ rest) ⊎ (words ≡ (name_of s ++ codes "=" ++ text) ∷ rest))
 
--- options in any order, each at most once: `before` are given before them, and `after` when they are
+-- options in any order, each at most once: `before` are given before them, and `after` when they
+-- are
 abbrev pub AreSettings : List (Setting × Choice) → List (List ℕ) → Given → Given → Type 0
 AreSettings [] words before after = (words ≡ []) × (before ≡ after)
 AreSettings (x ∷ xs) words before after =
@@ -140,10 +151,12 @@ AreSettings (x ∷ xs) words before after =
 abbrev pub IsOrder : List (List ℕ) → Order → Type 0
 IsOrder words Check = words ≡ codes "check" ∷ []
 IsOrder words Replay = words ≡ codes "replay" ∷ []
-IsOrder words (Bulk count) = (text : List ℕ) × (words ≡ codes "bulk" ∷ text ∷ []) × (bulk_count_of text ≡ Some count)
+IsOrder words (Bulk count) =
+    (text : List ℕ) × (words ≡ codes "bulk" ∷ text ∷ []) × (bulk_count_of text ≡ Some count)
 IsOrder words (Run limits) =
     (xs : List (Setting × Choice)) × (rest : List (List ℕ)) × (given : Given)
-    × (words ≡ codes "run" ∷ rest) × AreSettings xs rest none_given given × (limits ≡ limits_of given)
+    × (words ≡ codes "run" ∷ rest) × AreSettings xs rest none_given given
+    × (limits ≡ limits_of given)
 
 -- ---- the order that words ask for, computed
 
@@ -171,7 +184,8 @@ abbrev pub options_read : Given → List (List ℕ) → Option Given
 options_read g [] = Some g
 options_read g (word ∷ []) = joined_read g word
 options_read g (word ∷ (text ∷ words)) =
-    option_map_or (λ s. option_and_then (λ more. options_read more words) (setting_read g s text)) (setting_named word)
+    option_map_or (λ s. option_and_then (λ more. options_read more words) (setting_read g s text))
+    (setting_named word)
     (option_and_then (λ more. options_read more (text ∷ words)) (joined_read g word))
 
 abbrev pub run_of : Given → Order
@@ -184,7 +198,8 @@ lone_order word =
     else (if bytes_eq word (codes "replay") then Some Replay else None)
 
 abbrev pub bulk_order : List ℕ → List ℕ → Option Order
-bulk_order word text = if bytes_eq word (codes "bulk") then option_map Bulk (bulk_count_of text) else None
+bulk_order word text =
+    if bytes_eq word (codes "bulk") then option_map Bulk (bulk_count_of text) else None
 
 -- an order without options
 abbrev pub plain_order : List ℕ → List (List ℕ) → Option Order
@@ -195,4 +210,5 @@ plain_order word (text ∷ (more ∷ words)) = None
 abbrev pub order_of : List (List ℕ) → Option Order
 order_of [] = None
 order_of (word ∷ words) =
-    if bytes_eq word (codes "run") then option_map run_of (options_read none_given words) else plain_order word words
+    if bytes_eq word (codes "run") then option_map run_of (options_read none_given words)
+    else plain_order word words

@@ -3,7 +3,7 @@
 ghost use Rattle.std.specs.Prelude.{◌≡◌, ◌&&◌, min, length, codes, IfOk, OnOk, string_bytes, true};
 ghost use Rattle.script_read.specs.Acts.{is_name};
 ghost use Rattle.script_read.specs.Reading.{line_of};
-ghost use Rattle.edit_engine.specs.Editing.{turned};
+ghost use Rattle.edit_engine.specs.Editing.{turned_times};
 ghost use Rattle.edit_engine.specs.Execution.{gated_outcome};
 ghost use Rattle.edit_engine.specs.Places.{pair_at};
 ghost use Rattle.edit_engine.specs.Queries.{reply_of};
@@ -120,7 +120,7 @@ fn query(
 // Undoes or redoes as many entries as are asked for and there.
 fn turn_through(editor: &mut Editor, turn: Turn, count: u32) -> u32
     ensures count { result ≡ min count (length (entries_of turn editor.old.editing.history)) }
-    ensures after { editor.new.editing ≡ turned
+    ensures after { editor.new.editing ≡ turned_times
         (min count (length (entries_of turn editor.old.editing.history)))
         (turned_by turn) editor.old.editing }
 {
@@ -242,8 +242,8 @@ fn answer_act(
     }
 }
 
-/// Answers a line of a session, in which a command that the gate denies is refused. An empty line is no act, and
-/// has an empty reply.
+/// Answers a line of a session, in which a command that the gate denies is refused. An empty line
+/// is no act, and has an empty reply.
 #[tactic(auto, unfolding(crate::specs::Replies::line_reply))]
 pub fn answer_line(
     alloc: Global,

@@ -4,7 +4,7 @@ ghost use Rattle.std.specs.Prelude.{◌≡◌, ◌↔◌, ◌==◌, IfSome, posi
 ghost use Rattle.std.specs.Option.{option_map};
 ghost use Rattle.std.specs.Char.{is_ascii_alphanumeric};
 ghost use Rattle.std.specs.List.{list_all};
-ghost use Rattle.edit_session.specs.Block.{lines_of, end_of, is_word, opening_word, cut_at, block_cut, block_of, Block, IsBlock, ActsWithin, shown};
+ghost use Rattle.edit_session.specs.Block.{lines_of, end_of, is_word, opening_word, cut_at, block_cut, block_of, Block, IsBlock, ActsWithin, shown_block};
 
 use std::marker::Copy;
 
@@ -74,7 +74,7 @@ fn read_opening(line: &[u8]) -> Option<&[u8]>
 
 // Parts the lines after the opening one at the first that equals the word.
 fn part_lines<'a>(lines: &'a [u8], word: &[u8]) -> PageBlock<'a>
-    ensures shown { shown result ≡ block_cut (cut_at word.now (lines_of lines.now)) }
+    ensures shown { shown_block result ≡ block_cut (cut_at word.now (lines_of lines.now)) }
     ensures within { ActsWithin (length lines.now) result }
 {
     let mut at = 0;
@@ -95,8 +95,9 @@ fn part_lines<'a>(lines: &'a [u8], word: &[u8]) -> PageBlock<'a>
 
 /// Parts an input into the page and the acts.
 pub fn read_block(input: &[u8]) -> PageBlock<'_>
-    ensures computed { shown result ≡ block_of input.now }
-    ensures grammar { (block : Block) → (shown result ≡ block) ↔ IsBlock (lines_of input.now) block }
+    ensures computed { shown_block result ≡ block_of input.now }
+    ensures grammar { (block : Block) → (shown_block result ≡ block)
+        ↔ IsBlock (lines_of input.now) block }
     ensures within { ActsWithin (length input.now) result }
 {
     let end = line_end(input);

@@ -60,8 +60,8 @@ fn push_acts(alloc: Global, bytes: &mut Vec<u8>, count: u32) -> Result<(), Alloc
     )
 }
 
-/// The text of a session on a page of so many paragraphs: all of them are selected, made bold and plain again, and
-/// indented, and that is taken back and forth again.
+/// The text of a session on a page of so many paragraphs: all of them are selected, made bold and
+/// plain again, and indented, and that is taken back and forth again.
 #[tactic(auto, unfolding(crate::specs::Bulk::bulk_text))]
 pub(crate) fn bulk_text(alloc: Global, count: u32) -> Result<Vec<u8>, AllocError>
     ensures { IfOk result (λ bytes. bytes.items ≡ bulk_text count) }

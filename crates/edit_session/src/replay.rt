@@ -71,7 +71,8 @@ fn replay_line(
 /// Applies the steps of lines to the nodes of a page, up to the first that doesn't fit.
 pub(crate) fn replay_lines(alloc: Global, arena: &mut Arena, lines: &[u8]) -> Result<Tally, Refusal>
     requires { length lines.now < 2 ^ 32 }
-    ensures { Replays result (labelled arena.new) (replay (lines_of lines.now) (labelled arena.old)) }
+    ensures { Replays result (labelled arena.new)
+        (replay (lines_of lines.now) (labelled arena.old)) }
 {
     let mut tally = Tally {
         entries: 0,

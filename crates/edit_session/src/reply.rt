@@ -16,8 +16,8 @@ fn numbers_text(alloc: Global, nodes: u32, chars: u64) -> Result<String, AllocEr
     format!(in alloc; "page ok nodes {nodes} chars {chars}\n")
 }
 
-/// The line with which a page is accepted: how many nodes the document has, the Document among them, and how many
-/// characters its texts have.
+/// The line with which a page is accepted: how many nodes the document has, the Document among
+/// them, and how many characters its texts have.
 pub fn numbers(alloc: Global, arena: &Arena) -> Result<String, AllocError>
     ensures { IfOk result (λ text. string_bytes text ≡ numbers_line arena.now.trees) }
 {
@@ -71,7 +71,8 @@ fn document_line(alloc: Global, nodes: u32, chars: u64, next: u32) -> Result<Str
 
 // Appends the line with the numbers of the document.
 fn push_numbers(alloc: Global, text: &mut Vec<u8>, arena: &Arena) -> Result<(), AllocError>
-    ensures { OnOk result (text.new.items ≡ text.old.items ++ document_line (node_count arena.now.trees)
+    ensures { OnOk result (text.new.items ≡ text.old.items
+        ++ document_line (node_count arena.now.trees)
         (char_count arena.now.trees) arena.now.next) }
 {
     let (nodes, chars) = (arena.node_count(), arena.char_count());
@@ -81,7 +82,8 @@ fn push_numbers(alloc: Global, text: &mut Vec<u8>, arena: &Arena) -> Result<(), 
 
 /// The lines with which a replay ends: what was counted, the numbers of the document, and its HTML.
 pub fn replayed_text(alloc: Global, arena: &Arena, tally: Tally) -> Result<Vec<u8>, AllocError>
-    ensures { IfOk result (λ text. text.items ≡ replayed_text tally arena.now.trees arena.now.next) }
+    ensures { IfOk result (λ text. text.items
+        ≡ replayed_text tally arena.now.trees arena.now.next) }
 {
     let mut text = tally_text(alloc, tally)?.into_bytes();
     push_numbers(alloc, &mut text, arena)?;

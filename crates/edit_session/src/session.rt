@@ -61,7 +61,8 @@ pub enum Status {
 fn answer<O: Sink>(output: &mut O, text: &[u8], status: Status) -> Status
     requires { Answered status }
     ensures { Follows (transcript_of status text.now)
-        (O.taken output.old) (O.taken output.new) (O.faults output.old) (O.faults output.new) result }
+        (O.taken output.old) (O.taken output.new) (O.faults output.old) (O.faults output.new)
+        result }
 {
     match write_all(output, text) {
         Ok(()) => status,
@@ -73,7 +74,8 @@ fn answer<O: Sink>(output: &mut O, text: &[u8], status: Status) -> Status
 // Refuses the page at a place, by the word of a kind.
 fn refuse<O: Sink>(alloc: Global, output: &mut O, place: usize, word: &str) -> Status
     ensures { Follows (refused place word.now)
-        (O.taken output.old) (O.taken output.new) (O.faults output.old) (O.faults output.new) result }
+        (O.taken output.old) (O.taken output.new) (O.faults output.old) (O.faults output.new)
+        result }
 {
     match refusal(alloc, place, word) {
         Ok(line) => answer(output, line.as_bytes(), Status::PageRefused),
@@ -82,8 +84,10 @@ fn refuse<O: Sink>(alloc: Global, output: &mut O, place: usize, word: &str) -> S
 }
 
 fn refuse_page<O: Sink>(alloc: Global, output: &mut O, fault: PageFault) -> Status
-    ensures { (want : Transcript) → Answered want.status → IsWanted fault.at (kind_of fault.kind) want
-        → Follows want (O.taken output.old) (O.taken output.new) (O.faults output.old) (O.faults output.new) result }
+    ensures { (want : Transcript) → Answered want.status
+        → IsWanted fault.at (kind_of fault.kind) want
+        → Follows want (O.taken output.old) (O.taken output.new) (O.faults output.old)
+        (O.faults output.new) result }
 {
     match fault.kind {
         PageKind::Memory => Status::Memory,
@@ -94,7 +98,8 @@ fn refuse_page<O: Sink>(alloc: Global, output: &mut O, fault: PageFault) -> Stat
 // Accepts a page by its numbers.
 fn accept<O: Sink>(alloc: Global, arena: &Arena, output: &mut O) -> Status
     ensures { Follows (transcript_of Status.Done (numbers_line arena.now.trees))
-        (O.taken output.old) (O.taken output.new) (O.faults output.old) (O.faults output.new) result }
+        (O.taken output.old) (O.taken output.new) (O.faults output.old) (O.faults output.new)
+        result }
 {
     match numbers(alloc, arena) {
         Ok(line) => answer(output, line.as_bytes(), Status::Done),
@@ -105,7 +110,8 @@ fn accept<O: Sink>(alloc: Global, arena: &Arena, output: &mut O) -> Status
 // `check`: the whole input is the page.
 fn check<O: Sink>(alloc: Global, input: &[u8], output: &mut O) -> Status
     ensures { Follows (checked (page_reading 200 2000000 input.now))
-        (O.taken output.old) (O.taken output.new) (O.faults output.old) (O.faults output.new) result }
+        (O.taken output.old) (O.taken output.new) (O.faults output.old) (O.faults output.new)
+        result }
 {
     match read_page(alloc, input, GREATEST_CAP) {
         Ok(arena) => accept(alloc, &arena, output),
@@ -123,7 +129,8 @@ fn act<O: Sink>(
 ) -> Status
     ensures follows { Follows
         (transcript_of Status.Done (line_reply gate.now editor.old.editing line.now).text)
-        (O.taken output.old) (O.taken output.new) (O.faults output.old) (O.faults output.new) result }
+        (O.taken output.old) (O.taken output.new) (O.faults output.old) (O.faults output.new)
+        result }
     ensures after { result ≡ Status.Done
         → editor.new.editing ≡ (line_reply gate.now editor.old.editing line.now).after }
 {
@@ -143,7 +150,8 @@ fn run_acts<O: Sink>(
 ) -> Status
     ensures { Follows
         (transcript_of Status.Done (replies_to gate.now editor.old.editing (lines_of acts.now)))
-        (O.taken output.old) (O.taken output.new) (O.faults output.old) (O.faults output.new) result }
+        (O.taken output.old) (O.taken output.new) (O.faults output.old) (O.faults output.new)
+        result }
 {
     let mut rest = acts;
     while !rest.is_empty() {
@@ -186,8 +194,11 @@ fn edit_gated<O: Sink>(
 ) -> Status
     requires depth { 0 < undo }
     requires loose { HasNoLoose arena }
-    ensures { Follows (transcript_of Status.Done (replies_to gate.now (new_editing arena undo) (lines_of acts.now)))
-        (O.taken output.old) (O.taken output.new) (O.faults output.old) (O.faults output.new) result }
+    ensures { Follows
+        (transcript_of Status.Done
+        (replies_to gate.now (new_editing arena undo) (lines_of acts.now)))
+        (O.taken output.old) (O.taken output.new) (O.faults output.old) (O.faults output.new)
+        result }
 {
     match Editor::new(alloc, arena, undo as usize) {
         Ok(mut editor) => run_acts(alloc, gate, &mut editor, acts, output),
@@ -207,7 +218,8 @@ fn edit_page<O: Sink>(
     requires loose { HasNoLoose arena }
     ensures { Follows (transcript_of Status.Done (replies_to (denied_in limits.entry.denied)
         (new_editing arena limits.entry.undo) (lines_of acts.now)))
-        (O.taken output.old) (O.taken output.new) (O.faults output.old) (O.faults output.new) result }
+        (O.taken output.old) (O.taken output.new) (O.faults output.old) (O.faults output.new)
+        result }
 {
     match make_gate(alloc, limits.denied) {
         Ok(gate) => edit_gated(alloc, &gate, arena, limits.undo, acts, output),
@@ -225,8 +237,11 @@ fn run_page<O: Sink>(
 ) -> Status
     requires cap { 0 < limits.cap }
     requires undo { 0 < limits.undo }
-    ensures { Follows (acted (limits_in limits.entry) (lines_of acts.now) (page_reading 200 limits.entry.cap page.now))
-        (O.taken output.old) (O.taken output.new) (O.faults output.old) (O.faults output.new) result }
+    ensures { Follows
+        (acted (limits_in limits.entry) (lines_of acts.now)
+        (page_reading 200 limits.entry.cap page.now))
+        (O.taken output.old) (O.taken output.new) (O.faults output.old) (O.faults output.new)
+        result }
 {
     match read_page(alloc, page, limits.cap) {
         Ok(arena) => edit_page(alloc, arena, limits, acts, output),
@@ -239,7 +254,8 @@ fn run<O: Sink>(alloc: Global, input: &[u8], limits: Limits, output: &mut O) -> 
     requires cap { 0 < limits.cap }
     requires undo { 0 < limits.undo }
     ensures { Follows (run_block (limits_in limits.entry) (length input.now) (block_of input.now))
-        (O.taken output.old) (O.taken output.new) (O.faults output.old) (O.faults output.new) result }
+        (O.taken output.old) (O.taken output.new) (O.faults output.old) (O.faults output.new)
+        result }
 {
     match read_block(input) {
         PageBlock::NoOpening => refuse(alloc, output, 0, "no-opening"),
@@ -250,8 +266,10 @@ fn run<O: Sink>(alloc: Global, input: &[u8], limits: Limits, output: &mut O) -> 
 
 // `bulk`: a session that is made from a number.
 fn run_bulk<O: Sink>(alloc: Global, count: u32, output: &mut O) -> Status
-    ensures { Follows (run_block usual_limits (length (bulk_text count)) (block_of (bulk_text count)))
-        (O.taken output.old) (O.taken output.new) (O.faults output.old) (O.faults output.new) result }
+    ensures { Follows
+        (run_block usual_limits (length (bulk_text count)) (block_of (bulk_text count)))
+        (O.taken output.old) (O.taken output.new) (O.faults output.old) (O.faults output.new)
+        result }
 {
     match bulk_text(alloc, count) {
         Ok(text) => run(alloc, &text, usual_limits(), output),
@@ -262,7 +280,8 @@ fn run_bulk<O: Sink>(alloc: Global, count: u32, output: &mut O) -> Status
 // Refuses a step line for another fault than that memory is out.
 fn tell_refusal<O: Sink>(alloc: Global, output: &mut O, refusal: Refusal) -> Status
     ensures { Follows (step_refused refusal)
-        (O.taken output.old) (O.taken output.new) (O.faults output.old) (O.faults output.new) result }
+        (O.taken output.old) (O.taken output.new) (O.faults output.old) (O.faults output.new)
+        result }
 {
     match step_refusal(alloc, refusal) {
         Ok(line) => answer(output, line.as_bytes(), Status::StepRefused),
@@ -272,7 +291,8 @@ fn tell_refusal<O: Sink>(alloc: Global, output: &mut O, refusal: Refusal) -> Sta
 
 fn refuse_step<O: Sink>(alloc: Global, output: &mut O, refusal: Refusal) -> Status
     ensures { (want : Result Replayed Refusal) → IsFault refusal refusal.fault want
-        → Follows (replay_ended want) (O.taken output.old) (O.taken output.new) (O.faults output.old)
+        → Follows (replay_ended want) (O.taken output.old) (O.taken output.new)
+        (O.faults output.old)
         (O.faults output.new) result }
 {
     match refusal.fault {
@@ -283,8 +303,10 @@ fn refuse_step<O: Sink>(alloc: Global, output: &mut O, refusal: Refusal) -> Stat
 
 // Ends a replay that nothing refused.
 fn end_replay<O: Sink>(alloc: Global, arena: &Arena, tally: Tally, output: &mut O) -> Status
-    ensures { Follows (transcript_of Status.Done (replayed_text tally arena.now.trees arena.now.next))
-        (O.taken output.old) (O.taken output.new) (O.faults output.old) (O.faults output.new) result }
+    ensures { Follows
+        (transcript_of Status.Done (replayed_text tally arena.now.trees arena.now.next))
+        (O.taken output.old) (O.taken output.new) (O.faults output.old) (O.faults output.new)
+        result }
 {
     match replayed_text(alloc, arena, tally) {
         Ok(text) => answer(output, &text, Status::Done),
@@ -296,7 +318,8 @@ fn end_replay<O: Sink>(alloc: Global, arena: &Arena, tally: Tally, output: &mut 
 fn replay_steps<O: Sink>(alloc: Global, mut arena: Arena, steps: &[u8], output: &mut O) -> Status
     requires { length steps.now < 2 ^ 32 }
     ensures { Follows (replay_ended (replay (lines_of steps.now) (labelled arena)))
-        (O.taken output.old) (O.taken output.new) (O.faults output.old) (O.faults output.new) result }
+        (O.taken output.old) (O.taken output.new) (O.faults output.old) (O.faults output.new)
+        result }
 {
     match replay_lines(alloc, &mut arena, steps) {
         Ok(tally) => end_replay(alloc, &arena, tally, output),
@@ -308,7 +331,8 @@ fn replay_steps<O: Sink>(alloc: Global, mut arena: Arena, steps: &[u8], output: 
 fn replay_page<O: Sink>(alloc: Global, page: &[u8], steps: &[u8], output: &mut O) -> Status
     requires { length steps.now < 2 ^ 32 }
     ensures { Follows (replayed_on (lines_of steps.now) (page_reading 200 2000000 page.now))
-        (O.taken output.old) (O.taken output.new) (O.faults output.old) (O.faults output.new) result }
+        (O.taken output.old) (O.taken output.new) (O.faults output.old) (O.faults output.new)
+        result }
 {
     match read_page(alloc, page, GREATEST_CAP) {
         Ok(arena) => replay_steps(alloc, arena, steps, output),
@@ -320,7 +344,8 @@ fn replay_page<O: Sink>(alloc: Global, page: &[u8], steps: &[u8], output: &mut O
 fn replay<O: Sink>(alloc: Global, session: &[u8], output: &mut O) -> Status
     requires { length session.now < 2 ^ 32 }
     ensures { Follows (replay_block (length session.now) (block_of session.now))
-        (O.taken output.old) (O.taken output.new) (O.faults output.old) (O.faults output.new) result }
+        (O.taken output.old) (O.taken output.new) (O.faults output.old) (O.faults output.new)
+        result }
 {
     match read_block(session) {
         PageBlock::NoOpening => refuse(alloc, output, 0, "no-opening"),
@@ -334,7 +359,8 @@ fn obey<O: Sink>(alloc: Global, order: Order, input: &[u8], output: &mut O) -> S
     requires cap { HasCap (order_in order) }
     requires short { length input.now < 2 ^ 32 }
     ensures { Follows (gives (order_in order.entry) input.now)
-        (O.taken output.old) (O.taken output.new) (O.faults output.old) (O.faults output.new) result }
+        (O.taken output.old) (O.taken output.new) (O.faults output.old) (O.faults output.new)
+        result }
 {
     match order {
         Order::Check => check(alloc, input, output),
@@ -344,8 +370,8 @@ fn obey<O: Sink>(alloc: Global, order: Order, input: &[u8], output: &mut O) -> S
     }
 }
 
-/// Runs the program over the words after its name: reads all of the input, where the order reads it, and writes the
-/// transcript.
+/// Runs the program over the words after its name: reads all of the input, where the order reads
+/// it, and writes the transcript.
 #[tactic(auto, using(crate::proofs::Grammars::rests))]
 pub fn run_session<I: Source, O: Sink>(
     alloc: Global,
@@ -353,7 +379,8 @@ pub fn run_session<I: Source, O: Sink>(
     input: &mut I,
     output: &mut O,
 ) -> Status
-    // Usage comes exactly where the words are not in the grammar, and then nothing is read or written.
+    // Usage comes exactly where the words are not in the grammar, and then nothing is read or
+    // written.
     ensures usage { (result ≡ Status.Usage) ↔ (order_of (map string_bytes words.now) ≡ None) }
     ensures unread { result ≡ Status.Usage → (input.new ≡ input.old) × (output.new ≡ output.old) }
 
@@ -361,22 +388,27 @@ pub fn run_session<I: Source, O: Sink>(
     ensures untouched { (order : asked.Order) → order_of (map string_bytes words.now) ≡ Some order
         → reads_input order ≡ false → input.new ≡ input.old }
 
-    // Where the source shows its bytes, what is written is a prefix of their transcript, all of it with the
-    // transcript's status, and any other status has its cause.
-    ensures told { IfSome (I.left input.old) (λ bytes. RunFollows (transcript (map string_bytes words.now) bytes)
+    // Where the source shows its bytes, what is written is a prefix of their transcript, all of it
+    // with the transcript's status, and any other status has its cause.
+    ensures told { IfSome (I.left input.old) (λ bytes.
+        RunFollows (transcript (map string_bytes words.now) bytes)
         (O.taken output.old) (O.taken output.new) (I.faults input.old) (I.faults input.new)
         (O.faults output.old) (O.faults output.new) result) }
 
-    // With Done, PageRefused and StepRefused the input was read to its end, or not looked at where the order
-    // reads none, and the transcript of what was read is written whole.
+    // With Done, PageRefused and StepRefused the input was read to its end, or not looked at where
+    // the order reads none, and the transcript of what was read is written whole.
     ensures answered { Answered result → IsAnswered (map string_bytes words.now)
         (I.left input.old) (I.left input.new) (O.taken output.old) (O.taken output.new) result }
-    ensures read_fault { result ≡ Status.ReadFault → Rose (I.faults input.old) (I.faults input.new) }
-    ensures write_fault { result ≡ Status.WriteFault → Rose (O.faults output.old) (O.faults output.new) }
+    ensures read_fault { result ≡ Status.ReadFault
+        → Rose (I.faults input.old) (I.faults input.new) }
+    ensures write_fault { result ≡ Status.WriteFault
+        → Rose (O.faults output.old) (O.faults output.new) }
     ensures silent { IsSilent result → output.new ≡ output.old }
-    ensures counted { (I.faults input.old ≤ I.faults input.new) × (O.faults output.old ≤ O.faults output.new) }
+    ensures counted { (I.faults input.old ≤ I.faults input.new)
+        × (O.faults output.old ≤ O.faults output.new) }
 
-    // What the transcript rests on is what the grammars say of words, page blocks, pages, acts and step lines.
+    // What the transcript rests on is what the grammars say of words, page blocks, pages, acts and
+    // step lines.
     ensures grammars { RestsOnGrammars }
 {
     let order = match read_words(words) {

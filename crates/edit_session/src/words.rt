@@ -23,8 +23,8 @@ pub enum Order<'a> {
     Bulk(u32),
 }
 
-/// What bounds a session: labels stay below `cap`, `undo` entries are kept for undo, and the commands are denied
-/// whose names `denied` lists, with a comma between.
+/// What bounds a session: labels stay below `cap`, `undo` entries are kept for undo, and the
+/// commands are denied whose names `denied` lists, with a comma between.
 #[derive(Clone, Copy, PartialEq, Eq, Debug)]
 pub struct Limits<'a> {
     pub cap: u32,
@@ -189,7 +189,8 @@ fn read_joined<'a>(options: Options<'a>, word: &'a str) -> Option<Options<'a>>
 
 // Each option is given at most once, so this goes at most four calls deep.
 fn read_options<'a>(options: Options<'a>, words: &'a [String]) -> Option<Options<'a>>
-    ensures { option_map given_in result ≡ options_read (given_in options.entry) (map string_bytes words.now) }
+    ensures { option_map given_in result
+        ≡ options_read (given_in options.entry) (map string_bytes words.now) }
 {
     match words {
         [] => Some(options),

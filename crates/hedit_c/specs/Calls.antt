@@ -89,7 +89,8 @@ IsOpened e page limit depth =
     (a : ArenaState) × IsAnswer limit page (Ok a) × (e ≡ new_editing a depth)
 
 abbrev pub NotOpened : Status → Refusal → (page : List ℕ) → (limit depth : ℕ) → Type 0
-NotOpened PageRefused refusal page limit depth = (0 < limit) × (0 < depth) × IsRefusedAt refusal page limit
+NotOpened PageRefused refusal page limit depth =
+    (0 < limit) × (0 < depth) × IsRefusedAt refusal page limit
 NotOpened Memory refusal page limit depth = ⊤
 NotOpened BadArgument refusal page limit depth = (limit ≡ 0) ⊎ (depth ≡ 0)
 NotOpened status refusal page limit depth = ⊥
@@ -184,7 +185,8 @@ abbrev pub QueryTells : Status → Editing → (kind : ℕ) → (name : List ℕ
 QueryTells BadArgument e kind name flag old new n =
     ((query_kind kind ≡ None) ⊎ ¬ (IsUtf8 name)) × (new ≡ old)
 QueryTells status e kind name flag old new n =
-    IsUtf8 name × IsSomeAnd (query_kind kind) (λ k. ReplyTells status (reply_of e.state k name) flag old new n)
+    IsUtf8 name × IsSomeAnd (query_kind kind) (λ k.
+    ReplyTells status (reply_of e.state k name) flag old new n)
 
 -- ---- what is printed
 

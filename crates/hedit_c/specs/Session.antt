@@ -16,15 +16,15 @@ abbrev pub reply : (status : ℕ) (buffer : List ℕ) (count : ℕ) → Reply
 reply status buffer count = record { status = status; buffer = buffer; count = count }
 
 -- the number of a status, which the program exits with
-abbrev pub number_of : Status → ℕ
-number_of Done = 0
-number_of Usage = 2
-number_of ReadFault = 3
-number_of WriteFault = 4
-number_of Memory = 5
-number_of PageRefused = 6
-number_of TooLong = 7
-number_of StepRefused = 8
+abbrev pub session_number_of : Status → ℕ
+session_number_of Done = 0
+session_number_of Usage = 2
+session_number_of ReadFault = 3
+session_number_of WriteFault = 4
+session_number_of Memory = 5
+session_number_of PageRefused = 6
+session_number_of TooLong = 7
+session_number_of StepRefused = 8
 
 abbrev pub memory_number : ℕ
 memory_number = 5
@@ -40,7 +40,8 @@ nothing_written buffer = reply memory_number buffer 0
 -- the transcript stands at the front of the buffer, and what follows there is as before
 abbrev pub written_to : Transcript → List ℕ → Reply
 written_to want buffer =
-    reply (number_of want.status) (want.text ++ drop (length want.text) buffer) (length want.text)
+    reply (session_number_of want.status) (want.text ++ drop (length want.text) buffer)
+    (length want.text)
 
 -- the buffer is as before, and the length that it needs is told
 abbrev pub too_small_for : Transcript → List ℕ → Reply
@@ -48,7 +49,8 @@ too_small_for want buffer = reply too_small_number buffer (length want.text)
 
 abbrev pub reply_to : Transcript → List ℕ → Reply
 reply_to want buffer =
-    if nat_lt (length buffer) (length want.text) then too_small_for want buffer else written_to want buffer
+    if nat_lt (length buffer) (length want.text) then too_small_for want buffer
+    else written_to want buffer
 
 -- the reply to a transcript, unless memory ran out
 pub record Replies (want : Transcript) (buffer : List ℕ) (r : Reply) : Type 0 where

@@ -4,7 +4,7 @@ ghost use Rattle.std.specs.Prelude.{◌≡◌, ◌≢◌, map, string_bytes, IfO
 ghost use Rattle.edit_session.specs.Transcript.{transcript, transcript_of};
 ghost use Rattle.edit_session.specs.Grammars.{RestsOnGrammars};
 ghost use Rattle.hedit_c.specs.Session.{reply, reply_to, nothing_written, Replies, Ran};
-ghost use Rattle.hedit_c.specs.Session.{number_of, memory_number, run_words, words_in};
+ghost use Rattle.hedit_c.specs.Session.{session_number_of, memory_number, run_words, words_in};
 
 use crate::editor::status::Status as CallStatus;
 use edit_io::{SliceSource, SureSink};
@@ -19,7 +19,7 @@ struct Run {
 }
 
 fn number(status: Status) -> u32
-    ensures { result ≡ number_of status }
+    ensures { result ≡ session_number_of status }
 {
     status as u32
 }

@@ -1,7 +1,8 @@
-//! mail_host: the smallest host of the editor. It opens a mail, formats a part of it, asks what a toolbar would
-//! show, undoes, and prints the mail as HTML after each step.
+//! mail_host: the smallest host of the editor. It opens a mail, formats a part of it, asks what a
+//! toolbar would show, undoes, and prints the mail as HTML after each step.
 //!
-//! A real host gets its selection and its commands from its user; in this one they are written down.
+//! A real host gets its selection and its commands from its user; in this one they are written
+//! down.
 #![tactic(auto)]
 
 ghost use Rattle.std.specs.Prelude.{IfSome};
@@ -46,7 +47,8 @@ fn place_in(alloc: Global, text: &[u32], offset: u32) -> Result<Place, AllocErro
     Ok(Place { path, offset })
 }
 
-// Selects the name: the characters 5 to 8 of the paragraph's text. False where the mail has no such place.
+// Selects the name: the characters 5 to 8 of the paragraph's text. False where the mail has no such
+// place.
 fn select_name(alloc: Global, editor: &mut Editor) -> Result<bool, AllocError> {
     let anchor = place_in(alloc, &[0, 1, 0], 5)?;
     let focus = place_in(alloc, &[0, 1, 0], 8)?;

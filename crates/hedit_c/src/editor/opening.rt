@@ -22,7 +22,8 @@ pub struct Refusal {
 
 // The status of a page that is refused, or for which there is no memory.
 fn refuse(fault: PageFault, refusal: &mut Refusal) -> Status
-    ensures { (page : List ℕ) (limit depth : ℕ) → 0 < limit → 0 < depth → IsAnswer limit page (Err fault)
+    ensures { (page : List ℕ) (limit depth : ℕ) → 0 < limit → 0 < depth
+        → IsAnswer limit page (Err fault)
         → NotOpened result refusal.new page limit depth }
 {
     match fault.kind {
