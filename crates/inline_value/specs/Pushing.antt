@@ -86,14 +86,11 @@ push_from command v n list e = look λ s.
 unfoldable pub push_listed : Command → Option (List ℕ) → ℕ → List ℕ → Run (Unit {0})
 push_listed command v n list = given (last_in list) done λ e. push_from command v n list e
 
--- an ancestor gives a value
+-- an ancestor gives a value. No step asks this, and the code asks it first: where none does, steps
+-- 1 to 5 change nothing, whatever the value
 unfoldable pub is_given_above : State → Command → ℕ → Bool
 is_given_above s command n =
     list_any (λ e. is_some (specified s.trees e command)) (ancestors s.trees n)
-
--- steps 1 to 4 end: a value is wanted, and no ancestor gives one
-unfoldable pub keeps_values : State → Command → Option (List ℕ) → ℕ → Bool
-keeps_values s command v n = is_some v && not (is_given_above s command n)
 
 -- push down, step 1, and then from 2 on
 unfoldable pub push_down : Command → Option (List ℕ) → ℕ → Run (Unit {0})

@@ -291,7 +291,8 @@ fn push_from(
     )
 }
 
-// Whether an ancestor of a node gives a value.
+// Whether an ancestor of a node gives a value. Where none does, nothing is pushed down: to ask this
+// first costs the depth, where the steps would go to the siblings of each ancestor.
 fn is_given_above(doc: &Doc, node: NodeRef, command: Command) -> bool
     requires { Holds doc.now node }
     ensures { result ≡ spec.is_given_above doc.now.state command node.label }
@@ -305,17 +306,6 @@ fn is_given_above(doc: &Doc, node: NodeRef, command: Command) -> bool
         at = parent;
     }
     false
-}
-
-// Push down, steps 1 to 4: whether nothing is pushed down, by what the ancestors give. It takes
-// longer to ask what values they have, or whether they are editable.
-#[tactic(auto, unfolding(crate::specs::Pushing::keeps_values))]
-fn keeps_values(doc: &Doc, value: Option<&[char]>, node: NodeRef, command: Command) -> bool
-    requires { Holds doc.now node }
-    ensures { result
-        ≡ spec.keeps_values doc.now.state command (option_copied value.entry) node.label }
-{
-    value.is_some() && !is_given_above(doc, node, command)
 }
 
 // Push down, step 2, and then from 3 on.
@@ -363,7 +353,7 @@ pub fn push_down(
         (spec.push_down command (option_copied value.entry) node.label) }
     ensures keeps { Keeps doc.old doc.new }
 {
-    if keeps_values(doc, value, node, command) {
+    if !is_given_above(doc, node, command) {
         return Ok(());
     }
     if needs_none(doc, value, node, command) {
