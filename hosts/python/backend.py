@@ -66,7 +66,7 @@ def write_tar(target: Path, folder: str, files: Mapping[str, bytes | str]) -> No
             entry = tarfile.TarInfo(f"{folder}/{name}")
             entry.mtime = build_time()
             if isinstance(content, str):
-                entry.type, entry.linkname = tarfile.SYMTYPE, content
+                entry.type, entry.linkname, entry.mode = tarfile.SYMTYPE, content, 0o777
                 archive.addfile(entry)
             else:
                 entry.mode = 0o755 if name.startswith("bin/") else 0o644
