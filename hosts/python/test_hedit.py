@@ -130,11 +130,12 @@ class Arguments(unittest.TestCase):
         self.assertIs(self.editor.ask(Question.ENABLED, "bold"), True)
         self.assertEqual(self.editor.ask(Question.VALUE, "defaultParagraphSeparator"), "div")
         self.assertEqual(self.editor.view(View.HTML), self.editor.html())
-        bad: Any = 9
-        with self.assertRaises(ValueError):
-            self.editor.view(bad)
-        with self.assertRaises(ValueError):
-            self.editor.ask(bad, "bold")
+        bad: Any
+        for bad in (9, 2**32, -1):
+            with self.subTest(bad=bad), self.assertRaises(ValueError):
+                self.editor.view(bad)
+            with self.subTest(bad=bad), self.assertRaises(ValueError):
+                self.editor.ask(bad, "bold")
 
 
 class Causes(unittest.TestCase):
