@@ -203,6 +203,7 @@ class Lifetimes(unittest.TestCase):
             for call in (editor.undo, editor.html, editor.close):
                 self.assertIsInstance(in_another_thread(call), hedit.WrongThread)
             self.assertFalse(editor.undo())
+        self.assertIsNone(in_another_thread(lambda: Editor(PAGE).close()))
 
     def test_an_editor_is_closed_by_its_collector_in_its_own_thread(self) -> None:
         with self.assertWarns(ResourceWarning):
