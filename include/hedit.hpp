@@ -92,8 +92,8 @@ class Closed : public Error {
     Closed() : Error(HEDIT_CLOSED, "the editor is closed") {}
 };
 
-/* An editor of a page, which it closes when it ends. It can be moved, and not copied. Its calls come
- * from one thread. */
+/* An editor of a page, which it closes when it ends. It can be moved, and not copied. Its calls
+ * come from one thread. */
 class Editor {
   public:
     /* No node gets a number from label_cap on, and undo_depth commands can be undone. */

@@ -1,5 +1,6 @@
-/* The smallest host of the editor in C++. It opens a mail, formats a part of it, asks what a toolbar
- * would show, undoes, and prints the mail as HTML after each step, as crates/mail_host does. */
+/* The smallest host of the editor in C++. It opens a mail, formats a part of it, asks what a
+ * toolbar would show, undoes, and prints the mail as HTML after each step, as crates/mail_host
+ * does. */
 #include <hedit.hpp>
 
 #include <iostream>
