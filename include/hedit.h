@@ -1,10 +1,10 @@
 /* hedit.h: the engine behind a contenteditable region, for programs in C and in languages that
  * call C.
  *
- * Link with libhedit_c.a (crates/hedit_c) and with liblibc_c.a of the toolchain, which calls
- * malloc, realloc and free.
+ * Link with libhedit.so or libhedit.a, which bin/release makes. They take malloc, realloc and free
+ * from the C library.
  *
- *     cc host.c -I include crates/hedit_c/out/libhedit_c.a KIT/c/liblibc_c.a
+ *     cc host.c $(pkg-config --cflags --libs hedit)
  *
  * UNITS. A text is bytes in UTF-8 and their count, without a terminating zero. A path is an array
  * of numbers and their count: the index of a child in each node on the way from the document
@@ -44,6 +44,12 @@
 #ifdef __cplusplus
 extern "C" {
 #endif
+
+/* The version of this header and of the library that it came with. */
+#define HEDIT_VERSION "0.9.0"
+#define HEDIT_VERSION_MAJOR 0
+#define HEDIT_VERSION_MINOR 9
+#define HEDIT_VERSION_PATCH 0
 
 /* How a call ended. */
 enum hedit_status {

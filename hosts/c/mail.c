@@ -63,7 +63,7 @@ static char *html(hedit_editor *editor, size_t *length) {
     if (status != HEDIT_TOO_SMALL) {
         want(status, "view");
     }
-    uint8_t *text = malloc(*length + 1);
+    uint8_t *text = (uint8_t *)malloc(*length + 1);
     if (text == NULL) {
         exit(1);
     }

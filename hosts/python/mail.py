@@ -7,7 +7,7 @@ MAIL = '<div contenteditable="true"><h1>Plan</h1><p>Call Ann &amp; Bob.</p></div
 BUTTONS = ("bold", "justifyCenter", "insertUnorderedList")
 
 
-def told(editor, name):
+def told(editor: Editor, name: str) -> str:
     """Executes a command, and says what a host tells its user of it."""
     try:
         return "done" if editor.exec(name) else "not possible here"
@@ -15,13 +15,13 @@ def told(editor, name):
         return str(error)
 
 
-def show(editor):
+def show(editor: Editor) -> None:
     """Writes the mail and the toolbar, where the buttons that are on stand in brackets."""
     print(editor.html(), end="")
     print("toolbar:", *(f"[{button}]" if editor.state(button) else button for button in BUTTONS))
 
 
-def main():
+def main() -> None:
     with Editor(MAIL) as editor:
         show(editor)
         # the name: the characters 5 to 8 of the paragraph's text

@@ -6,15 +6,16 @@ without --deny also go through an Editor, call by call: the lines that are acts 
 calls, which the library has to answer as a session of these lines alone."""
 import re
 import sys
+from collections.abc import Callable
 from pathlib import Path
 
-from hedit import BAD_PLACE, DEEP, FULL, TOO_MANY_MARKS, Editor, HeditError, session
+from hedit import BadPlace, Editor, HeditError, PageFull, Place, TooDeep, TooManyMarks, session
 
-FAULTS = {
-    BAD_PLACE: "! 4 bad place",
-    TOO_MANY_MARKS: "! 5 too many marks",
-    FULL: "! 6 full",
-    DEEP: "! 7 deep",
+FAULTS: dict[type[HeditError], str] = {
+    BadPlace: "! 4 bad place",
+    TooManyMarks: "! 5 too many marks",
+    PageFull: "! 6 full",
+    TooDeep: "! 7 deep",
 }
 
 ESCAPE = re.compile(r"\\(?:([nt\\])|u\{([0-9A-Fa-f]{1,6})\})")
@@ -38,34 +39,34 @@ LINE = re.compile(
 )
 
 
-def place(path, offset):
+def place(path: str, offset: str) -> Place:
     return [] if path == "." else [int(step) for step in path.split("/")], int(offset)
 
 
-def value_of(text):
+def value_of(text: str) -> str:
     """A value, whose escapes are \\n, \\t, \\\\ and \\u{h}."""
     return ESCAPE.sub(lambda found: ESCAPES.get(found[1]) or chr(int(found[2], 16)), text)
 
 
-def is_value(text):
+def is_value(text: str) -> bool:
     """Whether each backslash of the text begins an escape of a value."""
     points = [int(found[2], 16) for found in ESCAPE.finditer(text) if found[2]]
     scalars = all(point < 0xD800 or 0xDFFF < point < 0x110000 for point in points)
     return scalars and "\\" not in ESCAPE.sub("", text)
 
 
-def words(flag):
+def words(flag: bool) -> str:
     return "true" if flag else "false"
 
 
-def turns(turn, word, count):
+def turns(turn: Callable[[], bool], word: str, count: int) -> str:
     taken = 0
     while taken < count and turn():
         taken += 1
     return f"{word} {taken}"
 
 
-def read_line(line):
+def read_line(line: str) -> re.Match[str] | None:
     """The match of a line that an Editor has a call for, and else None."""
     try:
         fits = len(line.encode()) <= 8192
@@ -75,9 +76,9 @@ def read_line(line):
     return found if found and is_value(found["value"] or "") else None
 
 
-def answer(editor, found):
+def answer(editor: Editor, found: re.Match[str]) -> str:
     """What a session answers to a line, by calls of an Editor."""
-    act = found.lastgroup
+    act = found.lastgroup or ""
     parts = found.groups()[found.re.groupindex[act]:]
     if act == "select":
         editor.select(place(*parts[:2]), place(*parts[2:4]))
@@ -104,14 +105,14 @@ def answer(editor, found):
     return {"html": editor.html, "tree": editor.tree, "points": editor.points}[act]()
 
 
-def reply(editor, found):
+def reply(editor: Editor, found: re.Match[str]) -> str:
     try:
         return answer(editor, found)
-    except HeditError as error:
-        return FAULTS[error.status] + "\n"
+    except tuple(FAULTS) as error:
+        return FAULTS[type(error)] + "\n"
 
 
-def parts_of(text):
+def parts_of(text: str) -> tuple[str, list[str], str, list[str]]:
     """The opening line, the page and the closing line of a session, and its acts, a line each."""
     opening, _, rest = text.partition("\n")
     lines = rest.split("\n")
@@ -119,7 +120,7 @@ def parts_of(text):
     return opening, lines[:end], lines[end], [line for line in lines[end + 1:] if line]
 
 
-def by_calls(text, options):
+def by_calls(text: str, options: dict[str, int]) -> tuple[str, str]:
     """The transcript of the acts that an Editor has calls for, by these calls, and the session that
     has these acts alone."""
     opening, page, closing, acts = parts_of(text)
@@ -129,7 +130,7 @@ def by_calls(text, options):
     return transcript, "\n".join([opening, *page, closing, *(line for line, _ in known), ""])
 
 
-def options_of(arguments):
+def options_of(arguments: list[str]) -> dict[str, int] | None:
     """The limits that the words ask for; None where they ask for something else."""
     if not arguments or arguments[0] != "run":
         return None
@@ -143,7 +144,7 @@ def options_of(arguments):
     return options
 
 
-def main(folders):
+def main(folders: list[str]) -> int:
     whole, calls, bad = 0, 0, []
     for stdin in sorted(path for folder in folders for path in Path(folder).glob("*.stdin")):
         arguments = stdin.with_suffix(".args").read_text().split("\n")[:-1]
@@ -156,8 +157,8 @@ def main(folders):
         if options is None or status != 0:
             continue
         calls += 1
-        transcript, text = by_calls(text.decode(errors="surrogateescape"), options)
-        if session(text.encode(), arguments) != (0, transcript.encode()):
+        transcript, known = by_calls(text.decode(errors="surrogateescape"), options)
+        if session(known, arguments) != (0, transcript.encode()):
             bad.append(f"{stdin} call by call")
     print(f"hosts: {whole} stored sessions as sessions, {calls} call by call; {len(bad)} differ")
     for name in bad[:20]:

@@ -1,0 +1,43 @@
+/* The smallest host of the editor in C++. It opens a mail, formats a part of it, asks what a
+ * toolbar would show, undoes, and prints the mail as HTML after each step, as crates/mail_host
+ * does. */
+#include <hedit.hpp>
+
+#include <iostream>
+
+static const char MAIL[] =
+    "<div contenteditable=\"true\"><h1>Plan</h1><p>Call Ann &amp; Bob.</p></div>";
+
+static const char *const BUTTONS[] = {"bold", "justifyCenter", "insertUnorderedList"};
+
+/* Executes a command, and says what a host tells its user of it. */
+static std::string told(hedit::Editor &editor, std::string_view name) {
+    try {
+        return editor.exec(name) ? "done" : "not possible here";
+    } catch (const hedit::Error &error) {
+        return error.what();
+    }
+}
+
+/* Writes the mail and the toolbar, where the buttons that are on stand in brackets. */
+static void show(hedit::Editor &editor) {
+    std::cout << editor.html() << "toolbar:";
+    for (std::string button : BUTTONS) {
+        std::cout << ' ' << (editor.state(button) ? '[' + button + ']' : button);
+    }
+    std::cout << '\n';
+}
+
+int main() {
+    hedit::Editor editor(MAIL);
+    show(editor);
+    /* The name: the characters 5 to 8 of the paragraph's text. */
+    editor.select({{0, 1, 0}, 5}, {{0, 1, 0}, 8});
+    std::cout << told(editor, "bold") << '\n';
+    show(editor);
+    std::cout << told(editor, "insertUnorderedList") << '\n';
+    show(editor);
+    std::cout << told(editor, "createLink") << '\n';
+    editor.undo();
+    show(editor);
+}

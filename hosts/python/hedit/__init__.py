@@ -1,0 +1,56 @@
+"""The engine behind a contenteditable region.
+
+    from hedit import Editor
+
+    with Editor("<p contenteditable>Call Ann</p>") as editor:
+        editor.select(((0, 0), 5), ((0, 0), 8))
+        editor.exec("bold")
+        print(editor.html())
+
+A place is a path and an offset: the index of a child in each node on the way from the document
+down, and a count of characters in a text, or of children in an element.
+
+A call that is refused raises a HeditError, with a class of its own for each cause, and leaves the
+editor as it was. An editor belongs to the thread that made it.
+
+The engine is a shared library, which is loaded when it is first needed: the one that the
+environment variable HEDIT_LIBRARY names, else the one in this package, else the one that
+bin/release has left in the repository, else the one that the system finds.
+"""
+from ._editor import Editor, Place, Question, View, session
+from ._errors import (
+    BadArgument,
+    BadPlace,
+    EditorClosed,
+    HeditError,
+    OutOfMemory,
+    PageFull,
+    PageKind,
+    PageRefused,
+    Status,
+    TooDeep,
+    TooManyMarks,
+    WrongThread,
+)
+from ._library import __version__
+
+__all__ = [
+    "BadArgument",
+    "BadPlace",
+    "Editor",
+    "EditorClosed",
+    "HeditError",
+    "OutOfMemory",
+    "PageFull",
+    "PageKind",
+    "PageRefused",
+    "Place",
+    "Question",
+    "Status",
+    "TooDeep",
+    "TooManyMarks",
+    "View",
+    "WrongThread",
+    "__version__",
+    "session",
+]

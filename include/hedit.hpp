@@ -1,0 +1,258 @@
+/* hedit.hpp: an editor for C++17, over hedit.h.
+ *
+ *     hedit::Editor editor("<p contenteditable>Call Ann</p>");
+ *     editor.select({{0, 0}, 5}, {{0, 0}, 8});
+ *     editor.exec("bold");
+ *     std::cout << editor.html();
+ *
+ * A call that is refused throws a hedit::Error, with a class of its own for each cause, or
+ * std::bad_alloc, and leaves the editor as it was. hedit.h says what each call does.
+ */
+#ifndef HEDIT_HPP
+#define HEDIT_HPP
+
+#include <hedit.h>
+
+#include <cstddef>
+#include <cstdint>
+#include <new>
+#include <stdexcept>
+#include <string>
+#include <string_view>
+#include <utility>
+#include <vector>
+
+namespace hedit {
+
+/* A path, the index of a child in each node on the way from the document down, and an offset:
+ * characters (code points) in a text, and children in an element. */
+struct Place {
+    std::vector<std::uint32_t> path;
+    std::uint32_t offset = 0;
+};
+
+/* A call was refused. */
+class Error : public std::runtime_error {
+  public:
+    Error(hedit_status status, const char *words) : std::runtime_error(words), status_(status) {}
+
+    hedit_status status() const noexcept { return status_; }
+
+  private:
+    hedit_status status_;
+};
+
+/* The bytes are no page: the first at() of them begin one, and kind() says why no more do. */
+class PageRefused : public Error {
+  public:
+    PageRefused(std::size_t at, hedit_page_kind kind)
+        : Error(HEDIT_PAGE_REFUSED, "the bytes are no page"), at_(at), kind_(kind) {}
+
+    std::size_t at() const noexcept { return at_; }
+    hedit_page_kind kind() const noexcept { return kind_; }
+
+  private:
+    std::size_t at_;
+    hedit_page_kind kind_;
+};
+
+/* The command would have made a node whose number reaches the cap. */
+class PageFull : public Error {
+  public:
+    PageFull() : Error(HEDIT_FULL, "the page is full") {}
+};
+
+/* The document is too deep for commands. */
+class TooDeep : public Error {
+  public:
+    TooDeep() : Error(HEDIT_DEEP, "the page is too deep") {}
+};
+
+/* A path names no node, or an offset is past its length. */
+class BadPlace : public Error {
+  public:
+    BadPlace() : Error(HEDIT_BAD_PLACE, "no such place") {}
+};
+
+/* 16 marks of other names are there. */
+class TooManyMarks : public Error {
+  public:
+    TooManyMarks() : Error(HEDIT_TOO_MANY_MARKS, "too many marks") {}
+};
+
+/* A text isn't UTF-8, or a limit is 0. */
+class BadArgument : public Error {
+  public:
+    BadArgument() : Error(HEDIT_BAD_ARGUMENT, "an argument means nothing") {}
+};
+
+/* The editor was moved from. */
+class Closed : public Error {
+  public:
+    Closed() : Error(HEDIT_CLOSED, "the editor is closed") {}
+};
+
+/* An editor of a page, which it closes when it ends. It can be moved, and not copied. Its calls
+ * come from one thread. */
+class Editor {
+  public:
+    /* No node gets a number from label_cap on, and undo_depth commands can be undone. */
+    explicit Editor(std::string_view page, std::uint32_t label_cap = 2000000,
+                    std::size_t undo_depth = 100) {
+        hedit_refusal refusal = {0, 0};
+        std::uint32_t status = hedit_open(&handle_, bytes(page), page.size(), label_cap,
+                                          undo_depth, &refusal);
+        if (status == HEDIT_PAGE_REFUSED) {
+            throw PageRefused(refusal.at, static_cast<hedit_page_kind>(refusal.kind));
+        }
+        answer(status);
+        html_length_ = page.size();
+    }
+
+    Editor(Editor &&other) noexcept
+        : handle_(std::exchange(other.handle_, hedit_editor HEDIT_CLOSED_EDITOR)),
+          html_length_(other.html_length_) {}
+
+    Editor &operator=(Editor &&other) noexcept {
+        Editor taken(std::move(other));
+        std::swap(handle_, taken.handle_);
+        std::swap(html_length_, taken.html_length_);
+        return *this;
+    }
+
+    ~Editor() { hedit_close(&handle_); }
+
+    /* Executes a command by its name, in any case. False where it isn't possible here, or refuses
+     * the value. */
+    bool exec(std::string_view name, std::string_view value = "") {
+        return answer(
+            hedit_exec(&handle_, bytes(name), name.size(), bytes(value), value.size()));
+    }
+
+    /* Takes one step back, or forth again. False where there is none. */
+    bool undo() { return answer(hedit_undo(&handle_)); }
+    bool redo() { return answer(hedit_redo(&handle_)); }
+
+    /* Selects from an anchor to a focus, or puts the caret at one place. */
+    void select(const Place &anchor, const Place &focus) {
+        answer(hedit_select(&handle_, path(anchor), anchor.path.size(), anchor.offset,
+                            path(focus), focus.path.size(), focus.offset));
+    }
+    void select(const Place &caret) { select(caret, caret); }
+
+    /* Gives the selection up. */
+    void unselect() { answer(hedit_unselect(&handle_)); }
+
+    /* Gives a name to what is between two places. */
+    void mark(std::string_view name, const Place &anchor, const Place &focus) {
+        answer(hedit_mark(&handle_, bytes(name), name.size(), path(anchor), anchor.path.size(),
+                          anchor.offset, path(focus), focus.path.size(), focus.offset));
+    }
+
+    /* Takes the mark of a name out. False where there is none. */
+    bool unmark(std::string_view name) {
+        return answer(hedit_unmark(&handle_, bytes(name), name.size()));
+    }
+
+    /* Whether there is such a command. */
+    bool supported(std::string_view name) { return ask(HEDIT_SUPPORTED, name).first; }
+
+    /* Whether there is something for the command to work in. */
+    bool enabled(std::string_view name) { return ask(HEDIT_ENABLED, name).first; }
+
+    /* Whether the command's state is so for a part of the selection only. */
+    bool indeterm(std::string_view name) { return ask(HEDIT_INDETERM, name).first; }
+
+    /* Whether the selection has it, as a toolbar's button shows it. */
+    bool state(std::string_view name) { return ask(HEDIT_STATE, name).first; }
+
+    /* The command's value: a font, a colour, the name of a block. */
+    std::string value(std::string_view name) { return ask(HEDIT_VALUE, name).second; }
+
+    /* The page as HTML, with a line feed at the end. */
+    std::string html() {
+        /* Room for what commands have made of it since, so that it is printed once. */
+        std::string text = view(HEDIT_HTML, 4096 + html_length_ + html_length_ / 4);
+        html_length_ = text.size();
+        return text;
+    }
+
+    /* A line for each node. */
+    std::string tree() { return view(HEDIT_TREE, 4096); }
+
+    /* The selection and the marks. */
+    std::string points() { return view(HEDIT_POINTS, 4096); }
+
+    /* The numbers of the page and of the history. */
+    std::string numbers() { return view(HEDIT_NUMBERS, 4096); }
+
+  private:
+    /* hedit.h takes no null pointer, also where the count is 0. */
+    static const std::uint8_t *bytes(std::string_view text) {
+        return reinterpret_cast<const std::uint8_t *>(text.empty() ? "" : text.data());
+    }
+
+    static const std::uint32_t *path(const Place &place) {
+        static constexpr std::uint32_t none = 0;
+        return place.path.empty() ? &none : place.path.data();
+    }
+
+    /* Whether a call was done; where it was refused, this throws why. */
+    static bool answer(std::uint32_t status) {
+        switch (status) {
+        case HEDIT_MEMORY: throw std::bad_alloc();
+        case HEDIT_FULL: throw PageFull();
+        case HEDIT_DEEP: throw TooDeep();
+        case HEDIT_BAD_PLACE: throw BadPlace();
+        case HEDIT_TOO_MANY_MARKS: throw TooManyMarks();
+        case HEDIT_BAD_ARGUMENT: throw BadArgument();
+        case HEDIT_CLOSED: throw Closed();
+        default: return status == HEDIT_DONE;
+        }
+    }
+
+    /* The text of a call that takes a buffer: it is called again where the text is longer than the
+     * capacity. */
+    template <typename Call> static std::string read_text(Call call, std::size_t capacity) {
+        for (;;) {
+            std::string text(capacity, '\0');
+            std::size_t length = 0;
+            std::uint32_t status =
+                call(reinterpret_cast<std::uint8_t *>(text.data()), capacity, &length);
+            if (status != HEDIT_TOO_SMALL) {
+                answer(status);
+                text.resize(length);
+                return text;
+            }
+            capacity = length;
+        }
+    }
+
+    std::pair<bool, std::string> ask(hedit_question question, std::string_view name) {
+        std::uint32_t flag = 0;
+        std::string text = read_text(
+            [&](std::uint8_t *buffer, std::size_t capacity, std::size_t *length) {
+                return hedit_query(&handle_, question, bytes(name), name.size(), &flag, buffer,
+                                   capacity, length);
+            },
+            256);
+        return {flag == 1, std::move(text)};
+    }
+
+    std::string view(hedit_view_kind kind, std::size_t capacity) {
+        return read_text(
+            [&](std::uint8_t *buffer, std::size_t size, std::size_t *length) {
+                return hedit_view(&handle_, kind, buffer, size, length);
+            },
+            capacity);
+    }
+
+    hedit_editor handle_ = HEDIT_CLOSED_EDITOR;
+
+    /* How long the page was when it was last printed. */
+    std::size_t html_length_ = 0;
+};
+
+} // namespace hedit
+
+#endif
