@@ -67,7 +67,7 @@ static unsigned row_of(size_t size) { return 63 - __builtin_clzl(size); }
 
 static unsigned column_of(size_t size) { return (size >> (row_of(size) - 4)) % CLASSES; }
 
-/* The least size from which all sizes of its class are at least this one. */
+/* The size, rounded up to where a class begins: from there on all blocks are large enough. */
 static size_t class_from(size_t size) {
     size_t width = (size_t)1 << (row_of(size) - 4);
     return (size + width - 1) & ~(width - 1);

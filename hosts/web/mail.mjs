@@ -1,0 +1,46 @@
+/**
+ * The smallest host of the editor in JavaScript. It opens a mail, formats a part of it, asks what a
+ * toolbar would show, undoes, and prints the mail as HTML after each step, as mail_host does.
+ *
+ *     node mail.mjs PATH_OF_HEDIT_WASM
+ */
+import { readFile } from "node:fs/promises";
+import { argv, stdout } from "node:process";
+import { HeditError, load } from "./hedit.js";
+
+const MAIL = '<div contenteditable="true"><h1>Plan</h1><p>Call Ann &amp; Bob.</p></div>';
+
+const BUTTONS = ["bold", "justifyCenter", "insertUnorderedList"];
+
+const engine = await load(await readFile(argv[2]));
+const editor = engine.open(MAIL);
+
+/** Executes a command, and says what a host tells its user of it. */
+function tell(name) {
+  try {
+    stdout.write(editor.exec(name) ? "done\n" : "not possible here\n");
+  } catch (error) {
+    if (!(error instanceof HeditError)) {
+      throw error;
+    }
+    stdout.write(`${error.message}\n`);
+  }
+}
+
+/** Writes the mail and the toolbar, where the buttons that are on stand in brackets. */
+function show() {
+  const buttons = BUTTONS.map((button) => (editor.state(button) ? `[${button}]` : button));
+  stdout.write(`${editor.html()}toolbar: ${buttons.join(" ")}\n`);
+}
+
+show();
+// the name: the characters 5 to 8 of the paragraph's text
+editor.select({ path: [0, 1, 0], offset: 5 }, { path: [0, 1, 0], offset: 8 });
+tell("bold");
+show();
+tell("insertUnorderedList");
+show();
+tell("createLink");
+editor.undo();
+show();
+editor.close();

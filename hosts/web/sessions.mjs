@@ -1,0 +1,188 @@
+/**
+ * node sessions.mjs FOLDER..: runs stored sessions (NNN.args, .stdin, .stdout, .status) through
+ * hedit.js.
+ *
+ * Each goes through Engine.session, which has to give what is stored. Those of `run` without --deny
+ * also go through an Editor, call by call: the lines that are acts for which it has calls, which
+ * the engine has to answer as a session of these lines alone.
+ */
+import { readFileSync, readdirSync } from "node:fs";
+import { join } from "node:path";
+import { argv, exit } from "node:process";
+import { BYTES } from "./test/engine.mjs";
+import { HeditError, load } from "./hedit.js";
+
+const engine = await load(BYTES);
+
+const FAULTS = {
+  BadPlace: "! 4 bad place",
+  TooManyMarks: "! 5 too many marks",
+  PageFull: "! 6 full",
+  TooDeep: "! 7 deep",
+};
+
+const ESCAPE = /\\(?:([nt\\])|u\{([0-9A-Fa-f]{1,6})\})/g;
+
+const ESCAPES = { n: "\n", t: "\t", "\\": "\\" };
+
+const PRINTED = { "\n": "\\n", "\t": "\\t", "\\": "\\\\", '"': '\\"', "\r": "\\r", "\xa0": "\\u{a0}" };
+
+const NAME = "([A-Za-z0-9-]{1,64})";
+
+const POINT = String.raw`(\.|\d{1,9}(?:/\d{1,9})*):(\d{1,9})`;
+
+const place = (path, offset) => ({
+  path: path === "." ? [] : path.split("/").map(Number),
+  offset: Number(offset),
+});
+
+/** A value, whose escapes are \n, \t, \\ and \u{h}. */
+const valueOf = (text) =>
+  text.replace(ESCAPE, (_, letter, point) => ESCAPES[letter] ?? String.fromCodePoint(parseInt(point, 16)));
+
+/** Whether each backslash of a text begins an escape of a value. */
+function isValue(text) {
+  const points = [...text.matchAll(ESCAPE)].flatMap((found) => found[2] ?? []);
+  const areScalars = points
+    .map((point) => parseInt(point, 16))
+    .every((point) => point < 0xd800 || (0xdfff < point && point < 0x110000));
+  return areScalars && !text.replace(ESCAPE, "").includes("\\");
+}
+
+function turns(editor, word, count) {
+  let taken = 0;
+  while (taken < count && editor[word]()) {
+    taken += 1;
+  }
+  return `${word} ${taken}\n`;
+}
+
+function query(editor, question, name) {
+  const reply = editor[question](name);
+  const said = question === "value" ? `= ${reply.replace(/[\n\t\\"\r\xa0]/g, (it) => PRINTED[it])}` : reply;
+  return `${said}\n`;
+}
+
+/** The lines for which an Editor has calls, and what a session answers to them by these calls. */
+const ACTS = [
+  [`select ${POINT} ${POINT}`, (editor, ...parts) => {
+    editor.select(place(...parts.slice(0, 2)), place(...parts.slice(2)));
+    return "ok\n";
+  }],
+  ["unselect", (editor) => {
+    editor.unselect();
+    return "ok\n";
+  }],
+  [`mark ${NAME} ${POINT} ${POINT}`, (editor, name, ...parts) => {
+    editor.mark(name, place(...parts.slice(0, 2)), place(...parts.slice(2)));
+    return "ok\n";
+  }],
+  [`unmark ${NAME}`, (editor, name) => `${editor.unmark(name)}\n`],
+  [`exec ${NAME}(?: (.*))?`, (editor, name, value = "") => `${editor.exec(name, valueOf(value))}\n`],
+  [`query (enabled|indeterm|state|supported|value) ${NAME}`, query],
+  ["(undo|redo) ([1-9][0-9]{0,8})", turns],
+  ["html", (editor) => editor.html()],
+  ["tree", (editor) => editor.tree()],
+  ["points", (editor) => editor.points()],
+  ["stat", (editor) => editor.numbers()],
+].map(([line, reply]) => [new RegExp(`^(?:${line})$`, "su"), reply]);
+
+/** What answers a line by calls of an Editor; undefined where it has none for it. */
+function actOf(line) {
+  if (line === undefined || Buffer.byteLength(line) > 8192) {
+    return undefined;
+  }
+  for (const [pattern, reply] of ACTS) {
+    const found = pattern.exec(line);
+    if (found) {
+      const isExec = line.startsWith("exec ");
+      return isExec && !isValue(found[2] ?? "") ? undefined : (editor) => reply(editor, ...found.slice(1));
+    }
+  }
+  return undefined;
+}
+
+function replyOf(editor, act) {
+  try {
+    return act(editor);
+  } catch (error) {
+    if (error instanceof HeditError && FAULTS[error.name]) {
+      return `${FAULTS[error.name]}\n`;
+    }
+    throw error;
+  }
+}
+
+/** The lines of a session; undefined for each that isn't UTF-8. */
+function linesOf(bytes) {
+  const decoder = new TextDecoder("utf-8", { fatal: true, ignoreBOM: true });
+  return bytes
+    .toString("latin1")
+    .split("\n")
+    .map((line) => {
+      try {
+        return decoder.decode(Buffer.from(line, "latin1"));
+      } catch {
+        return undefined;
+      }
+    });
+}
+
+/**
+ * The transcript of the acts that an Editor has calls for, by these calls, and the session that has
+ * these acts alone.
+ */
+function byCalls(bytes, limits) {
+  const [opening, ...lines] = linesOf(bytes);
+  const end = lines.indexOf(opening.replace(/^page <</, ""));
+  const acts = lines.slice(end + 1).filter((line) => actOf(line));
+  const editor = engine.open(lines.slice(0, end).join("\n"), limits);
+  const transcript = acts.map((line) => replyOf(editor, actOf(line))).join("");
+  editor.close();
+  return [transcript, [opening, ...lines.slice(0, end + 1), ...acts, ""].join("\n")];
+}
+
+/** The limits that the words ask for; undefined where they ask for something else. */
+function limitsOf(words) {
+  const names = { "--cap": "labelCap", "--undo": "undoDepth" };
+  const rest = words.slice(1).join(" ").replaceAll("=", " ").split(" ").filter(Boolean);
+  const limits = {};
+  for (let at = 0; at < rest.length; at += 2) {
+    if (!names[rest[at]] || !/^[0-9]+$/.test(rest[at + 1])) {
+      return undefined;
+    }
+    limits[names[rest[at]]] = Number(rest[at + 1]);
+  }
+  return words[0] === "run" ? limits : undefined;
+}
+
+let whole = 0;
+let calls = 0;
+const differ = [];
+for (const folder of argv.slice(2)) {
+  for (const name of readdirSync(folder).filter((it) => it.endsWith(".stdin")).sort()) {
+    const file = join(folder, name.slice(0, -".stdin".length));
+    const words = readFileSync(`${file}.args`, "utf8").split("\n").slice(0, -1);
+    const input = readFileSync(`${file}.stdin`);
+    const status = Number(readFileSync(`${file}.status`, "utf8"));
+    const told = engine.session(input, words);
+    whole += 1;
+    if (told.status !== status || !Buffer.from(told.transcript).equals(readFileSync(`${file}.stdout`))) {
+      differ.push(`${file} as a session`);
+    }
+    const limits = limitsOf(words);
+    if (limits && status === 0) {
+      calls += 1;
+      const [transcript, known] = byCalls(input, limits);
+      const wanted = engine.session(known, words);
+      if (wanted.status !== 0 || wanted.transcript !== transcript) {
+        differ.push(`${file} call by call`);
+      }
+    }
+  }
+}
+console.log(`web: ${whole} stored sessions as sessions, ${calls} call by call; ${differ.length} differ`);
+for (const line of differ.slice(0, 20)) {
+  console.log(line);
+}
+exit(differ.length ? 1 : 0);
