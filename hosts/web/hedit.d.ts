@@ -1,0 +1,190 @@
+/** The types of hedit.js, which says more of each call. */
+
+export declare const VERSION: string;
+
+type ValueOf<T> = T[keyof T];
+
+export declare const Status: Readonly<{
+  DONE: 0;
+  NO: 1;
+  USAGE: 2;
+  MEMORY: 5;
+  PAGE_REFUSED: 6;
+  TOO_LONG: 7;
+  STEP_REFUSED: 8;
+  TOO_SMALL: 9;
+  FULL: 10;
+  DEEP: 11;
+  BAD_PLACE: 12;
+  TOO_MANY_MARKS: 13;
+  BAD_ARGUMENT: 14;
+  CLOSED: 15;
+}>;
+export type Status = ValueOf<typeof Status>;
+
+/** What can be asked of a command. */
+export declare const Question: Readonly<{
+  SUPPORTED: 0;
+  ENABLED: 1;
+  INDETERM: 2;
+  STATE: 3;
+  VALUE: 4;
+}>;
+export type Question = ValueOf<typeof Question>;
+
+/** What is printed of an editor. */
+export declare const View: Readonly<{ HTML: 0; TREE: 1; POINTS: 2; NUMBERS: 3 }>;
+export type View = ValueOf<typeof View>;
+
+/** Why a page is refused. */
+export declare const PageKind: Readonly<{
+  NOT_UTF8: "not-utf8";
+  BAD_TAG: "bad-tag";
+  UNCLOSED: "unclosed";
+  STRAY_END: "stray-end";
+  BAD_ATTRIBUTE: "bad-attribute";
+  REPEATED_ATTRIBUTE: "repeated-attribute";
+  UNKNOWN_REFERENCE: "unknown-reference";
+  UNSUPPORTED_ELEMENT: "unsupported-element";
+  TOO_DEEP: "too-deep";
+  TOO_LONG: "too-long";
+  FULL: "full";
+}>;
+export type PageKind = ValueOf<typeof PageKind>;
+
+/** A text; bytes are its UTF-8. */
+export type Text = string | Uint8Array;
+
+/** The indexes of children from the document down, and a count of children or of characters. */
+export interface Place {
+  readonly path: readonly number[];
+  readonly offset: number;
+}
+
+export interface Limits {
+  /** No node gets a number from here on. 2,000,000 by default. */
+  readonly labelCap?: number;
+  /** So many commands can be undone. 100 by default. */
+  readonly undoDepth?: number;
+}
+
+/** A call was refused. The editor is as before. */
+export declare class HeditError extends Error {
+  readonly status: Status | undefined;
+}
+
+/** The text is no page: what stands before `at` begins one. */
+export declare class PageRefused extends HeditError {
+  /** In UTF-16 units of a string, in bytes of a Uint8Array. */
+  readonly at: number;
+  readonly kind: PageKind;
+}
+
+/** A path names no node, or an offset is past its length or inside a character. */
+export declare class BadPlace extends HeditError {}
+
+/** 16 marks of other names are there. */
+export declare class TooManyMarks extends HeditError {}
+
+/** The command would have made a node whose number reaches the cap. */
+export declare class PageFull extends HeditError {}
+
+/** The document is too deep for commands. */
+export declare class TooDeep extends HeditError {}
+
+/** There was no memory for the call. */
+export declare class OutOfMemory extends HeditError {}
+
+/** A number is outside its limits, or a text isn't Unicode. */
+export declare class BadArgument extends HeditError {}
+
+/** The editor is closed. */
+export declare class EditorClosed extends HeditError {}
+
+/** An earlier call stopped in the middle, by the `cause`. Load another engine. */
+export declare class EngineStopped extends HeditError {}
+
+/** An offset in a text node in characters, from one in UTF-16 units. */
+export declare function toCharacters(text: string, units: number): number;
+
+/** An offset in a text node in UTF-16 units, from one in characters. */
+export declare function toUnits(text: string, characters: number): number;
+
+/** An editor of a page, which `Engine.open` gives. Close it: one that is collected is closed then. */
+export declare class Editor {
+  private constructor();
+
+  /** Frees the editor's memory. Each other call is refused from then on. */
+  close(): void;
+
+  /** Executes a command by its name, in any case. False where it isn't possible here. */
+  exec(name: Text, value?: Text): boolean;
+
+  /** Takes a step back. False where there is none. */
+  undo(): boolean;
+
+  /** Takes a step forth again. False where there is none. */
+  redo(): boolean;
+
+  /** Selects from a place to another, or puts the caret at one. */
+  select(anchor: Place, focus?: Place): void;
+
+  /** Gives the selection up. */
+  unselect(): void;
+
+  /** Gives a name to what is between two places; the mark goes along with the text. */
+  mark(name: Text, anchor: Place, focus: Place): void;
+
+  /** Takes the mark of a name out. False where there is none. */
+  unmark(name: Text): boolean;
+
+  /** What a command answers to a question: the value is a text, and the others are flags. */
+  ask(question: typeof Question.VALUE, name: Text): string;
+  ask(question: Exclude<Question, typeof Question.VALUE>, name: Text): boolean;
+
+  /** Whether there is such a command. */
+  supported(name: Text): boolean;
+
+  /** Whether there is something for the command to work in. */
+  enabled(name: Text): boolean;
+
+  /** Whether the command's state is so for a part of the selection only. */
+  indeterm(name: Text): boolean;
+
+  /** Whether the selection has it, as a toolbar's button shows it. */
+  state(name: Text): boolean;
+
+  /** The command's value: a font, a colour, the name of a block. */
+  value(name: Text): string;
+
+  /** What is printed of the editor, in whole lines. */
+  view(kind: View): string;
+
+  /** The page as HTML, with a line feed at the end. */
+  html(): string;
+
+  /** A line for each node. */
+  tree(): string;
+
+  /** The selection and the marks. */
+  points(): string;
+
+  /** The numbers of the page and of the history. */
+  numbers(): string;
+}
+
+/** The engine. Its editors share a memory, which grows as they need and is freed with the engine. */
+export declare class Engine {
+  private constructor();
+
+  /** Opens a page. */
+  open(page: Text, limits?: Limits): Editor;
+
+  /** Runs a session of the program, as its command line has the words. */
+  session(text: Text, words?: readonly string[]): { status: Status; transcript: string };
+}
+
+/** Loads the engine: hedit.wasm beside hedit.js, or at another address, or its response or bytes. */
+export declare function load(
+  source?: string | URL | Response | PromiseLike<Response> | BufferSource,
+): Promise<Engine>;
