@@ -6,7 +6,7 @@
  */
 import { readFile } from "node:fs/promises";
 import { argv, stdout } from "node:process";
-import { HeditError, load } from "./hedit.js";
+import { HeditError, load } from "hedit";
 
 const MAIL = '<div contenteditable="true"><h1>Plan</h1><p>Call Ann &amp; Bob.</p></div>';
 
