@@ -372,7 +372,17 @@ describe("many editors", () => {
 
   it("give their memory back", async () => {
     const { exports } = await WebAssembly.instantiate(new WebAssembly.Module(BYTES));
-    const other = new hedit.Engine(exports);
+    const lent = new Set();
+    const allocate = (size) => {
+      const at = exports.allocate(size);
+      lent.add(at);
+      return at;
+    };
+    const release = (at) => {
+      assert.ok(lent.delete(at));
+      exports.release(at);
+    };
+    const other = new hedit.Engine({ ...exports, allocate, release });
     const page = `<div contenteditable>${"<p>Call Ann</p>".repeat(2_000)}</div>`;
     const edit = () => {
       const editor = other.open(page);
@@ -385,10 +395,11 @@ describe("many editors", () => {
     edit();
     edit();
     const length = exports.memory.buffer.byteLength;
-    for (let time = 0; time < 20; time += 1) {
+    for (let time = 0; time < 5; time += 1) {
       edit();
     }
     assert.equal(exports.memory.buffer.byteLength, length);
+    assert.equal(lent.size, 0);
   });
 
   it("are closed when they are collected", async () => {
