@@ -1,9 +1,10 @@
 #!/usr/bin/env python3
 """Prints what the gate costs: bench/gate.py [WORD..]
 
-Runs `rt ci`, and prints for each crate the seconds of processor that its proofs, its tests and its must-fail edits took,
-and the sum, and then the minutes from the start to the end. The words are handed on: with some toolchains `rt ci` takes
-the names of crates, keeps what an earlier run on the machine proved, and proves it again with `--anew`.
+Runs `rt ci` with a check on each processor, as `.ci/run` does, and prints for each crate the seconds of processor that its
+proofs, its tests and its must-fail edits took, the most memory that one of its checks held, and the sums; then the longest
+chain of proofs by the clock, and the minutes from the start to the end. The words are handed on: `--anew` proves all
+again, where `rt ci` by itself keeps what an earlier run on the machine proved.
 
 The seconds are read from /proc, of each process of the prover and of those that it started, five times a second: what
 one of them took after it was last read is left out.
@@ -14,10 +15,24 @@ import subprocess
 import sys
 import time
 from collections import Counter, defaultdict
+from dataclasses import dataclass
 from pathlib import Path
 
+ROOT = Path(__file__).resolve().parent.parent
 TICKS = os.sysconf("SC_CLK_TCK")
 KINDS = ("proofs", "tests", "edits")
+
+
+@dataclass
+class Check:
+    """A process of the prover: what it checks, its seconds of processor, its most KiB of memory, and when it ran."""
+
+    crate: str
+    kind: str
+    began: float
+    ended: float = 0
+    seconds: float = 0
+    memory: int = 0
 
 
 def kind_of(words, folder):
@@ -37,19 +52,28 @@ def read_processes():
     return found
 
 
-def crate_of(number):
-    """The crate that a process of the prover checks and what it does there, or None for any other process."""
+def read_check(number, now):
+    """The check that a process of the prover makes, or None for any other process."""
     folder = Path("/proc", str(number))
     try:
         words = (folder / "cmdline").read_text(errors="replace").split("\0")
         place = os.readlink(folder / "cwd")
     except OSError:
         return None
-    return (words[words.index("--crate-name") + 1], kind_of(words, place)) if "--crate-name" in words else None
+    return Check(words[words.index("--crate-name") + 1], kind_of(words, place), now) if "--crate-name" in words else None
 
 
-def read_provers(gate, found):
-    """Notes the seconds of each process of the prover that the gate has started, with those of what runs below it."""
+def read_memory(number):
+    """The most KiB that a process has held."""
+    with contextlib.suppress(OSError):
+        for line in Path("/proc", str(number), "status").read_text().splitlines():
+            if line.startswith("VmHWM"):
+                return int(line.split()[1])
+    return 0
+
+
+def read_provers(gate, checks, now):
+    """Notes what each process of the prover that the gate has started took so far, with what runs below it."""
     running = read_processes()
     children = defaultdict(list)
     for number, (parent, _) in running.items():
@@ -59,32 +83,55 @@ def read_provers(gate, found):
         return running[number][1] + sum(seconds_below(child) for child in children[number])
 
     for number in children[gate]:
-        key = found[number][0] if number in found else crate_of(number)
-        if key:
-            found[number] = (key, max(seconds_below(number), found[number][1] if number in found else 0))
+        check = checks.get(number) or read_check(number, now)
+        if check:
+            checks[number] = check
+            check.ended = now
+            check.seconds = max(check.seconds, seconds_below(number))
+            check.memory = max(check.memory, read_memory(number))
 
 
-def print_table(found):
+def print_table(checks):
     """Prints the seconds of each crate, the costliest first, and their sums."""
-    sums = Counter()
-    for (crate, kind), seconds in found.values():
-        sums[crate, kind] += seconds
-    crates = sorted({crate for crate, _ in sums}, key=lambda it: -sum(sums[it, kind] for kind in KINDS))
+    sums, memory = Counter(), Counter()
+    for check in checks:
+        sums[check.crate, check.kind] += check.seconds
+        memory[check.crate] = max(memory[check.crate], check.memory)
+    crates = sorted(memory, key=lambda it: -sum(sums[it, kind] for kind in KINDS))
     rows = [(crate, *(sums[crate, kind] for kind in KINDS)) for crate in crates]
     rows.append(("all", *(sum(row[1 + at] for row in rows) for at in range(len(KINDS)))))
-    print(f"\n{'crate':20}{'proofs':>9}{'tests':>9}{'edits':>9}{'all':>9}")
+    memory["all"] = max(memory.values(), default=0)
+    print(f"\n{'crate':20}{'proofs':>9}{'tests':>9}{'edits':>9}{'all':>9}{'MiB':>9}")
     for crate, *seconds in rows:
-        print(f"{crate:20}" + "".join(f"{it:9.0f}" for it in (*seconds, sum(seconds))))
+        print(f"{crate:20}" + "".join(f"{it:9.0f}" for it in (*seconds, sum(seconds), memory[crate] / 1024)))
+
+
+def read_crates():
+    """What crates.txt says: for each crate those that it stands on."""
+    rows = (line.partition("#")[0].partition(":") for line in (ROOT / "crates.txt").read_text().splitlines())
+    return {name.split()[0]: below.split() for name, colon, below in rows if colon}
+
+
+def print_chain(checks):
+    """Prints the chain of proofs that ended last: each crate after the one that it waited for."""
+    proofs, below, chain = {it.crate: it for it in checks if it.kind == "proofs"}, read_crates(), []
+    at = max(proofs, key=lambda it: proofs[it].ended, default=None)
+    while at:
+        chain.append(f"{at} {proofs[at].began / 60:.1f} to {proofs[at].ended / 60:.1f}")
+        at = max((it for it in below[at] if it in proofs), key=lambda it: proofs[it].ended, default=None)
+    print("\nthe chain of proofs that ended last, in minutes from the start: " + ", ".join(reversed(chain)))
 
 
 def main():
-    found, began = {}, time.monotonic()
-    gate = subprocess.Popen(["rt", "ci", *sys.argv[1:]], cwd=Path(__file__).resolve().parent.parent)
+    checks, began = {}, time.monotonic()
+    jobs = {"RT_JOBS": str(os.cpu_count()), **os.environ}
+    gate = subprocess.Popen(["rt", "ci", *sys.argv[1:]], cwd=ROOT, env=jobs)
     while gate.poll() is None:
-        read_provers(gate.pid, found)
+        read_provers(gate.pid, checks, time.monotonic() - began)
         time.sleep(0.2)
-    print_table(found)
-    print(f"\n{(time.monotonic() - began) / 60:.1f} minutes from the begin to the end")
+    print_table(checks.values())
+    print_chain(checks.values())
+    print(f"\n{(time.monotonic() - began) / 60:.1f} minutes from the start to the end")
     return gate.returncode
 
 

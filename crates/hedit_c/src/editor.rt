@@ -16,8 +16,6 @@ mod handle;
 mod opening;
 mod raw_box;
 pub(crate) mod status;
-#[cfg(test)]
-mod tests;
 mod texts;
 
 use acts::{exec, mark, redo, select, undo, unmark};

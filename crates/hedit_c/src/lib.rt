@@ -6,5 +6,3 @@
 
 mod editor;
 mod session;
-#[cfg(test)]
-mod tests;
