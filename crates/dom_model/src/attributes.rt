@@ -1,13 +1,16 @@
 //! The attribute list of an element.
 
-ghost use Rattle.std.specs.Prelude.{◌≡◌, ◌<◌, Some, [], IfOk, OnOk, OnErr, IsTrue, ◌↔◌, length, slice_get, is_some};
+ghost use Rattle.std.specs.Prelude.{◌≡◌, ℕ, ◌<◌, true, false, List, ◌++◌, ◌∷◌, None, Some, [], IfOk, IfSome, OnOk, OnErr, MatchOption, length, remove, slice_get, is_some, bytes_eq};
+ghost use Rattle.std.specs.List.{AllByRecursion};
 ghost use Rattle.std.specs.Option.{option_copied, option_map};
-ghost use Rattle.dom_model.specs.AttributeList.{value_of, set_in, unset_in, IsDistinctNames};
-ghost use Rattle.dom_model.specs.AttributeMap.{entry_attributes};
+ghost use Rattle.std.specs.Map.{keys_of, values_of};
+ghost use Rattle.dom_model.specs.AttributeList.{value_of, set_in, unset_in, names_of, IsDistinctNames};
+ghost use Rattle.dom_model.specs.AttributeMap.{is_named, IsNumbered, IsKnown, IsAbove};
 
 use crate::items::{Chars, Name};
 use indexmap::IndexMap;
 use std::alloc::{AllocError, AllocFailed, Global};
+use std::collections::BTreeMap;
 use std::marker::Model;
 
 // So many attributes are looked at in turn.
@@ -20,11 +23,50 @@ pub struct Attribute {
     pub value: Chars,
 }
 
+impl Clone for Attribute {
+    ghost is_clone = { λ a b. b ≡ a };
+
+    fn clone(&self) -> Result<Attribute, AllocError> {
+        Ok(Attribute {
+            name: self.name.clone()?,
+            value: self.value.clone()?,
+        })
+    }
+}
+
+type Rows = IndexMap<usize, Attribute>;
+
+type Numbers = BTreeMap<Vec<u8>, usize>;
+
+// Attributes in order. Each has a number, in the order in which they came, by which the map holds it: a hash is taken of
+// numbers alone, and never of a name, so that no choice of names makes a look-up long.
+#[derive(Drop)]
+struct Listing {
+    rows: Rows,
+    // The number of the next attribute that comes.
+    next: usize,
+    // The number of each name, once there are more than a few. It is found by the order of the names.
+    numbers: Option<Box<Numbers>>,
+}
+
+impl Model for Listing {
+    ghost use Rattle.std.specs.Prelude.{List};
+    ghost use Rattle.std.specs.Map.{values_of};
+    ghost use Rattle.dom_model.specs.declared.attributes.Attribute.{Attribute};
+    ghost use Rattle.dom_model.specs.AttributeMap.{IsListing};
+
+    ghost Value = { List Attribute };
+
+    ghost view = { λ l. values_of l.rows.entries };
+
+    ghost invariant = { λ l. IsListing l.rows.entries l.next l.numbers };
+}
+
 /// An ordered list of attributes whose names are distinct. It takes no memory while it is empty.
 #[derive(Drop)]
 pub struct Attributes {
     alloc: Global,
-    list: Option<Box<IndexMap<Vec<u8>, Chars>>>,
+    list: Option<Box<Listing>>,
 }
 
 impl Model for Attributes {
@@ -33,68 +75,275 @@ impl Model for Attributes {
 
     ghost Value = { List Attribute };
 
-    ghost use Rattle.dom_model.specs.AttributeMap.{map_attributes};
+    ghost use Rattle.dom_model.specs.AttributeMap.{listed};
 
-    ghost view = { λ a. map_attributes a.list };
+    ghost view = { λ a. listed a.list };
 }
 
-// Gives a name a value in a map.
-fn put(map: &mut IndexMap<Vec<u8>, Chars>, name: Name, value: Chars) -> Result<(), AllocError>
-    ensures ok { OnOk result (entry_attributes map.new.entries
-        ≡ set_in (entry_attributes map.old.entries) name value) }
-    ensures err { OnErr result (entry_attributes map.new.entries
-        ≡ entry_attributes map.old.entries) }
-{
-    map.insert(name.into_vec(), value)?;
-    Ok(())
-}
-
-// Takes a name out of a map.
-fn take(map: &mut IndexMap<Vec<u8>, Chars>, name: &[u8]) -> bool
-    ensures was { result ≡ is_some (value_of (entry_attributes map.old.entries) name.now) }
-    ensures left { entry_attributes map.new.entries
-        ≡ unset_in (entry_attributes map.old.entries) name.now }
-{
-    map.shift_remove(name).is_some()
-}
-
-// The name and the value at a place of a map that has so many.
-fn entry_at<'a>(map: &'a IndexMap<Vec<u8>, Chars>, place: usize) -> (&'a [u8], &'a Chars)
-    requires { place < length map.now.entries }
-    ensures { slice_get (entry_attributes map.now.entries) place ≡ Some (record {
+// The name and the value at a place of rows that has so many.
+fn row_at<'a>(rows: &'a Rows, place: usize) -> (&'a [u8], &'a Chars)
+    requires { place < length rows.now.entries }
+    ensures { slice_get (values_of rows.now.entries) place ≡ Some (record {
       name = result.0.now;
       value = result.1.now;
     }) }
 {
-    match map.get_index(place) {
-        Some((name, value)) => (name.as_slice(), value),
+    match rows.get_index(place) {
+        Some((_, row)) => (row.name.as_slice(), &row.value),
         None => unreachable!(),
     }
 }
 
-// The value of a name, by a look at each attribute in turn.
-fn scanned<'a>(map: &'a IndexMap<Vec<u8>, Chars>, name: &[u8]) -> Option<&'a Chars>
-    ensures { option_copied result ≡ value_of (entry_attributes map.now.entries) name.now }
+// The value of the row at a place.
+fn value_at(rows: &Rows, place: usize) -> Option<&Chars>
+    ensures { option_copied result
+        ≡ option_map (λ a. a.value) (slice_get (values_of rows.now.entries) place) }
 {
-    let mut place = 0;
-    while place < map.len() {
-        let (own, value) = entry_at(map, place);
-        if name == own {
-            return Some(value);
+    match rows.get_index(place) {
+        None => None,
+        Some((_, row)) => Some(&row.value),
+    }
+}
+
+// Whether the row at a place has this name.
+fn is_at(rows: &Rows, place: usize, name: &[u8]) -> bool
+    requires { place < length rows.now.entries }
+    ensures { result ≡ is_named name.now (slice_get (values_of rows.now.entries) place) }
+{
+    let (own, _) = row_at(rows, place);
+    name == own
+}
+
+// The place of a name, by a look at each row in turn.
+fn scanned(rows: &Rows, name: &[u8]) -> Option<usize>
+    ensures { MatchOption result (value_of (values_of rows.now.entries) name.now ≡ None)
+        (λ place. is_named name.now (slice_get (values_of rows.now.entries) place) ≡ true) }
+{
+    for place in 0..rows.len() {
+        if is_at(rows, place, name) {
+            return Some(place);
         }
-        place += 1;
     }
     None
 }
 
-// The value of a name. Where there are few, to look at each takes less time than to hash the name.
-fn value_in<'a>(map: &'a IndexMap<Vec<u8>, Chars>, name: &[u8]) -> Option<&'a Chars>
-    ensures { option_copied result ≡ value_of (entry_attributes map.now.entries) name.now }
+// The place of a number, where its row has this name.
+fn numbered_at(rows: &Rows, number: usize, name: &[u8]) -> Option<usize>
+    ensures { IfSome result
+        (λ place. is_named name.now (slice_get (values_of rows.now.entries) place) ≡ true) }
 {
-    if map.len() <= FEW {
-        return scanned(map, name);
+    let place = rows.get_index_of(&number)?;
+    if is_at(rows, place, name) {
+        return Some(place);
     }
-    map.get(name)
+    None
+}
+
+// The place of a name. Where names are numbered, its number leads to its row.
+fn place_of(rows: &Rows, numbers: &Option<Box<Numbers>>, name: &[u8]) -> Option<usize>
+    requires { IsKnown numbers.now (names_of (values_of rows.now.entries)) }
+    ensures { MatchOption result (value_of (values_of rows.now.entries) name.now ≡ None)
+        (λ place. is_named name.now (slice_get (values_of rows.now.entries) place) ≡ true) }
+{
+    let number = match numbers {
+        None => return scanned(rows, name),
+        Some(tree) => match tree.get(name) {
+            None => return None,
+            Some(number) => *number,
+        },
+    };
+    match numbered_at(rows, number, name) {
+        Some(place) => Some(place),
+        None => scanned(rows, name),
+    }
+}
+
+// The numbers of the names of rows.
+fn all_numbers(alloc: Global, rows: &Rows) -> Result<Numbers, AllocError>
+    ensures { IfOk result
+        (λ tree. IsNumbered tree.entries (names_of (values_of rows.now.entries))) }
+{
+    let mut tree = BTreeMap::new(alloc);
+    for place in 0..rows.len() {
+        let (number, row) = rows.get_index(place).unwrap();
+        let name = Vec::from_slice(alloc, row.name.as_slice())?;
+        tree.insert(name, *number)?;
+    }
+    Ok(tree)
+}
+
+// Numbers the names from the attribute on with which there are more than a few.
+fn number_names(
+    alloc: Global,
+    rows: &Rows,
+    numbers: &mut Option<Box<Numbers>>,
+) -> Result<(), AllocError>
+    requires { IsKnown numbers.old (names_of (values_of rows.now.entries)) }
+    ensures { IsKnown numbers.new (names_of (values_of rows.now.entries)) }
+{
+    if numbers.is_none() && rows.len() >= FEW {
+        *numbers = Some(Box::new(alloc, all_numbers(alloc, rows)?)?);
+    }
+    Ok(())
+}
+
+// Gives a name a number, where names are numbered.
+fn number(
+    alloc: Global,
+    numbers: &mut Option<Box<Numbers>>,
+    name: &[u8],
+    number: usize,
+) -> Result<(), AllocError>
+    ensures own { OnOk result (IsKnown numbers.new (name.now ∷ [])) }
+    ensures kept { (names : List (List ℕ)) → IsKnown numbers.old names → IsKnown numbers.new names }
+{
+    if let Some(tree) = numbers {
+        let name = Vec::from_slice(alloc, name)?;
+        tree.insert(name, number)?;
+    }
+    Ok(())
+}
+
+// Takes the number of a name away, where names are numbered.
+fn unnumber(numbers: &mut Option<Box<Numbers>>, name: &[u8])
+    ensures { (names : List (List ℕ)) → AllByRecursion (λ n. bytes_eq name.now n ≡ false) names
+        → IsKnown numbers.old names → IsKnown numbers.new names }
+{
+    if let Some(tree) = numbers {
+        let _ = tree.remove(name);
+    }
+}
+
+// Adds a row.
+fn push(rows: &mut Rows, number: usize, name: Name, value: Chars) -> Result<(), AllocError>
+    requires above { IsAbove number rows.old.entries }
+    ensures ok { OnOk result (rows.new.entries
+        ≡ rows.old.entries ++ (number, record { name = name; value = value }) ∷ []) }
+    ensures err { OnErr result (rows.new.entries ≡ rows.old.entries) }
+{
+    rows.insert(number, Attribute { name, value })?;
+    Ok(())
+}
+
+// Gives the row at a place another value.
+fn write(rows: &mut Rows, place: usize, value: Chars)
+    ensures numbers { keys_of rows.new.entries ≡ keys_of rows.old.entries }
+    ensures values { (name : List ℕ) → IsDistinctNames (values_of rows.old.entries)
+        → is_named name (slice_get (values_of rows.old.entries) place) ≡ true
+        → values_of rows.new.entries ≡ set_in (values_of rows.old.entries) name value }
+{
+    if let Some(row) = rows.get_index_mut(place) {
+        row.value = value;
+    }
+}
+
+// Takes the row at a place out.
+fn take(rows: &mut Rows, place: usize)
+    ensures left { rows.new.entries ≡ remove rows.old.entries place }
+{
+    let _ = rows.shift_remove_index(place);
+}
+
+impl Listing {
+    fn new(alloc: Global) -> Listing
+        ensures { result ≡ [] }
+    {
+        Listing {
+            rows: IndexMap::new(alloc),
+            next: 0,
+            numbers: None,
+        }
+    }
+
+    fn copy(&self, alloc: Global) -> Result<Listing, AllocError>
+        ensures { IfOk result (λ copied. copied ≡ self.now) }
+    {
+        let rows = self.rows.clone()?;
+        let mut numbers = None;
+        number_names(alloc, &rows, &mut numbers)?;
+        Ok(Listing {
+            rows,
+            next: self.next,
+            numbers,
+        })
+    }
+
+    fn len(&self) -> usize
+        ensures { result ≡ length self.now }
+    {
+        self.rows.len()
+    }
+
+    fn at(&self, place: usize) -> Option<(&[u8], &Chars)>
+        ensures { option_map (λ pair. record {
+          name = pair.0.now;
+          value = pair.1.now;
+        }) result ≡ slice_get self.now place }
+    {
+        match self.rows.get_index(place) {
+            None => None,
+            Some((_, row)) => Some((row.name.as_slice(), &row.value)),
+        }
+    }
+
+    fn get(&self, name: &[u8]) -> Option<&Chars>
+        ensures { option_copied result ≡ value_of self.now name.now }
+    {
+        match place_of(&self.rows, &self.numbers, name) {
+            None => None,
+            Some(place) => value_at(&self.rows, place),
+        }
+    }
+
+    // Adds an attribute whose name isn't there.
+    fn add(&mut self, alloc: Global, name: Name, value: Chars) -> Result<(), AllocError>
+        requires { value_of self.old name ≡ None }
+        ensures ok { OnOk result (self.new ≡ set_in self.old name value) }
+        ensures err { OnErr result (self.new ≡ self.old) }
+    {
+        if self.next == usize::MAX {
+            return Err(AllocError);
+        }
+        number_names(alloc, &self.rows, &mut self.numbers)?;
+        number(alloc, &mut self.numbers, name.as_slice(), self.next)?;
+        push(&mut self.rows, self.next, name, value)?;
+        self.next += 1;
+        Ok(())
+    }
+
+    fn put(&mut self, alloc: Global, name: Name, value: Chars) -> Result<(), AllocError>
+        ensures ok { OnOk result (self.new ≡ set_in self.old name value) }
+        ensures err { OnErr result (self.new ≡ self.old) }
+    {
+        match place_of(&self.rows, &self.numbers, name.as_slice()) {
+            None => self.add(alloc, name, value),
+            Some(place) => {
+                write(&mut self.rows, place, value);
+                Ok(())
+            }
+        }
+    }
+
+    fn take(&mut self, name: &[u8]) -> bool
+        ensures was { result ≡ is_some (value_of self.old name.now) }
+        ensures left { self.new ≡ unset_in self.old name.now }
+    {
+        match place_of(&self.rows, &self.numbers, name) {
+            None => false,
+            Some(place) => {
+                take(&mut self.rows, place);
+                unnumber(&mut self.numbers, name);
+                true
+            }
+        }
+    }
+
+    // That the names are distinct, for proofs. It does nothing.
+    fn valid(&self)
+        ensures { IsDistinctNames self.now }
+    {
+        let _ = &self.next;
+    }
 }
 
 impl Attributes {
@@ -111,7 +360,7 @@ impl Attributes {
     {
         let list = match &self.list {
             None => None,
-            Some(map) => Some(map.clone()?),
+            Some(listing) => Some(Box::new(self.alloc, listing.copy(self.alloc)?)?),
         };
         Ok(Attributes {
             alloc: self.alloc,
@@ -125,7 +374,7 @@ impl Attributes {
     {
         match &self.list {
             None => 0,
-            Some(map) => map.len(),
+            Some(listing) => listing.len(),
         }
     }
 
@@ -135,7 +384,7 @@ impl Attributes {
     {
         match &self.list {
             None => None,
-            Some(map) => value_in(map, name),
+            Some(listing) => listing.get(name),
         }
     }
 
@@ -148,10 +397,7 @@ impl Attributes {
     {
         match &self.list {
             None => None,
-            Some(map) => match map.get_index(place) {
-                None => None,
-                Some((name, value)) => Some((name.as_slice(), value)),
-            },
+            Some(listing) => listing.at(place),
         }
     }
 
@@ -162,11 +408,11 @@ impl Attributes {
     {
         match &mut self.list {
             None => {
-                let mut map = IndexMap::new(self.alloc);
-                put(&mut map, name, value)?;
-                self.list = Some(Box::new(self.alloc, map)?);
+                let mut listing = Listing::new(self.alloc);
+                listing.add(self.alloc, name, value)?;
+                self.list = Some(Box::new(self.alloc, listing)?);
             }
-            Some(map) => put(map, name, value)?,
+            Some(listing) => listing.put(self.alloc, name, value)?,
         }
         Ok(())
     }
@@ -189,7 +435,7 @@ impl Attributes {
     {
         match &mut self.list {
             None => false,
-            Some(map) => take(map, name),
+            Some(listing) => listing.take(name),
         }
     }
 
@@ -197,8 +443,8 @@ impl Attributes {
     pub fn valid(&self)
         ensures { IsDistinctNames self.now }
     {
-        if let Some(map) = &self.list {
-            let _ = map.len();
+        if let Some(listing) = &self.list {
+            listing.valid();
         }
     }
 }
