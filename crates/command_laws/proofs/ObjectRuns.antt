@@ -30,7 +30,7 @@ stateless_collapse_after n = search stateless_parts
 
 stateless_leave_text : Stateless leave_text
 unfolding leave_text
-stateless_leave_text = search (stateless_parts, stateless_collapse_before, stateless_collapse_after)
+stateless_leave_text = search (stateless_parts, stateless_collapse_before, stateless_collapse_after) depth 8
 
 stateless_put_at_start : (n : ℕ) → Stateless (leave_text >> (insert_at_start n >> answer n))
 stateless_put_at_start n = search (stateless_parts, stateless_leave_text, stateless_insert_at_start)
@@ -48,7 +48,7 @@ stateless_new_break = stateless_put (codes "br") [] refl
 
 stateless_put_break : Stateless put_break
 unfolding put_break
-stateless_put_break = search (stateless_parts, stateless_moves, stateless_insert_at_start, stateless_new_break, stateless_collapse_after)
+stateless_put_break = search (stateless_parts, stateless_moves, stateless_insert_at_start, stateless_new_break, stateless_collapse_after) depth 9
 
 stateless_break_line : (p : Point) → Stateless (break_line p)
 unfolding break_line
@@ -79,7 +79,7 @@ stateless_insert_horizontal_rule = search (stateless_parts, stateless_widen_rang
 
 stateless_drop_lone_break : (p : Point) → Stateless (drop_lone_break p)
 unfolding drop_lone_break
-stateless_drop_lone_break p = search stateless_parts
+stateless_drop_lone_break p = search stateless_parts depth 7
 
 stateless_new_image : (value : List ℕ) → Stateless (put (codes "img") (source value))
 stateless_new_image value = stateless_put (codes "img") (source value) refl

@@ -25,7 +25,7 @@ put_break = do
   n ← put (codes "br") []
   collapse_after n
   look λ s. if is_extraneous_break s.trees n || is_collapsed_break s.trees n
-    then (make_break >>= insert_at_start) else done
+      then (make_break >>= insert_at_start) else done
   answer true
 
 -- step 2, and then 3 and 4

@@ -26,11 +26,7 @@ fn drop_lone_break(doc: &mut Doc, at: Point) -> Result<(), EditFault>
     let Some(child) = doc.first_child(block) else {
         return Ok(());
     };
-    if at.offset == 0
-        && is_block(doc, block)
-        && is_break(doc, child)
-        && doc.next(child).is_none()
-    {
+    if at.offset == 0 && is_block(doc, block) && is_break(doc, child) && doc.next(child).is_none() {
         doc.remove(child)?;
     }
     Ok(())
