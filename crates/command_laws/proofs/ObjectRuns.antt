@@ -9,9 +9,9 @@ use Rattle.edit_model.specs.Run.{◌>>◌, answer, make_element}
 use Rattle.edit_laws.specs.Stateless.{Stateless}
 use Rattle.edit_laws.proofs.StatelessRuns.{stateless_parts, stateless_answer, stateless_bind, stateless_make_element}
 use Rattle.text_insertion.specs.Start.{insert_at_start}
-use Rattle.insert_objects.specs.Image.{drop_lone_break, source, put_image, show_image, insert_source, image_from, insert_image}
-use Rattle.insert_objects.specs.LineBreak.{repeat_break, put_break, break_line, insert_line_break}
-use Rattle.insert_objects.specs.Putting.{collapse_before, collapse_after, split_at, leave_text, part_text, part_start, put}
+use Rattle.insert_objects.specs.Image.{drop_lone_break, source, put_image, show_image, insert_source, insert_image}
+use Rattle.insert_objects.specs.LineBreak.{put_break, break_line, insert_line_break}
+use Rattle.insert_objects.specs.Putting.{collapse_before, collapse_after, leave_text, put}
 use Rattle.insert_objects.specs.Rule.{widen_range, put_rule, insert_horizontal_rule}
 use Rattle.command_laws.proofs.AncestorRuns.{stateless_fix_ancestors}
 use Rattle.command_laws.proofs.DeleteRuns.{stateless_erase}
@@ -28,24 +28,12 @@ stateless_collapse_after : (n : ℕ) → Stateless (collapse_after n)
 unfolding collapse_after
 stateless_collapse_after n = search stateless_parts
 
-stateless_split_at : (p : Point) → Stateless (split_at p)
-unfolding split_at
-stateless_split_at p = search (stateless_parts, stateless_collapse_after)
-
-stateless_leave_text : (p : Point) → Stateless (leave_text p)
+stateless_leave_text : Stateless leave_text
 unfolding leave_text
-stateless_leave_text p = search (stateless_parts, stateless_collapse_before, stateless_collapse_after)
+stateless_leave_text = search (stateless_parts, stateless_collapse_before, stateless_collapse_after) depth 8
 
-stateless_part_text : (p : Point) → Stateless (part_text p)
-unfolding part_text
-stateless_part_text p = search (stateless_parts, stateless_split_at, stateless_leave_text)
-
-stateless_part_start : Stateless part_start
-unfolding part_start
-stateless_part_start = search (stateless_parts, stateless_part_text)
-
-stateless_put_at_start : (n : ℕ) → Stateless (part_start >> (insert_at_start n >> answer n))
-stateless_put_at_start n = search (stateless_parts, stateless_part_start, stateless_insert_at_start)
+stateless_put_at_start : (n : ℕ) → Stateless (leave_text >> (insert_at_start n >> answer n))
+stateless_put_at_start n = search (stateless_parts, stateless_leave_text, stateless_insert_at_start)
 
 stateless_put : (name : List ℕ) (attributes : List Attribute) → LeavesStates (MakeElement name attributes)
     → Stateless (put name attributes)
@@ -58,13 +46,9 @@ stateless_put name attributes h =
 stateless_new_break : Stateless (put (codes "br") [])
 stateless_new_break = stateless_put (codes "br") [] refl
 
-stateless_repeat_break : (n : ℕ) → Stateless (repeat_break n)
-unfolding repeat_break
-stateless_repeat_break n = search (stateless_parts, stateless_moves, stateless_insert_at_start)
-
 stateless_put_break : Stateless put_break
 unfolding put_break
-stateless_put_break = search (stateless_parts, stateless_new_break, stateless_collapse_after, stateless_repeat_break)
+stateless_put_break = search (stateless_parts, stateless_moves, stateless_insert_at_start, stateless_new_break, stateless_collapse_after) depth 9
 
 stateless_break_line : (p : Point) → Stateless (break_line p)
 unfolding break_line
@@ -95,7 +79,7 @@ stateless_insert_horizontal_rule = search (stateless_parts, stateless_widen_rang
 
 stateless_drop_lone_break : (p : Point) → Stateless (drop_lone_break p)
 unfolding drop_lone_break
-stateless_drop_lone_break p = search stateless_parts
+stateless_drop_lone_break p = search stateless_parts depth 7
 
 stateless_new_image : (value : List ℕ) → Stateless (put (codes "img") (source value))
 stateless_new_image value = stateless_put (codes "img") (source value) refl
@@ -112,10 +96,7 @@ stateless_insert_source : (value : List ℕ) → Stateless (insert_source value)
 unfolding insert_source
 stateless_insert_source value = search (stateless_parts, stateless_erase, stateless_show_image)
 
-stateless_image_from : (value : List ℕ) → Stateless (image_from value)
-stateless_image_from [] = stateless_answer _
-stateless_image_from (c ∷ v) = stateless_insert_source (c ∷ v)
-
 pub stateless_insert_image : (value : List ℕ) → Stateless (insert_image value)
 unfolding insert_image
-stateless_insert_image value = search (stateless_parts, stateless_image_from)
+stateless_insert_image [] = stateless_answer _
+stateless_insert_image (c ∷ v) = stateless_insert_source (c ∷ v)

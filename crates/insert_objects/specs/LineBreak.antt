@@ -13,29 +13,22 @@ use Rattle.edit_model.specs.Run.{Run, ◌>>=◌, ◌>>◌, answer, done, look}
 use Rattle.text_insertion.specs.Start.{insert_at_start, erase}
 use Rattle.insert_objects.specs.Putting.{from_start_inside, collapse_after, put}
 
--- insertLineBreak, step 2: a br may stand in an element, and beside what is none
+-- step 2: a br may stand in an element, and beside what is none
 unfoldable pub takes_break : State → ℕ → Bool
 takes_break s n =
     if is_element_at s.trees n then name_allowed_in (codes "br") s.trees n
     else option_map_or (name_allowed_in (codes "br") s.trees) (parent_of s.trees n) false
 
--- step 4: a br that shows no line of its own is followed by another one
-unfoldable pub shows_no_line : State → ℕ → Bool
-shows_no_line s n = is_extraneous_break s.trees n || is_collapsed_break s.trees n
-
--- insertLineBreak, step 4
-unfoldable pub repeat_break : ℕ → Run (Unit {0})
-repeat_break n = look λ s. if shows_no_line s n then make_break >>= insert_at_start else done
-
--- steps 3 and 4
+-- steps 3 and 4: a br that shows no line of its own is followed by another one
 unfoldable pub put_break : Run Bool
 put_break = do
   n ← put (codes "br") []
   collapse_after n
-  repeat_break n
+  look λ s. if is_extraneous_break s.trees n || is_collapsed_break s.trees n
+      then (make_break >>= insert_at_start) else done
   answer true
 
--- step 2, and then from 3 on
+-- step 2, and then 3 and 4
 unfoldable pub break_line : Point → Run Bool
 break_line p = look λ s. if takes_break s p.label then put_break else answer true
 

@@ -1,7 +1,6 @@
 //! The command insertLineBreak. The steps are those of docs/ALGORITHMS.md.
 
-ghost use Rattle.std.specs.Prelude.{◌≡◌, ◌<◌};
-ghost use Rattle.dom_model.specs.Forest.{count_of};
+ghost use Rattle.std.specs.Prelude.{◌≡◌};
 ghost use Rattle.edit_model.specs.Gives.{Gives};
 ghost use Rattle.edit_doc.specs.Whole.{IsOpen};
 ghost use Rattle.edit_doc.specs.Held.{Holds, Keeps};
@@ -9,7 +8,7 @@ ghost use Rattle.insert_objects.specs.LineBreak as command;
 
 use crate::putting::{collapse_after, put};
 use edit_actions::make_break;
-use edit_doc::{Attributes, Doc, EditFault, NodeRef, Point};
+use edit_doc::{Attributes, Doc, EditFault, NodeRef};
 use node_tests::{is_collapsed_break, is_element, is_extraneous_break, name_allowed_in};
 use point_order::node_of;
 use std::alloc::Global;
@@ -30,63 +29,10 @@ fn takes_break(doc: &Doc, node: NodeRef) -> bool
     }
 }
 
-// Step 4: whether a br shows no line of its own.
-#[tactic(auto, unfolding(crate::specs::LineBreak::shows_no_line))]
-fn shows_no_line(doc: &Doc, node: NodeRef) -> bool
-    requires { Holds doc.now node }
-    ensures { result ≡ command.shows_no_line doc.now.state node.label }
-{
-    is_extraneous_break(doc, node) || is_collapsed_break(doc, node)
-}
-
-// Step 4.
-#[tactic(auto, using(edit_model::proofs::Steps::steps, edit_model::proofs::Steps::exits), unfolding(crate::specs::LineBreak::repeat_break))]
-fn repeat_break(alloc: Global, doc: &mut Doc, node: NodeRef) -> Result<(), EditFault>
-    requires open { IsOpen doc.old }
-    requires node_held { Holds doc.old node }
-    ensures gives { Gives result doc.old.state doc.new.state (command.repeat_break node.label) }
-    ensures keeps { Keeps doc.old doc.new }
-{
-    if shows_no_line(doc, node) {
-        let made = make_break(alloc, doc)?;
-        insert_at_start(doc, made)?;
-    }
-    Ok(())
-}
-
-// Steps 3 and 4.
-#[tactic(auto, using(edit_model::proofs::Steps::steps, edit_model::proofs::Steps::exits), unfolding(crate::specs::LineBreak::put_break))]
-fn put_break(alloc: Global, doc: &mut Doc) -> Result<bool, EditFault>
-    requires open { IsOpen doc.old }
-    ensures gives { Gives result doc.old.state doc.new.state command.put_break }
-    ensures keeps { Keeps doc.old doc.new }
-{
-    let made = put(alloc, doc, b"br", &Attributes::new(alloc))?;
-    collapse_after(doc, made)?;
-    repeat_break(alloc, doc, made)?;
-    Ok(true)
-}
-
-// Step 2, and then from 3 on.
-#[tactic(auto, using(edit_model::proofs::Steps::steps, edit_model::proofs::Steps::exits), unfolding(crate::specs::LineBreak::break_line))]
-fn break_line(alloc: Global, doc: &mut Doc, at: Point) -> Result<bool, EditFault>
-    requires open { IsOpen doc.old }
-    requires here { 0 < count_of doc.old.state.trees at.label }
-    ensures gives { Gives result doc.old.state doc.new.state (command.break_line at) }
-    ensures keeps { Keeps doc.old doc.new }
-{
-    let node = node_of(doc, at);
-    if takes_break(doc, node) {
-        put_break(alloc, doc)
-    } else {
-        Ok(true)
-    }
-}
-
 /// The command insertLineBreak: what is selected goes, and a br stands in its place, with the caret
 /// after it. Where that br alone would show no new line, as at the end of a block, another one
 /// comes after it. It answers true.
-#[tactic(auto, using(edit_model::proofs::Steps::steps, edit_model::proofs::Steps::exits), unfolding(crate::specs::LineBreak::insert_line_break))]
+#[tactic(auto, using(edit_model::proofs::Steps::steps, edit_model::proofs::Steps::exits), unfolding(crate::specs::LineBreak::put_break, crate::specs::LineBreak::break_line, crate::specs::LineBreak::insert_line_break))]
 pub fn insert_line_break(alloc: Global, doc: &mut Doc) -> Result<bool, EditFault>
     requires open { IsOpen doc.old }
     ensures gives { Gives result doc.old.state doc.new.state command.insert_line_break }
@@ -96,5 +42,14 @@ pub fn insert_line_break(alloc: Global, doc: &mut Doc) -> Result<bool, EditFault
     let Some(at) = start_inside(doc) else {
         return Ok(true);
     };
-    break_line(alloc, doc, at)
+    if !takes_break(doc, node_of(doc, at)) {
+        return Ok(true);
+    }
+    let made = put(alloc, doc, b"br", &Attributes::new(alloc))?;
+    collapse_after(doc, made);
+    if is_extraneous_break(doc, made) || is_collapsed_break(doc, made) {
+        let another = make_break(alloc, doc)?;
+        insert_at_start(doc, another)?;
+    }
+    Ok(true)
 }

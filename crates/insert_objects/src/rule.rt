@@ -3,8 +3,9 @@
 ghost use Rattle.std.specs.Prelude.{◌≡◌, ◌<◌, IfSome};
 ghost use Rattle.dom_model.specs.Forest.{is_label, count_of};
 ghost use Rattle.edit_model.specs.Gives.{Gives};
+ghost use Rattle.edit_model.specs.Run.{final};
 ghost use Rattle.edit_doc.specs.Whole.{IsOpen};
-ghost use Rattle.edit_doc.specs.Held.{Holds, Keeps};
+ghost use Rattle.edit_doc.specs.Held.{Keeps};
 ghost use Rattle.insert_objects.specs.Rule as command;
 
 use crate::putting::{collapse_after, put};
@@ -85,48 +86,35 @@ fn outermost_end(doc: &Doc, at: Point) -> Point
 
 // Step 1: the active range comes to stand around the nodes at whose edges it starts and ends.
 #[tactic(auto, using(edit_model::proofs::Steps::actions, edit_actions::proofs::Placed::placed_here), unfolding(crate::specs::Rule::widen_range))]
-fn widen_range(doc: &mut Doc) -> Result<(), EditFault>
-    requires open { IsOpen doc.old }
-    ensures gives { Gives result doc.old.state doc.new.state command.widen_range }
+fn widen_range(doc: &mut Doc)
+    ensures gives { final command.widen_range doc.old.state ≡ doc.new.state }
     ensures keeps { Keeps doc.old doc.new }
 {
     doc.valid();
-    let Some(pair) = doc.points().selection() else {
-        return Ok(());
-    };
-    let (start, end) = ends_of(doc, pair);
-    let first = outermost_start(doc, start);
-    let last = outermost_end(doc, end);
-    select(doc, first, last);
-    Ok(())
-}
-
-// Step 3.
-#[tactic(auto, using(edit_model::proofs::Steps::steps, edit_model::proofs::Steps::exits), unfolding(crate::specs::Rule::put_rule))]
-fn put_rule(alloc: Global, doc: &mut Doc) -> Result<bool, EditFault>
-    requires open { IsOpen doc.old }
-    ensures gives { Gives result doc.old.state doc.new.state command.put_rule }
-    ensures keeps { Keeps doc.old doc.new }
-{
-    let made = put(alloc, doc, b"hr", &Attributes::new(alloc))?;
-    fix_ancestors(alloc, doc, made)?;
-    collapse_after(doc, made)?;
-    Ok(true)
+    if let Some(pair) = doc.points().selection() {
+        let (start, end) = ends_of(doc, pair);
+        let first = outermost_start(doc, start);
+        let last = outermost_end(doc, end);
+        select(doc, first, last);
+    }
 }
 
 /// The command insertHorizontalRule: what is selected goes, with the nodes that it fills, and an hr
 /// stands in its place, with the caret after it. Where it may not stand in a block, as in a
 /// paragraph, this is parted around it. It answers true.
-#[tactic(auto, using(edit_model::proofs::Steps::steps, edit_model::proofs::Steps::exits), unfolding(crate::specs::Rule::insert_horizontal_rule))]
+#[tactic(auto, using(edit_model::proofs::Steps::steps, edit_model::proofs::Steps::exits), unfolding(crate::specs::Rule::put_rule, crate::specs::Rule::insert_horizontal_rule))]
 pub fn insert_horizontal_rule(alloc: Global, doc: &mut Doc) -> Result<bool, EditFault>
     requires open { IsOpen doc.old }
     ensures gives { Gives result doc.old.state doc.new.state command.insert_horizontal_rule }
     ensures keeps { Keeps doc.old doc.new }
 {
-    widen_range(doc)?;
+    widen_range(doc);
     erase(alloc, doc, false, true, false)?;
     if start_inside(doc).is_none() {
         return Ok(true);
     }
-    put_rule(alloc, doc)
+    let made = put(alloc, doc, b"hr", &Attributes::new(alloc))?;
+    fix_ancestors(alloc, doc, made)?;
+    collapse_after(doc, made);
+    Ok(true)
 }
