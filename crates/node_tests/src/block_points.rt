@@ -53,7 +53,7 @@ pub fn starts_after<N: Nodes>(nodes: &N, node: Option<NodeRef>) -> bool
 {
     match node {
         Some(node) => {
-            is_visible(nodes, node) && (is_block(nodes, node) || is_break(nodes, node))
+            (is_block(nodes, node) || is_break(nodes, node)) && is_visible(nodes, node)
         }
         None => false,
     }
@@ -66,7 +66,7 @@ pub fn ends_before<N: Nodes>(nodes: &N, node: Option<NodeRef>) -> bool
     ensures { result ≡ points.ends_before (N.trees nodes.now) (label node) }
 {
     match node {
-        Some(node) => is_visible(nodes, node) && is_block(nodes, node),
+        Some(node) => is_block(nodes, node) && is_visible(nodes, node),
         None => false,
     }
 }
