@@ -16,5 +16,6 @@ mod session;
 mod words;
 
 pub use block::{PageBlock, after_line, line_end, read_block};
+pub use denials::read_gate;
 pub use session::{Status, run_session};
 pub use words::{Limits, Order, read_words};
