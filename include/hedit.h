@@ -51,6 +51,10 @@ extern "C" {
 #define HEDIT_VERSION_MINOR 9
 #define HEDIT_VERSION_PATCH 0
 
+/* The version of the library that is linked: a byte each for the major, the minor and the patch
+ * number, as 0x000900 for 0.9.0. */
+uint32_t hedit_version(void);
+
 /* How a call ended. */
 enum hedit_status {
     HEDIT_DONE = 0,            /* it was done; where the call answers, the answer is true */
@@ -68,6 +72,27 @@ enum hedit_status {
     HEDIT_BAD_ARGUMENT = 14,   /* a number names nothing, a text isn't UTF-8, or a limit is 0 */
     HEDIT_CLOSED = 15          /* the editor isn't open */
 };
+
+/* What a status means, in a few words. */
+static inline const char *hedit_status_text(uint32_t status) {
+    switch (status) {
+    case HEDIT_DONE: return "done";
+    case HEDIT_NO: return "no";
+    case HEDIT_USAGE: return "the words are not in the program's grammar";
+    case HEDIT_MEMORY: return "out of memory";
+    case HEDIT_PAGE_REFUSED: return "the page is refused";
+    case HEDIT_TOO_LONG: return "the input is too long";
+    case HEDIT_STEP_REFUSED: return "a step of the log is refused";
+    case HEDIT_TOO_SMALL: return "the buffer is too small";
+    case HEDIT_FULL: return "no number is left below the cap";
+    case HEDIT_DEEP: return "the document is too deep";
+    case HEDIT_BAD_PLACE: return "the document has no such place";
+    case HEDIT_TOO_MANY_MARKS: return "16 marks of other names are there already";
+    case HEDIT_BAD_ARGUMENT: return "an argument has no meaning";
+    case HEDIT_CLOSED: return "the editor isn't open";
+    default: return "no status has this number";
+    }
+}
 
 /* An editor, or none. It is yours: put it where you like, start it as HEDIT_CLOSED_EDITOR, and
  * hand its address to the calls. Its memory is the library's, until hedit_close. */
@@ -114,6 +139,14 @@ void hedit_close(hedit_editor *editor);
 uint32_t hedit_exec(hedit_editor *editor, const uint8_t *name, size_t name_length,
                     const uint8_t *value, size_t value_length);
 
+/* The same past a gate: HEDIT_NO where the name is denied. `denied` has the names of commands with
+ * a comma between, as "bold,insertImage", in any case: 1 to 16 different ones of 1 to 64 ASCII
+ * letters, digits and '-'; or no bytes, and then none is denied. Commands that a command takes
+ * inside itself are not asked for. Also HEDIT_BAD_ARGUMENT where it is no such list. */
+uint32_t hedit_exec_gated(hedit_editor *editor, const uint8_t *denied, size_t denied_length,
+                          const uint8_t *name, size_t name_length, const uint8_t *value,
+                          size_t value_length);
+
 /* Takes one step back, or forth again. HEDIT_DONE, HEDIT_NO where there is none, HEDIT_CLOSED.
  * They take no memory. */
 uint32_t hedit_undo(hedit_editor *editor);
@@ -124,6 +157,12 @@ uint32_t hedit_select(hedit_editor *editor, const uint32_t *anchor, size_t ancho
                       uint32_t anchor_offset, const uint32_t *focus, size_t focus_length,
                       uint32_t focus_offset);
 
+/* The same from one point to another, each the label of a node and an offset in it. HEDIT_DONE,
+ * HEDIT_BAD_PLACE where no node of the document has the label or the offset is past its length,
+ * HEDIT_CLOSED. It takes no memory, and its cost doesn't grow with the page. */
+uint32_t hedit_select_points(hedit_editor *editor, uint32_t anchor, uint32_t anchor_offset,
+                             uint32_t focus, uint32_t focus_offset);
+
 /* Gives the selection up. HEDIT_DONE, HEDIT_CLOSED. */
 uint32_t hedit_unselect(hedit_editor *editor);
 
@@ -133,6 +172,11 @@ uint32_t hedit_unselect(hedit_editor *editor);
 uint32_t hedit_mark(hedit_editor *editor, const uint8_t *name, size_t name_length,
                     const uint32_t *anchor, size_t anchor_length, uint32_t anchor_offset,
                     const uint32_t *focus, size_t focus_length, uint32_t focus_offset);
+
+/* The same between two points, each the label of a node and an offset in it. */
+uint32_t hedit_mark_points(hedit_editor *editor, const uint8_t *name, size_t name_length,
+                           uint32_t anchor, uint32_t anchor_offset, uint32_t focus,
+                           uint32_t focus_offset);
 
 /* Takes the mark of a name out. HEDIT_DONE, HEDIT_NO where there is none, HEDIT_MEMORY,
  * HEDIT_CLOSED. */
@@ -167,6 +211,83 @@ enum hedit_view_kind {
  * HEDIT_BAD_ARGUMENT, HEDIT_CLOSED. */
 uint32_t hedit_view(hedit_editor *editor, uint32_t kind, uint8_t *buffer, size_t capacity,
                     size_t *length);
+
+/* LABELS. Each node has a number that it keeps for as long as the editor is open, its label: it
+ * stays the same when the node moves, is removed, and comes back by undo, and no other node gets
+ * it. The document's is 0. A host walks the nodes from there, and keeps a map from label to what it
+ * shows. */
+
+/* The label in the place of a node that isn't there. */
+#define HEDIT_NO_NODE UINT32_MAX
+
+/* Kinds of nodes, with the numbers of DOM's nodeType. */
+enum hedit_node_kind {
+    HEDIT_ELEMENT = 1,
+    HEDIT_TEXT = 3,
+    HEDIT_COMMENT = 8,
+    HEDIT_DOCUMENT = 9
+};
+
+/* What a node is. */
+typedef struct hedit_node_facts {
+    uint32_t kind;        /* of enum hedit_node_kind */
+    uint32_t length;      /* characters of a text or a comment, else children */
+    uint32_t parent;      /* labels of the nodes beside it, or HEDIT_NO_NODE */
+    uint32_t first_child;
+    uint32_t last_child;
+    uint32_t previous;
+    uint32_t next;
+} hedit_node_facts;
+
+/* Gives what the node of a label is. HEDIT_DONE, HEDIT_BAD_PLACE where no node of the document has
+ * the label, HEDIT_CLOSED. It takes no memory. */
+uint32_t hedit_node(hedit_editor *editor, uint32_t label, hedit_node_facts *facts);
+
+/* Gives the label of the node at a path. HEDIT_DONE, HEDIT_BAD_PLACE, HEDIT_MEMORY,
+ * HEDIT_CLOSED. */
+uint32_t hedit_label_at(hedit_editor *editor, const uint32_t *path, size_t path_length,
+                        uint32_t *label);
+
+/* Give the name of an element, and the characters of a text or a comment; the text is empty for a
+ * node of another kind. HEDIT_DONE, HEDIT_BAD_PLACE, HEDIT_TOO_SMALL, HEDIT_MEMORY (of the
+ * characters alone), HEDIT_CLOSED. */
+uint32_t hedit_node_name(hedit_editor *editor, uint32_t label, uint8_t *buffer, size_t capacity,
+                         size_t *length);
+uint32_t hedit_node_value(hedit_editor *editor, uint32_t label, uint8_t *buffer, size_t capacity,
+                          size_t *length);
+
+/* Give the name and the value of an attribute by its place in the node's list, from 0 on.
+ * HEDIT_DONE, HEDIT_NO where the list has no such place, HEDIT_BAD_PLACE, HEDIT_TOO_SMALL,
+ * HEDIT_MEMORY (of the value alone), HEDIT_CLOSED. */
+uint32_t hedit_attribute_name(hedit_editor *editor, uint32_t label, size_t place, uint8_t *buffer,
+                              size_t capacity, size_t *length);
+uint32_t hedit_attribute_value(hedit_editor *editor, uint32_t label, size_t place,
+                               uint8_t *buffer, size_t capacity, size_t *length);
+
+/* The points of a selection: labels, and offsets in these nodes. */
+typedef struct hedit_selection_facts {
+    uint32_t anchor;
+    uint32_t anchor_offset;
+    uint32_t focus;
+    uint32_t focus_offset;
+} hedit_selection_facts;
+
+/* Gives the points of the selection. HEDIT_DONE, HEDIT_NO where nothing is selected,
+ * HEDIT_CLOSED. */
+uint32_t hedit_selection(hedit_editor *editor, hedit_selection_facts *facts);
+
+/* The numbers of a document and of its history. */
+typedef struct hedit_number_facts {
+    uint32_t nodes;      /* of the document */
+    uint32_t next_label; /* the next node's label */
+    uint64_t chars;      /* of its texts */
+    size_t edits;        /* of the step that undo would take */
+    size_t undo;         /* steps that can be undone */
+    size_t redo;         /* steps that can be redone */
+} hedit_number_facts;
+
+/* Gives the numbers. HEDIT_DONE, HEDIT_CLOSED. */
+uint32_t hedit_numbers(hedit_editor *editor, hedit_number_facts *facts);
 
 /* Runs a session, as `hedit run` does over its standard input, and gives the transcript. The
  * status is the number that the program exits with: HEDIT_DONE, HEDIT_MEMORY, HEDIT_PAGE_REFUSED,

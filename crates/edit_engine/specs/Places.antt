@@ -1,5 +1,5 @@
--- Places: points by the path of their node.
-use Rattle.std.specs.Prelude.{◌≡◌, ℕ, nat_le, List, length, false, Option, Some, None, if◌then◌else◌}
+-- Places: points by the path of their node, and by its label.
+use Rattle.std.specs.Prelude.{◌≡◌, ℕ, nat_le, List, length, false, ◌&&◌, Option, Some, None, if◌then◌else◌}
 use Rattle.std.specs.Option.{option_and_then, option_map}
 use Rattle.dom_model.specs.declared.Content.{Content}
 use Rattle.dom_model.specs.Contents.{length_of}
@@ -8,6 +8,7 @@ use Rattle.live_range.specs.LivePoints.{has_mark, with_mark, without_mark}
 use Rattle.live_range.specs.declared.places.Point.{Point}
 use Rattle.live_range.specs.declared.places.Pair.{Pair}
 use Rattle.node_paths.specs.Paths.{label_at}
+use Rattle.point_order.specs.PointOrder.{is_placed}
 use Rattle.script_read.specs.declared.act.Place.{Place}
 use Rattle.edit_model.specs.Action.{Select, Unselect, acted}
 use Rattle.edit_engine.specs.Editing.{Editing, stopped_at}
@@ -26,6 +27,12 @@ pair_of (Some anchor) focus = option_map (λ p. record { anchor = anchor; focus 
 
 unfoldable pub pair_at : Forest Content → Place → Place → Option Pair
 pair_at f anchor focus = pair_of (point_at f anchor) (point_at f focus)
+
+-- the pair of two points; none where one of them stands in no node of the document, or past its end
+unfoldable pub placed_pair : Forest Content → Point → Point → Option Pair
+placed_pair f anchor focus =
+    if is_placed f anchor && is_placed f focus
+    then Some (record { anchor = anchor; focus = focus }) else None
 
 -- ---- the editor after a selecting act, which ends the typing
 

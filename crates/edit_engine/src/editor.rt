@@ -1,17 +1,19 @@
 //! The editor.
 
-ghost use Rattle.std.specs.Prelude.{◌≡◌, ◌↔◌, ◌⊎◌, ◌<◌, ◌+◌, IfOk, OnOk, OnErr, IsTrue, MatchOption, Ok, Err, None, Some, length, true, false};
+ghost use Rattle.std.specs.Prelude.{◌≡◌, ◌↔◌, ◌⊎◌, ◌<◌, ◌+◌, IfOk, IfSome, OnOk, OnErr, IsTrue, MatchOption, Ok, Err, None, Some, length, true, false};
 ghost use Rattle.live_range.specs.LivePoints.{has_mark};
 ghost use Rattle.live_range.specs.declared.places.Pair.{Pair};
+ghost use Rattle.edit_model.specs.Valid.{IsPlacedPair};
 ghost use Rattle.edit_doc.specs.Kept.{HoldsOnlyNeeded};
 ghost use Rattle.edit_doc.specs.Whole.{HasNoLoose, IsClosed, first_edits};
 ghost use Rattle.command_gate.specs.Denied.{is_denied};
+ghost use Rattle.node_paths.specs.Paths.{label_at};
 ghost use Rattle.edit_engine.specs.Commands.{action_of};
-ghost use Rattle.edit_engine.specs.Confinement.{KeepsOutside, KeepsMarks, KeepsIslands, KeepsCharacters};
+ghost use Rattle.edit_engine.specs.Confinement.{KeepsOutside, KeepsMarks, KeepsIslands, KeepsCharacters, GivesBack};
 ghost use Rattle.edit_engine.specs.Editing.{EditorValue, IsJoinable, document, new_editing, undone, redone};
 ghost use Rattle.edit_engine.specs.Execution.{gated_outcome, outcome, command_outcome, run_outcome, Tells};
 ghost use Rattle.edit_engine.specs.Logs.{log_text};
-ghost use Rattle.edit_engine.specs.Places.{pair_at, selecting, unselecting, marking, unmarking, IsCrowded};
+ghost use Rattle.edit_engine.specs.Places.{pair_at, placed_pair, selecting, unselecting, marking, unmarking, IsCrowded};
 ghost use Rattle.edit_engine.specs.Queries.{reply_of};
 ghost use Rattle.edit_engine.specs.Replaying.{LogReplays};
 ghost use Rattle.edit_engine.specs.Views.{view_text};
@@ -19,16 +21,16 @@ ghost use Rattle.edit_engine.specs.Views.{view_text};
 use crate::actions::{joins, run_command, types_on};
 use crate::answers::{Answer, ExecFault, LogFault, PlaceFault, ViewFault, ViewKind};
 use crate::log::entry_lines;
-use crate::places::{node_at, pair_at};
+use crate::places::{node_at, pair_at, placed_pair};
 use crate::probe::probe_line;
 use crate::queries::{ask, is_enabled};
 use crate::views::{html_line, points_lines, stat_line, tree_lines};
 use command_gate::{Asks, Gate};
 use dom_model::Name;
-use edit_doc::{Arena, Doc};
+use edit_doc::{Arena, Doc, Pair, Point};
 use edit_query::Reply;
 use html_names::{Command, QueryKind};
-use script_read::Place;
+use script_read::{Path, Place};
 use std::alloc::{AllocError, Global};
 use std::marker::Model;
 use std::sync::ledger::Ledger;
@@ -88,6 +90,7 @@ impl Editor {
         ensures marks { KeepsMarks self.old.editing self.new.editing }
         ensures islands { KeepsIslands self.old.editing self.new.editing }
         ensures characters { KeepsCharacters name.now self.old.editing self.new.editing }
+        ensures given_back { GivesBack name.now self.old.editing self.new.editing }
         ensures needed { HoldsOnlyNeeded (document self.new) }
     {
         self.doc.valid();
@@ -121,6 +124,7 @@ impl Editor {
         ensures marks { KeepsMarks self.old.editing self.new.editing }
         ensures islands { KeepsIslands self.old.editing self.new.editing }
         ensures characters { KeepsCharacters name.now self.old.editing self.new.editing }
+        ensures given_back { GivesBack name.now self.old.editing self.new.editing }
         ensures needed { HoldsOnlyNeeded (document self.new) }
     {
         self.doc.valid();
@@ -180,7 +184,29 @@ impl Editor {
             ((result ≡ Err PlaceFault.BadPlace) × (self.new ≡ self.old))
             (λ pair. (result ≡ Ok tt) × (self.new.editing ≡ selecting self.old.editing pair)) }
     {
-        match pair_at(&self.doc, anchor, focus) {
+        let pair = pair_at(&self.doc, anchor, focus);
+        self.select_pair(pair)
+    }
+
+    /// Selects from one point to another: each is the label of a node and an offset in it. It takes
+    /// no memory, and its cost grows with the depth of the nodes alone.
+    pub fn select_points(&mut self, anchor: Point, focus: Point) -> Result<(), PlaceFault>
+        ensures { MatchOption (placed_pair self.old.editing.state.trees anchor focus)
+            ((result ≡ Err PlaceFault.BadPlace) × (self.new ≡ self.old))
+            (λ pair. (result ≡ Ok tt) × (self.new.editing ≡ selecting self.old.editing pair)) }
+    {
+        let pair = placed_pair(&self.doc, anchor, focus);
+        self.select_pair(pair)
+    }
+
+    // Selects a pair, if there is one.
+    fn select_pair(&mut self, pair: Option<Pair>) -> Result<(), PlaceFault>
+        requires { IfSome pair (IsPlacedPair self.old.editing.state.trees) }
+        ensures { MatchOption pair
+            ((result ≡ Err PlaceFault.BadPlace) × (self.new ≡ self.old))
+            (λ pair. (result ≡ Ok tt) × (self.new.editing ≡ selecting self.old.editing pair)) }
+    {
+        match pair {
             Some(pair) => {
                 self.doc.select(pair.anchor, pair.focus);
                 self.typing = false;
@@ -212,7 +238,41 @@ impl Editor {
             (result ≡ Err PlaceFault.BadPlace) ⊎ (result ≡ Err PlaceFault.TooManyMarks) }
         ensures err { OnErr result (self.new ≡ self.old) }
     {
-        match pair_at(&self.doc, anchor, focus) {
+        let pair = pair_at(&self.doc, anchor, focus);
+        self.mark_pair(name, pair)
+    }
+
+    /// Gives a name to what is between two points, each the label of a node and an offset in it. A
+    /// mark of that name keeps its place, and a new one goes last.
+    pub fn mark_points(&mut self, name: &Name, anchor: Point, focus: Point) -> Result<(), PlaceFault>
+        ensures bad_place { (result ≡ Err PlaceFault.BadPlace) ↔
+            (placed_pair self.old.editing.state.trees anchor focus ≡ None) }
+        ensures too_many { result ≡ Err PlaceFault.TooManyMarks
+            → IsCrowded self.old.editing name.now }
+        ensures marked { OnOk result ((pair : Pair) ×
+            (placed_pair self.old.editing.state.trees anchor focus ≡ Some pair) ×
+            (self.new.editing ≡ marking self.old.editing name.now pair)) }
+        ensures crowded { IsCrowded self.old.editing name.now →
+            (result ≡ Err PlaceFault.BadPlace) ⊎ (result ≡ Err PlaceFault.TooManyMarks) }
+        ensures err { OnErr result (self.new ≡ self.old) }
+    {
+        let pair = placed_pair(&self.doc, anchor, focus);
+        self.mark_pair(name, pair)
+    }
+
+    // Gives a name to a pair, if there is one.
+    fn mark_pair(&mut self, name: &Name, pair: Option<Pair>) -> Result<(), PlaceFault>
+        requires { IfSome pair (IsPlacedPair self.old.editing.state.trees) }
+        ensures bad_place { (result ≡ Err PlaceFault.BadPlace) ↔ (pair ≡ None) }
+        ensures too_many { result ≡ Err PlaceFault.TooManyMarks
+            → IsCrowded self.old.editing name.now }
+        ensures marked { OnOk result ((given : Pair) × (pair ≡ Some given) ×
+            (self.new.editing ≡ marking self.old.editing name.now given)) }
+        ensures crowded { IsCrowded self.old.editing name.now →
+            (result ≡ Err PlaceFault.BadPlace) ⊎ (result ≡ Err PlaceFault.TooManyMarks) }
+        ensures err { OnErr result (self.new ≡ self.old) }
+    {
+        match pair {
             Some(pair) => {
                 self.doc.set_mark(name.as_slice(), pair)?;
                 self.typing = false;
@@ -300,6 +360,17 @@ impl Editor {
         ensures { LogReplays self.now.editing }
     {
         self.doc.led_onward();
+    }
+
+    /// The label of the node at a path: the index of a child in each node on the way from the
+    /// document. It takes no memory.
+    pub fn label_at(&self, path: &Path) -> Option<u32>
+        ensures { result ≡ label_at self.now.editing.state.trees path.now }
+    {
+        match node_at(&self.doc, path) {
+            Some(node) => Some(node.label),
+            None => None,
+        }
     }
 
     /// The document. Between the calls of an editor each node that is held is in the document, or

@@ -1,4 +1,4 @@
-//! Points by the path of their node.
+//! Points by the path of their node, and by its label.
 
 ghost use Rattle.std.specs.Prelude.{◌≡◌, IfSome, true};
 ghost use Rattle.point_order.specs.PointOrder.{is_placed, is_in_document};
@@ -6,10 +6,11 @@ ghost use Rattle.edit_model.specs.Valid.{IsPlacedPair};
 ghost use Rattle.edit_doc.specs.Whole.{IsClosed};
 ghost use Rattle.edit_doc.specs.Held.{Holds, Finds};
 ghost use Rattle.node_paths.specs.Paths.{label_at};
-ghost use Rattle.edit_engine.specs.Places.{point_in, point_at, pair_at};
+ghost use Rattle.edit_engine.specs.Places.{point_in, point_at, pair_at, placed_pair};
 
 use edit_doc::{Doc, NodeRef, Pair, Point};
 use node_paths::resolve;
+use point_order::is_placed;
 use script_read::{Path, Place};
 
 // The point at an offset of a node of the document.
@@ -76,4 +77,17 @@ pub(crate) fn pair_at(doc: &Doc, anchor: &Place, focus: &Place) -> Option<Pair>
         anchor: first,
         focus: second,
     })
+}
+
+/// The pair of two points, where both stand in the document. It takes no memory.
+#[tactic(auto, unfolding(crate::specs::Places::placed_pair))]
+pub(crate) fn placed_pair(doc: &Doc, anchor: Point, focus: Point) -> Option<Pair>
+    ensures pair { result ≡ placed_pair doc.now.state.trees anchor focus }
+    ensures placed { IfSome result (λ p. IsPlacedPair doc.now.state.trees p) }
+{
+    if is_placed(doc, anchor) && is_placed(doc, focus) {
+        Some(Pair { anchor, focus })
+    } else {
+        None
+    }
 }

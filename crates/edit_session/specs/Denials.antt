@@ -1,6 +1,6 @@
 -- The names that `--deny` takes: 1 to 16 different names of 1 to 64 ASCII letters, digits and `-`,
 -- with a comma between. Case doesn't matter, and a repeated name counts once.
-use Rattle.std.specs.Prelude.{ℕ, Bool, ◌&&◌, nat_le, List, [], ◌∷◌, length, map, Option, Some, None, if◌then◌else◌}
+use Rattle.std.specs.Prelude.{ℕ, Bool, ◌&&◌, ◌==◌, nat_le, List, [], ◌∷◌, length, map, Option, Some, None, if◌then◌else◌}
 use Rattle.std.specs.List.{list_all}
 use Rattle.script_read.specs.Acts.{is_name}
 use Rattle.script_read.specs.Reading.{split}
@@ -27,3 +27,7 @@ are_names text = list_all is_name (parts_of text) && nat_le (length (names_in te
 
 abbrev pub names_of : List ℕ → Option (List (List ℕ))
 names_of text = if are_names text then Some (names_in text) else None
+
+-- the same of a text that may be empty, where none is denied
+unfoldable pub denied_by : List ℕ → Option (List (List ℕ))
+denied_by text = if length text == 0 then Some [] else names_of text

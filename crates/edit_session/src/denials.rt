@@ -2,9 +2,9 @@
 
 ghost use Rattle.std.specs.Prelude.{◌≡◌, map, IfOk};
 ghost use Rattle.command_gate.specs.Denied.{lowered, is_denied};
-ghost use Rattle.edit_session.specs.Denials.{parts_of, names_in, are_names};
+ghost use Rattle.edit_session.specs.Denials.{parts_of, names_in, are_names, denied_by};
 
-use command_gate::NameList;
+use command_gate::{Gate, NameList, Policy};
 use script_read::{cut, is_name};
 use std::alloc::{AllocError, Global};
 
@@ -60,4 +60,28 @@ pub(crate) fn read_names(alloc: Global, text: &[u8]) -> Result<NameList, AllocEr
     }
     list.add(alloc, rest)?;
     Ok(list)
+}
+
+/// The gate of a list, whose question is asked of the list itself.
+pub(crate) fn gate_of(alloc: Global, denied: NameList) -> Result<Gate<NameList>, AllocError>
+    ensures { IfOk result (λ gate. gate ≡ denied) }
+{
+    let question = denied.copy(alloc)?;
+    Ok(Gate::new(Policy { denied }, question))
+}
+
+/// The gate that denies the commands of a text: none where it is empty, and else 1 to 16 different
+/// names of 1 to 64 ASCII letters, digits and `-`, with a comma between. None where it is no such
+/// list.
+#[tactic(auto, unfolding(crate::specs::Denials::denied_by))]
+pub fn read_gate(alloc: Global, text: &[u8]) -> Result<Option<Gate<NameList>>, AllocError>
+    ensures { IfOk result (λ gate. gate ≡ denied_by text.now) }
+{
+    if text.is_empty() {
+        return Ok(Some(gate_of(alloc, NameList::new(alloc))?));
+    }
+    if !are_names(text) {
+        return Ok(None);
+    }
+    Ok(Some(gate_of(alloc, read_names(alloc, text)?)?))
 }

@@ -21,11 +21,11 @@ ghost use Rattle.edit_session.specs.Following.{Follows, IsWanted, HasCap, IsAnsw
 use crate::acts::answer_line;
 use crate::block::{PageBlock, after_line, line_end, read_block};
 use crate::bulk::bulk_text;
-use crate::denials::read_names;
+use crate::denials::{gate_of, read_names};
 use crate::replay::{Refusal, Tally, replay_lines};
 use crate::reply::{numbers, refusal, replayed_text, step_refusal};
 use crate::words::{GREATEST_CAP, Limits, Order, read_words, usual_limits};
-use command_gate::{Gate, NameList, Policy};
+use command_gate::{Gate, NameList};
 use edit_engine::Editor;
 use edit_io::{ReadAllFault, Sink, SinkFault, Source, read_all, write_all};
 use node_arena::Arena;
@@ -174,13 +174,12 @@ fn denied_names(alloc: Global, denied: Option<&str>) -> Result<NameList, AllocEr
     }
 }
 
-// The gate of a session, whose question is asked of the list of the names that are denied.
+// The gate of a session.
 fn make_gate(alloc: Global, denied: Option<&str>) -> Result<Gate<NameList>, AllocError>
     ensures { IfOk result (λ gate. gate ≡ denied_in denied.entry) }
 {
     let denied = denied_names(alloc, denied)?;
-    let question = denied.copy(alloc)?;
-    Ok(Gate::new(Policy { denied }, question))
+    gate_of(alloc, denied)
 }
 
 // `run` past a gate, over the nodes of a page and the lines of its acts.

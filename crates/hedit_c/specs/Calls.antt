@@ -1,5 +1,5 @@
 -- What the calls of an editor's handle tell.
-use Rattle.std.specs.Prelude.{◌≡◌, ◌⊎◌, ⊤, ℕ, ◌<◌, ◌≤◌, ◌++◌, ◌==◌, nat_lt, List, length, drop, Bool, true, false, encode_utf8_all, Option, Some, None, Ok, if◌then◌else◌}
+use Rattle.std.specs.Prelude.{◌≡◌, ◌⊎◌, ⊤, ℕ, ◌<◌, ◌≤◌, ◌++◌, ◌==◌, nat_lt, List, length, drop, Bool, true, false, encode_utf8_all, Option, Some, None, Result, Ok, Err, if◌then◌else◌}
 use Rattle.std.specs.Option.{option_and_then, option_map, IsSomeAnd}
 use Rattle.std.specs.Str.{IsUtf8, chars}
 use Rattle.dom_model.specs.ArenaState.{ArenaState}
@@ -7,6 +7,7 @@ use Rattle.html_names.specs.declared.query.QueryKind.{QueryKind}
 use Rattle.html_names.specs.declared.query.QueryKind.TheVariants as question
 use Rattle.live_range.specs.LivePoints.{has_mark}
 use Rattle.live_range.specs.declared.places.Pair.{Pair}
+use Rattle.live_range.specs.declared.places.Point.{Point}
 use Rattle.page_grammar.specs.Reading.{Refused, page_reading}
 use Rattle.page_read.specs.Answer.{IsAnswer}
 use Rattle.page_read.specs.Faults.{kind_of}
@@ -16,14 +17,17 @@ use Rattle.script_read.specs.declared.act.Place.{Place}
 use Rattle.edit_model.specs.History.{Entry}
 use Rattle.edit_query.specs.declared.reply.Reply.{Reply}
 use Rattle.edit_query.specs.declared.reply.Reply.TheVariants as reply
+use Rattle.edit_engine.specs.declared.answers.PlaceFault.{PlaceFault}
+use Rattle.edit_engine.specs.declared.answers.PlaceFault.TheVariants as place_fault
 use Rattle.edit_engine.specs.declared.answers.ViewKind.{ViewKind}
 use Rattle.edit_engine.specs.declared.answers.ViewKind.TheVariants.{Html, Tree, Points, Stat}
 use Rattle.edit_engine.specs.Editing.{Editing, EditorValue, new_editing}
-use Rattle.edit_engine.specs.Execution.{Outcome, Acted, outcome}
+use Rattle.edit_engine.specs.Execution.{Outcome, Acted, outcome, gated_outcome}
 use Rattle.edit_engine.specs.Execution as exec
-use Rattle.edit_engine.specs.Places.{pair_at, selecting, marking, unmarking, IsCrowded}
+use Rattle.edit_engine.specs.Places.{pair_at, placed_pair, selecting, marking, unmarking, IsCrowded}
 use Rattle.edit_engine.specs.Queries.{reply_of}
 use Rattle.edit_engine.specs.Views.{view_text}
+use Rattle.edit_session.specs.Denials.{denied_by}
 use Rattle.hedit_c.specs.Statuses.{number_of, answer_status}
 use Rattle.hedit_c.specs.declared.editor.opening.Refusal.{Refusal}
 use Rattle.hedit_c.specs.declared.editor.status.Status.{Status}
@@ -44,8 +48,9 @@ Leaves number (Some old) None told = ⊥
 Leaves number (Some old) (Some new) told =
     (status : Status) × (number ≡ number_of status) × told status old new
 
--- the same of a call that changes nothing but a buffer, which a closed handle leaves as it was
-abbrev pub Asks : ℕ → Option Editing → (old new : List ℕ) → (Status → Editing → Type 0)
+-- the same of a call that changes nothing but what it answers in, a buffer or a record, which a
+-- closed handle leaves as it was
+abbrev pub Asks : {A : Type 0} → ℕ → Option Editing → (old new : A) → (Status → Editing → Type 0)
     → Type 0
 Asks number None old new told = (number ≡ number_of Closed) × (new ≡ old)
 Asks number (Some e) old new told =
@@ -60,6 +65,11 @@ Puts Done text old new n =
 Puts TooSmall text old new n =
     (n ≡ length text) × (length old < length text) × (new ≡ old)
 Puts status text old new n = ⊥
+
+-- the same, where there may be no memory for the text
+abbrev pub PutsUnlessMemory : Status → (text old new : List ℕ) → (n : ℕ) → Type 0
+PutsUnlessMemory Memory text old new n = new ≡ old
+PutsUnlessMemory status text old new n = Puts status text old new n
 
 -- ---- opening
 
@@ -116,6 +126,15 @@ ExecTells BadArgument old new name value = ¬ (IsUtf8 name × IsUtf8 value) × (
 ExecTells status old new name value =
     IsUtf8 name × IsUtf8 value × ExecAnswers status old new (outcome old name (chars value))
 
+-- past a gate, which denies the names of a list with a comma between
+abbrev pub GatedTells : Status → Editing → Editing → (denied name value : List ℕ) → Type 0
+GatedTells BadArgument old new denied name value =
+    ((denied_by denied ≡ None) ⊎ ¬ (IsUtf8 name × IsUtf8 value)) × (new ≡ old)
+GatedTells Memory old new denied name value = new ≡ old
+GatedTells status old new denied name value =
+    IsUtf8 name × IsUtf8 value × IsSomeAnd (denied_by denied) (λ names.
+    ExecAnswers status old new (gated_outcome names old name (chars value)))
+
 -- ---- the history
 
 abbrev pub taken_status : Option Editing → (Editing → List Entry) → Status
@@ -131,25 +150,37 @@ abbrev pub unselect_status : Option Editing → Status
 unselect_status None = Closed
 unselect_status (Some e) = Done
 
-abbrev pub SelectTells : Status → Editing → Editing → (anchor focus : Place) → Type 0
-SelectTells Done old new anchor focus =
-    (pair : Pair) × (pair_at old.state.trees anchor focus ≡ Some pair)
-    × (new ≡ selecting old pair)
-SelectTells BadPlace old new anchor focus =
-    (pair_at old.state.trees anchor focus ≡ None) × (new ≡ old)
-SelectTells Memory old new anchor focus = new ≡ old
-SelectTells status old new anchor focus = ⊥
+-- the status of what a selecting call answers
+abbrev pub selected_status : Result ⊤ PlaceFault → Status
+selected_status (Ok _) = Done
+selected_status (Err place_fault.BadPlace) = BadPlace
+selected_status (Err place_fault.TooManyMarks) = TooManyMarks
+selected_status (Err place_fault.Memory) = Memory
 
-abbrev pub MarkTells : Status → Editing → Editing → (name : List ℕ) → (anchor focus : Place)
-    → Type 0
-MarkTells Done old new name anchor focus =
-    (pair : Pair) × (pair_at old.state.trees anchor focus ≡ Some pair)
-    × (new ≡ marking old name pair)
-MarkTells BadPlace old new name anchor focus =
-    (pair_at old.state.trees anchor focus ≡ None) × (new ≡ old)
-MarkTells TooManyMarks old new name anchor focus = IsCrowded old name × (new ≡ old)
-MarkTells Memory old new name anchor focus = new ≡ old
-MarkTells status old new name anchor focus = ⊥
+-- a pair is selected, where there is one
+abbrev pub SelectTells : Status → Editing → Editing → Option Pair → Type 0
+SelectTells Done old new found = (pair : Pair) × (found ≡ Some pair) × (new ≡ selecting old pair)
+SelectTells BadPlace old new found = (found ≡ None) × (new ≡ old)
+SelectTells Memory old new found = new ≡ old
+SelectTells status old new found = ⊥
+
+abbrev pub MarkTells : Status → Editing → Editing → (name : List ℕ) → Option Pair → Type 0
+MarkTells Done old new name found =
+    (pair : Pair) × (found ≡ Some pair) × (new ≡ marking old name pair)
+MarkTells BadPlace old new name found = (found ≡ None) × (new ≡ old)
+MarkTells TooManyMarks old new name found = IsCrowded old name × (new ≡ old)
+MarkTells Memory old new name found = new ≡ old
+MarkTells status old new name found = ⊥
+
+-- the pair at two places of a document, and that of two points, each a label and an offset
+abbrev pub pair_there : Editing → (anchor focus : Place) → Option Pair
+pair_there e anchor focus = pair_at e.state.trees anchor focus
+
+abbrev pub point : (label offset : ℕ) → Point
+point label offset = record { label = label; offset = offset }
+
+abbrev pub pair_of_points : Editing → (anchor focus : Point) → Option Pair
+pair_of_points e anchor focus = placed_pair e.state.trees anchor focus
 
 abbrev pub UnmarkTells : Status → Editing → Editing → (name : List ℕ) → Type 0
 UnmarkTells Done old new name =

@@ -2,3 +2,4 @@ pub mod Session
 pub mod Held
 pub mod Statuses
 pub mod Calls
+pub mod Nodes

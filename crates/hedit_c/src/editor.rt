@@ -7,20 +7,27 @@ ghost use Rattle.std.specs.Prelude.{◌≡◌, None};
 ghost use Rattle.std.specs.Option.{option_map};
 ghost use Rattle.edit_engine.specs.Editing.{undone, redone};
 ghost use Rattle.edit_engine.specs.Places.{unselecting};
-ghost use Rattle.hedit_c.specs.Calls.{editing_of, Leaves, Asks, Opens, ExecTells, QueryTells, ViewTells, SelectTells, MarkTells, UnmarkTells, place, taken_status, unselect_status};
+ghost use Rattle.hedit_c.specs.Calls.{editing_of, Leaves, Asks, Opens, ExecTells, GatedTells, QueryTells, ViewTells, SelectTells, MarkTells, UnmarkTells, pair_there, pair_of_points, place, point, taken_status, unselect_status};
+ghost use Rattle.hedit_c.specs.Nodes.{NodeTells, LabelTells, name_text, value_text, TextTells, attribute_name, attribute_value, AttributeTells, SelectionTells, NumbersTell};
 ghost use Rattle.hedit_c.specs.Statuses.{number_of};
 
 mod acts;
 mod answers;
 mod handle;
+mod nodes;
 mod opening;
 mod raw_box;
 pub(crate) mod status;
 mod texts;
 
-use acts::{exec, mark, redo, select, undo, unmark};
+use acts::{exec, exec_gated, mark, mark_points, redo, select, select_points, undo, unmark};
 use answers::{query, view};
+use edit_doc::Point;
 use handle::Handle;
+use nodes::{
+    NodeFacts, NumberFacts, SelectionFacts, attribute_name, attribute_value, label_at, node,
+    node_name, node_value, numbers, selection,
+};
 use opening::{Refusal, open};
 use status::Status;
 use std::alloc::Global;
@@ -72,6 +79,28 @@ pub extern "C" fn hedit_exec(alloc: Global, editor: &mut Handle, name: &[u8], va
     status.number()
 }
 
+/// Executes a command as `hedit_exec` does, unless its name is among those that are denied: 1 to 16
+/// different names with a comma between, in any case, or none. Actions that a command takes inside
+/// itself are not asked for.
+#[unsafe(no_mangle)]
+pub extern "C" fn hedit_exec_gated(
+    alloc: Global,
+    editor: &mut Handle,
+    denied: &[u8],
+    name: &[u8],
+    value: &[u8],
+) -> u32
+    ensures { Leaves result (editing_of editor.old.value) (editing_of editor.new.value)
+        (λ status old new. GatedTells status old new denied.now name.now value.now) }
+{
+    let Some(mut held) = editor.take(alloc) else {
+        return Status::Closed.number();
+    };
+    let status = exec_gated(alloc, &mut held, denied, name, value);
+    editor.put(held);
+    status.number()
+}
+
 /// Takes the entry before the cursor of the history back.
 #[unsafe(no_mangle)]
 pub extern "C" fn hedit_undo(alloc: Global, editor: &mut Handle) -> u32
@@ -114,8 +143,8 @@ pub extern "C" fn hedit_select(
     focus_offset: u32,
 ) -> u32
     ensures { Leaves result (editing_of editor.old.value) (editing_of editor.new.value)
-        (λ status old new. SelectTells status old new
-        (place anchor.now anchor_offset) (place focus.now focus_offset)) }
+        (λ status old new. SelectTells status old new (pair_there old
+        (place anchor.now anchor_offset) (place focus.now focus_offset))) }
 {
     let Some(mut held) = editor.take(alloc) else {
         return Status::Closed.number();
@@ -125,6 +154,33 @@ pub extern "C" fn hedit_select(
         &mut held,
         (anchor, anchor_offset),
         (focus, focus_offset),
+    );
+    editor.put(held);
+    status.number()
+}
+
+/// Selects from one point to another: each is the label of a node and an offset in it. It takes no
+/// memory.
+#[unsafe(no_mangle)]
+pub extern "C" fn hedit_select_points(
+    alloc: Global,
+    editor: &mut Handle,
+    anchor: u32,
+    anchor_offset: u32,
+    focus: u32,
+    focus_offset: u32,
+) -> u32
+    ensures { Leaves result (editing_of editor.old.value) (editing_of editor.new.value)
+        (λ status old new. SelectTells status old new (pair_of_points old
+        (point anchor anchor_offset) (point focus focus_offset))) }
+{
+    let Some(mut held) = editor.take(alloc) else {
+        return Status::Closed.number();
+    };
+    let status = select_points(
+        &mut held,
+        point(anchor, anchor_offset),
+        point(focus, focus_offset),
     );
     editor.put(held);
     status.number()
@@ -157,8 +213,8 @@ pub extern "C" fn hedit_mark(
     focus_offset: u32,
 ) -> u32
     ensures { Leaves result (editing_of editor.old.value) (editing_of editor.new.value)
-        (λ status old new. MarkTells status old new name.now
-        (place anchor.now anchor_offset) (place focus.now focus_offset)) }
+        (λ status old new. MarkTells status old new name.now (pair_there old
+        (place anchor.now anchor_offset) (place focus.now focus_offset))) }
 {
     let Some(mut held) = editor.take(alloc) else {
         return Status::Closed.number();
@@ -169,6 +225,36 @@ pub extern "C" fn hedit_mark(
         name,
         (anchor, anchor_offset),
         (focus, focus_offset),
+    );
+    editor.put(held);
+    status.number()
+}
+
+/// Gives a name to what is between two points, each the label of a node and an offset in it. A mark
+/// of that name is set anew.
+#[unsafe(no_mangle)]
+pub extern "C" fn hedit_mark_points(
+    alloc: Global,
+    editor: &mut Handle,
+    name: &[u8],
+    anchor: u32,
+    anchor_offset: u32,
+    focus: u32,
+    focus_offset: u32,
+) -> u32
+    ensures { Leaves result (editing_of editor.old.value) (editing_of editor.new.value)
+        (λ status old new. MarkTells status old new name.now (pair_of_points old
+        (point anchor anchor_offset) (point focus focus_offset))) }
+{
+    let Some(mut held) = editor.take(alloc) else {
+        return Status::Closed.number();
+    };
+    let status = mark_points(
+        alloc,
+        &mut held,
+        name,
+        point(anchor, anchor_offset),
+        point(focus, focus_offset),
     );
     editor.put(held);
     status.number()
@@ -232,4 +318,186 @@ pub extern "C" fn hedit_view(
     let status = view(alloc, &held, kind, buffer, length);
     editor.put(held);
     status.number()
+}
+
+/// What the node of a label is, and the labels of the nodes beside it.
+#[unsafe(no_mangle)]
+pub extern "C" fn hedit_node(
+    alloc: Global,
+    editor: &mut Handle,
+    label: u32,
+    facts: &mut NodeFacts,
+) -> u32
+    ensures stays { editor.new.value ≡ editor.old.value }
+    ensures told { Asks result (editing_of editor.old.value) facts.old facts.new
+        (λ status e. NodeTells status e label facts.old facts.new) }
+{
+    let Some(held) = editor.take(alloc) else {
+        return Status::Closed.number();
+    };
+    let status = node(&held, label, facts);
+    editor.put(held);
+    status.number()
+}
+
+/// The label of the node at a path.
+#[unsafe(no_mangle)]
+pub extern "C" fn hedit_label_at(
+    alloc: Global,
+    editor: &mut Handle,
+    path: &[u32],
+    label: &mut u32,
+) -> u32
+    ensures stays { editor.new.value ≡ editor.old.value }
+    ensures told { Asks result (editing_of editor.old.value) label.old label.new
+        (λ status e. LabelTells status e path.now label.old label.new) }
+{
+    let Some(held) = editor.take(alloc) else {
+        return Status::Closed.number();
+    };
+    let status = label_at(alloc, &held, path, label);
+    editor.put(held);
+    status.number()
+}
+
+/// Puts the name of an element into the buffer; another node has an empty one.
+#[unsafe(no_mangle)]
+pub extern "C" fn hedit_node_name(
+    alloc: Global,
+    editor: &mut Handle,
+    label: u32,
+    buffer: &mut [u8],
+    length: &mut usize,
+) -> u32
+    ensures stays { editor.new.value ≡ editor.old.value }
+    ensures told { Asks result (editing_of editor.old.value) buffer.old buffer.new
+        (λ status e. TextTells name_text status e label buffer.old buffer.new length.new) }
+{
+    let Some(held) = editor.take(alloc) else {
+        return Status::Closed.number();
+    };
+    let status = node_name(&held, label, buffer, length);
+    editor.put(held);
+    status.number()
+}
+
+/// Puts the characters of a text or a comment into the buffer; another node has none.
+#[unsafe(no_mangle)]
+pub extern "C" fn hedit_node_value(
+    alloc: Global,
+    editor: &mut Handle,
+    label: u32,
+    buffer: &mut [u8],
+    length: &mut usize,
+) -> u32
+    ensures stays { editor.new.value ≡ editor.old.value }
+    ensures told { Asks result (editing_of editor.old.value) buffer.old buffer.new
+        (λ status e. TextTells value_text status e label buffer.old buffer.new length.new) }
+{
+    let Some(held) = editor.take(alloc) else {
+        return Status::Closed.number();
+    };
+    let status = node_value(alloc, &held, label, buffer, length);
+    editor.put(held);
+    status.number()
+}
+
+/// Puts the name of an attribute into the buffer, the one at a place of the list of a node. The
+/// answer is false where there are no more.
+#[unsafe(no_mangle)]
+pub extern "C" fn hedit_attribute_name(
+    alloc: Global,
+    editor: &mut Handle,
+    label: u32,
+    place: usize,
+    buffer: &mut [u8],
+    length: &mut usize,
+) -> u32
+    ensures stays { editor.new.value ≡ editor.old.value }
+    ensures told { Asks result (editing_of editor.old.value) buffer.old buffer.new
+        (λ status e. AttributeTells attribute_name status e label place
+        buffer.old buffer.new length.new) }
+{
+    let Some(held) = editor.take(alloc) else {
+        return Status::Closed.number();
+    };
+    let status = attribute_name(&held, label, place, buffer, length);
+    editor.put(held);
+    status.number()
+}
+
+/// Puts the value of an attribute into the buffer, the one at a place of the list of a node. The
+/// answer is false where there are no more.
+#[unsafe(no_mangle)]
+pub extern "C" fn hedit_attribute_value(
+    alloc: Global,
+    editor: &mut Handle,
+    label: u32,
+    place: usize,
+    buffer: &mut [u8],
+    length: &mut usize,
+) -> u32
+    ensures stays { editor.new.value ≡ editor.old.value }
+    ensures told { Asks result (editing_of editor.old.value) buffer.old buffer.new
+        (λ status e. AttributeTells attribute_value status e label place
+        buffer.old buffer.new length.new) }
+{
+    let Some(held) = editor.take(alloc) else {
+        return Status::Closed.number();
+    };
+    let status = attribute_value(alloc, &held, label, place, buffer, length);
+    editor.put(held);
+    status.number()
+}
+
+/// The points of the selection. The answer is false where nothing is selected.
+#[unsafe(no_mangle)]
+pub extern "C" fn hedit_selection(
+    alloc: Global,
+    editor: &mut Handle,
+    facts: &mut SelectionFacts,
+) -> u32
+    ensures stays { editor.new.value ≡ editor.old.value }
+    ensures told { Asks result (editing_of editor.old.value) facts.old facts.new
+        (λ status e. SelectionTells status e facts.old facts.new) }
+{
+    let Some(held) = editor.take(alloc) else {
+        return Status::Closed.number();
+    };
+    let status = selection(&held, facts);
+    editor.put(held);
+    status.number()
+}
+
+/// The numbers of the document and of its history.
+#[unsafe(no_mangle)]
+pub extern "C" fn hedit_numbers(
+    alloc: Global,
+    editor: &mut Handle,
+    facts: &mut NumberFacts,
+) -> u32
+    ensures stays { editor.new.value ≡ editor.old.value }
+    ensures told { Asks result (editing_of editor.old.value) facts.old facts.new
+        (λ status e. NumbersTell status e facts.new) }
+{
+    let Some(held) = editor.take(alloc) else {
+        return Status::Closed.number();
+    };
+    let status = numbers(&held, facts);
+    editor.put(held);
+    status.number()
+}
+
+fn point(label: u32, offset: u32) -> Point
+    ensures { result ≡ point label offset }
+{
+    Point { label, offset }
+}
+
+/// The version of the library: a byte each for the major, the minor and the patch number.
+#[unsafe(no_mangle)]
+pub extern "C" fn hedit_version() -> u32
+    ensures { result ≡ 2304 }
+{
+    0x00_09_00
 }

@@ -1,29 +1,40 @@
 //! Calls that change an editor.
 
 ghost use Rattle.std.specs.Prelude.{◌≡◌, nat_lt, length};
-ghost use Rattle.edit_engine.specs.Editing.{undone, redone};
-ghost use Rattle.edit_engine.specs.Execution.{outcome};
+ghost use Rattle.edit_engine.specs.Editing.{Editing, undone, redone};
+ghost use Rattle.edit_engine.specs.Execution.{Outcome, Tells, outcome, gated_outcome};
 ghost use Rattle.std.specs.Str.{chars};
-ghost use Rattle.hedit_c.specs.Calls.{ExecAnswers, ExecTells, SelectTells, MarkTells, UnmarkTells, place};
+ghost use Rattle.hedit_c.specs.Calls.{ExecAnswers, ExecTells, GatedTells, SelectTells, MarkTells, UnmarkTells, pair_there, pair_of_points, place, selected_status};
 
 use super::status::Status;
 use super::texts::place_of;
+use command_gate::{Gate, NameList};
 use dom_model::{Chars, Name};
+use edit_doc::Point;
 use edit_engine::{Answer, Editor, ExecFault, PlaceFault, Turn};
+use edit_session::read_gate;
 use script_read::Place;
 use std::alloc::Global;
 
-fn exec_chars(alloc: Global, editor: &mut Editor, name: &str, value: &Chars) -> Status
-    ensures { ExecAnswers result editor.old.editing editor.new.editing
-        (outcome editor.old.editing name.now value.now) }
+// The status of a command's answer.
+fn answered(answer: Result<Answer, ExecFault>) -> Status
+    ensures { (old new : Editing) (o : Outcome) → Tells answer old new o
+        → ExecAnswers result old new o }
 {
-    match editor.exec(alloc, name, value.as_slice()) {
+    match answer {
         Ok(Answer::Yes) => Status::Done,
         Ok(Answer::No) => Status::No,
         Err(ExecFault::Full) => Status::Full,
         Err(ExecFault::Deep) => Status::Deep,
         Err(ExecFault::Memory) => Status::Memory,
     }
+}
+
+fn exec_chars(alloc: Global, editor: &mut Editor, name: &str, value: &Chars) -> Status
+    ensures { ExecAnswers result editor.old.editing editor.new.editing
+        (outcome editor.old.editing name.now value.now) }
+{
+    answered(editor.exec(alloc, name, value.as_slice()))
 }
 
 fn exec_text(alloc: Global, editor: &mut Editor, name: &str, value: &str) -> Status
@@ -46,6 +57,42 @@ pub(crate) fn exec(alloc: Global, editor: &mut Editor, name: &[u8], value: &[u8]
     }
 }
 
+fn exec_past(
+    alloc: Global,
+    editor: &mut Editor,
+    gate: &Gate<NameList>,
+    name: &str,
+    value: &str,
+) -> Status
+    ensures { ExecAnswers result editor.old.editing editor.new.editing
+        (gated_outcome gate.now editor.old.editing name.now (chars value.now)) }
+{
+    match Chars::from_text(alloc, value) {
+        Ok(value) => answered(editor.exec_gated(alloc, gate, name, value.as_slice())),
+        Err(_) => Status::Memory,
+    }
+}
+
+/// Executes a command by its name and its value, both in UTF-8, unless its name is denied.
+pub(crate) fn exec_gated(
+    alloc: Global,
+    editor: &mut Editor,
+    denied: &[u8],
+    name: &[u8],
+    value: &[u8],
+) -> Status
+    ensures { GatedTells result editor.old.editing editor.new.editing denied.now name.now value.now }
+{
+    let (Ok(name), Ok(value)) = (str::from_utf8(name), str::from_utf8(value)) else {
+        return Status::BadArgument;
+    };
+    match read_gate(alloc, denied) {
+        Ok(Some(gate)) => exec_past(alloc, editor, &gate, name, value),
+        Ok(None) => Status::BadArgument,
+        Err(_) => Status::Memory,
+    }
+}
+
 /// Takes one entry back. Nothing is counted as it runs.
 pub(crate) fn undo(editor: &mut Editor) -> bool
     ensures answer { result ≡ nat_lt 0 (length editor.old.editing.history.undo) }
@@ -62,26 +109,32 @@ pub(crate) fn redo(editor: &mut Editor) -> bool
     editor.turn(Turn::Redo)
 }
 
-// Selects from one place to another.
-fn select_places(editor: &mut Editor, anchor: &Place, focus: &Place) -> Status
-    ensures { SelectTells result editor.old.editing editor.new.editing anchor.now focus.now }
+// The status of a selecting call.
+fn selected(answer: Result<(), PlaceFault>) -> Status
+    ensures { result ≡ selected_status answer }
 {
-    match editor.select(anchor, focus) {
-        Ok(()) => Status::Done,
-        Err(_) => Status::BadPlace,
-    }
-}
-
-// Gives a name to what is between two places.
-fn mark_places(editor: &mut Editor, name: &Name, anchor: &Place, focus: &Place) -> Status
-    ensures { MarkTells result editor.old.editing editor.new.editing name.now anchor.now focus.now }
-{
-    match editor.mark(name, anchor, focus) {
+    match answer {
         Ok(()) => Status::Done,
         Err(PlaceFault::BadPlace) => Status::BadPlace,
         Err(PlaceFault::TooManyMarks) => Status::TooManyMarks,
         Err(PlaceFault::Memory) => Status::Memory,
     }
+}
+
+// Selects from one place to another.
+fn select_places(editor: &mut Editor, anchor: &Place, focus: &Place) -> Status
+    ensures { SelectTells result editor.old.editing editor.new.editing
+        (pair_there editor.old.editing anchor.now focus.now) }
+{
+    selected(editor.select(anchor, focus))
+}
+
+// Gives a name to what is between two places.
+fn mark_places(editor: &mut Editor, name: &Name, anchor: &Place, focus: &Place) -> Status
+    ensures { MarkTells result editor.old.editing editor.new.editing name.now
+        (pair_there editor.old.editing anchor.now focus.now) }
+{
+    selected(editor.mark(name, anchor, focus))
 }
 
 /// Selects from one place to another.
@@ -92,7 +145,8 @@ pub(crate) fn select(
     focus: (&[u32], u32),
 ) -> Status
     ensures { SelectTells result editor.old.editing editor.new.editing
-        (place anchor.entry.0.now anchor.entry.1) (place focus.entry.0.now focus.entry.1) }
+        (pair_there editor.old.editing (place anchor.entry.0.now anchor.entry.1)
+        (place focus.entry.0.now focus.entry.1)) }
 {
     let Ok(anchor) = place_of(alloc, anchor.0, anchor.1) else {
         return Status::Memory;
@@ -101,6 +155,14 @@ pub(crate) fn select(
         return Status::Memory;
     };
     select_places(editor, &anchor, &focus)
+}
+
+/// Selects from one point to another.
+pub(crate) fn select_points(editor: &mut Editor, anchor: Point, focus: Point) -> Status
+    ensures { SelectTells result editor.old.editing editor.new.editing
+        (pair_of_points editor.old.editing anchor focus) }
+{
+    selected(editor.select_points(anchor, focus))
 }
 
 /// Gives a name to what is between two places.
@@ -112,7 +174,8 @@ pub(crate) fn mark(
     focus: (&[u32], u32),
 ) -> Status
     ensures { MarkTells result editor.old.editing editor.new.editing name.now
-        (place anchor.entry.0.now anchor.entry.1) (place focus.entry.0.now focus.entry.1) }
+        (pair_there editor.old.editing (place anchor.entry.0.now anchor.entry.1)
+        (place focus.entry.0.now focus.entry.1)) }
 {
     let Ok(name) = Name::from_slice(alloc, name) else {
         return Status::Memory;
@@ -124,6 +187,23 @@ pub(crate) fn mark(
         return Status::Memory;
     };
     mark_places(editor, &name, &anchor, &focus)
+}
+
+/// Gives a name to what is between two points.
+pub(crate) fn mark_points(
+    alloc: Global,
+    editor: &mut Editor,
+    name: &[u8],
+    anchor: Point,
+    focus: Point,
+) -> Status
+    ensures { MarkTells result editor.old.editing editor.new.editing name.now
+        (pair_of_points editor.old.editing anchor focus) }
+{
+    match Name::from_slice(alloc, name) {
+        Ok(name) => selected(editor.mark_points(&name, anchor, focus)),
+        Err(_) => Status::Memory,
+    }
 }
 
 /// Takes the mark of a name out.

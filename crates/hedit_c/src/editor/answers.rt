@@ -4,9 +4,8 @@ ghost use Rattle.std.specs.Prelude.{◌≡◌};
 ghost use Rattle.hedit_c.specs.Calls.{ReplyTells, QueryTells, ViewTells, query_kind, view_kind};
 
 use super::status::Status;
-use super::texts::put;
+use super::texts::{put, put_chars};
 use edit_engine::{Editor, Reply, ViewKind};
-use escaped_text::push_chars;
 use html_names::QueryKind;
 use std::alloc::Global;
 
@@ -54,13 +53,7 @@ fn answer(
             *flag = *is_so as u32;
             Status::Done
         }
-        Reply::Wording(wording) => {
-            let mut text = Vec::new(alloc);
-            match push_chars(&mut text, wording.as_slice()) {
-                Ok(()) => put(&text, buffer, length),
-                Err(_) => Status::Memory,
-            }
-        }
+        Reply::Wording(wording) => put_chars(alloc, wording.as_slice(), buffer, length),
     }
 }
 

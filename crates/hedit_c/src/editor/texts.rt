@@ -1,9 +1,10 @@
 //! Texts, places and buffers that cross to C and back.
 
-ghost use Rattle.std.specs.Prelude.{◌≡◌, IfOk};
-ghost use Rattle.hedit_c.specs.Calls.{Puts, place};
+ghost use Rattle.std.specs.Prelude.{◌≡◌, IfOk, encode_utf8_all};
+ghost use Rattle.hedit_c.specs.Calls.{Puts, PutsUnlessMemory, place};
 
 use super::status::Status;
+use escaped_text::push_chars;
 use script_read::{Path, Place};
 use std::alloc::{AllocError, Global};
 
@@ -25,4 +26,20 @@ pub(crate) fn put(text: &[u8], buffer: &mut [u8], length: &mut usize) -> Status
     }
     buffer[..text.len()].copy_from_slice(text);
     Status::Done
+}
+
+/// Puts characters in UTF-8 at the front of a buffer, or only gives their length.
+pub(crate) fn put_chars(
+    alloc: Global,
+    chars: &[char],
+    buffer: &mut [u8],
+    length: &mut usize,
+) -> Status
+    ensures { PutsUnlessMemory result (encode_utf8_all chars.now) buffer.old buffer.new length.new }
+{
+    let mut text = Vec::new(alloc);
+    match push_chars(&mut text, chars) {
+        Ok(()) => put(&text, buffer, length),
+        Err(_) => Status::Memory,
+    }
 }

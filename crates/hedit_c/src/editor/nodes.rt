@@ -1,0 +1,270 @@
+//! What C reads of the nodes of an editor, of its selection and of its numbers, by labels.
+
+ghost use Rattle.std.specs.Prelude.{◌≡◌, [], MatchOption, encode_utf8_all, slice_get};
+ghost use Rattle.std.specs.Option.{option_map};
+ghost use Rattle.edit_doc.specs.Held.{Holds};
+ghost use Rattle.edit_model.specs.Gives.{label_of};
+ghost use Rattle.hedit_c.specs.Nodes.{label_number, node_type, facts_of, NodeTells, LabelTells, name_text, value_text, TextTells, attributes_in, attribute_name, attribute_value, AttributeTells, selection_of, SelectionTells, numbers_of, NumbersTell};
+
+use super::status::Status;
+use super::texts::{put, put_chars};
+use dom_model::{Attributes, Chars, Content};
+use edit_doc::{Doc, NodeRef};
+use edit_engine::Editor;
+use script_read::Path;
+use std::alloc::Global;
+
+/// What a node is, as DOM numbers the types of nodes (1 an element, 3 a text, 8 a comment, 9 the
+/// document), its length, and the labels of the nodes beside it: 0xFFFFFFFF where there is none.
+#[repr(C)]
+#[derive(Clone, Copy)]
+pub struct NodeFacts {
+    pub kind: u32,
+    pub length: u32,
+    pub parent: u32,
+    pub first_child: u32,
+    pub last_child: u32,
+    pub previous: u32,
+    pub next: u32,
+}
+
+/// The two points of a selection.
+#[repr(C)]
+#[derive(Clone, Copy)]
+pub struct SelectionFacts {
+    pub anchor: u32,
+    pub anchor_offset: u32,
+    pub focus: u32,
+    pub focus_offset: u32,
+}
+
+/// The numbers of a document and of its history.
+#[repr(C)]
+#[derive(Clone, Copy)]
+pub struct NumberFacts {
+    pub nodes: u32,
+    pub next_label: u32,
+    pub chars: u64,
+    pub edits: usize,
+    pub undo: usize,
+    pub redo: usize,
+}
+
+fn label_number(node: Option<NodeRef>) -> u32
+    ensures { result ≡ label_number (label_of node) }
+{
+    match node {
+        Some(node) => node.label,
+        None => u32::MAX,
+    }
+}
+
+fn node_type(content: &Content) -> u32
+    ensures { result ≡ node_type content.now }
+{
+    match content {
+        Content::Element { .. } => 1,
+        Content::Words(_) => 3,
+        Content::Remark(_) => 8,
+        Content::Document => 9,
+    }
+}
+
+fn facts_of(doc: &Doc, node: NodeRef) -> NodeFacts
+    requires { Holds doc.now node }
+    ensures { result ≡ facts_of doc.now.state.trees node.label }
+{
+    NodeFacts {
+        kind: node_type(doc.content(node)),
+        length: doc.length(node),
+        parent: label_number(doc.parent(node)),
+        first_child: label_number(doc.first_child(node)),
+        last_child: label_number(doc.last_child(node)),
+        previous: label_number(doc.prev(node)),
+        next: label_number(doc.next(node)),
+    }
+}
+
+/// What the node of a label is.
+pub(crate) fn node(editor: &Editor, label: u32, facts: &mut NodeFacts) -> Status
+    ensures { NodeTells result editor.now.editing label facts.old facts.new }
+{
+    let doc = editor.document();
+    match doc.find(label) {
+        Some(node) => {
+            *facts = facts_of(doc, node);
+            Status::Done
+        }
+        None => Status::BadPlace,
+    }
+}
+
+/// The label of the node at a path.
+pub(crate) fn label_at(alloc: Global, editor: &Editor, path: &[u32], label: &mut u32) -> Status
+    ensures { LabelTells result editor.now.editing path.now label.old label.new }
+{
+    let Ok(path) = Path::from_slice(alloc, path) else {
+        return Status::Memory;
+    };
+    match editor.label_at(&path) {
+        Some(found) => {
+            *label = found;
+            Status::Done
+        }
+        None => Status::BadPlace,
+    }
+}
+
+fn name_text(content: &Content) -> &[u8]
+    ensures { result.now ≡ name_text content.now }
+{
+    match content {
+        Content::Element { name, .. } => name.as_slice(),
+        _ => &[],
+    }
+}
+
+/// The name of an element, and an empty text for another node.
+pub(crate) fn node_name(
+    editor: &Editor,
+    label: u32,
+    buffer: &mut [u8],
+    length: &mut usize,
+) -> Status
+    ensures { TextTells name_text result editor.now.editing label buffer.old buffer.new length.new }
+{
+    let doc = editor.document();
+    match doc.find(label) {
+        Some(node) => put(name_text(doc.content(node)), buffer, length),
+        None => Status::BadPlace,
+    }
+}
+
+fn value_text(content: &Content) -> &[char]
+    ensures { encode_utf8_all result.now ≡ value_text content.now }
+{
+    match content {
+        Content::Words(chars) => chars.as_slice(),
+        Content::Remark(chars) => chars.as_slice(),
+        _ => &[],
+    }
+}
+
+/// The characters of a text or a comment, and an empty text for another node.
+pub(crate) fn node_value(
+    alloc: Global,
+    editor: &Editor,
+    label: u32,
+    buffer: &mut [u8],
+    length: &mut usize,
+) -> Status
+    ensures { TextTells value_text result editor.now.editing label buffer.old buffer.new length.new }
+{
+    let doc = editor.document();
+    match doc.find(label) {
+        Some(node) => put_chars(alloc, value_text(doc.content(node)), buffer, length),
+        None => Status::BadPlace,
+    }
+}
+
+// The attributes of a node, where it can have some.
+fn attributes_in(content: &Content) -> Option<&Attributes>
+    ensures { MatchOption result (attributes_in content.now ≡ [])
+        (λ list. list.now ≡ attributes_in content.now) }
+{
+    match content {
+        Content::Element { attributes, .. } => Some(attributes),
+        _ => None,
+    }
+}
+
+// The attribute at a place of the list of a node.
+fn attribute_at(content: &Content, place: usize) -> Option<(&[u8], &Chars)>
+    ensures { option_map (λ pair. record {
+      name = pair.0.now;
+      value = pair.1.now;
+    }) result ≡ slice_get (attributes_in content.now) place }
+{
+    match attributes_in(content) {
+        Some(list) => list.at(place),
+        None => None,
+    }
+}
+
+/// The name of the attribute at a place of the list of a node.
+pub(crate) fn attribute_name(
+    editor: &Editor,
+    label: u32,
+    place: usize,
+    buffer: &mut [u8],
+    length: &mut usize,
+) -> Status
+    ensures { AttributeTells attribute_name result editor.now.editing label place
+        buffer.old buffer.new length.new }
+{
+    let doc = editor.document();
+    let Some(node) = doc.find(label) else {
+        return Status::BadPlace;
+    };
+    match attribute_at(doc.content(node), place) {
+        Some((name, _)) => put(name, buffer, length),
+        None => Status::No,
+    }
+}
+
+/// The value of the attribute at a place of the list of a node.
+pub(crate) fn attribute_value(
+    alloc: Global,
+    editor: &Editor,
+    label: u32,
+    place: usize,
+    buffer: &mut [u8],
+    length: &mut usize,
+) -> Status
+    ensures { AttributeTells attribute_value result editor.now.editing label place
+        buffer.old buffer.new length.new }
+{
+    let doc = editor.document();
+    let Some(node) = doc.find(label) else {
+        return Status::BadPlace;
+    };
+    match attribute_at(doc.content(node), place) {
+        Some((_, value)) => put_chars(alloc, value.as_slice(), buffer, length),
+        None => Status::No,
+    }
+}
+
+/// The points of the selection, if there is one.
+pub(crate) fn selection(editor: &Editor, facts: &mut SelectionFacts) -> Status
+    ensures { SelectionTells result editor.now.editing facts.old facts.new }
+{
+    match editor.document().points().selection() {
+        Some(pair) => {
+            *facts = SelectionFacts {
+                anchor: pair.anchor.label,
+                anchor_offset: pair.anchor.offset,
+                focus: pair.focus.label,
+                focus_offset: pair.focus.offset,
+            };
+            Status::Done
+        }
+        None => Status::No,
+    }
+}
+
+/// The numbers of the document and of its history.
+pub(crate) fn numbers(editor: &Editor, facts: &mut NumberFacts) -> Status
+    ensures { NumbersTell result editor.now.editing facts.new }
+{
+    let doc = editor.document();
+    let counts = doc.counts();
+    *facts = NumberFacts {
+        nodes: counts.nodes,
+        next_label: doc.arena().next_label(),
+        chars: counts.chars,
+        edits: doc.edits(),
+        undo: doc.undo_len(),
+        redo: doc.redo_len(),
+    };
+    Status::Done
+}
