@@ -10,6 +10,10 @@ or those alone that the options name. The parts:
             place at a caret amid them
   pages     whether the size of the page shows at one place
   siblings  what each sibling before the place costs
+  depth     each command and each question below 10 elements and below 160, and a key in three deep chains side by side
+  nothing   a key amid empty spans, blank spans, inputs and hidden spans
+  styles    each command and each question on an element whose style has 10,000 declarations, in seconds of processor
+  stack     all commands and questions on the deepest pages, in a stack of 128 kB
   typing    many characters that are typed into one text
   log       the act `log`, and `replay` of what it prints
   bulk      `bulk 5000`, and its memory
@@ -384,6 +388,89 @@ def each_before(page, place, caret, near, far, trials):
           lambda counts: (counts[1] - counts[0]) / (far - near), lambda row: 15)
 
 
+# ---- one place below many elements
+
+def depth():
+    shape = SHAPES["div in div"]
+    columns = [costs(shape.page(size), shape.amid(size), list(trials_over(shape, size))) for size in (10, 160)]
+    table("below so many elements", "growth from the first to the second", ["10", "160"], in_rows(columns),
+          lambda counts: counts[1] / counts[0], lambda row: 16)
+    if is_chosen("insertText"):
+        key_in_chains()
+
+
+def key_in_chains():
+    """A key in the middle one of three chains of b, which stand side by side."""
+    seconds = []
+    for count in (48, 96, 192):
+        page = host("<p>" + ("<b>" * count + "foo" + "</b>" * count) * 3 + "</p>")
+        select_it = select("0/0/1" + "/0" * count + ":2")
+        without = used(session_of(page, [select_it]), "run").seconds
+        seconds.append(used(session_of(page, [select_it, "exec insertText x"]), "run").seconds - without)
+    print("seconds of processor of a key in three chains of b, of 48, 96 and 192:", *(f"{each:.2f}" for each in seconds))
+    told("insertText in three chains of 192 b, seconds", seconds[-1], 0.02)
+
+
+# ---- one place amid nodes that show nothing
+
+NOTHING = {
+    "empty spans": "<span></span>",
+    "blank spans": "<span> </span>",
+    "inputs": "<input>",
+    "hidden spans": '<span style="display: none">x</span>',
+}
+
+
+def nothing():
+    keys = [row for row in OF_PLACE if row[0] in ("delete", "insertText x")]
+    for name, node in NOTHING.items():
+        def page(count, node=node):
+            return host(f"<p>ab{node * count}cd{node * count}ef</p>")
+        def caret(count):
+            return select(f"0/0/{count + 1}:1")
+        sizes = (50, 100, 200)
+        columns = [costs(page(size), caret(size), list(trials_of(keys, caret(size)))) for size in sizes]
+        table(f"between so many {name} on both sides", "growth from the second to the third", [f"{size}" for size in sizes],
+              in_rows(columns), lambda counts: counts[-1] / counts[-2], lambda row: 2.5)
+        if is_chosen("insertText"):
+            without = used(session_of(page(500), [caret(500)]), "run").seconds
+            key = used(session_of(page(500), [caret(500), "exec insertText x"]), "run").seconds
+            told(f"insertText amid 1,000 {name}, seconds", key - without, 0.01)
+
+
+# ---- one element with a long style
+
+def styles():
+    style = " ".join(f"p{number}: v;" for number in range(10000))
+    page = host(f'<p style="{style}">foobar</p>')
+    for trial in every_trial(select("0/0/0:1", "0/0/0:3"), " at a style of 10,000 declarations"):
+        without = used(session_of(page, trial.before), "run").seconds
+        told(f"{trial.name}, seconds", used(session_of(page, [*trial.before, trial.act]), "run").seconds - without, 0.1)
+
+
+# ---- a small stack
+
+STACK = 128
+
+
+def stack():
+    """Which of the commands and questions, on the deepest pages that are read, end well in a small stack."""
+    limit = ["bash", "-c", f'ulimit -s {STACK} && exec "$0" "$@"', program, "run"]
+    failed = []
+    for name in ("div", "b", "a", "span", "blockquote"):
+        around = '<a href="u">' if name == "a" else f"<{name}>"
+        count = 196
+        page = host(around * count + "foobar" + f"</{name}>" * count)
+        path = "0" + "/0" * (count + 1)
+        for trial in every_trial(select(f"{path}:1", f"{path}:3"), f" below {count} {name}"):
+            text = session_of(page, [*trial.before, trial.act, "undo 1", "html"])
+            ran = subprocess.run(limit, input=text.encode(), capture_output=True)
+            if ran.returncode != 0:
+                failed.append(trial.name)
+    print(f"in a stack of {STACK} kB {len(failed)} don't end well", *failed, sep="\n  ")
+    told(f"commands and questions that a stack of {STACK} kB isn't enough for", len(failed), 0)
+
+
 # ---- many keys
 
 def typing():
@@ -440,7 +527,8 @@ def long():
             told(trial.name, run.seconds - without, 0.1)
 
 
-PARTS = {"shapes": shapes, "pages": pages, "siblings": siblings, "typing": typing, "log": log, "bulk": bulk, "long": long}
+PARTS = {"shapes": shapes, "pages": pages, "siblings": siblings, "depth": depth, "nothing": nothing, "styles": styles,
+         "stack": stack, "typing": typing, "log": log, "bulk": bulk, "long": long}
 
 
 def main():
