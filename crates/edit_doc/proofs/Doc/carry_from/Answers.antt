@@ -14,6 +14,7 @@ loop-i-init c =
     record {
       possible = subst (λ ns. are_possible (carried a.target.label ns) s ≡ true) (sym (labels-drop a.from a.list.now)) c.requires.possible;
       ends = ap (λ ns. stepped_all (carried a.target.label ns) s) (labels-drop a.from a.list.now);
+      known = tt;
       keeps = keeps_same a.self.now;
     }
 
@@ -35,6 +36,7 @@ loop-i-preserved c =
     record {
       possible = detached_may a.target.label a.list.now c.loop-i.i c.loop-i-test.true s t is c.loop-i.invariant.possible;
       ends = detached_ends a.target.label a.list.now c.loop-i.i c.loop-i-test.true s t is ∙ c.loop-i.invariant.ends;
+      known = c.in_ok-carry.ensures.known;
       keeps = keeps_on a.self.now c.loop-i.self c.carry.new.self c.loop-i.invariant.keeps c.in_ok-carry.ensures.keeps;
     }
 
