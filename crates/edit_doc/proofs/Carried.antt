@@ -22,7 +22,7 @@ use Rattle.edit_doc.specs.Extracting.{TellsIndex}
 times_taken : (xs : List ℕ) (n m : ℕ) → n ≢ m → times (taken_from xs n) m ≡ times xs m
 times_taken [] n m off = refl
 times_taken (x ∷ xs) n m off = elim (eqb_tells x n) [
-  | inl (t, is) ↦ rw t (elim (eqb_tells x m) [ inl (_, same) ↦ absurd (off (sym is ∙ same)) | inr (u, _) ↦ rw u refl ])
+  | inl (t, is) ↦ rw t (elim (eqb_tells x m) [ inl (_, same) ↦ absurd (off (sym is ∙ same)) | inr (u, _) ↦ rw u (omega arith) ])
   | inr (t, _) ↦ rw t (ap (λ k. cond (eqb x m) 1 0 + k) (times_taken xs n m off))
 ]
 
