@@ -56,6 +56,7 @@ pub mod Outgone
 pub mod Off
 pub mod Needs
 pub mod KeptNodes
+pub mod Carried
 pub mod Tails
 pub mod LoggedNodes
 pub mod StepNodes

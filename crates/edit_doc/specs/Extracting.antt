@@ -1,6 +1,8 @@
 -- What the calls that extract a tail make. No public clause cites this module.
-use Rattle.std.specs.Prelude.{◌≡◌, ℕ, List, Result, Ok, Err}
-use Rattle.dom_model.specs.Forest.{total, tree_of}
+use Rattle.std.specs.Prelude.{◌≡◌, ℕ, List, Option, IfSome, Result, Ok, Err}
+use Rattle.dom_model.specs.declared.Content.{Content}
+use Rattle.dom_model.specs.Forest.{Forest, total, tree_of}
+use Rattle.dom_model.specs.Places.{index_of}
 use Rattle.live_range.specs.declared.places.Point.{Point}
 use Rattle.edit_model.specs.declared.settings.EditFault.{EditFault}
 use Rattle.edit_model.specs.State.{State}
@@ -17,3 +19,7 @@ tail_at s from end target =
 abbrev pub MakesSteps : {T : Type 0} → Result T EditFault → State → State → List Step → Type 0
 MakesSteps (Ok v) s t xs = t ≡ stepped_all xs s
 MakesSteps (Err e) s t xs = Fails e (stepped_all xs s)
+
+-- of the node of that label, if one is named, the offset is the index
+abbrev pub TellsIndex : Forest Content → Option Point → Type 0
+TellsIndex f known = IfSome known (λ at. at.offset ≡ index_of f at.label)

@@ -1,7 +1,8 @@
 //! The elementary edits.
 
-ghost use Rattle.std.specs.Prelude.{◌≡◌, ℕ, IfErr, OnErr, OnOk, Some, true};
+ghost use Rattle.std.specs.Prelude.{◌≡◌, ℕ, IfErr, IfSome, OnErr, OnOk, Some, true};
 ghost use Rattle.dom_model.specs.Forest.{parent_of};
+ghost use Rattle.dom_model.specs.Places.{index_of};
 ghost use Rattle.edit_model.specs.Action.{applied};
 ghost use Rattle.edit_model.specs.Edit.{Insert, Remove, is_made_edit};
 ghost use Rattle.edit_model.specs.Possible.{freed};
@@ -103,17 +104,25 @@ impl Doc {
         if !self.may_leave(node, parent) {
             return Ok(false);
         }
-        self.unlink(node, parent)?;
+        self.unlink(node, parent, None)?;
         Ok(true)
     }
 
-    // Takes the tree of a node off its parent, where the trees allow it; it becomes loose.
-    pub(crate) fn unlink(&mut self, node: NodeRef, parent: NodeRef) -> Result<(), EditFault>
+    // Takes the tree of a node off its parent, where the trees allow it; it becomes loose. The
+    // node's index is counted if it isn't known and a point needs it.
+    pub(crate) fn unlink(
+        &mut self,
+        node: NodeRef,
+        parent: NodeRef,
+        known: Option<u32>,
+    ) -> Result<(), EditFault>
         requires open { IsOpen self.old }
         requires node_held { Holds self.old node }
         requires parent_held { Holds self.old parent }
         requires child { parent_of self.old.state.trees node.label ≡ Some parent.label }
         requires possible { is_made_edit (Remove node.label) (freed self.old.state) ≡ true }
+        requires known { IfSome known (λ index. index
+            ≡ index_of self.old.state.trees node.label) }
         ensures unlinked { OnOk result (self.new.state
             ≡ applied (Remove node.label) self.old.state) }
         ensures fault { IfErr result (λ fault. fault ≡ EditFault.Memory) }
@@ -125,7 +134,7 @@ impl Doc {
         self.command.detached.reserve(1)?;
         let watch = self.tree.watch();
         let nodes = &self.tree.nodes;
-        let removal = removal_of(&nodes.arena, &self.tree.points, node, parent);
+        let removal = removal_of(&nodes.arena, &self.tree.points, node, parent, known);
         let counts = counts_without(&nodes.arena, nodes.counts, node, parent);
         let next = nodes.arena.next(node);
         self.tree

@@ -1,7 +1,9 @@
 //! Extracting the tail of a node. The steps are those of docs/ALGORITHMS.md.
 
 ghost use Rattle.std.specs.Prelude.{◌≡◌, ℕ, ◌&&◌, ◌∷◌, [], IfOk, drop, not, true};
+ghost use Rattle.std.specs.Option.{option_map};
 ghost use Rattle.dom_model.specs.Contents.{is_element_at, is_parent_at};
+ghost use Rattle.dom_model.specs.Places.{index_of};
 ghost use Rattle.edit_model.specs.Gives.{Gives, labels_of};
 ghost use Rattle.edit_model.specs.Action.{may_extract};
 ghost use Rattle.edit_model.specs.Confined.{is_editable_for, is_made};
@@ -11,10 +13,23 @@ ghost use Rattle.edit_model.specs.Tail.{Copy, carried, copy_of};
 ghost use Rattle.edit_doc.specs.Whole.{IsOpen};
 ghost use Rattle.edit_doc.specs.Held.{Holds, EachHeld, Keeps};
 ghost use Rattle.point_order.specs.PointOrder.{is_in_document, is_within};
-ghost use Rattle.edit_doc.specs.Extracting.{tail_at, MakesSteps};
+ghost use Rattle.edit_doc.specs.Extracting.{tail_at, MakesSteps, TellsIndex};
 
 use crate::{Doc, EditFault, NodeRef, Point};
 use point_order::{child_toward, is_in_document, is_within};
+
+// A node with its index.
+fn place_of(node: Option<NodeRef>, index: u32) -> Option<Point>
+    ensures { result ≡ option_map (λ r. record { label = r.label; offset = index }) node }
+{
+    match node {
+        Some(node) => Some(Point {
+            label: node.label,
+            offset: index,
+        }),
+        None => None,
+    }
+}
 
 impl Doc {
     /// Extracts the tail of `end`: what stands in it from a point on goes to the end of `target`.
@@ -164,27 +179,54 @@ impl Doc {
             (carried target.label (drop from (labels_of list.now))) }
         ensures keeps { Keeps self.old self.new }
     {
+        let mut known = None;
         for i in from as usize..list.len() {
-            self.carry(list[i], target)?;
+            known = self.carry(list[i], target, known)?;
         }
         Ok(())
     }
 
-    // Carries a node to the end of another one.
-    fn carry(&mut self, node: NodeRef, target: NodeRef) -> Result<(), EditFault>
+    // The index of a node, which is known or else counted.
+    fn index_from(&self, node: NodeRef, known: Option<Point>) -> u32
+        requires held { Holds self.now node }
+        requires known { TellsIndex self.now.state.trees known }
+        ensures { result ≡ index_of self.now.state.trees node.label }
+    {
+        if let Some(at) = known {
+            if at.label == node.label {
+                return at.offset;
+            }
+        }
+        self.index(node)
+    }
+
+    // Carries a node to the end of another one, and answers the index of the node after it, which
+    // comes to stand where it stood. So of the nodes of one parent in a row one index is counted.
+    fn carry(
+        &mut self,
+        node: NodeRef,
+        target: NodeRef,
+        known: Option<Point>,
+    ) -> Result<Option<Point>, EditFault>
         requires open { IsOpen self.old }
         requires node_held { Holds self.old node }
         requires target_held { Holds self.old target }
+        requires known { TellsIndex self.old.state.trees known }
         requires possible { are_possible (carried target.label (node.label ∷ [])) self.old.state
             ≡ true }
         ensures steps { MakesSteps result self.old.state self.new.state
             (carried target.label (node.label ∷ [])) }
+        ensures known { IfOk result (λ known. TellsIndex self.new.state.trees known) }
         ensures keeps { Keeps self.old self.new }
     {
+        self.valid();
         let Some(parent) = self.parent(node) else {
-            return Ok(());
+            return Ok(None);
         };
-        self.unlink(node, parent)?;
-        self.link(target, None, node)
+        let index = self.index_from(node, known);
+        let next = self.next(node);
+        self.unlink(node, parent, Some(index))?;
+        self.link(target, None, node)?;
+        Ok(place_of(next, index))
     }
 }

@@ -3,5 +3,6 @@ pub mod Below
 pub mod Bearing
 pub mod Standing
 pub mod Points
+pub mod Moves
 pub mod Ranges
 pub mod Splices

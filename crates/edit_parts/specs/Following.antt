@@ -1,6 +1,6 @@
 -- What is looked at before an edit, by which the points and the overrides follow it. No public
 -- clause cites this module.
-use Rattle.std.specs.Prelude.{◌≡◌, ◌≢◌, ℕ, ◌≤◌, true, false, List, length, take, Option, Some, None, IfSome, if◌then◌else◌}
+use Rattle.std.specs.Prelude.{◌≡◌, ◌≢◌, ℕ, ◌+◌, ◌≤◌, Bool, ◌&&◌, ◌||◌, ◌==◌, true, false, List, length, slice_get, take, Option, Some, None, IfSome, if◌then◌else◌}
 use Rattle.std.specs.Option.{option_map}
 use Rattle.dom_model.specs.declared.Content.{Content}
 use Rattle.dom_model.specs.Forest.{Forest, tree_of, preorder}
@@ -53,3 +53,17 @@ abbrev pub IsFrom : Forest Content → LivePoints → ℕ → ℕ → ℕ → Op
 IsFrom f points n from to None =
     (has_label (labels_of points) from ≡ false) × (has_label (labels_of points) to ≡ false)
 IsFrom f points n from to (Some at) = (at.label ≡ from) × (at.offset ≡ index_of f n)
+
+-- whether a point stands at a node, or just before or after the child at another place
+abbrev pub is_touched : Point → ℕ → Point → Bool
+is_touched child to p = (p.label == to)
+    || ((p.label == child.label) && ((p.offset == child.offset) || (p.offset == child.offset + 1)))
+
+abbrev pub is_pair_touched : Point → ℕ → Pair → Bool
+is_pair_touched child to p = is_touched child to p.anchor || is_touched child to p.focus
+
+-- no kept point stands at either
+pub record AreApart (child : Point) (to : ℕ) (s : LivePoints) : Type 0 where
+  pub selection : IfSome s.selection (λ p. is_pair_touched child to p ≡ false)
+  pub scratch : IfSome s.scratch (λ p. is_pair_touched child to p ≡ false)
+  pub marks : (k : ℕ) → IfSome (slice_get s.marks k) (λ m. is_pair_touched child to m.1 ≡ false)

@@ -1,20 +1,23 @@
 //! How the live points follow an edit, and the document's numbers.
 
-ghost use Rattle.std.specs.Prelude.{◌≡◌, ◌+◌, ◌-◌, ◌<◌, ◌≤◌, ◌^◌, ℕ, IsNone, IfSome, take};
+ghost use Rattle.std.specs.Prelude.{◌≡◌, ◌+◌, ◌-◌, ◌<◌, ◌≤◌, ◌^◌, ℕ, [], IsNone, IfSome, false, slice_get, take};
+ghost use Rattle.std.specs.Option.{option_map_or};
 ghost use Rattle.dom_model.specs.declared.Content.{Content};
 ghost use Rattle.dom_model.specs.Forest.{Forest, preorder, tree_of};
 ghost use Rattle.dom_model.specs.Places.{index_of};
-ghost use Rattle.edit_parts.specs.Following.{IsRemoval, IsFrom};
+ghost use Rattle.edit_parts.specs.Following.{IsRemoval, IsFrom, AreApart, is_touched, is_pair_touched};
 ghost use Rattle.live_range.specs.PointsEdit.{Insert, Move, Remove, has_label};
 ghost use Rattle.live_range.specs.LivePoints.{Fits, LivePoints, TellsAlike, labels_of, mapped};
 ghost use Rattle.node_arena.specs.Held.{Holds};
 
 use crate::Counts;
-use live_range::{Point, Points};
+use live_range::{Pair, Point, Points};
 use node_arena::{Arena, NodeRef};
 
 // The selection's two points, the scratch pair's, and those of 16 marks.
 const MOST_POINTS: usize = 36;
+
+const MOST_MARKS: usize = 16;
 
 /// Whether a point stands at a node.
 pub fn stands_at(points: &Points, node: NodeRef) -> bool
@@ -54,16 +57,36 @@ fn labels_within(arena: &Arena, points: &Points, top: NodeRef) -> ([u32; MOST_PO
     (labels, count)
 }
 
-/// Looks, before a node is removed from its parent, at what becomes of the points.
-pub fn removal_of(arena: &Arena, points: &Points, node: NodeRef, parent: NodeRef) -> Removal
+// The index of a node, which is known or else counted.
+fn index_from(arena: &Arena, node: NodeRef, known: Option<u32>) -> u32
     requires held { Holds arena.now node }
+    requires known { IfSome known (λ index. index ≡ index_of arena.now.trees node.label) }
+    ensures { result ≡ index_of arena.now.trees node.label }
+{
+    match known {
+        Some(index) => index,
+        None => arena.index(node),
+    }
+}
+
+/// Looks, before a node is removed from its parent, at what becomes of the points. The node's
+/// index is counted if it isn't known.
+pub fn removal_of(
+    arena: &Arena,
+    points: &Points,
+    node: NodeRef,
+    parent: NodeRef,
+    known: Option<u32>,
+) -> Removal
+    requires held { Holds arena.now node }
+    requires known { IfSome known (λ index. index ≡ index_of arena.now.trees node.label) }
     ensures { IsRemoval arena.now.trees points.now node.label parent.label result }
 {
     let (gone, count) = labels_within(arena, points, node);
     let place = if count > 0 || stands_at(points, parent) {
         Some(Point {
             label: parent.label,
-            offset: arena.index(node),
+            offset: index_from(arena, node, known),
         })
     } else {
         None
@@ -117,7 +140,74 @@ pub fn moving_from(
     }
 }
 
-/// The points follow a node that was moved.
+// Whether a point stands at a node, or beside the child at another place.
+fn touches(at: Point, child: Point, to: u32) -> bool
+    ensures { result ≡ is_touched child to at }
+{
+    at.label == to
+        || (at.label == child.label
+            && (at.offset == child.offset || at.offset as u64 == child.offset as u64 + 1))
+}
+
+fn touches_pair(pair: Pair, child: Point, to: u32) -> bool
+    ensures { result ≡ is_pair_touched child to pair }
+{
+    touches(pair.anchor, child, to) || touches(pair.focus, child, to)
+}
+
+fn touches_some(pair: Option<Pair>, child: Point, to: u32) -> bool
+    ensures { result ≡ option_map_or (is_pair_touched child to) pair false }
+{
+    match pair {
+        Some(pair) => touches_pair(pair, child, to),
+        None => false,
+    }
+}
+
+fn touches_mark(points: &Points, mark: usize, child: Point, to: u32) -> bool
+    ensures { result ≡ option_map_or (λ m. is_pair_touched child to m.1)
+        (slice_get points.now.marks mark) false }
+{
+    match points.mark_at(mark) {
+        Some((_, pair)) => touches_pair(pair, child, to),
+        None => false,
+    }
+}
+
+fn touches_marks(points: &Points, child: Point, to: u32) -> bool
+    ensures { result ≡ false → (k : ℕ) → IfSome (slice_get points.now.marks k)
+        (λ m. is_pair_touched child to m.1 ≡ false) }
+{
+    points.valid();
+    for mark in 0..MOST_MARKS {
+        if touches_mark(points, mark, child, to) {
+            return true;
+        }
+    }
+    false
+}
+
+// Whether one of the points stands at a node, or beside the child at another place.
+fn touches_any(points: &Points, child: Point, to: u32) -> bool
+    ensures { result ≡ false → AreApart child to points.now }
+{
+    touches_some(points.selection(), child, to)
+        || touches_some(points.scratch(), child, to)
+        || touches_marks(points, child, to)
+}
+
+// Whether a point goes to the new place of a node that was moved from a child's place, or lies
+// after it. For all others it is as if the node was removed.
+#[tactic(auto, using(crate::proofs::Moves::moved_alike))]
+fn needs_place(points: &Points, from: Point, to: NodeRef) -> bool
+    ensures { result ≡ false → (offset : ℕ) → mapped (Remove [] from.label from.offset) points.now
+        ≡ mapped (Move from (record { label = to.label; offset = offset })) points.now }
+{
+    touches_any(points, from, to.label)
+}
+
+/// The points follow a node that was moved. Its index at the new place is counted only where a
+/// point needs it.
 pub fn adjust_moved(
     arena: &Arena,
     points: &mut Points,
@@ -137,6 +227,10 @@ pub fn adjust_moved(
     ensures none { IsNone from → points.new ≡ points.old }
 {
     if let Some(from) = from {
+        if !needs_place(points, from, parent) {
+            points.removed(&[], from.label, from.offset);
+            return;
+        }
         let to = Point {
             label: parent.label,
             offset: arena.index(node),

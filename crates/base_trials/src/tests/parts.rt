@@ -147,7 +147,7 @@ fn after_removal(
     let mut points = points_at(alloc, caret(at))?;
     if arena.holds(node) {
         if let Some(parent) = arena.parent(node) {
-            let removal = removal_of(arena, &points, node, parent);
+            let removal = removal_of(arena, &points, node, parent, None);
             removal.adjust(&mut points);
         }
     }

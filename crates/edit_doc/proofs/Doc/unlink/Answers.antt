@@ -1,11 +1,11 @@
-use Rattle.std.proofs.Common.{◌≡◌, [], ◌∷◌, ◌++◌, refl, ap, ◌∙◌, arith}
+use Rattle.std.proofs.Common.{◌≡◌, [], ◌∷◌, ◌++◌, IfSome, refl, ap, subst, ◌∙◌, arith}
 use Rattle.std.specs.Prelude.{if◌then◌else◌}
 use Rattle.edit_steps.specs.declared.step.Step.TheVariants as step
 use Rattle.edit_model.specs.Edit.{Remove}
 use Rattle.edit_doc.proofs.Edited.{Applied}
 use Rattle.edit_doc.proofs.Removed.{place_markable, up, fits, detached, trees, points_are, counted_unlinked, unlink_done}
 use Rattle.edit_doc.proofs.Roomier.{room_made}
-use Rattle.edit_doc.proofs.SeenNodes.{shows_of, finds_next}
+use Rattle.edit_doc.proofs.SeenNodes.{shows_of, finds_next, index_seen}
 use Rattle.edit_doc.proofs.Settling.{points_now, placed_called, settled_items}
 use Rattle.edit_doc.proofs.Doc.unlink.Goals as goal
 use Rattle.edit_doc.specs.Live.{live}
@@ -23,6 +23,11 @@ invariant_of-self-in_err-change c =
     let d = c.self.inside in
     let same = c.in_err-change.ensures.err in
     rw (same.0, same.1) (room_made d.command c.reserve.new.self c.reserve.ensures.items (live d.tree) d.history c.self.invariant)
+
+pub removal_of-removal-requires-clause-known : goal.removal_of-removal-requires-clause-known
+removal_of-removal-requires-clause-known c =
+    let a = c.args in
+    subst (λ index. IfSome a.known (λ i. i ≡ index)) (index_seen (shows_of c.self.inside c.valid.ensures a.self.now c.self.view_is) a.node c.requires.node_held) c.requires.known
 
 pub name_place-requires : goal.name_place-requires
 name_place-requires c =
