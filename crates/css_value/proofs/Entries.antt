@@ -1,39 +1,16 @@
--- A map in insertion order and the list of declarations that it stands for change together.
+-- Pairs in order and the list of declarations that they stand for change together.
 use Rattle.std.proofs.Common.{◌≡◌, ℕ, zero, suc, ◌+◌, Bool, true, false, true≢false, cond, List, [], ◌∷◌, ◌++◌, take, drop, slice_get, Some, refl, sym, ap, subst, ◌∙◌, arith, bytes_eq, fold, Result, Ok, Err, OnOk, OnErr}
 use Rattle.std.specs.List.{IsDistinct, AllByRecursion, remove}
 use Rattle.std.specs.Option.{option_map}
 use Rattle.std.specs.Map.{keys_of}
 use Rattle.std.specs.declared.vec.Vec.{Vec}
-use Rattle.indexmap.specs.IndexMap.{insert_entry}
 use Rattle.css_value.specs.StyleText.{Declaration, stated, trimmed}
 use Rattle.css_value.specs.DeclarationList.{value_of, set_in, unset_in, set_property, with_declaration, declarations_in, names_of, reads_back}
 use Rattle.css_value.specs.DeclarationMap.{declarations_of, is_entry, EachReadsBack}
 use Rattle.css_value.proofs.Names.{same-name}
 use Rattle.css_value.proofs.ReadBack.{stated-back}
 
-abbrev pub same_key : {A : Type 0} → Vec ℕ A → Vec ℕ A → Bool
-same_key x y = bytes_eq x.items y.items
-
 module _ {A B : Type 0} where
-  pub set_in-entries : (key : Vec ℕ A) (value : Vec ℕ B) (es : List (Vec ℕ A × Vec ℕ B)) → declarations_of (insert_entry same_key es key value) ≡ set_in (declarations_of es) key.items value.items
-  set_in-entries key value [] = refl
-  set_in-entries key value (e ∷ es) =
-      let d : Declaration = record { name = e.0.items; value = e.1.items } in
-      let put : Declaration = record { name = e.0.items; value = value.items } in
-      elim (bytes_eq key.items e.0.items) as (λ b. declarations_of (cond b ((e.0, value) ∷ es) (e ∷ insert_entry same_key es key value)) ≡ cond b (put ∷ declarations_of es) (d ∷ set_in (declarations_of es) key.items value.items)) [
-        | true ↦ refl
-        | false ↦ ap (λ list. d ∷ list) (set_in-entries key value es)
-      ]
-
-  pub distinct-entries : (es : List (Vec ℕ A × Vec ℕ B)) → IsDistinct same_key (keys_of es) → IsDistinct bytes_eq (names_of (declarations_of es))
-  unfolding IsDistinct
-  distinct-entries [] h = tt
-  distinct-entries (e ∷ es) h = (apart es h.0, distinct-entries es h.1)
-    where
-      apart : (fs : List (Vec ℕ A × Vec ℕ B)) → AllByRecursion (λ y. same_key e.0 y ≡ false) (keys_of fs) → AllByRecursion (λ y. bytes_eq e.0.items y ≡ false) (names_of (declarations_of fs))
-      apart [] g = tt
-      apart (f ∷ fs) g = (g.0, apart fs g.1)
-
   -- the list without a name, as far as the entries before a place were looked at
   abbrev pub unset_from : List ℕ → ℕ → List (Vec ℕ A × Vec ℕ B) → List Declaration
   unset_from name i es = declarations_of (take i es) ++ unset_in (declarations_of (drop i es)) name

@@ -5,6 +5,7 @@ pub mod Passing
 pub mod Trimming
 pub mod ReadBack
 pub mod Entries
+pub mod Places
 pub mod Printing
 pub mod Decimals
 pub mod Words

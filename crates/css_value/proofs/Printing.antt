@@ -183,6 +183,6 @@ printed-end es i text all h left =
     sym (ap (λ x. text ++ left_to_print (eqb i 0) (declarations_of x)) (drop_all i es h) ∙ ap (λ x. text ++ x) (left-none (eqb i 0)) ∙ append-nil text) ∙ left
 
 -- what is printed, where memory is there
-pub print-back : {A E : Type 0} (r : Result (Vec ℕ A) E) (list now : List Declaration) → IfOk r (λ text. text.items ≡ printed list) → OnOk r (IsDistinct bytes_eq (names_of list)) → EachReadsBack list → list ≡ now → IfOk r (λ text. declarations_in text.items ≡ now)
+pub print-back : {A E : Type 0} (r : Result (Vec ℕ A) E) (list now : List Declaration) → IfOk r (λ text. text.items ≡ printed list) → IsDistinct bytes_eq (names_of list) → EachReadsBack list → list ≡ now → IfOk r (λ text. declarations_in text.items ≡ now)
 print-back (Ok text) list now is distinct back same = ap declarations_in is ∙ read-printed list back distinct ∙ same
 print-back (Err e) list now is distinct back same = tt

@@ -1,20 +1,24 @@
 //! The declarations of a style, in order.
 
-ghost use Rattle.std.specs.Prelude.{◌≡◌, [], ◌++◌, IfOk, OnOk, OnErr, Some, None, MatchOption, ◌<◌, ◌∷◌, slice_get, bytes_eq};
+ghost use Rattle.std.specs.Prelude.{◌≡◌, ℕ, List, [], ◌++◌, IfOk, IfSome, OnOk, OnErr, Some, None, MatchOption, ◌<◌, ◌∷◌, length, slice_get, bytes_eq};
 ghost use Rattle.std.specs.Option.{option_copied, option_map};
 ghost use Rattle.std.specs.List.{remove, IsDistinct};
-ghost use Rattle.indexmap.specs.IndexMap.{index_map_len};
 ghost use Rattle.css_value.specs.StyleText as spec;
 ghost use Rattle.css_value.specs.DeclarationList.{declarations_in, value_of, set_in, unset_in, set_property, text_of, reads_back, names_of, gap, printed};
-ghost use Rattle.css_value.specs.DeclarationMap.{declarations_of, is_entry};
+ghost use Rattle.css_value.specs.DeclarationMap.{declarations_of, is_entry, IsPlaced};
 
 use crate::style_text::{declared_in, first_stated, has_codes, is_named, piece_len, trimmed};
 use crate::value_text::chars_of;
-use indexmap::IndexMap;
-use std::alloc::{AllocError, Global};
+use std::alloc::{AllocError, AllocFailed, Global};
+use std::collections::BTreeMap;
 use std::marker::Model;
 
-type DeclarationMap = IndexMap<Vec<char>, Vec<char>>;
+// A property's name and its value.
+type Pair = (Vec<char>, Vec<char>);
+
+// The places of names. They are found by the order of the names, and not by a hash, so that no choice of names makes a
+// look-up long.
+type Places = BTreeMap<Vec<char>, usize>;
 
 /// The declarations of a style: property names, which are distinct, with their values, in order.
 /// Names are in lower case. Each declaration is one that its own text, `name: value`, would give
@@ -22,52 +26,122 @@ type DeclarationMap = IndexMap<Vec<char>, Vec<char>>;
 #[derive(Drop)]
 pub struct Declarations {
     alloc: Global,
-    map: DeclarationMap,
+    list: Vec<Pair>,
 }
 
 impl Model for Declarations {
     ghost use Rattle.std.specs.Prelude.{List};
     ghost use Rattle.css_value.specs.StyleText.{Declaration};
-    ghost use Rattle.css_value.specs.DeclarationMap.{EachReadsBack, declarations_of};
+    ghost use Rattle.css_value.specs.DeclarationMap.{IsStyle, declarations_of};
 
     ghost Value = { List Declaration };
 
-    ghost view = { λ d. declarations_of d.map.entries };
+    ghost view = { λ d. declarations_of d.list.items };
 
-    ghost invariant = { λ d. EachReadsBack (declarations_of d.map.entries) };
+    ghost invariant = { λ d. IsStyle (declarations_of d.list.items) };
 }
 
-// Gives a name a value in a map.
-fn put(map: &mut DeclarationMap, name: Vec<char>, value: Vec<char>) -> Result<(), AllocError>
-    ensures ok { OnOk result (declarations_of map.new.entries
-        ≡ set_in (declarations_of map.old.entries) name.items value.items) }
-    ensures err { OnErr result (declarations_of map.new.entries ≡ declarations_of map.old.entries) }
+// Gives the declaration at a place another value.
+fn write(list: &mut Vec<Pair>, place: usize, value: Vec<char>)
+    ensures names { names_of (declarations_of list.new.items)
+        ≡ names_of (declarations_of list.old.items) }
+    ensures values { (name : List ℕ)
+        → IsDistinct bytes_eq (names_of (declarations_of list.old.items))
+        → slice_get (names_of (declarations_of list.old.items)) place ≡ Some name
+        → declarations_of list.new.items
+        ≡ set_in (declarations_of list.old.items) name value.items }
 {
-    map.insert(name, value)?;
+    if let Some(pair) = list.get_mut(place) {
+        pair.1 = value;
+    }
+}
+
+// Adds a declaration.
+fn push(list: &mut Vec<Pair>, name: Vec<char>, value: Vec<char>) -> Result<(), AllocError>
+    ensures ok { OnOk result (declarations_of list.new.items
+        ≡ declarations_of list.old.items
+        ++ record { name = name.items; value = value.items } ∷ []) }
+    ensures err { OnErr result (declarations_of list.new.items
+        ≡ declarations_of list.old.items) }
+{
+    list.push((name, value))?;
     Ok(())
 }
 
-// Whether the entry at a place has this name.
-fn has_name(map: &DeclarationMap, place: usize, name: &[u8]) -> bool
-    requires { place < index_map_len map.now }
-    ensures { result ≡ is_entry name.now (slice_get map.now.entries place) }
+// Gives a name a value, whose place is known.
+fn put(
+    list: &mut Vec<Pair>,
+    place: Option<usize>,
+    name: Vec<char>,
+    value: Vec<char>,
+) -> Result<(), AllocError>
+    requires distinct { IsDistinct bytes_eq (names_of (declarations_of list.old.items)) }
+    requires place { MatchOption place (value_of (declarations_of list.old.items) name.items ≡ None)
+        (λ i. slice_get (names_of (declarations_of list.old.items)) i ≡ Some name.items) }
+    ensures ok { OnOk result (declarations_of list.new.items
+        ≡ set_in (declarations_of list.old.items) name.items value.items) }
+    ensures err { OnErr result (declarations_of list.new.items
+        ≡ declarations_of list.old.items) }
 {
-    let (key, _) = map.get_index(place).unwrap();
+    match place {
+        Some(i) => write(list, i, value),
+        None => push(list, name, value)?,
+    }
+    Ok(())
+}
+
+// Gives a name a value, where the places of the names are known, and notes the place of a new one.
+fn declare(
+    list: &mut Vec<Pair>,
+    places: &mut Places,
+    name: Vec<char>,
+    value: Vec<char>,
+) -> Result<(), AllocError>
+    requires distinct { IsDistinct bytes_eq (names_of (declarations_of list.old.items)) }
+    requires placed { IsPlaced places.old.entries (names_of (declarations_of list.old.items)) }
+    ensures set { OnOk result (declarations_of list.new.items
+        ≡ set_in (declarations_of list.old.items) name.items value.items) }
+    ensures placed { OnOk result (IsPlaced places.new.entries
+        (names_of (declarations_of list.new.items))) }
+{
+    match places.get(&name) {
+        Some(place) => {
+            let place = *place;
+            write(list, place, value);
+        }
+        None => {
+            let key = Vec::from_slice(*list.allocator(), name.as_slice())?;
+            places.insert(key, list.len())?;
+            push(list, name, value)?;
+        }
+    }
+    Ok(())
+}
+
+// Whether the declaration at a place has this name.
+fn has_name(list: &[Pair], place: usize, name: &[u8]) -> bool
+    requires { place < length list.now }
+    ensures { result ≡ is_entry name.now (slice_get list.now place) }
+{
+    let (key, _) = &list[place];
     has_codes(key, name)
 }
 
-// The place of a name in a map.
-fn place_of(map: &DeclarationMap, name: &[u8]) -> Option<usize>
-    ensures value { MatchOption result (value_of (declarations_of map.now.entries) name.now ≡ None)
-        (λ place. value_of (declarations_of map.now.entries) name.now
-        ≡ option_map (λ e. e.1.items) (slice_get map.now.entries place)) }
-    ensures left { MatchOption result (unset_in (declarations_of map.now.entries) name.now
-        ≡ declarations_of map.now.entries) (λ place.
-        unset_in (declarations_of map.now.entries) name.now
-        ≡ declarations_of (remove map.now.entries place)) }
+// The place of a name in a list.
+fn place_of(list: &[Pair], name: &[u8]) -> Option<usize>
+    ensures value { MatchOption result (value_of (declarations_of list.now) name.now ≡ None)
+        (λ place. value_of (declarations_of list.now) name.now
+        ≡ option_map (λ e. e.1.items) (slice_get list.now place)) }
+    ensures left { MatchOption result (unset_in (declarations_of list.now) name.now
+        ≡ declarations_of list.now) (λ place.
+        unset_in (declarations_of list.now) name.now
+        ≡ declarations_of (remove list.now place)) }
+    ensures name { IfSome result
+        (λ place. slice_get (names_of (declarations_of list.now)) place ≡ Some name.now) }
+    ensures within { IfSome result (λ place. place < length list.now) }
 {
-    for place in 0..map.len() {
-        if has_name(map, place, name) {
+    for place in 0..list.len() {
+        if has_name(list, place, name) {
             return Some(place);
         }
     }
@@ -114,14 +188,12 @@ fn push_declaration(
 }
 
 // The text of a style attribute.
-fn printed_map(alloc: Global, map: &DeclarationMap) -> Result<Vec<char>, AllocError>
-    ensures text { IfOk result (λ text. text.items ≡ printed (declarations_of map.now.entries)) }
-    ensures distinct { OnOk result
-        (IsDistinct bytes_eq (names_of (declarations_of map.now.entries))) }
+fn printed_list(alloc: Global, list: &[Pair]) -> Result<Vec<char>, AllocError>
+    ensures { IfOk result (λ text. text.items ≡ printed (declarations_of list.now)) }
 {
     let mut text = Vec::new(alloc);
-    for i in 0..map.len() {
-        let (name, value) = map.get_index(i).unwrap();
+    for i in 0..list.len() {
+        let (name, value) = &list[i];
         push_declaration(&mut text, name, value, i == 0)?;
     }
     Ok(text)
@@ -146,22 +218,24 @@ impl Declarations {
     pub fn read(alloc: Global, text: &[char]) -> Result<Declarations, AllocError>
         ensures { IfOk result (λ d. d ≡ declarations_in text.now) }
     {
-        let mut map = IndexMap::new(alloc);
+        let mut list = Vec::new(alloc);
+        let mut places = BTreeMap::new(alloc);
         let mut rest = text;
         while let Some((stated, after)) = first_stated(rest) {
             let name = lowered(alloc, stated.name)?;
-            put(&mut map, name, Vec::from_slice(alloc, stated.value)?)?;
+            let value = Vec::from_slice(alloc, stated.value)?;
+            declare(&mut list, &mut places, name, value)?;
             rest = after;
         }
-        Ok(Declarations { alloc, map })
+        Ok(Declarations { alloc, list })
     }
 
     /// The value of a property, by its name in ASCII and in lower case.
     pub fn get(&self, name: &[u8]) -> Option<&[char]>
         ensures { option_copied result ≡ value_of self.now name.now }
     {
-        let place = place_of(&self.map, name)?;
-        let (_, value) = self.map.get_index(place)?;
+        let place = place_of(self.list.as_slice(), name)?;
+        let (_, value) = &self.list[place];
         Some(value.as_slice())
     }
 
@@ -177,7 +251,9 @@ impl Declarations {
         let mut text = Vec::new(self.alloc);
         push_text(&mut text, &key, value)?;
         if reads_as(&text, name, value) {
-            put(&mut self.map, key, Vec::from_slice(self.alloc, value)?)?;
+            let place = place_of(self.list.as_slice(), name);
+            let copied = Vec::from_slice(self.alloc, value)?;
+            put(&mut self.list, place, key, copied)?;
         }
         Ok(())
     }
@@ -186,8 +262,8 @@ impl Declarations {
     pub fn unset(&mut self, name: &[u8])
         ensures { self.new ≡ unset_in self.old name.now }
     {
-        if let Some(place) = place_of(&self.map, name) {
-            let _ = self.map.shift_remove_index(place);
+        if let Some(place) = place_of(self.list.as_slice(), name) {
+            let _ = self.list.remove(place);
         }
     }
 
@@ -196,6 +272,6 @@ impl Declarations {
         ensures text { IfOk result (λ text. text.items ≡ printed self.now) }
         ensures read_back { IfOk result (λ text. declarations_in text.items ≡ self.now) }
     {
-        printed_map(self.alloc, &self.map)
+        printed_list(self.alloc, self.list.as_slice())
     }
 }

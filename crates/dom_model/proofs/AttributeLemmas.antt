@@ -1,5 +1,5 @@
 -- Rows in order, the numbers of their names, and the list of attributes that they stand for change together.
-use Rattle.std.proofs.Common.{◌≡◌, ℕ, Bool, true, false, true≢false, cond, zero, suc, ◌+◌, ◌<◌, ◌≤◌, List, [], ◌∷◌, ◌++◌, Option, Some, None, is_some, option_map, refl, sym, ap, ap₂, subst, ◌∙◌, arith, drop, take, length, remove, nat_eq, nat_cmp, is_eq, Ordering, Less, Equal, Greater, Decides, Box, BTreeMap}
+use Rattle.std.proofs.Common.{◌≡◌, ℕ, Bool, true, false, true≢false, cond, zero, suc, ◌+◌, ◌<◌, List, [], ◌∷◌, ◌++◌, Option, Some, None, is_some, option_map, refl, sym, ap, ap₂, subst, ◌∙◌, arith, drop, take, remove, nat_eq, nat_cmp, is_eq, Ordering, Less, Equal, Greater, Decides, Box, BTreeMap}
 use Rattle.std.specs.Prelude.{bytes_eq, slice_get}
 use Rattle.std.specs.List.{AllZip, IsDistinct, AllByRecursion}
 use Rattle.std.specs.Map.{lookup, remove_entry, keys_of, values_of}
@@ -309,26 +309,29 @@ module _ {A B : Type 0} where
       → IsDistinctNames (values_of rows) → IsAbove next rows → IsKnown numbers (names_of (values_of rows)) → IsKnown numbers (name ∷ []) → IsListing new (next + 1) numbers
   listing-added rows new next numbers name value is none distinct above known own =
       let a : Attribute = record { name = name; value = value } in
-      subst (λ es. IsListing es (next + 1) numbers) (sym is)
-      (subst IsDistinctNames (sym (values-added name value rows next none)) (distinct-set (values_of rows) name value distinct),
-      above-push next rows a above,
-      subst (λ list. IsKnown numbers (names_of list)) (sym (values-push rows next a)) (known-push numbers (values_of rows) a known own))
+      subst (λ es. IsListing es (next + 1) numbers) (sym is) (
+        subst IsDistinctNames (sym (values-added name value rows next none)) (distinct-set (values_of rows) name value distinct),
+        above-push next rows a above,
+        subst (λ list. IsKnown numbers (names_of list)) (sym (values-push rows next a)) (known-push numbers (values_of rows) a known own),
+      )
 
   pub listing-written : (rows new : List (ℕ × Attribute)) (next : ℕ) (numbers : Option (Box (BTreeMap (Vec ℕ A) ℕ) B)) (i : ℕ) (name value : List ℕ) → keys_of new ≡ keys_of rows → values_of new ≡ set_in (values_of rows) name value → is_named name (slice_get (values_of rows) i) ≡ true
       → IsListing rows next numbers → IsListing new next numbers
-  listing-written rows new next numbers i name value keys values is was =
-      (subst IsDistinctNames (sym values) (distinct-set (values_of rows) name value was.0),
-      subst (λ ks. AllByRecursion (λ n. n < next) ks) (sym keys) was.1,
-      subst (λ list. IsKnown numbers (names_of list)) (sym values) (known-at numbers (values_of rows) i name value is was.2))
+  listing-written rows new next numbers i name value keys values is was = (
+    subst IsDistinctNames (sym values) (distinct-set (values_of rows) name value was.0),
+    subst (λ ks. AllByRecursion (λ n. n < next) ks) (sym keys) was.1,
+    subst (λ list. IsKnown numbers (names_of list)) (sym values) (known-at numbers (values_of rows) i name value is was.2),
+  )
 
   pub listing-taken : (rows new : List (ℕ × Attribute)) (next : ℕ) (numbers left : Option (Box (BTreeMap (Vec ℕ A) ℕ) B)) (i : ℕ) (name : List ℕ) → new ≡ remove rows i → is_named name (slice_get (values_of rows) i) ≡ true
       → ((names : List (List ℕ)) → AllByRecursion (λ n. bytes_eq name n ≡ false) names → IsKnown numbers names → IsKnown left names) → IsListing rows next numbers → IsListing new next left
   listing-taken rows new next numbers left i name taken is unnumbered was =
-      let values : values_of new ≡ unset_in (values_of rows) name = ap values_of taken ∙ unset-at name rows i was.0 is in
-      (subst IsDistinctNames (sym values) (distinct-unset (values_of rows) name was.0),
-      subst (IsAbove next) (sym taken) (above-remove next rows i was.1),
-      subst (λ list. IsKnown left (names_of list)) (sym values)
-      (unnumbered (names_of (unset_in (values_of rows) name)) (left-apart (values_of rows) name was.0) (known-unset numbers (values_of rows) name was.2)))
+      let values : values_of new ≡ unset_in (values_of rows) name = ap values_of taken ∙ unset-at name rows i was.0 is in (
+        subst IsDistinctNames (sym values) (distinct-unset (values_of rows) name was.0),
+        subst (IsAbove next) (sym taken) (above-remove next rows i was.1),
+        subst (λ list. IsKnown left (names_of list)) (sym values)
+            (unnumbered (names_of (unset_in (values_of rows) name)) (left-apart (values_of rows) name was.0) (known-unset numbers (values_of rows) name was.2)),
+      )
 
 pub listing-none : (rows : List (ℕ × Attribute)) → rows ≡ [] → IsDistinctNames (values_of rows) × IsAbove 0 rows × Unit {0}
 listing-none rows is = subst (λ es. IsDistinctNames (values_of es) × IsAbove 0 es × Unit {0}) (sym is) (distinct-nothing, tt, tt)

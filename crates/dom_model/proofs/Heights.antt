@@ -1,13 +1,13 @@
 -- How high a forest is after a tree is put under a node of it, or taken out.
-use Rattle.std.proofs.Common.{◌≡◌, ℕ, ◌+◌, ◌<◌, ◌≤◌, max, true, false, cond, eqb, Option, Some, None, refl, sym, ap, subst, ◌∙◌, inl, inr, arith}
+use Rattle.std.proofs.Common.{◌≡◌, ℕ, ◌+◌, ◌<◌, ◌≤◌, max, true, false, cond, eqb, Option, Some, refl, sym, ap, subst, ◌∙◌, inl, inr, arith}
 use Rattle.std.specs.Prelude.{nat_lt}
 use Rattle.std.proofs.lemmas.Bool.{le-ltb}
 use Rattle.std.proofs.lemmas.Bool.Decides.{eqb_tells}
 use Rattle.dom_model.specs.declared.Content.{Content}
 use Rattle.dom_model.specs.Document.{page_depth}
-use Rattle.dom_model.specs.Forest.{Forest, total, join, tree_of, without, is_label, count_of, IsDistinct, IsWithin, parent_of, put_before, put_under, put_rising, link, unlink, with_leaf, depth_from, depth_of}
+use Rattle.dom_model.specs.Forest.{Forest, total, join, tree_of, without, is_label, count_of, IsDistinct, IsWithin, parent_of, put_before, put_under, put_rising, link, unlink, with_leaf, depth_of}
 use Rattle.dom_model.specs.Forest.Forest.{Nil, Tree}
-use Rattle.dom_model.specs.Places.{levels, kids_in}
+use Rattle.dom_model.specs.Places.{levels}
 use Rattle.dom_model.specs.Revised.{revised}
 use Rattle.dom_model.proofs.Within.{Sits, depth_Sits}
 use Rattle.dom_model.proofs.DropTree.{without-unlink}

@@ -1,5 +1,3 @@
-use Rattle.std.proofs.Common.{sym, subst, None}
-use Rattle.dom_model.specs.AttributeMap.{IsListing}
 use Rattle.dom_model.proofs.AttributeLemmas.{listing-none}
 use Rattle.dom_model.proofs.attributes.Listing.new.Goals as goal
 

@@ -3,13 +3,12 @@ use Rattle.std.specs.Option.{option_map}
 use Rattle.std.specs.Map.Iter.{deref_pair}
 use Rattle.css_value.specs.DeclarationList.{gap, text_of, printed}
 use Rattle.css_value.specs.DeclarationMap.{declarations_of}
-use Rattle.css_value.proofs.Entries.{distinct-entries}
 use Rattle.css_value.proofs.Printing.{print-step, printed-end}
-use Rattle.css_value.proofs.declarations.printed_map.Goals as goal
+use Rattle.css_value.proofs.declarations.printed_list.Goals as goal
 
 pub loop-i-preserved : goal.loop-i-preserved
 loop-i-preserved c =
-    let es = c.args.map.now.entries in
+    let es = c.args.list.now in
     let i = c.loop-i.i in
     let text = c.loop-i.text.items in
     let key = c.unwrap.result.0.now in
@@ -21,9 +20,6 @@ loop-i-preserved c =
     ∙ ap (λ v. text ++ (gap (eqb i 0) ++ (text_of (record { name = key.items; value = v }) ++ 59 ∷ []))) c.deref-in-loop-i.ensures.value)
     c.loop-i.invariant
 
-pub returns-clause-text : goal.returns-clause-text
-returns-clause-text c =
-    printed-end c.args.map.now.entries c.loop-i.i c.loop-i.text.items (printed (declarations_of c.args.map.now.entries)) (omega (arith, c.len-i-end.ensures.len)) c.loop-i.invariant
-
-pub returns-clause-distinct : goal.returns-clause-distinct
-returns-clause-distinct c = distinct-entries c.args.map.now.entries c.len-i-end.ensures.unique
+pub returns : goal.returns
+returns c =
+    printed-end c.args.list.now c.loop-i.i c.loop-i.text.items (printed (declarations_of c.args.list.now)) (omega (arith, c.loop-i-test.false)) c.loop-i.invariant
