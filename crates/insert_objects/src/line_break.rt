@@ -29,10 +29,26 @@ fn takes_break(doc: &Doc, node: NodeRef) -> bool
     }
 }
 
+// Steps 3 and 4. A br that shows no line of its own is followed by another one.
+#[tactic(auto, using(edit_model::proofs::Steps::steps, edit_model::proofs::Steps::exits), unfolding(crate::specs::LineBreak::put_break))]
+fn put_break(alloc: Global, doc: &mut Doc) -> Result<bool, EditFault>
+    requires open { IsOpen doc.old }
+    ensures gives { Gives result doc.old.state doc.new.state command.put_break }
+    ensures keeps { Keeps doc.old doc.new }
+{
+    let made = put(alloc, doc, b"br", &Attributes::new(alloc))?;
+    collapse_after(doc, made);
+    if is_extraneous_break(doc, made) || is_collapsed_break(doc, made) {
+        let another = make_break(alloc, doc)?;
+        insert_at_start(doc, another)?;
+    }
+    Ok(true)
+}
+
 /// The command insertLineBreak: what is selected goes, and a br stands in its place, with the caret
 /// after it. Where that br alone would show no new line, as at the end of a block, another one
 /// comes after it. It answers true.
-#[tactic(auto, using(edit_model::proofs::Steps::steps, edit_model::proofs::Steps::exits), unfolding(crate::specs::LineBreak::put_break, crate::specs::LineBreak::break_line, crate::specs::LineBreak::insert_line_break))]
+#[tactic(auto, using(edit_model::proofs::Steps::steps, edit_model::proofs::Steps::exits), unfolding(crate::specs::LineBreak::break_line, crate::specs::LineBreak::insert_line_break))]
 pub fn insert_line_break(alloc: Global, doc: &mut Doc) -> Result<bool, EditFault>
     requires open { IsOpen doc.old }
     ensures gives { Gives result doc.old.state doc.new.state command.insert_line_break }
@@ -42,14 +58,9 @@ pub fn insert_line_break(alloc: Global, doc: &mut Doc) -> Result<bool, EditFault
     let Some(at) = start_inside(doc) else {
         return Ok(true);
     };
-    if !takes_break(doc, node_of(doc, at)) {
-        return Ok(true);
+    if takes_break(doc, node_of(doc, at)) {
+        put_break(alloc, doc)
+    } else {
+        Ok(true)
     }
-    let made = put(alloc, doc, b"br", &Attributes::new(alloc))?;
-    collapse_after(doc, made);
-    if is_extraneous_break(doc, made) || is_collapsed_break(doc, made) {
-        let another = make_break(alloc, doc)?;
-        insert_at_start(doc, another)?;
-    }
-    Ok(true)
 }
