@@ -80,7 +80,7 @@ class Package(unittest.TestCase):
         header = repository / "include" / "hedit.h"
         if not header.is_file():
             self.skipTest("the header does not stand beside the package")
-        names = set(re.findall(r"\b(hedit_\w+)\(", header.read_text()))
+        names = set(re.findall(r"^\w+ (hedit_\w+)\(", header.read_text(), re.M))
         self.assertEqual(set(_library.CALLS), names - {"hedit_session"})
 
 
