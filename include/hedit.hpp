@@ -192,7 +192,7 @@ class Editor {
     }
     void select(const Place &caret) { select(caret, caret); }
 
-    /* The same from one point to another. It costs the same on every page. */
+    /* The same from one point to another. Its cost doesn't grow with the page. */
     void select_points(const Point &anchor, const Point &focus) {
         answer(hedit_select_points(&handle_, anchor.label, anchor.offset, focus.label,
                                    focus.offset));

@@ -768,8 +768,8 @@ export class Editor {
   }
 
   /**
-   * Selects from a place or a point to another, or puts the caret at one. Between points it costs the
-   * same on every page.
+   * Selects from a place or a point to another, or puts the caret at one. Between points its cost
+   * doesn't grow with the page.
    * @param {Place | Point} anchor
    * @param {Place | Point} focus
    */

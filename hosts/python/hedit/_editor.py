@@ -233,8 +233,8 @@ class Editor:
         return Point(self.label_at(path), place_number(offset))
 
     def select(self, anchor: Place | Point, focus: Place | Point | None = None) -> None:
-        """Selects from a place or a point to another, or puts the caret at one. Between points it
-        costs the same on every page."""
+        """Selects from a place or a point to another, or puts the caret at one. Between points its
+        cost doesn't grow with the page."""
         self._place_call("hedit_select", (), anchor, anchor if focus is None else focus)
 
     def unselect(self) -> None:

@@ -574,8 +574,12 @@ describe("many editors", () => {
     const edit = () => {
       const editor = other.open(page);
       editor.select(at([0, 0, 0], 0), at([0, 1999, 0], 4));
-      editor.exec("bold");
+      editor.exec("bold", "", ["italic"]);
       editor.html();
+      const [host] = editor.children(0);
+      editor.attributes(host);
+      editor.select({ label: host, offset: 0 });
+      assert.throws(() => editor.node(2 ** 32 - 1), hedit.BadPlace);
       editor.close();
       assert.throws(() => other.open("<p>"), hedit.PageRefused);
     };
