@@ -141,6 +141,7 @@ static void gates(void) {
         "abcdefghijklmnopqrstuvwxyzabcdefghijklmnopqrstuvwxyzabcdefghijklm", ",", "italic,",
         ",italic", "italic, underline", "a_b", "a,b,c,d,e,f,g,h,i,j,k,l,m,n,o,p,q"};
     hedit_editor editor = opened(PAGE);
+    hedit_refusal refusal;
     size_t i;
     CHECK(hedit_select(&editor, TEXT_OF_PAGE, 2, 0, TEXT_OF_PAGE, 2, 2) == HEDIT_DONE);
     CHECK(bold(&editor, "italic,BOLD") == HEDIT_NO);
@@ -154,8 +155,12 @@ static void gates(void) {
     CHECK(bold(&editor, "italic,a,b,c,d,e,f,g,h,i,j,k,l,m,n,o,A") == HEDIT_DONE);
     CHECK(hedit_undo(&editor) == HEDIT_DONE);
     CHECK(bold(&editor, "") == HEDIT_DONE);
+    CHECK(hedit_open(&editor, TEXT(PAGE), 3, 9, &refusal) == HEDIT_DONE);
+    CHECK(hedit_select(&editor, TEXT_OF_PAGE, 2, 0, TEXT_OF_PAGE, 2, 2) == HEDIT_DONE);
+    CHECK(bold(&editor, "italic") == HEDIT_FULL);
     hedit_close(&editor);
     CHECK(bold(&editor, "") == HEDIT_CLOSED);
+    CHECK(bold(&editor, ",") == HEDIT_CLOSED);
 }
 
 static int are_points(const hedit_selection_facts *facts, uint32_t anchor, uint32_t anchor_offset,
