@@ -11,7 +11,7 @@ use Rattle.dom_model.specs.Document.{page_depth}
 use Rattle.dom_model.specs.Forest.{tree_of}
 use Rattle.live_range.specs.declared.places.Pair.{Pair}
 use Rattle.edit_model.specs.State.{State}
-use Rattle.edit_model.specs.History.{Entry, begun, rested, entry_of, with_entry, joined, joined_in, recorded}
+use Rattle.edit_model.specs.History.{Entry, History, begun, rested, entry_of, with_entry, joined, joined_in, recorded, view_of, at_view, undone_state, undone_state_by}
 use Rattle.edit_model.specs.Laws.{KeepsMark}
 use Rattle.edit_model.specs.Valid.{IsValid}
 use Rattle.edit_model.specs.Outside.{outside_by, is_island}
@@ -30,8 +30,8 @@ use Rattle.edit_engine.specs.declared.answers.Answer.TheVariants.{Yes, No}
 use Rattle.edit_engine.specs.declared.answers.ExecFault.{ExecFault}
 use Rattle.edit_engine.specs.declared.answers.ExecFault.TheVariants as fault
 use Rattle.edit_engine.specs.Commands.{row_of, types_text, action_of, is_enabled}
-use Rattle.edit_engine.specs.Confinement.{KeepsOutside, KeepsMarks, HasEntry, HasJoined, IsGone, KeepsIslands, KeepsCharacters}
-use Rattle.edit_engine.specs.Editing.{Editing, IsJoinable, IsResting}
+use Rattle.edit_engine.specs.Confinement.{KeepsOutside, KeepsMarks, HasEntry, HasJoined, IsGone, KeepsIslands, KeepsCharacters, IsSeenAs, joins_last, GivesBack}
+use Rattle.edit_engine.specs.Editing.{Editing, IsJoinable, IsResting, undone}
 use Rattle.edit_engine.specs.Execution.{Refused, Deep, Full, Acted, depth_limit, began, ran, answered, joins, after_run, run_outcome, command_outcome, outcome, Tells}
 use Rattle.edit_engine.proofs.AffectedHosts.{host_is_host}
 use Rattle.edit_engine.proofs.Fitness.{fit}
@@ -201,3 +201,32 @@ module _ (old new : Editing) (name v : List ℕ) (stands : Standing old) where
       let at_host : after_run old run.command (final m b) ≡ new = ap (λ o. after_run old run.command (final m (begun o k old.state))) (sym host) ∙ run.is in
       subst (λ (e : Editing). KeepsLeaves (below old.state.trees h) (below e.state.trees h)) at_host
       (order_at_rest old.state (final m b) h k law whole hosted (reaches m b) (kept_along h k m keeping ((fit run.command v).order_preserving keeping)))
+
+  -- ---- undo
+
+  undone_at : (h : History) (s : State) (e : Entry) (rest : List Entry) → h.undo ≡ e ∷ rest → undone_state h s ≡ at_view e.before s
+  unfolding undone_state
+  undone_at h s e rest is = ap (λ (es : List Entry). undone_state_by es s) is
+
+  given_by : (c : Command) (t : State) → joins old c ≡ false → ((after_run old c t).history ≡ old.history) ⊎ IsSeenAs (undone (after_run old c t)) old
+  unfolding recorded with_entry at_view view_of
+  given_by c t off = by_edits (eqb (length t.edits) 0) refl
+    where
+      by_edits : (b : Bool) → eqb (length t.edits) 0 ≡ b → ((after_run old c t).history ≡ old.history) ⊎ IsSeenAs (undone (after_run old c t)) old
+      by_edits true none = inl (rw (off, none) refl)
+      by_edits false some =
+          let own = entry_there old.history.depth (entry_of old.state t) old.history.undo stands.depth in
+          let is : (after_run old c t).history.undo ≡ entry_of old.state t ∷ own.0 = rw (off, some) own.1 in
+          let u = undone_at (after_run old c t).history (after_run old c t).state (entry_of old.state t) own.0 is in
+          inr (record {
+            document = ap (λ (s : State). s.trees) u ∙ whole;
+            selection = ap (λ (s : State). s.points.selection) u;
+            marks = ap (λ (s : State). s.points.marks) u;
+          })
+
+  pub given_back : (new ≡ old) ⊎ IsRun old new name v → GivesBack name old new
+  given_back (inl same) apart = inl (ap (λ (e : Editing). e.history) same)
+  given_back (inr run) apart =
+      let off : joins old run.command ≡ false = ap (λ o. option_map_or (joins old) o false) (sym run.named) ∙ apart in
+      subst (λ (e : Editing). (e.history ≡ old.history) ⊎ IsSeenAs (undone e) old) run.is
+      (given_by run.command (ran old.state (row_of run.command).keeping (action_of run.command v)) off)

@@ -1,6 +1,7 @@
 -- What every execution of a command keeps, whatever it answers.
-use Rattle.std.specs.Prelude.{◌≡◌, ◌⊎◌, ℕ, Bool, true, List, ◌∷◌, Some}
+use Rattle.std.specs.Prelude.{◌≡◌, ◌⊎◌, ℕ, Bool, true, false, List, ◌∷◌, Some}
 use Rattle.std.specs.List.{AllZip}
+use Rattle.std.specs.Option.{option_map_or}
 use Rattle.html_names.specs.Commands.{command_named}
 use Rattle.html_names.specs.declared.commands.Command.{Command}
 use Rattle.dom_model.specs.Forest.{IsWithin}
@@ -13,7 +14,8 @@ use Rattle.edit_laws.specs.BelowHost.{below}
 use Rattle.edit_laws.specs.Islands.{StaysBelow, IsTakenOut}
 use Rattle.edit_laws.specs.Order.{KeepsLeaves}
 use Rattle.edit_engine.specs.Commands.{row_of}
-use Rattle.edit_engine.specs.Editing.{Editing}
+use Rattle.edit_engine.specs.Editing.{Editing, undone}
+use Rattle.edit_engine.specs.Execution.{joins}
 
 -- the document without the children of the affected host is as before; without an affected host all
 -- of it is
@@ -65,3 +67,19 @@ KeepsCharacters name old new =
     (c : Command) (h : ℕ) → command_named name ≡ Some c → (row_of c).keeping ≡ true
     → affected_host old.state ≡ Some h
     → KeepsLeaves (below old.state.trees h) (below new.state.trees h)
+
+-- what is seen of two editors is the same: the document, the selection and the marks
+pub record IsSeenAs (a b : Editing) : Type 0 where
+  pub document : a.state.trees ≡ b.state.trees
+  pub selection : a.state.points.selection ≡ b.state.points.selection
+  pub marks : a.state.points.marks ≡ b.state.points.marks
+
+-- whether the edits of the command that the name names join the last entry
+abbrev pub joins_last : Editing → List ℕ → Bool
+joins_last e name = option_map_or (joins e) (command_named name) false
+
+-- Undo gives back what was seen before a command, unless its edits joined those of the entry before,
+-- or it made none, and the history is as before.
+abbrev pub GivesBack : List ℕ → Editing → Editing → Type 0
+GivesBack name old new =
+    joins_last old name ≡ false → (new.history ≡ old.history) ⊎ IsSeenAs (undone new) old

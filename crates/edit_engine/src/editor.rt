@@ -9,7 +9,7 @@ ghost use Rattle.edit_doc.specs.Whole.{HasNoLoose, IsClosed, first_edits};
 ghost use Rattle.command_gate.specs.Denied.{is_denied};
 ghost use Rattle.node_paths.specs.Paths.{label_at};
 ghost use Rattle.edit_engine.specs.Commands.{action_of};
-ghost use Rattle.edit_engine.specs.Confinement.{KeepsOutside, KeepsMarks, KeepsIslands, KeepsCharacters};
+ghost use Rattle.edit_engine.specs.Confinement.{KeepsOutside, KeepsMarks, KeepsIslands, KeepsCharacters, GivesBack};
 ghost use Rattle.edit_engine.specs.Editing.{EditorValue, IsJoinable, document, new_editing, undone, redone};
 ghost use Rattle.edit_engine.specs.Execution.{gated_outcome, outcome, command_outcome, run_outcome, Tells};
 ghost use Rattle.edit_engine.specs.Logs.{log_text};
@@ -90,6 +90,7 @@ impl Editor {
         ensures marks { KeepsMarks self.old.editing self.new.editing }
         ensures islands { KeepsIslands self.old.editing self.new.editing }
         ensures characters { KeepsCharacters name.now self.old.editing self.new.editing }
+        ensures given_back { GivesBack name.now self.old.editing self.new.editing }
         ensures needed { HoldsOnlyNeeded (document self.new) }
     {
         self.doc.valid();
@@ -123,6 +124,7 @@ impl Editor {
         ensures marks { KeepsMarks self.old.editing self.new.editing }
         ensures islands { KeepsIslands self.old.editing self.new.editing }
         ensures characters { KeepsCharacters name.now self.old.editing self.new.editing }
+        ensures given_back { GivesBack name.now self.old.editing self.new.editing }
         ensures needed { HoldsOnlyNeeded (document self.new) }
     {
         self.doc.valid();

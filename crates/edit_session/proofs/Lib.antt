@@ -9,3 +9,4 @@ pub mod Runs
 pub mod Turns
 pub mod Whole
 pub mod Grammars
+pub mod Prefixes

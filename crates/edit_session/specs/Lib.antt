@@ -7,3 +7,4 @@ pub mod Replay
 pub mod Transcript
 pub mod Following
 pub mod Grammars
+pub mod Prefixes

@@ -10,6 +10,7 @@ mod acts;
 mod block;
 mod bulk;
 mod denials;
+mod laws;
 mod replay;
 mod reply;
 mod session;
@@ -17,5 +18,6 @@ mod words;
 
 pub use block::{PageBlock, after_line, line_end, read_block};
 pub use denials::read_gate;
+pub use laws::prefixes_answer;
 pub use session::{Status, run_session};
 pub use words::{Limits, Order, read_words};

@@ -1,7 +1,7 @@
 use Rattle.std.proofs.Common.{sym, ap, ◌∙◌, inl, refl}
 use Rattle.edit_engine.specs.Editing.{EditorValue}
 use Rattle.edit_engine.specs.Execution.{Tells, outcome}
-use Rattle.edit_engine.proofs.Confining.{standing, changes, outside_kept, marks_kept, islands_kept, characters_kept}
+use Rattle.edit_engine.proofs.Confining.{standing, changes, outside_kept, marks_kept, islands_kept, characters_kept, given_back}
 use Rattle.edit_engine.proofs.Outcomes.{named_outcome, unnamed_outcome}
 use Rattle.edit_engine.proofs.editor.Editor.exec.Goals as goal
 
@@ -20,6 +20,7 @@ returns-in-Some c =
       marks = marks_kept old new name v stands k;
       islands = islands_kept old new name v stands k;
       characters = characters_kept old new name v stands k;
+      given_back = given_back old new name v stands k;
       needed = c.kept_nodes.ensures;
     }
 
@@ -35,5 +36,6 @@ returns-in-None c =
       marks = marks_kept old old name v stands (inl refl);
       islands = islands_kept old old name v stands (inl refl);
       characters = characters_kept old old name v stands (inl refl);
+      given_back = given_back old old name v stands (inl refl);
       needed = c.kept_nodes-in-None.ensures;
     }

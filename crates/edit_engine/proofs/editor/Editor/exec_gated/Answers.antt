@@ -1,7 +1,7 @@
 use Rattle.std.proofs.Common.{◌≡◌, true, false, true≢false, sym, ap, ◌∙◌, inl, refl}
 use Rattle.command_gate.specs.Denied.{is_denied}
 use Rattle.edit_engine.specs.Editing.{EditorValue}
-use Rattle.edit_engine.proofs.Confining.{standing, outside_kept, marks_kept, islands_kept, characters_kept}
+use Rattle.edit_engine.proofs.Confining.{standing, outside_kept, marks_kept, islands_kept, characters_kept, given_back}
 use Rattle.edit_engine.proofs.Outcomes.{denied_outcome, allowed_outcome}
 use Rattle.edit_engine.proofs.editor.Editor.exec_gated.Goals as goal
 
@@ -20,6 +20,7 @@ returns-then-denies g c =
       marks = marks_kept old old name v stands (inl refl);
       islands = islands_kept old old name v stands (inl refl);
       characters = characters_kept old old name v stands (inl refl);
+      given_back = given_back old old name v stands (inl refl);
       needed = c.kept_nodes.ensures;
     }
 
@@ -36,5 +37,6 @@ returns g c =
       marks = c.exec.ensures.marks;
       islands = c.exec.ensures.islands;
       characters = c.exec.ensures.characters;
+      given_back = c.exec.ensures.given_back;
       needed = c.exec.ensures.needed;
     }
