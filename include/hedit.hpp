@@ -16,6 +16,7 @@
 #include <cstddef>
 #include <cstdint>
 #include <new>
+#include <optional>
 #include <stdexcept>
 #include <string>
 #include <string_view>
@@ -24,11 +25,55 @@
 
 namespace hedit {
 
+/* The version of the library that is linked; HEDIT_VERSION is that of the header. */
+inline std::string version() {
+    std::uint32_t number = hedit_version();
+    return std::to_string(number >> 16) + '.' + std::to_string(number >> 8 & 255) + '.' +
+           std::to_string(number & 255);
+}
+
 /* A path, the index of a child in each node on the way from the document down, and an offset:
  * characters (code points) in a text, and children in an element. */
 struct Place {
     std::vector<std::uint32_t> path;
     std::uint32_t offset = 0;
+};
+
+/* The number of a node, which it keeps for as long as the editor is open. The document's is 0. */
+using Label = std::uint32_t;
+
+/* The label of a node, and an offset in it. */
+struct Point {
+    Label label = 0;
+    std::uint32_t offset = 0;
+};
+
+inline bool operator==(const Point &left, const Point &right) {
+    return left.label == right.label && left.offset == right.offset;
+}
+
+inline bool operator!=(const Point &left, const Point &right) { return !(left == right); }
+
+struct Selection {
+    Point anchor;
+    Point focus;
+};
+
+/* What a node is: its kind, the count of its characters or of its children, and the labels of the
+ * nodes beside it, where they are there. */
+struct Node {
+    hedit_node_kind kind;
+    std::uint32_t length;
+    std::optional<Label> parent;
+    std::optional<Label> first_child;
+    std::optional<Label> last_child;
+    std::optional<Label> previous;
+    std::optional<Label> next;
+};
+
+struct Attribute {
+    std::string name;
+    std::string value;
 };
 
 /* A call was refused. */
@@ -68,7 +113,7 @@ class TooDeep : public Error {
     TooDeep() : Error(HEDIT_DEEP, "the page is too deep") {}
 };
 
-/* A path names no node, or an offset is past its length. */
+/* A path or a label names no node, or an offset is past its length. */
 class BadPlace : public Error {
   public:
     BadPlace() : Error(HEDIT_BAD_PLACE, "no such place") {}
@@ -80,7 +125,7 @@ class TooManyMarks : public Error {
     TooManyMarks() : Error(HEDIT_TOO_MANY_MARKS, "too many marks") {}
 };
 
-/* A text isn't UTF-8, or a limit is 0. */
+/* A text isn't UTF-8, a list of names is none, or a limit is 0. */
 class BadArgument : public Error {
   public:
     BadArgument() : Error(HEDIT_BAD_ARGUMENT, "an argument means nothing") {}
@@ -129,6 +174,13 @@ class Editor {
             hedit_exec(&handle_, bytes(name), name.size(), bytes(value), value.size()));
     }
 
+    /* The same past a gate: also false where the name is denied, which stands in a list with a
+     * comma between, as "bold,insertImage". */
+    bool exec_gated(std::string_view denied, std::string_view name, std::string_view value = "") {
+        return answer(hedit_exec_gated(&handle_, bytes(denied), denied.size(), bytes(name),
+                                       name.size(), bytes(value), value.size()));
+    }
+
     /* Takes one step back, or forth again. False where there is none. */
     bool undo() { return answer(hedit_undo(&handle_)); }
     bool redo() { return answer(hedit_redo(&handle_)); }
@@ -140,6 +192,13 @@ class Editor {
     }
     void select(const Place &caret) { select(caret, caret); }
 
+    /* The same from one point to another. Its cost doesn't grow with the page. */
+    void select_points(const Point &anchor, const Point &focus) {
+        answer(hedit_select_points(&handle_, anchor.label, anchor.offset, focus.label,
+                                   focus.offset));
+    }
+    void select_points(const Point &caret) { select_points(caret, caret); }
+
     /* Gives the selection up. */
     void unselect() { answer(hedit_unselect(&handle_)); }
 
@@ -147,6 +206,12 @@ class Editor {
     void mark(std::string_view name, const Place &anchor, const Place &focus) {
         answer(hedit_mark(&handle_, bytes(name), name.size(), path(anchor), anchor.path.size(),
                           anchor.offset, path(focus), focus.path.size(), focus.offset));
+    }
+
+    /* The same between two points. */
+    void mark_points(std::string_view name, const Point &anchor, const Point &focus) {
+        answer(hedit_mark_points(&handle_, bytes(name), name.size(), anchor.label, anchor.offset,
+                                 focus.label, focus.offset));
     }
 
     /* Takes the mark of a name out. False where there is none. */
@@ -186,15 +251,101 @@ class Editor {
     /* The numbers of the page and of the history. */
     std::string numbers() { return view(HEDIT_NUMBERS, 4096); }
 
+    /* These numbers one by one. */
+    hedit_number_facts counts() {
+        hedit_number_facts facts = {};
+        answer(hedit_numbers(&handle_, &facts));
+        return facts;
+    }
+
+    /* The points of the selection; none where nothing is selected. */
+    std::optional<Selection> selection() {
+        hedit_selection_facts facts = {};
+        if (!answer(hedit_selection(&handle_, &facts))) {
+            return std::nullopt;
+        }
+        return Selection{{facts.anchor, facts.anchor_offset}, {facts.focus, facts.focus_offset}};
+    }
+
+    /* The label of the node at a path. */
+    Label label_at(const std::vector<std::uint32_t> &path) {
+        Label label = 0;
+        answer(hedit_label_at(&handle_, steps(path), path.size(), &label));
+        return label;
+    }
+
+    /* What the node of a label is. */
+    Node node(Label label) {
+        hedit_node_facts facts = {};
+        answer(hedit_node(&handle_, label, &facts));
+        return {static_cast<hedit_node_kind>(facts.kind),
+                facts.length,
+                there(facts.parent),
+                there(facts.first_child),
+                there(facts.last_child),
+                there(facts.previous),
+                there(facts.next)};
+    }
+
+    /* The labels of a node's children, from the first to the last. */
+    std::vector<Label> children(Label label) {
+        std::vector<Label> labels;
+        std::optional<Label> child = node(label).first_child;
+        while (child) {
+            labels.push_back(*child);
+            child = node(*child).next;
+        }
+        return labels;
+    }
+
+    /* The name of an element, and an empty text for another node. */
+    std::string node_name(Label label) {
+        return read_text(
+                   [&](std::uint8_t *buffer, std::size_t capacity, std::size_t *length) {
+                       return hedit_node_name(&handle_, label, buffer, capacity, length);
+                   },
+                   64)
+            .value();
+    }
+
+    /* The characters of a text or a comment, and an empty text for another node. */
+    std::string node_value(Label label) {
+        return read_text(
+                   [&](std::uint8_t *buffer, std::size_t capacity, std::size_t *length) {
+                       return hedit_node_value(&handle_, label, buffer, capacity, length);
+                   },
+                   1024)
+            .value();
+    }
+
+    /* The attributes of a node, in their order. */
+    std::vector<Attribute> attributes(Label label) {
+        std::vector<Attribute> all;
+        while (std::optional<std::string> name =
+                   attribute(hedit_attribute_name, label, all.size())) {
+            std::optional<std::string> value =
+                attribute(hedit_attribute_value, label, all.size());
+            all.push_back({std::move(*name), std::move(value.value())});
+        }
+        return all;
+    }
+
   private:
     /* hedit.h takes no null pointer, also where the count is 0. */
     static const std::uint8_t *bytes(std::string_view text) {
         return reinterpret_cast<const std::uint8_t *>(text.empty() ? "" : text.data());
     }
 
-    static const std::uint32_t *path(const Place &place) {
+    static const std::uint32_t *steps(const std::vector<std::uint32_t> &path) {
         static constexpr std::uint32_t none = 0;
-        return place.path.empty() ? &none : place.path.data();
+        return path.empty() ? &none : path.data();
+    }
+
+    static const std::uint32_t *path(const Place &place) { return steps(place.path); }
+
+    /* A label, where a node is there. */
+    static std::optional<Label> there(Label label) {
+        return label == HEDIT_NO_NODE ? std::nullopt : std::optional<Label>(label);
     }
 
     /* Whether a call was done; where it was refused, this throws why. */
@@ -212,15 +363,18 @@ class Editor {
     }
 
     /* The text of a call that takes a buffer: it is called again where the text is longer than the
-     * capacity. */
-    template <typename Call> static std::string read_text(Call call, std::size_t capacity) {
+     * capacity. None where the answer is false. */
+    template <typename Call>
+    static std::optional<std::string> read_text(Call call, std::size_t capacity) {
         for (;;) {
             std::string text(capacity, '\0');
             std::size_t length = 0;
             std::uint32_t status =
                 call(reinterpret_cast<std::uint8_t *>(text.data()), capacity, &length);
             if (status != HEDIT_TOO_SMALL) {
-                answer(status);
+                if (!answer(status)) {
+                    return std::nullopt;
+                }
                 text.resize(length);
                 return text;
             }
@@ -230,21 +384,32 @@ class Editor {
 
     std::pair<bool, std::string> ask(hedit_question question, std::string_view name) {
         std::uint32_t flag = 0;
-        std::string text = read_text(
+        std::optional<std::string> text = read_text(
             [&](std::uint8_t *buffer, std::size_t capacity, std::size_t *length) {
                 return hedit_query(&handle_, question, bytes(name), name.size(), &flag, buffer,
                                    capacity, length);
             },
             256);
-        return {flag == 1, std::move(text)};
+        return {flag == 1, std::move(text.value())};
     }
 
     std::string view(hedit_view_kind kind, std::size_t capacity) {
         return read_text(
-            [&](std::uint8_t *buffer, std::size_t size, std::size_t *length) {
-                return hedit_view(&handle_, kind, buffer, size, length);
+                   [&](std::uint8_t *buffer, std::size_t size, std::size_t *length) {
+                       return hedit_view(&handle_, kind, buffer, size, length);
+                   },
+                   capacity)
+            .value();
+    }
+
+    /* A text of the attribute at a place of a node's list. */
+    template <typename Call>
+    std::optional<std::string> attribute(Call call, Label label, std::size_t place) {
+        return read_text(
+            [&](std::uint8_t *buffer, std::size_t capacity, std::size_t *length) {
+                return call(&handle_, label, place, buffer, capacity, length);
             },
-            capacity);
+            256);
     }
 
     hedit_editor handle_ = HEDIT_CLOSED_EDITOR;

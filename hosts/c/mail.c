@@ -25,7 +25,7 @@ static const uint8_t *bytes_of(const char *text) {
 /* The program ends where a call should have been done and was not. */
 static void want(uint32_t status, const char *call) {
     if (status != HEDIT_DONE) {
-        fprintf(stderr, "%s: status %u\n", call, (unsigned)status);
+        fprintf(stderr, "%s: %s\n", call, hedit_status_text(status));
         exit(1);
     }
 }

@@ -22,6 +22,7 @@ static const char PAGE[] = "<p contenteditable>ab</p>";
 static const char BOLD[] = "<p contenteditable=\"\"><b>ab</b></p>\n";
 static const char SESSION[] = "page <<END\n<p>x</p>\nEND\nhtml\nstat\n";
 static const char ANSWER[] = "<p>x</p>\nnodes 3 chars 1 next 3 edits 0 undo 0 redo 0\n";
+static const char NODES[] = "<!--n--><p contenteditable><i class=\"x&amp;y\" lang>\xc3\xa9</i>b</p>";
 static const uint32_t TEXT_OF_PAGE[] = {0, 0};
 static const uint32_t NOWHERE[] = {9};
 
@@ -96,7 +97,272 @@ static void mistakes(void) {
     hedit_close(&editor);
 }
 
+static void versions(void) {
+    uint32_t status;
+    CHECK(hedit_version() ==
+          (uint32_t)(HEDIT_VERSION_MAJOR << 16 | HEDIT_VERSION_MINOR << 8 | HEDIT_VERSION_PATCH));
+    for (status = HEDIT_DONE; status <= HEDIT_CLOSED; status++) {
+        int is_one = status <= HEDIT_USAGE || status >= HEDIT_MEMORY;
+        CHECK((strcmp(hedit_status_text(status), hedit_status_text(99)) != 0) == is_one);
+    }
+    CHECK(strcmp(hedit_status_text(HEDIT_TOO_SMALL), "the buffer is too small") == 0);
+}
+
+/* Opens a page that is one. */
+static hedit_editor opened(const char *page) {
+    hedit_editor editor = HEDIT_CLOSED_EDITOR;
+    hedit_refusal refusal;
+    CHECK(hedit_open(&editor, (const uint8_t *)page, strlen(page), 99, 9, &refusal) == HEDIT_DONE);
+    return editor;
+}
+
+/* The label at a path of up to three steps, the rest of which is 9; HEDIT_NO_NODE where no node has
+ * it. */
+static uint32_t label_at(hedit_editor *editor, uint32_t first, uint32_t second, uint32_t third) {
+    uint32_t path[3], label = HEDIT_NO_NODE;
+    size_t length = 0;
+    path[0] = first;
+    path[1] = second;
+    path[2] = third;
+    while (length < 3 && path[length] != 9)
+        length++;
+    CHECK(hedit_label_at(editor, path, length, &label) ==
+          (label == HEDIT_NO_NODE ? HEDIT_BAD_PLACE : HEDIT_DONE));
+    return label;
+}
+
+static uint32_t bold(hedit_editor *editor, const char *denied) {
+    return hedit_exec_gated(editor, (const uint8_t *)denied, strlen(denied), TEXT("Bold"), TEXT(""));
+}
+
+static void gates(void) {
+    /* Names of 65 letters, none, one with another character, and 17 names. */
+    static const char *const wrong[] = {
+        "abcdefghijklmnopqrstuvwxyzabcdefghijklmnopqrstuvwxyzabcdefghijklm", ",", "italic,",
+        ",italic", "italic, underline", "a_b", "a,b,c,d,e,f,g,h,i,j,k,l,m,n,o,p,q"};
+    hedit_editor editor = opened(PAGE);
+    hedit_refusal refusal;
+    size_t i;
+    CHECK(hedit_select(&editor, TEXT_OF_PAGE, 2, 0, TEXT_OF_PAGE, 2, 2) == HEDIT_DONE);
+    CHECK(bold(&editor, "italic,BOLD") == HEDIT_NO);
+    CHECK(bold(&editor, "bold") == HEDIT_NO);
+    for (i = 0; i < sizeof wrong / sizeof wrong[0]; i++)
+        CHECK(bold(&editor, wrong[i]) == HEDIT_BAD_ARGUMENT);
+    CHECK(hedit_exec_gated(&editor, TEXT("italic"), TEXT("\xff"), TEXT("")) == HEDIT_BAD_ARGUMENT);
+    CHECK(hedit_exec_gated(&editor, TEXT("italic"), TEXT("bold"), TEXT("\xff")) ==
+          HEDIT_BAD_ARGUMENT);
+    CHECK(hedit_undo(&editor) == HEDIT_NO);
+    CHECK(bold(&editor, "italic,a,b,c,d,e,f,g,h,i,j,k,l,m,n,o,A") == HEDIT_DONE);
+    CHECK(hedit_undo(&editor) == HEDIT_DONE);
+    CHECK(bold(&editor, "") == HEDIT_DONE);
+    CHECK(hedit_open(&editor, TEXT(PAGE), 3, 9, &refusal) == HEDIT_DONE);
+    CHECK(hedit_select(&editor, TEXT_OF_PAGE, 2, 0, TEXT_OF_PAGE, 2, 2) == HEDIT_DONE);
+    CHECK(bold(&editor, "italic") == HEDIT_FULL);
+    hedit_close(&editor);
+    CHECK(bold(&editor, "") == HEDIT_CLOSED);
+    CHECK(bold(&editor, ",") == HEDIT_CLOSED);
+}
+
+static int are_points(const hedit_selection_facts *facts, uint32_t anchor, uint32_t anchor_offset,
+                      uint32_t focus, uint32_t focus_offset) {
+    return facts->anchor == anchor && facts->anchor_offset == anchor_offset &&
+           facts->focus == focus && facts->focus_offset == focus_offset;
+}
+
+static uint32_t mark_in(hedit_editor *editor, const char *name, uint32_t label, uint32_t offset) {
+    return hedit_mark_points(editor, (const uint8_t *)name, 1, label, 0, label, offset);
+}
+
+static void points(void) {
+    static const char marked[] = "anchor 0/0:2\nfocus 0:0\nmark m 0/0:0 0/0:1\n";
+    static const char names[] = "abcdefghijklmnop";
+    hedit_editor editor = opened(PAGE);
+    hedit_selection_facts facts = {7, 7, 7, 7};
+    uint32_t p = label_at(&editor, 0, 9, 9), text = label_at(&editor, 0, 0, 9);
+    uint8_t buffer[60];
+    size_t length, i;
+    memset(buffer, '.', sizeof buffer);
+    CHECK(hedit_selection(&editor, &facts) == HEDIT_NO && are_points(&facts, 7, 7, 7, 7));
+    CHECK(hedit_select_points(&editor, text, 3, text, 0) == HEDIT_BAD_PLACE);
+    CHECK(hedit_select_points(&editor, text, 0, text, UINT32_MAX) == HEDIT_BAD_PLACE);
+    CHECK(hedit_select_points(&editor, 98, 0, text, 0) == HEDIT_BAD_PLACE);
+    CHECK(hedit_select_points(&editor, text, 0, HEDIT_NO_NODE, 0) == HEDIT_BAD_PLACE);
+    CHECK(hedit_selection(&editor, &facts) == HEDIT_NO);
+    CHECK(hedit_select_points(&editor, text, 2, p, 0) == HEDIT_DONE);
+    CHECK(hedit_selection(&editor, &facts) == HEDIT_DONE && are_points(&facts, text, 2, p, 0));
+    CHECK(mark_in(&editor, "m", text, 3) == HEDIT_BAD_PLACE);
+    CHECK(mark_in(&editor, "m", HEDIT_NO_NODE, 0) == HEDIT_BAD_PLACE);
+    CHECK(mark_in(&editor, "m", text, 1) == HEDIT_DONE);
+    CHECK(hedit_view(&editor, HEDIT_POINTS, buffer, sizeof buffer, &length) == HEDIT_DONE);
+    CHECK(length == strlen(marked) && holds(buffer, sizeof buffer, marked));
+    for (i = 0; i < 16; i++)
+        CHECK(mark_in(&editor, names + i, 0, 1) == HEDIT_DONE);
+    CHECK(mark_in(&editor, "x", 0, 1) == HEDIT_TOO_MANY_MARKS);
+    CHECK(mark_in(&editor, "m", text, 2) == HEDIT_DONE);
+    CHECK(hedit_unselect(&editor) == HEDIT_DONE);
+    CHECK(hedit_selection(&editor, &facts) == HEDIT_NO && are_points(&facts, text, 2, p, 0));
+    hedit_close(&editor);
+}
+
+/* The texts that a node has. */
+enum text { NAME, VALUE, ATTRIBUTE_NAME, ATTRIBUTE_VALUE };
+
+static uint32_t text_of(hedit_editor *editor, enum text text, uint32_t label, size_t place,
+                        uint8_t *buffer, size_t capacity, size_t *length) {
+    switch (text) {
+    case NAME: return hedit_node_name(editor, label, buffer, capacity, length);
+    case VALUE: return hedit_node_value(editor, label, buffer, capacity, length);
+    case ATTRIBUTE_NAME:
+        return hedit_attribute_name(editor, label, place, buffer, capacity, length);
+    default: return hedit_attribute_value(editor, label, place, buffer, capacity, length);
+    }
+}
+
+/* Whether a node has a text: it comes whole where there is just room for it, and not at all where
+ * there is room for less. */
+static int has(hedit_editor *editor, enum text text, uint32_t label, size_t place,
+               const char *wanted) {
+    uint8_t buffer[20];
+    size_t room = strlen(wanted), length = 0;
+    memset(buffer, '.', sizeof buffer);
+    if (room > 0 && (text_of(editor, text, label, place, buffer, room - 1, &length) !=
+                         HEDIT_TOO_SMALL ||
+                     length != room || !holds(buffer, sizeof buffer, "")))
+        return 0;
+    return text_of(editor, text, label, place, buffer, room, &length) == HEDIT_DONE &&
+           length == room && holds(buffer, sizeof buffer, wanted);
+}
+
+/* Whether a call for a text ends with another status, and with the buffer as it was. */
+static int refuses(hedit_editor *editor, enum text text, uint32_t label, size_t place,
+                   uint32_t status) {
+    uint8_t buffer[20];
+    size_t length = 0;
+    memset(buffer, '.', sizeof buffer);
+    return text_of(editor, text, label, place, buffer, sizeof buffer, &length) == status &&
+           holds(buffer, sizeof buffer, "");
+}
+
+static void texts(void) {
+    hedit_editor editor = opened(NODES);
+    uint32_t comment = label_at(&editor, 0, 9, 9), i = label_at(&editor, 1, 0, 9),
+             text = label_at(&editor, 1, 0, 0);
+    int each;
+    CHECK(has(&editor, NAME, i, 0, "i") && has(&editor, VALUE, i, 0, ""));
+    CHECK(has(&editor, NAME, text, 0, "") && has(&editor, VALUE, text, 0, "\xc3\xa9"));
+    CHECK(has(&editor, NAME, comment, 0, "") && has(&editor, VALUE, comment, 0, "n"));
+    CHECK(has(&editor, NAME, 0, 0, "") && has(&editor, VALUE, 0, 0, ""));
+    CHECK(has(&editor, ATTRIBUTE_NAME, i, 0, "class"));
+    CHECK(has(&editor, ATTRIBUTE_VALUE, i, 0, "x&y"));
+    CHECK(has(&editor, ATTRIBUTE_NAME, i, 1, "lang") && has(&editor, ATTRIBUTE_VALUE, i, 1, ""));
+    for (each = ATTRIBUTE_NAME; each <= ATTRIBUTE_VALUE; each++) {
+        CHECK(refuses(&editor, (enum text)each, i, 2, HEDIT_NO));
+        CHECK(refuses(&editor, (enum text)each, i, (size_t)-1, HEDIT_NO));
+        CHECK(refuses(&editor, (enum text)each, text, 0, HEDIT_NO));
+        CHECK(refuses(&editor, (enum text)each, 0, 0, HEDIT_NO));
+    }
+    for (each = NAME; each <= ATTRIBUTE_VALUE; each++)
+        CHECK(refuses(&editor, (enum text)each, 98, 0, HEDIT_BAD_PLACE) &&
+              refuses(&editor, (enum text)each, HEDIT_NO_NODE, 0, HEDIT_BAD_PLACE));
+    hedit_close(&editor);
+    for (each = NAME; each <= ATTRIBUTE_VALUE; each++)
+        CHECK(refuses(&editor, (enum text)each, 0, 0, HEDIT_CLOSED));
+}
+
+/* Walks a node and what is below it: the links that its neighbours have lead to each other. Gives
+ * the number of nodes. */
+static uint32_t walk(hedit_editor *editor, uint32_t label, uint32_t parent, uint32_t previous,
+                     uint32_t next) {
+    hedit_node_facts facts, child;
+    uint32_t nodes = 1, children = 0, at, before = HEDIT_NO_NODE;
+    CHECK(hedit_node(editor, label, &facts) == HEDIT_DONE);
+    CHECK(facts.parent == parent && facts.previous == previous && facts.next == next);
+    for (at = facts.first_child; at != HEDIT_NO_NODE; at = child.next) {
+        CHECK(hedit_node(editor, at, &child) == HEDIT_DONE);
+        nodes += walk(editor, at, label, before, child.next);
+        before = at;
+        children++;
+    }
+    CHECK(facts.last_child == before);
+    if (facts.kind == HEDIT_ELEMENT || facts.kind == HEDIT_DOCUMENT)
+        CHECK(facts.length == children);
+    else
+        CHECK(children == 0);
+    return nodes;
+}
+
+static int is_node(hedit_editor *editor, uint32_t label, uint32_t kind, uint32_t length) {
+    hedit_node_facts facts;
+    return hedit_node(editor, label, &facts) == HEDIT_DONE && facts.kind == kind &&
+           facts.length == length;
+}
+
+static void nodes(void) {
+    static const hedit_node_facts before = {7, 7, 7, 7, 7, 7, 7};
+    hedit_editor editor = opened(NODES);
+    hedit_node_facts facts = before;
+    hedit_number_facts numbers;
+    uint32_t label = 7;
+    CHECK(label_at(&editor, 9, 9, 9) == 0);
+    CHECK(is_node(&editor, 0, HEDIT_DOCUMENT, 2));
+    CHECK(is_node(&editor, label_at(&editor, 0, 9, 9), HEDIT_COMMENT, 1));
+    CHECK(is_node(&editor, label_at(&editor, 1, 9, 9), HEDIT_ELEMENT, 2));
+    CHECK(is_node(&editor, label_at(&editor, 1, 0, 0), HEDIT_TEXT, 1));
+    CHECK(hedit_numbers(&editor, &numbers) == HEDIT_DONE);
+    CHECK(walk(&editor, 0, HEDIT_NO_NODE, HEDIT_NO_NODE, HEDIT_NO_NODE) == numbers.nodes);
+    CHECK(hedit_node(&editor, numbers.next_label, &facts) == HEDIT_BAD_PLACE);
+    CHECK(hedit_node(&editor, HEDIT_NO_NODE, &facts) == HEDIT_BAD_PLACE);
+    CHECK(hedit_label_at(&editor, NOWHERE, 1, &label) == HEDIT_BAD_PLACE && label == 7);
+    hedit_close(&editor);
+    CHECK(hedit_node(&editor, 0, &facts) == HEDIT_CLOSED);
+    CHECK(memcmp(&facts, &before, sizeof facts) == 0);
+    CHECK(hedit_label_at(&editor, NOWHERE, 0, &label) == HEDIT_CLOSED && label == 7);
+}
+
+/* Whether there are so many nodes, edits and steps, and the numbers are those of the page. */
+static int counts(hedit_editor *editor, uint32_t nodes, int edits, size_t undo, size_t redo) {
+    hedit_number_facts facts;
+    return hedit_numbers(editor, &facts) == HEDIT_DONE && facts.nodes == nodes &&
+           facts.chars == 2 && (facts.edits > 0) == edits && facts.undo == undo &&
+           facts.redo == redo;
+}
+
+/* A label stays with its node when the text is put into a new element, taken out of it, and put
+ * back again. */
+static void labels(void) {
+    hedit_editor editor = opened(PAGE);
+    hedit_selection_facts facts;
+    hedit_node_facts node;
+    hedit_number_facts numbers;
+    uint32_t p = label_at(&editor, 0, 9, 9), text = label_at(&editor, 0, 0, 9), b;
+    CHECK(hedit_numbers(&editor, &numbers) == HEDIT_DONE && numbers.next_label == 3);
+    CHECK(counts(&editor, 3, 0, 0, 0));
+    CHECK(hedit_select_points(&editor, text, 0, text, 2) == HEDIT_DONE);
+    CHECK(bold(&editor, "") == HEDIT_DONE);
+    b = label_at(&editor, 0, 0, 9);
+    CHECK(has(&editor, NAME, b, 0, "b") && b >= numbers.next_label);
+    CHECK(label_at(&editor, 0, 0, 0) == text && label_at(&editor, 0, 9, 9) == p);
+    CHECK(hedit_node(&editor, text, &node) == HEDIT_DONE && node.parent == b);
+    CHECK(hedit_selection(&editor, &facts) == HEDIT_DONE && are_points(&facts, text, 0, text, 2));
+    CHECK(counts(&editor, 4, 1, 1, 0));
+    CHECK(hedit_undo(&editor) == HEDIT_DONE);
+    CHECK(hedit_node(&editor, text, &node) == HEDIT_DONE && node.parent == p);
+    CHECK(hedit_node(&editor, b, &node) == HEDIT_BAD_PLACE);
+    CHECK(hedit_select_points(&editor, text, 0, b, 0) == HEDIT_BAD_PLACE);
+    CHECK(counts(&editor, 3, 0, 0, 1));
+    CHECK(hedit_redo(&editor) == HEDIT_DONE);
+    CHECK(label_at(&editor, 0, 0, 9) == b && label_at(&editor, 0, 0, 0) == text);
+    CHECK(has(&editor, NAME, b, 0, "b"));
+    CHECK(walk(&editor, 0, HEDIT_NO_NODE, HEDIT_NO_NODE, HEDIT_NO_NODE) == 4);
+    hedit_close(&editor);
+    CHECK(hedit_selection(&editor, &facts) == HEDIT_CLOSED && are_points(&facts, text, 0, text, 2));
+    CHECK(hedit_numbers(&editor, &numbers) == HEDIT_CLOSED);
+    CHECK(hedit_select_points(&editor, 0, 0, 0, 0) == HEDIT_CLOSED);
+    CHECK(mark_in(&editor, "m", 0, 0) == HEDIT_CLOSED);
+}
+
 int main(void) {
+    versions();
     sessions();
     words("check", "<p>x</p>", HEDIT_DONE, "page ok nodes 3 chars 1\n");
     words("run\n--cap=2\n", SESSION, HEDIT_PAGE_REFUSED, "! page 3 full\n");
@@ -104,6 +370,11 @@ int main(void) {
     words("", SESSION, HEDIT_USAGE, "");
     edits();
     mistakes();
+    gates();
+    points();
+    texts();
+    nodes();
+    labels();
     if (!failed)
         puts("hedit.h: each call answers as it should");
     return failed;

@@ -64,9 +64,81 @@ static void texts() {
     check(editor.tree().size() > 20000, "a tree longer than the room is whole");
 }
 
+static void gates() {
+    hedit::Editor editor(PAGE);
+    editor.select({{0, 0}, 0}, {{0, 0}, 2});
+    check(!editor.exec_gated("italic,BOLD", "bold"), "a denied command does nothing");
+    check(editor.html() == std::string(PAGE) + "\n", "the page is as before a denied command");
+    editor.select({{0, 0}, 2});
+    check(editor.exec_gated("italic", "insertText", "x"), "a command that isn't denied is done");
+    check(editor.exec_gated({}, "insertText", "y"), "an empty list denies none");
+    check(editor.html() == "<p contenteditable=\"\">abxy</p>\n", "both texts are there");
+    refused<hedit::BadArgument>([&] { editor.exec_gated(",", "bold"); }, "what is no list");
+}
+
+/* A line for each node below one: its kind, its name or its characters, and its attributes. */
+static std::string told(hedit::Editor &editor, hedit::Label label) {
+    hedit::Node node = editor.node(label);
+    std::string text = std::to_string(node.kind) + ' ' + editor.node_name(label) +
+                       editor.node_value(label);
+    for (const auto &[name, value] : editor.attributes(label)) {
+        text += ' ' + name + '=' + value;
+    }
+    text += '\n';
+    std::optional<hedit::Label> before;
+    for (hedit::Label child : editor.children(label)) {
+        check(editor.node(child).parent == label, "a child has its parent");
+        check(editor.node(child).previous == before, "a child comes after the one before it");
+        text += told(editor, child);
+        before = child;
+    }
+    check(node.last_child == before, "the last child is the last");
+    return text;
+}
+
+static void labels() {
+    hedit::Editor editor("<!--n--><p contenteditable><i class=\"x&amp;y\" lang>\u00e9</i>b</p>");
+    check(told(editor, 0) == "9 \n8 n\n1 p contenteditable=\n1 i class=x&y lang=\n3 \u00e9\n3 b\n",
+          "a walk over the nodes");
+    hedit::Label text = editor.label_at({1, 1});
+    check(editor.label_at({}) == 0 && !editor.node(0).parent, "the document is 0");
+    check(editor.node(text).length == 1 && editor.node(text).kind == HEDIT_TEXT, "a text");
+    check(!editor.node(text).first_child && !editor.node(text).next, "a text has no child");
+    check(!editor.selection(), "nothing is selected");
+    editor.select_points({text, 0}, {text, 1});
+    check(editor.points() == "anchor 1/1:0\nfocus 1/1:1\n", "two points are selected");
+    editor.exec("bold");
+    hedit::Label b = editor.label_at({1, 1});
+    check(editor.node_name(b) == "b" && editor.node(text).parent == b, "a label stays");
+    check(editor.selection()->anchor == hedit::Point{text, 0}, "so does an anchor");
+    check(editor.selection()->focus != editor.selection()->anchor, "and a focus");
+    hedit_number_facts counts = editor.counts();
+    check(counts.nodes == 7 && counts.chars == 2 && counts.undo == 1 && counts.redo == 0, "counts");
+    editor.undo();
+    check(editor.counts().redo == 1 && editor.node(text).parent == editor.label_at({1}), "undo");
+    refused<hedit::BadPlace>([&] { editor.node(b); }, "a node that isn't there any more");
+    editor.redo();
+    check(editor.node_name(b) == "b" && editor.node(b).first_child == text, "redo");
+    editor.select_points({text, 1});
+    editor.exec("insertText", std::string(20000, 'x'));
+    check(editor.node_value(text).size() == 20001, "characters that are many are whole");
+    editor.mark_points("m", {text, 0}, {0, 2});
+    check(editor.unmark("m"), "a mark between points");
+    refused<hedit::BadPlace>([&] { editor.select_points({99, 0}); }, "a label of no node");
+    refused<hedit::BadPlace>([&] { editor.mark_points("m", {text, 0}, {0, 3}); }, "an offset");
+    refused<hedit::BadPlace>([&] { editor.label_at({7}); }, "the label at no place");
+    refused<hedit::BadPlace>([&] { editor.attributes(99); }, "the attributes of no node");
+    hedit::Editor other(std::move(editor));
+    refused<hedit::Closed>([&] { editor.node(0); }, "a closed editor has no nodes");
+    refused<hedit::Closed>([&] { editor.selection(); }, "nor a selection");
+}
+
 int main() {
+    check(hedit::version() == HEDIT_VERSION, "the library has the header's version");
     moves();
     causes();
     texts();
+    gates();
+    labels();
     return failed;
 }

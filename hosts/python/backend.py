@@ -14,7 +14,7 @@ from collections.abc import Mapping
 from pathlib import Path
 
 HERE = Path(__file__).resolve().parent
-PACKAGE = ("__init__.py", "_editor.py", "_errors.py", "_library.py", "py.typed")
+PACKAGE = ("__init__.py", "_editor.py", "_errors.py", "_library.py", "_nodes.py", "py.typed")
 LICENSE = next(it for it in (HERE / "LICENSE", HERE.parent.parent / "LICENSE") if it.is_file())
 
 

@@ -1,9 +1,9 @@
 """sessions.py FOLDER..: runs stored sessions (NNN.args, .stdin, .stdout, .status) through the
 library.
 
-Each goes through hedit_session_with_words, which has to give what is stored. Those of `run`
-without --deny also go through an Editor, call by call: the lines that are acts for which it has
-calls, which the library has to answer as a session of these lines alone."""
+Each goes through hedit_session_with_words, which has to give what is stored. Those of `run` also go
+through an Editor, call by call: the lines that are acts for which it has calls, which the library
+has to answer as a session of these lines alone."""
 import re
 import sys
 from collections.abc import Callable
@@ -76,7 +76,7 @@ def read_line(line: str) -> re.Match[str] | None:
     return found if found and is_value(found["value"] or "") else None
 
 
-def answer(editor: Editor, found: re.Match[str]) -> str:
+def answer(editor: Editor, found: re.Match[str], denied: list[str]) -> str:
     """What a session answers to a line, by calls of an Editor."""
     act = found.lastgroup or ""
     parts = found.groups()[found.re.groupindex[act]:]
@@ -92,7 +92,7 @@ def answer(editor: Editor, found: re.Match[str]) -> str:
     if act == "unmark":
         return words(editor.unmark(parts[0])) + "\n"
     if act == "exec":
-        return words(editor.exec(parts[0], value_of(parts[1] or ""))) + "\n"
+        return words(editor.exec(parts[0], value_of(parts[1] or ""), denied)) + "\n"
     if act == "query":
         reply = getattr(editor, parts[0])(parts[1])
         if parts[0] == "value":
@@ -105,9 +105,9 @@ def answer(editor: Editor, found: re.Match[str]) -> str:
     return {"html": editor.html, "tree": editor.tree, "points": editor.points}[act]()
 
 
-def reply(editor: Editor, found: re.Match[str]) -> str:
+def reply(editor: Editor, found: re.Match[str], denied: list[str]) -> str:
     try:
-        return answer(editor, found)
+        return answer(editor, found, denied)
     except tuple(FAULTS) as error:
         return FAULTS[type(error)] + "\n"
 
@@ -120,28 +120,34 @@ def parts_of(text: str) -> tuple[str, list[str], str, list[str]]:
     return opening, lines[:end], lines[end], [line for line in lines[end + 1:] if line]
 
 
-def by_calls(text: str, options: dict[str, int]) -> tuple[str, str]:
+def by_calls(text: str, options: dict[str, int], denied: list[str]) -> tuple[str, str]:
     """The transcript of the acts that an Editor has calls for, by these calls, and the session that
     has these acts alone."""
     opening, page, closing, acts = parts_of(text)
     known = [(line, found) for line in acts if (found := read_line(line))]
     with Editor("\n".join(page), **options) as editor:
-        transcript = "".join(reply(editor, found) for _, found in known)
+        transcript = "".join(reply(editor, found, denied) for _, found in known)
     return transcript, "\n".join([opening, *page, closing, *(line for line, _ in known), ""])
 
 
-def options_of(arguments: list[str]) -> dict[str, int] | None:
-    """The limits that the words ask for; None where they ask for something else."""
+def options_of(arguments: list[str]) -> tuple[dict[str, int], list[str]] | None:
+    """The limits that the words ask for, and the names that they deny; None where they ask for
+    something else."""
     if not arguments or arguments[0] != "run":
         return None
-    words, options = " ".join(arguments[1:]).replace("=", " ").split(), {}
+    words = " ".join(arguments[1:]).replace("=", " ").split()
+    options: dict[str, int] = {}
+    denied: list[str] = []
     names = {"--cap": "label_cap", "--undo": "undo_depth"}
-    while words:
-        if len(words) < 2 or words[0] not in names or not words[1].isdecimal():
+    while len(words) > 1:
+        if words[0] == "--deny":
+            denied = words[1].split(",")
+        elif words[0] in names and words[1].isdecimal():
+            options[names[words[0]]] = int(words[1])
+        else:
             return None
-        options[names[words[0]]] = int(words[1])
         words = words[2:]
-    return options
+    return None if words else (options, denied)
 
 
 def main(folders: list[str]) -> int:
@@ -157,7 +163,7 @@ def main(folders: list[str]) -> int:
         if options is None or status != 0:
             continue
         calls += 1
-        transcript, known = by_calls(text.decode(errors="surrogateescape"), options)
+        transcript, known = by_calls(text.decode(errors="surrogateescape"), *options)
         if session(known, arguments) != (0, transcript.encode()):
             bad.append(f"{stdin} call by call")
     print(f"hosts: {whole} stored sessions as sessions, {calls} call by call; {len(bad)} differ")

@@ -15,11 +15,13 @@ from typing import Any
 
 import hedit
 from hedit import _editor, _library
-from hedit import Editor, Question, Status, View
+from hedit import Editor, NodeKind, Point, Question, Selection, Status, View
 
 PAGE = "<p contenteditable>Call Ann</p>"
 
 NAME = ((0, 0), 5), ((0, 0), 8)
+
+NODES = '<!--n--><p contenteditable><i class="x&amp;y" lang>\u00e9</i>b</p>'
 
 
 def in_another_thread(call: Callable[[], object]) -> BaseException | None:
@@ -68,6 +70,7 @@ class Package(unittest.TestCase):
 
     def test_has_the_version_of_the_library_that_it_asks_for(self) -> None:
         self.assertRegex(hedit.__version__, r"^\d+\.\d+\.\d+$")
+        self.assertEqual(hedit.version(), hedit.__version__)
 
     def test_loads_the_library_at_the_first_use_alone(self) -> None:
         ran = run_python("import hedit; print(hedit.View.TREE.value)", HEDIT_LIBRARY="/nowhere")
@@ -80,7 +83,7 @@ class Package(unittest.TestCase):
         header = repository / "include" / "hedit.h"
         if not header.is_file():
             self.skipTest("the header does not stand beside the package")
-        names = set(re.findall(r"\b(hedit_\w+)\(", header.read_text()))
+        names = set(re.findall(r"^\w+ (hedit_\w+)\(", header.read_text(), re.M))
         self.assertEqual(set(_library.CALLS), names - {"hedit_session"})
 
 
@@ -136,6 +139,216 @@ class Arguments(unittest.TestCase):
                 self.editor.view(bad)
             with self.subTest(bad=bad), self.assertRaises(ValueError):
                 self.editor.ask(bad, "bold")
+
+
+    def test_a_point_is_not_wrapped(self) -> None:
+        calls: list[Callable[[Point], object]] = [
+            self.editor.select,
+            lambda point: self.editor.select(point, ((0,), 0)),
+            lambda point: self.editor.mark("note", ((0, 0), 1), point),
+        ]
+        wrong = (2**32, 0), (2**32 + 1, 0), (-1, 0), (9, 0), (1, 2**32), (1, -1), (1, 2)
+        for call in calls:
+            for label, offset in wrong:
+                with self.subTest(label=label, offset=offset), self.assertRaises(hedit.BadPlace):
+                    call(Point(label, offset))
+        self.assertEqual(self.editor.points(), "none\n")
+
+    def test_a_label_is_not_wrapped(self) -> None:
+        editor = self.editor
+        calls: list[Callable[[Any], object]] = [
+            editor.node,
+            editor.children,
+            editor.node_name,
+            editor.node_value,
+            editor.attributes,
+        ]
+        bad: Any
+        for call in calls:
+            for wrong in (2**32, 2**32 - 1, -1, 3):
+                with self.subTest(call=call, wrong=wrong), self.assertRaises(hedit.BadPlace):
+                    call(wrong)
+            for bad in (1.0, "1", None):
+                with self.subTest(call=call, bad=bad), self.assertRaises(TypeError):
+                    call(bad)
+        for path in ((7,), (0, 2**32), (-1,), (0, 0, 0)):
+            with self.subTest(path=path), self.assertRaises(hedit.BadPlace):
+                editor.label_at(path)
+
+
+class Denials(unittest.TestCase):
+    def setUp(self) -> None:
+        self.editor = Editor(PAGE)
+        self.addCleanup(self.editor.close)
+        self.editor.select(*NAME)
+
+    def test_a_denied_command_does_nothing(self) -> None:
+        for denied in (["bold"], ("italic", "BOLD"), {"Bold": 1}, iter(["bold"])):
+            with self.subTest(denied=denied):
+                self.assertFalse(self.editor.exec("bold", denied=denied))
+        self.assertEqual(self.editor.html(), '<p contenteditable="">Call Ann</p>\n')
+
+    def test_another_command_is_done(self) -> None:
+        self.assertTrue(self.editor.exec("bold", denied=["italic", "insertImage"]))
+        self.assertTrue(self.editor.undo())
+        self.assertTrue(self.editor.exec("createLink", "tel:1", ()))
+
+    def test_names_that_are_none_are_refused(self) -> None:
+        numbers = [f"n{number}" for number in range(17)]
+        for denied in ([""], ["bold", ""], ["a b"], ["a_b"], ["\u00e9"], ["x" * 65], numbers):
+            with self.subTest(denied=denied), self.assertRaises(hedit.BadArgument):
+                self.editor.exec("bold", denied=denied)
+        self.assertTrue(self.editor.exec("bold", denied=numbers[:16] + ["N0"]))
+
+    def test_one_text_is_no_list_of_names(self) -> None:
+        bad: Any
+        for bad in ("bold", b"bold", [b"bold"], [1], 1):
+            with self.subTest(bad=bad), self.assertRaises(TypeError):
+                self.editor.exec("italic", denied=bad)
+
+
+class Nodes(unittest.TestCase):
+    def setUp(self) -> None:
+        self.editor = Editor(NODES)
+        self.addCleanup(self.editor.close)
+
+    def told(self, label: int) -> list[object]:
+        """A node and what is below it, as nested lists."""
+        editor, node = self.editor, self.editor.node(label)
+        children = list(editor.children(label))
+        self.assertEqual(node.label, label)
+        self.assertEqual(node.first_child, children[0] if children else None)
+        self.assertEqual(node.last_child, children[-1] if children else None)
+        for before, child in zip([None, *children], children):
+            self.assertEqual(editor.node(child).parent, label)
+            self.assertEqual(editor.node(child).previous, before)
+        texts = editor.node_name(label), editor.node_value(label), editor.attributes(label)
+        return [node.kind, node.length, *texts, *map(self.told, children)]
+
+    def test_a_walk_finds_the_whole_page(self) -> None:
+        text = [NodeKind.TEXT, 1, "", "\u00e9", {}]
+        italic = [NodeKind.ELEMENT, 1, "i", "", {"class": "x&y", "lang": ""}, text]
+        last = [NodeKind.TEXT, 1, "", "b", {}]
+        paragraph = [NodeKind.ELEMENT, 2, "p", "", {"contenteditable": ""}, italic, last]
+        comment = [NodeKind.COMMENT, 1, "", "n", {}]
+        self.assertEqual(self.told(0), [NodeKind.DOCUMENT, 2, "", "", {}, comment, paragraph])
+        attributes = self.editor.attributes(self.editor.label_at((1, 0)))
+        self.assertEqual(list(attributes), ["class", "lang"])
+
+    def test_the_document_has_the_label_0_and_nothing_beside_it(self) -> None:
+        document = self.editor.node(0)
+        self.assertEqual(self.editor.label_at(()), 0)
+        self.assertIs(document.kind, NodeKind.DOCUMENT)
+        self.assertEqual((document.parent, document.previous, document.next), (None, None, None))
+        with self.assertRaises(AttributeError):
+            document.length = 7  # type: ignore[misc]
+
+    def test_a_label_stays_with_its_node(self) -> None:
+        editor = self.editor
+        text = editor.label_at((1, 1))
+        selected = Selection(Point(text, 0), Point(text, 1))
+        editor.select(*selected)
+        self.assertTrue(editor.exec("bold"))
+        bold = editor.label_at((1, 1))
+        self.assertEqual((editor.node_name(bold), editor.node(bold).first_child), ("b", text))
+        self.assertEqual((editor.label_at((1, 1, 0)), editor.selection()), (text, selected))
+        self.assertTrue(editor.undo())
+        self.assertEqual(editor.label_at((1, 1)), text)
+        with self.assertRaises(hedit.BadPlace):
+            editor.node(bold)
+        self.assertTrue(editor.redo())
+        self.assertEqual(editor.label_at((1, 1)), bold)
+        self.assertEqual(editor.node(text).parent, bold)
+
+    def test_children_are_refused_at_once_and_may_go_meanwhile(self) -> None:
+        with self.assertRaises(hedit.BadPlace):
+            self.editor.children(99)
+        self.assertEqual(list(self.editor.children(self.editor.label_at((0,)))), [])
+        with Editor("<p contenteditable>a<i>b</i></p>") as editor:
+            editor.select(((0, 0), 0), ((0, 0), 1))
+            editor.exec("bold")
+            children = editor.children(editor.label_at((0,)))
+            bold = next(children)
+            self.assertTrue(editor.undo())
+            with self.assertRaises(hedit.BadPlace):
+                editor.node(bold)
+            self.assertEqual(list(children), [editor.label_at((0, 1))])
+
+    def test_long_texts_are_whole(self) -> None:
+        page = f"<p title='{'t' * 5_000}'>{'x' * 20_000}</p>"
+        with Editor(page) as editor:
+            paragraph, text = editor.label_at((0,)), editor.label_at((0, 0))
+            self.assertEqual(editor.node_value(text), "x" * 20_000)
+            self.assertEqual(editor.attributes(paragraph), {"title": "t" * 5_000})
+
+    def test_calls_are_refused_after_the_end_and_in_another_thread(self) -> None:
+        editor = Editor(PAGE)
+        calls: list[Callable[[], object]] = [
+            lambda: editor.exec("bold", denied=["italic"]),
+            lambda: editor.select(Point(0, 0)),
+            lambda: editor.mark("note", Point(0, 0), Point(0, 0)),
+            lambda: editor.node(0),
+            lambda: editor.children(0),
+            lambda: editor.label_at(()),
+            lambda: editor.node_name(0),
+            lambda: editor.node_value(0),
+            lambda: editor.attributes(0),
+            editor.selection,
+            editor.counts,
+        ]
+        for call in calls:
+            self.assertIsInstance(in_another_thread(call), hedit.WrongThread)
+        editor.close()
+        for call in calls:
+            self.assertRaises(hedit.EditorClosed, call)
+
+
+class Points(unittest.TestCase):
+    def setUp(self) -> None:
+        self.editor = Editor(PAGE)
+        self.addCleanup(self.editor.close)
+        self.text = self.editor.label_at((0, 0))
+
+    def test_a_selection_goes_from_point_to_point(self) -> None:
+        self.assertIsNone(self.editor.selection())
+        self.editor.select(Point(self.text, 8), Point(self.text, 5))
+        self.assertEqual(self.editor.points(), "anchor 0/0:8\nfocus 0/0:5\n")
+        selection = self.editor.selection()
+        self.assertEqual(selection, Selection(Point(self.text, 8), Point(self.text, 5)))
+        self.editor.unselect()
+        self.assertIsNone(self.editor.selection())
+
+    def test_one_point_is_a_caret(self) -> None:
+        self.editor.select(Point(self.text, 4))
+        self.assertEqual(self.editor.points(), "anchor 0/0:4\nfocus 0/0:4\n")
+
+    def test_a_point_stands_beside_a_place(self) -> None:
+        self.editor.select(((0,), 0), Point(self.text, 4))
+        self.assertEqual(self.editor.points(), "anchor 0:0\nfocus 0/0:4\n")
+        self.editor.select(Point(self.text, 4), ((), 1))
+        self.assertEqual(self.editor.points(), "anchor 0/0:4\nfocus .:1\n")
+        with self.assertRaises(hedit.BadPlace):
+            self.editor.select(((7,), 0), Point(self.text, 4))
+
+    def test_points_are_marked(self) -> None:
+        self.editor.mark("note", Point(self.text, 0), Point(self.text, 4))
+        self.editor.mark("all", ((), 0), Point(self.text, 8))
+        self.assertEqual(self.editor.points(), "none\nmark note 0/0:0 0/0:4\nmark all .:0 0/0:8\n")
+        for number in range(14):
+            self.editor.mark(f"m{number}", *NAME)
+        with self.assertRaises(hedit.TooManyMarks):
+            self.editor.mark("m14", Point(self.text, 0), Point(self.text, 4))
+
+    def test_counts_are_those_of_the_line(self) -> None:
+        self.editor.select(*NAME)
+        for call in (lambda: True, lambda: self.editor.exec("bold"), self.editor.undo):
+            self.assertTrue(call())
+            names = ("nodes", "chars", "next", "edits", "undo", "redo")
+            counts = self.editor.counts()
+            told = (*counts[:1], counts.chars, counts.next_label, *counts[3:])
+            line = " ".join(f"{name} {number}" for name, number in zip(names, told))
+            self.assertEqual(self.editor.numbers(), f"{line}\n")
+        self.assertEqual((counts.nodes, counts.chars, counts.undo, counts.redo), (3, 8, 0, 1))
 
 
 class Causes(unittest.TestCase):

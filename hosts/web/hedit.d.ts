@@ -36,6 +36,10 @@ export type Question = ValueOf<typeof Question>;
 export declare const View: Readonly<{ HTML: 0; TREE: 1; POINTS: 2; NUMBERS: 3 }>;
 export type View = ValueOf<typeof View>;
 
+/** Kinds of nodes, with the numbers of DOM's nodeType. */
+export declare const NodeKind: Readonly<{ ELEMENT: 1; TEXT: 3; COMMENT: 8; DOCUMENT: 9 }>;
+export type NodeKind = ValueOf<typeof NodeKind>;
+
 /** Why a page is refused. */
 export declare const PageKind: Readonly<{
   NOT_UTF8: "not-utf8";
@@ -61,6 +65,45 @@ export interface Place {
   readonly offset: number;
 }
 
+/** The label of a node, and an offset in it. */
+export interface Point {
+  readonly label: number;
+  readonly offset: number;
+}
+
+export interface Selection {
+  readonly anchor: Point;
+  readonly focus: Point;
+}
+
+/** What a node is, with the labels of the nodes beside it, null where there is none. */
+export interface Node {
+  readonly label: number;
+  readonly kind: NodeKind;
+  /** Characters of a text or a comment, else children. */
+  readonly length: number;
+  readonly parent: number | null;
+  readonly firstChild: number | null;
+  readonly lastChild: number | null;
+  readonly previous: number | null;
+  readonly next: number | null;
+}
+
+/** The numbers of a page and of its history. */
+export interface Counts {
+  readonly nodes: number;
+  /** The label that the next node gets. */
+  readonly nextLabel: number;
+  /** Characters of the texts. */
+  readonly chars: number;
+  /** Of the step that undo would take. */
+  readonly edits: number;
+  /** Steps that can be undone. */
+  readonly undo: number;
+  /** Steps that can be redone. */
+  readonly redo: number;
+}
+
 export interface Limits {
   /** No node gets a number from here on. 2,000,000 by default. */
   readonly labelCap?: number;
@@ -80,7 +123,7 @@ export declare class PageRefused extends HeditError {
   readonly kind: PageKind;
 }
 
-/** A path names no node, or an offset is past its length or inside a character. */
+/** A path or a label names no node, or an offset is past its length or inside a character. */
 export declare class BadPlace extends HeditError {}
 
 /** 16 marks of other names are there. */
@@ -95,7 +138,7 @@ export declare class TooDeep extends HeditError {}
 /** There was no memory for the call. */
 export declare class OutOfMemory extends HeditError {}
 
-/** A number is outside its limits, or a text isn't Unicode. */
+/** A number is outside its limits, a text isn't Unicode, or a name that is denied is none. */
 export declare class BadArgument extends HeditError {}
 
 /** The editor is closed. */
@@ -117,8 +160,8 @@ export declare class Editor {
   /** Frees the editor's memory. Each other call is refused from then on. */
   close(): void;
 
-  /** Executes a command by its name, in any case. False where it isn't possible here. */
-  exec(name: Text, value?: Text): boolean;
+  /** Executes a command by its name, in any case. False where it isn't possible here, or is denied. */
+  exec(name: Text, value?: Text, denied?: Iterable<string>): boolean;
 
   /** Takes a step back. False where there is none. */
   undo(): boolean;
@@ -126,14 +169,14 @@ export declare class Editor {
   /** Takes a step forth again. False where there is none. */
   redo(): boolean;
 
-  /** Selects from a place to another, or puts the caret at one. */
-  select(anchor: Place, focus?: Place): void;
+  /** Selects from a place or a point to another, or puts the caret at one. */
+  select(anchor: Place | Point, focus?: Place | Point): void;
 
   /** Gives the selection up. */
   unselect(): void;
 
-  /** Gives a name to what is between two places; the mark goes along with the text. */
-  mark(name: Text, anchor: Place, focus: Place): void;
+  /** Gives a name to what is between two places or points; the mark goes along with the text. */
+  mark(name: Text, anchor: Place | Point, focus: Place | Point): void;
 
   /** Takes the mark of a name out. False where there is none. */
   unmark(name: Text): boolean;
@@ -169,13 +212,40 @@ export declare class Editor {
   /** The selection and the marks. */
   points(): string;
 
-  /** The numbers of the page and of the history. */
+  /** The numbers of the page and of the history, as a line. */
   numbers(): string;
+
+  /** The numbers of the page and of the history. */
+  counts(): Counts;
+
+  /** The points of the selection; null where nothing is selected. */
+  selection(): Selection | null;
+
+  /** The label of the node at a path. The document's is 0. */
+  labelAt(path: readonly number[]): number;
+
+  /** What the node of a label is. */
+  node(label: number): Node;
+
+  /** The labels of a node's children. The one that is given last may be removed meanwhile. */
+  children(label: number): IterableIterator<number>;
+
+  /** The name of an element, and an empty text for another node. */
+  nodeName(label: number): string;
+
+  /** The characters of a text or a comment, and an empty text for another node. */
+  nodeValue(label: number): string;
+
+  /** The attributes of a node, in their order. */
+  attributes(label: number): Map<string, string>;
 }
 
 /** The engine. Its editors share a memory, which grows as they need and is freed with the engine. */
 export declare class Engine {
   private constructor();
+
+  /** The version of the module; `VERSION` is that of hedit.js. */
+  version(): string;
 
   /** Opens a page. */
   open(page: Text, limits?: Limits): Editor;

@@ -13,6 +13,14 @@
  * down, and a count of children in an element, or of characters in a text. Characters are Unicode
  * code points, and JavaScript counts UTF-16 units: `toCharacters` and `toUnits` convert.
  *
+ * A point has in place of the path the label of the node: a number that it keeps for as long as the
+ * editor is open. The document's label is 0, and from there `children` leads to the others:
+ *
+ *     const show = (label = 0) => {
+ *       console.log(editor.node(label), editor.nodeName(label), editor.nodeValue(label));
+ *       for (const child of editor.children(label)) show(child);
+ *     };
+ *
  * A call that is refused throws a `HeditError`, with a class of its own for each cause, and leaves
  * the editor as it was.
  *
@@ -53,6 +61,11 @@ export const View = Object.freeze(
   /** @type {const} */ ({ HTML: 0, TREE: 1, POINTS: 2, NUMBERS: 3 }),
 );
 
+/** Kinds of nodes, with the numbers of DOM's nodeType. */
+export const NodeKind = Object.freeze(
+  /** @type {const} */ ({ ELEMENT: 1, TEXT: 3, COMMENT: 8, DOCUMENT: 9 }),
+);
+
 /** Why a page is refused: the program's words. */
 export const PageKind = Object.freeze(
   /** @type {const} */ ({
@@ -76,6 +89,36 @@ export const PageKind = Object.freeze(
  */
 
 /** @typedef {{ readonly path: readonly number[], readonly offset: number }} Place */
+
+/** @typedef {{ readonly label: number, readonly offset: number }} Point */
+
+/** @typedef {{ readonly anchor: Point, readonly focus: Point }} Selection */
+
+/**
+ * What a node is: the count of its characters or of its children, and the labels of the nodes beside
+ * it, null where there is none.
+ * @typedef {object} Node
+ * @property {number} label
+ * @property {typeof NodeKind[keyof typeof NodeKind]} kind
+ * @property {number} length
+ * @property {number | null} parent
+ * @property {number | null} firstChild
+ * @property {number | null} lastChild
+ * @property {number | null} previous
+ * @property {number | null} next
+ */
+
+/**
+ * The numbers of a page and of its history: `edits` are those of the step that undo would take, and
+ * `undo` and `redo` count steps.
+ * @typedef {object} Counts
+ * @property {number} nodes
+ * @property {number} nextLabel
+ * @property {number} chars
+ * @property {number} edits
+ * @property {number} undo
+ * @property {number} redo
+ */
 
 /**
  * No node gets a number from `labelCap` on (2,000,000 by default), and `undoDepth` commands can be
@@ -113,7 +156,7 @@ export class PageRefused extends HeditError {
   }
 }
 
-/** A path names no node, or an offset is past its length or inside a character. */
+/** A path or a label names no node, or an offset is past its length or inside a character. */
 export class BadPlace extends HeditError {
   name = "BadPlace";
   status = Status.BAD_PLACE;
@@ -163,7 +206,7 @@ export class OutOfMemory extends HeditError {
   }
 }
 
-/** A number is outside its limits, or a text isn't Unicode. */
+/** A number is outside its limits, a text isn't Unicode, or a name that is denied is none. */
 export class BadArgument extends HeditError {
   name = "BadArgument";
   status = Status.BAD_ARGUMENT;
@@ -296,13 +339,16 @@ export function toUnits(text, characters) {
 
 // The module.
 
+/** The label in the place of a node that isn't there. */
+const NO_NODE = 0xffff_ffff;
+
 /**
- * A number of a place.
+ * A number of a place: a step of a path, a label or an offset.
  * @param {number} number
  */
 function placeNumber(number) {
   if (!Number.isInteger(number)) {
-    throw new TypeError(`a path and an offset are integers, and not ${number}`);
+    throw new TypeError(`the numbers of a place are integers, and not ${number}`);
   }
   if (number < 0 || number > 0xffff_ffff) {
     throw new BadPlace();
@@ -331,6 +377,30 @@ function member(enumeration, value) {
     throw new BadArgument();
   }
   return value;
+}
+
+/**
+ * Names of commands as a text with a comma between, which without names is empty.
+ * @param {Iterable<string>} names
+ */
+function listOf(names) {
+  const each = typeof names === "string" ? [] : [...names];
+  if (typeof names === "string" || each.some((name) => typeof name !== "string")) {
+    throw new TypeError("the names are several strings");
+  }
+  if (each.includes("")) {
+    throw new BadArgument("a name of a command is empty");
+  }
+  return each.join(",");
+}
+
+/**
+ * Whether a place is a point.
+ * @param {Place | Point} place
+ * @returns {place is Point}
+ */
+function isPoint(place) {
+  return "label" in place;
 }
 
 /** What one call borrows of the module's memory. */
@@ -375,11 +445,19 @@ class Loan {
   }
 
   /**
+   * The pointer and the length of a path.
+   * @param {readonly number[]} path
+   */
+  path(path) {
+    return this.array(Uint32Array.from(path, placeNumber));
+  }
+
+  /**
    * The pointer and the length of a path, and the offset.
    * @param {Place} place
    */
   place({ path, offset }) {
-    return [...this.array(Uint32Array.from(path, placeNumber)), placeNumber(offset)];
+    return [...this.path(path), placeNumber(offset)];
   }
 
   /**
@@ -605,13 +683,52 @@ export class Editor {
   }
 
   /**
-   * Executes a command by its name, in any case. False where it isn't possible here, or refuses the
-   * value.
+   * What a call writes into a record of so many bytes; undefined where the answer is false.
+   * @param {string} name
+   * @param {number} size
+   * @param {(loan: Loan) => unknown[]} words
+   */
+  #record(name, size, words = () => []) {
+    return this.#library.borrow((loan) => {
+      const record = loan.room(size);
+      const status = this.#call(name, ...words(loan), record);
+      const bytes = this.#library.bytes(record, size);
+      return answer(status) ? new DataView(bytes.slice().buffer) : undefined;
+    });
+  }
+
+  /**
+   * The text of a call that takes a buffer; undefined where the answer is false.
+   * @param {string} name
+   * @param {number} capacity
+   * @param {unknown[]} words
+   */
+  #text(name, capacity, ...words) {
+    return this.#library.borrow((loan) => {
+      const { status, bytes } = loan.printed(capacity, (...buffer) =>
+        this.#call(name, ...words, ...buffer),
+      );
+      return answer(status) ? DECODER.decode(bytes) : undefined;
+    });
+  }
+
+  /**
+   * Executes a command by its name, in any case. False where it isn't possible here, refuses the
+   * value, or is denied: `denied` has up to 16 names of commands. What a command does inside itself
+   * isn't asked for.
    * @param {Text} name
    * @param {Text} value
+   * @param {Iterable<string>} denied
    */
-  exec(name, value = "") {
-    return answer(this.#status("hedit_exec", (loan) => [...loan.text(name), ...loan.text(value)]));
+  exec(name, value = "", denied = []) {
+    const names = listOf(denied);
+    return answer(
+      this.#status(names ? "hedit_exec_gated" : "hedit_exec", (loan) => [
+        ...(names ? loan.text(names) : []),
+        ...loan.text(name),
+        ...loan.text(value),
+      ]),
+    );
   }
 
   /** Takes a step back. False where there is none. */
@@ -625,12 +742,39 @@ export class Editor {
   }
 
   /**
-   * Selects from a place to another, or puts the caret at one.
-   * @param {Place} anchor
-   * @param {Place} focus
+   * A call between two places, and where one of them is a point, its like between points.
+   * @param {string} name
+   * @param {Place | Point} anchor
+   * @param {Place | Point} focus
+   * @param {(loan: Loan) => unknown[]} words
+   */
+  #between(name, anchor, focus, words = () => []) {
+    if (isPoint(anchor) || isPoint(focus)) {
+      const points = [...this.#point(anchor), ...this.#point(focus)];
+      answer(this.#status(`${name}_points`, (loan) => [...words(loan), ...points]));
+    } else {
+      const places = (/** @type {Loan} */ loan) => [...loan.place(anchor), ...loan.place(focus)];
+      answer(this.#status(name, (loan) => [...words(loan), ...places(loan)]));
+    }
+  }
+
+  /**
+   * The label and the offset of a point.
+   * @param {Place | Point} place
+   */
+  #point(place) {
+    const label = isPoint(place) ? placeNumber(place.label) : this.labelAt(place.path);
+    return [label, placeNumber(place.offset)];
+  }
+
+  /**
+   * Selects from a place or a point to another, or puts the caret at one. Between points its cost
+   * doesn't grow with the page.
+   * @param {Place | Point} anchor
+   * @param {Place | Point} focus
    */
   select(anchor, focus = anchor) {
-    answer(this.#status("hedit_select", (loan) => [...loan.place(anchor), ...loan.place(focus)]));
+    this.#between("hedit_select", anchor, focus);
   }
 
   /** Gives the selection up. */
@@ -639,19 +783,13 @@ export class Editor {
   }
 
   /**
-   * Gives a name to what is between two places; the mark goes along with the text.
+   * Gives a name to what is between two places or points; the mark goes along with the text.
    * @param {Text} name
-   * @param {Place} anchor
-   * @param {Place} focus
+   * @param {Place | Point} anchor
+   * @param {Place | Point} focus
    */
   mark(name, anchor, focus) {
-    answer(
-      this.#status("hedit_mark", (loan) => [
-        ...loan.text(name),
-        ...loan.place(anchor),
-        ...loan.place(focus),
-      ]),
-    );
+    this.#between("hedit_mark", anchor, focus, (loan) => loan.text(name));
   }
 
   /**
@@ -765,9 +903,129 @@ export class Editor {
     return this.view(View.POINTS);
   }
 
-  /** The numbers of the page and of the history. */
+  /** The numbers of the page and of the history, as a line; `counts` has them one by one. */
   numbers() {
     return this.view(View.NUMBERS);
+  }
+
+  /**
+   * The numbers of the page and of the history.
+   * @returns {Counts}
+   */
+  counts() {
+    const record = /** @type {DataView} */ (this.#record("hedit_numbers", 40));
+    const count = (/** @type {number} */ at) => Number(record.getBigUint64(at, true));
+    return {
+      nodes: record.getUint32(0, true),
+      nextLabel: record.getUint32(4, true),
+      chars: count(8),
+      edits: count(16),
+      undo: count(24),
+      redo: count(32),
+    };
+  }
+
+  /**
+   * The points of the selection; null where nothing is selected.
+   * @returns {Selection | null}
+   */
+  selection() {
+    const record = this.#record("hedit_selection", 16);
+    if (!record) {
+      return null;
+    }
+    const point = (/** @type {number} */ at) => ({
+      label: record.getUint32(at, true),
+      offset: record.getUint32(at + 4, true),
+    });
+    return { anchor: point(0), focus: point(8) };
+  }
+
+  /**
+   * The label of the node at a path. The document's is 0.
+   * @param {readonly number[]} path
+   */
+  labelAt(path) {
+    const record = this.#record("hedit_label_at", 4, (loan) => loan.path(path));
+    return /** @type {DataView} */ (record).getUint32(0, true);
+  }
+
+  /**
+   * What the node of a label is.
+   * @param {number} label
+   * @returns {Node}
+   */
+  node(label) {
+    const number = placeNumber(label);
+    const record = /** @type {DataView} */ (this.#record("hedit_node", 28, () => [number]));
+    const beside = (/** @type {number} */ at) => {
+      const there = record.getUint32(at, true);
+      return there === NO_NODE ? null : there;
+    };
+    return {
+      label,
+      kind: /** @type {Node["kind"]} */ (record.getUint32(0, true)),
+      length: record.getUint32(4, true),
+      parent: beside(8),
+      firstChild: beside(12),
+      lastChild: beside(16),
+      previous: beside(20),
+      next: beside(24),
+    };
+  }
+
+  /**
+   * The labels of a node's children, from the first to the last. The one that is given last may be
+   * removed meanwhile.
+   * @param {number} label
+   */
+  children(label) {
+    return this.#from(this.node(label).firstChild);
+  }
+
+  /**
+   * @param {number | null} label
+   * @returns {Generator<number, void>}
+   */
+  *#from(label) {
+    while (label !== null) {
+      const { next } = this.node(label);
+      yield label;
+      label = next;
+    }
+  }
+
+  /**
+   * The name of an element, and an empty text for another node.
+   * @param {number} label
+   */
+  nodeName(label) {
+    return /** @type {string} */ (this.#text("hedit_node_name", 64, placeNumber(label)));
+  }
+
+  /**
+   * The characters of a text or a comment, and an empty text for another node.
+   * @param {number} label
+   */
+  nodeValue(label) {
+    return /** @type {string} */ (this.#text("hedit_node_value", 1024, placeNumber(label)));
+  }
+
+  /**
+   * The attributes of a node, in their order.
+   * @param {number} label
+   * @returns {Map<string, string>}
+   */
+  attributes(label) {
+    const number = placeNumber(label);
+    const found = new Map();
+    for (let place = 0n; ; place += 1n) {
+      const name = this.#text("hedit_attribute_name", 64, number, place);
+      if (name === undefined) {
+        return found;
+      }
+      found.set(name, this.#text("hedit_attribute_value", 256, number, place));
+    }
   }
 
   static {
@@ -786,6 +1044,12 @@ export class Engine {
   /** @param {WebAssembly.Exports} exports those of hedit.wasm */
   constructor(exports) {
     this.#library = new Library(exports);
+  }
+
+  /** The version of the module; `VERSION` is that of this file. */
+  version() {
+    const number = this.#library.call("hedit_version");
+    return [number >> 16, (number >> 8) & 255, number & 255].join(".");
   }
 
   /**

@@ -2,9 +2,9 @@
  * node sessions.mjs FOLDER..: runs stored sessions (NNN.args, .stdin, .stdout, .status) through
  * hedit.js.
  *
- * Each goes through Engine.session, which has to give what is stored. Those of `run` without --deny
- * also go through an Editor, call by call: the lines that are acts for which it has calls, which
- * the engine has to answer as a session of these lines alone.
+ * Each goes through Engine.session, which has to give what is stored. Those of `run` also go through
+ * an Editor, call by call: the lines that are acts for which it has calls, which the engine has to
+ * answer as a session of these lines alone.
  */
 import { readFileSync, readdirSync } from "node:fs";
 import { join } from "node:path";
@@ -63,8 +63,11 @@ function query(editor, question, name) {
   return `${said}\n`;
 }
 
-/** The lines for which an Editor has calls, and what a session answers to them by these calls. */
-const ACTS = [
+/**
+ * The lines for which an Editor has calls, and what a session that denies some names answers to them
+ * by these calls.
+ */
+const actsPast = (denied) => [
   [`select ${POINT} ${POINT}`, (editor, ...parts) => {
     editor.select(place(...parts.slice(0, 2)), place(...parts.slice(2)));
     return "ok\n";
@@ -78,7 +81,8 @@ const ACTS = [
     return "ok\n";
   }],
   [`unmark ${NAME}`, (editor, name) => `${editor.unmark(name)}\n`],
-  [`exec ${NAME}(?: (.*))?`, (editor, name, value = "") => `${editor.exec(name, valueOf(value))}\n`],
+  [`exec ${NAME}(?: (.*))?`, (editor, name, value = "") =>
+    `${editor.exec(name, valueOf(value), denied)}\n`],
   [`query (enabled|indeterm|state|supported|value) ${NAME}`, query],
   ["(undo|redo) ([1-9][0-9]{0,8})", turns],
   ["html", (editor) => editor.html()],
@@ -88,11 +92,11 @@ const ACTS = [
 ].map(([line, reply]) => [new RegExp(`^(?:${line})$`, "su"), reply]);
 
 /** What answers a line by calls of an Editor; undefined where it has none for it. */
-function actOf(line) {
+function actOf(acts, line) {
   if (line === undefined || Buffer.byteLength(line) > 8192) {
     return undefined;
   }
-  for (const [pattern, reply] of ACTS) {
+  for (const [pattern, reply] of acts) {
     const found = pattern.exec(line);
     if (found) {
       const isExec = line.startsWith("exec ");
@@ -132,26 +136,30 @@ function linesOf(bytes) {
  * The transcript of the acts that an Editor has calls for, by these calls, and the session that has
  * these acts alone.
  */
-function byCalls(bytes, limits) {
+function byCalls(bytes, { denied, ...limits }) {
+  const known = actsPast(denied);
   const [opening, ...lines] = linesOf(bytes);
   const end = lines.indexOf(opening.replace(/^page <</, ""));
-  const acts = lines.slice(end + 1).filter((line) => actOf(line));
+  const acts = lines.slice(end + 1).filter((line) => actOf(known, line));
   const editor = engine.open(lines.slice(0, end).join("\n"), limits);
-  const transcript = acts.map((line) => replyOf(editor, actOf(line))).join("");
+  const transcript = acts.map((line) => replyOf(editor, actOf(known, line))).join("");
   editor.close();
   return [transcript, [opening, ...lines.slice(0, end + 1), ...acts, ""].join("\n")];
 }
 
-/** The limits that the words ask for; undefined where they ask for something else. */
+/** The limits and the denied names of the words; undefined where they ask for something else. */
 function limitsOf(words) {
   const names = { "--cap": "labelCap", "--undo": "undoDepth" };
   const rest = words.slice(1).join(" ").replaceAll("=", " ").split(" ").filter(Boolean);
-  const limits = {};
+  const limits = { denied: [] };
   for (let at = 0; at < rest.length; at += 2) {
-    if (!names[rest[at]] || !/^[0-9]+$/.test(rest[at + 1])) {
+    if (rest[at] === "--deny" && at + 1 < rest.length) {
+      limits.denied = rest[at + 1].split(",");
+    } else if (names[rest[at]] && /^[0-9]+$/.test(rest[at + 1])) {
+      limits[names[rest[at]]] = Number(rest[at + 1]);
+    } else {
       return undefined;
     }
-    limits[names[rest[at]]] = Number(rest[at + 1]);
   }
   return words[0] === "run" ? limits : undefined;
 }

@@ -8,7 +8,14 @@
         print(editor.html())
 
 A place is a path and an offset: the index of a child in each node on the way from the document
-down, and a count of characters in a text, or of children in an element.
+down, and a count of characters in a text, or of children in an element. A point is the label of a
+node in place of its path: a number that the node keeps for as long as the editor is open. The
+document's label is 0, and from there `children` leads to the others:
+
+    def show(editor: Editor, label: int = 0) -> None:
+        print(editor.node(label).kind.name, editor.node_name(label), editor.node_value(label))
+        for child in editor.children(label):
+            show(editor, child)
 
 A call that is refused raises a HeditError, with a class of its own for each cause, and leaves the
 editor as it was. An editor belongs to the thread that made it.
@@ -32,20 +39,26 @@ from ._errors import (
     TooManyMarks,
     WrongThread,
 )
-from ._library import __version__
+from ._library import __version__, version
+from ._nodes import Counts, Node, NodeKind, Point, Selection
 
 __all__ = [
     "BadArgument",
     "BadPlace",
+    "Counts",
     "Editor",
     "EditorClosed",
     "HeditError",
+    "Node",
+    "NodeKind",
     "OutOfMemory",
     "PageFull",
     "PageKind",
     "PageRefused",
     "Place",
+    "Point",
     "Question",
+    "Selection",
     "Status",
     "TooDeep",
     "TooManyMarks",
@@ -53,4 +66,5 @@ __all__ = [
     "WrongThread",
     "__version__",
     "session",
+    "version",
 ]

@@ -1,9 +1,10 @@
 """An editor of a page, and a session of the program as one call."""
 import ctypes
+import itertools
 import operator
 import threading
 import warnings
-from collections.abc import Callable, Iterable, Sequence
+from collections.abc import Callable, Iterable, Iterator, Sequence
 from enum import IntEnum
 from queue import SimpleQueue
 from typing import NoReturn, Self, SupportsIndex
@@ -18,7 +19,18 @@ from ._errors import (
     WrongThread,
     answer,
 )
-from ._library import LENGTH, NUMBER, Handle, Refusal, library
+from ._library import (
+    LENGTH,
+    NO_NODE,
+    NUMBER,
+    Handle,
+    NodeFacts,
+    NumberFacts,
+    Refusal,
+    SelectionFacts,
+    library,
+)
+from ._nodes import Counts, Node, NodeKind, Point, Selection
 
 Place = tuple[Sequence[int], int]
 
@@ -65,14 +77,40 @@ def text_words(text: str | bytes) -> tuple[bytes, int]:
     return text, len(text)
 
 
-def place_words(place: Place) -> tuple["ctypes.Array[ctypes.c_uint32]", int, int]:
-    """A place as the array of its path, the array's length and the offset. An empty path has an
-    array too, since no pointer may be null."""
-    path, offset = place
-    *steps, last = (operator.index(number) for number in (*path, offset))
-    if not all(0 <= number <= MOST_NUMBER for number in (*steps, last)):
+def place_number(value: SupportsIndex) -> int:
+    """A number of a place: a step of a path, a label or an offset."""
+    number = operator.index(value)
+    if not 0 <= number <= MOST_NUMBER:
         raise BadPlace
-    return (NUMBER * max(1, len(steps)))(*steps), len(steps), last
+    return number
+
+
+def path_words(path: Sequence[int]) -> tuple["ctypes.Array[ctypes.c_uint32]", int]:
+    """A path as an array and its length. An empty path has an array too, since no pointer may be
+    null."""
+    steps = [place_number(step) for step in path]
+    return (NUMBER * max(1, len(steps)))(*steps), len(steps)
+
+
+def place_words(place: Place) -> tuple["ctypes.Array[ctypes.c_uint32]", int, int]:
+    """A place as the array of its path, the array's length and the offset."""
+    path, offset = place
+    return *path_words(path), place_number(offset)
+
+
+def names_words(names: Iterable[str]) -> tuple[bytes, int]:
+    """Names of commands as a text with a comma between, which without names is empty."""
+    if isinstance(names, (str, bytes)):
+        raise TypeError(f"the names are several texts, and not one {type(names).__name__}")
+    each = list(names)
+    if not all(each):
+        raise BadArgument("a name of a command is empty")
+    return text_words(",".join(each))
+
+
+def node_there(label: int) -> int | None:
+    """A label that the library gives, where a node is there."""
+    return None if label == NO_NODE else label
 
 
 def limit(name: str, value: SupportsIndex, most: int) -> int:
@@ -156,10 +194,17 @@ class Editor:
         """Frees the editor's memory. Each other call is refused from then on."""
         self._call("hedit_close")
 
-    def exec(self, name: str | bytes, value: str | bytes = "") -> bool:
-        """Executes a command by its name, in any case. False where it isn't possible here, or
-        refuses the value."""
-        return answer(self._call("hedit_exec", *text_words(name), *text_words(value)))
+    def exec(
+        self, name: str | bytes, value: str | bytes = "", denied: Iterable[str] = ()
+    ) -> bool:
+        """Executes a command by its name, in any case. False where it isn't possible here, refuses
+        the value, or is denied: `denied` has up to 16 names of commands. What a command does inside
+        itself isn't asked for."""
+        names = names_words(denied)
+        words = (*text_words(name), *text_words(value))
+        if names[1]:
+            return answer(self._call("hedit_exec_gated", *names, *words))
+        return answer(self._call("hedit_exec", *words))
 
     def undo(self) -> bool:
         """Takes a step back. False where there is none."""
@@ -169,19 +214,36 @@ class Editor:
         """Takes a step forth again. False where there is none."""
         return answer(self._call("hedit_redo"))
 
-    def select(self, anchor: Place, focus: Place | None = None) -> None:
-        """Selects from a place to another, or puts the caret at one."""
-        places = place_words(anchor) + place_words(anchor if focus is None else focus)
-        answer(self._call("hedit_select", *places))
+    def _place_call(
+        self, name: str, words: tuple[object, ...], anchor: Place | Point, focus: Place | Point
+    ) -> None:
+        """A call between two places, and where one of them is a point, its like between points."""
+        places: tuple[object, ...]
+        if isinstance(anchor, Point) or isinstance(focus, Point):
+            name += "_points"
+            places = (*self._point(anchor), *self._point(focus))
+        else:
+            places = (*place_words(anchor), *place_words(focus))
+        answer(self._call(name, *words, *places))
+
+    def _point(self, place: Place | Point) -> Point:
+        if isinstance(place, Point):
+            return Point(place_number(place.label), place_number(place.offset))
+        path, offset = place
+        return Point(self.label_at(path), place_number(offset))
+
+    def select(self, anchor: Place | Point, focus: Place | Point | None = None) -> None:
+        """Selects from a place or a point to another, or puts the caret at one. Between points its
+        cost doesn't grow with the page."""
+        self._place_call("hedit_select", (), anchor, anchor if focus is None else focus)
 
     def unselect(self) -> None:
         """Gives the selection up."""
         answer(self._call("hedit_unselect"))
 
-    def mark(self, name: str | bytes, anchor: Place, focus: Place) -> None:
-        """Gives a name to what is between two places."""
-        places = place_words(anchor) + place_words(focus)
-        answer(self._call("hedit_mark", *text_words(name), *places))
+    def mark(self, name: str | bytes, anchor: Place | Point, focus: Place | Point) -> None:
+        """Gives a name to what is between two places or points."""
+        self._place_call("hedit_mark", text_words(name), anchor, focus)
 
     def unmark(self, name: str | bytes) -> bool:
         """Takes the mark of a name out. False where there is none."""
@@ -243,8 +305,82 @@ class Editor:
         return self.view(View.POINTS)
 
     def numbers(self) -> str:
-        """The numbers of the page and of the history."""
+        """The numbers of the page and of the history, as a line; counts() has them one by one."""
         return self.view(View.NUMBERS)
+
+    def counts(self) -> Counts:
+        """The numbers of the page and of the history."""
+        facts = NumberFacts()
+        answer(self._call("hedit_numbers", ctypes.byref(facts)))
+        return Counts(
+            facts.nodes, facts.next_label, facts.chars, facts.edits, facts.undo, facts.redo
+        )
+
+    def selection(self) -> Selection | None:
+        """The points of the selection; None where nothing is selected."""
+        facts = SelectionFacts()
+        if not answer(self._call("hedit_selection", ctypes.byref(facts))):
+            return None
+        return Selection(
+            Point(facts.anchor, facts.anchor_offset), Point(facts.focus, facts.focus_offset)
+        )
+
+    def label_at(self, path: Sequence[int]) -> int:
+        """The label of the node at a path. The document's is 0."""
+        label = NUMBER(0)
+        answer(self._call("hedit_label_at", *path_words(path), ctypes.byref(label)))
+        return label.value
+
+    def node(self, label: int) -> Node:
+        """What the node of a label is."""
+        facts = NodeFacts()
+        number = place_number(label)
+        answer(self._call("hedit_node", number, ctypes.byref(facts)))
+        return Node(
+            label=number,
+            kind=NodeKind(facts.kind),
+            length=facts.length,
+            parent=node_there(facts.parent),
+            first_child=node_there(facts.first_child),
+            last_child=node_there(facts.last_child),
+            previous=node_there(facts.previous),
+            next=node_there(facts.next),
+        )
+
+    def children(self, label: int) -> Iterator[int]:
+        """The labels of a node's children, from the first to the last. The one that is given last
+        may be removed meanwhile."""
+        return self._from(self.node(label).first_child)
+
+    def _from(self, label: int | None) -> Iterator[int]:
+        while label is not None:
+            following = self.node(label).next
+            yield label
+            label = following
+
+    def _text(self, name: str, capacity: int, *words: object) -> str | None:
+        """The text of a call that takes a buffer; None where the answer is false."""
+        status, text = read_text(lambda *buffer: self._call(name, *words, *buffer), capacity)
+        return text.decode() if answer(status) else None
+
+    def node_name(self, label: int) -> str:
+        """The name of an element, and an empty text for another node."""
+        return self._text("hedit_node_name", 64, place_number(label)) or ""
+
+    def node_value(self, label: int) -> str:
+        """The characters of a text or a comment, and an empty text for another node."""
+        return self._text("hedit_node_value", 1024, place_number(label)) or ""
+
+    def attributes(self, label: int) -> dict[str, str]:
+        """The attributes of a node, in their order."""
+        number = place_number(label)
+        found: dict[str, str] = {}
+        for place in itertools.count():
+            name = self._text("hedit_attribute_name", 64, number, place)
+            if name is None:
+                break
+            found[name] = self._text("hedit_attribute_value", 256, number, place) or ""
+        return found
 
 
 def session(text: str | bytes, words: Iterable[str] = ("run",)) -> tuple[Status, bytes]:

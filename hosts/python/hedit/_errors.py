@@ -65,7 +65,7 @@ class PageRefused(HeditError, ValueError):
 
 
 class BadPlace(HeditError, ValueError):
-    """A path names no node, or an offset is past its length."""
+    """A path or a label names no node, or an offset is past its length."""
 
     status = Status.BAD_PLACE
     words = "no such place"
@@ -100,7 +100,7 @@ class OutOfMemory(HeditError, MemoryError):
 
 
 class BadArgument(HeditError, ValueError):
-    """A number is outside its limits, or a text isn't UTF-8."""
+    """A number is outside its limits, a text isn't UTF-8, or a name that is denied is none."""
 
     status = Status.BAD_ARGUMENT
     words = "an argument means nothing"

@@ -3,6 +3,7 @@ import ctypes
 import functools
 import os
 from pathlib import Path
+from typing import Any
 
 __version__ = "0.9.0"
 
@@ -21,23 +22,80 @@ class Refusal(ctypes.Structure):
 
 NUMBER = ctypes.c_uint32
 LENGTH = ctypes.c_size_t
+
+# The label in the place of a node that isn't there.
+NO_NODE = 2**32 - 1
+
+
+class NodeFacts(ctypes.Structure):
+    """What a node is, with the labels of those beside it."""
+
+    _fields_ = [
+        ("kind", NUMBER),
+        ("length", NUMBER),
+        ("parent", NUMBER),
+        ("first_child", NUMBER),
+        ("last_child", NUMBER),
+        ("previous", NUMBER),
+        ("next", NUMBER),
+    ]
+
+
+class SelectionFacts(ctypes.Structure):
+    """The points of the selection."""
+
+    _fields_ = [
+        ("anchor", NUMBER),
+        ("anchor_offset", NUMBER),
+        ("focus", NUMBER),
+        ("focus_offset", NUMBER),
+    ]
+
+
+class NumberFacts(ctypes.Structure):
+    """The numbers of a page and of its history."""
+
+    _fields_ = [
+        ("nodes", NUMBER),
+        ("next_label", NUMBER),
+        ("chars", ctypes.c_uint64),
+        ("edits", LENGTH),
+        ("undo", LENGTH),
+        ("redo", LENGTH),
+    ]
+
+
 TEXT = [ctypes.c_char_p, LENGTH]
-PLACE = [ctypes.POINTER(NUMBER), LENGTH, NUMBER]
+PATH = [ctypes.POINTER(NUMBER), LENGTH]
+PLACE = [*PATH, NUMBER]
+POINT = [NUMBER, NUMBER]
 BUFFER = [ctypes.c_char_p, LENGTH, ctypes.POINTER(LENGTH)]
 EDITOR = [ctypes.POINTER(Handle)]
 
-CALLS = {
+CALLS: dict[str, list[Any]] = {
+    "hedit_version": [],
     "hedit_open": [*EDITOR, *TEXT, NUMBER, LENGTH, ctypes.POINTER(Refusal)],
     "hedit_close": EDITOR,
     "hedit_exec": EDITOR + TEXT + TEXT,
+    "hedit_exec_gated": EDITOR + TEXT + TEXT + TEXT,
     "hedit_undo": EDITOR,
     "hedit_redo": EDITOR,
     "hedit_select": EDITOR + PLACE + PLACE,
+    "hedit_select_points": EDITOR + POINT + POINT,
     "hedit_unselect": EDITOR,
     "hedit_mark": EDITOR + TEXT + PLACE + PLACE,
+    "hedit_mark_points": EDITOR + TEXT + POINT + POINT,
     "hedit_unmark": EDITOR + TEXT,
     "hedit_query": [*EDITOR, NUMBER, *TEXT, ctypes.POINTER(NUMBER), *BUFFER],
     "hedit_view": [*EDITOR, NUMBER, *BUFFER],
+    "hedit_node": [*EDITOR, NUMBER, ctypes.POINTER(NodeFacts)],
+    "hedit_label_at": [*EDITOR, *PATH, ctypes.POINTER(NUMBER)],
+    "hedit_node_name": [*EDITOR, NUMBER, *BUFFER],
+    "hedit_node_value": [*EDITOR, NUMBER, *BUFFER],
+    "hedit_attribute_name": [*EDITOR, NUMBER, LENGTH, *BUFFER],
+    "hedit_attribute_value": [*EDITOR, NUMBER, LENGTH, *BUFFER],
+    "hedit_selection": [*EDITOR, ctypes.POINTER(SelectionFacts)],
+    "hedit_numbers": [*EDITOR, ctypes.POINTER(NumberFacts)],
     "hedit_session_with_words": TEXT + TEXT + BUFFER,
 }
 
@@ -69,3 +127,9 @@ def library() -> ctypes.CDLL:
         call.argtypes = types
         call.restype = None if name == "hedit_close" else NUMBER
     return loaded
+
+
+def version() -> str:
+    """The version of the library that is loaded; `__version__` is that of the package."""
+    number: int = library().hedit_version()
+    return f"{number >> 16}.{number >> 8 & 255}.{number & 255}"

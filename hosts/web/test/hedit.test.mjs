@@ -5,7 +5,7 @@ import { describe, it } from "node:test";
 import { BYTES, collect, withMorePages } from "./engine.mjs";
 import * as hedit from "../hedit.js";
 
-const { PageKind, Question, Status, View, load, toCharacters, toUnits } = hedit;
+const { NodeKind, PageKind, Question, Status, View, load, toCharacters, toUnits } = hedit;
 
 const engine = await load(BYTES);
 
@@ -35,12 +35,14 @@ describe("the header", async () => {
 
   it("has the version", () => {
     assert.ok(header.includes(`#define HEDIT_VERSION "${hedit.VERSION}"\n`));
+    assert.equal(engine.version(), hedit.VERSION);
   });
 
   it("has the numbers of the enumerations", () => {
     assert.deepEqual({ ...Status }, enumeration("hedit_status", ""));
     assert.deepEqual({ ...Question }, enumeration("hedit_question", ""));
     assert.deepEqual({ ...View }, enumeration("hedit_view_kind", ""));
+    assert.deepEqual({ ...NodeKind }, enumeration("hedit_node_kind", ""));
     const kinds = enumeration("hedit_page_kind", "PAGE_");
     assert.deepEqual(Object.keys(PageKind).map((key) => kinds[key]), [...Array(12).keys()].slice(1));
     for (const [key, word] of Object.entries(PageKind)) {
@@ -50,7 +52,7 @@ describe("the header", async () => {
 
   it("has the calls that the module exports, which imports nothing", () => {
     const module = new WebAssembly.Module(BYTES);
-    const names = new Set(header.match(/\bhedit_\w+(?=\()/g));
+    const names = [...header.matchAll(/^\w+ (hedit_\w+)\(/gm)].map(([, name]) => name);
     const exported = WebAssembly.Module.exports(module).map(({ name }) => name);
     assert.deepEqual(new Set(exported), new Set([...names, "memory", "allocate", "release"]));
     assert.deepEqual(WebAssembly.Module.imports(module), []);
@@ -74,7 +76,7 @@ describe("hedit.d.ts", async () => {
   });
 
   it("has the numbers and the words", () => {
-    for (const name of ["Status", "Question", "View", "PageKind"]) {
+    for (const name of ["Status", "Question", "View", "NodeKind", "PageKind"]) {
       const [body] = types.split(`const ${name}: Readonly<{`)[1].split("}>");
       const members = [...body.matchAll(/(\w+): ([^;]+);?/g)];
       const values = members.map(([, key, value]) => [key, JSON.parse(value)]);
@@ -183,6 +185,180 @@ describe("an editor", () => {
   });
 });
 
+describe("denied names", () => {
+  const open = (t) => {
+    const editor = engine.open(PAGE);
+    t.after(() => editor.close());
+    editor.select(...NAME);
+    return editor;
+  };
+
+  it("do nothing", (t) => {
+    const editor = open(t);
+    for (const denied of [["bold"], ["italic", "BOLD"], new Set(["Bold"])]) {
+      assert.equal(editor.exec("bold", "", denied), false);
+    }
+    assert.equal(editor.html(), '<p contenteditable="">Call Ann</p>\n');
+    assert.equal(editor.exec("bold", "", ["italic", "insertImage"]), true);
+    assert.equal(editor.undo(), true);
+    assert.equal(editor.exec("createLink", "tel:1", []), true);
+  });
+
+  it("are refused where they are none", (t) => {
+    const editor = open(t);
+    const names = Array.from({ length: 17 }, (_, number) => `n${number}`);
+    for (const denied of [[""], ["bold", ""], ["a b"], ["a_b"], ["é"], ["x".repeat(65)], names]) {
+      refused(() => editor.exec("bold", "", denied), "BadArgument", Status.BAD_ARGUMENT);
+    }
+    for (const denied of ["bold", [7], null, 7, new Uint8Array([98])]) {
+      assert.throws(() => editor.exec("bold", "", denied), TypeError);
+    }
+    assert.equal(editor.exec("bold", "", [...names.slice(1), "N1"]), true);
+  });
+});
+
+describe("nodes", () => {
+  const NODES = '<!--n--><p contenteditable><i class="x&amp;y" lang>é😀</i>b</p>';
+
+  const open = (t, page = NODES) => {
+    const editor = engine.open(page);
+    t.after(() => editor.close());
+    return editor;
+  };
+
+  /** A node and what is below it, as nested arrays. */
+  const told = (editor, label) => {
+    const { kind, length, ...node } = editor.node(label);
+    const children = [...editor.children(label)];
+    assert.equal(node.label, label);
+    assert.equal(node.firstChild, children[0] ?? null);
+    assert.equal(node.lastChild, children.at(-1) ?? null);
+    for (const [place, child] of children.entries()) {
+      const { parent, previous, next } = editor.node(child);
+      const beside = [label, children[place - 1] ?? null, children[place + 1] ?? null];
+      assert.deepEqual([parent, previous, next], beside);
+    }
+    const attributes = [...editor.attributes(label)].map(([name, value]) => `${name}=${value}`);
+    const texts = [editor.nodeName(label), editor.nodeValue(label), ...attributes];
+    return [kind, length, texts.join(" "), ...children.map((child) => told(editor, child))];
+  };
+
+  it("are walked by their labels", (t) => {
+    const editor = open(t);
+    const italic = [NodeKind.ELEMENT, 1, "i  class=x&y lang=", [NodeKind.TEXT, 2, " é😀"]];
+    const paragraph = [NodeKind.ELEMENT, 2, "p  contenteditable=", italic, [NodeKind.TEXT, 1, " b"]];
+    const comment = [NodeKind.COMMENT, 1, " n"];
+    assert.deepEqual(told(editor, 0), [NodeKind.DOCUMENT, 2, " ", comment, paragraph]);
+    assert.equal(editor.labelAt([]), 0);
+    const { parent, previous, next } = editor.node(0);
+    assert.deepEqual([parent, previous, next], [null, null, null]);
+  });
+
+  it("keep their labels", (t) => {
+    const editor = open(t);
+    const text = editor.labelAt([1, 1]);
+    const selection = { anchor: { label: text, offset: 0 }, focus: { label: text, offset: 1 } };
+    editor.select(selection.anchor, selection.focus);
+    assert.equal(editor.exec("bold"), true);
+    const bold = editor.labelAt([1, 1]);
+    assert.deepEqual([editor.nodeName(bold), editor.node(bold).firstChild], ["b", text]);
+    assert.equal(editor.labelAt([1, 1, 0]), text);
+    assert.deepEqual(editor.selection(), selection);
+    assert.equal(editor.undo(), true);
+    assert.equal(editor.labelAt([1, 1]), text);
+    refused(() => editor.node(bold), "BadPlace", Status.BAD_PLACE);
+    assert.equal(editor.redo(), true);
+    assert.equal(editor.labelAt([1, 1]), bold);
+    assert.equal(editor.node(text).parent, bold);
+  });
+
+  it("may go while their parent's children are asked for", (t) => {
+    const editor = open(t, "<p contenteditable>a<i>b</i></p>");
+    editor.select(at([0, 0], 0), at([0, 0], 1));
+    editor.exec("bold");
+    const children = editor.children(editor.labelAt([0]));
+    const bold = children.next().value;
+    assert.equal(editor.undo(), true);
+    refused(() => editor.node(bold), "BadPlace", Status.BAD_PLACE);
+    assert.deepEqual([...children], [editor.labelAt([0, 1])]);
+  });
+
+  it("are selected and marked by points", (t) => {
+    const editor = open(t, PAGE);
+    const text = editor.labelAt([0, 0]);
+    const point = (offset) => ({ label: text, offset });
+    assert.equal(editor.selection(), null);
+    editor.select(point(8), point(5));
+    assert.equal(editor.points(), "anchor 0/0:8\nfocus 0/0:5\n");
+    assert.deepEqual(editor.selection(), { anchor: point(8), focus: point(5) });
+    editor.select(point(4));
+    assert.equal(editor.points(), "anchor 0/0:4\nfocus 0/0:4\n");
+    editor.select(at([0], 0), point(4));
+    assert.equal(editor.points(), "anchor 0:0\nfocus 0/0:4\n");
+    editor.select(point(4), at([], 1));
+    assert.equal(editor.points(), "anchor 0/0:4\nfocus .:1\n");
+    editor.unselect();
+    assert.equal(editor.selection(), null);
+    editor.mark("note", point(0), point(4));
+    editor.mark("all", at([], 0), point(8));
+    assert.equal(editor.points(), "none\nmark note 0/0:0 0/0:4\nmark all .:0 0/0:8\n");
+    for (let number = 0; number < 14; number += 1) {
+      editor.mark(`m${number}`, ...NAME);
+    }
+    const mark = () => editor.mark("m14", point(0), point(4));
+    refused(mark, "TooManyMarks", Status.TOO_MANY_MARKS);
+  });
+
+  it("are counted as in the line of numbers", (t) => {
+    const editor = open(t, PAGE);
+    editor.select(...NAME);
+    for (const call of [() => true, () => editor.exec("bold"), () => editor.undo()]) {
+      assert.equal(call(), true);
+      const { nodes, chars, nextLabel, edits, undo, redo } = editor.counts();
+      const line = `nodes ${nodes} chars ${chars} next ${nextLabel} edits ${edits} undo ${undo} redo ${redo}\n`;
+      assert.equal(editor.numbers(), line);
+    }
+    const { nodes, chars, undo, redo } = editor.counts();
+    assert.deepEqual([nodes, chars, undo, redo], [3, 8, 0, 1]);
+  });
+
+  it("have texts that are longer than the room", (t) => {
+    const editor = open(t, `<p title="${"t".repeat(5_000)}">${"ü".repeat(20_000)}</p>`);
+    assert.equal(editor.nodeValue(editor.labelAt([0, 0])), "ü".repeat(20_000));
+    const attributes = editor.attributes(editor.labelAt([0]));
+    assert.deepEqual([...attributes], [["title", "t".repeat(5_000)]]);
+  });
+
+  it("are refused where they are none", (t) => {
+    const editor = open(t, PAGE);
+    const calls = [
+      (label) => editor.node(label),
+      (label) => editor.children(label),
+      (label) => editor.nodeName(label),
+      (label) => editor.nodeValue(label),
+      (label) => editor.attributes(label),
+      (label) => editor.select({ label, offset: 0 }),
+      (label) => editor.select(at([0], 0), { label, offset: 0 }),
+      (label) => editor.mark("note", { label, offset: 0 }, at([0], 0)),
+    ];
+    for (const call of calls) {
+      for (const label of [2 ** 32, 2 ** 32 - 1, -1, 3]) {
+        refused(() => call(label), "BadPlace", Status.BAD_PLACE);
+      }
+      for (const label of [0.5, NaN, "0", null, undefined, 1n]) {
+        assert.throws(() => call(label), TypeError);
+      }
+    }
+    for (const offset of [9, 2 ** 32, -1]) {
+      refused(() => editor.select({ label: 2, offset }), "BadPlace", Status.BAD_PLACE);
+    }
+    for (const path of [[7], [0, 2 ** 32], [-1], [0, 0, 0]]) {
+      refused(() => editor.labelAt(path), "BadPlace", Status.BAD_PLACE);
+    }
+    assert.equal(editor.points(), "none\n");
+  });
+});
+
 describe("a cause has a class", () => {
   const open = (t, page, limits) => {
     const editor = engine.open(page, limits);
@@ -283,6 +459,17 @@ describe("a cause has a class", () => {
       () => editor.unmark("note"),
       () => editor.state("bold"),
       () => editor.html(),
+      () => editor.exec("bold", "", ["italic"]),
+      () => editor.select({ label: 0, offset: 0 }),
+      () => editor.mark("note", { label: 0, offset: 0 }, at([], 0)),
+      () => editor.counts(),
+      () => editor.selection(),
+      () => editor.labelAt([]),
+      () => editor.node(0),
+      () => editor.children(0),
+      () => editor.nodeName(0),
+      () => editor.nodeValue(0),
+      () => editor.attributes(0),
     ];
     for (const call of calls) {
       refused(call, "EditorClosed", Status.CLOSED);
@@ -387,8 +574,12 @@ describe("many editors", () => {
     const edit = () => {
       const editor = other.open(page);
       editor.select(at([0, 0, 0], 0), at([0, 1999, 0], 4));
-      editor.exec("bold");
+      editor.exec("bold", "", ["italic"]);
       editor.html();
+      const [host] = editor.children(0);
+      editor.attributes(host);
+      editor.select({ label: host, offset: 0 });
+      assert.throws(() => editor.node(2 ** 32 - 1), hedit.BadPlace);
       editor.close();
       assert.throws(() => other.open("<p>"), hedit.PageRefused);
     };

@@ -1,0 +1,54 @@
+"""What is told of nodes by their labels, of the selection and of the numbers of a page."""
+from dataclasses import dataclass
+from enum import IntEnum
+from typing import NamedTuple
+
+
+class NodeKind(IntEnum):
+    """Kinds of nodes, with the numbers of DOM's nodeType."""
+
+    ELEMENT = 1
+    TEXT = 3
+    COMMENT = 8
+    DOCUMENT = 9
+
+
+class Point(NamedTuple):
+    """The label of a node, and an offset in it."""
+
+    label: int
+    offset: int
+
+
+class Selection(NamedTuple):
+    """The points of a selection."""
+
+    anchor: Point
+    focus: Point
+
+
+@dataclass(frozen=True, slots=True)
+class Node:
+    """What a node is: the count of its characters or of its children, and the labels of the nodes
+    beside it, None where there is none."""
+
+    label: int
+    kind: NodeKind
+    length: int
+    parent: int | None
+    first_child: int | None
+    last_child: int | None
+    previous: int | None
+    next: int | None
+
+
+class Counts(NamedTuple):
+    """The numbers of a page and of its history: `edits` are those of the step that undo would take,
+    `undo` and `redo` count steps."""
+
+    nodes: int
+    next_label: int
+    chars: int
+    edits: int
+    undo: int
+    redo: int
