@@ -1,7 +1,8 @@
 #!/usr/bin/env python3
-"""Whether names can be chosen that make a page dear: instructions by callgrind, over pages of names that a stranger would choose.
+"""Whether names can be chosen that make a page dear: instructions by callgrind, over pages with names that a stranger would choose.
 
-Usage: bench/names.py [--million N ..] [--seconds N] [PROGRAM]   (valgrind is needed; PROGRAM is crates/hedit/out/hedit unless given)
+Usage: bench/names.py [--million N ..] [--seconds N] [--clock] [PROGRAM]   (PROGRAM is crates/hedit/out/hedit unless given)
+Valgrind is needed, or with --clock, which takes seconds of processor in place of instructions, nothing else.
 
 Two parts: one tag with as many attributes as fit, under `check`; and one style with as many declarations, under `run` with a command
 that sets a property of that style. Each at 1 MB and at 4 MB, in these forms:
@@ -18,6 +19,7 @@ more seconds than are given.
 """
 import argparse
 import random
+import resource
 import subprocess
 import sys
 import tempfile
@@ -42,12 +44,11 @@ def spread(state, number, width):
     return joined(state ^ (number * copies & MASK), FACTOR ^ 2 * width)
 
 
-def group(name, width, groups):
-    """Where a name's search in a table of so many groups begins: its length and then each character are taken into the hash."""
-    state = spread(START, len(name), 8)
-    for character in name:
+def taken_in(state, text, width):
+    """The state after each character of a text."""
+    for character in text:
         state = spread(state, ord(character), width)
-    return (state ^ state >> 32) & (groups - 1)
+    return state
 
 
 def groups_for(count):
@@ -71,16 +72,20 @@ def word(rng, length):
 
 
 def colliding(rng, count, length, width):
-    """Names that begin their search in the first sixteenth of the table, and of each smaller table that it grew from."""
+    """Names whose search begins in the first sixteenth of the table: their length and then each character are taken into the hash, and
+    its lowest bits say where."""
     groups = groups_for(count)
+    begun = spread(START, length, 8)
     names = {}
     while len(names) < count:
         head = word(rng, length - 2)
+        state = taken_in(begun, head, width)
         for a in LETTERS:
+            further = taken_in(state, a, width)
             for b in LETTERS:
-                name = head + a + b
-                if group(name, width, groups) < groups // 16:
-                    names[name] = None
+                last = taken_in(further, b, width)
+                if (last ^ last >> 32) & (groups - 1) < groups // 16:
+                    names[head + a + b] = None
     return list(names)[:count]
 
 
@@ -125,25 +130,41 @@ def style(names):
     return "\n".join(["page <<END", page, "END", *acts, ""])
 
 
-def instructions(program, word, text, seconds, work):
-    """What callgrind counts, or None where the program takes longer."""
+def measured(command, text, seconds, work):
+    """The seconds of processor that a command takes with this input, or None where it takes longer than is given."""
     (work / "input").write_text(text)
-    command = ["valgrind", "--tool=callgrind", "--callgrind-out-file=/dev/null", program, word]
-    with open(work / "input", "rb") as given, open(work / "output", "wb") as output, open(work / "count", "wb") as count:
+    before = resource.getrusage(resource.RUSAGE_CHILDREN)
+    with open(work / "input", "rb") as given, open(work / "output", "wb") as output, open(work / "told", "wb") as told:
         try:
-            subprocess.run(command, stdin=given, stdout=output, stderr=count, timeout=seconds)
+            subprocess.run(command, stdin=given, stdout=output, stderr=told, timeout=seconds)
         except subprocess.TimeoutExpired:
             return None
-    for line in (work / "count").read_text(errors="replace").splitlines():
+    after = resource.getrusage(resource.RUSAGE_CHILDREN)
+    return after.ru_utime - before.ru_utime
+
+
+def cost(program, act, text, given, work):
+    """What a page costs, or None where it takes longer than is given."""
+    if given.clock:
+        return measured([program, act], text, given.seconds, work)
+    callgrind = ["valgrind", "--tool=callgrind", "--callgrind-out-file=/dev/null", program, act]
+    if measured(callgrind, text, given.seconds, work) is None:
+        return None
+    for line in (work / "told").read_text(errors="replace").splitlines():
         if "Collected" in line:
             return int(line.split()[-1])
-    sys.exit(f"valgrind counted nothing of {program} {word}")
+    sys.exit(f"valgrind counted nothing of {program} {act}")
+
+
+def shown(taken):
+    return "too long" if taken is None else f"{taken:.2f} seconds" if isinstance(taken, float) else f"{taken} instructions"
 
 
 def main():
     parser = argparse.ArgumentParser(description=__doc__, formatter_class=argparse.RawDescriptionHelpFormatter)
-    parser.add_argument("--million", type=int, nargs="+", default=[1, 4], help="the millions of bytes of a page")
-    parser.add_argument("--seconds", type=int, default=600, help="the most that one page may take under callgrind")
+    parser.add_argument("--million", type=float, nargs="+", default=[1, 4], help="the millions of bytes of a page")
+    parser.add_argument("--seconds", type=int, default=600, help="the most that one page may take")
+    parser.add_argument("--clock", action="store_true", help="take seconds of processor in place of instructions")
     parser.add_argument("program", nargs="?", default=Path(__file__).resolve().parent.parent / "crates/hedit/out/hedit")
     given = parser.parse_args()
     rng = random.Random(1)
@@ -153,12 +174,12 @@ def main():
         for part, act, written, extra, width in parts:
             for millions in given.million:
                 plain = {}
-                for form, length, names, count in forms(rng, millions * 1_000_000, extra, width):
+                for form, length, names, count in forms(rng, int(millions * 1_000_000), extra, width):
                     if length not in plain:
                         text = written(drawn(rng, count, length))
-                        plain[length] = instructions(given.program, act, text, given.seconds, Path(folder))
-                        print(f"{part}, {millions} MB, {count} names of {length} characters: {plain[length]}", flush=True)
-                    taken = instructions(given.program, act, written(names), given.seconds, Path(folder))
+                        plain[length] = cost(given.program, act, text, given, Path(folder))
+                        print(f"{part}, {millions:g} MB, {count} names of {length} characters: {shown(plain[length])}", flush=True)
+                    taken = cost(given.program, act, written(names), given, Path(folder))
                     if taken is None or plain[length] is None:
                         told, bad = f"more than {given.seconds} seconds", True
                     else:
