@@ -1,11 +1,10 @@
 -- Pairs in order and the list of declarations that they stand for change together.
 use Rattle.std.proofs.Common.{◌≡◌, ℕ, zero, suc, ◌+◌, Bool, true, false, true≢false, cond, List, [], ◌∷◌, ◌++◌, take, drop, slice_get, Some, refl, sym, ap, subst, ◌∙◌, arith, bytes_eq, fold, Result, Ok, Err, OnOk, OnErr}
-use Rattle.std.specs.List.{IsDistinct, AllByRecursion, remove}
+use Rattle.std.specs.List.{remove}
 use Rattle.std.specs.Option.{option_map}
-use Rattle.std.specs.Map.{keys_of}
 use Rattle.std.specs.declared.vec.Vec.{Vec}
 use Rattle.css_value.specs.StyleText.{Declaration, stated, trimmed}
-use Rattle.css_value.specs.DeclarationList.{value_of, set_in, unset_in, set_property, with_declaration, declarations_in, names_of, reads_back}
+use Rattle.css_value.specs.DeclarationList.{value_of, set_in, unset_in, set_property, with_declaration, declarations_in, reads_back}
 use Rattle.css_value.specs.DeclarationMap.{declarations_of, is_entry, EachReadsBack}
 use Rattle.css_value.proofs.Names.{same-name}
 use Rattle.css_value.proofs.ReadBack.{stated-back}

@@ -1,5 +1,5 @@
 -- The names of a list of declarations, and their places.
-use Rattle.std.proofs.Common.{◌≡◌, ℕ, Bool, true, false, true≢false, cond, zero, suc, ◌+◌, List, [], ◌∷◌, ◌++◌, Option, Some, None, is_some, refl, sym, ap, subst, ◌∙◌, length, set, slice_get, nat_cmp, is_eq, Ordering, Less, Equal, Greater, Decides, bytes_eq, MatchOption, IfSome, OnOk, OnErr, Result, Ok, Err}
+use Rattle.std.proofs.Common.{◌≡◌, ℕ, Bool, true, false, true≢false, cond, zero, suc, ◌<◌, get_or, arith, List, [], ◌∷◌, ◌++◌, Option, Some, None, is_some, refl, sym, ap, subst, ◌∙◌, length, set, slice_get, nat_cmp, is_eq, Ordering, Less, Equal, Greater, Decides, bytes_eq, OnOk, OnErr, Result, Ok, Err}
 use Rattle.std.specs.List.{IsDistinct, AllByRecursion}
 use Rattle.std.specs.Map.{lookup}
 use Rattle.std.specs.Ordering.{match_ordering}
@@ -10,7 +10,7 @@ use Rattle.std.proofs.lemmas.Slice.Eq.{bytes_eq-Decides}
 use Rattle.std.proofs.lemmas.Map.Text.{is_eq-slice_cmp}
 use Rattle.css_value.specs.StyleText.{Declaration}
 use Rattle.css_value.specs.DeclarationList.{value_of, set_in, unset_in, names_of}
-use Rattle.css_value.specs.DeclarationMap.{declarations_of, is_entry, EachReadsBack, IsStyle, place_in, IsPlaced}
+use Rattle.css_value.specs.DeclarationMap.{declarations_of, is_entry, place_in, IsPlaced}
 use Rattle.css_value.proofs.Names.{same-name, name-is}
 
 turned : (a b : List ℕ) → bytes_eq a b ≡ false → bytes_eq b a ≡ false
@@ -30,8 +30,8 @@ module _ (P : List ℕ → Type 0) where
   all-set [] name value all own = (own, tt)
   all-set (d ∷ list) name value all own = by_test (bytes_eq name d.name) (all-set list name value all.1 own)
     where
-      by_test : (b : Bool) → AllNamed (set_in list name value) → AllNamed (cond b (record { name = name; value = value } ∷ list) (d ∷ set_in list name value))
-      by_test true more = (own, all.1)
+      by_test : (b : Bool) → AllNamed (set_in list name value) → AllNamed (cond b (record { name = d.name; value = value } ∷ list) (d ∷ set_in list name value))
+      by_test true more = all
       by_test false more = (all.0, more)
 
   all-unset : (list : List Declaration) (name : List ℕ) → AllNamed list → AllNamed (unset_in list name)
@@ -57,8 +57,8 @@ unfolding IsDistinct
 distinct-set [] name value distinct = (tt, tt)
 distinct-set (d ∷ list) name value distinct = by_test (bytes_eq name d.name) refl (distinct-set list name value distinct.1)
   where
-    by_test : (b : Bool) → bytes_eq name d.name ≡ b → IsDistinct bytes_eq (names_of (set_in list name value)) → IsDistinct bytes_eq (names_of (cond b (record { name = name; value = value } ∷ list) (d ∷ set_in list name value)))
-    by_test true is more = (subst (λ own. AllByRecursion (λ other. bytes_eq own other ≡ false) (names_of list)) (sym (same-name name d.name is)) distinct.0, distinct.1)
+    by_test : (b : Bool) → bytes_eq name d.name ≡ b → IsDistinct bytes_eq (names_of (set_in list name value)) → IsDistinct bytes_eq (names_of (cond b (record { name = d.name; value = value } ∷ list) (d ∷ set_in list name value)))
+    by_test true is more = distinct
     by_test false is more = (all-set (λ other. bytes_eq d.name other ≡ false) list name value distinct.0 (turned name d.name is), more)
 
 pub distinct-unset : (list : List Declaration) (name : List ℕ) → IsDistinct bytes_eq (names_of list) → IsDistinct bytes_eq (names_of (unset_in list name))
@@ -90,13 +90,26 @@ module _ {A B : Type 0} where
       let own : f.0.items ≡ name = (let t = named in cc) in
       let put : List ℕ → Declaration = λ n. record { name = n; value = value.items } in
       let d : Declaration = record { name = f.0.items; value = f.1.items } in
-      ap (λ n. put n ∷ declarations_of es) (ap (λ (x : Vec ℕ A × Vec ℕ B). x.0.items) (sym same) ∙ own)
-      ∙ sym (ap (λ b. cond b (put name ∷ declarations_of es) (d ∷ set_in (declarations_of es) name value.items)) ((bytes_eq-Decides name f.0.items).1 (sym own)))
+      ap (λ (x : Vec ℕ A × Vec ℕ B). put x.0.items ∷ declarations_of es) (sym same)
+      ∙ sym (ap (λ b. cond b (put f.0.items ∷ declarations_of es) (d ∷ set_in (declarations_of es) name value.items)) ((bytes_eq-Decides name f.0.items).1 (sym own)))
   set-at name value (f ∷ es) (suc i) e at distinct named =
       let d : Declaration = record { name = f.0.items; value = f.1.items } in
       let apart : bytes_eq name f.0.items ≡ false = turned f.0.items name (all-at (λ n. bytes_eq f.0.items n ≡ false) (names_of (declarations_of es)) i name named distinct.0) in
       ap (λ list. d ∷ list) (set-at name value es i e at distinct.1 named)
-      ∙ sym (ap (λ b. cond b (record { name = name; value = value.items } ∷ declarations_of es) (d ∷ set_in (declarations_of es) name value.items)) apart)
+      ∙ sym (ap (λ b. cond b (record { name = f.0.items; value = value.items } ∷ declarations_of es) (d ∷ set_in (declarations_of es) name value.items)) apart)
+
+  -- past the end there is no name
+  pub nameless : (es : List (Vec ℕ A × Vec ℕ B)) (i : ℕ) (name : List ℕ) → (i < length es → ⊥) → slice_get (names_of (declarations_of es)) i ≡ Some name → (Q : Type 0) → Q
+  nameless [] zero name past at Q = absurd (let t = at in cc)
+  nameless [] (suc i) name past at Q = absurd (let t = at in cc)
+  nameless (e ∷ es) zero name past at Q = absurd (past (omega arith))
+  nameless (e ∷ es) (suc i) name past at Q = nameless es i name (λ l. past (omega (arith, l))) at Q
+
+  pub held-at : (es : List (Vec ℕ A × Vec ℕ B)) (i : ℕ) (e : Vec ℕ A × Vec ℕ B) → i < length es → get_or es i e ≡ e → slice_get es i ≡ Some e
+  held-at [] zero e low is = absurd (omega (arith, low))
+  held-at [] (suc i) e low is = absurd (omega (arith, low))
+  held-at (f ∷ es) zero e low is = ap Some is
+  held-at (f ∷ es) (suc i) e low is = held-at es i e (omega (arith, low)) is
 
   pub pushed : (es : List (Vec ℕ A × Vec ℕ B)) (e : Vec ℕ A × Vec ℕ B) → declarations_of (es ++ e ∷ []) ≡ declarations_of es ++ record { name = e.0.items; value = e.1.items } ∷ []
   pushed [] e = refl
@@ -116,7 +129,7 @@ set-none name value (d ∷ list) none = by_test (bytes_eq name d.name) none (set
     own : Declaration
     own = record { name = name; value = value }
 
-    by_test : (b : Bool) → cond b (Some d.value) (value_of list name) ≡ None → (value_of list name ≡ None → set_in list name value ≡ list ++ own ∷ []) → cond b (own ∷ list) (d ∷ set_in list name value) ≡ d ∷ (list ++ own ∷ [])
+    by_test : (b : Bool) → cond b (Some d.value) (value_of list name) ≡ None → (value_of list name ≡ None → set_in list name value ≡ list ++ own ∷ []) → cond b (record { name = d.name; value = value } ∷ list) (d ∷ set_in list name value) ≡ d ∷ (list ++ own ∷ [])
     by_test true is more = absurd (let t = is in cc)
     by_test false is more = ap (λ l. d ∷ l) (more is)
 
@@ -223,6 +236,7 @@ put-distinct (Ok x) old new name value ok err h = subst (λ list. IsDistinct byt
 put-distinct (Err e) old new name value ok err h = subst (λ list. IsDistinct bytes_eq (names_of list)) (sym err) h
 
 pub start-placed : {A : Type 0} (es : List (Vec ℕ A × ℕ)) (list : List Declaration) → es ≡ [] → list ≡ [] → IsDistinct bytes_eq (names_of list) × IsPlaced es (names_of list)
-start-placed es list none empty =
-    (subst (λ l. IsDistinct bytes_eq (names_of l)) (sym empty) distinct-nothing,
-    subst (λ l. IsPlaced es (names_of l)) (sym empty) (tt, λ name i h. absurd (let t = sym (ap (λ ps. place_in ps name) none) ∙ h in cc)))
+start-placed es list none empty = (
+  subst (λ l. IsDistinct bytes_eq (names_of l)) (sym empty) distinct-nothing,
+  subst (λ l. IsPlaced es (names_of l)) (sym empty) (tt, λ name i h. absurd (let t = sym (ap (λ ps. place_in ps name) none) ∙ h in cc)),
+)

@@ -118,27 +118,36 @@ fn declare(
     Ok(())
 }
 
-// Whether the declaration at a place has this name.
-fn has_name(list: &[Pair], place: usize, name: &[u8]) -> bool
-    requires { place < length list.now }
-    ensures { result ≡ is_entry name.now (slice_get list.now place) }
+// The name and the value at a place.
+fn pair_at(list: &Vec<Pair>, place: usize) -> (&Vec<char>, &Vec<char>)
+    requires { place < length list.now.items }
+    ensures { slice_get list.now.items place ≡ Some (result.0.now, result.1.now) }
 {
-    let (key, _) = &list[place];
+    let (name, value) = &list[place];
+    (name, value)
+}
+
+// Whether the declaration at a place has this name.
+fn has_name(list: &Vec<Pair>, place: usize, name: &[u8]) -> bool
+    requires { place < length list.now.items }
+    ensures { result ≡ is_entry name.now (slice_get list.now.items place) }
+{
+    let (key, _) = pair_at(list, place);
     has_codes(key, name)
 }
 
 // The place of a name in a list.
-fn place_of(list: &[Pair], name: &[u8]) -> Option<usize>
-    ensures value { MatchOption result (value_of (declarations_of list.now) name.now ≡ None)
-        (λ place. value_of (declarations_of list.now) name.now
-        ≡ option_map (λ e. e.1.items) (slice_get list.now place)) }
-    ensures left { MatchOption result (unset_in (declarations_of list.now) name.now
-        ≡ declarations_of list.now) (λ place.
-        unset_in (declarations_of list.now) name.now
-        ≡ declarations_of (remove list.now place)) }
+fn place_of(list: &Vec<Pair>, name: &[u8]) -> Option<usize>
+    ensures value { MatchOption result (value_of (declarations_of list.now.items) name.now ≡ None)
+        (λ place. value_of (declarations_of list.now.items) name.now
+        ≡ option_map (λ e. e.1.items) (slice_get list.now.items place)) }
+    ensures left { MatchOption result (unset_in (declarations_of list.now.items) name.now
+        ≡ declarations_of list.now.items) (λ place.
+        unset_in (declarations_of list.now.items) name.now
+        ≡ declarations_of (remove list.now.items place)) }
     ensures name { IfSome result
-        (λ place. slice_get (names_of (declarations_of list.now)) place ≡ Some name.now) }
-    ensures within { IfSome result (λ place. place < length list.now) }
+        (λ place. slice_get (names_of (declarations_of list.now.items)) place ≡ Some name.now) }
+    ensures within { IfSome result (λ place. place < length list.now.items) }
 {
     for place in 0..list.len() {
         if has_name(list, place, name) {
@@ -188,12 +197,12 @@ fn push_declaration(
 }
 
 // The text of a style attribute.
-fn printed_list(alloc: Global, list: &[Pair]) -> Result<Vec<char>, AllocError>
-    ensures { IfOk result (λ text. text.items ≡ printed (declarations_of list.now)) }
+fn printed_list(alloc: Global, list: &Vec<Pair>) -> Result<Vec<char>, AllocError>
+    ensures { IfOk result (λ text. text.items ≡ printed (declarations_of list.now.items)) }
 {
     let mut text = Vec::new(alloc);
     for i in 0..list.len() {
-        let (name, value) = &list[i];
+        let (name, value) = pair_at(list, i);
         push_declaration(&mut text, name, value, i == 0)?;
     }
     Ok(text)
@@ -234,8 +243,8 @@ impl Declarations {
     pub fn get(&self, name: &[u8]) -> Option<&[char]>
         ensures { option_copied result ≡ value_of self.now name.now }
     {
-        let place = place_of(self.list.as_slice(), name)?;
-        let (_, value) = &self.list[place];
+        let place = place_of(&self.list, name)?;
+        let (_, value) = pair_at(&self.list, place);
         Some(value.as_slice())
     }
 
@@ -251,7 +260,7 @@ impl Declarations {
         let mut text = Vec::new(self.alloc);
         push_text(&mut text, &key, value)?;
         if reads_as(&text, name, value) {
-            let place = place_of(self.list.as_slice(), name);
+            let place = place_of(&self.list, name);
             let copied = Vec::from_slice(self.alloc, value)?;
             put(&mut self.list, place, key, copied)?;
         }
@@ -262,7 +271,7 @@ impl Declarations {
     pub fn unset(&mut self, name: &[u8])
         ensures { self.new ≡ unset_in self.old name.now }
     {
-        if let Some(place) = place_of(self.list.as_slice(), name) {
+        if let Some(place) = place_of(&self.list, name) {
             let _ = self.list.remove(place);
         }
     }
@@ -272,6 +281,6 @@ impl Declarations {
         ensures text { IfOk result (λ text. text.items ≡ printed self.now) }
         ensures read_back { IfOk result (λ text. declarations_in text.items ≡ self.now) }
     {
-        printed_list(self.alloc, self.list.as_slice())
+        printed_list(self.alloc, &self.list)
     }
 }

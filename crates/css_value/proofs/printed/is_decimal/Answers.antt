@@ -1,4 +1,4 @@
-use Rattle.std.proofs.Common.{◌^◌, ◌<◌, ◌∙◌, sym, ap, arith}
+use Rattle.std.proofs.Common.{◌∙◌, sym, ap, arith}
 use Rattle.css_value.proofs.Numerals.{printed-some, printed-none}
 use Rattle.css_value.proofs.printed.is_decimal.Goals as goal
 

@@ -21,5 +21,5 @@ loop-stated-preserved c =
       left = step.0;
       back = step.1;
       distinct = subst (λ list. IsDistinct bytes_eq (names_of list)) (sym c.in_ok-declare.ensures.set) (distinct-set (declarations_of c.loop-stated.list.items) c.in_ok-name.name.items c.in_ok-value.value.items c.loop-stated.invariant.distinct);
-      placed = c.in_ok-declare.ensures.placed
+      placed = c.in_ok-declare.ensures.placed;
     }

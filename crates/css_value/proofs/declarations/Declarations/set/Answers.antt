@@ -7,10 +7,11 @@ use Rattle.css_value.proofs.declarations.Declarations.set.Goals as goal
 
 pub invariant_of-self-then-reads_as : goal.invariant_of-self-then-reads_as
 invariant_of-self-then-reads_as c =
-    let same = ap (λ n. reads_back (record { name = n; value = c.in_ok-copied.copied.items })) c.in_ok-key.ensures ∙ ap (λ v. reads_back (record { name = c.args.name.now; value = v })) c.in_ok-copied.ensures.items in
-    (put-back c.put.result (declarations_of c.self.inside.list.items) (declarations_of c.put.new.list.items) c.in_ok-key.key.items c.in_ok-copied.copied.items
-    c.put.ensures.ok c.put.ensures.err c.self.invariant.0 (same ∙ sym c.reads_as.ensures ∙ c.if-reads_as.true),
-    put-distinct c.put.result (declarations_of c.self.inside.list.items) (declarations_of c.put.new.list.items) c.in_ok-key.key.items c.in_ok-copied.copied.items c.put.ensures.ok c.put.ensures.err c.self.invariant.1)
+    let same = ap (λ n. reads_back (record { name = n; value = c.in_ok-copied.copied.items })) c.in_ok-key.ensures ∙ ap (λ v. reads_back (record { name = c.args.name.now; value = v })) c.in_ok-copied.ensures.items in (
+      put-back c.put.result (declarations_of c.self.inside.list.items) (declarations_of c.put.new.list.items) c.in_ok-key.key.items c.in_ok-copied.copied.items
+          c.put.ensures.ok c.put.ensures.err c.self.invariant.0 (same ∙ sym c.reads_as.ensures ∙ c.if-reads_as.true),
+      put-distinct c.put.result (declarations_of c.self.inside.list.items) (declarations_of c.put.new.list.items) c.in_ok-key.key.items c.in_ok-copied.copied.items c.put.ensures.ok c.put.ensures.err c.self.invariant.1,
+    )
 
 pub returns-in_ok-put-clause-ok : goal.returns-in_ok-put-clause-ok
 returns-in_ok-put-clause-ok c =
