@@ -10,7 +10,7 @@ use Rattle.edit_laws.specs.Stateless.{Stateless}
 use Rattle.edit_laws.proofs.StatelessRuns.{stateless_parts, stateless_answer, stateless_bind, stateless_make_element}
 use Rattle.text_insertion.specs.Start.{insert_at_start}
 use Rattle.insert_objects.specs.Image.{drop_lone_break, source, put_image, show_image, insert_source, insert_image}
-use Rattle.insert_objects.specs.LineBreak.{put_break, break_line, insert_line_break}
+use Rattle.insert_objects.specs.LineBreak.{repeat_break, put_break, break_line, insert_line_break}
 use Rattle.insert_objects.specs.Putting.{collapse_before, collapse_after, leave_text, put}
 use Rattle.insert_objects.specs.Rule.{widen_range, put_rule, insert_horizontal_rule}
 use Rattle.command_laws.proofs.AncestorRuns.{stateless_fix_ancestors}
@@ -46,9 +46,13 @@ stateless_put name attributes h =
 stateless_new_break : Stateless (put (codes "br") [])
 stateless_new_break = stateless_put (codes "br") [] refl
 
+stateless_repeat_break : (n : ℕ) → Stateless (repeat_break n)
+unfolding repeat_break
+stateless_repeat_break n = search (stateless_parts, stateless_moves, stateless_insert_at_start)
+
 stateless_put_break : Stateless put_break
 unfolding put_break
-stateless_put_break = search (stateless_parts, stateless_moves, stateless_insert_at_start, stateless_new_break, stateless_collapse_after) depth 9
+stateless_put_break = search (stateless_parts, stateless_new_break, stateless_collapse_after, stateless_repeat_break)
 
 stateless_break_line : (p : Point) → Stateless (break_line p)
 unfolding break_line

@@ -19,13 +19,18 @@ takes_break s n =
     if is_element_at s.trees n then name_allowed_in (codes "br") s.trees n
     else option_map_or (name_allowed_in (codes "br") s.trees) (parent_of s.trees n) false
 
--- steps 3 and 4: a br that shows no line of its own is followed by another one
+-- step 4: a br that shows no line of its own is followed by another one
+unfoldable pub repeat_break : ℕ → Run (Unit {0})
+repeat_break n = look λ s.
+    if is_extraneous_break s.trees n || is_collapsed_break s.trees n
+    then (make_break >>= insert_at_start) else done
+
+-- steps 3 and 4
 unfoldable pub put_break : Run Bool
 put_break = do
   n ← put (codes "br") []
   collapse_after n
-  look λ s. if is_extraneous_break s.trees n || is_collapsed_break s.trees n
-      then (make_break >>= insert_at_start) else done
+  repeat_break n
   answer true
 
 -- step 2, and then 3 and 4

@@ -44,14 +44,17 @@ fn source(alloc: Global, value: &[char]) -> Result<Attributes, AllocError>
     Ok(attributes)
 }
 
-// Steps 3 and 4.
-#[tactic(auto, using(edit_model::proofs::Steps::steps, edit_model::proofs::Steps::exits), unfolding(crate::specs::Image::put_image, crate::specs::Image::show_image))]
-fn show_image(alloc: Global, doc: &mut Doc, value: &[char], at: Point) -> Result<bool, EditFault>
+// Steps 2 to 4.
+#[tactic(auto, using(edit_model::proofs::Steps::steps, edit_model::proofs::Steps::exits), unfolding(crate::specs::Image::put_image, crate::specs::Image::show_image, crate::specs::Image::insert_source))]
+fn insert_source(alloc: Global, doc: &mut Doc, value: &[char]) -> Result<bool, EditFault>
     requires open { IsOpen doc.old }
-    requires here { 0 < count_of doc.old.state.trees at.label }
-    ensures gives { Gives result doc.old.state doc.new.state (command.show_image value.now at) }
+    ensures gives { Gives result doc.old.state doc.new.state (command.insert_source value.now) }
     ensures keeps { Keeps doc.old doc.new }
 {
+    erase(alloc, doc, true, false, false)?;
+    let Some(at) = start_inside(doc) else {
+        return Ok(true);
+    };
     drop_lone_break(doc, at)?;
     let attributes = source(alloc, value)?;
     let made = put(alloc, doc, b"img", &attributes)?;
@@ -62,18 +65,14 @@ fn show_image(alloc: Global, doc: &mut Doc, value: &[char], at: Point) -> Result
 /// The command insertImage: what is selected goes, and an img with the value as its src stands in
 /// its place, with the caret after it. In a block that has only a br it takes the place of that. It
 /// answers false, before it changes anything, to the empty value.
-#[tactic(auto, using(edit_model::proofs::Steps::steps, edit_model::proofs::Steps::exits), unfolding(crate::specs::Image::insert_source, crate::specs::Image::insert_image))]
+#[tactic(auto, using(edit_model::proofs::Steps::steps, edit_model::proofs::Steps::exits), unfolding(crate::specs::Image::insert_image))]
 pub fn insert_image(alloc: Global, doc: &mut Doc, value: &[char]) -> Result<bool, EditFault>
     requires open { IsOpen doc.old }
     ensures gives { Gives result doc.old.state doc.new.state (command.insert_image value.now) }
     ensures keeps { Keeps doc.old doc.new }
 {
-    if let [] = value {
-        return Ok(false);
+    match value {
+        [] => Ok(false),
+        _ => insert_source(alloc, doc, value),
     }
-    erase(alloc, doc, true, false, false)?;
-    let Some(at) = start_inside(doc) else {
-        return Ok(true);
-    };
-    show_image(alloc, doc, value, at)
 }

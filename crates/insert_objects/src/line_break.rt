@@ -29,26 +29,25 @@ fn takes_break(doc: &Doc, node: NodeRef) -> bool
     }
 }
 
-// Steps 3 and 4. A br that shows no line of its own is followed by another one.
-#[tactic(auto, using(edit_model::proofs::Steps::steps, edit_model::proofs::Steps::exits), unfolding(crate::specs::LineBreak::put_break))]
-fn put_break(alloc: Global, doc: &mut Doc) -> Result<bool, EditFault>
+// Step 4: a br that shows no line of its own is followed by another one.
+#[tactic(auto, using(edit_model::proofs::Steps::steps, edit_model::proofs::Steps::exits), unfolding(crate::specs::LineBreak::repeat_break))]
+fn repeat_break(alloc: Global, doc: &mut Doc, node: NodeRef) -> Result<(), EditFault>
     requires open { IsOpen doc.old }
-    ensures gives { Gives result doc.old.state doc.new.state command.put_break }
+    requires node_held { Holds doc.old node }
+    ensures gives { Gives result doc.old.state doc.new.state (command.repeat_break node.label) }
     ensures keeps { Keeps doc.old doc.new }
 {
-    let made = put(alloc, doc, b"br", &Attributes::new(alloc))?;
-    collapse_after(doc, made);
-    if is_extraneous_break(doc, made) || is_collapsed_break(doc, made) {
-        let another = make_break(alloc, doc)?;
-        insert_at_start(doc, another)?;
+    if is_extraneous_break(doc, node) || is_collapsed_break(doc, node) {
+        let made = make_break(alloc, doc)?;
+        insert_at_start(doc, made)?;
     }
-    Ok(true)
+    Ok(())
 }
 
 /// The command insertLineBreak: what is selected goes, and a br stands in its place, with the caret
 /// after it. Where that br alone would show no new line, as at the end of a block, another one
 /// comes after it. It answers true.
-#[tactic(auto, using(edit_model::proofs::Steps::steps, edit_model::proofs::Steps::exits), unfolding(crate::specs::LineBreak::break_line, crate::specs::LineBreak::insert_line_break))]
+#[tactic(auto, using(edit_model::proofs::Steps::steps, edit_model::proofs::Steps::exits), unfolding(crate::specs::LineBreak::put_break, crate::specs::LineBreak::break_line, crate::specs::LineBreak::insert_line_break))]
 pub fn insert_line_break(alloc: Global, doc: &mut Doc) -> Result<bool, EditFault>
     requires open { IsOpen doc.old }
     ensures gives { Gives result doc.old.state doc.new.state command.insert_line_break }
@@ -58,9 +57,11 @@ pub fn insert_line_break(alloc: Global, doc: &mut Doc) -> Result<bool, EditFault
     let Some(at) = start_inside(doc) else {
         return Ok(true);
     };
-    if takes_break(doc, node_of(doc, at)) {
-        put_break(alloc, doc)
-    } else {
-        Ok(true)
+    if !takes_break(doc, node_of(doc, at)) {
+        return Ok(true);
     }
+    let made = put(alloc, doc, b"br", &Attributes::new(alloc))?;
+    collapse_after(doc, made);
+    repeat_break(alloc, doc, made)?;
+    Ok(true)
 }
