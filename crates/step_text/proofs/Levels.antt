@@ -1,16 +1,15 @@
 -- How many levels a forest has by its roots, and after a line.
-use Rattle.std.proofs.Common.{◌≡◌, ◌⊎◌, ℕ, ◌+◌, ◌<◌, ◌≤◌, ◌^◌, max, Bool, true, false, cond, eqb, List, Option, Some, None, unwrap_or, Result, Ok, Err, refl, sym, ap, subst, ◌∙◌, inl, inr, arith}
+use Rattle.std.proofs.Common.{◌≡◌, ℕ, ◌+◌, ◌<◌, ◌≤◌, ◌^◌, max, true, false, cond, List, Option, Some, None, unwrap_or, Result, Ok, Err, refl, sym, ap, subst, ◌∙◌, inl, inr, arith}
 use Rattle.std.specs.Prelude.{nat_lt, nat_le}
 use Rattle.std.proofs.lemmas.Bool.{le-leb, lt-leb}
 use Rattle.std.proofs.lemmas.Bool.Decides.{eqb_tells}
 use Rattle.dom_model.specs.declared.attributes.Attribute.{Attribute}
 use Rattle.dom_model.specs.declared.Content.{Content}
 use Rattle.dom_model.specs.Contents.{with_chars, with_attributes}
-use Rattle.dom_model.specs.Forest.{Forest, join, tree_of, without, count_of, IsDistinct, parent_of, put_rising, put_under, link, unlink, with_leaf, depth_of, total}
+use Rattle.dom_model.specs.Forest.{Forest, join, tree_of, without, count_of, IsDistinct, parent_of, put_rising, put_under, link, unlink, with_leaf, depth_of}
 use Rattle.dom_model.specs.Forest.Forest.{Nil, Tree}
 use Rattle.dom_model.specs.Places.{levels}
 use Rattle.dom_model.specs.ArenaState.{ArenaState, IsValid}
-use Rattle.dom_model.specs.Change as change
 use Rattle.dom_model.proofs.DropTree.{without-unlink}
 use Rattle.dom_model.proofs.Heights.{levels-link, levels-revised, levels_low, levels_within}
 use Rattle.dom_model.proofs.Links.{eqb_refl_true, tree_of_absent}
@@ -30,7 +29,7 @@ use Rattle.step_text.specs.declared.line.Made.{Made}
 use Rattle.step_text.specs.declared.line.StepFault.{StepFault}
 use Rattle.step_text.specs.declared.line.StepLine.{StepLine}
 use Rattle.step_text.specs.declared.line.StepLine.TheVariants.{Make, Remove, Words, Tag}
-use Rattle.step_text.specs.Applying.{Labelled, labelled, has_room_under, made_content, trees_after, line_applied}
+use Rattle.step_text.specs.Applying.{Labelled, has_room_under, made_content, trees_after, line_applied}
 use Rattle.step_text.specs.Planning.{Applies, StaysWithin, comes_from, step_to}
 
 module _ {C : Type 0} where
