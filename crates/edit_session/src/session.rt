@@ -31,7 +31,7 @@ use edit_io::{ReadAllFault, Sink, SinkFault, Source, read_all, write_all};
 use node_arena::Arena;
 use page_read::{PageFault, PageKind, read_page};
 use std::alloc::{AllocError, Global};
-use step_text::{Replay, StepFault};
+use step_text::StepFault;
 
 // How many bytes an input may have.
 const INPUT_LIMIT: usize = 8_388_608;
@@ -321,7 +321,7 @@ fn replay_steps<O: Sink>(alloc: Global, arena: Arena, steps: &[u8], output: &mut
         (O.taken output.old) (O.taken output.new) (O.faults output.old) (O.faults output.new)
         result }
 {
-    let mut page = Replay::new(arena);
+    let mut page = step_text::Replay::new(arena);
     match replay_lines(alloc, &mut page, steps) {
         Ok(tally) => end_replay(alloc, page.arena(), tally, output),
         Err(refusal) => refuse_step(alloc, output, refusal),
