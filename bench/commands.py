@@ -16,6 +16,7 @@ or those alone that the options name. The parts:
   stack     all commands and questions on the deepest pages, in a stack of 128 kB
   typing    many characters that are typed into one text
   log       the act `log`, and `replay` of what it prints
+  moves     a line of `replay` that moves a tree, or takes it out and puts it back
   bulk      `bulk 5000`, and its memory
   long      what a key amid 16,000 lines or words takes, in seconds of processor
 
@@ -500,6 +501,29 @@ def log():
         told(f"{words}: growth at four times as many lines", many / few, 4.5)
 
 
+# The lines that move the tree of label 2 to and fro between the nodes of two labels.
+MOVES = {
+    "moves a tree at its level": ["move 2 {there} -", "move 2 1 -"],
+    "moves a tree four levels down and up": ["move 2 {below} -", "move 2 1 -"],
+    "takes a tree out or puts it back": ["remove 2", "insert 2 {there} -", "remove 2", "insert 2 1 -"],
+}
+
+
+def moves():
+    """A line costs the ways up, and every so many lines a walk."""
+    for words, lines in MOVES.items():
+        figures = []
+        for nodes in (1000, 10000):
+            pairs = (nodes - 2) // 2
+            page = f"<div><div>{'<p>x</p>' * pairs}</div></div><div><div><div><div><div></div></div></div></div></div>"
+            there = 3 + 2 * pairs
+            shown = [line.format(there=there, below=there + 4) for line in lines]
+            few, many = (counted(session_of(page, ["entry", *shown * (count // len(shown))]), "replay")[1] for count in (2000, 4000))
+            figures.append((many - few) / 2000)
+        print(f"replay: a line that {words}, of 1,000 nodes and of 10,000: {figures[0]:,.0f} and {figures[1]:,.0f} instructions")
+        told(f"{words}: growth at ten times as many nodes", figures[1] / figures[0], 4.5)
+
+
 # 5,000 paragraphs made bold, plain and indented, undone and redone: the nodes of the page, and with those that bold makes.
 READ_NODES = 10002
 ALL_NODES = 15002
@@ -528,7 +552,7 @@ def long():
 
 
 PARTS = {"shapes": shapes, "pages": pages, "siblings": siblings, "depth": depth, "nothing": nothing, "styles": styles,
-         "stack": stack, "typing": typing, "log": log, "bulk": bulk, "long": long}
+         "stack": stack, "typing": typing, "log": log, "moves": moves, "bulk": bulk, "long": long}
 
 
 def main():

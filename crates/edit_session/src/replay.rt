@@ -6,9 +6,8 @@ ghost use Rattle.edit_session.specs.Block.{lines_of};
 ghost use Rattle.edit_session.specs.Replay.{tallied, replayed, line_replayed, replay, ReplaysLine, Replays};
 
 use crate::block::{after_line, line_end};
-use node_arena::Arena;
 use std::alloc::Global;
-use step_text::{StepFault, StepLine, apply_step, read_step};
+use step_text::{Replay, StepFault, StepLine, read_step};
 
 /// How many entries began, and how many steps were taken other than those that make a node.
 #[derive(Clone, Copy, PartialEq, Eq, Debug)]
@@ -50,29 +49,29 @@ impl Tally {
 #[tactic(auto, unfolding(crate::specs::Replay::line_replayed))]
 fn replay_line(
     alloc: Global,
-    arena: &mut Arena,
+    page: &mut Replay,
     tally: Tally,
     line: &[u8],
 ) -> Result<Tally, StepFault>
     requires entries { tally.entries < 2 ^ 32 }
     requires steps { tally.steps < 2 ^ 32 }
     requires short { length line.now < 2 ^ 32 }
-    ensures told { ReplaysLine result (labelled arena.new) (line_replayed line.now
-        (replayed tally (labelled arena.old))) }
+    ensures told { ReplaysLine result (labelled page.new) (line_replayed line.now
+        (replayed tally (labelled page.old))) }
     ensures entries { IfOk result (λ t. t.entries ≤ tally.entries + 1) }
     ensures steps { IfOk result (λ t. t.steps ≤ tally.steps + 1) }
 {
     let step = read_step(alloc, line)?;
     let tally = tally.with(&step);
-    apply_step(arena, step)?;
+    page.apply(step)?;
     Ok(tally)
 }
 
 /// Applies the steps of lines to the nodes of a page, up to the first that doesn't fit.
-pub(crate) fn replay_lines(alloc: Global, arena: &mut Arena, lines: &[u8]) -> Result<Tally, Refusal>
+pub(crate) fn replay_lines(alloc: Global, page: &mut Replay, lines: &[u8]) -> Result<Tally, Refusal>
     requires { length lines.now < 2 ^ 32 }
-    ensures { Replays result (labelled arena.new)
-        (replay (lines_of lines.now) (labelled arena.old)) }
+    ensures { Replays result (labelled page.new)
+        (replay (lines_of lines.now) (labelled page.old)) }
 {
     let mut tally = Tally {
         entries: 0,
@@ -82,7 +81,7 @@ pub(crate) fn replay_lines(alloc: Global, arena: &mut Arena, lines: &[u8]) -> Re
     let mut rest = lines;
     while !rest.is_empty() {
         let end = line_end(rest);
-        match replay_line(alloc, arena, tally, &rest[..end]) {
+        match replay_line(alloc, page, tally, &rest[..end]) {
             Ok(next) => tally = next,
             Err(fault) => return Err(Refusal { number, fault }),
         }

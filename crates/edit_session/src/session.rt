@@ -314,14 +314,15 @@ fn end_replay<O: Sink>(alloc: Global, arena: &Arena, tally: Tally, output: &mut 
 }
 
 // `replay` over the nodes of a page and the step lines.
-fn replay_steps<O: Sink>(alloc: Global, mut arena: Arena, steps: &[u8], output: &mut O) -> Status
+fn replay_steps<O: Sink>(alloc: Global, arena: Arena, steps: &[u8], output: &mut O) -> Status
     requires { length steps.now < 2 ^ 32 }
     ensures { Follows (replay_ended (replay (lines_of steps.now) (labelled arena)))
         (O.taken output.old) (O.taken output.new) (O.faults output.old) (O.faults output.new)
         result }
 {
-    match replay_lines(alloc, &mut arena, steps) {
-        Ok(tally) => end_replay(alloc, &arena, tally, output),
+    let mut page = step_text::Replay::new(arena);
+    match replay_lines(alloc, &mut page, steps) {
+        Ok(tally) => end_replay(alloc, page.arena(), tally, output),
         Err(refusal) => refuse_step(alloc, output, refusal),
     }
 }

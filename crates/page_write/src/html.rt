@@ -122,7 +122,9 @@ fn push_comment(bytes: &mut Vec<u8>, text: &Chars) -> Result<(), AllocError>
     Ok(())
 }
 
-// What stands before the children of a node.
+// What stands before the children of a node. It has a frame of its own, and so that of `push_trees`,
+// of which there is one for each level, is small.
+#[inline(never)]
 fn push_opening(bytes: &mut Vec<u8>, content: &Content) -> Result<(), AllocError>
     ensures ok { OnOk result (bytes.new.items ≡ bytes.old.items ++ opening content.now) }
 {
@@ -135,6 +137,7 @@ fn push_opening(bytes: &mut Vec<u8>, content: &Content) -> Result<(), AllocError
 }
 
 // What stands after the children of a node.
+#[inline(never)]
 fn push_closing(bytes: &mut Vec<u8>, content: &Content) -> Result<(), AllocError>
     ensures ok { OnOk result (bytes.new.items ≡ bytes.old.items ++ closing content.now) }
 {

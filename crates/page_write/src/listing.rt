@@ -76,7 +76,9 @@ fn push_indent(bytes: &mut Vec<u8>, level: usize) -> Result<(), AllocError>
     Ok(())
 }
 
-// The line of a node with its indentation and its end.
+// The line of a node with its indentation and its end. It has a frame of its own, and so that of
+// `push_lines`, of which there is one for each level, is small.
+#[inline(never)]
 fn push_line(
     alloc: Global,
     bytes: &mut Vec<u8>,

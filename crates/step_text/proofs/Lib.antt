@@ -7,3 +7,4 @@ pub mod Tags
 pub mod Steps
 pub mod Loops
 pub mod SoundSteps
+pub mod Levels

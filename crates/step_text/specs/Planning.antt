@@ -1,8 +1,9 @@
 -- How a step line is turned into a step of the arena before it is applied. Only `labelled` and the
 -- rest of `Applying` stand in public clauses.
-use Rattle.std.specs.Prelude.{◌≡◌, ℕ, Bool, Option, Some, None, is_some, IfSome, IfNone, Result, Ok, Err, OnOk, OnErr, IsErrOf, IsOkUnless}
+use Rattle.std.specs.Prelude.{◌≡◌, ℕ, Bool, Option, Some, None, is_some, IfSome, IfNone, Result, Ok, Err, OnOk, OnErr, IsErrOf, IsOkUnless, ◌≤◌}
 use Rattle.dom_model.specs.declared.Content.{Content}
 use Rattle.dom_model.specs.Forest.{Forest, parent_of}
+use Rattle.dom_model.specs.Places.{levels}
 use Rattle.dom_model.specs.ArenaState.{ArenaState}
 use Rattle.edit_steps.specs.declared.step.Step.{Step}
 use Rattle.edit_steps.specs.declared.step.Step.TheVariants as step
@@ -17,6 +18,7 @@ use Rattle.step_text.specs.declared.line.StepFault.TheVariants.{Memory}
 use Rattle.step_text.specs.declared.line.StepLine.{StepLine}
 use Rattle.step_text.specs.declared.line.StepLine.TheVariants.{Insert, Move}
 use Rattle.step_text.specs.declared.apply.Placing.{Placing}
+use Rattle.step_text.specs.declared.room.Room.{Room}
 
 -- the line fits, and the step fits the arena and does what the line does
 pub record IsStepOf (x : StepLine) (a : ArenaState) (step : Step) : Type 0 where
@@ -38,6 +40,17 @@ pub record Applies {A : Type 0} (x : StepLine) (old new : ArenaState)
   pub applied : OnOk result (labelled new ≡ line_applied x (labelled old))
   pub held : OnOk result (KeepsHeld old new)
   pub err : OnErr result (new ≡ old)
+
+-- ---- levels
+
+-- the nodes have no more levels than that
+abbrev pub IsBound : Room → Forest Content → Type 0
+IsBound room f = levels f ≤ room.levels
+
+-- nor have they after the step; where the line doesn't fit, as they are
+abbrev pub StaysWithin : ℕ → Result Step StepFault → Forest Content → Type 0
+StaysWithin most (Ok step) f = levels (applied (change_of step) f) ≤ most
+StaysWithin most (Err fault) f = levels f ≤ most
 
 -- ---- lines that put a tree somewhere
 

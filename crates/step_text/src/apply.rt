@@ -1,29 +1,28 @@
 //! Step lines applied to the nodes of an arena.
 
-ghost use Rattle.std.specs.Prelude.{◌≡◌, ◌^◌, ◌<◌, ◌&&◌, nat_le, nat_lt, IfOk, IfSome, IfNone, IsOkUnless, OnOk, OnErr, is_ok, is_some, length, Err};
+ghost use Rattle.std.specs.Prelude.{◌≡◌, ◌^◌, ◌<◌, ◌≤◌, ◌&&◌, ℕ, nat_le, nat_lt, IfOk, IfSome, IfNone, IsOkUnless, OnOk, OnErr, is_ok, is_some, length, Err};
 ghost use Rattle.dom_model.specs.Contents.{has_name, is_parent_at};
 ghost use Rattle.dom_model.specs.Forest.{parent_of};
+ghost use Rattle.dom_model.specs.Places.{levels};
 ghost use Rattle.edit_model.specs.Confined.{is_there, is_place};
 ghost use Rattle.edit_steps.specs.Step.{StepFits};
 ghost use Rattle.node_arena.specs.Held.{Holds, KeepsHeld, Makes, label};
-ghost use Rattle.step_text.specs.Applying.{labelled, fault_of, line_applied, made_content, made_length, text_length, is_text_at, is_there_or_end, can_stand, has_room_under, is_loose};
-ghost use Rattle.step_text.specs.Planning.{Applies, Places, Plans, comes_from, line_to, step_to};
+ghost use Rattle.step_text.specs.Applying.{labelled, fault_of, line_applied, made_content, made_length, text_length, is_text_at, is_there_or_end, can_stand, is_loose};
+ghost use Rattle.step_text.specs.Planning.{Applies, IsBound, Places, Plans, StaysWithin, comes_from, line_to, step_to};
 
 use crate::line::{Made, StepFault, StepLine};
+use crate::room::{Room, has_room_under};
 use dom_model::{Attributes, Chars, Name};
-use edit_parts::tree_counts;
 use edit_steps::Step;
 use node_arena::{Arena, Content, Kind, MakeFault, NodeRef, has_name};
-use point_order::{is_in_document, is_within};
+use point_order::is_within;
 use undo_log::Invertible;
-
-// No node of a document may be deeper.
-const DEEPEST: u64 = 1_000;
 
 /// Does to the nodes of an arena what a step line says. The line is taken by value, since its
 /// contents become those of the node. Whether it fits is looked at before memory; a line that
-/// changes nothing fits too. It takes time for the way up from the new place, and where that is in
-/// the document, for the tree that comes there.
+/// changes nothing fits too. It takes time for the ways up from the new place and from the tree
+/// that comes there, and where the place is in the document, for the tree; over many lines a
+/// [`crate::Replay`] spares most of that.
 pub fn apply_step(arena: &mut Arena, step: StepLine) -> Result<(), StepFault>
     requires { text_length step < 2 ^ 32 }
     ensures refused { IfSome (fault_of step (labelled arena.old)) (λ fault. result ≡ Err fault) }
@@ -33,6 +32,22 @@ pub fn apply_step(arena: &mut Arena, step: StepLine) -> Result<(), StepFault>
     ensures held { OnOk result (KeepsHeld arena.old arena.new) }
     ensures err { OnErr result (arena.new ≡ arena.old) }
 {
+    let mut room = Room::any(arena);
+    apply_within(arena, &mut room, step)
+}
+
+/// The same, beside a bound on the levels of the nodes.
+pub(crate) fn apply_within(
+    arena: &mut Arena,
+    room: &mut Room,
+    step: StepLine,
+) -> Result<(), StepFault>
+    requires short { text_length step < 2 ^ 32 }
+    requires bound { IsBound room.old arena.old.trees }
+    ensures applies { Applies step arena.old arena.new result }
+    ensures bound { IsBound room.new arena.new.trees }
+{
+    arena.valid();
     match step {
         StepLine::Entry => Ok(()),
         StepLine::Make { label, made } => make(arena, label, made),
@@ -41,7 +56,7 @@ pub fn apply_step(arena: &mut Arena, step: StepLine) -> Result<(), StepFault>
             parent,
             before,
         } => take(
-            placement(arena, Origin::Loose, label, parent, before),
+            placement(arena, room, Origin::Loose, label, parent, before),
             arena,
         ),
         StepLine::Remove { label } => take(removal(arena, label), arena),
@@ -50,7 +65,7 @@ pub fn apply_step(arena: &mut Arena, step: StepLine) -> Result<(), StepFault>
             parent,
             before,
         } => take(
-            placement(arena, Origin::Child, label, parent, before),
+            placement(arena, room, Origin::Child, label, parent, before),
             arena,
         ),
         StepLine::Words { label, words } => take(rewriting(arena, label, words), arena),
@@ -104,7 +119,10 @@ fn make(arena: &mut Arena, label: u32, made: Made) -> Result<(), StepFault>
 // Applies a step, if there is one.
 fn take(planned: Result<Step, StepFault>, arena: &mut Arena) -> Result<(), StepFault>
     requires { IfOk planned (λ step. StepFits step arena.old) }
-    ensures { (x : StepLine) → Plans x arena.old planned → Applies x arena.old arena.new result }
+    ensures applies { (x : StepLine) → Plans x arena.old planned →
+        Applies x arena.old arena.new result }
+    ensures levels { (most : ℕ) → StaysWithin most planned arena.old.trees →
+        levels arena.new.trees ≤ most }
 {
     let mut step = planned?;
     step.apply(arena);
@@ -244,20 +262,6 @@ fn may_place(arena: &Arena, origin: Origin, at: Placing) -> bool
     comes_from(arena, origin, at.node) && can_stand(arena, at)
 }
 
-// Whether no node comes to be too deep in the document where a tree comes to stand under a parent.
-fn has_room_under(arena: &Arena, node: NodeRef, parent: NodeRef) -> bool
-    requires node_held { Holds arena.now node }
-    requires parent_held { Holds arena.now parent }
-    ensures { result ≡ has_room_under arena.now.trees node.label parent.label }
-{
-    if !is_in_document(arena, parent.label) {
-        return true;
-    }
-    let above = u64::from(arena.depth(parent));
-    let height = u64::from(tree_counts(arena, node).depth);
-    above + height + 1 <= DEEPEST
-}
-
 // Whether a node is a Text node.
 fn is_text(arena: &Arena, node: NodeRef) -> bool
     requires { Holds arena.now node }
@@ -300,12 +304,15 @@ fn step_to(origin: Origin, at: Placing) -> Step
 // The step of a line that puts a tree somewhere.
 fn placement(
     arena: &Arena,
+    room: &mut Room,
     origin: Origin,
     label: u32,
     parent: u32,
     before: Option<u32>,
 ) -> Result<Step, StepFault>
-    ensures { Plans (line_to origin label parent before) arena.now result }
+    requires { IsBound room.old arena.now.trees }
+    ensures plans { Plans (line_to origin label parent before) arena.now result }
+    ensures levels { StaysWithin room.new.levels result arena.now.trees }
 {
     arena.valid();
     arena.slotted();
@@ -313,7 +320,7 @@ fn placement(
     if !may_place(arena, origin, at) {
         return Err(StepFault::BadPlace);
     }
-    if !has_room_under(arena, at.node, at.parent) {
+    if !has_room_under(arena, room, at.node, at.parent) {
         return Err(StepFault::TooDeep);
     }
     Ok(step_to(origin, at))

@@ -8,6 +8,8 @@ mod line;
 mod names;
 mod print;
 mod read;
+mod replay;
+mod room;
 mod tag;
 
 pub use apply::apply_step;
@@ -16,3 +18,4 @@ pub use laws::lines_have_one_step;
 pub use line::{Made, StepFault, StepLine};
 pub use print::{print_step, push_step};
 pub use read::read_step;
+pub use replay::Replay;

@@ -7,7 +7,7 @@ use super::trees::{Trial, found, label};
 use node_arena::{Arena, Content};
 use std::alloc::Global;
 use std::test::Fail;
-use step_text::{Attributes, Chars, Made, Name, StepFault, StepLine, apply_step};
+use step_text::{Attributes, Chars, Made, Name, Replay, StepFault, StepLine, apply_step};
 
 // A line whose contents are short.
 #[derive(Clone, Copy, PartialEq, Eq, Debug)]
@@ -281,6 +281,25 @@ fn refuses_what_is_too_deep(alloc: Global, arena: &mut Arena) -> Result<Option<L
     first_other(alloc, arena, &DEEP)
 }
 
+// The same lines one after another on an arena that is replayed on.
+fn replays_what_is_too_deep(alloc: Global, page: &mut Replay) -> Result<Option<Line>, Fail> {
+    for label in 1..1_003 {
+        let _ = page.apply(step(alloc, Line::Element(label, b"p"))?).err();
+    }
+    for label in 2..1_001 {
+        let line = Line::Insert(label, label - 1, None);
+        if page.apply(step(alloc, line)?).is_err() {
+            return Ok(Some(line));
+        }
+    }
+    for (line, fault) in &DEEP {
+        if page.apply(step(alloc, *line)?).err() != *fault {
+            return Ok(Some(*line));
+        }
+    }
+    Ok(None)
+}
+
 #[derive(Debug)]
 enum Lines {
     WithBadLabels,
@@ -315,5 +334,13 @@ fn lines_are_applied_or_refused(rt: HostRuntime) -> Result<(), Fail> {
     for (trial, room) in &TRIALS {
         assert_eq!(rt; found(rt.alloc(), *room, trial)?, None, "{trial:?}");
     }
+    Ok(())
+}
+
+#[test]
+fn lines_are_replayed(rt: HostRuntime) -> Result<(), Fail> {
+    let mut page = Replay::new(Arena::new(rt.alloc(), 2_000)?);
+    assert_eq!(rt; replays_what_is_too_deep(rt.alloc(), &mut page)?, None);
+    assert_eq!(rt; place(page.arena(), 1_002), Some((Some(1_000), None)));
     Ok(())
 }

@@ -8,7 +8,7 @@ use Rattle.edit_session.proofs.replay.replay_lines.Goals as goal
 
 pub loop-rest-init : goal.loop-rest-init
 loop-rest-init c = record {
-  ends = replay_starts (lines_of c.args.lines.now) (labelled c.args.arena.now);
+  ends = replay_starts (lines_of c.args.lines.now) (labelled c.args.page.now);
   entries = omega arith;
   steps = omega arith;
   within = omega arith;
@@ -17,7 +17,7 @@ loop-rest-init c = record {
 pub returns-in-Err : goal.returns-in-Err
 returns-in-Err c =
     let at = c.loop-rest in
-    let r = replayed at.tally (labelled at.arena) in
+    let r = replayed at.tally (labelled at.page) in
     let line = take c.line_end-end.result at.rest.now in
     let later = lines_of (drop (c.line_end-end.result + 1) at.rest.now) in
     let parts = c.line_end-end.ensures.line (some_left _ at.rest.now c.is_empty.ensures c.loop-rest-test.true) in
@@ -26,8 +26,8 @@ returns-in-Err c =
 pub loop-rest-preserved : goal.loop-rest-preserved
 loop-rest-preserved c =
     let at = c.loop-rest in
-    let r = replayed at.tally (labelled at.arena) in
-    let after = replayed c.in-Ok.next (labelled c.replay_line.new.arena) in
+    let r = replayed at.tally (labelled at.page) in
+    let after = replayed c.in-Ok.next (labelled c.replay_line.new.page) in
     let line = take c.line_end-end.result at.rest.now in
     let later = lines_of (drop (c.line_end-end.result + 1) at.rest.now) in
     let some = some_left _ at.rest.now c.is_empty.ensures c.loop-rest-test.true in
@@ -45,7 +45,7 @@ loop-rest-preserved c =
 pub returns : goal.returns
 returns c =
     let at = c.loop-rest in
-    let r = replayed at.tally (labelled at.arena) in
+    let r = replayed at.tally (labelled at.page) in
     sym at.invariant.ends
     ∙ ap (λ lines. lines_replayed at.number lines r) (no_lines _ at.rest.now c.is_empty.ensures c.loop-rest-test.false)
     ∙ replay_done at.number r

@@ -7,7 +7,7 @@ use Rattle.edit_session.proofs.replay.replay_lines.Given as goal
 -- the steps so far are applied, and the rest leads to the same end
 abbrev pub invariant-loop-rest : goal.invariant-loop-rest
 invariant-loop-rest l = record {
-  ends : lines_replayed l.number (lines_of l.rest) (replayed l.tally (labelled l.arena)) ≡ replay (lines_of l.lines) (labelled l.initial.arena);
+  ends : lines_replayed l.number (lines_of l.rest) (replayed l.tally (labelled l.page)) ≡ replay (lines_of l.lines) (labelled l.initial.page);
   entries : l.tally.entries < l.number;
   steps : l.tally.steps < l.number;
   within : l.number + length l.rest ≤ length l.lines + 1;
