@@ -2,7 +2,8 @@
 
 ghost use Rattle.std.specs.Prelude.{◌≡◌, ◌<◌};
 
-use super::trees::{Trial, element, found, label, name, put, words};
+use super::rows::assert_row;
+use super::trees::{Trial, element, found, label, list_of, name, put, words};
 use live_range::Point;
 use node_arena::{Arena, Attributes, Chars, Kind, MakeFault, NodeList, NodeRef};
 use point_order::{child_toward, comes_before, is_in_document, is_placed};
@@ -59,18 +60,10 @@ fn drop_loose(arena: &mut Arena, node: NodeRef) -> bool {
     true
 }
 
-// A list of this value of `contenteditable` alone.
-fn editable(alloc: Global, value: &[char]) -> Result<Attributes, Fail> {
-    let key = name(alloc, "contenteditable")?;
-    let value = Chars::from_slice(alloc, value)?;
-    let mut attributes = Attributes::new(alloc);
-    attributes.insert(key, value)?;
-    Ok(attributes)
-}
-
+// An element with this value of `contenteditable`.
 fn host(alloc: Global, arena: &mut Arena, tag: &str, value: &[char]) -> Result<NodeRef, Fail> {
     let tag = name(alloc, tag)?;
-    let attributes = editable(alloc, value)?;
+    let attributes = list_of(alloc, b"contenteditable", value)?;
     Ok(arena.make_element(tag, attributes)?)
 }
 
@@ -262,7 +255,6 @@ fn draws_no_label_at_the_cap(alloc: Global, arena: &mut Arena) -> Result<bool, F
     Ok(is_full && list.as_slice() == [a].as_slice())
 }
 
-#[derive(Debug)]
 enum Nodes {
     Changed,
     AtTheCap,
@@ -280,12 +272,15 @@ impl Trial for Nodes {
 }
 
 // A trial, and for how many nodes there is room beside the document.
-static TRIALS: [(Nodes, u16); 2] = [(Nodes::Changed, 8), (Nodes::AtTheCap, 1)];
+static TRIALS: [(Nodes, u16, &str); 2] = [
+    (Nodes::Changed, 8, "builds, reads and changes"),
+    (Nodes::AtTheCap, 1, "draws no label at the cap"),
+];
 
 #[test]
 fn nodes_and_points(rt: HostRuntime) -> Result<(), Fail> {
-    for (trial, room) in &TRIALS {
-        assert!(rt; found(rt.alloc(), *room, trial)?, "{trial:?}");
+    for (trial, room, name) in &TRIALS {
+        assert_row(&rt, found(rt.alloc(), *room, trial)?, name);
     }
     Ok(())
 }
@@ -294,18 +289,16 @@ fn nodes_and_points(rt: HostRuntime) -> Result<(), Fail> {
 // go on one way.
 fn drops_what_was_made(alloc: Global, text: Chars) -> Result<bool, Fail> {
     let mut arena = Arena::new(alloc, 9)?;
-    Ok(
-        match arena.make_words(text) {
-            Ok(made) => {
-                let was = arena.holds(made);
-                arena.drop_made(1);
-                let gone = !arena.holds(made) && arena.node_count() == 1 && arena.next_label() == 2;
-                arena.rewind(1);
-                was && gone && arena.next_label() == 1
-            }
-            Err(_) => false,
-        },
-    )
+    Ok(match arena.make_words(text) {
+        Ok(made) => {
+            let was = arena.holds(made);
+            arena.drop_made(1);
+            let gone = !arena.holds(made) && arena.node_count() == 1 && arena.next_label() == 2;
+            arena.rewind(1);
+            was && gone && arena.next_label() == 1
+        }
+        Err(_) => false,
+    })
 }
 
 // The order of points in the document of a new arena, beside a loose Text node.
@@ -319,20 +312,18 @@ fn orders_and_places(alloc: Global, text: Chars) -> Result<bool, Fail> {
         offset: 1,
     };
     let mut arena = Arena::new(alloc, 9)?;
-    Ok(
-        match arena.make_words(text) {
-            Ok(loose) => {
-                comes_before(&arena, front, past)
-                    && !comes_before(&arena, past, front)
-                    && child_toward(&arena, arena.document(), loose).is_none()
-                    && is_in_document(&arena, 0)
-                    && !is_in_document(&arena, 1)
-                    && is_placed(&arena, front)
-                    && !is_placed(&arena, past)
-            }
-            Err(_) => false,
-        },
-    )
+    Ok(match arena.make_words(text) {
+        Ok(loose) => {
+            comes_before(&arena, front, past)
+                && !comes_before(&arena, past, front)
+                && child_toward(&arena, arena.document(), loose).is_none()
+                && is_in_document(&arena, 0)
+                && !is_in_document(&arena, 1)
+                && is_placed(&arena, front)
+                && !is_placed(&arena, past)
+        }
+        Err(_) => false,
+    })
 }
 
 #[test]

@@ -151,12 +151,7 @@ fn points_at(alloc: Global, pair: Pair) -> Result<Points, AllocError> {
 }
 
 // A point after the removal of a node from its parent.
-fn after_removal(
-    points: &mut Points,
-    arena: &Arena,
-    at: Point,
-    node: NodeRef,
-) -> Option<Pair> {
+fn after_removal(points: &mut Points, arena: &Arena, at: Point, node: NodeRef) -> Option<Pair> {
     points.set_selection(Some(caret(at)));
     if arena.holds(node) {
         if let Some(parent) = arena.parent(node) {
@@ -238,11 +233,7 @@ fn points_right(alloc: Global, arena: &Arena, nodes: [NodeRef; 4]) -> Result<boo
     Ok(follows(&mut points, arena, nodes))
 }
 
-fn insertions_right(
-    alloc: Global,
-    arena: &Arena,
-    nodes: [NodeRef; 4],
-) -> Result<bool, AllocError> {
+fn insertions_right(alloc: Global, arena: &Arena, nodes: [NodeRef; 4]) -> Result<bool, AllocError> {
     let [_, text, image, _] = nodes;
     Ok(
         after_insertion(alloc, arena, point(1, 1), text)? == Some(caret(point(1, 2)))

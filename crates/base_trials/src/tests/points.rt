@@ -208,12 +208,10 @@ enum Row {
 // long, and again on each way out of the function that owns some.
 fn is_met(alloc: Global, row: Row) -> Result<bool, Fail> {
     let mut points = Points::new(alloc)?;
-    Ok(
-        match row {
-            Row::Edit(edit, at, to) => after(&mut points, edit, at) == Some(pair(to.0, to.1, to.1)),
-            Row::Marks(marks) => are_right(&mut points, marks),
-        },
-    )
+    Ok(match row {
+        Row::Edit(edit, at, to) => after(&mut points, edit, at) == Some(pair(to.0, to.1, to.1)),
+        Row::Marks(marks) => are_right(&mut points, marks),
+    })
 }
 
 #[test]

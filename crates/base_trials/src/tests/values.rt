@@ -659,7 +659,11 @@ fn is_taken_out(
 #[test]
 fn lines_are_found_and_taken_out(rt: HostRuntime) -> Result<(), Fail> {
     for (text, line, has, without) in &LINES {
-        assert_row(&rt, is_taken_out(rt.alloc(), text, *line, *has, without)?, text);
+        assert_row(
+            &rt,
+            is_taken_out(rt.alloc(), text, *line, *has, without)?,
+            text,
+        );
     }
     Ok(())
 }
