@@ -2,6 +2,7 @@
 mod block;
 mod deletion;
 mod editing;
+mod faults;
 mod formatting;
 mod object;
 mod page_blocks;

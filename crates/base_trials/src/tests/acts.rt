@@ -7,7 +7,7 @@ use std::alloc::{AllocError, Global};
 use std::process::Abort;
 use std::test::Fail;
 
-fn push_path(text: &mut String, path: &Path) -> Result<(), Fail> {
+fn push_path(text: &mut String, path: &Path) -> Result<(), AllocError> {
     let alloc = *text.allocator();
     for index in path.as_slice() {
         text.push_str(format!(in alloc; "/{index}")?.as_str())?;
@@ -15,7 +15,7 @@ fn push_path(text: &mut String, path: &Path) -> Result<(), Fail> {
     Ok(())
 }
 
-fn push_place(text: &mut String, place: &Place) -> Result<(), Fail> {
+fn push_place(text: &mut String, place: &Place) -> Result<(), AllocError> {
     let alloc = *text.allocator();
     text.push_str(" ")?;
     push_path(text, &place.path)?;
@@ -24,7 +24,7 @@ fn push_place(text: &mut String, place: &Place) -> Result<(), Fail> {
     Ok(())
 }
 
-fn push_name(text: &mut String, name: &Name) -> Result<(), Fail> {
+fn push_name(text: &mut String, name: &Name) -> Result<(), AllocError> {
     text.push_str(" ")?;
     for b in name.as_slice() {
         text.push(*b as char)?;
@@ -32,7 +32,7 @@ fn push_name(text: &mut String, name: &Name) -> Result<(), Fail> {
     Ok(())
 }
 
-fn push_act(text: &mut String, act: &Act) -> Result<(), Fail> {
+fn push_act(text: &mut String, act: &Act) -> Result<(), AllocError> {
     let alloc = *text.allocator();
     match act {
         Act::Select { anchor, focus } => {
@@ -82,10 +82,10 @@ fn push_act(text: &mut String, act: &Act) -> Result<(), Fail> {
     Ok(())
 }
 
-fn push_told(text: &mut String, line: &[u8]) -> Result<(), Fail> {
+fn push_told(text: &mut String, line: &[u8]) -> Result<(), AllocError> {
     match read_line(*text.allocator(), line) {
         Ok(act) => push_act(text, &act),
-        Err(fault) => Ok(text.push_str(word_of(fault))?),
+        Err(fault) => text.push_str(word_of(fault)),
     }
 }
 
