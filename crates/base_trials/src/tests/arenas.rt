@@ -1,6 +1,6 @@
 //! Nodes made, linked, read, changed and given up in an arena, and the order of points in it.
 
-ghost use Rattle.std.specs.Prelude.{◌≡◌, ◌<◌};
+ghost use Rattle.std.specs.Prelude.{◌≡◌, ◌<◌, length};
 
 use super::rows::assert_row;
 use super::trees::{Trial, element, found, label, list_of, name, put, words};
@@ -287,7 +287,9 @@ fn nodes_and_points(rt: HostRuntime) -> Result<(), Fail> {
 
 // Whether a node that is made in a new arena is dropped and its label drawn again. The arena is let
 // go on one way.
-fn drops_what_was_made(alloc: Global, text: Chars) -> Result<bool, Fail> {
+fn drops_what_was_made(alloc: Global, text: Chars) -> Result<bool, Fail>
+    requires { length text < 9 }
+{
     let mut arena = Arena::new(alloc, 9)?;
     Ok(match arena.make_words(text) {
         Ok(made) => {
@@ -302,7 +304,9 @@ fn drops_what_was_made(alloc: Global, text: Chars) -> Result<bool, Fail> {
 }
 
 // The order of points in the document of a new arena, beside a loose Text node.
-fn orders_and_places(alloc: Global, text: Chars) -> Result<bool, Fail> {
+fn orders_and_places(alloc: Global, text: Chars) -> Result<bool, Fail>
+    requires { length text < 9 }
+{
     let front = Point {
         label: 0,
         offset: 0,
